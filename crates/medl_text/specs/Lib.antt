@@ -1,0 +1,4 @@
+pub mod ListFile
+pub mod Fault
+pub mod Numbers
+pub mod Schedule

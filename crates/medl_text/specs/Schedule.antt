@@ -1,0 +1,46 @@
+-- The slot table: a line for the list, and one for each slot of each round.
+use Rattle.std.specs.Prelude.{ℕ, Bool, true, false, List, [], ◌∷◌, ◌++◌, length, codes, decimal, if◌then◌else◌}
+use Rattle.ttp_base.specs.Text.{hex, texts_below}
+use Rattle.ttp_world.specs.declared.medl.Kind.{Kind}
+use Rattle.ttp_world.specs.declared.medl.Kind.TheVariants as kind
+use Rattle.ttp_world.specs.declared.medl.Medl.{Medl}
+use Rattle.ttp_world.specs.Medl.{is_bare, kind_at, plan_at}
+
+-- a line feed
+abbrev pub newline : List ℕ
+newline = 10 ∷ []
+
+abbrev pub letter_of : Kind → List ℕ
+letter_of kind.I = codes "I"
+letter_of kind.N = codes "N"
+letter_of kind.X = codes "X"
+
+abbrev pub yes_or_no : Bool → List ℕ
+yes_or_no true = codes "yes"
+yes_or_no false = codes "no"
+
+unfoldable pub table_head : Medl → List ℕ
+table_head list =
+    codes "ttpbench schedule 1 nodes " ++ decimal (length list.slots)
+    ++ codes " rounds " ++ decimal list.rounds
+    ++ codes " schedule " ++ hex 6 list.schedule ++ newline
+
+-- the bytes of payload that the frame carries
+abbrev pub size_at : Medl → ℕ → ℕ → ℕ
+size_at list round slot = if is_bare (kind_at list round slot) then 0 else (plan_at list slot).payload
+
+unfoldable pub slot_line : Medl → ℕ → ℕ → List ℕ
+slot_line list round slot =
+    codes "round " ++ decimal round ++ codes " slot " ++ decimal slot
+    ++ codes " kind " ++ letter_of (kind_at list round slot)
+    ++ codes " data " ++ decimal (size_at list round slot)
+    ++ codes " sync " ++ yes_or_no (plan_at list slot).sync
+    ++ codes " start " ++ yes_or_no (plan_at list slot).start ++ newline
+
+-- the lines of a round, in the order of the slots
+abbrev pub round_lines : Medl → ℕ → List ℕ
+round_lines list round = texts_below (slot_line list round) (length list.slots)
+
+-- the slot table
+unfoldable pub slot_table : Medl → List ℕ
+slot_table list = table_head list ++ texts_below (round_lines list) list.rounds

@@ -1,0 +1,106 @@
+//! The keys of a list file, and what can be wrong with one.
+
+use std::alloc::AllocError;
+use ttp_base::Memory;
+
+/// A key of a list file, in the order in which the keys are looked at.
+#[derive(Clone, Copy, Debug, PartialEq, Eq)]
+pub enum FieldName {
+    Version,
+    Rounds,
+    Schedule,
+    Buffers,
+    Drift,
+    Error,
+    Window,
+    Slot,
+    Kinds,
+    /// The key `data`.
+    DataSize,
+    Sync,
+    Start,
+}
+
+impl FieldName {
+    ghost use Rattle.std.specs.Prelude.{◌≡◌, ◌≤◌, length};
+    ghost use Rattle.medl_text.specs.ListFile.{key_of};
+
+    /// The key as it is spelled in the file.
+    pub fn key(self) -> &'static str
+        ensures text { result.now ≡ key_of self }
+        ensures short { length result.now ≤ 8 }
+    {
+        match self {
+            FieldName::Version => "version",
+            FieldName::Rounds => "rounds",
+            FieldName::Schedule => "schedule",
+            FieldName::Buffers => "buffers",
+            FieldName::Drift => "drift",
+            FieldName::Error => "error",
+            FieldName::Window => "window",
+            FieldName::Slot => "slot",
+            FieldName::Kinds => "kinds",
+            FieldName::DataSize => "data",
+            FieldName::Sync => "sync",
+            FieldName::Start => "start",
+        }
+    }
+}
+
+/// A key at the top of the file, or in an element of `slot`.
+#[derive(Clone, Copy, Debug, PartialEq, Eq)]
+pub struct Field {
+    pub name: FieldName,
+    /// The number of the element, where the key stands in one.
+    pub slot: Option<u8>,
+}
+
+/// Why a text is no descriptor list.
+///
+/// Where several things are wrong, the first one in this order is told; the fields are those of
+/// `docs/FORMATS.md`.
+#[derive(Clone, Copy, Debug, PartialEq, Eq)]
+pub enum MedlError {
+    /// The bytes are no UTF-8, or no TOML document.
+    NotToml,
+    /// A key is absent.
+    Missing { field: Field },
+    /// A key holds another kind of value than it is due to.
+    WrongKind { field: Field },
+    /// A number lies outside the key's range.
+    OutOfRange { field: Field, value: i64 },
+    /// There are fewer than 4 slots, or more than 16.
+    SlotCount { found: usize },
+    /// The kinds of a slot are not exactly one letter `I`, `N` or `X` for each round.
+    Kinds { slot: u8 },
+    /// There is a key that the file does not have: at the top, or in an element of `slot`.
+    Unknown { slot: Option<u8> },
+    /// Fewer than four slots have `sync`.
+    NoSync { found: u8 },
+    /// The list asks for what this bench does not run yet.
+    NotBuilt { field: Field },
+    /// Memory was refused. It may come at any place.
+    Memory,
+}
+
+impl From<Memory> for MedlError {
+    ghost use Rattle.std.specs.Prelude.{◌≡◌};
+    ghost use Rattle.medl_text.specs.declared.error.MedlError.TheVariants as errors;
+
+    ghost from_gives = { λ _ e. e ≡ errors.Memory };
+
+    fn from(_memory: Memory) -> MedlError {
+        MedlError::Memory
+    }
+}
+
+impl From<AllocError> for MedlError {
+    ghost use Rattle.std.specs.Prelude.{◌≡◌};
+    ghost use Rattle.medl_text.specs.declared.error.MedlError.TheVariants as errors;
+
+    ghost from_gives = { λ _ e. e ≡ errors.Memory };
+
+    fn from(_error: AllocError) -> MedlError {
+        MedlError::Memory
+    }
+}

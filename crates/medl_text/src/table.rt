@@ -1,0 +1,114 @@
+//! The values at the keys of a TOML table, each with what can be wrong with it.
+ghost use Rattle.std.specs.Prelude.{◌≡◌, ◌≤◌, true, [], Some, option_map, string_bytes, IfOk, IfErr};
+ghost use Rattle.std.specs.List.{list_all};
+ghost use Rattle.std.specs.BTreeMap.{keys};
+ghost use Rattle.toml.specs.Data.{as_str};
+ghost use Rattle.toml.specs.View.{view, table_view, array_view, items_view};
+ghost use Rattle.medl_text.specs.Fault.{first};
+ghost use Rattle.medl_text.specs.ListFile.{held_at, key_faults, none_of, number_faults, number_at, flag_faults, flag_at, text_at, array_faults, items_at, are_tables, is_among, has_only};
+
+use crate::error::{Field, FieldName, MedlError};
+use toml::value::Array;
+use toml::{Table, Value};
+
+/// The value at a key.
+fn member(table: &Table, field: Field) -> Option<&Value>
+    ensures { option_map (λ v. view v.now) result ≡ held_at field (table_view table.now) }
+{
+    table.get(field.name.key())
+}
+
+/// A number from `low` to `high`.
+pub(crate) fn number(table: &Table, field: Field, low: u32, high: u32) -> Result<u32, MedlError>
+    ensures ok { IfOk result (λ v. number_faults field low high (table_view table.now) ≡ []) }
+    ensures value { IfOk result (λ v. v ≡ number_at field (table_view table.now)) }
+    ensures range { IfOk result (λ v. (low ≤ v) × (v ≤ high)) }
+    ensures err { IfErr result (λ e. first (number_faults field low high (table_view table.now)) ≡ Some e) }
+{
+    let Some(value) = member(table, field) else {
+        return Err(MedlError::Missing { field });
+    };
+    let Some(value) = value.as_integer() else {
+        return Err(MedlError::WrongKind { field });
+    };
+    match u32::try_from(value) {
+        Ok(number) if low <= number && number <= high => Ok(number),
+        _ => Err(MedlError::OutOfRange { field, value }),
+    }
+}
+
+/// A boolean.
+pub(crate) fn flag(table: &Table, field: Field) -> Result<bool, MedlError>
+    ensures ok { IfOk result (λ v. flag_faults field (table_view table.now) ≡ []) }
+    ensures value { IfOk result (λ v. v ≡ flag_at field (table_view table.now)) }
+    ensures err { IfErr result (λ e. first (flag_faults field (table_view table.now)) ≡ Some e) }
+{
+    let Some(value) = member(table, field) else {
+        return Err(MedlError::Missing { field });
+    };
+    match value.as_bool() {
+        Some(flag) => Ok(flag),
+        None => Err(MedlError::WrongKind { field }),
+    }
+}
+
+/// A text.
+pub(crate) fn text(table: &Table, field: Field) -> Result<&str, MedlError>
+    ensures ok { IfOk result (λ v. key_faults field as_str none_of (held_at field (table_view table.now)) ≡ []) }
+    ensures value { IfOk result (λ v. v.now ≡ text_at field (table_view table.now)) }
+    ensures err { IfErr result (λ e. first (key_faults field as_str none_of (held_at field (table_view table.now))) ≡ Some e) }
+{
+    let Some(value) = member(table, field) else {
+        return Err(MedlError::Missing { field });
+    };
+    match value.as_str() {
+        Some(text) => Ok(text),
+        None => Err(MedlError::WrongKind { field }),
+    }
+}
+
+/// An array whose every element is a table.
+pub(crate) fn array(table: &Table, field: Field) -> Result<&Array, MedlError>
+    ensures ok { IfOk result (λ v. array_faults field (table_view table.now) ≡ []) }
+    ensures value { IfOk result (λ v. array_view v.now ≡ items_at field (table_view table.now)) }
+    ensures tables { IfOk result (λ v. are_tables (array_view v.now) ≡ true) }
+    ensures err { IfErr result (λ e. first (array_faults field (table_view table.now)) ≡ Some e) }
+{
+    let Some(value) = member(table, field) else {
+        return Err(MedlError::Missing { field });
+    };
+    match value.as_array() {
+        Some(values) if are_tables(values) => Ok(values),
+        _ => Err(MedlError::WrongKind { field }),
+    }
+}
+
+fn are_tables(values: &[Value]) -> bool
+    ensures { result ≡ are_tables (items_view values.now) }
+{
+    for value in values {
+        if !value.is_table() {
+            return false;
+        }
+    }
+    true
+}
+
+/// Whether each key of the table is among the known ones.
+pub(crate) fn has_only(table: &Table, known: &[FieldName]) -> bool
+    ensures { result ≡ has_only known.now (table_view table.now) }
+{
+    all_among(table, known)
+}
+
+fn all_among(table: &Table, known: &[FieldName]) -> bool
+    ensures { result ≡ list_all (λ key. is_among known.now (string_bytes key)) (keys table.now) }
+{
+    table.keys().all(|key| is_among(key.as_str(), known))
+}
+
+fn is_among(key: &str, known: &[FieldName]) -> bool
+    ensures { result ≡ is_among known.now key.now }
+{
+    known.iter().any(|name| name.key() == key)
+}

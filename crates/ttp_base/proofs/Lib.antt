@@ -1,0 +1,2 @@
+mod Hex
+pub mod Written

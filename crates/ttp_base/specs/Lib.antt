@@ -1,0 +1,5 @@
+pub mod Text
+pub mod Outside
+pub mod MemorySink
+pub mod MemoryLibrary
+pub mod System

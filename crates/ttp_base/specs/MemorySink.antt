@@ -1,0 +1,22 @@
+-- What a sink in memory keeps.
+use Rattle.std.specs.Prelude.{ℕ, List}
+use Rattle.ttp_base.specs.declared.memory_sink.MemorySink.{MemorySink}
+
+-- what was written
+abbrev pub sink_bytes : MemorySink → List ℕ
+sink_bytes sink = sink.bytes.items
+
+-- how many bytes it has room for
+abbrev pub sink_room : MemorySink → ℕ
+sink_room sink = sink.room
+
+-- the numbers of the calls that are to fail, and how many calls there were
+abbrev pub sink_fail : MemorySink → List ℕ
+sink_fail sink = sink.fail
+
+abbrev pub sink_calls : MemorySink → ℕ
+sink_calls sink = sink.calls
+
+-- how many faults there were
+abbrev pub sink_faults : MemorySink → ℕ
+sink_faults sink = sink.faults

@@ -1,0 +1,146 @@
+//! A line of text in a buffer of fixed size.
+ghost use Rattle.std.specs.Prelude.{◌≡◌, ℕ, ◌+◌, ◌-◌, ◌*◌, ◌^◌, ◌<◌, ◌≤◌, [], ◌++◌, length, take, drop};
+ghost use Rattle.std.specs.Fmt.{decimal, signed_decimal};
+ghost use Rattle.ttp_base.specs.Text.{hex_digit, hex, hex_bytes};
+
+use std::marker::Model;
+
+const ROOM: usize = 640;
+
+/// A text of at most 640 bytes, which contracts see as the list of its bytes.
+///
+/// It lies in a fixed buffer, so no call takes memory. A caller knows that what it adds fits, by
+/// the text's length or by [`Line::room`].
+#[derive(Drop)]
+pub struct Line {
+    bytes: [u8; 640],
+    len: usize,
+}
+
+impl Model for Line {
+    ghost use Rattle.std.specs.Prelude.{List, ℕ, take, ◌≤◌};
+
+    ghost Value = { List ℕ };
+
+    ghost view = { λ l. take l.len l.bytes };
+
+    ghost invariant = { λ l. l.len ≤ 640 };
+}
+
+// Writes a piece into a buffer from a place on.
+fn put_at(buffer: &mut [u8], at: usize, piece: &[u8])
+    requires { at + length piece.now ≤ length buffer.old }
+    ensures { buffer.new ≡ take at buffer.old ++ piece.now ++ drop (at + length piece.now) buffer.old }
+{
+    let end = at + piece.len();
+    buffer[at..end].copy_from_slice(piece);
+}
+
+// The lower-case hexadecimal digit of a number below 16.
+fn hex_digit(value: u8) -> u8
+    requires { value < 16 }
+    ensures { result ≡ hex_digit value }
+{
+    if value < 10 {
+        b'0' + value
+    } else {
+        b'a' + (value - 10)
+    }
+}
+
+impl Line {
+    /// The empty line.
+    pub fn new() -> Line
+        ensures { result ≡ [] }
+    {
+        Line {
+            bytes: [0; 640],
+            len: 0,
+        }
+    }
+
+    /// How many bytes still fit.
+    pub fn room(&self) -> usize
+        ensures { result + length self.now ≡ 640 }
+    {
+        ROOM - self.len
+    }
+
+    /// The text so far.
+    pub fn bytes(&self) -> &[u8]
+        ensures { result.now ≡ self.now }
+    {
+        &self.bytes[..self.len]
+    }
+
+    /// Adds a text as it is.
+    pub fn put_text(&mut self, t: &str)
+        requires { length self.old + length t.now ≤ 640 }
+        ensures { self.new ≡ self.old ++ t.now }
+    {
+        self.put_bytes(t.as_bytes());
+    }
+
+    /// Adds a number in decimal digits, with no leading zeros.
+    pub fn put_number(&mut self, v: u64)
+        requires { length self.old + length (decimal v) ≤ 640 }
+        ensures { self.new ≡ self.old ++ decimal v }
+    {
+        let mut buffer = itoa::Buffer::new();
+        let text = buffer.format(v);
+        self.put_bytes(text.as_bytes());
+    }
+
+    /// Adds a number in decimal digits, with a `-` before a negative one.
+    pub fn put_signed(&mut self, v: i64)
+        requires { length self.old + length (signed_decimal v) ≤ 640 }
+        ensures { self.new ≡ self.old ++ signed_decimal v }
+    {
+        let mut buffer = itoa::Buffer::new();
+        let text = buffer.format(v);
+        self.put_bytes(text.as_bytes());
+    }
+
+    /// Adds exactly `digits` lower-case hexadecimal digits, with leading zeros where they are due.
+    pub fn put_hex(&mut self, v: u64, digits: u8)
+        requires count { (1 ≤ digits) × (digits ≤ 16) }
+        requires value { v < 16 ^ digits }
+        requires room { length self.old + digits ≤ 640 }
+        ensures { self.new ≡ self.old ++ hex digits v }
+    {
+        let mut text = [b'0'; 16];
+        let start = 16 - digits as usize;
+        fill_hex(&mut text, start, v);
+        self.put_bytes(&text[start..]);
+    }
+
+    /// Adds two lower-case hexadecimal digits for each byte.
+    pub fn put_hex_bytes(&mut self, b: &[u8])
+        requires { length self.old + 2 * length b.now ≤ 640 }
+        ensures { self.new ≡ self.old ++ hex_bytes b.now }
+    {
+        for byte in b {
+            self.put_bytes(&[hex_digit(*byte / 16), hex_digit(*byte % 16)]);
+        }
+    }
+
+    fn put_bytes(&mut self, piece: &[u8])
+        requires { length self.old + length piece.now ≤ 640 }
+        ensures { self.new ≡ self.old ++ piece.now }
+    {
+        put_at(&mut self.bytes, self.len, piece);
+        self.len += piece.len();
+    }
+}
+
+// Fills a text from a place on with the lowest hexadecimal digits of a number.
+fn fill_hex(text: &mut [u8], start: usize, v: u64)
+    requires { start ≤ length text.old }
+    ensures { text.new ≡ take start text.old ++ hex (length text.old - start) v }
+{
+    let mut rest = v;
+    for place in (start..text.len()).rev() {
+        text[place] = hex_digit((rest % 16) as u8);
+        rest /= 16;
+    }
+}

@@ -1,0 +1,100 @@
+//! A library in memory.
+ghost use Rattle.std.specs.Prelude.{◌≡◌, ◌⊎◌, ◌+◌, ◌^◌, ◌<◌, ◌≤◌, ◌↔◌, take, min, Some, vec_len, IsTrue, IsNone, IfOk, IfSome, IsErrOf, OnOk, OnErr};
+ghost use Rattle.ttp_base.specs.Outside.{HasRisen, NoneFell, HoldsTheSame, comes_up, count_end};
+
+use crate::calls::is_next_to_fail;
+use crate::fault::Memory;
+use crate::library::{Library, LoadError};
+use crate::list::List;
+use std::alloc::Global;
+use std::collections::BTreeMap;
+
+/// Holds bytes under names, and tells them.
+///
+/// Chosen calls of [`Library::load`] fail, which shows a program's answer to a failing outside. One
+/// counter stands for the faults of every name.
+#[derive(Drop)]
+pub struct MemoryLibrary {
+    alloc: Global,
+    files: BTreeMap<String, Vec<u8>>,
+    fail: List<u32>,
+    calls: u64,
+    faults: u64,
+}
+
+impl MemoryLibrary {
+    ghost use Rattle.ttp_base.specs.MemoryLibrary.{library_held, library_fail, library_calls, library_faults, HoldsNothing, HoldsOneMore};
+
+    /// A library that holds nothing yet. The numbers in `fail` are those of the calls of
+    /// [`Library::load`] that are to fail, counted from 1.
+    pub fn new(alloc: Global, fail: List<u32>) -> MemoryLibrary
+        ensures empty { HoldsNothing result }
+        ensures fail { (library_fail result ≡ fail) × (library_calls result ≡ 0) }
+        ensures count { library_faults result ≡ 0 }
+    {
+        MemoryLibrary {
+            alloc,
+            files: BTreeMap::new(alloc),
+            fail,
+            calls: 0,
+            faults: 0,
+        }
+    }
+
+    /// Holds these bytes under a name, in place of what it held there.
+    pub fn add(&mut self, name: &str, bytes: &[u8]) -> Result<(), Memory>
+        ensures ok { OnOk result (HoldsOneMore self.old self.new name.now bytes.now) }
+        ensures err { OnErr result (HoldsTheSame (library_held self.old) (library_held self.new)) }
+        ensures keeps { (library_fail self.new ≡ library_fail self.old) × (library_calls self.new ≡ library_calls self.old) × (library_faults self.new ≡ library_faults self.old) }
+    {
+        let key = String::from_str(self.alloc, name)?;
+        let value = Vec::from_slice(self.alloc, bytes)?;
+        self.files.insert(key, value)?;
+        Ok(())
+    }
+}
+
+impl Library for MemoryLibrary {
+    ghost use Rattle.ttp_base.specs.MemoryLibrary.{library_held, library_fail, library_calls, library_faults};
+
+    ghost held = { library_held };
+
+    ghost faults = { λ library _. library_faults library };
+
+    /// Answers [`LoadError::Failed`] exactly where the call's number is to fail or nothing is held
+    /// under the name.
+    fn load(&mut self, alloc: Global, name: &str, limit: usize) -> Result<Vec<u8>, LoadError>
+        requires { limit < 2 ^ 32 }
+        ensures bytes { IfOk result (λ bytes. IfSome (library_held self.old name.now) (λ all. bytes.items ≡ take (limit + 1) all)) }
+        ensures within { IfOk result (λ bytes. vec_len bytes ≤ limit + 1) }
+        ensures failed { IsErrOf result LoadError.Failed → HasRisen (library_faults self.old) (library_faults self.new) }
+        ensures count { NoneFell (λ _. library_faults self.old) (λ _. library_faults self.new) }
+        ensures keeps { HoldsTheSame (library_held self.old) (library_held self.new) }
+
+        ensures number { library_calls self.new ≡ min (library_calls self.old + 1) count_end }
+        ensures exact { IsErrOf result LoadError.Failed ↔ (IsTrue (comes_up (library_fail self.old) (library_calls self.new)) ⊎ IsNone (library_held self.old name.now)) }
+        ensures stays { library_fail self.new ≡ library_fail self.old }
+    {
+        let is_to_fail = is_next_to_fail(&self.fail, &mut self.calls);
+        match self.files.get(name) {
+            Some(bytes) if !is_to_fail => copy_of_front(alloc, bytes.as_slice(), limit + 1),
+            _ => {
+                self.faults = self.faults.saturating_add(1);
+                Err(LoadError::Failed)
+            }
+        }
+    }
+}
+
+// The first bytes, at most so many.
+fn copy_of_front(alloc: Global, bytes: &[u8], count: usize) -> Result<Vec<u8>, LoadError>
+    ensures front { IfOk result (λ copy. copy.items ≡ take count bytes.now) }
+    ensures within { IfOk result (λ copy. vec_len copy ≤ count) }
+    ensures memory { OnErr result (IsErrOf result LoadError.Memory) }
+{
+    let end = bytes.len().min(count);
+    match Vec::from_slice(alloc, &bytes[..end]) {
+        Ok(copy) => Ok(copy),
+        Err(_) => Err(LoadError::Memory),
+    }
+}

@@ -1,0 +1,44 @@
+-- The lines that a call writes beside its output.
+use Rattle.std.specs.Prelude.{ℕ, List, [], ◌∷◌, ◌++◌, codes, decimal, Option, Some, None}
+use Rattle.std.specs.Fmt.{signed_decimal}
+use Rattle.medl_text.specs.declared.error.Field.{Field}
+use Rattle.medl_text.specs.declared.error.MedlError.{MedlError}
+use Rattle.medl_text.specs.declared.error.MedlError.TheVariants as errors
+use Rattle.medl_text.specs.ListFile.{key_of}
+use Rattle.medl_text.specs.Schedule.{newline}
+
+abbrev pub usage_line : List ℕ
+usage_line = codes "usage: schedule MEDL | run MEDL SCRIPT | keeps MEDL SCRIPT | verify MEDL SCRIPT TRACE | sample MEDL SLOTS NUMBER\n"
+
+abbrev pub load_list_line : List ℕ
+load_list_line = codes "load: list\n"
+
+-- where a field stands
+abbrev pub place_text : Option ℕ → List ℕ
+place_text None = []
+place_text (Some k) = codes "slot " ++ (decimal k ++ codes " ")
+
+abbrev pub field_text : Field → List ℕ
+field_text field = place_text field.slot ++ key_of field.name
+
+-- a key that no list has
+abbrev pub unknown_text : Option ℕ → List ℕ
+unknown_text None = codes "unknown key at top"
+unknown_text (Some k) = codes "unknown key in slot " ++ decimal k
+
+-- what is wrong with a list
+abbrev pub fault_text : MedlError → List ℕ
+fault_text errors.NotToml = codes "not toml"
+fault_text (errors.Missing field) = codes "missing " ++ field_text field
+fault_text (errors.WrongKind field) = codes "wrong kind " ++ field_text field
+fault_text (errors.OutOfRange field value) = codes "out of range " ++ (field_text field ++ (codes " " ++ signed_decimal value))
+fault_text (errors.SlotCount found) = codes "slot count " ++ decimal found
+fault_text (errors.Kinds k) = codes "kinds of slot " ++ decimal k
+fault_text (errors.Unknown slot) = unknown_text slot
+fault_text (errors.NoSync found) = codes "sync slots " ++ decimal found
+fault_text (errors.NotBuilt field) = codes "not built " ++ field_text field
+fault_text errors.Memory = []
+
+-- the line that says so
+unfoldable pub list_line : List ℕ → List ℕ
+list_line text = codes "list: " ++ (text ++ newline)

@@ -1,0 +1,116 @@
+//! The lines that a call writes beside its output.
+ghost use Rattle.std.specs.Prelude.{◌≡◌, ◌+◌, ◌≤◌, ◌++◌, codes, length, decimal};
+ghost use Rattle.std.specs.Fmt.{signed_decimal};
+ghost use Rattle.ttp_top.specs.Lines.{field_text, unknown_text, fault_text, list_line};
+
+use medl_text::{Field, MedlError};
+use ttp_base::Line;
+
+// Adds a number, which has at most 20 digits.
+fn put_number(line: &mut Line, number: u64)
+    requires { length line.old + 20 ≤ 640 }
+    ensures text { line.new ≡ line.old ++ decimal number }
+    ensures short { length line.new ≤ length line.old + 20 }
+{
+    line.put_number(number);
+}
+
+// Adds a signed number, which has at most 20 characters.
+fn put_signed(line: &mut Line, number: i64)
+    requires { length line.old + 20 ≤ 640 }
+    ensures text { line.new ≡ line.old ++ signed_decimal number }
+    ensures short { length line.new ≤ length line.old + 20 }
+{
+    line.put_signed(number);
+}
+
+fn put_field(line: &mut Line, field: Field)
+    requires { length line.old + 40 ≤ 640 }
+    ensures text { line.new ≡ line.old ++ field_text field }
+    ensures short { length line.new ≤ length line.old + 40 }
+{
+    if let Some(k) = field.slot {
+        line.put_text("slot ");
+        put_number(line, u64::from(k));
+        line.put_text(" ");
+    }
+    line.put_text(field.name.key());
+}
+
+fn put_unknown(line: &mut Line, slot: Option<u8>)
+    requires { length line.old + 40 ≤ 640 }
+    ensures text { line.new ≡ line.old ++ unknown_text slot }
+    ensures short { length line.new ≤ length line.old + 40 }
+{
+    match slot {
+        None => line.put_text("unknown key at top"),
+        Some(k) => {
+            line.put_text("unknown key in slot ");
+            put_number(line, u64::from(k));
+        }
+    }
+}
+
+fn put_fault(line: &mut Line, fault: MedlError)
+    requires { length line.old + 100 ≤ 640 }
+    ensures text { line.new ≡ line.old ++ fault_text fault }
+    ensures short { length line.new ≤ length line.old + 100 }
+{
+    match fault {
+        MedlError::NotToml => line.put_text("not toml"),
+        MedlError::Missing { field } => {
+            line.put_text("missing ");
+            put_field(line, field);
+        }
+        MedlError::WrongKind { field } => {
+            line.put_text("wrong kind ");
+            put_field(line, field);
+        }
+        MedlError::OutOfRange { field, value } => {
+            line.put_text("out of range ");
+            put_field(line, field);
+            line.put_text(" ");
+            put_signed(line, value);
+        }
+        MedlError::SlotCount { found } => {
+            line.put_text("slot count ");
+            put_number(line, found as u64);
+        }
+        MedlError::Kinds { slot } => {
+            line.put_text("kinds of slot ");
+            put_number(line, u64::from(slot));
+        }
+        MedlError::Unknown { slot } => put_unknown(line, slot),
+        MedlError::NoSync { found } => {
+            line.put_text("sync slots ");
+            put_number(line, u64::from(found));
+        }
+        MedlError::NotBuilt { field } => {
+            line.put_text("not built ");
+            put_field(line, field);
+        }
+        MedlError::Memory => {}
+    }
+}
+
+/// The line that says what is wrong with a list.
+#[tactic(auto, unfolding(crate::specs::Lines::list_line))]
+pub(crate) fn fault_line(fault: MedlError) -> Line
+    ensures { result ≡ list_line (fault_text fault) }
+{
+    let mut line = Line::new();
+    line.put_text("list: ");
+    put_fault(&mut line, fault);
+    line.put_text("\n");
+    line
+}
+
+/// The line that says that a list is too large.
+#[tactic(auto, unfolding(crate::specs::Lines::list_line))]
+pub(crate) fn too_large_line() -> Line
+    ensures { result ≡ list_line (codes "too large") }
+{
+    let mut line = Line::new();
+    line.put_text("list: too large\n");
+    line
+}

@@ -1,0 +1,25 @@
+//! The forms of a call's words.
+ghost use Rattle.std.specs.Prelude.{◌≡◌};
+ghost use Rattle.ttp_top.specs.Words.{texts_of, form_of};
+ghost use Rattle.ttp_top.specs.Asked.{form_asked};
+
+/// What a call is asked for.
+#[derive(Clone, Copy)]
+pub(crate) enum Command<'a> {
+    /// The slot table of the list of this name.
+    Schedule { list: &'a str },
+    /// Nothing: the words have no form.
+    NoForm,
+}
+
+/// The command that words spell.
+pub(crate) fn command_of(words: &[String]) -> Command<'_>
+    ensures { form_asked result ≡ form_of (texts_of words.now) }
+{
+    match words {
+        [verb, list] if verb.as_str() == "schedule" => Command::Schedule {
+            list: list.as_str(),
+        },
+        _ => Command::NoForm,
+    }
+}
