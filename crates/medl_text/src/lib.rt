@@ -15,3 +15,6 @@ mod table;
 pub use error::{Field, FieldName, MedlError};
 pub use read::read_medl;
 pub use schedule::put_schedule;
+
+#[cfg(test)]
+mod tests;

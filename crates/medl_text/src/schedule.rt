@@ -9,6 +9,7 @@ use ttp_base::{Failed, Line, Sink};
 use ttp_world::{Kind, Medl};
 
 // Adds a number below 256.
+#[tactic(auto, using(ttp_base::proofs::Room::room))]
 fn put_small(line: &mut Line, number: u8)
     requires { length line.old + 3 ≤ 640 }
     ensures text { line.new ≡ line.old ++ decimal number }

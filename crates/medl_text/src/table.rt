@@ -1,5 +1,5 @@
 //! The values at the keys of a TOML table, each with what can be wrong with it.
-ghost use Rattle.std.specs.Prelude.{◌≡◌, ◌≤◌, true, [], Some, option_map, string_bytes, IfOk, IfErr};
+ghost use Rattle.std.specs.Prelude.{◌≡◌, ◌≤◌, true, [], Some, None, option_map, string_bytes, IfOk, IfErr};
 ghost use Rattle.std.specs.List.{list_all};
 ghost use Rattle.std.specs.BTreeMap.{keys};
 ghost use Rattle.toml.specs.Data.{as_str};
@@ -18,6 +18,17 @@ fn member(table: &Table, field: Field) -> Option<&Value>
     table.get(field.name.key())
 }
 
+// The value at a key that is due to be there.
+fn present(table: &Table, field: Field) -> Result<&Value, MedlError>
+    ensures ok { IfOk result (λ v. held_at field (table_view table.now) ≡ Some (view v.now)) }
+    ensures err { IfErr result (λ e. (e ≡ MedlError.Missing field) × (held_at field (table_view table.now) ≡ None)) }
+{
+    match member(table, field) {
+        Some(value) => Ok(value),
+        None => Err(MedlError::Missing { field }),
+    }
+}
+
 /// A number from `low` to `high`.
 pub(crate) fn number(table: &Table, field: Field, low: u32, high: u32) -> Result<u32, MedlError>
     ensures ok { IfOk result (λ v. number_faults field low high (table_view table.now) ≡ []) }
@@ -25,10 +36,7 @@ pub(crate) fn number(table: &Table, field: Field, low: u32, high: u32) -> Result
     ensures range { IfOk result (λ v. (low ≤ v) × (v ≤ high)) }
     ensures err { IfErr result (λ e. first (number_faults field low high (table_view table.now)) ≡ Some e) }
 {
-    let Some(value) = member(table, field) else {
-        return Err(MedlError::Missing { field });
-    };
-    let Some(value) = value.as_integer() else {
+    let Some(value) = present(table, field)?.as_integer() else {
         return Err(MedlError::WrongKind { field });
     };
     match u32::try_from(value) {
@@ -43,13 +51,8 @@ pub(crate) fn flag(table: &Table, field: Field) -> Result<bool, MedlError>
     ensures value { IfOk result (λ v. v ≡ flag_at field (table_view table.now)) }
     ensures err { IfErr result (λ e. first (flag_faults field (table_view table.now)) ≡ Some e) }
 {
-    let Some(value) = member(table, field) else {
-        return Err(MedlError::Missing { field });
-    };
-    match value.as_bool() {
-        Some(flag) => Ok(flag),
-        None => Err(MedlError::WrongKind { field }),
-    }
+    let value = present(table, field)?;
+    value.as_bool().ok_or(MedlError::WrongKind { field })
 }
 
 /// A text.
@@ -58,13 +61,8 @@ pub(crate) fn text(table: &Table, field: Field) -> Result<&str, MedlError>
     ensures value { IfOk result (λ v. v.now ≡ text_at field (table_view table.now)) }
     ensures err { IfErr result (λ e. first (key_faults field as_str none_of (held_at field (table_view table.now))) ≡ Some e) }
 {
-    let Some(value) = member(table, field) else {
-        return Err(MedlError::Missing { field });
-    };
-    match value.as_str() {
-        Some(text) => Ok(text),
-        None => Err(MedlError::WrongKind { field }),
-    }
+    let value = present(table, field)?;
+    value.as_str().ok_or(MedlError::WrongKind { field })
 }
 
 /// An array whose every element is a table.
@@ -74,10 +72,7 @@ pub(crate) fn array(table: &Table, field: Field) -> Result<&Array, MedlError>
     ensures tables { IfOk result (λ v. are_tables (array_view v.now) ≡ true) }
     ensures err { IfErr result (λ e. first (array_faults field (table_view table.now)) ≡ Some e) }
 {
-    let Some(value) = member(table, field) else {
-        return Err(MedlError::Missing { field });
-    };
-    match value.as_array() {
+    match present(table, field)?.as_array() {
         Some(values) if are_tables(values) => Ok(values),
         _ => Err(MedlError::WrongKind { field }),
     }

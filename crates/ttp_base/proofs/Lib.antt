@@ -1,2 +1,3 @@
 mod Hex
+pub mod Room
 pub mod Written

@@ -29,3 +29,6 @@ pub use memory_library::MemoryLibrary;
 pub use memory_sink::MemorySink;
 pub use sink::Sink;
 pub use system::{FileLibrary, StreamSink};
+
+#[cfg(test)]
+mod tests;

@@ -87,8 +87,8 @@ impl Line {
         ensures { self.new ≡ self.old ++ decimal v }
     {
         let mut buffer = itoa::Buffer::new();
-        let text = buffer.format(v);
-        self.put_bytes(text.as_bytes());
+        let digits = buffer.format(v);
+        self.put_bytes(digits.as_bytes());
     }
 
     /// Adds a number in decimal digits, with a `-` before a negative one.

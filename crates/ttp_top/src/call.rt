@@ -1,7 +1,7 @@
 //! A command, from its words to its status.
 ghost use Rattle.std.specs.Prelude.{◌≡◌, ◌⊎◌, ◌≤◌, ◌≢◌, ℕ, List, [], Some, length, IsSome, IsNone, Ok};
 ghost use Rattle.std.specs.Io.KnownBytes.{Appends};
-ghost use Rattle.ttp_base.specs.Outside.{HasRisen, AppendsFront};
+ghost use Rattle.ttp_base.specs.Outside.{HasRisen, NoneFell, HoldsTheSame, AppendsFront};
 ghost use Rattle.ttp_world.specs.declared.medl.Medl.{Medl};
 ghost use Rattle.medl_text.specs.ListFile.{medl_of};
 ghost use Rattle.medl_text.specs.Schedule.{slot_table};
@@ -37,7 +37,8 @@ fn say<K: Sink>(out: &mut K, line: &[u8], status: u8) -> u8
 // The slot table of the list that these bytes are, or what is wrong with it.
 #[tactic(auto, unfolding(crate::specs::Ending::schedule_ending))]
 fn show_schedule<K: Sink>(alloc: Global, bytes: &[u8], out: &mut K) -> u8
-    ensures { Shows (schedule_ending bytes.now) result (K.written out.old) (K.written out.new) (K.faults out.old) (K.faults out.new) }
+    ensures shows { Shows (schedule_ending bytes.now) result (K.written out.old) (K.written out.new) (K.faults out.old) (K.faults out.new) }
+    ensures count { K.faults out.old ≤ K.faults out.new }
 {
     if bytes.len() > LIST_LIMIT {
         return say(out, too_large_line().bytes(), 3);
@@ -62,6 +63,8 @@ fn schedule<L: Library, K: Sink>(alloc: Global, list: &str, library: &mut L, out
         × AppendsFront (K.written out.old) (K.written out.new) text }
     ensures memory { result ≡ 7 → Appends (K.written out.old) (K.written out.new) [] }
     ensures statuses { (result ≤ 7) × (result ≢ 2) }
+    ensures counts { NoneFell (L.faults library.old) (L.faults library.new) × (K.faults out.old ≤ K.faults out.new) }
+    ensures keeps { HoldsTheSame (L.held library.old) (L.held library.new) }
 {
     match library.load(alloc, list, LIST_LIMIT) {
         Ok(bytes) => show_schedule(alloc, bytes.as_slice(), out),
@@ -120,6 +123,10 @@ pub fn bench<R: Threads + Wait + Sync, L: Library, K: Sink, G: Gate>(
         → ((result ≡ 0) × Appends (K.written out.old) (K.written out.new) (slot_table medl)) ⊎ (result ≡ 7) }
     ensures no_form { IsNone (form_of (texts_of words.now)) → ¬ HasRisen (K.faults out.old) (K.faults out.new)
         → (result ≡ 2) × Appends (K.written out.old) (K.written out.new) usage_line }
+
+    // No count falls, and the library holds what it held.
+    ensures counts { NoneFell (L.faults library.old) (L.faults library.new) × (K.faults out.old ≤ K.faults out.new) }
+    ensures keeps { HoldsTheSame (L.held library.old) (L.held library.new) }
 {
     match command_of(words) {
         Command::Schedule { list } => schedule(alloc, list, library, out),

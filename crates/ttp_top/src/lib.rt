@@ -13,3 +13,6 @@ mod lines;
 mod words;
 
 pub use call::bench;
+
+#[cfg(test)]
+mod tests;

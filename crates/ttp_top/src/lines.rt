@@ -6,24 +6,7 @@ ghost use Rattle.ttp_top.specs.Lines.{field_text, unknown_text, fault_text, list
 use medl_text::{Field, MedlError};
 use ttp_base::Line;
 
-// Adds a number, which has at most 20 digits.
-fn put_number(line: &mut Line, number: u64)
-    requires { length line.old + 20 ≤ 640 }
-    ensures text { line.new ≡ line.old ++ decimal number }
-    ensures short { length line.new ≤ length line.old + 20 }
-{
-    line.put_number(number);
-}
-
-// Adds a signed number, which has at most 20 characters.
-fn put_signed(line: &mut Line, number: i64)
-    requires { length line.old + 20 ≤ 640 }
-    ensures text { line.new ≡ line.old ++ signed_decimal number }
-    ensures short { length line.new ≤ length line.old + 20 }
-{
-    line.put_signed(number);
-}
-
+#[tactic(auto, using(ttp_base::proofs::Room::room))]
 fn put_field(line: &mut Line, field: Field)
     requires { length line.old + 40 ≤ 640 }
     ensures text { line.new ≡ line.old ++ field_text field }
@@ -31,12 +14,13 @@ fn put_field(line: &mut Line, field: Field)
 {
     if let Some(k) = field.slot {
         line.put_text("slot ");
-        put_number(line, u64::from(k));
+        line.put_number(u64::from(k));
         line.put_text(" ");
     }
     line.put_text(field.name.key());
 }
 
+#[tactic(auto, using(ttp_base::proofs::Room::room))]
 fn put_unknown(line: &mut Line, slot: Option<u8>)
     requires { length line.old + 40 ≤ 640 }
     ensures text { line.new ≡ line.old ++ unknown_text slot }
@@ -46,11 +30,12 @@ fn put_unknown(line: &mut Line, slot: Option<u8>)
         None => line.put_text("unknown key at top"),
         Some(k) => {
             line.put_text("unknown key in slot ");
-            put_number(line, u64::from(k));
+            line.put_number(u64::from(k));
         }
     }
 }
 
+#[tactic(auto, using(ttp_base::proofs::Room::room))]
 fn put_fault(line: &mut Line, fault: MedlError)
     requires { length line.old + 100 ≤ 640 }
     ensures text { line.new ≡ line.old ++ fault_text fault }
@@ -70,20 +55,20 @@ fn put_fault(line: &mut Line, fault: MedlError)
             line.put_text("out of range ");
             put_field(line, field);
             line.put_text(" ");
-            put_signed(line, value);
+            line.put_signed(value);
         }
         MedlError::SlotCount { found } => {
             line.put_text("slot count ");
-            put_number(line, found as u64);
+            line.put_number(found as u64);
         }
         MedlError::Kinds { slot } => {
             line.put_text("kinds of slot ");
-            put_number(line, u64::from(slot));
+            line.put_number(u64::from(slot));
         }
         MedlError::Unknown { slot } => put_unknown(line, slot),
         MedlError::NoSync { found } => {
             line.put_text("sync slots ");
-            put_number(line, u64::from(found));
+            line.put_number(u64::from(found));
         }
         MedlError::NotBuilt { field } => {
             line.put_text("not built ");
