@@ -1,0 +1,123 @@
+#!/usr/bin/env python3
+"""Times `schedule` on a list at the format's limits, and says how much memory it takes.
+
+The list has 16 slots, 64 rounds and comments up to the size limit of 1,048,576 bytes. For
+comparison it also times a list of four nodes, and Python's own reader of TOML on the same bytes.
+Each figure is of many runs: the least and the median. It needs the program that `./ttpbench`
+builds, and prints figures alone; nothing passes or fails here.
+"""
+
+import fcntl
+import os
+import statistics
+import subprocess
+import sys
+import tempfile
+import time
+
+RUNS = 25
+F_SETPIPE_SZ = 1031
+LIMIT = 1_048_576
+TOP = os.path.dirname(os.path.dirname(os.path.abspath(__file__)))
+PROGRAM = os.path.join(TOP, "crates", "ttpbench", "out", "ttpbench")
+
+
+def list_text(slots, rounds, size):
+    head = (
+        "version = 1\n"
+        f"rounds = {rounds}\n"
+        "schedule = 16777215\nbuffers = 16\ndrift = 1000\nerror = 1000\nwindow = 1000000\n"
+    )
+    parts = [head]
+    for k in range(slots):
+        start = "true" if k == 0 else "false"
+        parts.append(f'[[slot]]\nkinds = "{"I" * rounds}"\ndata = 0\nsync = true\nstart = {start}\n')
+    comment = "# a comment of sixty-four bytes, as generators of lists write them\n"
+    text = "".join(parts)
+    per_slot = max(0, size - len(text)) // len(comment)
+    text += comment * per_slot
+    return text + "#" * max(0, size - len(text))
+
+
+def times_of(command, runs=RUNS):
+    taken = []
+    for _ in range(runs):
+        before = time.perf_counter()
+        done = subprocess.run(command, stdout=subprocess.DEVNULL)
+        taken.append(time.perf_counter() - before)
+        if done.returncode != 0:
+            sys.exit(f"status {done.returncode} from {command}")
+    return min(taken) * 1000, statistics.median(taken) * 1000
+
+
+def memory_of(command):
+    """The most memory that the command held at once, in KiB.
+
+    Its output goes into a small pipe that is almost full, so that it waits in its last write, with
+    the list read and judged, while the system is asked for its peak.
+    """
+    reading, writing = os.pipe()
+    fcntl.fcntl(writing, F_SETPIPE_SZ, 4096)
+    os.write(writing, b"x" * 4090)
+    running = subprocess.Popen(command, stdout=writing)
+    os.close(writing)
+    peak = 0
+    for _ in range(100):
+        time.sleep(0.01)
+        with open(f"/proc/{running.pid}/status", encoding="ascii") as status:
+            for line in status:
+                if line.startswith("VmHWM:"):
+                    peak = int(line.split()[1])
+    while os.read(reading, 65536):
+        pass
+    os.close(reading)
+    running.wait()
+    return peak
+
+
+def tomllib_times(text, runs=RUNS):
+    import tomllib
+
+    taken = []
+    for _ in range(runs):
+        before = time.perf_counter()
+        tomllib.loads(text)
+        taken.append(time.perf_counter() - before)
+    return min(taken) * 1000, statistics.median(taken) * 1000
+
+
+def main():
+    if not os.path.exists(PROGRAM):
+        sys.exit("run ./ttpbench once first, which builds the program")
+    with tempfile.TemporaryDirectory() as folder:
+        large = os.path.join(folder, "large.toml")
+        small = os.path.join(folder, "small.toml")
+        dense = os.path.join(folder, "dense.toml")
+        large_text = list_text(16, 64, LIMIT)
+        for path, text in (
+            (large, large_text),
+            (small, list_text(4, 1, 0)),
+            (dense, list_text(16, 64, 0)),
+        ):
+            with open(path, "w", encoding="ascii") as file:
+                file.write(text)
+        print(f"list at the limits: {os.path.getsize(large)} bytes, 16 slots, 64 rounds, 1025 lines of output")
+        rows = (
+            ("at the limits", large),
+            ("the same without comments", dense),
+            ("four nodes, one round", small),
+        )
+        least = {}
+        for name, path in rows:
+            command = [PROGRAM, "schedule", path]
+            least[name], median = times_of(command)
+            memory = memory_of(command)
+            print(f"{name:28} least {least[name]:8.2f} ms   median {median:8.2f} ms   memory {memory:7d} KiB")
+        reader_least, reader_median = tomllib_times(large_text)
+        print(f"{'Python tomllib, the bytes':28} least {reader_least:8.2f} ms   median {reader_median:8.2f} ms")
+        print(f"ratio, at the limits to four nodes: {least['at the limits'] / least['four nodes, one round']:.2f}")
+        print(f"ratio, at the limits to tomllib:    {least['at the limits'] / reader_least:.2f}")
+
+
+if __name__ == "__main__":
+    main()
