@@ -17,16 +17,14 @@ ghost use Rattle.list_rows.specs.Rows.{four_nodes, mixed_nodes, four_nodes_table
 pub fn tables()
     ensures four_nodes { slot_table four_nodes ≡ four_nodes_table }
     ensures mixed { slot_table mixed_nodes ≡ mixed_nodes_table }
-{
-}
+{}
 
 /// What texts mean: a right list, an empty file, and a text that is no TOML.
 pub fn texts()
     ensures right { medl_of four_nodes_text ≡ Ok four_nodes }
     ensures empty { medl_of [] ≡ Err (errors.Missing (at_top names.Version)) }
     ensures cut { medl_of (codes "version = \"") ≡ Err errors.NotToml }
-{
-}
+{}
 
 /// What tables mean: a right list, and lists with something wrong at the top.
 pub fn wrong_at_the_top()
@@ -35,8 +33,7 @@ pub fn wrong_at_the_top()
     ensures past_the_range { medl_in (file_of (integer (pos 65)) (four_slots other_slot other_slot other_slot)) ≡ Err (errors.OutOfRange (at_top names.Rounds) (pos 65)) }
     ensures no_slots { medl_in (file_of one no_items) ≡ Err (errors.SlotCount 0) }
     ensures numbers_for_slots { medl_in (file_of one (item one (item one no_items))) ≡ Err (errors.WrongKind (at_top names.Slot)) }
-{
-}
+{}
 
 /// Lists with something wrong in a slot.
 pub fn wrong_in_a_slot()
@@ -48,5 +45,4 @@ pub fn wrong_in_a_slot()
     ensures unknown_before_sync { medl_in (file_of one (four_slots fast_slot other_slot (slot_of (codes "I") 0 false false))) ≡ Err (errors.Unknown (Some 1)) }
     ensures three_with_sync { medl_in (file_of one (four_slots other_slot other_slot (slot_of (codes "I") 0 false false))) ≡ Err (errors.NoSync 3) }
     ensures not_built { medl_in (file_of one (four_slots other_slot (slot_of (codes "N") 0 true false) other_slot)) ≡ Err (errors.NotBuilt (at_slot 2 names.Kinds)) }
-{
-}
+{}

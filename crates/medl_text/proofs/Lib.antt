@@ -1,4 +1,3 @@
-pub mod Faults
 pub mod Tables
 pub mod Counts
 pub mod Microticks

@@ -1,29 +1,22 @@
 -- Values and tables of a document, one after another.
-use Rattle.std.proofs.Common.{◌≡◌, ◌&&◌, Bool, true, ℕ, suc, ◌+◌, ◌<◌, List, [], ◌∷◌, ◌++◌, length, get_or, drop, map, String, Global, string_bytes, refl, ap, sym, ◌∙◌, add-one, append_assoc}
+use Rattle.std.proofs.Common.{◌≡◌, ◌&&◌, true, ℕ, ◌+◌, ◌<◌, List, [], ◌∷◌, ◌++◌, length, get_or, drop, String, Global, string_bytes, refl, ap, sym, ◌∙◌}
 use Rattle.std.specs.Option.{is_some}
 use Rattle.std.specs.List.{list_all, AllByRecursion}
 use Rattle.std.specs.Map.{keys_of}
-use Rattle.std.proofs.lemmas.Bool.{and_parts}
-use Rattle.toml.specs.Data.{Members, as_table}
+use Rattle.toml.specs.Data.{as_table}
 use Rattle.toml.specs.View.{view, items_view, members_view}
 use Rattle.toml.specs.declared.value.Value.{Value}
 use Rattle.toml.proofs.Views.{items_view-drop}
 use Rattle.ttp_world.specs.declared.medl.SlotPlan.{SlotPlan}
 use Rattle.ttp_world.specs.Medl.{IsValidSlot}
 use Rattle.medl_text.specs.declared.error.FieldName.{FieldName}
-use Rattle.medl_text.specs.ListFile.{are_tables, element_of, tables_of, slot_faults, slots_faults, plan_of, plans_of, unknown_at_slot, unknown_in_slots, is_among, has_only}
+use Rattle.medl_text.specs.ListFile.{are_tables, tables_of, slots_faults, plans_of, is_among, has_only}
 
 -- one value more is a table, and the rest are
 pub are_tables-drop : (vs : List Value) (i : ℕ) (v : Value) → i < length vs → v ≡ get_or vs i v
     → are_tables (items_view (drop i vs)) ≡ (is_some (as_table (view v)) && are_tables (items_view (drop (i + 1) vs)))
 are_tables-drop vs i v h here =
     ap are_tables (items_view-drop vs i v h) ∙ ap (λ (w : Value). is_some (as_table (view w)) && are_tables (items_view (drop (i + 1) vs))) (sym here)
-
--- one element more, and the rest
-pub tables_of-drop : (vs : List Value) (i : ℕ) (v : Value) → i < length vs → v ≡ get_or vs i v
-    → tables_of (items_view (drop i vs)) ≡ element_of (view v) ∷ tables_of (items_view (drop (i + 1) vs))
-tables_of-drop vs i v h here =
-    ap tables_of (items_view-drop vs i v h) ∙ ap (λ (w : Value). element_of (view w) ∷ tables_of (items_view (drop (i + 1) vs))) (sym here)
 
 -- the keys of a table are those of its entries
 pub has_only-entries : (known : List FieldName) (es : List (String Global × Value))

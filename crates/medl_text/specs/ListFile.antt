@@ -4,10 +4,9 @@
 -- number of slots, of each slot's keys, of keys that no list has, of the number of slots with `sync`, and of what
 -- is not built yet. A file with no fault is the list of its values. A value that is missing or of another kind
 -- counts as 0, no or nothing, since a fault that stands earlier is then the answer.
-use Rattle.std.specs.Prelude.{◌≡◌, ◌==◌, ℕ, suc, nat_le, nat_lt, ℤ, pos, negsuc, Bool, true, false, ◌&&◌, ◌||◌, not, List, [], ◌∷◌, ◌++◌, length, map, count_by, codes, Option, Some, None, option_and_then, unwrap_or, Result, Ok, Err, if◌then◌else◌, is_some}
+use Rattle.std.specs.Prelude.{◌==◌, ℕ, suc, nat_le, ℤ, pos, negsuc, Bool, true, false, ◌&&◌, ◌||◌, List, [], ◌∷◌, ◌++◌, length, map, count_by, codes, Option, Some, None, option_and_then, unwrap_or, Result, Ok, Err, if◌then◌else◌, is_some}
 use Rattle.std.specs.List.{list_all, list_any}
-use Rattle.std.specs.Str.{bytes_eq}
-use Rattle.std.specs.Str.Lossy.{utf8_valid_len}
+use Rattle.std.specs.Str.{bytes_eq, is_utf8}
 use Rattle.toml.specs.Data.{Data, Items, no_items, item, Members, no_members, member, get_member, as_integer, as_str, as_bool, as_array, as_table}
 use Rattle.toml.specs.Parse.{parse_document}
 use Rattle.ttp_world.specs.declared.medl.Kind.{Kind}
@@ -260,7 +259,7 @@ medl_of_document (Some file) = medl_in file
 
 -- the table that `toml` defines for the bytes, which are text
 unfoldable pub document_of : List ℕ → Option Members
-document_of bytes = if utf8_valid_len bytes == length bytes then parse_document bytes else None
+document_of bytes = if is_utf8 bytes then parse_document bytes else None
 
 -- what the bytes of a file say: the list, or the first fault
 unfoldable pub medl_of : List ℕ → Result Medl MedlError

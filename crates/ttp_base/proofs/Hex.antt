@@ -1,8 +1,7 @@
 -- Hexadecimal digits, written from the last one to the first, and two for each byte.
-use Rattle.std.proofs.Common.{◌≡◌, ℕ, suc, ◌+◌, ◌-◌, ◌*◌, ◌/◌, ◌%◌, ◌<◌, ◌≤◌, List, [], ◌∷◌, ◌++◌, length, take, drop, set, refl, ap, sym, ◌∙◌, append_assoc, arith}
+use Rattle.std.proofs.Common.{◌≡◌, ℕ, suc, ◌+◌, ◌-◌, ◌*◌, ◌/◌, ◌%◌, ◌<◌, ◌≤◌, List, [], ◌∷◌, ◌++◌, length, drop, set, refl, sym, append_assoc, arith}
 use Rattle.std.proofs.lemmas.List.{drop-set}
-use Rattle.std.specs.List.{flat_map}
-use Rattle.ttp_base.specs.Text.{hex_digit, hex, hex_bytes, byte_hex}
+use Rattle.ttp_base.specs.Text.{hex_digit, hex, hex_bytes}
 
 -- one digit more stands at the end, and one less is due
 pub hex_step : (start place rest : ℕ) (text : List ℕ) → start < place → place ≤ length text

@@ -2,7 +2,7 @@
 use Rattle.std.proofs.Common.{◌≡◌, ℕ, zero, suc, ◌+◌, ◌*◌, ◌/◌, ◌<◌, ◌≤◌, ◌^◌, List, length, refl, ap, ◌∙◌, length-append, ℤ, SFits, w64, arith}
 use Rattle.std.proofs.lemmas.Fmt.{length-decimal-le, length_signed_le}
 use Rattle.std.specs.Fmt.{decimal, signed_decimal}
-use Rattle.ttp_base.specs.Text.{hex, hex_digit}
+use Rattle.ttp_base.specs.Text.{hex}
 use Rattle.ttp_base.proofs.Hex.{length-hex_bytes}
 
 -- a number of 64 bits has at most 20 digits, one of 16 bits at most 5, and one of 8 bits at most 3

@@ -1,5 +1,5 @@
 -- A call that loaded a list: the first bytes of the file decide how it ends.
-use Rattle.std.proofs.Common.{◌≡◌, ◌≢◌, ◌⊎◌, ℕ, ◌+◌, ◌<◌, ◌≤◌, List, [], length, take, Option, Some, None, Result, Ok, Err, Bool, true, false, refl, ap, sym, subst, ◌∙◌, inl, inr, arith, min, nat_lt, cond}
+use Rattle.std.proofs.Common.{◌≡◌, ◌≢◌, ◌⊎◌, ℕ, ◌+◌, ◌<◌, ◌≤◌, List, [], length, take, Option, Some, None, Result, Ok, Err, Bool, true, false, refl, ap, sym, subst, ◌∙◌, inl, inr, arith, nat_lt, cond}
 use Rattle.std.proofs.Math.Nat.{eq-or-lt_of_le}
 use Rattle.std.specs.Option.{IfSome, unwrap_or}
 use Rattle.std.specs.Io.KnownBytes.{Appends}
@@ -11,8 +11,8 @@ use Rattle.medl_text.specs.declared.error.MedlError.{MedlError}
 use Rattle.medl_text.specs.ListFile.{medl_of}
 use Rattle.medl_text.specs.Schedule.{slot_table}
 use Rattle.ttp_top.specs.Words.{Form, schedule}
-use Rattle.ttp_top.specs.Lines.{list_line, load_list_line, usage_line}
-use Rattle.ttp_top.specs.Ending.{Ending, list_limit, table_ending, too_large_ending, ending_within, schedule_ending, ending_of, AgreesWith, Ends, IsLoadLine, IsDue, Shows}
+use Rattle.ttp_top.specs.Lines.{usage_line}
+use Rattle.ttp_top.specs.Ending.{Ending, list_limit, table_ending, too_large_ending, ending_within, schedule_ending, Ends, IsLoadLine, IsDue, Shows}
 
 -- what stands past the limit doesn't matter
 ending_within-front_at : (limit : ℕ) (all : List ℕ) → (limit < length all) ⊎ (length all ≤ limit)

@@ -1,12 +1,12 @@
 -- How a call ends: with what status, and what it has written.
-use Rattle.std.specs.Prelude.{◌≡◌, ◌⊎◌, ◌≢◌, ℕ, ◌≤◌, nat_lt, List, [], length, Option, Some, None, IfSome, Result, Ok, Err, codes, if◌then◌else◌}
+use Rattle.std.specs.Prelude.{◌≡◌, ◌⊎◌, ℕ, nat_lt, List, [], length, Option, Some, None, IfSome, Result, Ok, Err, codes, if◌then◌else◌}
 use Rattle.std.specs.Io.KnownBytes.{Appends}
 use Rattle.ttp_base.specs.Outside.{HasRisen, AppendsFront}
 use Rattle.ttp_world.specs.declared.medl.Medl.{Medl}
 use Rattle.medl_text.specs.declared.error.MedlError.{MedlError}
 use Rattle.medl_text.specs.ListFile.{medl_of}
 use Rattle.medl_text.specs.Schedule.{slot_table}
-use Rattle.ttp_top.specs.Words.{Form, schedule, form_of}
+use Rattle.ttp_top.specs.Words.{Form, schedule}
 use Rattle.ttp_top.specs.Lines.{usage_line, load_list_line, fault_text, list_line}
 
 -- the status, and the text that is due with it

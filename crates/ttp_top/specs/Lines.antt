@@ -1,5 +1,5 @@
 -- The lines that a call writes beside its output.
-use Rattle.std.specs.Prelude.{ℕ, List, [], ◌∷◌, ◌++◌, codes, decimal, Option, Some, None}
+use Rattle.std.specs.Prelude.{ℕ, List, [], ◌++◌, codes, decimal, Option, Some, None}
 use Rattle.std.specs.Fmt.{signed_decimal}
 use Rattle.medl_text.specs.declared.error.Field.{Field}
 use Rattle.medl_text.specs.declared.error.MedlError.{MedlError}

@@ -1,4 +1,4 @@
-use Rattle.std.proofs.Common.{arith, ◌<◌, sym}
+use Rattle.std.proofs.Common.{arith, ◌<◌}
 use Rattle.std.proofs.lemmas.Result.{err_from_is_err_and}
 use Rattle.ttp_base.specs.Text.{texts_below}
 use Rattle.ttp_base.proofs.Written.{AppendsFront-more, AppendsFront-texts}

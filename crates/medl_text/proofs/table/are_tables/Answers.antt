@@ -1,4 +1,4 @@
-use Rattle.std.proofs.Common.{◌≡◌, ◌&&◌, ◌+◌, drop, sym, ap, ◌∙◌, Bool, arith}
+use Rattle.std.proofs.Common.{◌&&◌, ◌+◌, drop, sym, ap, ◌∙◌, Bool, arith}
 use Rattle.toml.specs.View.{items_view}
 use Rattle.medl_text.specs.ListFile.{are_tables}
 use Rattle.medl_text.proofs.Tables.{are_tables-drop}
