@@ -1,6 +1,5 @@
 //! The keys of a list file, and what can be wrong with one.
 
-use std::alloc::AllocError;
 use ttp_base::Memory;
 
 /// A key of a list file, in the order in which the keys are looked at.
@@ -90,17 +89,6 @@ impl From<Memory> for MedlError {
     ghost from_gives = { λ _ e. e ≡ errors.Memory };
 
     fn from(_memory: Memory) -> MedlError {
-        MedlError::Memory
-    }
-}
-
-impl From<AllocError> for MedlError {
-    ghost use Rattle.std.specs.Prelude.{◌≡◌};
-    ghost use Rattle.medl_text.specs.declared.error.MedlError.TheVariants as errors;
-
-    ghost from_gives = { λ _ e. e ≡ errors.Memory };
-
-    fn from(_error: AllocError) -> MedlError {
         MedlError::Memory
     }
 }

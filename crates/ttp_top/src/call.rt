@@ -87,7 +87,8 @@ fn schedule<L: Library, K: Sink>(alloc: Global, list: &str, library: &mut L, out
 /// | 6 | only where the sink's count rose | a front of the text that was due |
 /// | 7 | want of memory | nothing |
 ///
-/// Each line is one piece. For words of no form no memory is taken.
+/// Each line is one piece, so the cost is one write for each line. For words of no form no memory is
+/// taken. The runtime and the gate are for commands that run a cluster; `schedule` uses neither.
 pub fn bench<R: Threads + Wait + Sync, L: Library, K: Sink, G: Gate>(
     rt: &R,
     alloc: Global,

@@ -1,7 +1,8 @@
 //! `ttpbench`: runs one command over real files and standard output, and ends with its status.
 //!
-//! Where the system gives no words, it ends with status 8 and writes nothing. The few lines here
-//! and the real files and streams behind them are trusted; the rest is `bench`, which is proved.
+//! Where the system gives no words, it ends with status 8 and writes nothing; where that is for want
+//! of memory, with status 7. The few lines here and the real files and streams behind them are
+//! trusted; the rest is `bench`, which is proved.
 #![tactic(auto)]
 
 use std::env::Env;
@@ -19,6 +20,7 @@ fn main(rt: HostRuntime) -> ExitCode {
             let alloc = rt.alloc();
             ExitCode::from(bench(&rt, alloc, &words, &mut library, &mut out, &gate))
         }
+        Err(error) if error.kind() == io::ErrorKind::OutOfMemory => ExitCode::from(7),
         Err(_) => ExitCode::from(8),
     }
 }
