@@ -74,6 +74,9 @@ impl Library for MemoryLibrary {
         ensures number { library_calls self.new ≡ min (library_calls self.old + 1) count_end }
         ensures exact { IsErrOf result LoadError.Failed ↔ (IsTrue (comes_up (library_fail self.old) (library_calls self.new)) ⊎ IsNone (library_held self.old name.now)) }
         ensures stays { library_fail self.new ≡ library_fail self.old }
+        // It counts each fault once, and nothing else.
+        ensures counted { IsErrOf result LoadError.Failed → library_faults self.new ≡ min (library_faults self.old + 1) count_end }
+        ensures uncounted { IsErrOf result LoadError.Failed ⊎ (library_faults self.new ≡ library_faults self.old) }
     {
         let is_to_fail = is_next_to_fail(&self.fail, &mut self.calls);
         match self.files.get(name) {

@@ -1,5 +1,5 @@
 //! A sink in memory.
-ghost use Rattle.std.specs.Prelude.{◌≡◌, ◌⊎◌, ◌+◌, ◌<◌, ◌≤◌, ◌↔◌, [], length, min, Some, vec_len, vec_capacity, IsTrue, IsErr, IfOk, OnOk, OnErr};
+ghost use Rattle.std.specs.Prelude.{◌≡◌, ◌⊎◌, ◌+◌, ◌<◌, ◌≤◌, ◌↔◌, [], length, min, Some, vec_len, vec_capacity, is_ok, if◌then◌else◌, IsTrue, IsErr, IfOk, OnOk, OnErr};
 ghost use Rattle.std.specs.Io.KnownBytes.{Appends};
 ghost use Rattle.ttp_base.specs.Outside.{HasRisen, AppendsFront, comes_up, count_end};
 
@@ -73,6 +73,8 @@ impl Sink for MemorySink {
         ensures exact { IsErr result ↔ (IsTrue (comes_up (sink_fail self.old) (sink_calls self.new))
             ⊎ (sink_room self.old < length (sink_bytes self.old) + length piece.now)) }
         ensures nothing { OnErr result (sink_bytes self.new ≡ sink_bytes self.old) }
+        // It counts each fault once, and nothing else.
+        ensures counted { sink_faults self.new ≡ (if is_ok result then sink_faults self.old else min (sink_faults self.old + 1) count_end) }
         ensures keeps { (sink_fail self.new ≡ sink_fail self.old) × (sink_room self.new ≡ sink_room self.old) }
     {
         let is_to_fail = is_next_to_fail(&self.fail, &mut self.calls);
