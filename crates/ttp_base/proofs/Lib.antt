@@ -1,3 +1,4 @@
 mod Hex
+pub mod NodeSets
 pub mod Room
 pub mod Written

@@ -3,3 +3,5 @@ pub mod Outside
 pub mod MemorySink
 pub mod MemoryLibrary
 pub mod System
+pub mod NodeSet
+pub mod NodeSetWord

@@ -1,8 +1,8 @@
 //! Each public call once, and what no clause says of the real outside.
 
 use crate::{
-    Failed, FileLibrary, Gate, Library, Line, List, LoadError, MemoryLibrary, MemorySink, OpenGate,
-    Sink, StreamSink,
+    Failed, FileLibrary, Gate, Library, Line, List, LoadError, MemoryLibrary, MemorySink, NodeSet,
+    OpenGate, Sink, StreamSink,
 };
 use std::io::Write;
 use std::test::Fail;
@@ -22,6 +22,21 @@ fn a_list_grows(rt: HostRuntime) -> Result<(), Fail> {
     let list = List::from_vec(items);
     assert_eq!(rt; list.as_slice(), [7, 9].as_slice());
     Ok(())
+}
+
+#[test]
+fn a_set_of_nodes(rt: HostRuntime) {
+    let none = NodeSet::empty();
+    let set = none.with(23).with(5).with(2).without(5);
+    assert!(rt; set.has(2));
+    assert!(rt; !set.has(5));
+    assert_eq!(rt; set.count(), 2);
+    assert!(rt; set.first() == Some(2));
+    assert!(rt; none.first().is_none());
+    assert_eq!(rt; set.bits(), 0x80_0004);
+    let copy = set;
+    assert!(rt; copy == set);
+    assert!(rt; copy != none);
 }
 
 #[test]

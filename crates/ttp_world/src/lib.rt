@@ -1,12 +1,24 @@
 //! The types of a cluster and the definitions that more than one crate's contracts cite.
 //!
 //! A [`Medl`] is the message descriptor list that stands in every controller: the static schedule
-//! of one cluster cycle, with the bounds that the clocks are held to. What makes a list valid is
-//! `IsValid` of `specs/Medl.antt`; each call of the other crates that takes a list asks for it.
+//! of one cluster cycle, with the bounds that the clocks are held to. A [`Script`] says what happens
+//! to the cluster in a run. What makes them valid is `IsValid` of `specs/Medl.antt` and
+//! `IsValidScript` of `specs/Script.antt`; each call of the other crates that takes one asks for it.
+//! What the cluster then does is the world of `specs/World.antt`, a list of the entries of all nodes
+//! for each slot.
 //!
 //! The crate reads, prints and decides nothing.
 #![tactic(auto)]
 
+mod keep;
 mod medl;
+mod node;
+mod script;
 
+pub use keep::Keep;
 pub use medl::{Kind, Medl, SlotPlan};
+pub use node::{
+    Ack, CState, ChannelView, Chosen, Delivered, Entry, NodeState, Phase, Reason, StatusWords,
+    Verdict,
+};
+pub use script::{Channel, Channels, Event, Fault, Payload, Script, Source};

@@ -1,0 +1,63 @@
+-- Frames as bytes.
+--
+-- What a frame's membership takes is a number of bytes, here `width`; everything else has its place by the header.
+use Rattle.std.specs.Prelude.{ℕ, zero, suc, ◌+◌, ◌/◌, ◌%◌, Bool, not, ◌==◌, List, [], ◌∷◌, ◌++◌, if◌then◌else◌}
+use Rattle.ttp_base.specs.NodeSet.{set_bits}
+use Rattle.ttp_world.specs.declared.medl.Kind.{Kind}
+use Rattle.ttp_world.specs.declared.medl.Kind.TheVariants as kind
+use Rattle.ttp_world.specs.declared.medl.Medl.{Medl}
+use Rattle.ttp_world.specs.declared.node.CState.{CState}
+use Rattle.ttp_world.specs.Medl.{is_bare, kind_at, plan_at}
+use Rattle.ttp_world.specs.CheckWord.{check_word}
+
+-- the bytes of a membership in a list's frames
+abbrev pub member_width : ℕ
+member_width = 2
+
+-- the lowest bytes of a number, the most significant first
+abbrev pub big_endian : ℕ → ℕ → List ℕ
+big_endian zero v = []
+big_endian (suc count) v = big_endian count (v / 256) ++ v % 256 ∷ []
+
+-- time, round, slot, membership
+abbrev pub cstate_bytes : ℕ → CState → List ℕ
+cstate_bytes width c = big_endian 2 c.time ++ big_endian 1 c.round ++ big_endian 1 c.slot ++ big_endian width (set_bits c.members)
+
+abbrev pub cstate_length : ℕ → ℕ
+cstate_length width = 4 + width
+
+-- Headers.
+
+abbrev pub implicit_header : ℕ
+implicit_header = 0
+
+abbrev pub cold_start_header : ℕ
+cold_start_header = 3
+
+abbrev pub header_of : Kind → ℕ
+header_of kind.N = 0
+header_of kind.I = 1
+header_of kind.X = 2
+
+-- a frame with this header carries its C-state
+abbrev pub is_explicit : ℕ → Bool
+is_explicit header = not (header == implicit_header)
+
+-- the bytes of payload that a slot's frame carries in a round
+abbrev pub payload_length : Medl → ℕ → ℕ → ℕ
+payload_length list round slot = if is_bare (kind_at list round slot) then 0 else (plan_at list slot).payload
+
+-- What a frame says before its check word, and what the word is computed over.
+
+abbrev pub body : ℕ → ℕ → CState → List ℕ → List ℕ
+body width header c payload = header ∷ ((if is_explicit header then cstate_bytes width c else []) ++ payload)
+
+abbrev pub checked : ℕ → ℕ → CState → List ℕ → List ℕ
+checked width header c payload = if is_explicit header then body width header c payload else cstate_bytes width c ++ body width header c payload
+
+abbrev pub word_bytes : ℕ → List ℕ → List ℕ
+word_bytes start bytes = big_endian 3 (check_word start bytes)
+
+-- a frame
+abbrev pub frame : ℕ → ℕ → CState → List ℕ → ℕ → List ℕ
+frame width header c payload start = body width header c payload ++ word_bytes start (checked width header c payload)

@@ -1,0 +1,104 @@
+-- What a receiver hears on a channel, by what was sent in the slot and the script's faults.
+use Rattle.std.specs.Prelude.{ℕ, ◌+◌, ◌-◌, ◌/◌, ◌%◌, ◌^◌, nat_lt, Bool, true, false, ◌&&◌, not, ◌==◌, List, [], ◌∷◌, filter, fold, map, length, if◌then◌else◌}
+use Rattle.ttp_base.specs.NodeSet.{below}
+use Rattle.ttp_world.specs.declared.node.Entry.{Entry}
+use Rattle.ttp_world.specs.declared.node.Entry.TheVariants as entry
+use Rattle.ttp_world.specs.declared.script.Channel.{Channel}
+use Rattle.ttp_world.specs.declared.script.Channel.TheVariants as channel
+use Rattle.ttp_world.specs.declared.script.Fault.TheVariants as fault
+use Rattle.ttp_world.specs.declared.script.Script.{Script}
+use Rattle.ttp_world.specs.Diary.{History, SlotRecord, Record, entry_of}
+use Rattle.ttp_world.specs.Script.{has_send_fault, has_receive_fault, flipped_bits, jump_of, drift_of}
+
+-- a frame and the node that sends it
+pub record SentFrame : Type 0 where
+  pub sender : ℕ
+  pub bytes : List ℕ
+
+-- what is on a channel, or comes to a receiver
+pub data Signal : Type 0 where
+  Silence : Signal
+  Noise : Signal
+  Bits : (sender : ℕ) (bytes : List ℕ) → Signal
+
+abbrev pub is_silence : Signal → Bool
+is_silence Silence = true
+is_silence Noise = false
+is_silence (Bits sender bytes) = false
+
+-- Flipped bits. Bit 0 is the first byte's most significant; a bit past the end has no effect.
+
+abbrev pub flip_in_byte : ℕ → ℕ → ℕ
+flip_in_byte place byte = if byte / 2 ^ place % 2 == 1 then byte - 2 ^ place else byte + 2 ^ place
+
+abbrev pub flip_bit : List ℕ → ℕ → List ℕ
+flip_bit [] bit = []
+flip_bit (byte ∷ bytes) bit = if nat_lt bit 8 then flip_in_byte (7 - bit) byte ∷ bytes else byte ∷ flip_bit bytes (bit - 8)
+
+abbrev pub flip_bits : List ℕ → List ℕ → List ℕ
+flip_bits bytes bits = fold flip_bit bytes bits
+
+-- The channel.
+
+-- the frames that their senders' faults leave on a channel, be it as noise
+abbrev pub is_left : Script → ℕ → Channel → SentFrame → Bool
+is_left script slot c sent = not (has_send_fault script fault.Silence sent.sender c slot)
+
+abbrev pub left_on : Script → ℕ → Channel → List SentFrame → List SentFrame
+left_on script slot c frames = filter (is_left script slot c) frames
+
+-- one frame is heard as it is or as noise, and what is left of two or more is noise
+abbrev pub signal_of : Script → ℕ → Channel → SentFrame → Signal
+signal_of script slot c sent =
+    if has_send_fault script fault.Noise sent.sender c slot then Noise
+    else Bits sent.sender (flip_bits sent.bytes (flipped_bits script sent.sender c slot))
+
+abbrev pub signal_left : Script → ℕ → Channel → List SentFrame → Signal
+signal_left script slot c [] = Silence
+signal_left script slot c (sent ∷ []) = signal_of script slot c sent
+signal_left script slot c (sent ∷ more ∷ others) = Noise
+
+abbrev pub signal_on : Script → ℕ → Channel → List SentFrame → Signal
+signal_on script slot c frames = signal_left script slot c (left_on script slot c frames)
+
+-- The receiver.
+
+abbrev pub with_noise : Bool → Signal → Signal
+with_noise noisy Silence = Silence
+with_noise noisy Noise = Noise
+with_noise noisy (Bits sender bytes) = if noisy then Noise else Bits sender bytes
+
+-- what node r hears on a channel in a slot in which these frames are sent
+abbrev pub heard : Script → ℕ → ℕ → Channel → List SentFrame → Signal
+heard script slot r c frames =
+    if has_receive_fault script fault.Silence r c slot then Silence
+    else with_noise (has_receive_fault script fault.Noise r c slot) (signal_on script slot c frames)
+
+abbrev pub is_silent_to : Script → ℕ → ℕ → List SentFrame → Bool
+is_silent_to script slot r frames = is_silence (heard script slot r channel.A frames) && is_silence (heard script slot r channel.B frames)
+
+-- What the history tells of the medium: silence does not depend on what the frames held.
+
+abbrev pub is_sending : Entry → Bool
+is_sending entry.Started = true
+is_sending (entry.Sent message) = true
+is_sending _ = false
+
+abbrev pub sender_only : ℕ → SentFrame
+sender_only k = record { sender = k; bytes = [] }
+
+-- those that sent in a slot
+abbrev pub senders_in : List Entry → List SentFrame
+senders_in row = map sender_only (filter (λ k. is_sending (entry_of row k)) (below (length row)))
+
+abbrev pub slot_record : Script → ℕ → List Entry → ℕ → SlotRecord
+slot_record script slot row k = record {
+  jump = jump_of script k slot;
+  drift = drift_of script k;
+  is_silent = is_silent_to script slot k (senders_in row);
+}
+
+-- the record beside node k's diary
+abbrev pub record_of : Script → History → ℕ → Record
+record_of script [] k = []
+record_of script (row ∷ history) k = slot_record script (length history) row k ∷ record_of script history k

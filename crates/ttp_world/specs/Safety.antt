@@ -1,0 +1,79 @@
+-- Safety: what holds of the nodes after a slot, where a script keeps the single-fault hypothesis.
+use Rattle.std.specs.Prelude.{ℕ, suc, ◌+◌, ◌*◌, ◌-◌, nat_le, Bool, ◌&&◌, ◌||◌, not, List, length, filter, IsTrue}
+use Rattle.std.specs.List.{list_all, list_any}
+use Rattle.std.specs.Str.{bytes_eq}
+use Rattle.ttp_base.specs.NodeSet.{has_node}
+use Rattle.ttp_world.specs.declared.medl.Medl.{Medl}
+use Rattle.ttp_world.specs.declared.script.Script.{Script}
+use Rattle.ttp_world.specs.Acknowledgement.{ack_of, is_doubt}
+use Rattle.ttp_world.specs.Diary.{Diary, History, diary_of, phase_of}
+use Rattle.ttp_world.specs.Hypothesis.{nodes_of, Joining, joinings_up_to, is_correct_after}
+use Rattle.ttp_world.specs.Medium.{is_sending}
+use Rattle.ttp_world.specs.Membership.{members_of}
+use Rattle.ttp_world.specs.Messages.{is_left_phase}
+
+-- the slot after which a history stands
+abbrev pub newest_slot : History → ℕ
+newest_slot history = length history - 1
+
+abbrev pub correct_nodes : Medl → Script → History → List ℕ
+correct_nodes list script history = filter (is_correct_after list script (newest_slot history)) (nodes_of list)
+
+abbrev pub members_in_diary : Medl → History → ℕ → List ℕ
+members_in_diary list history k = members_of list k (diary_of history k)
+
+-- correct nodes that do not wait for a second successor
+abbrev pub is_settled : History → ℕ → Bool
+is_settled history k = not (is_doubt (ack_of (diary_of history k)))
+
+abbrev pub settled_nodes : Medl → Script → History → List ℕ
+settled_nodes list script history = filter (is_settled history) (correct_nodes list script history)
+
+abbrev pub are_same_members : Medl → History → ℕ → ℕ → Bool
+are_same_members list history j k = bytes_eq (members_in_diary list history j) (members_in_diary list history k)
+
+abbrev pub has_ever_sent : Diary → Bool
+has_ever_sent diary = list_any is_sending diary
+
+abbrev pub has_left : History → ℕ → Bool
+has_left history k = is_left_phase (phase_of (diary_of history k))
+
+-- no correct node holds node j for a member
+abbrev pub is_out : Medl → Script → History → ℕ → Bool
+is_out list script history j = list_all (λ k. not (has_node (members_in_diary list history k) j)) (correct_nodes list script history)
+
+-- the correct nodes that have started or sent
+abbrev pub correct_senders : Medl → Script → History → List ℕ
+correct_senders list script history = filter (λ k. has_ever_sent (diary_of history k)) (correct_nodes list script history)
+
+-- a node that became faulty two rounds ago has left and is no member
+abbrev pub is_gone : Medl → Script → History → Joining → Bool
+is_gone list script history j =
+    not (nat_le (j.slot + 2 * length list.slots) (suc (newest_slot history)))
+    || (has_left history j.node && is_out list script history j.node)
+
+abbrev pub members_agree : Medl → Script → History → Bool
+members_agree list script history =
+    list_all (λ j. list_all (are_same_members list history j) (settled_nodes list script history)) (settled_nodes list script history)
+
+abbrev pub senders_are_members : Medl → Script → History → Bool
+senders_are_members list script history =
+    list_all (λ j. list_all (λ k. has_node (members_in_diary list history k) j) (correct_nodes list script history))
+    (correct_senders list script history)
+
+abbrev pub none_has_left : Medl → Script → History → Bool
+none_has_left list script history = list_all (λ k. not (has_left history k)) (correct_nodes list script history)
+
+abbrev pub faulty_are_gone : Medl → Script → History → Bool
+faulty_are_gone list script history = list_all (is_gone list script history) (joinings_up_to list script (newest_slot history))
+
+-- what holds after the newest slot of a history
+pub record IsSafe (list : Medl) (script : Script) (history : History) : Type 0 where
+  -- correct nodes that are not in doubt hold one membership
+  pub agree : IsTrue (members_agree list script history)
+  -- each correct node that has started or sent is a member at every correct node
+  pub senders : IsTrue (senders_are_members list script history)
+  -- no correct node has left
+  pub stay : IsTrue (none_has_left list script history)
+  -- each node that has been faulty for two rounds has left, and is a member at no correct node
+  pub faulty : IsTrue (faulty_are_gone list script history)

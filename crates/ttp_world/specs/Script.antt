@@ -1,0 +1,179 @@
+-- What a script says of a slot, and when it is valid for a list.
+--
+-- A script is asked by its events: which of them speak of a node in a slot, and what they add up to.
+use Rattle.std.specs.Prelude.{◌≡◌, ◌≢◌, ℕ, ◌<◌, ◌≤◌, nat_le, ℤ, pos, neg_ℤ, ◌+ℤ◌, is_some, if◌then◌else◌, ◌≤ℤ◌, Bool, true, false, ◌&&◌, ◌==◌, List, [], ◌∷◌, length, get_or, count_by, slice_get, All, Option, Some, None, unwrap_or, IfSome}
+use Rattle.std.specs.List.{list_any, filter_map}
+use Rattle.ttp_world.specs.declared.medl.Medl.{Medl}
+use Rattle.ttp_world.specs.declared.script.Channel.{Channel}
+use Rattle.ttp_world.specs.declared.script.Channel.TheVariants as channel
+use Rattle.ttp_world.specs.declared.script.Channels.{Channels}
+use Rattle.ttp_world.specs.declared.script.Fault.{Fault}
+use Rattle.ttp_world.specs.declared.script.Fault.TheVariants as fault
+use Rattle.ttp_world.specs.declared.script.Source.{Source}
+use Rattle.ttp_world.specs.declared.script.Source.TheVariants as source
+use Rattle.ttp_world.specs.declared.script.Event.{Event}
+use Rattle.ttp_world.specs.declared.script.Event.TheVariants as event
+use Rattle.ttp_world.specs.declared.script.Script.{Script}
+use Rattle.ttp_world.specs.Medl.{plan_at}
+
+-- When nodes are switched on.
+
+-- the slot in which a node is switched on, if it ever is
+abbrev pub on_slot : Script → ℕ → Option ℕ
+on_slot script k = unwrap_or (slice_get script.on k) None
+
+abbrev pub is_ever_on : Script → ℕ → Bool
+is_ever_on script k = is_some (on_slot script k)
+
+-- whether a node is on in a slot
+abbrev pub is_by : ℕ → Option ℕ → Bool
+is_by slot None = false
+is_by slot (Some on) = nat_le on slot
+
+abbrev pub is_on : Script → ℕ → ℕ → Bool
+is_on script k slot = is_by slot (on_slot script k)
+
+-- Faults on a channel.
+
+abbrev pub covers : ℕ → ℕ → ℕ → Bool
+covers from to slot = nat_le from slot && nat_le slot to
+
+abbrev pub is_among : Channel → Channels → Bool
+is_among channel.A channels = channels.a
+is_among channel.B channels = channels.b
+
+abbrev pub is_same_fault : Fault → Fault → Bool
+is_same_fault fault.Silence fault.Silence = true
+is_same_fault fault.Silence fault.Noise = false
+is_same_fault fault.Noise fault.Silence = false
+is_same_fault fault.Noise fault.Noise = true
+
+-- an event is a send fault, or a receive fault, of this kind on a node's channel in a slot
+abbrev pub is_send_fault : Fault → ℕ → Channel → ℕ → Event → Bool
+is_send_fault kind k c slot (event.Send node channels f from to) =
+    (node == k) && (is_among c channels && (is_same_fault f kind && covers from to slot))
+is_send_fault kind k c slot _ = false
+
+abbrev pub is_receive_fault : Fault → ℕ → Channel → ℕ → Event → Bool
+is_receive_fault kind k c slot (event.Receive node channels f from to) =
+    (node == k) && (is_among c channels && (is_same_fault f kind && covers from to slot))
+is_receive_fault kind k c slot _ = false
+
+abbrev pub has_send_fault : Script → Fault → ℕ → Channel → ℕ → Bool
+has_send_fault script kind k c slot = list_any (is_send_fault kind k c slot) script.events
+
+abbrev pub has_receive_fault : Script → Fault → ℕ → Channel → ℕ → Bool
+has_receive_fault script kind k c slot = list_any (is_receive_fault kind k c slot) script.events
+
+-- the bit that an event flips in the frame that a node sends on a channel in a slot, and all such bits
+abbrev pub flipped_bit : ℕ → Channel → ℕ → Event → Option ℕ
+flipped_bit k c slot (event.Flip node channels bit at) = if (node == k) && (is_among c channels && (at == slot)) then Some bit else None
+flipped_bit k c slot _ = None
+
+abbrev pub flipped_bits : Script → ℕ → Channel → ℕ → List ℕ
+flipped_bits script k c slot = filter_map (flipped_bit k c slot) script.events
+
+-- Clocks.
+
+abbrev pub sum_ℤ : List ℤ → ℤ
+sum_ℤ [] = pos 0
+sum_ℤ (z ∷ zs) = z +ℤ sum_ℤ zs
+
+abbrev pub drift_of : Script → ℕ → ℤ
+drift_of script k = get_or script.drift k (pos 0)
+
+-- the reading error that an event gives a receiver in a slot, and the sum of them
+abbrev pub error_in : ℕ → ℕ → Event → Option ℤ
+error_in k slot (event.Error node value from to) = if (node == k) && covers from to slot then Some value else None
+error_in k slot _ = None
+
+abbrev pub reading_error : Script → ℕ → ℕ → ℤ
+reading_error script k slot = sum_ℤ (filter_map (error_in k slot) script.events)
+
+-- the jump that an event gives a node's clock in a slot, and the sum of them
+abbrev pub jump_in : ℕ → ℕ → Event → Option ℤ
+jump_in k slot (event.Jump node value at) = if (node == k) && (at == slot) then Some value else None
+jump_in k slot _ = None
+
+abbrev pub jump_of : Script → ℕ → ℕ → ℤ
+jump_of script k slot = sum_ℤ (filter_map (jump_in k slot) script.events)
+
+-- Hosts.
+
+-- a message that a node's host writes
+pub record Written : Type 0 where
+  pub host : ℕ
+  pub payload : List ℕ
+
+-- a read of a node's host
+pub record Asked : Type 0 where
+  pub host : ℕ
+  pub source : Source
+
+abbrev pub write_in : ℕ → Event → Option Written
+write_in slot (event.Write node at payload) = if at == slot then Some (record { host = node; payload = payload }) else None
+write_in slot _ = None
+
+abbrev pub read_in : ℕ → Event → Option Asked
+read_in slot (event.Read node at from) = if at == slot then Some (record { host = node; source = from }) else None
+read_in slot _ = None
+
+-- the messages that hosts write in a slot, and what they read there, in the order of the script
+abbrev pub writes_in : Script → ℕ → List Written
+writes_in script slot = filter_map (write_in slot) script.events
+
+abbrev pub reads_in : Script → ℕ → List Asked
+reads_in script slot = filter_map (read_in slot) script.events
+
+abbrev pub written_by : ℕ → Written → Option (List ℕ)
+written_by k written = if written.host == k then Some written.payload else None
+
+-- the messages that one node's host writes in a slot
+abbrev pub messages_written : Script → ℕ → ℕ → List (List ℕ)
+messages_written script k slot = filter_map (written_by k) (writes_in script slot)
+
+-- When a script is valid for a list.
+
+-- a number of microticks lies within plus or minus a bound
+abbrev pub IsWithinSpan : ℕ → ℤ → Type 0
+IsWithinSpan bound z = (neg_ℤ (pos bound) ≤ℤ z) × (z ≤ℤ pos bound)
+
+-- a node of the list, in slots of the run
+abbrev pub IsSpan : Script → ℕ → ℕ → Type 0
+IsSpan script from to = (from ≤ to) × (to < script.slots)
+
+-- a node that sends payload has a ring at each other node
+abbrev pub IsSource : Medl → ℕ → Source → Type 0
+IsSource list host source.Status = Unit {0}
+IsSource list host (source.Node k) = (k < length list.slots) × (1 ≤ (plan_at list k).payload) × (k ≢ host)
+
+abbrev pub IsValidEvent : Medl → Script → Event → Type 0
+IsValidEvent list script (event.Send node channels f from to) = (node < length list.slots) × IsSpan script from to
+IsValidEvent list script (event.Receive node channels f from to) = (node < length list.slots) × IsSpan script from to
+IsValidEvent list script (event.Flip node channels bit slot) = (node < length list.slots) × (8 ≤ bit) × (bit ≤ 2047) × (slot < script.slots)
+IsValidEvent list script (event.Error node value from to) = (node < length list.slots) × IsWithinSpan 10000 value × IsSpan script from to
+IsValidEvent list script (event.Jump node value slot) = (node < length list.slots) × IsWithinSpan 1000000 value × (slot < script.slots)
+IsValidEvent list script (event.Write node slot payload) =
+    (node < length list.slots) × (slot < script.slots) × (1 ≤ (plan_at list node).payload) × (length payload ≡ (plan_at list node).payload)
+IsValidEvent list script (event.Read node slot from) = (node < length list.slots) × (slot < script.slots) × IsSource list node from
+
+abbrev pub is_host_event : Event → Bool
+is_host_event (event.Write node slot payload) = true
+is_host_event (event.Read node slot from) = true
+is_host_event _ = false
+
+abbrev pub IsWithinRun : Script → Option ℕ → Type 0
+IsWithinRun script on = IfSome on (λ slot. slot < script.slots)
+
+-- each number is in its range, each event is one of the list's nodes, and no node's host writes in one slot so
+-- often that a buffer of its ring would be used twice
+pub record IsValidScript (list : Medl) (script : Script) : Type 0 where
+  pub slots : (1 ≤ script.slots) × (script.slots ≤ 20000)
+  pub on_count : length script.on ≡ length list.slots
+  pub on : All (IsWithinRun script) script.on
+  pub drift_count : length script.drift ≡ length list.slots
+  pub drift : All (IsWithinSpan 1000) script.drift
+  pub events : All (IsValidEvent list script) script.events
+  pub writes : (k slot : ℕ) → length (messages_written script k slot) < list.buffers
+  pub event_count : length script.events ≤ 131072
+  pub host_event_count : count_by is_host_event script.events ≤ 95325

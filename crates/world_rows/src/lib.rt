@@ -1,0 +1,16 @@
+//! Worked rows of the definitions of the protocol.
+//!
+//! Each function does nothing. Its contract is a row: a definition at a literal list and script
+//! equals what was worked out by hand from the protocol's rules, and the check computes it. So a
+//! wrong definition shows here, however well the code above meets it.
+//!
+//! A row that speaks of lines gives them as the trace prints them, for the slots and nodes that show
+//! its point. `docs/DEFINITIONS.md` says how to ask the definitions for a case of one's own.
+#![tactic(auto, unfolding(ttp_base::specs::NodeSet::with_node, ttp_base::specs::NodeSet::members_in, ttp_world::specs::Trace::digits))]
+
+pub mod clocks;
+pub mod faults;
+pub mod frames;
+pub mod messages;
+pub mod starts;
+pub mod tests_of_hypothesis;
