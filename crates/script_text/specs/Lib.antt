@@ -1,0 +1,5 @@
+pub mod Lines
+pub mod Numbers
+pub mod Statement
+pub mod Faults
+pub mod ScriptFile

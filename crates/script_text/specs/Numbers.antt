@@ -1,0 +1,69 @@
+-- Words that are numbers, channels, faults, sources and hexadecimal digits.
+use Rattle.std.specs.Prelude.{ℕ, ◌+◌, ◌*◌, ℤ, pos, neg_ℤ, Bool, true, false, ◌&&◌, ◌||◌, ◌==◌, List, [], ◌∷◌, length, drop, codes, slice_index, nat_le, nat_lt, if◌then◌else◌}
+use Rattle.std.specs.Char.{digit_value}
+use Rattle.std.specs.List.{list_all}
+use Rattle.std.specs.Str.{bytes_eq, all_ascii_digits}
+use Rattle.std.specs.Str.Parse.{digits_value}
+use Rattle.ttp_world.specs.declared.script.Channels.{Channels}
+use Rattle.ttp_world.specs.declared.script.Fault.{Fault}
+use Rattle.ttp_world.specs.declared.script.Fault.TheVariants as fault
+use Rattle.ttp_world.specs.declared.script.Source.{Source}
+use Rattle.ttp_world.specs.declared.script.Source.TheVariants as source
+
+-- a word is spelled like this
+abbrev pub is_text : List ℕ → List ℕ → Bool
+is_text text word = bytes_eq word text
+
+-- the most digits of a number
+abbrev pub most_digits : ℕ
+most_digits = 9
+
+abbrev pub is_number : List ℕ → Bool
+is_number word = all_ascii_digits word && (nat_le 1 (length word) && nat_le (length word) most_digits)
+
+abbrev pub number_in : List ℕ → ℕ
+number_in word = digits_value 10 word
+
+-- a number that may have a `-` before it
+abbrev pub is_negative : List ℕ → Bool
+is_negative word = slice_index word 0 == 45
+
+abbrev pub is_value : List ℕ → Bool
+is_value word = if is_negative word then is_number (drop 1 word) else is_number word
+
+abbrev pub value_in : List ℕ → ℤ
+value_in word = if is_negative word then neg_ℤ (pos (number_in (drop 1 word))) else pos (number_in word)
+
+-- hexadecimal digits of either case, two for each byte
+abbrev pub is_hex_digit : ℕ → Bool
+is_hex_digit b = nat_lt (digit_value b) 16
+
+abbrev pub is_hex : List ℕ → Bool
+is_hex word = list_all is_hex_digit word
+
+abbrev pub hex_bytes_in : List ℕ → List ℕ
+hex_bytes_in [] = []
+hex_bytes_in (high ∷ []) = []
+hex_bytes_in (high ∷ low ∷ digits) = (16 * digit_value high + digit_value low) ∷ hex_bytes_in digits
+
+-- what a host reads: `status`, or a sender's number
+abbrev pub is_source : List ℕ → Bool
+is_source word = is_text (codes "status") word || is_number word
+
+abbrev pub source_in : List ℕ → Source
+source_in word = if is_text (codes "status") word then source.Status else source.Node (number_in word)
+
+abbrev pub is_channels : List ℕ → Bool
+is_channels word = is_text (codes "A") word || (is_text (codes "B") word || is_text (codes "AB") word)
+
+abbrev pub channels_in : List ℕ → Channels
+channels_in word = record {
+  a = is_text (codes "A") word || is_text (codes "AB") word;
+  b = is_text (codes "B") word || is_text (codes "AB") word;
+}
+
+abbrev pub is_fault : List ℕ → Bool
+is_fault word = is_text (codes "silence") word || is_text (codes "noise") word
+
+abbrev pub fault_in : List ℕ → Fault
+fault_in word = if is_text (codes "silence") word then fault.Silence else fault.Noise

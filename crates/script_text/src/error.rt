@@ -1,0 +1,51 @@
+//! What can be wrong with a script.
+
+use ttp_base::Memory;
+
+/// What is wrong with a line, in the order in which it is looked for.
+#[derive(Clone, Copy, Debug, PartialEq, Eq)]
+pub enum LineFault {
+    /// The first word names no form of a line, the form has another number of words, or channels or
+    /// a fault are spelled otherwise.
+    Word,
+    /// The line is no `slots` line, and none came before.
+    NoSlots,
+    /// The line has a form that this bench does not run yet.
+    NotBuilt,
+    /// A number, a source or hexadecimal digits are due where something else stands.
+    Number,
+    /// The list has no node of this number.
+    NoNode,
+    /// The node sends no payload.
+    NoData,
+    /// A number is out of its range, a slot is past the run, a first slot comes after the last one,
+    /// a message has another length, or a node reads from itself.
+    Range,
+    /// A line said this before: the slots of the run, or when a node is on or how it drifts.
+    Repeat,
+    /// Hosts of a list with one buffer write nothing.
+    NoBuffer,
+    /// The writes of a node's host in one slot reach the number of buffers.
+    TooMany,
+}
+
+/// Why a text is no script for a list.
+#[derive(Clone, Copy, Debug, PartialEq, Eq)]
+pub enum ScriptError {
+    /// The first faulty line, counted from 1, with its first fault. Where the whole script has no
+    /// `slots` line, and no other fault, it is the line after the last.
+    Line { number: u32, fault: LineFault },
+    /// Memory was refused. It may come at any place.
+    Memory,
+}
+
+impl From<Memory> for ScriptError {
+    ghost use Rattle.std.specs.Prelude.{◌≡◌};
+    ghost use Rattle.script_text.specs.declared.error.ScriptError.TheVariants as errors;
+
+    ghost from_gives = { λ _ e. e ≡ errors.Memory };
+
+    fn from(_memory: Memory) -> ScriptError {
+        ScriptError::Memory
+    }
+}

@@ -1,0 +1,16 @@
+//! The first words of lines.
+
+/// A form of a script's line, which the line's first word names.
+#[derive(Clone, Copy, Debug, PartialEq, Eq)]
+pub(crate) enum Keyword {
+    Slots,
+    On,
+    Drift,
+    Send,
+    Receive,
+    Flip,
+    Error,
+    Jump,
+    Write,
+    Read,
+}
