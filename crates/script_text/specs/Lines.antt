@@ -1,5 +1,5 @@
 -- A script file as lines, and a line as words.
-use Rattle.std.specs.Prelude.{ℕ, ◌-◌, Bool, true, false, ◌||◌, ◌==◌, List, [], ◌∷◌, map, length, take, filter, slice_index, unwrap_or, slice_get, if◌then◌else◌}
+use Rattle.std.specs.Prelude.{ℕ, ◌-◌, Bool, true, false, not, ◌||◌, ◌==◌, List, [], ◌∷◌, map, length, take, filter, slice_index, unwrap_or, slice_get, if◌then◌else◌}
 use Rattle.std.specs.List.{slice_split}
 
 -- Lines.
@@ -30,6 +30,9 @@ lines_of bytes = without_empty_end (map without_return (slice_split is_line_feed
 -- a space or a tab
 abbrev pub is_blank : ℕ → Bool
 is_blank b = b == 32 || b == 9
+
+abbrev pub is_part : ℕ → Bool
+is_part b = not (is_blank b)
 
 -- the words of a line: what stands between blanks and is not empty
 unfoldable pub words_of : List ℕ → List (List ℕ)

@@ -1,8 +1,8 @@
 -- Words that are numbers, channels, faults, sources and hexadecimal digits.
 use Rattle.std.specs.Prelude.{ℕ, ◌+◌, ◌*◌, ℤ, pos, neg_ℤ, Bool, true, false, ◌&&◌, ◌||◌, ◌==◌, List, [], ◌∷◌, length, drop, codes, slice_index, nat_le, nat_lt, if◌then◌else◌}
-use Rattle.std.specs.Char.{digit_value}
+use Rattle.std.specs.Char.{digit_value, is_ascii_digit}
 use Rattle.std.specs.List.{list_all}
-use Rattle.std.specs.Str.{bytes_eq, all_ascii_digits}
+use Rattle.std.specs.Str.{bytes_eq}
 use Rattle.std.specs.Str.Parse.{digits_value}
 use Rattle.ttp_world.specs.declared.script.Channels.{Channels}
 use Rattle.ttp_world.specs.declared.script.Fault.{Fault}
@@ -19,7 +19,7 @@ abbrev pub most_digits : ℕ
 most_digits = 9
 
 abbrev pub is_number : List ℕ → Bool
-is_number word = all_ascii_digits word && (nat_le 1 (length word) && nat_le (length word) most_digits)
+is_number word = list_all is_ascii_digit word && (nat_le 1 (length word) && nat_le (length word) most_digits)
 
 abbrev pub number_in : List ℕ → ℕ
 number_in word = digits_value 10 word

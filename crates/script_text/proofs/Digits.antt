@@ -1,0 +1,29 @@
+-- The number that decimal digits write, one digit after another.
+use Rattle.std.proofs.Common.{◌≡◌, true, ℕ, zero, suc, ◌+◌, ◌-◌, ◌*◌, ◌^◌, ◌<◌, ◌≤◌, List, length, get_or, take, arith, ap, ◌∙◌, lit<}
+use Rattle.std.specs.Char.{is_ascii_digit, digit_value}
+use Rattle.std.proofs.Math.Nat.{pow-le-pow_right}
+use Rattle.std.proofs.lemmas.Grind.{pow_more, common_steps}
+use Rattle.std.proofs.lemmas.Bool.Decides.{nat_tests}
+use Rattle.std.proofs.lemmas.Int.Digits.{digits_value_more}
+use Rattle.script_text.specs.Numbers.{number_in}
+
+digit_value-of_digit : (b : ℕ) → is_ascii_digit b ≡ true → digit_value b ≡ b - 48
+digit_value-of_digit b digit = grind (arith, nat_tests)
+
+-- one digit more
+pub number_in-more : (word : List ℕ) (i : ℕ) → i < length word → is_ascii_digit (get_or word i 0) ≡ true
+    → number_in (take (i + 1) word) ≡ number_in (take i word) * 10 + (get_or word i 0 - 48)
+number_in-more word i within digit =
+    digits_value_more 10 word i within ∙ ap (λ (d : ℕ). number_in (take i word) * 10 + d) (digit_value-of_digit (get_or word i 0) digit)
+
+pub digit-small : (b : ℕ) → is_ascii_digit b ≡ true → b - 48 < 10
+digit-small b digit = grind (arith, nat_tests)
+
+-- a number of so many digits stays below the power of ten
+pub below_power : (i number digit : ℕ) → number < 10 ^ i → digit < 10 → number * 10 + digit < 10 ^ (i + 1)
+below_power i number digit small one = omega (arith, pow_more 10 i)
+
+pub within_word : (i number : ℕ) → number < 10 ^ i → i < 9 → number * 10 + 9 < 2 ^ 32
+within_word i number small few =
+    let most : 10 ^ (i + 1) ≤ 10 ^ 9 = pow-le-pow_right {n = 10} (lit< tt) {i = i + 1} {j = 9} (omega arith) in
+    omega (arith, pow_more 10 i, most)

@@ -1,0 +1,78 @@
+//! The form of a line, and whether its words are those of the form.
+ghost use Rattle.std.specs.Prelude.{◌≡◌};
+ghost use Rattle.script_text.specs.Numbers.{is_text, is_channels, is_fault};
+ghost use Rattle.script_text.specs.Statement.{keyword_of, word_count, has_channels, is_spelled};
+
+use crate::keyword::Keyword;
+use crate::lines::Words;
+
+/// The form that a line's first word names.
+pub(crate) fn keyword_of(word: &[u8]) -> Option<Keyword>
+    ensures { result ≡ keyword_of word.now }
+{
+    if word == b"slots".as_slice() {
+        Some(Keyword::Slots)
+    } else if word == b"on".as_slice() {
+        Some(Keyword::On)
+    } else if word == b"drift".as_slice() {
+        Some(Keyword::Drift)
+    } else if word == b"send".as_slice() {
+        Some(Keyword::Send)
+    } else if word == b"receive".as_slice() {
+        Some(Keyword::Receive)
+    } else if word == b"flip".as_slice() {
+        Some(Keyword::Flip)
+    } else if word == b"error".as_slice() {
+        Some(Keyword::Error)
+    } else if word == b"jump".as_slice() {
+        Some(Keyword::Jump)
+    } else if word == b"write".as_slice() {
+        Some(Keyword::Write)
+    } else if word == b"read".as_slice() {
+        Some(Keyword::Read)
+    } else {
+        None
+    }
+}
+
+fn word_count(form: Keyword) -> usize
+    ensures { result ≡ word_count form }
+{
+    match form {
+        Keyword::Slots => 2,
+        Keyword::On | Keyword::Drift => 3,
+        Keyword::Jump | Keyword::Write | Keyword::Read => 4,
+        Keyword::Flip | Keyword::Error => 5,
+        Keyword::Send | Keyword::Receive => 6,
+    }
+}
+
+fn is_channels(word: &[u8]) -> bool
+    ensures { result ≡ is_channels word.now }
+{
+    word == b"A".as_slice() || word == b"B".as_slice() || word == b"AB".as_slice()
+}
+
+fn is_fault(word: &[u8]) -> bool
+    ensures { result ≡ is_fault word.now }
+{
+    word == b"silence".as_slice() || word == b"noise".as_slice()
+}
+
+// Whether channels and faults are spelled as they are due.
+fn has_channels(form: Keyword, words: &Words) -> bool
+    ensures { result ≡ has_channels form words.now }
+{
+    match form {
+        Keyword::Send | Keyword::Receive => is_channels(words.at(2)) && is_fault(words.at(3)),
+        Keyword::Flip => is_channels(words.at(2)),
+        _ => true,
+    }
+}
+
+/// Whether a line has the words of its form, as many, and spelled as they are due.
+pub(crate) fn is_spelled(form: Keyword, words: &Words) -> bool
+    ensures { result ≡ is_spelled form words.now }
+{
+    words.len() == word_count(form) && has_channels(form, words)
+}
