@@ -165,13 +165,16 @@ abbrev pub is_after_slots : Keyword → List Statement → Bool
 is_after_slots keyword.Slots before = true
 is_after_slots _ before = is_some (slots_of before)
 
+-- those of a line whose words are spelled as its form has them
+unfoldable pub stated_faults : Medl → List Statement → List (List ℕ) → Keyword → List LineFault
+stated_faults list before words form = unless (has_numbers form words) faults.Number ++ statement_faults list before words (statement_of form words)
+
 unfoldable pub form_faults : (Keyword → Bool) → Medl → List Statement → List (List ℕ) → Keyword → List LineFault
 form_faults built list before words form =
     unless (is_spelled form words) faults.Word
     ++ (unless (is_after_slots form before) faults.NoSlots
     ++ (unless (built form) faults.NotBuilt
-    ++ (unless (has_numbers form words) faults.Number
-    ++ statement_faults list before words (statement_of form words))))
+    ++ stated_faults list before words form))
 
 abbrev pub faults_by : (Keyword → Bool) → Medl → List Statement → List (List ℕ) → Option Keyword → List LineFault
 faults_by built list before words None = faults.Word ∷ []
@@ -187,3 +190,8 @@ add_form before words (Some form) = statement_of form words ∷ before
 
 unfoldable pub add_line : List Statement → List (List ℕ) → List Statement
 add_line before words = if says_nothing words then before else add_form before words (keyword_of (word_at words 0))
+
+-- the first of a line's faults, if it has one
+abbrev pub first_fault : List LineFault → Option LineFault
+first_fault [] = None
+first_fault (fault ∷ found) = Some fault

@@ -3,3 +3,4 @@ pub mod Numbers
 pub mod Statement
 pub mod Faults
 pub mod ScriptFile
+pub mod SoFar

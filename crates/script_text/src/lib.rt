@@ -6,5 +6,6 @@ mod form;
 mod keyword;
 mod lines;
 mod number;
+mod so_far;
 
 pub use error::{LineFault, ScriptError};

@@ -1,0 +1,50 @@
+-- What the reader keeps of the lines that it has read.
+use Rattle.std.specs.Prelude.{◌≡◌, ℕ, ◌<◌, ◌≤◌, ◌&&◌, List, [], ◌∷◌, ◌++◌, length, nat_lt, All, Option, Some, None, is_none, IfSome, unwrap_or, slice_index_or}
+use Rattle.ttp_world.specs.declared.medl.Medl.{Medl}
+use Rattle.script_text.specs.declared.error.LineFault.{LineFault}
+use Rattle.script_text.specs.declared.error.LineFault.TheVariants as faults
+use Rattle.script_text.specs.declared.so_far.SoFar.{SoFar}
+use Rattle.script_text.specs.Lines.{word_at}
+use Rattle.script_text.specs.Numbers.{is_number, number_in}
+use Rattle.script_text.specs.Statement.{Statement}
+use Rattle.script_text.specs.Faults.{slots_of, on_of, drift_of, events_of, is_count, unless, line_faults, first_fault, add_line}
+use Rattle.script_text.specs.ScriptFile.{is_built}
+
+-- the lines so far state this, the newest first: no drift and no event, of which nothing is kept
+pub record StandsFor (so_far : SoFar) (before : List Statement) : Type 0 where
+  pub slots : so_far.slots ≡ slots_of before
+  pub on : (k : ℕ) → slice_index_or so_far.on.items k None ≡ on_of before k
+  pub drift : (k : ℕ) → drift_of before k ≡ None
+  pub events : events_of before ≡ []
+
+-- the run has slots in their range, and each node is switched on in one of them
+pub record IsInRange (so_far : SoFar) : Type 0 where
+  pub slots : IfSome so_far.slots (λ count. (1 ≤ count) × (count ≤ 20000))
+  pub on : All (λ on. IfSome on (λ slot. slot < unwrap_or so_far.slots 0)) so_far.on.items
+
+-- the faults of a `slots` line and of an `on` line whose words are spelled as they are due, by what is kept
+unfoldable pub slots_faults : List (List ℕ) → SoFar → List LineFault
+slots_faults words so_far =
+    let count = number_in (word_at words 1) in
+    unless (is_number (word_at words 1)) faults.Number
+    ++ (unless (is_count count) faults.Range
+    ++ unless (is_none so_far.slots) faults.Repeat)
+
+unfoldable pub on_faults : List (List ℕ) → Medl → SoFar → List LineFault
+on_faults words list so_far =
+    let node = number_in (word_at words 1) in
+    let slot = number_in (word_at words 2) in
+    unless (is_number (word_at words 1) && is_number (word_at words 2)) faults.Number
+    ++ (unless (nat_lt node (length list.slots)) faults.NoNode
+    ++ (unless (nat_lt slot (unwrap_or so_far.slots 0)) faults.Range
+    ++ unless (is_none (slice_index_or so_far.on.items node None)) faults.Repeat))
+
+-- a line was taken: it has no fault, whatever lines are kept, and is kept beside them
+pub record TakesLine (list : Medl) (words : List (List ℕ)) (old new : SoFar) : Type 0 where
+  pub faults : (before : List Statement) → StandsFor old before → line_faults is_built list before words ≡ []
+  pub after : (before : List Statement) → StandsFor old before → StandsFor new (add_line before words)
+
+-- this is its first fault, whatever lines are kept
+abbrev pub RefusesLine : Medl → List (List ℕ) → SoFar → LineFault → Type 0
+RefusesLine list words so_far fault =
+    (before : List Statement) → StandsFor so_far before → first_fault (line_faults is_built list before words) ≡ Some fault
