@@ -11,7 +11,7 @@ ghost use Rattle.ttp_world.specs.declared.script.Source.TheVariants as source;
 ghost use Rattle.ttp_world.specs.declared.script.Fault.TheVariants as kind;
 ghost use Rattle.ttp_world.specs.declared.script.Event.TheVariants as event;
 ghost use Rattle.script_text.specs.declared.error.LineFault.TheVariants as faults;
-ghost use Rattle.script_text.specs.ScriptFile.{is_any, script_with};
+ghost use Rattle.script_text.specs.ScriptFile.{is_known, script_with};
 ghost use Rattle.script_rows.specs.Rows.{list_with, all_of, built_of, at, script, quiet, happens};
 
 /// Bad scripts: the run's slots, and when nodes are switched on. These are read already.
@@ -42,7 +42,7 @@ pub fn bad_writes_and_reads()
     ensures reads_itself { all_of (codes "slots 20\nread 1 3 1\n") ≡ at 2 faults.Range }
     ensures no_payload_to_read { all_of (codes "slots 20\nread 0 3 2\n") ≡ at 2 faults.NoData }
     ensures too_many_writes { all_of (codes "slots 20\nwrite 1 3 0102\nwrite 1 3 0102\n") ≡ at 3 faults.TooMany }
-    ensures one_buffer { script_with is_any (list_with 1) (codes "slots 20\nwrite 1 3 0102\n") ≡ at 2 faults.NoBuffer }
+    ensures one_buffer { script_with is_known (list_with 1) (codes "slots 20\nwrite 1 3 0102\n") ≡ at 2 faults.NoBuffer }
 {}
 
 /// Forms of lines that are not built yet, and those that would be refused anyway.
@@ -71,7 +71,7 @@ pub fn first_faults()
     ensures no_data_before_range { all_of (codes "slots 20\nwrite 0 99 0\n") ≡ at 2 faults.NoData }
     ensures range_before_repeat { built_of (codes "slots 20\non 0 0\non 0 20\n") ≡ at 3 faults.Range }
     ensures range_of_slots_before_repeat { built_of (codes "slots 20\nslots 0\n") ≡ at 2 faults.Range }
-    ensures range_before_no_buffer { script_with is_any (list_with 1) (codes "slots 20\nwrite 1 20 0102\n") ≡ at 2 faults.Range }
+    ensures range_before_no_buffer { script_with is_known (list_with 1) (codes "slots 20\nwrite 1 20 0102\n") ≡ at 2 faults.Range }
     ensures first_line_first { built_of (codes "slots 20\non 0 20\nwait\n") ≡ at 2 faults.Range }
 {}
 

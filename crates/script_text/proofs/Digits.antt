@@ -1,8 +1,8 @@
 -- The number that decimal digits write, one digit after another.
-use Rattle.std.proofs.Common.{◌≡◌, true, ℕ, zero, suc, ◌+◌, ◌-◌, ◌*◌, ◌^◌, ◌<◌, ◌≤◌, List, length, get_or, take, arith, ap, ◌∙◌, lit<}
+use Rattle.std.proofs.Common.{◌≡◌, true, ℕ, ◌+◌, ◌-◌, ◌*◌, ◌^◌, ◌<◌, ◌≤◌, List, length, get_or, take, arith, ap, ◌∙◌, lit<}
 use Rattle.std.specs.Char.{is_ascii_digit, digit_value}
 use Rattle.std.proofs.Math.Nat.{pow-le-pow_right}
-use Rattle.std.proofs.lemmas.Grind.{pow_more, common_steps}
+use Rattle.std.proofs.lemmas.Grind.{pow_more}
 use Rattle.std.proofs.lemmas.Bool.Decides.{nat_tests}
 use Rattle.std.proofs.lemmas.Int.Digits.{digits_value_more}
 use Rattle.script_text.specs.Numbers.{number_in}

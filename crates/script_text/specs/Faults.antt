@@ -1,8 +1,7 @@
 -- The faults of a line, given what the lines before it state.
 --
 -- The lines before are a list of their statements, the newest first.
-use Rattle.std.specs.Prelude.{ℕ, ◌+◌, ◌*◌, ℤ, nat_abs, Bool, true, false, not, ◌&&◌, ◌||◌, ◌==◌, List, [], ◌∷◌, ◌++◌, length, count_by, nat_le, nat_lt, Option, Some, None, is_some, is_none, unwrap_or, option_to_list, if◌then◌else◌}
-use Rattle.std.specs.List.{list_all}
+use Rattle.std.specs.Prelude.{ℕ, ◌+◌, ◌*◌, ℤ, nat_abs, Bool, true, false, not, ◌&&◌, ◌==◌, List, [], ◌∷◌, ◌++◌, length, count_by, nat_le, nat_lt, Option, Some, None, is_some, unwrap_or, option_to_list, if◌then◌else◌}
 use Rattle.std.specs.Option.{option_or}
 use Rattle.ttp_world.specs.declared.medl.Medl.{Medl}
 use Rattle.ttp_world.specs.declared.script.Source.{Source}
@@ -160,10 +159,10 @@ statement_faults list before words statement =
     ++ (unless (not (is_write statement && (list.buffers == 1))) faults.NoBuffer
     ++ unless (not (fills_buffers list before statement)) faults.TooMany))))
 
--- a line other than `slots` stands after that line
-abbrev pub is_after_slots : Keyword → List Statement → Bool
-is_after_slots keyword.Slots before = true
-is_after_slots _ before = is_some (slots_of before)
+-- a line other than `slots` stands after that line, which says the run's slots
+abbrev pub is_after_slots : Keyword → Option ℕ → Bool
+is_after_slots keyword.Slots slots = true
+is_after_slots _ slots = is_some slots
 
 -- those of a line whose words are spelled as its form has them
 unfoldable pub stated_faults : Medl → List Statement → List (List ℕ) → Keyword → List LineFault
@@ -172,7 +171,7 @@ stated_faults list before words form = unless (has_numbers form words) faults.Nu
 unfoldable pub form_faults : (Keyword → Bool) → Medl → List Statement → List (List ℕ) → Keyword → List LineFault
 form_faults built list before words form =
     unless (is_spelled form words) faults.Word
-    ++ (unless (is_after_slots form before) faults.NoSlots
+    ++ (unless (is_after_slots form (slots_of before)) faults.NoSlots
     ++ (unless (built form) faults.NotBuilt
     ++ stated_faults list before words form))
 

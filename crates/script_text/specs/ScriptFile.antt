@@ -23,8 +23,8 @@ is_built keyword.Slots = true
 is_built keyword.On = true
 is_built _ = false
 
-abbrev pub is_any : Keyword → Bool
-is_any form = true
+abbrev pub is_known : Keyword → Bool
+is_known form = true
 
 -- The faults of all lines.
 

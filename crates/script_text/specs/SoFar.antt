@@ -1,13 +1,14 @@
 -- What the reader keeps of the lines that it has read.
-use Rattle.std.specs.Prelude.{◌≡◌, ℕ, ◌<◌, ◌≤◌, ◌&&◌, List, [], ◌∷◌, ◌++◌, length, nat_lt, All, Option, Some, None, is_none, IfSome, unwrap_or, slice_index_or}
+use Rattle.std.specs.Prelude.{◌≡◌, ℕ, ◌<◌, ◌≤◌, ◌&&◌, List, [], ◌∷◌, ◌++◌, length, nat_lt, All, Some, None, is_none, IfSome, unwrap_or, slice_index_or}
 use Rattle.ttp_world.specs.declared.medl.Medl.{Medl}
 use Rattle.script_text.specs.declared.error.LineFault.{LineFault}
 use Rattle.script_text.specs.declared.error.LineFault.TheVariants as faults
+use Rattle.script_text.specs.declared.keyword.Keyword.{Keyword}
 use Rattle.script_text.specs.declared.so_far.SoFar.{SoFar}
 use Rattle.script_text.specs.Lines.{word_at}
 use Rattle.script_text.specs.Numbers.{is_number, number_in}
-use Rattle.script_text.specs.Statement.{Statement}
-use Rattle.script_text.specs.Faults.{slots_of, on_of, drift_of, events_of, is_count, unless, line_faults, first_fault, add_line}
+use Rattle.script_text.specs.Statement.{Statement, statement_of}
+use Rattle.script_text.specs.Faults.{slots_of, on_of, drift_of, events_of, is_count, unless, form_faults, line_faults, first_fault, add_line}
 use Rattle.script_text.specs.ScriptFile.{is_built}
 
 -- the lines so far state this, the newest first: no drift and no event, of which nothing is kept
@@ -39,12 +40,21 @@ on_faults words list so_far =
     ++ (unless (nat_lt slot (unwrap_or so_far.slots 0)) faults.Range
     ++ unless (is_none (slice_index_or so_far.on.items node None)) faults.Repeat))
 
--- a line was taken: it has no fault, whatever lines are kept, and is kept beside them
+-- a line of a form was taken: it has no fault, whatever lines are kept, and is kept beside them
+pub record TakesForm (list : Medl) (words : List (List ℕ)) (old new : SoFar) (form : Keyword) : Type 0 where
+  pub faults : (before : List Statement) → StandsFor old before → form_faults is_built list before words form ≡ []
+  pub after : (before : List Statement) → StandsFor old before → StandsFor new (statement_of form words ∷ before)
+
+-- this is its first fault, whatever lines are kept
+abbrev pub RefusesForm : Medl → List (List ℕ) → SoFar → Keyword → LineFault → Type 0
+RefusesForm list words so_far form fault =
+    (before : List Statement) → StandsFor so_far before → first_fault (form_faults is_built list before words form) ≡ Some fault
+
+-- the same of a whole line
 pub record TakesLine (list : Medl) (words : List (List ℕ)) (old new : SoFar) : Type 0 where
   pub faults : (before : List Statement) → StandsFor old before → line_faults is_built list before words ≡ []
   pub after : (before : List Statement) → StandsFor old before → StandsFor new (add_line before words)
 
--- this is its first fault, whatever lines are kept
 abbrev pub RefusesLine : Medl → List (List ℕ) → SoFar → LineFault → Type 0
 RefusesLine list words so_far fault =
     (before : List Statement) → StandsFor so_far before → first_fault (line_faults is_built list before words) ≡ Some fault

@@ -2,7 +2,7 @@
 --
 -- A line is its words, of which the first, at place 0, names the form. What a word at its place says is read from it
 -- even where it is wrong, since a fault that stands earlier is then the answer.
-use Rattle.std.specs.Prelude.{ℕ, ℤ, Bool, true, false, ◌&&◌, ◌==◌, List, [], ◌∷◌, length, codes, Option, Some, None, if◌then◌else◌}
+use Rattle.std.specs.Prelude.{ℕ, ℤ, Bool, true, ◌&&◌, ◌==◌, List, length, codes, Option, Some, None, if◌then◌else◌}
 use Rattle.ttp_world.specs.declared.script.Event.{Event}
 use Rattle.ttp_world.specs.declared.script.Event.TheVariants as event
 use Rattle.script_text.specs.declared.keyword.Keyword.{Keyword}

@@ -1,4 +1,17 @@
 //! Scripts as files.
+//!
+//! [`read_script`] reads a script for a list from the bytes of a file. What a file means is the
+//! definition `script_of` of `specs/ScriptFile.antt`, over the list of all its lines: the script, or
+//! the first faulty line with its first fault in a fixed order. So far a script switches nodes on;
+//! its other lines are `NotBuilt`.
+//!
+//! ```text
+//! slots 20
+//! on 0 0
+//! ```
+//!
+//! The layer above gets a script that is valid for the list. The crate never reads a file, never
+//! takes memory for a line, and never keeps a refused script.
 #![tactic(auto)]
 
 mod error;
@@ -6,6 +19,11 @@ mod form;
 mod keyword;
 mod lines;
 mod number;
+mod read;
 mod so_far;
 
 pub use error::{LineFault, ScriptError};
+pub use read::read_script;
+
+#[cfg(test)]
+mod tests;

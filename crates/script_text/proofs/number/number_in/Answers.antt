@@ -1,4 +1,4 @@
-use Rattle.std.proofs.Common.{◌≡◌, true, ◌+◌, ◌*◌, ◌-◌, ◌<◌, ℕ, get_or, length, arith, sym, ap, ◌∙◌}
+use Rattle.std.proofs.Common.{◌≡◌, true, ◌+◌, ◌*◌, ◌-◌, ℕ, get_or, arith, sym, ap, ◌∙◌}
 use Rattle.std.specs.Char.{is_ascii_digit}
 use Rattle.std.proofs.lemmas.Grind.{common_steps}
 use Rattle.script_text.proofs.Digits.{number_in-more, digit-small, below_power, within_word}
@@ -20,7 +20,8 @@ loop-byte-preserved c =
     let byte = get_or word i 0 in
     let digit : is_ascii_digit byte ≡ true = sym c.is_ascii_digit.ensures.value ∙ c.if-not-is_ascii_digit.false in
     let more = number_in-more word i c.loop-byte-test.true digit in
-    let small = below_power i c.loop-byte.number (byte - 48) c.loop-byte.invariant.2 (digit-small byte digit) in
-    (grind (arith, common_steps, digit),
-     ap (λ (n : ℕ). n * 10 + c.from.result) c.loop-byte.invariant.1 ∙ rw c.from.ensures (sym more),
-     omega (arith, small, c.from.ensures))
+    let small = below_power i c.loop-byte.number (byte - 48) c.loop-byte.invariant.2 (digit-small byte digit) in (
+      grind (arith, common_steps, digit),
+      ap (λ (n : ℕ). n * 10 + c.from.result) c.loop-byte.invariant.1 ∙ rw c.from.ensures (sym more),
+      omega (arith, small, c.from.ensures),
+    )
