@@ -1,6 +1,5 @@
 -- A list of four nodes for which scripts are read, and what scripts for it say.
-use Rattle.std.specs.Prelude.{ℕ, ◌+◌, ℤ, pos, negsuc, Bool, true, false, List, [], ◌∷◌, replicate, Option, Some, None, Result, Ok, Err}
-use Rattle.ttp_world.specs.declared.medl.Kind.{Kind}
+use Rattle.std.specs.Prelude.{ℕ, pos, Bool, true, false, List, [], ◌∷◌, replicate, Option, None, Result, Err}
 use Rattle.ttp_world.specs.declared.medl.Kind.TheVariants as kind
 use Rattle.ttp_world.specs.declared.medl.SlotPlan.{SlotPlan}
 use Rattle.ttp_world.specs.declared.medl.Medl.{Medl}

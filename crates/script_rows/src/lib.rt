@@ -4,7 +4,7 @@
 //! equals what the format says of it, and the check computes it. So a wrong definition shows here,
 //! however well the code meets it. Forms of lines that the reader does not build yet are rows too,
 //! of the definition with every form built.
-#![tactic(auto, unfolding(script_text::specs::Lines::lines_of, script_text::specs::Lines::words_of, script_text::specs::Faults::statement_faults, script_text::specs::Faults::form_faults, script_text::specs::Faults::line_faults, script_text::specs::Faults::add_line, script_text::specs::ScriptFile::script_in, script_text::specs::ScriptFile::script_by, script_text::specs::ScriptFile::script_with, script_text::specs::ScriptFile::script_of))]
+#![tactic(auto, unfolding(script_text::specs::Lines::lines_of, script_text::specs::Lines::words_of, script_text::specs::Faults::statement_faults, script_text::specs::Faults::stated_faults, script_text::specs::Faults::form_faults, script_text::specs::Faults::line_faults, script_text::specs::Faults::add_line, script_text::specs::ScriptFile::script_in, script_text::specs::ScriptFile::script_by, script_text::specs::ScriptFile::script_with, script_text::specs::ScriptFile::script_of))]
 
 ghost use Rattle.std.specs.Prelude.{◌≡◌, ◌+◌, [], ◌∷◌, ◌++◌, pos, negsuc, true, false, Ok, Err, None, Some, codes, replicate};
 ghost use Rattle.ttp_world.specs.declared.script.Source.TheVariants as source;
