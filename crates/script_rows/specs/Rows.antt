@@ -1,5 +1,5 @@
 -- A list of four nodes for which scripts are read, and what scripts for it say.
-use Rattle.std.specs.Prelude.{ℕ, pos, Bool, true, false, List, [], ◌∷◌, replicate, Option, None, Result, Err}
+use Rattle.std.specs.Prelude.{ℕ, pos, Bool, true, false, List, [], ◌∷◌, codes, replicate, Option, None, Result, Err}
 use Rattle.ttp_world.specs.declared.medl.Kind.TheVariants as kind
 use Rattle.ttp_world.specs.declared.medl.SlotPlan.{SlotPlan}
 use Rattle.ttp_world.specs.declared.medl.Medl.{Medl}
@@ -54,3 +54,19 @@ quiet slots = script slots (None ∷ None ∷ None ∷ None ∷ []) []
 -- one of twenty slots in which one thing happens
 abbrev pub happens : Event → Script
 happens e = script 20 (replicate 4 None) (e ∷ [])
+
+-- five nodes, of which node 2 alone sends payload, eight bytes
+abbrev pub five_nodes : Medl
+five_nodes = record {
+  rounds = 1;
+  schedule = 0;
+  buffers = 2;
+  drift = pos 0;
+  error = pos 0;
+  window = pos 1;
+  slots = bare_slot true ∷ bare_slot false ∷ record { kinds = kind.N ∷ []; payload = 8; sync = true; start = false } ∷ bare_slot false ∷ bare_slot false ∷ [];
+}
+
+-- twenty slots, with every node on from the first
+abbrev pub all_on : List ℕ
+all_on = codes "slots 20\non 0 0\non 1 0\non 2 0\non 3 0\non 4 0\n"

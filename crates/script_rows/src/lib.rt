@@ -11,8 +11,8 @@ ghost use Rattle.ttp_world.specs.declared.script.Source.TheVariants as source;
 ghost use Rattle.ttp_world.specs.declared.script.Fault.TheVariants as kind;
 ghost use Rattle.ttp_world.specs.declared.script.Event.TheVariants as event;
 ghost use Rattle.script_text.specs.declared.error.LineFault.TheVariants as faults;
-ghost use Rattle.script_text.specs.ScriptFile.{is_known, script_with};
-ghost use Rattle.script_rows.specs.Rows.{list_with, all_of, built_of, at, script, quiet, happens};
+ghost use Rattle.script_text.specs.ScriptFile.{is_known, script_with, script_of};
+ghost use Rattle.script_rows.specs.Rows.{list_with, all_of, built_of, at, script, quiet, happens, five_nodes, all_on};
 
 /// Bad scripts: the run's slots, and when nodes are switched on. These are read already.
 pub fn bad_slots_and_on()
@@ -165,4 +165,23 @@ pub fn past_a_range()
     ensures flip_on_no_channel { all_of (codes "slots 20\nflip 0 ab 8 0\n") ≡ at 2 faults.Word }
     ensures word_too_many { all_of (codes "slots 20\nread 0 3 1 2\n") ≡ at 2 faults.Word }
     ensures word_too_few { all_of (codes "slots 20\nerror 0 1 2\n") ≡ at 2 faults.Word }
+{}
+
+/// A list of five nodes, of which node 2 sends eight bytes.
+pub fn five_nodes_on()
+    ensures all_on { script_of five_nodes all_on ≡ Ok (record {
+      slots = 20;
+      on = replicate 5 (Some 0);
+      drift = replicate 5 (pos 0);
+      events = [];
+    }) }
+    ensures write_and_read { script_with is_known five_nodes (all_on ++ codes "write 2 17 0102030405060708\nread 0 17 2\n") ≡ Ok (record {
+      slots = 20;
+      on = replicate 5 (Some 0);
+      drift = replicate 5 (pos 0);
+      events = event.Write 2 17 (1 ∷ 2 ∷ 3 ∷ 4 ∷ 5 ∷ 6 ∷ 7 ∷ 8 ∷ []) ∷ event.Read 0 17 (source.Node 2) ∷ [];
+    }) }
+    ensures two_writes { script_with is_known five_nodes (all_on ++ codes "write 2 17 0102030405060708\nwrite 2 17 0102030405060708\n") ≡ at 8 faults.TooMany }
+    ensures send_past_the_run { script_with is_known five_nodes (codes "slots 20\nsend 2 AB noise 22 22\n") ≡ at 2 faults.Range }
+    ensures send_not_built { script_of five_nodes (codes "slots 20\nsend 2 AB noise 22 22\n") ≡ at 2 faults.NotBuilt }
 {}

@@ -150,14 +150,17 @@ fills_buffers list before _ = false
 abbrev pub unless : Bool → LineFault → List LineFault
 unless holds fault = if holds then [] else fault ∷ []
 
+abbrev pub when : Bool → LineFault → List LineFault
+when holds fault = if holds then fault ∷ [] else []
+
 unfoldable pub statement_faults : Medl → List Statement → List (List ℕ) → Statement → List LineFault
 statement_faults list before words statement =
     unless (has_nodes list statement) faults.NoNode
     ++ (unless (has_payload list statement) faults.NoData
     ++ (unless (is_in_range list before words statement) faults.Range
-    ++ (unless (not (is_repeat before statement)) faults.Repeat
-    ++ (unless (not (is_write statement && (list.buffers == 1))) faults.NoBuffer
-    ++ unless (not (fills_buffers list before statement)) faults.TooMany))))
+    ++ (when (is_repeat before statement) faults.Repeat
+    ++ (when (is_write statement && (list.buffers == 1)) faults.NoBuffer
+    ++ when (fills_buffers list before statement) faults.TooMany))))
 
 -- a line other than `slots` stands after that line, which says the run's slots
 abbrev pub is_after_slots : Keyword → Option ℕ → Bool

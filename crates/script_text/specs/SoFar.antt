@@ -1,5 +1,5 @@
 -- What the reader keeps of the lines that it has read.
-use Rattle.std.specs.Prelude.{◌≡◌, ℕ, ◌<◌, ◌≤◌, ◌&&◌, List, [], ◌∷◌, ◌++◌, length, nat_lt, All, Some, None, is_none, IfSome, unwrap_or, slice_index_or}
+use Rattle.std.specs.Prelude.{◌≡◌, ℕ, ◌<◌, ◌≤◌, ◌&&◌, List, [], ◌∷◌, ◌++◌, length, nat_lt, All, Some, None, is_some, IfSome, unwrap_or, slice_index_or}
 use Rattle.ttp_world.specs.declared.medl.Medl.{Medl}
 use Rattle.script_text.specs.declared.error.LineFault.{LineFault}
 use Rattle.script_text.specs.declared.error.LineFault.TheVariants as faults
@@ -8,7 +8,7 @@ use Rattle.script_text.specs.declared.so_far.SoFar.{SoFar}
 use Rattle.script_text.specs.Lines.{word_at}
 use Rattle.script_text.specs.Numbers.{is_number, number_in}
 use Rattle.script_text.specs.Statement.{Statement, statement_of}
-use Rattle.script_text.specs.Faults.{slots_of, on_of, drift_of, events_of, is_count, unless, form_faults, line_faults, first_fault, add_line}
+use Rattle.script_text.specs.Faults.{slots_of, on_of, drift_of, events_of, is_count, unless, when, form_faults, line_faults, first_fault, add_line}
 use Rattle.script_text.specs.ScriptFile.{is_built}
 
 -- the lines so far state this, the newest first: no drift and no event, of which nothing is kept
@@ -29,7 +29,7 @@ slots_faults words so_far =
     let count = number_in (word_at words 1) in
     unless (is_number (word_at words 1)) faults.Number
     ++ (unless (is_count count) faults.Range
-    ++ unless (is_none so_far.slots) faults.Repeat)
+    ++ when (is_some so_far.slots) faults.Repeat)
 
 unfoldable pub on_faults : List (List ℕ) → Medl → SoFar → List LineFault
 on_faults words list so_far =
@@ -38,7 +38,7 @@ on_faults words list so_far =
     unless (is_number (word_at words 1) && is_number (word_at words 2)) faults.Number
     ++ (unless (nat_lt node (length list.slots)) faults.NoNode
     ++ (unless (nat_lt slot (unwrap_or so_far.slots 0)) faults.Range
-    ++ unless (is_none (slice_index_or so_far.on.items node None)) faults.Repeat))
+    ++ when (is_some (slice_index_or so_far.on.items node None)) faults.Repeat))
 
 -- a line of a form was taken: it has no fault, whatever lines are kept, and is kept beside them
 pub record TakesForm (list : Medl) (words : List (List ℕ)) (old new : SoFar) (form : Keyword) : Type 0 where

@@ -119,7 +119,7 @@ pub(crate) const MOST_WORDS: usize = 6;
 #[derive(Drop)]
 pub(crate) struct Words<'a> {
     count: usize,
-    words: [&'a [u8]; 6],
+    words: [&'a [u8]; MOST_WORDS],
 }
 
 impl<'a> Model for Words<'a> {
@@ -138,7 +138,7 @@ impl<'a> Words<'a> {
     {
         Words {
             count: 0,
-            words: [&[]; 6],
+            words: [&[]; MOST_WORDS],
         }
     }
 
@@ -150,7 +150,7 @@ impl<'a> Words<'a> {
     }
 
     fn push(&mut self, word: &'a [u8])
-        requires { length self.old < 6 }
+        requires { length self.old < MOST_WORDS }
         ensures { self.new ≡ self.old ++ word.now ∷ [] }
     {
         self.words[self.count] = word;
@@ -168,7 +168,7 @@ impl<'a> Words<'a> {
 /// All words of a line, of which the first was cut off. `None` where there are more than six.
 pub(crate) fn words_after(first: Cut<'_>) -> Option<Words<'_>>
     ensures some { IfSome result (λ words. words ≡ first.entry.piece.now ∷ words_of first.entry.rest.now) }
-    ensures none { IfNone result (6 < length (first.entry.piece.now ∷ words_of first.entry.rest.now)) }
+    ensures none { IfNone result (MOST_WORDS < length (first.entry.piece.now ∷ words_of first.entry.rest.now)) }
 {
     let mut words = Words::new();
     words.push(first.piece);
