@@ -6,13 +6,14 @@
 //! of the definition with every form built.
 #![tactic(auto, unfolding(script_text::specs::Lines::lines_of, script_text::specs::Lines::words_of, script_text::specs::Faults::statement_faults, script_text::specs::Faults::stated_faults, script_text::specs::Faults::form_faults, script_text::specs::Faults::line_faults, script_text::specs::Faults::add_line, script_text::specs::ScriptFile::script_in, script_text::specs::ScriptFile::script_by, script_text::specs::ScriptFile::script_with, script_text::specs::ScriptFile::script_of))]
 
-ghost use Rattle.std.specs.Prelude.{◌≡◌, ◌+◌, [], ◌∷◌, ◌++◌, pos, negsuc, true, false, Ok, Err, None, Some, codes, replicate};
+ghost use Rattle.std.specs.Prelude.{◌≡◌, ◌+◌, [], ◌∷◌, ◌++◌, pos, negsuc, true, false, Ok, None, Some, codes, replicate};
 ghost use Rattle.ttp_world.specs.declared.script.Source.TheVariants as source;
 ghost use Rattle.ttp_world.specs.declared.script.Fault.TheVariants as kind;
 ghost use Rattle.ttp_world.specs.declared.script.Event.TheVariants as event;
 ghost use Rattle.script_text.specs.declared.error.LineFault.TheVariants as faults;
 ghost use Rattle.script_text.specs.ScriptFile.{is_known, script_with, script_of};
 ghost use Rattle.script_rows.specs.Rows.{list_with, all_of, built_of, at, script, quiet, happens, five_nodes, all_on};
+ghost use Rattle.script_rows.specs.Busy.{eight_nodes, busy_text, busy_script};
 
 /// Bad scripts: the run's slots, and when nodes are switched on. These are read already.
 pub fn bad_slots_and_on()
@@ -184,4 +185,9 @@ pub fn five_nodes_on()
     ensures two_writes { script_with is_known five_nodes (all_on ++ codes "write 2 17 0102030405060708\nwrite 2 17 0102030405060708\n") ≡ at 8 faults.TooMany }
     ensures send_past_the_run { script_with is_known five_nodes (codes "slots 20\nsend 2 AB noise 22 22\n") ≡ at 2 faults.Range }
     ensures send_not_built { script_of five_nodes (codes "slots 20\nsend 2 AB noise 22 22\n") ≡ at 2 faults.NotBuilt }
+{}
+
+/// A whole script for eight nodes, seventy-five lines of all forms but two.
+pub fn busy_hosts()
+    ensures script { script_with is_known eight_nodes busy_text ≡ Ok busy_script }
 {}

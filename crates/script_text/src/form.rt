@@ -1,6 +1,6 @@
 //! The form of a line, and whether its words are those of the form.
 ghost use Rattle.std.specs.Prelude.{◌≡◌};
-ghost use Rattle.script_text.specs.Numbers.{is_text, is_channels, is_fault};
+ghost use Rattle.script_text.specs.Numbers.{is_channels, is_fault};
 ghost use Rattle.script_text.specs.Statement.{keyword_of, word_count, has_channels, is_spelled};
 
 use crate::keyword::Keyword;

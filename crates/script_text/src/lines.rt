@@ -112,8 +112,8 @@ pub(crate) fn next_word(line: &[u8]) -> Option<Cut<'_>>
     Some(front_word(line))
 }
 
-/// The most words that a line has.
-pub(crate) const MOST_WORDS: usize = 6;
+// The most words that a line has.
+const MOST_WORDS: usize = 6;
 
 /// At most six words of a line, which contracts see as the list of them.
 #[derive(Drop)]
@@ -123,7 +123,7 @@ pub(crate) struct Words<'a> {
 }
 
 impl<'a> Model for Words<'a> {
-    ghost use Rattle.std.specs.Prelude.{◌≤◌, List, ℕ, map, take, length};
+    ghost use Rattle.std.specs.Prelude.{◌≤◌, List, ℕ, map, take};
 
     ghost Value = { List (List ℕ) };
 

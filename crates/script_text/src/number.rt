@@ -1,8 +1,8 @@
 //! Words that are numbers.
-ghost use Rattle.std.specs.Prelude.{◌≡◌, ◌^◌, ◌<◌, SomeIff, IfSome, IsTrue};
+ghost use Rattle.std.specs.Prelude.{◌<◌, SomeIff, IsTrue};
 ghost use Rattle.script_text.specs.Numbers.{is_number, number_in};
 
-/// The most digits of a number.
+// The most digits of a number.
 const MOST_DIGITS: usize = 9;
 
 /// The number that a word of 1 to 9 decimal digits is.

@@ -1,5 +1,5 @@
 //! From the bytes of a file to the script.
-ghost use Rattle.std.specs.Prelude.{List as Items, ◌≡◌, ◌⊎◌, ◌+◌, ◌<◌, ◌≤◌, [], ◌∷◌, length, true, pos, Err, Some, IfOk, IfErr, OnOk, OnErr, is_some, vec_len, unwrap_or, replicate};
+ghost use Rattle.std.specs.Prelude.{List as Items, ◌≡◌, ◌⊎◌, ◌≤◌, [], length, pos, Err, Some, IfOk, IfErr, OnOk, is_some, vec_len, replicate};
 ghost use Rattle.ttp_world.specs.Medl.{IsValid};
 ghost use Rattle.ttp_world.specs.Script.{IsValidScript};
 ghost use Rattle.script_text.specs.Lines.{is_comment, lines_of, words_of};
@@ -149,8 +149,8 @@ fn script_from(
 /// line with its first fault; but for want of memory, which may be answered for any text. What is
 /// read meets `IsValidScript`. The file has at most 1,048,576 bytes.
 ///
-/// The bytes are gone over once. Memory is taken for the numbers of each node alone, and not for
-/// lines.
+/// The file is gone over once, a line after another, and a line once for its end and once for its
+/// words. Memory is taken for what is said of each node, and none for a line.
 #[tactic(auto, unfolding(crate::specs::ScriptFile::script_of, crate::specs::ScriptFile::script_with, crate::specs::ScriptFile::script_by))]
 pub fn read_script(alloc: Global, list: &Medl, text: &[u8]) -> Result<Script, ScriptError>
     requires valid { IsValid list.now }

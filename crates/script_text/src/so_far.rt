@@ -19,7 +19,7 @@ pub(crate) struct SoFar {
     pub(crate) on: Vec<Option<u32>>,
 }
 
-/// The most slots of a run.
+// The most slots of a run.
 const MOST_SLOTS: u32 = 20_000;
 
 impl SoFar {
