@@ -1,3 +1,4 @@
 pub mod Tables
+pub mod Built
 pub mod Counts
 pub mod Microticks

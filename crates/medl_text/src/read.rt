@@ -243,6 +243,7 @@ fn unknown_in(elements: &[Value]) -> Result<(), MedlError>
 fn unbuilt_in(plans: &[SlotPlan]) -> Result<(), MedlError>
     requires { length plans.now ≤ 16 }
     ensures ok { OnOk result (unbuilt_slots 0 plans.now ≡ []) }
+    ensures bare { OnOk result (AllByRecursion (λ plan. IsTrue (list_all is_bare plan.kinds)) plans.now) }
     ensures err { IfErr result (λ e. first (unbuilt_slots 0 plans.now) ≡ Some e) }
 {
     for (k, plan) in plans.iter().enumerate() {
@@ -300,6 +301,7 @@ fn usable(plans: &[SlotPlan]) -> Result<(), MedlError>
     requires { length plans.now ≤ 16 }
     ensures ok { OnOk result (plans_faults plans.now ≡ []) }
     ensures sync { OnOk result (4 ≤ count_by (λ plan. plan.sync) plans.now) }
+    ensures bare { OnOk result (AllByRecursion (λ plan. IsTrue (list_all is_bare plan.kinds)) plans.now) }
     ensures err { IfErr result (λ e. first (plans_faults plans.now) ≡ Some e) }
 {
     let found = sync_count(plans);
@@ -314,6 +316,7 @@ fn list_in(alloc: Global, file: &Table) -> Result<Medl, MedlError>
     ensures ok { IfOk result (λ list. file_faults (table_view file.now) ≡ []) }
     ensures value { IfOk result (λ list. list ≡ list_in (table_view file.now)) }
     ensures valid { IfOk result IsValid }
+    ensures bare { IfOk result (λ list. AllByRecursion (λ plan. IsTrue (list_all is_bare plan.kinds)) list.slots) }
     ensures err { IfErr result (λ e. IsFirst e (file_faults (table_view file.now))) }
 {
     let numbers = numbers_of(file)?;
@@ -351,11 +354,13 @@ fn document_of(alloc: Global, text: &[u8]) -> Result<Table, MedlError>
 /// Reads a descriptor list from the bytes of a TOML document.
 ///
 /// The answer is `medl_of` of the bytes, which is the list or the first thing wrong with it; but
-/// for want of memory, which may be answered for any text. What is read meets `IsValid`.
+/// for want of memory, which may be answered for any text. What is read meets `IsValid`, and each of
+/// its frames is bare: payload is not built yet, so a list that has any is refused.
 #[tactic(auto, unfolding(crate::specs::ListFile::medl_of, crate::specs::ListFile::medl_in))]
 pub fn read_medl(alloc: Global, text: &[u8]) -> Result<Medl, MedlError>
     ensures exact { (result ≡ Err MedlError.Memory) ⊎ (result ≡ medl_of text.now) }
     ensures valid { IfOk result IsValid }
+    ensures bare { IfOk result (λ list. AllByRecursion (λ plan. IsTrue (list_all is_bare plan.kinds)) list.slots) }
 {
     let file = document_of(alloc, text)?;
     list_in(alloc, &file)

@@ -1,6 +1,6 @@
 //! Each public call once. What is refused, and how it is told, is tested where the lines are printed.
 
-use crate::{Field, FieldName, MedlError, put_schedule, read_medl};
+use crate::{Field, FieldName, MedlError, put_schedule, read_medl, second_starter};
 use std::test::Fail;
 use ttp_base::{List, MemorySink};
 use ttp_world::Kind;
@@ -11,6 +11,15 @@ const LIST: &str =
 [[slot]]\nkinds = \"I\"\ndata = 0\nsync = true\nstart = false\n
 [[slot]]\nkinds = \"I\"\ndata = 0\nsync = true\nstart = false\n
 [[slot]]\nkinds = \"I\"\ndata = 0\nsync = true\nstart = false\n";
+
+// Slots 1, 3 and 4 may start.
+const STARTERS: &str =
+    "version = 1\nrounds = 1\nschedule = 0\nbuffers = 4\ndrift = 1\nerror = 2\nwindow = 64\n
+[[slot]]\nkinds = \"I\"\ndata = 0\nsync = true\nstart = false\n
+[[slot]]\nkinds = \"I\"\ndata = 0\nsync = true\nstart = true\n
+[[slot]]\nkinds = \"I\"\ndata = 0\nsync = true\nstart = false\n
+[[slot]]\nkinds = \"I\"\ndata = 0\nsync = true\nstart = true\n
+[[slot]]\nkinds = \"I\"\ndata = 0\nsync = false\nstart = true\n";
 
 #[test]
 fn a_list_is_read_and_shown(rt: HostRuntime) -> Result<(), Fail> {
@@ -31,6 +40,16 @@ round 0 slot 1 kind I data 0 sync yes start no
 round 0 slot 2 kind I data 0 sync yes start no
 round 0 slot 3 kind I data 0 sync yes start no\n";
     assert_eq!(rt; out.bytes(), table.as_slice());
+    Ok(())
+}
+
+#[test]
+fn the_second_slot_that_may_start(rt: HostRuntime) -> Result<(), Fail> {
+    let list = read_medl(rt.alloc(), STARTERS.as_bytes())?;
+    assert_eq!(rt; second_starter(&list), Some(3));
+    // Only one slot may start.
+    let list = read_medl(rt.alloc(), LIST.as_bytes())?;
+    assert_eq!(rt; second_starter(&list), None);
     Ok(())
 }
 

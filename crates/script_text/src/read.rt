@@ -129,6 +129,7 @@ fn script_from(
     ensures exact { (said : Items Statement) → StandsFor so_far said
         → (result ≡ Err ScriptError.Memory) ⊎ (result ≡ script_unless (end_faults number said) (script_in list.now said)) }
     ensures valid { IfOk result (IsValidScript list.now) }
+    ensures plain { IfOk result (λ script. (script.events ≡ []) × (script.drift ≡ replicate (length list.now.slots) (pos 0))) }
 {
     let Some(slots) = so_far.slots else {
         let fault = LineFault::NoSlots;
@@ -147,7 +148,8 @@ fn script_from(
 ///
 /// The answer is `script_of` of the list and the bytes, which is the script or the first faulty
 /// line with its first fault; but for want of memory, which may be answered for any text. What is
-/// read meets `IsValidScript`. The file has at most 1,048,576 bytes.
+/// read meets `IsValidScript`, and so far has no events and no drift. The file has at most
+/// 1,048,576 bytes.
 ///
 /// The file is gone over once, a line after another, and a line once for its end and once for its
 /// words. Memory is taken for what is said of each node, and none for a line.
@@ -157,6 +159,7 @@ pub fn read_script(alloc: Global, list: &Medl, text: &[u8]) -> Result<Script, Sc
     requires size { length text.now ≤ 1048576 }
     ensures exact { (result ≡ Err ScriptError.Memory) ⊎ (result ≡ script_of list.now text.now) }
     ensures valid { IfOk result (IsValidScript list.now) }
+    ensures plain { IfOk result (λ script. (script.events ≡ []) × (script.drift ≡ replicate (length list.now.slots) (pos 0))) }
 {
     let mut so_far = SoFar::new(alloc, list.nodes())?;
     let number = take_lines(list, text, &mut so_far)?;
