@@ -2,3 +2,10 @@ pub mod Words
 pub mod Lines
 pub mod Ending
 pub mod Asked
+pub mod Part
+pub mod Passed
+pub mod Printed
+pub mod Refusal
+pub mod Shown
+pub mod Slot
+pub mod Standing

@@ -6,12 +6,19 @@ use Rattle.medl_text.specs.declared.error.MedlError.{MedlError}
 use Rattle.medl_text.specs.declared.error.MedlError.TheVariants as errors
 use Rattle.medl_text.specs.ListFile.{key_of}
 use Rattle.medl_text.specs.Schedule.{newline}
+use Rattle.script_text.specs.declared.error.LineFault.{LineFault}
+use Rattle.script_text.specs.declared.error.LineFault.TheVariants as faults
+use Rattle.script_text.specs.declared.error.ScriptError.{ScriptError}
+use Rattle.script_text.specs.declared.error.ScriptError.TheVariants as script_errors
 
 abbrev pub usage_line : List ℕ
 usage_line = codes "usage: schedule MEDL | run MEDL SCRIPT | keeps MEDL SCRIPT | verify MEDL SCRIPT TRACE | sample MEDL SLOTS NUMBER\n"
 
 abbrev pub load_list_line : List ℕ
 load_list_line = codes "load: list\n"
+
+abbrev pub load_script_line : List ℕ
+load_script_line = codes "load: script\n"
 
 -- where a field stands
 abbrev pub place_text : Option ℕ → List ℕ
@@ -42,3 +49,25 @@ fault_text errors.Memory = []
 -- the line that says so
 unfoldable pub list_line : List ℕ → List ℕ
 list_line text = codes "list: " ++ (text ++ newline)
+
+-- what is wrong with a line of a script
+abbrev pub line_fault_text : LineFault → List ℕ
+line_fault_text faults.Word = codes "word"
+line_fault_text faults.NoSlots = codes "no slots"
+line_fault_text faults.NotBuilt = codes "not built"
+line_fault_text faults.Number = codes "number"
+line_fault_text faults.NoNode = codes "no node"
+line_fault_text faults.NoData = codes "no data"
+line_fault_text faults.Range = codes "range"
+line_fault_text faults.Repeat = codes "repeat"
+line_fault_text faults.NoBuffer = codes "no buffer"
+line_fault_text faults.TooMany = codes "too many"
+
+-- what is wrong with a script
+abbrev pub script_fault_text : ScriptError → List ℕ
+script_fault_text (script_errors.Line number fault) = codes "line " ++ (decimal number ++ (codes " " ++ line_fault_text fault))
+script_fault_text script_errors.Memory = []
+
+-- the line that says so
+unfoldable pub script_line : List ℕ → List ℕ
+script_line text = codes "script: " ++ (text ++ newline)

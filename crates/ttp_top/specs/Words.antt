@@ -7,6 +7,8 @@ use Rattle.std.specs.declared.alloc.Global.{Global}
 pub data Form : Type 0 where
   -- the slot table of the list of this name
   schedule : (list : List ℕ) → Form
+  -- the trace of the script of this name, for the list of this name
+  run : (list script : List ℕ) → Form
 
 -- the words' bytes
 abbrev pub texts_of : List (String Global) → List (List ℕ)
@@ -15,4 +17,5 @@ texts_of words = map string_bytes words
 -- the form that words have, if they have one
 abbrev pub form_of : List (List ℕ) → Option Form
 form_of (verb ∷ list ∷ []) = if bytes_eq verb (codes "schedule") then Some (schedule list) else None
+form_of (verb ∷ list ∷ script ∷ []) = if bytes_eq verb (codes "run") then Some (run list script) else None
 form_of _ = None

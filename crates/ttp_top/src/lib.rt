@@ -9,7 +9,11 @@
 #![tactic(auto)]
 
 mod call;
+mod files;
 mod lines;
+mod run;
+mod shown;
+mod trace;
 mod words;
 
 pub use call::bench;

@@ -1,9 +1,10 @@
 //! The lines that a call writes beside its output.
 ghost use Rattle.std.specs.Prelude.{◌≡◌, ◌+◌, ◌≤◌, ◌++◌, codes, length, decimal};
 ghost use Rattle.std.specs.Fmt.{signed_decimal};
-ghost use Rattle.ttp_top.specs.Lines.{field_text, unknown_text, fault_text, list_line};
+ghost use Rattle.ttp_top.specs.Lines.{field_text, unknown_text, fault_text, list_line, line_fault_text, script_fault_text, script_line};
 
 use medl_text::{Field, MedlError};
+use script_text::{LineFault, ScriptError};
 use ttp_base::Line;
 
 #[tactic(auto, using(ttp_base::proofs::Room::room))]
@@ -97,5 +98,62 @@ pub(crate) fn too_large_line() -> Line
 {
     let mut line = Line::new();
     line.put_text("list: too large\n");
+    line
+}
+
+fn line_fault_text(fault: LineFault) -> &'static str
+    ensures text { result.now ≡ line_fault_text fault }
+    ensures short { length result.now ≤ 9 }
+{
+    match fault {
+        LineFault::Word => "word",
+        LineFault::NoSlots => "no slots",
+        LineFault::NotBuilt => "not built",
+        LineFault::Number => "number",
+        LineFault::NoNode => "no node",
+        LineFault::NoData => "no data",
+        LineFault::Range => "range",
+        LineFault::Repeat => "repeat",
+        LineFault::NoBuffer => "no buffer",
+        LineFault::TooMany => "too many",
+    }
+}
+
+#[tactic(auto, using(ttp_base::proofs::Room::room))]
+fn put_script_fault(line: &mut Line, fault: ScriptError)
+    requires { length line.old + 50 ≤ 640 }
+    ensures text { line.new ≡ line.old ++ script_fault_text fault }
+    ensures short { length line.new ≤ length line.old + 50 }
+{
+    match fault {
+        ScriptError::Line { number, fault } => {
+            line.put_text("line ");
+            line.put_number(u64::from(number));
+            line.put_text(" ");
+            line.put_text(line_fault_text(fault));
+        }
+        ScriptError::Memory => {}
+    }
+}
+
+/// The line that says what is wrong with a script.
+#[tactic(auto, unfolding(crate::specs::Lines::script_line))]
+pub(crate) fn script_fault_line(fault: ScriptError) -> Line
+    ensures { result ≡ script_line (script_fault_text fault) }
+{
+    let mut line = Line::new();
+    line.put_text("script: ");
+    put_script_fault(&mut line, fault);
+    line.put_text("\n");
+    line
+}
+
+/// The line that says that a script is too large.
+#[tactic(auto, unfolding(crate::specs::Lines::script_line))]
+pub(crate) fn too_large_script_line() -> Line
+    ensures { result ≡ script_line (codes "too large") }
+{
+    let mut line = Line::new();
+    line.put_text("script: too large\n");
     line
 }

@@ -2,6 +2,8 @@
 //! text and from TOML's, never from a run.
 
 mod refusals;
+mod runs;
+mod trace;
 
 use crate::bench;
 use std::sync::Wait;
@@ -36,12 +38,12 @@ fn joined<R: AllocGlobal>(rt: &R, parts: &[&str]) -> Result<String, Fail> {
     Ok(text)
 }
 
-// What a command answers and writes, where these bytes are held under `cluster.toml`, this call of
-// the library fails and this call of the sink; 0 is none.
-fn answer<R: Threads + Wait + Sync + AllocGlobal>(
+// What a command answers and writes, where these files are held, this call of the library fails and
+// this call of the sink; 0 is none.
+fn answer_files<R: Threads + Wait + Sync + AllocGlobal>(
     rt: &R,
     words: &[&str],
-    bytes: &[u8],
+    files: &[(&str, &[u8])],
     bad_load: u32,
     bad_write: u32,
 ) -> Result<(u8, Vec<u8>), Fail> {
@@ -50,8 +52,10 @@ fn answer<R: Threads + Wait + Sync + AllocGlobal>(
     let mut fail_write = List::new(rt.alloc());
     fail_write.push(bad_write)?;
     let mut library = MemoryLibrary::new(rt.alloc(), fail_load);
-    library.add("cluster.toml", bytes)?;
-    let mut out = MemorySink::new(rt.alloc(), 4096, fail_write)?;
+    for (name, bytes) in files {
+        library.add(name, bytes)?;
+    }
+    let mut out = MemorySink::new(rt.alloc(), 65_536, fail_write)?;
     let mut texts = Vec::new(rt.alloc());
     for word in words {
         texts.push(String::from_str(rt.alloc(), word)?)?;
@@ -59,6 +63,17 @@ fn answer<R: Threads + Wait + Sync + AllocGlobal>(
     let gate = OpenGate::new();
     let status = bench(rt, rt.alloc(), &texts, &mut library, &mut out, &gate);
     Ok((status, Vec::from_slice(rt.alloc(), out.bytes())?))
+}
+
+// The same where these bytes are held under `cluster.toml`.
+fn answer<R: Threads + Wait + Sync + AllocGlobal>(
+    rt: &R,
+    words: &[&str],
+    bytes: &[u8],
+    bad_load: u32,
+    bad_write: u32,
+) -> Result<(u8, Vec<u8>), Fail> {
+    answer_files(rt, words, &[("cluster.toml", bytes)], bad_load, bad_write)
 }
 
 // What `schedule` answers and writes for these bytes.
@@ -195,10 +210,12 @@ fn the_limit_of_a_list_file(rt: HostRuntime) -> Result<(), Fail> {
 
 #[test]
 fn words_of_no_form(rt: HostRuntime) -> Result<(), Fail> {
-    let words: [&[&str]; 6] = [
+    let words: [&[&str]; 8] = [
         &[],
         &["schedule"],
         &["run", "cluster.toml"],
+        &["Run", "cluster.toml", "cluster.toml"],
+        &["run", "cluster.toml", "cluster.toml", "cluster.toml"],
         &["Schedule", "cluster.toml"],
         &["schedule", "cluster.toml", "cluster.toml"],
         &["--help"],

@@ -8,6 +8,8 @@ ghost use Rattle.ttp_top.specs.Asked.{form_asked};
 pub(crate) enum Command<'a> {
     /// The slot table of the list of this name.
     Schedule { list: &'a str },
+    /// The trace of a script for a list, each under its name.
+    Run { list: &'a str, script: &'a str },
     /// Nothing: the words have no form.
     NoForm,
 }
@@ -19,6 +21,10 @@ pub(crate) fn command_of(words: &[String]) -> Command<'_>
     match words {
         [verb, list] if verb.as_str() == "schedule" => Command::Schedule {
             list: list.as_str(),
+        },
+        [verb, list, script] if verb.as_str() == "run" => Command::Run {
+            list: list.as_str(),
+            script: script.as_str(),
         },
         _ => Command::NoForm,
     }

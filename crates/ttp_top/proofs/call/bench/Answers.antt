@@ -1,24 +1,49 @@
-use Rattle.ttp_top.proofs.Loaded.{complete-statuses, Ends-usage, IsDue-usage, no_form-usage}
+use Rattle.std.proofs.Common.{arith, Some}
+use Rattle.ttp_top.specs.Words.{run}
+use Rattle.ttp_top.proofs.Clauses.{ended, usage, load, cut_short, memory, statuses, has_form}
+use Rattle.ttp_top.proofs.Told.{told_schedule, told_run, refused_run, complete_schedule, complete_run, wrote_trace}
 use Rattle.ttp_top.proofs.call.bench.Goals as goal
 
-pub returns-in-NoForm-clause-ended : goal.returns-in-NoForm-clause-ended
-returns-in-NoForm-clause-ended g c =
-    let said = rw c.as_bytes.ensures.value at c.say.ensures.said in
-    rw (← c.in-NoForm.ensures) (Ends-usage (g.L.Library.held c.args.library.now) c.say.result _ _ _ _ said)
+pub returns-clause-usage : goal.returns-clause-usage
+returns-clause-usage g c = usage _ _ _ _ _ _ _ _ _ (rw c.command_of.ensures at c.obey.ensures.outcome)
 
-pub returns-in-NoForm-clause-due : goal.returns-in-NoForm-clause-due
-returns-in-NoForm-clause-due g c =
-    let said = rw c.as_bytes.ensures.value at c.say.ensures.said in
-    let faults = g.L.Library.faults c.args.library.now in
-    rw (← c.in-NoForm.ensures) (IsDue-usage (g.L.Library.held c.args.library.now) faults faults c.say.result _ _ _ _ said)
+pub returns-clause-load : goal.returns-clause-load
+returns-clause-load g c = load _ _ _ _ _ _ _ _ _ (rw c.command_of.ensures at c.obey.ensures.outcome)
 
-pub returns-in-NoForm-clause-no_form : goal.returns-in-NoForm-clause-no_form
-returns-in-NoForm-clause-no_form g c = λ none quiet.
-    let said = rw c.as_bytes.ensures.value at c.say.ensures.said in
-    no_form-usage c.say.result _ _ _ _ said quiet
+pub returns-clause-sink : goal.returns-clause-sink
+returns-clause-sink g c = λ six. (cut_short _ _ _ _ _ _ _ _ _ (rw c.command_of.ensures at c.obey.ensures.outcome) six).0
 
-pub returns-in-Schedule-clause-complete : goal.returns-in-Schedule-clause-complete
-returns-in-Schedule-clause-complete g c = λ list bytes medl form held short right none_of_list none_of_sink.
-    let says = c.schedule.ensures in
-    complete-statuses (g.L.Library.held c.args.library.now) (g.L.Library.faults c.args.library.now) (g.L.Library.faults c.schedule.new.library)
-    c.in-Schedule.list.now list bytes medl _ c.schedule.result _ _ _ _ says.ended says.load says.sink says.statuses.0 c.in-Schedule.ensures form held short right none_of_list none_of_sink
+pub returns-clause-due : goal.returns-clause-due
+returns-clause-due g c = λ six. (cut_short _ _ _ _ _ _ _ _ _ (rw c.command_of.ensures at c.obey.ensures.outcome) six).1
+
+pub returns-clause-memory : goal.returns-clause-memory
+returns-clause-memory g c = λ seven. (
+  has_form _ c.obey.result (rw c.command_of.ensures at c.obey.ensures.no_form) seven,
+  memory _ _ _ _ _ _ _ _ _ (rw c.command_of.ensures at c.obey.ensures.outcome) seven,
+)
+
+pub returns-clause-statuses : goal.returns-clause-statuses
+returns-clause-statuses g c = statuses _ _ _ _ _ _ _ _ _ (rw c.command_of.ensures at c.obey.ensures.outcome)
+
+pub returns-clause-refused_run : goal.returns-clause-refused_run
+returns-clause-refused_run g c = λ list script bytes text form held refused quiet_list quiet_sink.
+    refused_run (g.L.Library.held c.args.library.now) (g.L.Library.faults c.args.library.now) (g.L.Library.faults c.obey.new.library)
+      list script bytes text _ _ _ _ _ (rw (c.command_of.ensures, form) at c.obey.ensures.outcome) held refused quiet_list quiet_sink
+
+pub returns-clause-complete : goal.returns-clause-complete
+returns-clause-complete g c = λ list bytes medl form held short right quiet_list quiet_sink.
+    complete_schedule bytes medl _ _ _ short right
+      (told_schedule (g.L.Library.held c.args.library.now) (g.L.Library.faults c.args.library.now) (g.L.Library.faults c.obey.new.library)
+        list bytes _ _ _ _ _ (rw (c.command_of.ensures, form) at c.obey.ensures.outcome) held quiet_list quiet_sink)
+
+pub returns-clause-complete_run : goal.returns-clause-complete_run
+returns-clause-complete_run g c = λ list script bytes script_bytes medl right form held script_held short list_right few script_short script_right quiet_list quiet_script quiet_sink.
+    complete_run bytes script_bytes medl right _ _ _ short list_right few script_short script_right
+      (told_run (g.L.Library.held c.args.library.now) (g.L.Library.faults c.args.library.now) (g.L.Library.faults c.obey.new.library)
+        list script bytes script_bytes _ _ _ _ _ (rw (c.command_of.ensures, form) at c.obey.ensures.outcome) held script_held quiet_list quiet_script quiet_sink)
+
+pub returns-clause-trace : goal.returns-clause-trace
+returns-clause-trace g c = λ list script bytes script_bytes form held script_held zero.
+    wrote_trace (g.L.Library.held c.args.library.now) list script bytes script_bytes c.obey.result _ _
+      (ended (Some (run list script)) (g.L.Library.held c.args.library.now) (g.L.Library.faults c.args.library.now) (g.L.Library.faults c.obey.new.library) _ _ _ _ _
+        (rw (c.command_of.ensures, form) at c.obey.ensures.outcome) (omega arith)) held script_held zero

@@ -1,0 +1,43 @@
+//! A run in which every frame is bare and nothing is disturbed.
+ghost use Rattle.std.specs.Prelude.{◌≡◌, IfOk};
+ghost use Rattle.ttp_world.specs.Medl.{IsValid};
+ghost use Rattle.ttp_world.specs.Script.{IsValidScript};
+ghost use Rattle.ttp_top.specs.Passed.{IsBareList, IsPlainScript, plain_run};
+ghost use Rattle.ttp_top.specs.Shown.{shown_in};
+
+mod after;
+mod bus;
+mod deed;
+mod hearing;
+mod slots;
+mod standing;
+
+#[cfg(test)]
+mod tests;
+
+use crate::shown::Shown;
+use slots::take_slot;
+use standing::first_nodes;
+use std::alloc::Global;
+use ttp_base::{List, Memory};
+use ttp_world::{Medl, Script};
+
+/// What is shown of each node after each slot of a run, the first slot's first.
+pub(crate) fn run_plain(
+    alloc: Global,
+    list: &Medl,
+    script: &Script,
+) -> Result<List<Shown>, Memory>
+    requires list { IsValid list.now }
+    requires bare { IsBareList list.now }
+    requires script { IsValidScript list.now script.now }
+    requires plain { IsPlainScript list.now script.now }
+    ensures { IfOk result (λ shown. shown ≡ shown_in list.now (plain_run list.now script.now script.now.slots)) }
+{
+    let mut nodes = first_nodes(alloc, list)?;
+    let mut shown = List::new(alloc);
+    for slot in 0..script.slots {
+        take_slot(list, script, slot, &mut nodes, &mut shown)?;
+    }
+    Ok(shown)
+}
