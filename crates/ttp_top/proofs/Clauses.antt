@@ -1,12 +1,12 @@
 -- What a call promises, from its outcome.
-use Rattle.std.proofs.Common.{◌≡◌, ◌≢◌, ◌⊎◌, ℕ, ◌≤◌, List, [], length, Option, Some, None, Result, Ok, Err, refl, ap, sym, subst, ◌∙◌, inl, inr, arith}
+use Rattle.std.proofs.Common.{◌≡◌, ◌≢◌, ℕ, ◌≤◌, List, [], Option, Some, None, Result, Ok, Err, refl, sym, subst, ◌∙◌, inl, inr, arith}
 use Rattle.std.specs.Option.{IsNone, IsSome}
 use Rattle.std.specs.Io.KnownBytes.{Appends}
 use Rattle.ttp_base.specs.Outside.{HasRisen, AppendsFront}
 use Rattle.ttp_world.specs.declared.medl.Medl.{Medl}
 use Rattle.ttp_world.specs.declared.script.Script.{Script}
 use Rattle.ttp_top.specs.Words.{Form, schedule, run}
-use Rattle.ttp_top.specs.Ending.{Ending, table_ending, list_from, schedule_ending, trace_ending, script_from, script_ending, run_with, runnable_from, refused_list, run_ending, IsEnding, Ends, IsLoadLine, IsDue, Outcome}
+use Rattle.ttp_top.specs.Ending.{Ending, table_ending, list_from, schedule_ending, trace_ending, script_from, script_ending, run_with, runnable_from, run_ending, IsEnding, Ends, IsLoadLine, IsDue, Outcome}
 
 -- ---- the statuses of endings
 

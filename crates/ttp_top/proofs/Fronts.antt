@@ -1,14 +1,13 @@
 -- Of a file that is loaded with a limit, the first bytes decide what it is.
-use Rattle.std.proofs.Common.{◌≡◌, ◌⊎◌, ℕ, ◌+◌, ◌<◌, ◌≤◌, List, length, take, Option, Some, None, Result, Err, refl, ap, sym, ◌∙◌, inl, inr, arith, nat_lt, cond}
+use Rattle.std.proofs.Common.{◌≡◌, ◌⊎◌, ℕ, ◌+◌, ◌<◌, ◌≤◌, List, length, take, Option, Some, None, Err, refl, ap, sym, ◌∙◌, inl, inr, arith, nat_lt, cond}
 use Rattle.std.specs.Option.{IfSome, unwrap_or}
 use Rattle.std.specs.Prelude.{codes}
 use Rattle.std.proofs.lemmas.List.{take_all, length-take-le}
 use Rattle.std.proofs.lemmas.Bool.{lt-ltb, cases_lt}
 use Rattle.ttp_world.specs.declared.medl.Medl.{Medl}
-use Rattle.ttp_world.specs.declared.script.Script.{Script}
 use Rattle.medl_text.specs.ListFile.{medl_of}
 use Rattle.script_text.specs.ScriptFile.{script_of}
-use Rattle.ttp_top.specs.Ending.{list_limit, list_read, list_within, list_from, runnable, runnable_from, script_limit, script_read, script_within, script_from, script_ending, trace_ending}
+use Rattle.ttp_top.specs.Ending.{list_limit, list_read, list_from, runnable, runnable_from, script_limit, script_read, script_from, script_ending, trace_ending}
 use Rattle.ttp_top.specs.Part.{WereGiven}
 
 -- what is read of bytes that are not too many

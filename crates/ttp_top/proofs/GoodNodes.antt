@@ -1,5 +1,5 @@
 -- The nodes that are good after an entry, as sets of nodes that are put in and taken out.
-use Rattle.std.proofs.Common.{◌≡◌, ℕ, ◌<◌, ◌≤◌, ℤ, Bool, true, false, cond, not, ◌&&◌, ◌||◌, List, [], length, Option, Some, None, refl, ap, sym, ◌∙◌, inl, inr, arith}
+use Rattle.std.proofs.Common.{◌≡◌, ℕ, ◌<◌, ◌≤◌, ℤ, Bool, true, false, cond, not, ◌&&◌, ◌||◌, List, [], length, Option, Some, None, refl, ap, sym, ◌∙◌, inl, inr}
 use Rattle.std.specs.Prelude.{◌==◌, unwrap_or}
 use Rattle.std.specs.List.{filter}
 use Rattle.std.proofs.lemmas.Bool.{cases_eq, eq-eqb, ne_eqb}
@@ -37,9 +37,9 @@ doubt_settled false doubted held = taken_out doubted held
 -- a number's test, the other way round
 eqb_comm : (a b : ℕ) → (a == b) ≡ (b == a)
 eqb_comm a b = elim (cases_eq a b) [
-    | inl same ↦ eq-eqb a b same ∙ sym (eq-eqb b a (sym same))
-    | inr other ↦ ne_eqb a b other ∙ sym (ne_eqb b a (λ same. other (sym same)))
-  ]
+  | inl same ↦ eq-eqb a b same ∙ sym (eq-eqb b a (sym same))
+  | inr other ↦ ne_eqb a b other ∙ sym (ne_eqb b a (λ same. other (sym same)))
+]
 
 -- A set of the list's nodes with one put in, and with one taken out.
 
@@ -62,7 +62,7 @@ doubt_settled-filter members n x k are within fits =
     ∙ ap (λ s. with_node s k) (without_node-filter (has_node members) n x)
     ∙ with_node-filter (λ j. has_node members j && not (j == x)) n k within fits
     ∙ same_sieve (λ j. (j == k) || (has_node members j && not (j == x))) _ n
-        (λ j _. ap (λ same. (j == k) || (has_node members j && not same)) (eqb_comm j x) ∙ doubt_settled (j == k) (x == j) (has_node members j))
+    (λ j _. ap (λ same. (j == k) || (has_node members j && not same)) (eqb_comm j x) ∙ doubt_settled (j == k) (x == j) (has_node members j))
 
 -- The entries that speak of nodes.
 

@@ -4,7 +4,7 @@ use Rattle.std.specs.Prelude.{◌==◌}
 use Rattle.std.specs.List.{filter, range_with_len}
 use Rattle.std.proofs.lemmas.Bool.{cases_lt, cases_eq, eq-eqb, ne_eqb, lt-ltb, le-ltb, and_right}
 use Rattle.ttp_base.specs.NodeSet.{most_nodes, below, has_node, with_node, without_node}
-use Rattle.ttp_base.proofs.NodeSets.{has_node-filter, has_node-sieve, has_node-with, same_sieve}
+use Rattle.ttp_base.proofs.NodeSets.{has_node-filter, has_node-sieve, same_sieve}
 
 -- a test that fails at each number from a on picks none of them
 pub filter-none : (p : ℕ → Bool) (a n : ℕ) → ((j : ℕ) → a ≤ j → p j ≡ false) → filter p (range_with_len a n) ≡ []
@@ -51,16 +51,16 @@ with_node-filter p n k within fits = same_sieve was now most_nodes each ∙ filt
 
     each : (j : ℕ) → j < most_nodes → was j ≡ now j
     each j small = elim (cases_lt j n) [
-        | inl less ↦
-            let member = has_node-sieve p n j less in
-            let below_n : ltb j n ≡ true = lt-ltb j n less in
-            rw (member, below_n)
-        | inr past ↦
-            let other : (j == k) ≡ false = ne_eqb j k (λ same. omega arith) in
-            let none = has_node-past p n j past in
-            let not_below : ltb j n ≡ false = le-ltb j n past in
-            rw (other, none, not_below)
-      ]
+      | inl less ↦
+          let member = has_node-sieve p n j less in
+          let below_n : ltb j n ≡ true = lt-ltb j n less in
+          rw (member, below_n)
+      | inr past ↦
+          let other : (j == k) ≡ false = ne_eqb j k (λ same. omega arith) in
+          let none = has_node-past p n j past in
+          let not_below : ltb j n ≡ false = le-ltb j n past in
+          rw (other, none, not_below)
+    ]
 
 -- a filter of a filter keeps what passes both
 filter-filter : (p q : ℕ → Bool) (xs : List ℕ) → filter q (filter p xs) ≡ filter (λ x. p x && q x) xs
@@ -88,24 +88,24 @@ with_node-next p n small passes = same_sieve was now most_nodes each ∙ filter-
 
     each : (j : ℕ) → j < most_nodes → was j ≡ now j
     each j _ = elim (cases_lt j n) [
-        | inl less ↦
-            let other : (j == n) ≡ false = ne_eqb j n (λ same. omega arith) in
-            let member = has_node-sieve p n j less in
+      | inl less ↦
+          let other : (j == n) ≡ false = ne_eqb j n (λ same. omega arith) in
+          let member = has_node-sieve p n j less in
+          let below_next : ltb j (n + 1) ≡ true = lt-ltb j (n + 1) (omega arith) in
+          rw (other, member, below_next)
+      | inr from ↦ elim (cases_eq j n) [
+        | inl same ↦
+            let here : (j == n) ≡ true = eq-eqb j n same in
             let below_next : ltb j (n + 1) ≡ true = lt-ltb j (n + 1) (omega arith) in
-            rw (other, member, below_next)
-        | inr from ↦ elim (cases_eq j n) [
-            | inl same ↦
-                let here : (j == n) ≡ true = eq-eqb j n same in
-                let below_next : ltb j (n + 1) ≡ true = lt-ltb j (n + 1) (omega arith) in
-                let good : p j ≡ true = ap p same ∙ passes in
-                rw (here, below_next, good)
-            | inr other ↦
-                let off : (j == n) ≡ false = ne_eqb j n other in
-                let none = has_node-past p n j from in
-                let past : ltb j (n + 1) ≡ false = le-ltb j (n + 1) (omega arith) in
-                rw (off, none, past)
-          ]
+            let good : p j ≡ true = ap p same ∙ passes in
+            rw (here, below_next, good)
+        | inr other ↦
+            let off : (j == n) ≡ false = ne_eqb j n other in
+            let none = has_node-past p n j from in
+            let past : ltb j (n + 1) ≡ false = le-ltb j (n + 1) (omega arith) in
+            rw (off, none, past)
       ]
+    ]
 
 -- and left out where it does not
 pub filter-next : (p : ℕ → Bool) (n : ℕ) → n < most_nodes → p n ≡ false → filter p (below n) ≡ filter p (below (n + 1))
@@ -119,33 +119,33 @@ filter-next p n small fails = sym (filter-below p n most_nodes (omega arith)) �
 
     each : (j : ℕ) → j < most_nodes → was j ≡ now j
     each j _ = elim (cases_eq j n) [
-        | inl same ↦
-            let none : p j ≡ false = ap p same ∙ fails in
-            and_right (ltb j n) (p j) none ∙ sym (and_right (ltb j (n + 1)) (p j) none)
-        | inr other ↦ elim (cases_lt j n) [
-            | inl less ↦
-                let before : ltb j n ≡ true = lt-ltb j n less in
-                let after : ltb j (n + 1) ≡ true = lt-ltb j (n + 1) (omega arith) in
-                rw (before, after)
-            | inr from ↦
-                let before : ltb j n ≡ false = le-ltb j n from in
-                let after : ltb j (n + 1) ≡ false = le-ltb j (n + 1) (omega arith) in
-                rw (before, after)
-          ]
+      | inl same ↦
+          let none : p j ≡ false = ap p same ∙ fails in
+          and_right (ltb j n) (p j) none ∙ sym (and_right (ltb j (n + 1)) (p j) none)
+      | inr other ↦ elim (cases_lt j n) [
+        | inl less ↦
+            let before : ltb j n ≡ true = lt-ltb j n less in
+            let after : ltb j (n + 1) ≡ true = lt-ltb j (n + 1) (omega arith) in
+            rw (before, after)
+        | inr from ↦
+            let before : ltb j n ≡ false = le-ltb j n from in
+            let after : ltb j (n + 1) ≡ false = le-ltb j (n + 1) (omega arith) in
+            rw (before, after)
       ]
+    ]
 
 -- of the numbers from a on, the test of one of them picks it alone
 filter-one : (a n k : ℕ) → a ≤ k → k < a + n → filter (λ j. (j == k) || false) (range_with_len a n) ≡ k ∷ []
 filter-one a zero k from to = absurd (omega arith)
 filter-one a (suc n) k from to = elim (cases_eq a k) [
-    | inl same ↦
-        let here : (a == k) ≡ true = eq-eqb a k same in
-        let none = filter-none (λ j. (j == k) || false) (a + 1) n (λ j past. let off : (j == k) ≡ false = ne_eqb j k (λ is. omega arith) in ap (λ b. b || false) off) in
-        rw (here, none) (ap (λ j. j ∷ []) same)
-    | inr other ↦
-        let off : (a == k) ≡ false = ne_eqb a k other in
-        rw off (filter-one (a + 1) n k (omega arith) (omega arith))
-  ]
+  | inl same ↦
+      let here : (a == k) ≡ true = eq-eqb a k same in
+      let none = filter-none (λ j. (j == k) || false) (a + 1) n (λ j past. let off : (j == k) ≡ false = ne_eqb j k (λ is. omega arith) in ap (λ b. b || false) off) in
+      rw (here, none) (ap (λ j. j ∷ []) same)
+  | inr other ↦
+      let off : (a == k) ≡ false = ne_eqb a k other in
+      rw off (filter-one (a + 1) n k (omega arith) (omega arith))
+]
 
 -- the set of one node
 pub with_node-nil : (k : ℕ) → k < most_nodes → with_node [] k ≡ k ∷ []

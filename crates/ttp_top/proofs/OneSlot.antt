@@ -1,13 +1,12 @@
 -- A slot told from where the nodes stand is the slot of the history.
-use Rattle.std.proofs.Common.{◌≡◌, ℕ, zero, suc, ◌+◌, ◌<◌, ◌≤◌, Bool, List, [], ◌∷◌, ◌++◌, length, get_or, replicate, take, drop, refl, ap, sym, ◌∙◌, add-one, arith}
-use Rattle.std.specs.Prelude.{map, All}
+use Rattle.std.proofs.Common.{◌≡◌, ℕ, zero, suc, ◌+◌, ◌<◌, List, [], ◌∷◌, ◌++◌, length, replicate, take, drop, refl, ap, sym, ◌∙◌, add-one, arith}
+use Rattle.std.specs.Prelude.{map}
 use Rattle.std.specs.List.{flat_map, range_with_len}
 use Rattle.std.proofs.lemmas.List.{take_at}
 use Rattle.std.proofs.lemmas.List.FromFn.{get_or-map-range_with_len, length-map-range_with_len}
 use Rattle.ttp_base.specs.NodeSet.{below, with_node}
 use Rattle.ttp_world.specs.declared.medl.Medl.{Medl}
 use Rattle.ttp_world.specs.declared.script.Script.{Script}
-use Rattle.ttp_world.specs.Acknowledgement.{ack_of}
 use Rattle.ttp_world.specs.Act.{Act, act, Off, Gone, Listen, Start, Retry, Leave, Send, Judge}
 use Rattle.ttp_world.specs.Diary.{History, diary_of, entry_of, no_place, cstate_at}
 use Rattle.ttp_world.specs.Membership.{is_good}
@@ -15,12 +14,10 @@ use Rattle.ttp_world.specs.Medium.{record_of, slot_record}
 use Rattle.ttp_world.specs.Reception.{candidates}
 use Rattle.ttp_world.specs.Script.{is_on}
 use Rattle.ttp_world.specs.World.{place_next}
-use Rattle.ttp_top.specs.declared.run.standing.Standing.{Standing}
-use Rattle.ttp_top.specs.declared.shown.Shown.{Shown}
 use Rattle.ttp_top.specs.Passed.{Passed, Listed, passed_by, passed_in, on_bus, judging_on, entry_on, passed_row, plain_run}
 use Rattle.ttp_top.specs.Shown.{shown_of, shown_after, shown_in}
-use Rattle.ttp_top.specs.Standing.{standing_of, standing_first, standing_after, members_held, ack_in, shown_by}
-use Rattle.ttp_top.specs.Slot.{act_by, frames_by, entry_at, node_at, frames_at, bus_at, is_nothing, standing_next, next_at, nodes_after, standing_at, standings}
+use Rattle.ttp_top.specs.Standing.{standing_first, standing_after, shown_by}
+use Rattle.ttp_top.specs.Slot.{act_by, frames_by, entry_at, node_at, frames_at, bus_at, standing_next, next_at, nodes_after, standing_at, standings}
 use Rattle.ttp_top.proofs.NodeLists.{filter-none}
 use Rattle.ttp_top.proofs.Silence.{entry_of-passed_row, is_silent-passed_row}
 use Rattle.ttp_top.proofs.Standings.{ack_in-standing_of, members_held-standing_of, shown_by-standing_of, act_by-standing_of, standing_after-standing_of}
@@ -94,28 +91,28 @@ bus_at-standings : (list : Medl) (script : Script) (history : History)
     → bus_at list script (length history) (standings list script history) ≡ on_bus (passed_in list script history)
 bus_at-standings list script history =
     ap on_bus (flat_map_agree-below (frames_at list script (length history) (standings list script history)) (λ k. passed_by list history (act list script history k) k) (length list.slots)
-        (frames_at-standings list script history))
+    (frames_at-standings list script history))
 
 -- Where the nodes stand after the slot.
 
 standing_next-standing_at : (list : Medl) (script : Script) (history : History) (k : ℕ) → k < length list.slots → script.events ≡ []
     → standing_next list script (length history) (on_bus (passed_in list script history)) (standing_at list script history k) k
-      ≡ standing_at list script (passed_row list script history ∷ history) k
+    ≡ standing_at list script (passed_row list script history ∷ history) k
 standing_next-standing_at list script history k less none =
     let passed = on_bus (passed_in list script history) in
     let row = passed_row list script history in
     let s = standing_at list script history k in
     let o = slot_record script (length history) row k in
     let e = ap (λ a. entry_at list s passed a k) (act_by-standing_at list script history k)
-        ∙ entry_at-standing_at list script history passed (act list script history k) k
-        ∙ sym (entry_of-passed_row list script history k less) in
+    ∙ entry_at-standing_at list script history passed (act list script history k) k
+    ∙ sym (entry_of-passed_row list script history k less) in
     let silent = is_silent-passed_row list script history k none in
     (λ i. standing_after list k s (e i) (silent i))
     ∙ standing_after-standing_of list k (diary_of history k) (record_of script history k) (entry_of row k) o
 
 next_at-standings : (list : Medl) (script : Script) (history : History) (k : ℕ) → k < length list.slots → script.events ≡ []
     → next_at list script (length history) (bus_at list script (length history) (standings list script history)) (standings list script history) k
-      ≡ standing_at list script (passed_row list script history ∷ history) k
+    ≡ standing_at list script (passed_row list script history ∷ history) k
 next_at-standings list script history k less none =
     (λ i. standing_next list script (length history) (bus_at-standings list script history i) (node_at-standings list script history k less i) k)
     ∙ standing_next-standing_at list script history k less none

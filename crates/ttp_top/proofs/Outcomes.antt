@@ -1,12 +1,11 @@
 -- The outcome of a command, from how its parts ended.
-use Rattle.std.proofs.Common.{◌≡◌, ◌⊎◌, ℕ, List, [], Option, Some, None, Result, Ok, Err, refl, ap, sym, subst, ◌∙◌, inl, inr}
+use Rattle.std.proofs.Common.{◌≡◌, ℕ, List, [], Option, Some, None, Ok, Err, refl, ap, sym, ◌∙◌, inl, inr}
 use Rattle.std.specs.Option.{IfSome, unwrap_or}
-use Rattle.std.specs.Io.KnownBytes.{Appends}
 use Rattle.ttp_base.specs.Outside.{HasRisen, HoldsTheSame}
 use Rattle.ttp_world.specs.declared.medl.Medl.{Medl}
 use Rattle.ttp_top.specs.Words.{Form, schedule, run}
-use Rattle.ttp_top.specs.Lines.{load_list_line, load_script_line, list_line}
-use Rattle.ttp_top.specs.Ending.{Ending, list_limit, script_limit, list_from, table_ending, schedule_ending, runnable_from, run_with, refused_list, script_ending, run_ending, AgreesWith, IsEnding, IsRunnable, IsLoadLine, Says, Shows, Outcome}
+use Rattle.ttp_top.specs.Lines.{load_script_line, list_line}
+use Rattle.ttp_top.specs.Ending.{Ending, list_limit, script_limit, table_ending, schedule_ending, runnable_from, run_with, refused_list, script_ending, run_ending, AgreesWith, IsEnding, IsRunnable, Says, Shows, Outcome}
 use Rattle.ttp_top.specs.Part.{WereGiven, ScriptPart}
 use Rattle.ttp_top.proofs.Fronts.{list_from-given, runnable_from-given, script_ending-given}
 
@@ -45,7 +44,10 @@ IsEnding-refused : (held : List ℕ → Option (List ℕ)) (list script given te
     → IsEnding (Some (run list script)) held (refused_list text)
 unfolding run_ending
 IsEnding-refused held list script given text front refused = (
-  unwrap_or (held list) given, unwrap_or (held script) [], AgreesWith-given (held list) given, AgreesWith-given (held script) [],
+  unwrap_or (held list) given,
+  unwrap_or (held script) [],
+  AgreesWith-given (held list) given,
+  AgreesWith-given (held script) [],
   sym (ap (λ read. run_with read (unwrap_or (held script) [])) (runnable_from-given held list given front ∙ refused)),
 )
 
@@ -68,7 +70,8 @@ IsEnding-run : (held later : List ℕ → Option (List ℕ)) (list script given 
     → IsEnding (Some (run list script)) held (script_ending medl script_given)
 unfolding run_ending
 IsEnding-run held later list script given script_given medl same front read script_front = (
-  unwrap_or (held list) given, unwrap_or (later script) script_given,
+  unwrap_or (held list) given,
+  unwrap_or (later script) script_given,
   AgreesWith-given (held list) given,
   AgreesWith-same held later script same _ (AgreesWith-given (later script) script_given),
   sym (ap (λ r. run_with r (unwrap_or (later script) script_given)) (runnable_from-given held list given front ∙ read) ∙ script_ending-given medl later script script_given script_front),
@@ -80,7 +83,7 @@ pub Outcome-run : (held later : List ℕ → Option (List ℕ)) (files between n
     → Outcome (Some (run list script)) held files now result before after old new
 Outcome-run held later files between now list script given medl result before after old new same rises front read (inl shown) =
     Outcome-shown (Some (run list script)) held files now (script_ending medl shown.0) result before after old new
-      (IsEnding-run held later list script given shown.0 medl same front read shown.1) shown.2
+    (IsEnding-run held later list script given shown.0 medl same front read shown.1) shown.2
 Outcome-run held later files between now list script given medl result before after old new same rises front read (inr (inl failed)) =
     inr (inl (load_script_line, inr (rises failed.0, refl, IsRunnable-given held list given medl front read), failed.1))
 Outcome-run held later files between now list script given medl result before after old new same rises front read (inr (inr memory)) = inr (inr memory)

@@ -2,7 +2,7 @@
 use Rattle.std.proofs.Common.{◌≡◌, ℕ, zero, suc, ◌*◌, List, [], ◌∷◌, ◌++◌, length, Option, Ok, refl, ap, sym, subst, ◌∙◌, inl, inr}
 use Rattle.std.specs.List.{All}
 use Rattle.std.specs.Io.KnownBytes.{Appends}
-use Rattle.std.proofs.lemmas.List.Elements.{All-append, All-map, All-nil, All-weaker}
+use Rattle.std.proofs.lemmas.List.Elements.{All-append, All-map, All-nil}
 use Rattle.ttp_base.specs.NodeSet.{below}
 use Rattle.ttp_base.specs.Outside.{HasRisen, AppendsFront}
 use Rattle.ttp_world.specs.declared.medl.Medl.{Medl}
@@ -46,8 +46,8 @@ pub shown_in-short : (list : Medl) (history : History) → IsValid list → All 
 shown_in-short list [] valid = All-nil HasShortWord
 shown_in-short list (row ∷ history) valid =
     All-append HasShortWord (shown_in list history) (shown_after list (row ∷ history)) (shown_in-short list history valid)
-      (All-map HasShortWord (λ k. shown_of list k (diary_of (row ∷ history) k)) (below (length list.slots))
-        (λ i d within. shown_of-short list (row ∷ history) valid _))
+    (All-map HasShortWord (λ k. shown_of list k (diary_of (row ∷ history) k)) (below (length list.slots))
+    (λ i d within. shown_of-short list (row ∷ history) valid _))
 
 -- its text is the trace
 pub shown_run-text : (list : Medl) (script : Script) → IsValid list → IsBareList list → IsPlainScript list script
@@ -55,7 +55,7 @@ pub shown_run-text : (list : Medl) (script : Script) → IsValid list → IsBare
 shown_run-text list script valid bare plain =
     let history = plain_run list script script.slots in
     let slots : slots_text (length list.slots) script.slots (shown_in list history) ≡ shown_text list history =
-        ap (λ n. slots_text (length list.slots) n (shown_in list history)) (sym (length-plain_run list script script.slots)) ∙ slots_text-shown_in list history in
+    ap (λ n. slots_text (length list.slots) n (shown_in list history)) (sym (length-plain_run list script script.slots)) ∙ slots_text-shown_in list history in
     ap (λ text. trace_head list script ++ text) (slots ∙ ap (shown_text list) (plain_run-world list script script.slots valid bare plain))
     ∙ sym (run_text-shown list script script.slots valid bare plain)
 

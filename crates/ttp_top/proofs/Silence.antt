@@ -1,14 +1,13 @@
 -- Where nothing is disturbed, a slot was silent to each node exactly where no frame was on the bus.
-use Rattle.std.proofs.Common.{◌≡◌, ℕ, zero, suc, ◌+◌, ◌<◌, ◌≤◌, ℤ, pos, Bool, true, false, cond, not, ◌&&◌, List, [], ◌∷◌, ◌++◌, length, get_or, refl, ap, sym, subst, ◌∙◌, arith}
+use Rattle.std.proofs.Common.{◌≡◌, ℕ, ◌<◌, pos, Bool, true, false, cond, not, ◌&&◌, List, [], ◌∷◌, ◌++◌, length, refl, ap, sym, ◌∙◌, arith}
 use Rattle.std.specs.Prelude.{map}
-use Rattle.std.specs.List.{filter, flat_map, range_with_len}
+use Rattle.std.specs.List.{filter, flat_map}
 use Rattle.std.proofs.lemmas.List.FromFn.{length-map-range_with_len, get_or-map-range_with_len}
 use Rattle.ttp_base.specs.NodeSet.{below}
 use Rattle.ttp_base.proofs.NodeSets.{same_sieve}
 use Rattle.ttp_world.specs.declared.medl.Medl.{Medl}
 use Rattle.ttp_world.specs.declared.node.Ack.{Ack}
 use Rattle.ttp_world.specs.declared.node.CState.{CState}
-use Rattle.ttp_world.specs.declared.node.Entry.{Entry}
 use Rattle.ttp_world.specs.declared.node.Entry.TheVariants as entry
 use Rattle.ttp_world.specs.declared.node.Verdict.{Verdict}
 use Rattle.ttp_world.specs.declared.node.Verdict.TheVariants as verdict
@@ -22,9 +21,9 @@ use Rattle.ttp_world.specs.Diary.{History, entry_of, diary_of}
 use Rattle.ttp_world.specs.Medium.{SentFrame, is_silence, heard, is_silent_to, is_sending, sender_only, senders_in, slot_record}
 use Rattle.ttp_world.specs.Reception.{Expected, verdict_of}
 use Rattle.ttp_world.specs.World.{expected_by, judged_as}
-use Rattle.ttp_top.specs.Passed.{Passed, Nothing, Collision, ColdStart, Listed, passed_by, passed_in, on_bus, joined_if, listening_on, view_on, judging_on, entry_on, row_with, passed_row}
+use Rattle.ttp_top.specs.Passed.{Passed, Nothing, Collision, ColdStart, Listed, passed_by, passed_in, on_bus, joined_if, listening_on, view_on, judging_on, entry_on, passed_row}
 use Rattle.ttp_top.specs.Slot.{is_nothing}
-use Rattle.ttp_top.proofs.BusOf.{IsFrame, AreFrames, flat_map-frames}
+use Rattle.ttp_top.proofs.BusOf.{AreFrames, flat_map-frames}
 
 abbrev is_empty : {X : Type 0} → List X → Bool
 is_empty [] = true

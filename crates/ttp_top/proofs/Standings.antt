@@ -1,6 +1,6 @@
 -- Where a node stands says what its diary says, and one more entry changes it as it changes the diary.
-use Rattle.std.proofs.Common.{◌≡◌, ℕ, zero, suc, ◌+◌, ◌<◌, ◌≤◌, ℤ, Bool, true, false, cond, ◌&&◌, ◌||◌, leb, List, [], ◌∷◌, length, Option, Some, None, refl, ap, sym, ◌∙◌, inl, inr, arith}
-use Rattle.std.specs.Prelude.{◌==◌, unwrap_or, count_by, nat_le}
+use Rattle.std.proofs.Common.{◌≡◌, ℕ, zero, suc, ◌+◌, ◌<◌, Bool, true, false, cond, ◌&&◌, ◌||◌, List, [], ◌∷◌, length, Option, Some, None, refl, ap, sym, ◌∙◌, inl, inr, arith}
+use Rattle.std.specs.Prelude.{unwrap_or, count_by, nat_le}
 use Rattle.std.specs.Option.{option_or}
 use Rattle.std.specs.List.{filter, list_any}
 use Rattle.std.proofs.lemmas.Bool.{cases_lt, le-leb, lt-leb}
@@ -20,9 +20,8 @@ use Rattle.ttp_world.specs.Counts.{is_rejecting, rejected_since_own}
 use Rattle.ttp_world.specs.Diary.{Diary, Record, SlotRecord, place_of, cstate_at}
 use Rattle.ttp_world.specs.Fitting.{may_start}
 use Rattle.ttp_world.specs.Membership.{opinion, is_good, members_of}
-use Rattle.ttp_top.specs.declared.run.standing.Standing.{Standing}
 use Rattle.ttp_top.specs.Shown.{shown_of}
-use Rattle.ttp_top.specs.Standing.{quiet_slots, standing_of, ack_in, members_held, shown_by, opinion_by, good_after, ack_answered, ack_after, is_cold_after, correct_after, is_rejecting_by, rejected_after, standing_after}
+use Rattle.ttp_top.specs.Standing.{quiet_slots, standing_of, ack_in, members_held, shown_by, opinion_by, good_after, ack_answered, ack_after, is_rejecting_by, rejected_after, standing_after}
 use Rattle.ttp_top.specs.Slot.{act_by}
 
 -- What is told from where a node stands.
@@ -43,9 +42,9 @@ shown_by-standing_of list k (e ∷ diary) beside = refl
 
 leb-suc : (a b : ℕ) → nat_le (suc a) (1 + b) ≡ nat_le a b
 leb-suc a b = elim (cases_lt b a) [
-    | inl less ↦ lt-leb (suc a) (1 + b) (omega arith) ∙ sym (lt-leb a b less)
-    | inr more ↦ le-leb (suc a) (1 + b) (omega arith) ∙ sym (le-leb a b more)
-  ]
+  | inl less ↦ lt-leb (suc a) (1 + b) (omega arith) ∙ sym (lt-leb a b less)
+  | inr more ↦ le-leb (suc a) (1 + b) (omega arith) ∙ sym (le-leb a b more)
+]
 
 quiet-step : (waited silent quiet : Bool) (count run : ℕ) → quiet ≡ nat_le count run
     → (waited && (silent && quiet)) ≡ nat_le (suc count) (cond (waited && silent) (1 + run) 0)
@@ -64,7 +63,7 @@ is_quiet_for-quiet_slots (suc count) (e ∷ diary) (o ∷ beside) =
 
 listening-standing_of : (list : Medl) (k : ℕ) (diary : Diary) (beside : Record)
     → cond {A = Act} (may_start list k && nat_le (start_limit list k diary) (quiet_slots diary beside)) Start Listen
-      ≡ cond {A = Act} (may_start list k && is_quiet_for (start_limit list k diary) diary beside) Start Listen
+    ≡ cond {A = Act} (may_start list k && is_quiet_for (start_limit list k diary) diary beside) Start Listen
 listening-standing_of list k diary beside =
     ap (λ quiet. cond {A = Act} (may_start list k && quiet) Start Listen) (sym (is_quiet_for-quiet_slots (start_limit list k diary) diary beside))
 

@@ -1,6 +1,6 @@
 -- A loop that takes the nodes one after another through a slot.
-use Rattle.std.proofs.Common.{◌≡◌, ℕ, ◌+◌, ◌<◌, ◌≤◌, List, [], ◌∷◌, ◌++◌, length, get_or, set, take, drop, refl, ap, sym, ◌∙◌, add-zero, append_assoc, arith, subst}
-use Rattle.std.specs.Prelude.{map, All}
+use Rattle.std.proofs.Common.{◌≡◌, ℕ, ◌+◌, ◌<◌, ◌≤◌, List, [], ◌∷◌, ◌++◌, length, get_or, set, take, drop, ap, sym, ◌∙◌, add-zero, append_assoc, arith}
+use Rattle.std.specs.Prelude.{map}
 use Rattle.std.proofs.lemmas.List.{take_more_set, drop-set-lt, drop-drop, get_or-drop, map_push, take_all}
 use Rattle.std.proofs.lemmas.List.FromFn.{map-range_with_len_more}
 use Rattle.ttp_base.specs.NodeSet.{below}
@@ -33,13 +33,13 @@ pub Taken-next : (f : ℕ → Standing) (olds : List Standing) (before : List Sh
     → Taken f olds before nodes shown k → k < length nodes → node ≡ f k
     → Taken f olds before (set nodes k node) (shown ++ shown_by node ∷ []) (k + 1)
 Taken-next f olds before nodes shown k node so_far within is = record {
-    taken = take_more_set nodes k node within ∙ (λ i. so_far.taken i ++ is i ∷ []) ∙ sym (map-range_with_len_more f 0 k k (omega arith));
-    rest = drop-set-lt (k + 1) nodes k node (omega arith) ∙ drop-same_rest nodes olds k so_far.rest;
-    seen =
-        ap (λ s. s ++ shown_by node ∷ []) so_far.seen
-        ∙ append_assoc before (map shown_by (take k nodes)) (shown_by node ∷ [])
-        ∙ ap (λ s. before ++ s) (sym (map_push shown_by (take k nodes) node) ∙ sym (ap (map shown_by) (take_more_set nodes k node within)));
-  }
+  taken = take_more_set nodes k node within ∙ (λ i. so_far.taken i ++ is i ∷ []) ∙ sym (map-range_with_len_more f 0 k k (omega arith));
+  rest = drop-set-lt (k + 1) nodes k node (omega arith) ∙ drop-same_rest nodes olds k so_far.rest;
+  seen =
+      ap (λ s. s ++ shown_by node ∷ []) so_far.seen
+      ∙ append_assoc before (map shown_by (take k nodes)) (shown_by node ∷ [])
+      ∙ ap (λ s. before ++ s) (sym (map_push shown_by (take k nodes) node) ∙ sym (ap (map shown_by) (take_more_set nodes k node within)));
+}
 
 -- all nodes
 pub Taken-nodes : (f : ℕ → Standing) (olds : List Standing) (before : List Shown) (nodes : List Standing) (shown : List Shown) (k : ℕ)

@@ -15,8 +15,8 @@ use Rattle.medl_text.specs.Schedule.{slot_table}
 use Rattle.medl_text.specs.Starters.{starters}
 use Rattle.script_text.specs.declared.error.ScriptError.{ScriptError}
 use Rattle.script_text.specs.ScriptFile.{script_of}
-use Rattle.ttp_top.specs.Words.{Form, schedule, run}
-use Rattle.ttp_top.specs.Ending.{Ending, list_limit, list_read, list_from, one_starter, runnable, runnable_from, script_limit, script_read, script_from, table_ending, schedule_ending, trace_ending, script_ending, refused_list, run_with, run_ending, Ends, SaysEnding, WroteTrace, Outcome}
+use Rattle.ttp_top.specs.Words.{schedule, run}
+use Rattle.ttp_top.specs.Ending.{Ending, list_limit, list_read, list_from, one_starter, runnable, runnable_from, script_limit, script_read, script_from, schedule_ending, trace_ending, script_ending, refused_list, run_with, run_ending, Ends, SaysEnding, WroteTrace, Outcome}
 use Rattle.ttp_top.specs.Passed.{plain_numbers}
 
 -- what a library tells is what the bytes are
@@ -50,8 +50,8 @@ told_run held files now list script bytes script_bytes result before after old n
     elim e.2 [
       | inl said ↦
           let same : e.0 ≡ run_ending bytes script_bytes =
-              (e.1).4 ∙ ap (λ b. run_ending b (e.1).1) (told_bytes (held list) bytes (e.1).0 told (e.1).2)
-              ∙ ap (run_ending bytes) (told_bytes (held script) script_bytes (e.1).1 script_told (e.1).3) in
+          (e.1).4 ∙ ap (λ b. run_ending b (e.1).1) (told_bytes (held list) bytes (e.1).0 told (e.1).2)
+          ∙ ap (run_ending bytes) (told_bytes (held script) script_bytes (e.1).1 script_told (e.1).3) in
           inl (said.0 ∙ ap (λ (x : Ending). x.status) same, subst (λ (x : Ending). Appends before after x.text) same said.1)
       | inr cut ↦ absurd (quiet_sink cut.1)
     ]
@@ -121,7 +121,7 @@ pub complete_run : (bytes script_bytes : List ℕ) (medl : Medl) (script : Scrip
 unfolding run_ending script_ending
 complete_run bytes script_bytes medl script result before after short right few script_short script_right says =
     let same : run_ending bytes script_bytes ≡ trace_ending medl (Ok script) =
-        ap (λ r. run_with r script_bytes) (runnable_from-right bytes medl short right few) ∙ ap (trace_ending medl) (script_from-right medl script_bytes script script_short script_right) in
+    ap (λ r. run_with r script_bytes) (runnable_from-right bytes medl short right few) ∙ ap (trace_ending medl) (script_from-right medl script_bytes script script_short script_right) in
     subst (λ (x : Ending). SaysEnding x result before after) same says
 
 -- ---- a trace that was written
@@ -174,7 +174,7 @@ pub wrote_trace : (held : List ℕ → Option (List ℕ)) (list script bytes scr
 unfolding run_ending
 wrote_trace held list script bytes script_bytes result before after ends told script_told zero =
     let same : ends.0 ≡ run_ending bytes script_bytes =
-        (ends.1).4 ∙ ap (λ b. run_ending b (ends.1).1) (told_bytes (held list) bytes (ends.1).0 told (ends.1).2)
-        ∙ ap (run_ending bytes) (told_bytes (held script) script_bytes (ends.1).1 script_told (ends.1).3) in
+    (ends.1).4 ∙ ap (λ b. run_ending b (ends.1).1) (told_bytes (held list) bytes (ends.1).0 told (ends.1).2)
+    ∙ ap (run_ending bytes) (told_bytes (held script) script_bytes (ends.1).1 script_told (ends.1).3) in
     trace_of_list bytes script_bytes (runnable_from bytes) before after refl (sym zero ∙ ends.2 ∙ ap (λ (x : Ending). x.status) same)
-      (subst (λ (x : Ending). Appends before after x.text) same ends.3)
+    (subst (λ (x : Ending). Appends before after x.text) same ends.3)

@@ -1,11 +1,11 @@
 -- Where a node stands keeps within the numbers of the list and of the run.
-use Rattle.std.proofs.Common.{◌≡◌, ◌≢◌, ℕ, suc, ◌+◌, ◌%◌, ◌<◌, ◌≤◌, ℤ, pos, Bool, true, false, cond, ◌&&◌, List, [], length, Option, Some, None, refl, ap, sym, ◌∙◌, arith}
-use Rattle.std.specs.Prelude.{◌==◌, unwrap_or}
+use Rattle.std.proofs.Common.{◌≡◌, ◌≢◌, ℕ, suc, ◌+◌, ◌%◌, ◌<◌, ◌≤◌, pos, Bool, true, false, cond, List, [], length, refl, sym, arith}
+use Rattle.std.specs.Prelude.{◌==◌}
 use Rattle.std.specs.Prelude.{map, All}
-use Rattle.std.specs.List.{filter, list_all}
+use Rattle.std.specs.List.{filter}
 use Rattle.std.proofs.lemmas.List.Elements.{All-from_get_or}
 use Rattle.std.proofs.lemmas.List.FromFn.{get_or-map-range_with_len, length-map-range_with_len}
-use Rattle.std.proofs.lemmas.Bool.{and_parts, ltb-true, eqb-false, cases_Bool}
+use Rattle.std.proofs.lemmas.Bool.{and_parts, ltb-true, eqb-false}
 use Rattle.ttp_base.specs.NodeSet.{below, has_node}
 use Rattle.ttp_base.proofs.NodeSets.{same_sieve, has_node-sieve}
 use Rattle.ttp_world.specs.declared.medl.Medl.{Medl}
@@ -19,13 +19,13 @@ use Rattle.ttp_world.specs.declared.node.Verdict.TheVariants as verdict
 use Rattle.ttp_world.specs.declared.script.Script.{Script}
 use Rattle.ttp_world.specs.Act.{Act, Off, Gone, Listen, Start, Retry, Leave, Send, Judge}
 use Rattle.ttp_world.specs.Diary.{Place, next_place}
-use Rattle.ttp_world.specs.Fitting.{is_joinable_state, may_start}
+use Rattle.ttp_world.specs.Fitting.{is_joinable_state}
 use Rattle.ttp_world.specs.Reception.{verdict_of}
 use Rattle.ttp_world.specs.Script.{is_on}
 use Rattle.ttp_world.specs.World.{judged_as}
 use Rattle.ttp_top.specs.declared.run.standing.Standing.{Standing}
 use Rattle.ttp_top.specs.Passed.{Passed, Nothing, Collision, ColdStart, Listed, joined_if, listening_on, view_on}
-use Rattle.ttp_top.specs.Standing.{standing_first, IsWithin, IsAckWithin, IsEntryWithin, AreNodes, ack_in, place_in, place_after, good_after, ack_answered, ack_after, standing_after}
+use Rattle.ttp_top.specs.Standing.{standing_first, IsWithin, IsAckWithin, IsEntryWithin, AreNodes, ack_in, place_in, place_after, ack_answered, ack_after, standing_after}
 use Rattle.ttp_top.specs.Slot.{act_by, entry_at, expected_at, place_expected, is_nothing, standing_next, node_at, bus_at, next_at, nodes_after}
 use Rattle.ttp_top.proofs.NodeLists.{filter-none}
 
@@ -184,6 +184,6 @@ nodes_after-within list script slot nodes count within =
     let n = length list.slots in
     All-from_get_or (IsWithin list (slot + 1)) (map next (below n)) standing_first
     (λ k less.
-      let small : k < n = omega (arith, length-map-range_with_len next 0 n, less) in
-      rw (get_or-map-range_with_len next 0 n k k standing_first small (omega arith))
-      (standing_next-within list script slot passed slot (node_at nodes k) k small (within k standing_first (omega arith))))
+    let small : k < n = omega (arith, length-map-range_with_len next 0 n, less) in
+    rw (get_or-map-range_with_len next 0 n k k standing_first small (omega arith))
+    (standing_next-within list script slot passed slot (node_at nodes k) k small (within k standing_first (omega arith))))

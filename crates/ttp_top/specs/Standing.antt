@@ -2,7 +2,7 @@
 --
 -- Each definition over a diary that a slot needs is told from them, so that the cost of a slot doesn't grow with the
 -- number of slots before it.
-use Rattle.std.specs.Prelude.{◌≡◌, ℕ, ◌+◌, ◌*◌, ◌<◌, ◌≤◌, nat_le, Bool, true, false, ◌&&◌, ◌||◌, ◌==◌, List, [], ◌∷◌, length, filter, count_by, Option, Some, None, unwrap_or, if◌then◌else◌}
+use Rattle.std.specs.Prelude.{◌≡◌, ℕ, ◌+◌, ◌<◌, ◌≤◌, Bool, true, false, ◌&&◌, ◌||◌, ◌==◌, List, [], ◌∷◌, length, filter, count_by, Option, Some, None, unwrap_or, if◌then◌else◌}
 use Rattle.ttp_base.specs.NodeSet.{most_nodes, below, has_node, with_node, without_node}
 use Rattle.ttp_world.specs.declared.medl.Medl.{Medl}
 use Rattle.ttp_world.specs.declared.node.Ack.{Ack}

@@ -108,7 +108,13 @@ fn show_run<K: Sink>(alloc: Global, list: &Medl, bytes: &[u8], out: &mut K) -> u
 }
 
 // The trace of the script of this name, for a list.
-fn run_script<L: Library, K: Sink>(alloc: Global, list: &Medl, script: &str, library: &mut L, out: &mut K) -> u8
+fn run_script<L: Library, K: Sink>(
+    alloc: Global,
+    list: &Medl,
+    script: &str,
+    library: &mut L,
+    out: &mut K,
+) -> u8
     requires valid { IsValid list.now }
     requires bare { IsBareList list.now }
     ensures part { ScriptPart list.now script.now (L.held library.old) (L.faults library.old) (L.faults library.new)
@@ -125,7 +131,13 @@ fn run_script<L: Library, K: Sink>(alloc: Global, list: &Medl, script: &str, lib
 
 // The trace of the script of this name, for the list of this name. The script is loaded only for a
 // list that is not refused.
-fn run<L: Library, K: Sink>(alloc: Global, list: &str, script: &str, library: &mut L, out: &mut K) -> u8
+fn run<L: Library, K: Sink>(
+    alloc: Global,
+    list: &str,
+    script: &str,
+    library: &mut L,
+    out: &mut K,
+) -> u8
     ensures outcome { Outcome (Some (run list.now script.now)) (L.held library.old) (L.faults library.old) (L.faults library.new)
         result (K.written out.old) (K.written out.new) (K.faults out.old) (K.faults out.new) }
     ensures counts { NoneFell (L.faults library.old) (L.faults library.new) × (K.faults out.old ≤ K.faults out.new) }
@@ -143,7 +155,12 @@ fn run<L: Library, K: Sink>(alloc: Global, list: &str, script: &str, library: &m
 }
 
 // What the words ask for.
-fn obey<L: Library, K: Sink>(alloc: Global, command: Command<'_>, library: &mut L, out: &mut K) -> u8
+fn obey<L: Library, K: Sink>(
+    alloc: Global,
+    command: Command<'_>,
+    library: &mut L,
+    out: &mut K,
+) -> u8
     ensures outcome { Outcome (form_asked command.entry) (L.held library.old) (L.faults library.old) (L.faults library.new)
         result (K.written out.old) (K.written out.new) (K.faults out.old) (K.faults out.new) }
     ensures counts { NoneFell (L.faults library.old) (L.faults library.new) × (K.faults out.old ≤ K.faults out.new) }

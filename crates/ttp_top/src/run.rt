@@ -12,9 +12,6 @@ mod hearing;
 mod slots;
 mod standing;
 
-#[cfg(test)]
-mod tests;
-
 use crate::shown::Shown;
 use slots::take_slot;
 use standing::first_nodes;
@@ -23,11 +20,7 @@ use ttp_base::{List, Memory};
 use ttp_world::{Medl, Script};
 
 /// What is shown of each node after each slot of a run, the first slot's first.
-pub(crate) fn run_plain(
-    alloc: Global,
-    list: &Medl,
-    script: &Script,
-) -> Result<List<Shown>, Memory>
+pub(crate) fn run_plain(alloc: Global, list: &Medl, script: &Script) -> Result<List<Shown>, Memory>
     requires list { IsValid list.now }
     requires bare { IsBareList list.now }
     requires script { IsValidScript list.now script.now }

@@ -100,7 +100,9 @@ fn ack_after(ack: Ack, entry: &Entry) -> Ack
         Entry::Started | Entry::Sent { .. } => Ack::First,
         Entry::Joined { .. } => Ack::Closed,
         Entry::Judged {
-            sender, verdict, ..
+            sender,
+            verdict,
+            ..
         } => ack_answered(ack, *verdict, *sender),
         _ => ack,
     }
@@ -144,7 +146,9 @@ fn good_after(list: &Medl, k: u8, members: NodeSet, ack: Ack, entry: &Entry) -> 
         Entry::Joined { cstate, .. } => nodes_among(cstate.members, list.nodes()),
         Entry::Sent { .. } => members.with(k),
         Entry::Judged {
-            sender, verdict, ..
+            sender,
+            verdict,
+            ..
         } => good_judged(members, ack, *verdict, *sender),
         _ => members,
     }

@@ -118,7 +118,12 @@ fn fits_second(c: &CState, place: &CState, second: Option<NodeSet>) -> bool
     }
 }
 
-fn view_of_cstate(c: &CState, place: &CState, first: NodeSet, second: Option<NodeSet>) -> ChannelView
+fn view_of_cstate(
+    c: &CState,
+    place: &CState,
+    first: NodeSet,
+    second: Option<NodeSet>,
+) -> ChannelView
     ensures { result ≡ view_of_cstate (record { place = place_in place.now; candidates = record { first = first; second = second } }) c.now }
 {
     if fits(c, place, first) {

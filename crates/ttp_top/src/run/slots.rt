@@ -26,7 +26,14 @@ fn frame_in(list: &Medl, script: &Script, slot: u32, k: u8, node: &Standing) -> 
 }
 
 // Where node k stands after a slot in which this passes.
-fn node_after(list: &Medl, script: &Script, slot: u32, k: u8, node: &Standing, bus: &Bus) -> Standing
+fn node_after(
+    list: &Medl,
+    script: &Script,
+    slot: u32,
+    k: u8,
+    node: &Standing,
+    bus: &Bus,
+) -> Standing
     requires valid { IsValid list.now }
     requires nodes { length script.now.on ≡ length list.now.slots }
     requires node { k < length list.now.slots }

@@ -108,11 +108,7 @@ impl Standing {
     pub(crate) fn rejected(&self) -> u32
         ensures { result ≡ rejected_in self.now }
     {
-        if self.is_active() {
-            self.rejected
-        } else {
-            0
-        }
+        if self.is_active() { self.rejected } else { 0 }
     }
 
     /// What is shown of the node.

@@ -46,7 +46,8 @@ fn a_fault_free_start(rt: HostRuntime) -> Result<(), Fail> {
 #[test]
 fn a_node_that_comes_late(rt: HostRuntime) -> Result<(), Fail> {
     let trace = joined(&rt, &LATE_NODE)?;
-    let script = "# Node 4 comes in slot 30.\n\nslots 40\r\non 4 30\n\ton 0  0 \non 1 0\non 2 0\non 3 000";
+    let script =
+        "# Node 4 comes in slot 30.\n\nslots 40\r\non 4 30\n\ton 0  0 \non 1 0\non 2 0\non 3 000";
     let (status, text) = ran(&rt, script.as_bytes(), 0, 0)?;
     assert_eq!(rt; status, 0);
     assert_eq!(rt; text.as_slice(), trace.as_bytes());
@@ -59,9 +60,7 @@ fn a_sink_that_fails_at_each_line_of_a_trace(rt: HostRuntime) -> Result<(), Fail
         let (status, text) = ran(&rt, ON.as_bytes(), 0, bad_write)?;
         let whole = joined(
             &rt,
-            FAULT_FREE
-                .get(..bad_write as usize - 1)
-                .ok_or("few lines")?,
+            FAULT_FREE.get(..bad_write as usize - 1).ok_or("few lines")?,
         )?;
         assert_eq!(rt; status, 6);
         assert_eq!(rt; text.as_slice(), whole.as_bytes());

@@ -1,10 +1,9 @@
-use Rattle.std.proofs.Common.{◌≡◌, ◌+◌, ◌++◌, length, take, drop, ap, sym, subst, ◌∙◌, arith}
-use Rattle.std.specs.Prelude.{map, All}
+use Rattle.std.proofs.Common.{◌+◌, ◌++◌, length, ap, ◌∙◌, arith}
+use Rattle.std.specs.Prelude.{map}
 use Rattle.std.proofs.lemmas.List.Elements.{All-same, All-replicate}
 use Rattle.ttp_top.specs.Passed.{plain_run}
 use Rattle.ttp_top.specs.Standing.{IsWithin, standing_first, shown_by}
-use Rattle.ttp_top.specs.Shown.{shown_in}
-use Rattle.ttp_top.specs.Slot.{nodes_after, standings}
+use Rattle.ttp_top.specs.Slot.{nodes_after}
 use Rattle.ttp_top.proofs.OneSlot.{length-standings, standings-first, standings-next, shown_in-next, written_back}
 use Rattle.ttp_top.proofs.Within.{standing_first-within, nodes_after-within}
 use Rattle.ttp_top.proofs.run.run_plain.Goals as goal
@@ -34,6 +33,6 @@ loop-slot-preserved c =
       nodes = back ∙ stand;
       within = All-same (IsWithin list (slot + 1)) _ _ (back ∙ after) (nodes_after-within list script slot before count invariant.within);
       shown = c.in_ok-take_slot.ensures.shown
-        ∙ (λ i. invariant.shown i ++ map shown_by (stand i))
-        ∙ shown_in-next list script slot;
+          ∙ (λ i. invariant.shown i ++ map shown_by (stand i))
+          ∙ shown_in-next list script slot;
     }

@@ -1,4 +1,4 @@
-use Rattle.std.proofs.Common.{◌≡◌, length}
+use Rattle.std.proofs.Common.{◌≡◌}
 use Rattle.std.specs.Prelude.{All}
 use Rattle.ttp_top.specs.Passed.{plain_run}
 use Rattle.ttp_top.specs.Shown.{shown_in}

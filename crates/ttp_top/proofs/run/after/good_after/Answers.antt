@@ -1,6 +1,5 @@
-use Rattle.std.proofs.Common.{ap, sym, ◌∙◌, arith}
+use Rattle.std.proofs.Common.{ap, ◌∙◌, arith}
 use Rattle.ttp_base.specs.NodeSet.{with_node}
-use Rattle.ttp_top.specs.Standing.{good_after}
 use Rattle.ttp_top.proofs.GoodNodes.{good_after-Started, good_after-Sent, good_after-Judged}
 use Rattle.ttp_top.proofs.run.after.good_after.Goals as goal
 

@@ -1,5 +1,5 @@
-use Rattle.std.proofs.Common.{◌≡◌, ℕ, ◌<◌, true, ap, sym, ◌∙◌, arith}
-use Rattle.ttp_base.specs.NodeSet.{has_node, most_nodes, with_node}
+use Rattle.std.proofs.Common.{ap, sym, ◌∙◌, arith}
+use Rattle.ttp_base.specs.NodeSet.{has_node, with_node}
 use Rattle.ttp_top.proofs.NodeLists.{with_node-next, filter-next}
 use Rattle.ttp_top.proofs.run.after.nodes_among.Goals as goal
 use Rattle.ttp_top.proofs.run.after.nodes_among.Goals.{then-has, else-has}

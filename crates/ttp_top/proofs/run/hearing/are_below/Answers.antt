@@ -1,7 +1,6 @@
-use Rattle.std.proofs.Common.{ℕ, nat_lt, length, sym, ap, ◌∙◌, ◌<◌, subst, arith}
+use Rattle.std.proofs.Common.{ℕ, nat_lt, sym, ap, ◌∙◌}
 use Rattle.std.specs.List.{list_all}
 use Rattle.std.proofs.lemmas.Bool.{lt-ltb}
-use Rattle.ttp_base.specs.NodeSet.{without_node}
 use Rattle.ttp_top.proofs.Members.{list_all-without, length-without_first}
 use Rattle.ttp_top.proofs.run.hearing.are_below.Goals as goal
 

@@ -1,4 +1,3 @@
-use Rattle.ttp_world.specs.Script.{is_on}
 use Rattle.ttp_top.specs.Slot.{act_meant, passed_meant}
 use Rattle.ttp_top.proofs.Within.{entry_at-within}
 use Rattle.ttp_top.proofs.run.slots.node_after.Goals as goal

@@ -1,7 +1,7 @@
-use Rattle.std.proofs.Common.{◌≡◌, get_or, length, ap, sym, ◌∙◌, arith}
+use Rattle.std.proofs.Common.{get_or, ap, ◌∙◌, arith}
 use Rattle.std.proofs.lemmas.List.{get_or_default}
 use Rattle.ttp_top.specs.Standing.{IsWithin, standing_first}
-use Rattle.ttp_top.specs.Slot.{passed_meant, bus_at, next_at, standing_next}
+use Rattle.ttp_top.specs.Slot.{passed_meant, bus_at, standing_next}
 use Rattle.ttp_top.proofs.Taken.{Taken-at, Taken-next}
 use Rattle.ttp_top.proofs.Within.{IsWithin-longer, standing_next-within}
 use Rattle.ttp_top.proofs.run.slots.take_slot.Goals as goal
@@ -34,6 +34,6 @@ loop-k-preserved c =
     let d = c.index-nodes-k.result in
     let node = get_or_default c.loop-k.nodes k d standing_first (omega arith) ∙ Taken-at _ _ _ _ _ k standing_first c.loop-k.invariant in
     let is = c.node_after-node.ensures
-        ∙ ap (λ passed. standing_next list script slot passed (get_or c.loop-k.nodes k d) k) c.bus_in-bus.ensures
-        ∙ ap (λ s. standing_next list script slot (bus_at list script slot c.args.nodes.now) s k) node in
+    ∙ ap (λ passed. standing_next list script slot passed (get_or c.loop-k.nodes k d) k) c.bus_in-bus.ensures
+    ∙ ap (λ s. standing_next list script slot (bus_at list script slot c.args.nodes.now) s k) node in
     rw (c.in_ok-push.ensures.ok, c.shown.ensures) (Taken-next _ _ _ c.loop-k.nodes c.loop-k.shown k c.node_after-node.result c.loop-k.invariant (omega arith) is)
