@@ -38,12 +38,13 @@ fn joined<R: AllocGlobal>(rt: &R, parts: &[&str]) -> Result<String, Fail> {
     Ok(text)
 }
 
-// What a command answers and writes, where these files are held, this call of the library fails and
-// this call of the sink; 0 is none.
+// What a command answers and writes, where a list is held under `cluster.toml`, and a script under
+// `five.script` if there is one, this call of the library fails and this call of the sink; 0 is none.
 fn answer_files<R: Threads + Wait + Sync + AllocGlobal>(
     rt: &R,
     words: &[&str],
-    files: &[(&str, &[u8])],
+    list: &[u8],
+    script: Option<&[u8]>,
     bad_load: u32,
     bad_write: u32,
 ) -> Result<(u8, Vec<u8>), Fail> {
@@ -52,8 +53,9 @@ fn answer_files<R: Threads + Wait + Sync + AllocGlobal>(
     let mut fail_write = List::new(rt.alloc());
     fail_write.push(bad_write)?;
     let mut library = MemoryLibrary::new(rt.alloc(), fail_load);
-    for (name, bytes) in files {
-        library.add(name, bytes)?;
+    library.add("cluster.toml", list)?;
+    if let Some(bytes) = script {
+        library.add("five.script", bytes)?;
     }
     let mut out = MemorySink::new(rt.alloc(), 65_536, fail_write)?;
     let mut texts = Vec::new(rt.alloc());
@@ -65,7 +67,7 @@ fn answer_files<R: Threads + Wait + Sync + AllocGlobal>(
     Ok((status, Vec::from_slice(rt.alloc(), out.bytes())?))
 }
 
-// The same where these bytes are held under `cluster.toml`.
+// The same where there is no script.
 fn answer<R: Threads + Wait + Sync + AllocGlobal>(
     rt: &R,
     words: &[&str],
@@ -73,7 +75,7 @@ fn answer<R: Threads + Wait + Sync + AllocGlobal>(
     bad_load: u32,
     bad_write: u32,
 ) -> Result<(u8, Vec<u8>), Fail> {
-    answer_files(rt, words, &[("cluster.toml", bytes)], bad_load, bad_write)
+    answer_files(rt, words, bytes, None, bad_load, bad_write)
 }
 
 // What `schedule` answers and writes for these bytes.

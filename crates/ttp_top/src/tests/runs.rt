@@ -2,7 +2,7 @@
 
 mod traces;
 
-use super::{FIRST, HEAD, SLOT, USAGE, answer_files, joined};
+use super::{FIRST, HEAD, SLOT, answer, answer_files, joined};
 use std::process::Abort;
 use std::sync::Wait;
 use std::test::Fail;
@@ -24,11 +24,11 @@ fn ran<R: Threads + Wait + Sync + AllocGlobal>(
     bad_write: u32,
 ) -> Result<(u8, Vec<u8>), Fail> {
     let list = five_nodes(rt)?;
-    let files = [("cluster.toml", list.as_bytes()), ("five.script", script)];
     answer_files(
         rt,
         &["run", "cluster.toml", "five.script"],
-        &files,
+        list.as_bytes(),
+        Some(script),
         bad_load,
         bad_write,
     )
@@ -81,23 +81,13 @@ fn files_that_cannot_be_loaded(rt: HostRuntime) -> Result<(), Fail> {
     assert_eq!(rt; text.len(), 0);
     // No file of the script's name.
     let list = five_nodes(&rt)?;
-    let (status, text) = answer_files(
-        &rt,
-        &["run", "cluster.toml", "other.script"],
-        &[("cluster.toml", list.as_bytes())],
-        0,
-        0,
-    )?;
+    let words = ["run", "cluster.toml", "other.script"];
+    let (status, text) = answer(&rt, &words, list.as_bytes(), 0, 0)?;
     assert_eq!(rt; status, 5);
     assert_eq!(rt; text.as_slice(), b"load: script\n".as_slice());
     // One file under both names is no script.
-    let (status, text) = answer_files(
-        &rt,
-        &["run", "cluster.toml", "cluster.toml"],
-        &[("cluster.toml", list.as_bytes())],
-        0,
-        0,
-    )?;
+    let words = ["run", "cluster.toml", "cluster.toml"];
+    let (status, text) = answer(&rt, &words, list.as_bytes(), 0, 0)?;
     assert_eq!(rt; status, 4);
     assert_eq!(rt; text.as_slice(), b"script: line 1 word\n".as_slice());
     Ok(())
@@ -110,13 +100,8 @@ fn runs_none<R: Threads + Wait + Sync + AllocGlobal + Abort>(
 ) -> Result<(), Fail> {
     for (parts, line) in wrong {
         let list = joined(rt, parts)?;
-        let (status, text) = answer_files(
-            rt,
-            &["run", "cluster.toml", "no.script"],
-            &[("cluster.toml", list.as_bytes())],
-            0,
-            0,
-        )?;
+        let words = ["run", "cluster.toml", "no.script"];
+        let (status, text) = answer(rt, &words, list.as_bytes(), 0, 0)?;
         assert_eq!(rt; status, 3, "{list}");
         assert_eq!(rt; text.as_slice(), line.as_bytes(), "{list}");
     }
