@@ -7,17 +7,17 @@ shortest run to the longest. It needs the program that `./ttpbench` builds, and 
 alone; nothing passes or fails here.
 """
 
-import fcntl
 import os
 import subprocess
 import sys
 import tempfile
 import time
 
+from peak import memory_of
+
 NODES = (4, 8, 16)
 SLOTS = (1_000, 5_000, 20_000)
 RUNS = {1_000: 25, 5_000: 15, 20_000: 9}
-F_SETPIPE_SZ = 1031
 TOP = os.path.dirname(os.path.dirname(os.path.abspath(__file__)))
 PROGRAM = os.path.join(TOP, "crates", "ttpbench", "out", "ttpbench")
 
@@ -42,31 +42,6 @@ def seconds_of(command):
     if done.returncode != 0:
         sys.exit(f"status {done.returncode} from {command}")
     return taken
-
-
-def memory_of(command):
-    """The most memory that the command held at once, in KiB.
-
-    Its output goes into a small pipe that is almost full, so that it waits in its first write, with
-    all slots computed, while the system is asked for its peak.
-    """
-    reading, writing = os.pipe()
-    fcntl.fcntl(writing, F_SETPIPE_SZ, 4096)
-    os.write(writing, b"x" * 4090)
-    running = subprocess.Popen(command, stdout=writing)
-    os.close(writing)
-    peak = 0
-    for _ in range(100):
-        time.sleep(0.01)
-        with open(f"/proc/{running.pid}/status", encoding="ascii") as status:
-            for line in status:
-                if line.startswith("VmHWM:"):
-                    peak = max(peak, int(line.split()[1]))
-    while os.read(reading, 65536):
-        pass
-    os.close(reading)
-    running.wait()
-    return peak
 
 
 def main():

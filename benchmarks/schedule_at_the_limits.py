@@ -7,7 +7,6 @@ Each figure is of many runs: the least and the median. It needs the program that
 builds, and prints figures alone; nothing passes or fails here.
 """
 
-import fcntl
 import os
 import statistics
 import subprocess
@@ -15,8 +14,9 @@ import sys
 import tempfile
 import time
 
+from peak import memory_of
+
 RUNS = 25
-F_SETPIPE_SZ = 1031
 LIMIT = 1_048_576
 TOP = os.path.dirname(os.path.dirname(os.path.abspath(__file__)))
 PROGRAM = os.path.join(TOP, "crates", "ttpbench", "out", "ttpbench")
@@ -48,31 +48,6 @@ def times_of(command, runs=RUNS):
         if done.returncode != 0:
             sys.exit(f"status {done.returncode} from {command}")
     return min(taken) * 1000, statistics.median(taken) * 1000
-
-
-def memory_of(command):
-    """The most memory that the command held at once, in KiB.
-
-    Its output goes into a small pipe that is almost full, so that it waits in its last write, with
-    the list read and judged, while the system is asked for its peak.
-    """
-    reading, writing = os.pipe()
-    fcntl.fcntl(writing, F_SETPIPE_SZ, 4096)
-    os.write(writing, b"x" * 4090)
-    running = subprocess.Popen(command, stdout=writing)
-    os.close(writing)
-    peak = 0
-    for _ in range(100):
-        time.sleep(0.01)
-        with open(f"/proc/{running.pid}/status", encoding="ascii") as status:
-            for line in status:
-                if line.startswith("VmHWM:"):
-                    peak = int(line.split()[1])
-    while os.read(reading, 65536):
-        pass
-    os.close(reading)
-    running.wait()
-    return peak
 
 
 def tomllib_times(text, runs=RUNS):

@@ -2,10 +2,10 @@
 """Times `read_script` on scripts at half and at the whole of the size limit of 1,048,576 bytes.
 
 The list has 16 nodes. The scripts switch each of them on, and reach their size by comments, by
-blank lines, by lines of blanks alone, or by blanks within the 16 `on` lines. `./ttpbench` reads no
-scripts yet. So the reader's crates are copied into a temporary folder, beside a program that reads
-one script again and again and prints how long each time took, which the toolchain's `rt run`
-proves and builds there; that takes some minutes.
+blank lines, by lines of blanks alone, or by blanks within the 16 `on` lines. So that the reader
+alone is timed, its crates are copied into a temporary folder, beside a program that reads one script
+again and again and prints how long each time took, which the toolchain's `rt run` proves and builds
+there; that takes some minutes.
 
 It prints the least and the median of many readings, and how much longer the whole size takes than
 the half. It ends with status 1 where that is 2.5 times or more, which would not be linear.

@@ -1,9 +1,9 @@
 //! Messages: what a host writes, what a frame carries, and what another host may read.
 ghost use Rattle.std.specs.Prelude.{◌≡◌, [], ◌∷◌, ◌++◌, true, false, codes};
-ghost use Rattle.ttp_world.specs.Legal.{is_legal};
-ghost use Rattle.ttp_world.specs.Trace.{write_lines, read_lines};
+ghost use Rattle.ttp_world.specs.Legal.{is_legal, IsLegal};
+ghost use Rattle.ttp_world.specs.Trace.{write_lines, read_lines, numbers_in};
 ghost use Rattle.ttp_world.specs.World.{world};
-ghost use Rattle.world_rows.specs.Cases.{bare_list, loaded_list, loaded_numbers, reading_numbers, lines_in};
+ghost use Rattle.world_rows.specs.Cases.{bare_list, script_of, loaded_list, loaded_numbers, reading_numbers, sending_slot, no_numbers, lines_in};
 ghost use Rattle.world_rows.specs.Scripts.{written_and_read, reading_status};
 
 /// Node 2's host writes its message 1 in the slot in which node 2 sends, so the frame carries message
@@ -24,6 +24,7 @@ pub fn message_written_while_it_is_sent()
 
 /// Of the frame's numbers 0 and 1 are legal, and of the read's 1 and 2.
 pub fn legal_numbers()
+    ensures any { IsLegal loaded_list written_and_read (loaded_numbers 1 2) }
     ensures old_old { is_legal loaded_list written_and_read (loaded_numbers 0 1) ≡ true }
     ensures old_new { is_legal loaded_list written_and_read (loaded_numbers 0 2) ≡ true }
     ensures new_old { is_legal loaded_list written_and_read (loaded_numbers 1 1) ≡ true }
@@ -44,4 +45,16 @@ pub fn status_messages()
     ensures legal_itself { is_legal (bare_list 5) reading_status (reading_numbers 12) ≡ true }
     ensures too_old { is_legal (bare_list 5) reading_status (reading_numbers 10) ≡ false }
     ensures too_new { is_legal (bare_list 5) reading_status (reading_numbers 13) ≡ false }
+{}
+
+/// The numbers that a text names are those of its `send` lines that have one and of its `read` lines,
+/// slot by slot; those of `write` and `correct` lines are counts.
+pub fn numbers_that_a_text_names()
+    ensures slots { numbers_in loaded_list (script_of 5 2 [])
+        (codes "slot 0 node 1 send peer 1 msg - mem 001f acc 1 rej 0 ack first clock 0\n"
+        ++ codes "slot 1 node 0 correct peer 2 msg 7 mem 001f acc 3 rej 0 ack none clock 0\n"
+        ++ codes "slot 1 node 2 send peer 2 msg 4 mem 001f acc 1 rej 0 ack first clock 0\n"
+        ++ codes "slot 1 host 2 write 5\n"
+        ++ codes "slot 1 host 0 read 2 3 0000000000000000\n")
+        ≡ sending_slot 4 (3 ∷ []) ∷ no_numbers 5 ∷ [] }
 {}

@@ -5,6 +5,7 @@ ghost use Rattle.ttp_world.specs.declared.node.Entry.TheVariants as entry;
 ghost use Rattle.ttp_world.specs.declared.script.Channel.TheVariants as channel;
 ghost use Rattle.ttp_world.specs.Hypothesis.{keeps};
 ghost use Rattle.ttp_world.specs.Medium.{Noise, heard, senders_in};
+ghost use Rattle.ttp_world.specs.Safety.{IsSafe};
 ghost use Rattle.ttp_world.specs.Trace.{trace_text};
 ghost use Rattle.world_rows.specs.Cases.{bare_list, bare_list_of, script_of, bare_numbers, bare_run, newest_row, entry_at, bare_lines, lines_of_text, hold_from, is_safe_from};
 ghost use Rattle.world_rows.specs.Frames.{cstate};
@@ -21,6 +22,7 @@ pub fn fault_free_start()
         ++ codes "keeps yes start 10\n" }
     ensures joins { entry_at (bare_run (bare_list 5) (script_of 5 15 []) 15) 10 4 ≡ entry.Joined 0 (cstate 0 0 0 (0 ∷ [])) (pos 0) }
     ensures last_sends { entry_at (bare_run (bare_list 5) (script_of 5 15 []) 15) 14 4 ≡ entry.Sent None }
+    ensures safe_at_the_end { IsSafe (bare_list 5) (script_of 5 15 []) (bare_run (bare_list 5) (script_of 5 15 []) 15) }
     ensures safe { is_safe_from 10 (bare_list 5) (script_of 5 15 []) (bare_run (bare_list 5) (script_of 5 15 []) 15) ≡ true }
 {}
 
