@@ -1,6 +1,5 @@
 -- What an active node knows of its newest own frame, read from its diary.
 use Rattle.std.specs.Prelude.{ℕ, Bool, true, false, ◌==◌, List, [], ◌∷◌, Option, Some, None, if◌then◌else◌}
-use Rattle.std.specs.Option.{option_or}
 use Rattle.std.specs.List.{list_any}
 use Rattle.ttp_world.specs.declared.node.Ack.{Ack}
 use Rattle.ttp_world.specs.declared.node.Ack.TheVariants as ack
@@ -22,32 +21,25 @@ is_judged_correct _ = false
 
 -- The newest entry in which a node sent or joined, and those after it.
 
-abbrev pub is_own : Entry → Bool
-is_own entry.Started = true
-is_own (entry.Sent message) = true
-is_own (entry.Joined sender cstate deviation) = true
-is_own _ = false
+abbrev pub is_sent_or_joined : Entry → Bool
+is_sent_or_joined entry.Started = true
+is_sent_or_joined (entry.Sent message) = true
+is_sent_or_joined (entry.Joined sender cstate deviation) = true
+is_sent_or_joined _ = false
 
-abbrev pub newest_own : Diary → Option Entry
-newest_own [] = None
-newest_own (e ∷ diary) = if is_own e then Some e else newest_own diary
+abbrev pub newest_sent_or_joined : Diary → Option Entry
+newest_sent_or_joined [] = None
+newest_sent_or_joined (e ∷ diary) = elim (is_sent_or_joined e) [ true ↦ Some e | false ↦ newest_sent_or_joined diary ]
 
-abbrev pub since_own : Diary → Diary
-since_own [] = []
-since_own (e ∷ diary) = if is_own e then [] else e ∷ since_own diary
+abbrev pub since_sent_or_joined : Diary → List Entry
+since_sent_or_joined [] = []
+since_sent_or_joined (e ∷ diary) = elim (is_sent_or_joined e) [ true ↦ [] | false ↦ e ∷ since_sent_or_joined diary ]
 
--- the sender that an entry judged tentatively, and the newest of them
-abbrev pub tentative_sender : Verdict → ℕ → Option ℕ
-tentative_sender verdict.Tentative sender = Some sender
-tentative_sender _ sender = None
-
-abbrev pub doubted_in : Entry → Option ℕ
-doubted_in (entry.Judged sender v deviation) = tentative_sender v sender
-doubted_in _ = None
-
+-- the sender that was judged tentatively last
 abbrev pub newest_doubted : List Entry → Option ℕ
 newest_doubted [] = None
-newest_doubted (e ∷ entries) = option_or (doubted_in e) (newest_doubted entries)
+newest_doubted (entry.Judged sender verdict.Tentative deviation ∷ entries) = Some sender
+newest_doubted (e ∷ entries) = newest_doubted entries
 
 -- First where no successor has answered, Doubt where one has sent a tentative frame, Closed where a correct frame came
 abbrev pub first_or_doubt : Option ℕ → Ack
@@ -60,7 +52,7 @@ ack_since _ entries = if list_any is_judged_correct entries then ack.Closed else
 
 -- the acknowledgement after a diary
 abbrev pub ack_of : Diary → Ack
-ack_of diary = if is_active diary then ack_since (newest_own diary) (since_own diary) else ack.Closed
+ack_of diary = elim (is_active diary) [ true ↦ ack_since (newest_sent_or_joined diary) (since_sent_or_joined diary) | false ↦ ack.Closed ]
 
 abbrev pub is_open : Ack → Bool
 is_open ack.Closed = false

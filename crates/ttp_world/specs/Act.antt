@@ -1,20 +1,14 @@
--- What a node does in a slot, by its diary and the record beside it.
-use Rattle.std.specs.Prelude.{ℕ, zero, suc, ◌+◌, ◌*◌, nat_le, Bool, true, false, ◌&&◌, ◌==◌, [], ◌∷◌, length, Option, Some, if◌then◌else◌}
-use Rattle.std.specs.List.{list_any}
+-- What a node does in a slot, by its past.
+use Rattle.std.specs.Prelude.{ℕ, suc, nat_le, Bool, true, false, ◌&&◌, ◌==◌, if◌then◌else◌}
 use Rattle.ttp_world.specs.declared.medl.Medl.{Medl}
-use Rattle.ttp_world.specs.declared.node.Entry.{Entry}
-use Rattle.ttp_world.specs.declared.node.Entry.TheVariants as entry
 use Rattle.ttp_world.specs.declared.node.Phase.{Phase}
 use Rattle.ttp_world.specs.declared.node.Phase.TheVariants as phase
 use Rattle.ttp_world.specs.declared.node.Reason.{Reason}
 use Rattle.ttp_world.specs.declared.node.Reason.TheVariants as reason
-use Rattle.ttp_world.specs.declared.script.Script.{Script}
-use Rattle.ttp_world.specs.Acknowledgement.{newest_own, ack_of, is_open}
-use Rattle.ttp_world.specs.Counts.{accepted_of, rejected_of}
-use Rattle.ttp_world.specs.Diary.{Diary, Record, History, diary_of, phase_of, place_of, next_place}
-use Rattle.ttp_world.specs.Fitting.{may_start}
-use Rattle.ttp_world.specs.Medium.{record_of}
-use Rattle.ttp_world.specs.Script.{is_on}
+use Rattle.ttp_world.specs.Acknowledgement.{is_open}
+use Rattle.ttp_world.specs.Diary.{Place, next_place}
+use Rattle.ttp_world.specs.Medl.{may_start}
+use Rattle.ttp_world.specs.Past.{NodePast}
 
 pub data Act : Type 0 where
   Off : Act
@@ -26,64 +20,40 @@ pub data Act : Type 0 where
   Send : Act
   Judge : Act
 
--- Listening.
+-- the place of the coming slot, by an active node's own C-state
+abbrev pub coming_place : Medl → NodePast → Place
+coming_place list past = next_place list past.place
 
--- the last slots, so many, were all slots in which the node listened and both channels were silent to it
-abbrev pub is_waited : Entry → Bool
-is_waited entry.Waited = true
-is_waited _ = false
+-- Listening: a node that may start does so once as many slots were silent as it waits for.
 
-abbrev pub is_quiet_for : ℕ → Diary → Record → Bool
-is_quiet_for zero diary beside = true
-is_quiet_for (suc count) [] beside = false
-is_quiet_for (suc count) (e ∷ diary) [] = false
-is_quiet_for (suc count) (e ∷ diary) (o ∷ beside) = is_waited e && (o.is_silent && is_quiet_for count diary beside)
+abbrev pub is_start_due : Medl → ℕ → NodePast → Bool
+is_start_due list k past = may_start list k && nat_le past.limit past.silent_slots
 
--- how many silent slots a listening node waits for: n + k once it has retried, and 2n + k before
-abbrev pub is_retried : Entry → Bool
-is_retried entry.Retried = true
-is_retried _ = false
-
-abbrev pub has_retried : Diary → Bool
-has_retried diary = list_any is_retried diary
-
-abbrev pub start_limit : Medl → ℕ → Diary → ℕ
-start_limit list k diary = if has_retried diary then length list.slots + k else 2 * length list.slots + k
-
-abbrev pub is_start_due : Medl → ℕ → Diary → Record → Bool
-is_start_due list k diary beside = may_start list k && is_quiet_for (start_limit list k diary) diary beside
-
-abbrev pub listening_act : Medl → ℕ → Diary → Record → Act
-listening_act list k diary beside = if is_start_due list k diary beside then Start else Listen
+abbrev pub listening_act : Medl → ℕ → NodePast → Act
+listening_act list k past = if is_start_due list k past then Start else Listen
 
 -- Its own slot: an open acknowledgement of its cold start makes a node retry and one of another frame makes it leave,
 -- and it leaves where it accepted no more than it rejected.
 
-abbrev pub is_cold_start_newest : Option Entry → Bool
-is_cold_start_newest (Some entry.Started) = true
-is_cold_start_newest _ = false
+abbrev pub unacknowledged_act : NodePast → Act
+unacknowledged_act past = if past.cold_start then Retry else Leave reason.Unacknowledged
 
-abbrev pub unacknowledged_act : Diary → Act
-unacknowledged_act diary = if is_cold_start_newest (newest_own diary) then Retry else Leave reason.Unacknowledged
+abbrev pub own_act : NodePast → Act
+own_act past =
+    if is_open past.ack then unacknowledged_act past
+    else (if nat_le past.accepted past.rejected then Leave reason.Clique else Send)
 
-abbrev pub own_act : Diary → Act
-own_act diary =
-    if is_open (ack_of diary) then unacknowledged_act diary
-    else (if nat_le (accepted_of diary) (rejected_of diary) then Leave reason.Clique else Send)
+abbrev pub active_act : Medl → ℕ → NodePast → Act
+active_act list k past = if (coming_place list past).slot == k then own_act past else Judge
 
-abbrev pub active_act : Medl → ℕ → Diary → Act
-active_act list k diary = if (next_place list (place_of list k diary)).slot == k then own_act diary else Judge
+-- What node k does in the coming slot, where it is switched on by then or not, and armed in it or not. A node that has
+-- left listens again from a slot on in which it is armed.
 
-abbrev pub act_in : Phase → Medl → ℕ → Bool → Diary → Record → Act
-act_in phase.Off list k on diary beside = if on then Listen else Off
-act_in phase.Left list k on diary beside = Gone
-act_in phase.Listening list k on diary beside = listening_act list k diary beside
-act_in phase.Active list k on diary beside = active_act list k diary
+abbrev pub phase_act : Phase → Medl → ℕ → Bool → Bool → NodePast → Act
+phase_act phase.Off list k on armed past = if on then Listen else Off
+phase_act phase.Left list k on armed past = if armed then Listen else Gone
+phase_act phase.Listening list k on armed past = listening_act list k past
+phase_act phase.Active list k on armed past = active_act list k past
 
--- what node k does in the slot after its diary, where it is switched on by then or not
-abbrev pub act_of : Medl → ℕ → Bool → Diary → Record → Act
-act_of list k on diary beside = act_in (phase_of diary) list k on diary beside
-
--- and in the slot after a history
-abbrev pub act : Medl → Script → History → ℕ → Act
-act list script history k = act_of list k (is_on script k (length history)) (diary_of history k) (record_of script history k)
+abbrev pub act : Medl → ℕ → Bool → Bool → NodePast → Act
+act list k on armed past = phase_act past.phase list k on armed past

@@ -5,8 +5,8 @@ use Rattle.std.specs.Str.{bytes_eq}
 use Rattle.ttp_base.specs.NodeSet.{has_node, members_in}
 use Rattle.ttp_world.specs.declared.medl.Medl.{Medl}
 use Rattle.ttp_world.specs.declared.node.CState.{CState}
-use Rattle.ttp_world.specs.Medl.{kind_at, plan_at}
-use Rattle.ttp_world.specs.Frame.{member_width, cstate_length, cold_start_header, header_of, is_explicit, payload_length, word_bytes, frame}
+use Rattle.ttp_world.specs.Medl.{member_width, kind_at, payload_length, may_start}
+use Rattle.ttp_world.specs.Frame.{cstate_length, cold_start_header, header_of, is_explicit, word_bytes, frame}
 
 -- What stands where in the bytes of a frame.
 
@@ -54,9 +54,6 @@ is_formed width bytes header size start =
 
 -- Frames on which a node joins: cold-start frames of slots that may start, and explicit frames of the list.
 
-abbrev pub may_start : Medl → ℕ → Bool
-may_start list slot = (plan_at list slot).start
-
 -- round, slot and members exist in the list, and the owner of the slot is a member
 abbrev pub is_joinable_state : Medl → CState → Bool
 is_joinable_state list c =
@@ -67,17 +64,17 @@ is_joinable_state list c =
 
 abbrev pub is_cold_start : Medl → List ℕ → CState → Bool
 is_cold_start list bytes c =
-    is_formed member_width bytes cold_start_header 0 list.schedule && may_start list c.slot
+    is_formed (member_width list) bytes cold_start_header 0 list.schedule && may_start list c.slot
 
 abbrev pub is_listed_explicit : Medl → List ℕ → CState → Bool
 is_listed_explicit list bytes c =
     is_explicit (header_of (kind_at list c.round c.slot))
-    && is_formed member_width bytes (header_of (kind_at list c.round c.slot)) (payload_length list c.round c.slot) list.schedule
+    && is_formed (member_width list) bytes (header_of (kind_at list c.round c.slot)) (payload_length list c.round c.slot) list.schedule
 
-abbrev pub joinable_as : Medl → List ℕ → CState → Option CState
-joinable_as list bytes c =
+abbrev pub joinable_cstate : Medl → List ℕ → CState → Option CState
+joinable_cstate list bytes c =
     if is_joinable_state list c && (is_cold_start list bytes c || is_listed_explicit list bytes c) then Some c else None
 
 -- the C-state on which a node joins that hears these bytes, where they are a joinable frame
 abbrev pub joinable : Medl → List ℕ → Option CState
-joinable list bytes = joinable_as list bytes (carried member_width bytes)
+joinable list bytes = joinable_cstate list bytes (carried (member_width list) bytes)

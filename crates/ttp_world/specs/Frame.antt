@@ -1,18 +1,13 @@
 -- Frames as bytes.
 --
--- What a frame's membership takes is a number of bytes, here `width`; everything else has its place by the header.
+-- What a frame's membership takes is a number of bytes, here `width`, which is that of the list; everything else has
+-- its place by the header.
 use Rattle.std.specs.Prelude.{ℕ, zero, suc, ◌+◌, ◌/◌, ◌%◌, Bool, not, ◌==◌, List, [], ◌∷◌, ◌++◌, if◌then◌else◌}
 use Rattle.ttp_base.specs.NodeSet.{set_bits}
 use Rattle.ttp_world.specs.declared.medl.Kind.{Kind}
 use Rattle.ttp_world.specs.declared.medl.Kind.TheVariants as kind
-use Rattle.ttp_world.specs.declared.medl.Medl.{Medl}
 use Rattle.ttp_world.specs.declared.node.CState.{CState}
-use Rattle.ttp_world.specs.Medl.{is_bare, kind_at, plan_at}
 use Rattle.ttp_world.specs.CheckWord.{check_word}
-
--- the bytes of a membership in a list's frames
-abbrev pub member_width : ℕ
-member_width = 2
 
 -- the lowest bytes of a number, the most significant first
 abbrev pub big_endian : ℕ → ℕ → List ℕ
@@ -31,21 +26,23 @@ cstate_length width = 4 + width
 abbrev pub implicit_header : ℕ
 implicit_header = 0
 
+abbrev pub bare_header : ℕ
+bare_header = 1
+
+abbrev pub explicit_header : ℕ
+explicit_header = 2
+
 abbrev pub cold_start_header : ℕ
 cold_start_header = 3
 
 abbrev pub header_of : Kind → ℕ
-header_of kind.N = 0
-header_of kind.I = 1
-header_of kind.X = 2
+header_of kind.N = implicit_header
+header_of kind.I = bare_header
+header_of kind.X = explicit_header
 
 -- a frame with this header carries its C-state
 abbrev pub is_explicit : ℕ → Bool
 is_explicit header = not (header == implicit_header)
-
--- the bytes of payload that a slot's frame carries in a round
-abbrev pub payload_length : Medl → ℕ → ℕ → ℕ
-payload_length list round slot = if is_bare (kind_at list round slot) then 0 else (plan_at list slot).payload
 
 -- What a frame says before its check word, and what the word is computed over.
 

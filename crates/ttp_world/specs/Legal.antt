@@ -9,8 +9,9 @@ use Rattle.ttp_world.specs.declared.script.Source.{Source}
 use Rattle.ttp_world.specs.declared.script.Source.TheVariants as source
 use Rattle.ttp_world.specs.Diary.{History, entry_of}
 use Rattle.ttp_world.specs.Messages.{message_of, ring_messages, newest_number}
-use Rattle.ttp_world.specs.Script.{Asked, reads_in}
-use Rattle.ttp_world.specs.World.{SlotNumbers, Numbers, world, out_before, out_messages}
+use Rattle.ttp_world.specs.Outgoing.{messages_before, out_messages}
+use Rattle.ttp_world.specs.Script.{HostRead, reads_in}
+use Rattle.ttp_world.specs.World.{SlotNumbers, Numbers, world}
 
 abbrev pub is_between : ℕ → ℕ → ℕ → Bool
 is_between low high i = nat_le low i && nat_le i high
@@ -20,7 +21,7 @@ is_between low high i = nat_le low i && nat_le i high
 abbrev pub is_legal_message : Medl → Script → ℕ → ℕ → Option ℕ → Bool
 is_legal_message list script slot k None = true
 is_legal_message list script slot k (Some i) =
-    is_between (newest_number (out_before list script k slot)) (newest_number (out_messages list script k slot)) i
+    is_between (newest_number (messages_before list script k slot)) (newest_number (out_messages list script k slot)) i
 
 abbrev pub is_same_number : Option ℕ → Option ℕ → Bool
 is_same_number None None = true
@@ -41,24 +42,24 @@ are_legal_messages list script slot row sent =
 
 -- Reads: one number for each, from the ring's newest message before the slot to that after it.
 
--- a read with its number
-pub record Got : Type 0 where
-  pub asked : Asked
+-- a read with the number of the message that it got
+pub record ReadMessage : Type 0 where
+  pub read : HostRead
   pub number : ℕ
 
-abbrev pub gots : List Asked → List ℕ → List Got
-gots [] numbers = []
-gots (asked ∷ others) [] = []
-gots (asked ∷ others) (number ∷ numbers) = record { asked = asked; number = number } ∷ gots others numbers
+abbrev pub read_messages : List HostRead → List ℕ → List ReadMessage
+read_messages [] numbers = []
+read_messages (read ∷ reads) [] = []
+read_messages (read ∷ reads) (number ∷ numbers) = record { read = read; number = number } ∷ read_messages reads numbers
 
-abbrev pub is_legal_read : Medl → Script → History → History → Got → Bool
-is_legal_read list script before after got =
-    is_between (newest_number (ring_messages list script before got.asked.host got.asked.source))
-    (newest_number (ring_messages list script after got.asked.host got.asked.source)) got.number
+abbrev pub is_legal_read : Medl → Script → History → History → ReadMessage → Bool
+is_legal_read list script before after r =
+    is_between (newest_number (ring_messages list script before r.read.host r.read.source))
+    (newest_number (ring_messages list script after r.read.host r.read.source)) r.number
 
-abbrev pub are_legal_reads : Medl → Script → History → History → List Asked → List ℕ → Bool
-are_legal_reads list script before after asked numbers =
-    (length asked == length numbers) && list_all (is_legal_read list script before after) (gots asked numbers)
+abbrev pub are_legal_reads : Medl → Script → History → History → List HostRead → List ℕ → Bool
+are_legal_reads list script before after reads numbers =
+    (length reads == length numbers) && list_all (is_legal_read list script before after) (read_messages reads numbers)
 
 abbrev pub is_legal_slot : Medl → Script → List Entry → History → SlotNumbers → Bool
 is_legal_slot list script row before new =
@@ -79,23 +80,23 @@ is_same_source source.Status (source.Node k) = false
 is_same_source (source.Node j) source.Status = false
 is_same_source (source.Node j) (source.Node k) = j == k
 
-abbrev pub is_same_ring : Asked → Asked → Bool
+abbrev pub is_same_ring : HostRead → HostRead → Bool
 is_same_ring a b = (a.host == b.host) && is_same_source a.source b.source
 
 -- all reads, the newest first
-abbrev pub all_gots : Script → Numbers → List Got
-all_gots script [] = []
-all_gots script (new ∷ numbers) = reverse (gots (reads_in script (length numbers)) new.read) ++ all_gots script numbers
+abbrev pub all_reads : Script → Numbers → List ReadMessage
+all_reads script [] = []
+all_reads script (new ∷ numbers) = reverse (read_messages (reads_in script (length numbers)) new.read) ++ all_reads script numbers
 
-abbrev pub is_not_below : Got → Got → Bool
-is_not_below got earlier = not (is_same_ring got.asked earlier.asked) || nat_le earlier.number got.number
+abbrev pub is_not_older : ReadMessage → ReadMessage → Bool
+is_not_older r earlier = not (is_same_ring r.read earlier.read) || nat_le earlier.number r.number
 
-abbrev pub never_fall : List Got → Bool
+abbrev pub never_fall : List ReadMessage → Bool
 never_fall [] = true
-never_fall (got ∷ earlier) = list_all (is_not_below got) earlier && never_fall earlier
+never_fall (r ∷ earlier) = list_all (is_not_older r) earlier && never_fall earlier
 
 abbrev pub is_legal : Medl → Script → Numbers → Bool
-is_legal list script numbers = are_legal_slots list script (world list script numbers) numbers && never_fall (all_gots script numbers)
+is_legal list script numbers = are_legal_slots list script (world list script numbers) numbers && never_fall (all_reads script numbers)
 
 abbrev pub IsLegal : Medl → Script → Numbers → Type 0
 IsLegal list script numbers = IsTrue (is_legal list script numbers)

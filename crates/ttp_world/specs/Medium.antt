@@ -7,8 +7,8 @@ use Rattle.ttp_world.specs.declared.script.Channel.{Channel}
 use Rattle.ttp_world.specs.declared.script.Channel.TheVariants as channel
 use Rattle.ttp_world.specs.declared.script.Fault.TheVariants as fault
 use Rattle.ttp_world.specs.declared.script.Script.{Script}
-use Rattle.ttp_world.specs.Diary.{History, SlotRecord, Record, entry_of}
-use Rattle.ttp_world.specs.Script.{has_send_fault, has_receive_fault, flipped_bits, jump_of, drift_of}
+use Rattle.ttp_world.specs.Diary.{History, SlotSurroundings, Surroundings, entry_of}
+use Rattle.ttp_world.specs.Script.{has_send_fault, has_receive_fault, flipped_bits, jump_of, drift_of, is_armed}
 
 -- a frame and the node that sends it
 pub record SentFrame : Type 0 where
@@ -40,26 +40,27 @@ flip_bits bytes bits = fold flip_bit bytes bits
 
 -- The channel.
 
--- the frames that their senders' faults leave on a channel, be it as noise
-abbrev pub is_left : Script → ℕ → Channel → SentFrame → Bool
-is_left script slot c sent = not (has_send_fault script fault.Silence sent.sender c slot)
+-- the frames that their senders' faults don't silence, be it that they make them noise
+abbrev pub remains : Script → ℕ → Channel → SentFrame → Bool
+remains script slot c sent = not (has_send_fault script fault.Silence sent.sender c slot)
 
-abbrev pub left_on : Script → ℕ → Channel → List SentFrame → List SentFrame
-left_on script slot c frames = filter (is_left script slot c) frames
+abbrev pub remaining_frames : Script → ℕ → Channel → List SentFrame → List SentFrame
+remaining_frames script slot c frames = filter (remains script slot c) frames
 
--- one frame is heard as it is or as noise, and what is left of two or more is noise
+-- one frame is heard as it is or as noise, and two or more are noise
 abbrev pub signal_of : Script → ℕ → Channel → SentFrame → Signal
 signal_of script slot c sent =
     if has_send_fault script fault.Noise sent.sender c slot then Noise
     else Bits sent.sender (flip_bits sent.bytes (flipped_bits script sent.sender c slot))
 
-abbrev pub signal_left : Script → ℕ → Channel → List SentFrame → Signal
-signal_left script slot c [] = Silence
-signal_left script slot c (sent ∷ []) = signal_of script slot c sent
-signal_left script slot c (sent ∷ more ∷ others) = Noise
+abbrev pub combined_signal : Script → ℕ → Channel → List SentFrame → Signal
+combined_signal script slot c [] = Silence
+combined_signal script slot c (sent ∷ []) = signal_of script slot c sent
+combined_signal script slot c (sent ∷ more ∷ others) = Noise
 
-abbrev pub signal_on : Script → ℕ → Channel → List SentFrame → Signal
-signal_on script slot c frames = signal_left script slot c (left_on script slot c frames)
+-- what is on a channel in a slot in which these frames are sent
+abbrev pub channel_signal : Script → ℕ → Channel → List SentFrame → Signal
+channel_signal script slot c frames = combined_signal script slot c (remaining_frames script slot c frames)
 
 -- The receiver.
 
@@ -72,7 +73,7 @@ with_noise noisy (Bits sender bytes) = if noisy then Noise else Bits sender byte
 abbrev pub heard : Script → ℕ → ℕ → Channel → List SentFrame → Signal
 heard script slot r c frames =
     if has_receive_fault script fault.Silence r c slot then Silence
-    else with_noise (has_receive_fault script fault.Noise r c slot) (signal_on script slot c frames)
+    else with_noise (has_receive_fault script fault.Noise r c slot) (channel_signal script slot c frames)
 
 abbrev pub is_silent_to : Script → ℕ → ℕ → List SentFrame → Bool
 is_silent_to script slot r frames = is_silence (heard script slot r channel.A frames) && is_silence (heard script slot r channel.B frames)
@@ -91,14 +92,15 @@ sender_only k = record { sender = k; bytes = [] }
 abbrev pub senders_in : List Entry → List SentFrame
 senders_in row = map sender_only (filter (λ k. is_sending (entry_of row k)) (below (length row)))
 
-abbrev pub slot_record : Script → ℕ → List Entry → ℕ → SlotRecord
-slot_record script slot row k = record {
+-- what came to node k from outside in the slot of a row, and in each slot of a history
+abbrev pub surroundings_in : Script → ℕ → List Entry → ℕ → SlotSurroundings
+surroundings_in script slot row k = record {
   jump = jump_of script k slot;
   drift = drift_of script k;
+  is_armed = is_armed script k slot;
   is_silent = is_silent_to script slot k (senders_in row);
 }
 
--- the record beside node k's diary
-abbrev pub record_of : Script → History → ℕ → Record
-record_of script [] k = []
-record_of script (row ∷ history) k = slot_record script (length history) row k ∷ record_of script history k
+abbrev pub surroundings_of : Script → History → ℕ → Surroundings
+surroundings_of script [] k = []
+surroundings_of script (row ∷ history) k = surroundings_in script (length history) row k ∷ surroundings_of script history k

@@ -1,7 +1,8 @@
 -- The members that an active node holds, read from its diary.
-use Rattle.std.specs.Prelude.{ℕ, Bool, true, false, ◌&&◌, ◌==◌, List, [], ◌∷◌, length, filter, Option, Some, None, unwrap_or, if◌then◌else◌}
+use Rattle.std.specs.Prelude.{ℕ, Bool, true, false, ◌&&◌, ◌==◌, List, [], ◌∷◌, length, filter, Option, Some, None, if◌then◌else◌}
 use Rattle.ttp_base.specs.NodeSet.{below, has_node}
 use Rattle.ttp_world.specs.declared.medl.Medl.{Medl}
+use Rattle.ttp_world.specs.declared.node.Ack.{Ack}
 use Rattle.ttp_world.specs.declared.node.Entry.{Entry}
 use Rattle.ttp_world.specs.declared.node.Entry.TheVariants as entry
 use Rattle.ttp_world.specs.declared.node.Verdict.{Verdict}
@@ -14,21 +15,21 @@ is_accepted verdict.Correct = true
 is_accepted verdict.Tentative = true
 is_accepted _ = false
 
--- what an entry of node k says of node j, good or bad, where it speaks of it; `before` is the diary before it
-abbrev pub opinion : ℕ → ℕ → Entry → Diary → Option Bool
-opinion k j entry.Started before = Some (j == k)
-opinion k j (entry.Joined sender cstate deviation) before = Some (has_node cstate.members j)
-opinion k j (entry.Sent message) before = if j == k then Some true else None
-opinion k j (entry.Judged sender v deviation) before =
+-- what an entry of node k says of node j, good or bad, where it speaks of it, by the acknowledgement before it
+abbrev pub opinion : ℕ → ℕ → Entry → Ack → Option Bool
+opinion k j entry.Started a = Some (j == k)
+opinion k j (entry.Joined sender cstate deviation) a = Some (has_node cstate.members j)
+opinion k j (entry.Sent message) a = if j == k then Some true else None
+opinion k j (entry.Judged sender v deviation) a =
     if j == sender then Some (is_accepted v)
-    else (if is_correct v && is_doubt_about j (ack_of before) then Some false else None)
-opinion k j _ before = None
+    else (if is_correct v && is_doubt_about j a then Some false else None)
+opinion k j _ a = None
 
 -- the newest entry that speaks of j is good
 abbrev pub is_good : ℕ → Diary → ℕ → Bool
 is_good k [] j = false
-is_good k (e ∷ diary) j = unwrap_or (opinion k j e diary) (is_good k diary j)
+is_good k (e ∷ diary) j = elim (opinion k j e (ack_of diary)) [ Some good ↦ good | None ↦ is_good k diary j ]
 
 -- the members after node k's diary
 abbrev pub members_of : Medl → ℕ → Diary → List ℕ
-members_of list k diary = if is_active diary then filter (is_good k diary) (below (length list.slots)) else []
+members_of list k diary = elim (is_active diary) [ true ↦ filter (is_good k diary) (below (length list.slots)) | false ↦ [] ]

@@ -8,11 +8,13 @@ use Rattle.ttp_world.specs.declared.node.ChannelView.{ChannelView}
 use Rattle.ttp_world.specs.declared.node.ChannelView.TheVariants as view
 use Rattle.ttp_world.specs.declared.node.Verdict.{Verdict}
 use Rattle.ttp_world.specs.declared.node.Verdict.TheVariants as verdict
+use Rattle.ttp_world.specs.Act.{coming_place}
 use Rattle.ttp_world.specs.Diary.{Place, cstate_at}
 use Rattle.ttp_world.specs.Fitting.{fits, is_formed, payload_in}
-use Rattle.ttp_world.specs.Frame.{member_width, header_of, payload_length}
+use Rattle.ttp_world.specs.Frame.{header_of}
 use Rattle.ttp_world.specs.Medium.{Signal, Silence, Noise, Bits}
-use Rattle.ttp_world.specs.Medl.{kind_at}
+use Rattle.ttp_world.specs.Medl.{member_width, kind_at, payload_length}
+use Rattle.ttp_world.specs.Past.{NodePast}
 
 -- The candidates for the sender's membership: by the first the receiver's own newest frame was received, by the
 -- second it was not. `members` are the receiver's, without regard to the sender.
@@ -20,14 +22,14 @@ pub record Candidates : Type 0 where
   pub first : List ℕ
   pub second : Option (List ℕ)
 
-abbrev pub candidates_with : Ack → ℕ → List ℕ → Candidates
-candidates_with ack.Closed own members = record { first = members; second = None }
-candidates_with ack.First own members = record { first = with_node members own; second = Some (without_node members own) }
-candidates_with (ack.Doubt x) own members =
+abbrev pub candidate_sets : Ack → ℕ → List ℕ → Candidates
+candidate_sets ack.Closed own members = record { first = members; second = None }
+candidate_sets ack.First own members = record { first = with_node members own; second = Some (without_node members own) }
+candidate_sets (ack.Doubt x) own members =
     record { first = without_node (with_node members own) x; second = Some (with_node (without_node members own) x) }
 
 abbrev pub candidates : Ack → ℕ → List ℕ → ℕ → Candidates
-candidates a own members sender = candidates_with a own (with_node members sender)
+candidates a own members sender = candidate_sets a own (with_node members sender)
 
 -- The view of a channel.
 
@@ -35,6 +37,19 @@ candidates a own members sender = candidates_with a own (with_node members sende
 pub record Expected : Type 0 where
   pub place : Place
   pub candidates : Candidates
+
+-- that is an active node k, by its past
+abbrev pub expected_of : Medl → ℕ → NodePast → Expected
+expected_of list k past = record {
+  place = coming_place list past;
+  candidates = candidates past.ack k past.members (coming_place list past).slot;
+}
+
+-- what a node hears in a slot: the signal on each channel, and how late a frame of each node comes to it
+pub record Hearing : Type 0 where
+  pub a : Signal
+  pub b : Signal
+  pub deviation : ℕ → ℤ
 
 abbrev pub expected_header : Medl → Place → ℕ
 expected_header list place = header_of (kind_at list place.round place.slot)
@@ -47,11 +62,11 @@ is_within_window list deviation = int_le (neg_ℤ list.window) deviation && int_
 
 abbrev pub is_expected_form : Medl → Expected → List ℕ → Bool
 is_expected_form list expected bytes =
-    is_formed member_width bytes (expected_header list expected.place) (expected_length list expected.place) list.schedule
+    is_formed (member_width list) bytes (expected_header list expected.place) (expected_length list expected.place) list.schedule
 
 abbrev pub fits_members : Medl → Expected → List ℕ → List ℕ → Bool
 fits_members list expected bytes members =
-    fits member_width bytes (expected_header list expected.place) (expected_length list expected.place) list.schedule
+    fits (member_width list) bytes (expected_header list expected.place) (expected_length list expected.place) list.schedule
     (cstate_at expected.place members)
 
 abbrev pub fits_second : Medl → Expected → List ℕ → Bool
@@ -59,14 +74,16 @@ fits_second list expected bytes = unwrap_or (option_map (fits_members list expec
 
 abbrev pub view_of_frame : Medl → Expected → List ℕ → ChannelView
 view_of_frame list expected bytes =
-    if fits_members list expected bytes expected.candidates.first then view.First
-    else (if fits_second list expected bytes then view.Second else view.Other)
+    elim (fits_members list expected bytes expected.candidates.first) [
+      | true ↦ view.First
+      | false ↦ if fits_second list expected bytes then view.Second else view.Other
+    ]
 
 abbrev pub view_of_bits : Medl → Expected → List ℕ → ℤ → ChannelView
 view_of_bits list expected bytes deviation =
     if is_within_window list deviation && is_expected_form list expected bytes then view_of_frame list expected bytes else view.Bad
 
--- the view of what is heard on a channel, where a frame of a node comes so late
+-- the view of what is heard on a channel, where a frame of each node comes so late
 abbrev pub view_of : Medl → Expected → (ℕ → ℤ) → Signal → ChannelView
 view_of list expected deviation Silence = view.Silent
 view_of list expected deviation Noise = view.Bad
@@ -104,25 +121,26 @@ verdict_of_view view.Silent a = verdict.Null
 abbrev pub verdict_of : ChannelView → ChannelView → Ack → Verdict
 verdict_of a b acknowledgement = verdict_of_view (better_view a b) acknowledgement
 
--- The deviation that is noted: 0 where no channel carried bits, and that of the channel whose view is taken where both did.
+-- The deviation that an entry tells: 0 where no channel carried bits, and that of the channel whose view is taken where
+-- both did.
 
-abbrev pub deviation_heard : (ℕ → ℤ) → Signal → Option ℤ
-deviation_heard deviation Silence = None
-deviation_heard deviation Noise = None
-deviation_heard deviation (Bits sender bytes) = Some (deviation sender)
+abbrev pub heard_deviation : (ℕ → ℤ) → Signal → Option ℤ
+heard_deviation deviation Silence = None
+heard_deviation deviation Noise = None
+heard_deviation deviation (Bits sender bytes) = Some (deviation sender)
 
-abbrev pub deviation_taken : Bool → Option ℤ → Option ℤ → ℤ
-deviation_taken from_a None None = pos 0
-deviation_taken from_a (Some a) None = a
-deviation_taken from_a None (Some b) = b
-deviation_taken from_a (Some a) (Some b) = if from_a then a else b
+abbrev pub entry_deviation : Bool → Option ℤ → Option ℤ → ℤ
+entry_deviation from_a None None = pos 0
+entry_deviation from_a (Some a) None = a
+entry_deviation from_a None (Some b) = b
+entry_deviation from_a (Some a) (Some b) = if from_a then a else b
 
 -- What is handed to the host: the payload of a correct frame, from the first channel on which it was so.
 
 abbrev pub payload_heard : Medl → Place → Signal → List ℕ
 payload_heard list place Silence = []
 payload_heard list place Noise = []
-payload_heard list place (Bits sender bytes) = payload_in member_width (expected_header list place) (expected_length list place) bytes
+payload_heard list place (Bits sender bytes) = payload_in (member_width list) (expected_header list place) (expected_length list place) bytes
 
 abbrev pub is_first_view : ChannelView → Bool
 is_first_view view.First = true

@@ -7,7 +7,7 @@ use Rattle.ttp_world.specs.declared.medl.Medl.{Medl}
 use Rattle.ttp_world.specs.declared.script.Script.{Script}
 use Rattle.ttp_world.specs.Acknowledgement.{ack_of, is_doubt}
 use Rattle.ttp_world.specs.Diary.{Diary, History, diary_of, phase_of}
-use Rattle.ttp_world.specs.Hypothesis.{nodes_of, Joining, joinings_up_to, is_correct_after}
+use Rattle.ttp_world.specs.Hypothesis.{nodes_of, FaultyNode, faulty_nodes_after, is_correct_after}
 use Rattle.ttp_world.specs.Medium.{is_sending}
 use Rattle.ttp_world.specs.Membership.{members_of}
 use Rattle.ttp_world.specs.Messages.{is_left_phase}
@@ -47,10 +47,10 @@ abbrev pub correct_senders : Medl → Script → History → List ℕ
 correct_senders list script history = filter (λ k. has_ever_sent (diary_of history k)) (correct_nodes list script history)
 
 -- a node that became faulty two rounds ago has left and is no member
-abbrev pub is_gone : Medl → Script → History → Joining → Bool
-is_gone list script history j =
-    not (nat_le (j.slot + 2 * length list.slots) (suc (newest_slot history)))
-    || (has_left history j.node && is_out list script history j.node)
+abbrev pub is_gone : Medl → Script → History → FaultyNode → Bool
+is_gone list script history faulty =
+    not (nat_le (faulty.slot + 2 * length list.slots) (suc (newest_slot history)))
+    || (has_left history faulty.node && is_out list script history faulty.node)
 
 abbrev pub members_agree : Medl → Script → History → Bool
 members_agree list script history =
@@ -65,7 +65,7 @@ abbrev pub none_has_left : Medl → Script → History → Bool
 none_has_left list script history = list_all (λ k. not (has_left history k)) (correct_nodes list script history)
 
 abbrev pub faulty_are_gone : Medl → Script → History → Bool
-faulty_are_gone list script history = list_all (is_gone list script history) (joinings_up_to list script (newest_slot history))
+faulty_are_gone list script history = list_all (is_gone list script history) (faulty_nodes_after list script (newest_slot history))
 
 -- what holds after the newest slot of a history
 pub record IsSafe (list : Medl) (script : Script) (history : History) : Type 0 where

@@ -14,6 +14,7 @@ use Rattle.ttp_world.specs.declared.script.Source.TheVariants as source
 use Rattle.ttp_world.specs.declared.script.Event.{Event}
 use Rattle.ttp_world.specs.declared.script.Event.TheVariants as event
 use Rattle.ttp_world.specs.declared.script.Script.{Script}
+use Rattle.ttp_world.specs.declared.script.TheConstants.{SLOT_LIMIT}
 use Rattle.ttp_world.specs.Medl.{plan_at}
 
 -- When nodes are switched on.
@@ -26,12 +27,20 @@ abbrev pub is_ever_on : Script → ℕ → Bool
 is_ever_on script k = is_some (on_slot script k)
 
 -- whether a node is on in a slot
-abbrev pub is_by : ℕ → Option ℕ → Bool
-is_by slot None = false
-is_by slot (Some on) = nat_le on slot
+abbrev pub has_come : ℕ → Option ℕ → Bool
+has_come slot None = false
+has_come slot (Some on) = nat_le on slot
 
 abbrev pub is_on : Script → ℕ → ℕ → Bool
-is_on script k slot = is_by slot (on_slot script k)
+is_on script k slot = has_come slot (on_slot script k)
+
+-- whether an event arms a node in a slot, and whether one of them does
+abbrev pub arms : ℕ → ℕ → Event → Bool
+arms k slot (event.Arm node at) = (node == k) && (at == slot)
+arms k slot _ = false
+
+abbrev pub is_armed : Script → ℕ → ℕ → Bool
+is_armed script k slot = list_any (arms k slot) script.events
 
 -- Faults on a channel.
 
@@ -98,39 +107,43 @@ jump_in k slot _ = None
 abbrev pub jump_of : Script → ℕ → ℕ → ℤ
 jump_of script k slot = sum_ℤ (filter_map (jump_in k slot) script.events)
 
+-- whether there is one, be it by nothing
+abbrev pub has_jump : Script → ℕ → ℕ → Bool
+has_jump script k slot = list_any (λ e. is_some (jump_in k slot e)) script.events
+
 -- Hosts.
 
 -- a message that a node's host writes
-pub record Written : Type 0 where
+pub record HostWrite : Type 0 where
   pub host : ℕ
   pub payload : List ℕ
 
 -- a read of a node's host
-pub record Asked : Type 0 where
+pub record HostRead : Type 0 where
   pub host : ℕ
   pub source : Source
 
-abbrev pub write_in : ℕ → Event → Option Written
+abbrev pub write_in : ℕ → Event → Option HostWrite
 write_in slot (event.Write node at payload) = if at == slot then Some (record { host = node; payload = payload }) else None
 write_in slot _ = None
 
-abbrev pub read_in : ℕ → Event → Option Asked
+abbrev pub read_in : ℕ → Event → Option HostRead
 read_in slot (event.Read node at from) = if at == slot then Some (record { host = node; source = from }) else None
 read_in slot _ = None
 
 -- the messages that hosts write in a slot, and what they read there, in the order of the script
-abbrev pub writes_in : Script → ℕ → List Written
+abbrev pub writes_in : Script → ℕ → List HostWrite
 writes_in script slot = filter_map (write_in slot) script.events
 
-abbrev pub reads_in : Script → ℕ → List Asked
+abbrev pub reads_in : Script → ℕ → List HostRead
 reads_in script slot = filter_map (read_in slot) script.events
 
-abbrev pub written_by : ℕ → Written → Option (List ℕ)
-written_by k written = if written.host == k then Some written.payload else None
+abbrev pub payload_of_host : ℕ → HostWrite → Option (List ℕ)
+payload_of_host k write = if write.host == k then Some write.payload else None
 
 -- the messages that one node's host writes in a slot
 abbrev pub messages_written : Script → ℕ → ℕ → List (List ℕ)
-messages_written script k slot = filter_map (written_by k) (writes_in script slot)
+messages_written script k slot = filter_map (payload_of_host k) (writes_in script slot)
 
 -- When a script is valid for a list.
 
@@ -153,6 +166,7 @@ IsValidEvent list script (event.Receive node channels f from to) = (node < lengt
 IsValidEvent list script (event.Flip node channels bit slot) = (node < length list.slots) × (8 ≤ bit) × (bit ≤ 2047) × (slot < script.slots)
 IsValidEvent list script (event.Error node value from to) = (node < length list.slots) × IsWithinSpan 10000 value × IsSpan script from to
 IsValidEvent list script (event.Jump node value slot) = (node < length list.slots) × IsWithinSpan 1000000 value × (slot < script.slots)
+IsValidEvent list script (event.Arm node slot) = (node < length list.slots) × (slot < script.slots)
 IsValidEvent list script (event.Write node slot payload) =
     (node < length list.slots) × (slot < script.slots) × (1 ≤ (plan_at list node).payload) × (length payload ≡ (plan_at list node).payload)
 IsValidEvent list script (event.Read node slot from) = (node < length list.slots) × (slot < script.slots) × IsSource list node from
@@ -168,7 +182,7 @@ IsWithinRun script on = IfSome on (λ slot. slot < script.slots)
 -- each number is in its range, each event is one of the list's nodes, and no node's host writes in one slot so
 -- often that a buffer of its ring would be used twice
 pub record IsValidScript (list : Medl) (script : Script) : Type 0 where
-  pub slots : (1 ≤ script.slots) × (script.slots ≤ 20000)
+  pub slots : (1 ≤ script.slots) × (script.slots ≤ SLOT_LIMIT)
   pub on_count : length script.on ≡ length list.slots
   pub on : All (IsWithinRun script) script.on
   pub drift_count : length script.drift ≡ length list.slots

@@ -21,4 +21,4 @@ pub use node::{
     Ack, CState, ChannelView, Chosen, Delivered, Entry, NodeState, Phase, Reason, StatusWords,
     Verdict,
 };
-pub use script::{Channel, Channels, Event, Fault, Payload, Script, Source};
+pub use script::{Channel, Channels, Event, Fault, Payload, SLOT_LIMIT, Script, Source};

@@ -27,11 +27,17 @@ pub struct SlotPlan {
     pub sync: bool,
     /// Whether the slot's node may send a cold-start frame.
     pub start: bool,
+    /// Whether the payload of the slot's frames asks for modes.
+    pub requests: bool,
+    /// The modes in which the slot's payload is live: bit m, the least significant first, is mode m.
+    pub live: u8,
 }
 
 /// A message descriptor list, which all nodes of a cluster share.
 #[derive(Debug, Drop)]
 pub struct Medl {
+    /// 1 for up to 16 nodes, and 2 for up to 24, whose frames carry one byte of members more.
+    pub version: u8,
     /// How many TDMA rounds a cluster cycle has.
     pub rounds: u8,
     /// The schedule's number, 24 bits, from which each check word starts.
@@ -44,13 +50,15 @@ pub struct Medl {
     pub error: i64,
     /// How far a frame may lie from its receiver's clock and still be accepted, in microticks.
     pub window: i64,
+    /// How many modes the cluster's hosts can agree on.
+    pub modes: u8,
     /// The slots of the round, in order.
     pub slots: List<SlotPlan>,
 }
 
 impl Medl {
     ghost use Rattle.std.specs.Prelude.{◌≡◌, ◌<◌, length};
-    ghost use Rattle.ttp_world.specs.Medl.{IsValid, kind_at};
+    ghost use Rattle.ttp_world.specs.Medl.{IsValid, kind_at, is_wide};
 
     /// How many nodes the cluster has: one for each slot.
     pub fn nodes(&self) -> u8
@@ -58,6 +66,13 @@ impl Medl {
         ensures { result ≡ length self.now.slots }
     {
         self.slots.len() as u8
+    }
+
+    /// Whether the list has room for 24 nodes, and its frames for as many members; else for 16.
+    pub fn is_wide(&self) -> bool
+        ensures { result ≡ is_wide self.now }
+    {
+        self.version == 2
     }
 
     /// The kind of a slot's frame in a round of the cluster cycle.

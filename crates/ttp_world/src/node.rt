@@ -88,7 +88,7 @@ pub enum Entry {
     Waited,
     /// It withdrew its cold start, and will listen again.
     Retried,
-    /// It had left before.
+    /// It had left before, and does not listen again yet.
     Gone,
     /// It sent a cold-start frame.
     Started,
@@ -110,7 +110,7 @@ pub enum Entry {
         verdict: Verdict,
         deviation: i64,
     },
-    /// It left. The peer is the sender that denied it, and else the node itself.
+    /// It left in this slot. The peer is the sender that denied it, and else the node itself.
     Left {
         reason: Reason,
         peer: u8,
@@ -151,8 +151,8 @@ pub struct Delivered {
 }
 
 /// The status message of a node for one slot: the slot's number; the flags; the C-state of the slot
-/// with the members after it, as a number of 48 bits, or 0 where the node is not active; and
-/// `256 * accepted + rejected`.
+/// with the members after it, as a number of 48 bits, or of 56 for a list of version 2, or 0 where
+/// the node is not active; and `256 * accepted + rejected`.
 #[derive(Clone, Copy, Debug, PartialEq, Eq)]
 pub struct StatusWords {
     pub words: [u64; 4],

@@ -3,6 +3,9 @@
 use std::marker::Model;
 use ttp_base::List;
 
+/// The most slots of a run.
+pub const SLOT_LIMIT: u32 = 20_000;
+
 /// One of the two channels of the bus.
 #[derive(Clone, Copy, Debug, PartialEq, Eq)]
 pub enum Channel {
@@ -91,6 +94,11 @@ pub enum Event {
     Jump {
         node: u8,
         value: i64,
+        slot: u32,
+    },
+    /// A node that has left listens again from this slot on.
+    Arm {
+        node: u8,
         slot: u32,
     },
     /// A node's host writes a message.
