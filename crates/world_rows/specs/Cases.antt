@@ -3,6 +3,7 @@ use Rattle.std.specs.Prelude.{ℕ, suc, ◌-◌, nat_lt, ℤ, pos, Bool, true, f
 use Rattle.std.specs.List.{list_all, slice_split}
 use Rattle.std.specs.Str.{bytes_eq}
 use Rattle.ttp_base.specs.NodeSet.{below, has_node}
+use Rattle.ttp_base.specs.Text.{newline}
 use Rattle.ttp_world.specs.declared.medl.Kind.TheVariants as kind
 use Rattle.ttp_world.specs.declared.medl.SlotPlan.{SlotPlan}
 use Rattle.ttp_world.specs.declared.medl.Medl.{Medl}
@@ -10,28 +11,28 @@ use Rattle.ttp_world.specs.declared.node.Entry.{Entry}
 use Rattle.ttp_world.specs.declared.script.Channels.{Channels}
 use Rattle.ttp_world.specs.declared.script.Event.{Event}
 use Rattle.ttp_world.specs.declared.script.Script.{Script}
-use Rattle.ttp_world.specs.Clock.{offset_of, round_notes}
 use Rattle.ttp_world.specs.Diary.{History, entry_of, diary_of}
-use Rattle.ttp_world.specs.Medium.{record_of}
 use Rattle.ttp_world.specs.Membership.{members_of}
 use Rattle.ttp_world.specs.Safety.{members_agree, senders_are_members, none_has_left, faulty_are_gone}
-use Rattle.ttp_world.specs.Trace.{newline, node_line_of}
-use Rattle.ttp_world.specs.World.{SlotNumbers, Numbers, world}
+use Rattle.ttp_world.specs.Trace.{node_line_of}
+use Rattle.ttp_world.specs.World.{SlotNumbers, Numbers, node_past, world}
 
 -- Lists: n slots of bare frames in one round, of which these may start.
 
 abbrev pub bare_slot : List ℕ → ℕ → SlotPlan
-bare_slot starters k = record { kinds = kind.I ∷ []; payload = 0; sync = true; start = has_node starters k }
+bare_slot starters k = record { kinds = kind.I ∷ []; payload = 0; sync = true; start = has_node starters k; requests = false; live = 1 }
 
 -- drift, error, window
 abbrev pub list_with : ℤ → ℤ → ℤ → List SlotPlan → Medl
 list_with drift error window slots = record {
+  version = 1;
   rounds = 1;
   schedule = 0;
   buffers = 2;
   drift = drift;
   error = error;
   window = window;
+  modes = 1;
   slots = slots;
 }
 
@@ -47,7 +48,7 @@ drifting_list window = list_with (pos 1) (pos 0) window (map (bare_slot (0 ∷ [
 
 -- five nodes, of which node 2 sends eight bytes of payload in frames with implicit C-state
 abbrev pub loaded_slot : SlotPlan
-loaded_slot = record { kinds = kind.N ∷ []; payload = 8; sync = true; start = false }
+loaded_slot = record { kinds = kind.N ∷ []; payload = 8; sync = true; start = false; requests = false; live = 1 }
 
 abbrev pub loaded_list : Medl
 loaded_list = list_with (pos 0) (pos 0) (pos 1)
@@ -161,10 +162,10 @@ reading_numbers j = record { sent = replicate 5 None; read = j ∷ [] } ∷ repl
 -- the clocks of all nodes after a slot, and the notes of a node's round
 abbrev pub clocks_in_history : Medl → Script → History → List ℤ
 clocks_in_history list script history =
-    map (λ k. offset_of list k (diary_of history k) (record_of script history k)) (below (length list.slots))
+    map (λ k. (node_past list script history k).offset) (below (length list.slots))
 
 abbrev pub clocks_after : Medl → Script → ℕ → List ℤ
 clocks_after list script slot = clocks_in_history list script (bare_run list script (suc slot))
 
 abbrev pub notes_at : Medl → Script → ℕ → ℕ → List ℤ
-notes_at list script slot k = round_notes list k (diary_of (bare_run list script (suc slot)) k)
+notes_at list script slot k = (node_past list script (bare_run list script (suc slot)) k).notes

@@ -3,8 +3,9 @@ use Rattle.std.specs.Prelude.{ℕ, pos, true, false, List, [], ◌∷◌}
 use Rattle.ttp_world.specs.declared.medl.Kind.TheVariants as kind
 use Rattle.ttp_world.specs.declared.medl.Medl.{Medl}
 use Rattle.ttp_world.specs.declared.node.CState.{CState}
-use Rattle.ttp_world.specs.Frame.{member_width, frame}
+use Rattle.ttp_world.specs.Frame.{frame}
 use Rattle.ttp_world.specs.Medium.{SentFrame}
+use Rattle.ttp_world.specs.Medl.{member_bytes}
 use Rattle.world_rows.specs.Cases.{list_with}
 
 abbrev pub cstate : ℕ → ℕ → ℕ → List ℕ → CState
@@ -12,18 +13,18 @@ cstate time round slot members = record { time = time; round = round; slot = slo
 
 abbrev pub mixed_list : Medl
 mixed_list = list_with (pos 0) (pos 0) (pos 1) (
-    record { kinds = kind.X ∷ []; payload = 2; sync = true; start = true }
-    ∷ record { kinds = kind.I ∷ []; payload = 0; sync = true; start = false }
-    ∷ record { kinds = kind.N ∷ []; payload = 2; sync = true; start = false }
-    ∷ record { kinds = kind.I ∷ []; payload = 0; sync = true; start = false } ∷ [])
+    record { kinds = kind.X ∷ []; payload = 2; sync = true; start = true; requests = false; live = 1 }
+    ∷ record { kinds = kind.I ∷ []; payload = 0; sync = true; start = false; requests = false; live = 1 }
+    ∷ record { kinds = kind.N ∷ []; payload = 2; sync = true; start = false; requests = false; live = 1 }
+    ∷ record { kinds = kind.I ∷ []; payload = 0; sync = true; start = false; requests = false; live = 1 } ∷ [])
 
 -- the cold-start frame of node 0
 abbrev pub cold_start : List ℕ
-cold_start = frame member_width 3 (cstate 0 0 0 (0 ∷ [])) [] 0
+cold_start = frame (member_bytes false) 3 (cstate 0 0 0 (0 ∷ [])) [] 0
 
 -- the frame of node 0 with implicit C-state and no payload, at time 0
 abbrev pub implicit_frame : List ℕ → List ℕ
-implicit_frame members = frame member_width 0 (cstate 0 0 0 members) [] 0
+implicit_frame members = frame (member_bytes false) 0 (cstate 0 0 0 members) [] 0
 
 -- what nodes 0 and 1 send at once
 abbrev pub two_frames : List SentFrame

@@ -6,7 +6,7 @@ ghost use Rattle.ttp_world.specs.declared.node.ChannelView.TheVariants as view;
 ghost use Rattle.ttp_world.specs.declared.node.Verdict.TheVariants as verdict;
 ghost use Rattle.ttp_world.specs.declared.script.Channel.TheVariants as channel;
 ghost use Rattle.ttp_world.specs.Hypothesis.{keeps};
-ghost use Rattle.ttp_world.specs.Medium.{Silence, Noise, Bits, signal_on};
+ghost use Rattle.ttp_world.specs.Medium.{Silence, Noise, Bits, channel_signal};
 ghost use Rattle.ttp_world.specs.Reception.{verdict_of};
 ghost use Rattle.world_rows.specs.Cases.{bare_list, bare_run, bare_lines, hold_from, is_safe_from};
 ghost use Rattle.world_rows.specs.Frames.{two_frames};
@@ -137,9 +137,9 @@ pub fn frames_at_the_window()
 /// What is on a channel on which two nodes send: noise, be it of two frames or of two noises; and the
 /// one frame where the other is silenced.
 pub fn two_senders_on_a_channel()
-    ensures frames { signal_on collided_noise 4 channel.A two_frames ≡ Noise }
-    ensures noises { signal_on collided_noise 3 channel.A two_frames ≡ Noise }
-    ensures one_silenced { signal_on one_silenced 3 channel.A two_frames ≡ Bits 1 (7 ∷ []) }
-    ensures on_the_other { signal_on one_silenced 3 channel.B two_frames ≡ Noise }
-    ensures nobody { signal_on one_silenced 3 channel.A [] ≡ Silence }
+    ensures frames { channel_signal collided_noise 4 channel.A two_frames ≡ Noise }
+    ensures noises { channel_signal collided_noise 3 channel.A two_frames ≡ Noise }
+    ensures one_silenced { channel_signal one_silenced 3 channel.A two_frames ≡ Bits 1 (7 ∷ []) }
+    ensures on_the_other { channel_signal one_silenced 3 channel.B two_frames ≡ Noise }
+    ensures nobody { channel_signal one_silenced 3 channel.A [] ≡ Silence }
 {}

@@ -2,9 +2,10 @@
 ghost use Rattle.std.specs.Prelude.{◌≡◌, [], ◌∷◌, ℕ, take, true, false, Some, None, codes};
 ghost use Rattle.ttp_base.specs.Text.{hex, hex_bytes};
 ghost use Rattle.ttp_world.specs.CheckWord.{check_word};
-ghost use Rattle.ttp_world.specs.Frame.{member_width, frame};
+ghost use Rattle.ttp_world.specs.Frame.{frame};
 ghost use Rattle.ttp_world.specs.Fitting.{fits, is_formed, joinable};
 ghost use Rattle.ttp_world.specs.Medium.{flip_bits};
+ghost use Rattle.ttp_world.specs.Medl.{member_bytes};
 ghost use Rattle.world_rows.specs.Frames.{cstate, mixed_list, cold_start, implicit_frame};
 
 /// Check words from the start 0.
@@ -32,37 +33,37 @@ pub fn frames()
 /// A frame with implicit C-state fits its own members and no others; without its last byte it is no
 /// frame at all.
 pub fn implicit_frames_tell_their_members()
-    ensures own { fits member_width (implicit_frame (0 ∷ [])) 0 0 0 (cstate 0 0 0 (0 ∷ [])) ≡ true }
-    ensures others { fits member_width (implicit_frame (0 ∷ [])) 0 0 0 (cstate 0 0 0 (0 ∷ 1 ∷ [])) ≡ false }
-    ensures formed { is_formed member_width (implicit_frame (0 ∷ [])) 0 0 0 ≡ true }
-    ensures cut { is_formed member_width (take 3 (implicit_frame (0 ∷ []))) 0 0 0 ≡ false }
+    ensures own { fits (member_bytes false) (implicit_frame (0 ∷ [])) 0 0 0 (cstate 0 0 0 (0 ∷ [])) ≡ true }
+    ensures others { fits (member_bytes false) (implicit_frame (0 ∷ [])) 0 0 0 (cstate 0 0 0 (0 ∷ 1 ∷ [])) ≡ false }
+    ensures formed { is_formed (member_bytes false) (implicit_frame (0 ∷ [])) 0 0 0 ≡ true }
+    ensures cut { is_formed (member_bytes false) (take 3 (implicit_frame (0 ∷ []))) 0 0 0 ≡ false }
 {}
 
 /// Frames on which a node joins, in a list whose four slots send an X frame with two bytes, an I
 /// frame, an N frame with two bytes, and an I frame, and of which slot 0 may start.
 pub fn joinable_frames()
-    ensures explicit { joinable mixed_list (frame member_width 2 (cstate 5 0 0 (0 ∷ [])) (1 ∷ 2 ∷ []) 0) ≡ Some (cstate 5 0 0 (0 ∷ [])) }
-    ensures bare { joinable mixed_list (frame member_width 1 (cstate 7 0 1 (0 ∷ 1 ∷ [])) [] 0) ≡ Some (cstate 7 0 1 (0 ∷ 1 ∷ [])) }
+    ensures explicit { joinable mixed_list (frame (member_bytes false) 2 (cstate 5 0 0 (0 ∷ [])) (1 ∷ 2 ∷ []) 0) ≡ Some (cstate 5 0 0 (0 ∷ [])) }
+    ensures bare { joinable mixed_list (frame (member_bytes false) 1 (cstate 7 0 1 (0 ∷ 1 ∷ [])) [] 0) ≡ Some (cstate 7 0 1 (0 ∷ 1 ∷ [])) }
     ensures cold_start { joinable mixed_list cold_start ≡ Some (cstate 0 0 0 (0 ∷ [])) }
-    ensures cold_start_of_another_time { joinable mixed_list (frame member_width 3 (cstate 9 0 0 (0 ∷ [])) [] 0) ≡ Some (cstate 9 0 0 (0 ∷ [])) }
+    ensures cold_start_of_another_time { joinable mixed_list (frame (member_bytes false) 3 (cstate 9 0 0 (0 ∷ [])) [] 0) ≡ Some (cstate 9 0 0 (0 ∷ [])) }
 {}
 
 /// Explicit frames of that list on which no node joins, each for one reason, and one that is not
 /// explicit.
 pub fn frames_that_cannot_be_joined()
-    ensures other_kind { joinable mixed_list (frame member_width 1 (cstate 5 0 0 (0 ∷ [])) [] 0) ≡ None }
-    ensures kind_of_an_implicit_slot { joinable mixed_list (frame member_width 2 (cstate 6 0 2 (2 ∷ [])) (1 ∷ 2 ∷ []) 0) ≡ None }
-    ensures no_kind { joinable mixed_list (frame member_width 4 (cstate 5 0 0 (0 ∷ [])) (1 ∷ 2 ∷ []) 0) ≡ None }
-    ensures too_short { joinable mixed_list (frame member_width 2 (cstate 5 0 0 (0 ∷ [])) (1 ∷ []) 0) ≡ None }
-    ensures too_long { joinable mixed_list (frame member_width 1 (cstate 7 0 1 (1 ∷ [])) (1 ∷ []) 0) ≡ None }
-    ensures cold_start_with_payload { joinable mixed_list (frame member_width 3 (cstate 0 0 0 (0 ∷ [])) (1 ∷ 2 ∷ []) 0) ≡ None }
-    ensures wrong_word { joinable mixed_list (frame member_width 2 (cstate 5 0 0 (0 ∷ [])) (1 ∷ 2 ∷ []) 1) ≡ None }
-    ensures no_such_round { joinable mixed_list (frame member_width 1 (cstate 7 1 1 (1 ∷ [])) [] 0) ≡ None }
-    ensures no_such_slot { joinable mixed_list (frame member_width 1 (cstate 7 0 4 (4 ∷ [])) [] 0) ≡ None }
-    ensures no_such_member { joinable mixed_list (frame member_width 1 (cstate 7 0 1 (1 ∷ 5 ∷ [])) [] 0) ≡ None }
-    ensures owner_is_no_member { joinable mixed_list (frame member_width 1 (cstate 7 0 1 (0 ∷ [])) [] 0) ≡ None }
-    ensures slot_may_not_start { joinable mixed_list (frame member_width 3 (cstate 0 0 1 (1 ∷ [])) [] 0) ≡ None }
-    ensures implicit { joinable mixed_list (frame member_width 0 (cstate 6 0 2 (2 ∷ [])) (1 ∷ 2 ∷ []) 0) ≡ None }
+    ensures other_kind { joinable mixed_list (frame (member_bytes false) 1 (cstate 5 0 0 (0 ∷ [])) [] 0) ≡ None }
+    ensures kind_of_an_implicit_slot { joinable mixed_list (frame (member_bytes false) 2 (cstate 6 0 2 (2 ∷ [])) (1 ∷ 2 ∷ []) 0) ≡ None }
+    ensures no_kind { joinable mixed_list (frame (member_bytes false) 4 (cstate 5 0 0 (0 ∷ [])) (1 ∷ 2 ∷ []) 0) ≡ None }
+    ensures too_short { joinable mixed_list (frame (member_bytes false) 2 (cstate 5 0 0 (0 ∷ [])) (1 ∷ []) 0) ≡ None }
+    ensures too_long { joinable mixed_list (frame (member_bytes false) 1 (cstate 7 0 1 (1 ∷ [])) (1 ∷ []) 0) ≡ None }
+    ensures cold_start_with_payload { joinable mixed_list (frame (member_bytes false) 3 (cstate 0 0 0 (0 ∷ [])) (1 ∷ 2 ∷ []) 0) ≡ None }
+    ensures wrong_word { joinable mixed_list (frame (member_bytes false) 2 (cstate 5 0 0 (0 ∷ [])) (1 ∷ 2 ∷ []) 1) ≡ None }
+    ensures no_such_round { joinable mixed_list (frame (member_bytes false) 1 (cstate 7 1 1 (1 ∷ [])) [] 0) ≡ None }
+    ensures no_such_slot { joinable mixed_list (frame (member_bytes false) 1 (cstate 7 0 4 (4 ∷ [])) [] 0) ≡ None }
+    ensures no_such_member { joinable mixed_list (frame (member_bytes false) 1 (cstate 7 0 1 (1 ∷ 5 ∷ [])) [] 0) ≡ None }
+    ensures owner_is_no_member { joinable mixed_list (frame (member_bytes false) 1 (cstate 7 0 1 (0 ∷ [])) [] 0) ≡ None }
+    ensures slot_may_not_start { joinable mixed_list (frame (member_bytes false) 3 (cstate 0 0 1 (1 ∷ [])) [] 0) ≡ None }
+    ensures implicit { joinable mixed_list (frame (member_bytes false) 0 (cstate 6 0 2 (2 ∷ [])) (1 ∷ 2 ∷ []) 0) ≡ None }
     ensures nothing { joinable mixed_list [] ≡ None }
 {}
 

@@ -1,7 +1,8 @@
 //! Messages: what a host writes, what a frame carries, and what another host may read.
 ghost use Rattle.std.specs.Prelude.{◌≡◌, [], ◌∷◌, ◌++◌, true, false, codes};
 ghost use Rattle.ttp_world.specs.Legal.{is_legal, IsLegal};
-ghost use Rattle.ttp_world.specs.Trace.{write_lines, read_lines, numbers_in};
+ghost use Rattle.ttp_world.specs.Trace.{write_lines, read_lines};
+ghost use Rattle.ttp_world.specs.TraceNumbers.{numbers_in};
 ghost use Rattle.ttp_world.specs.World.{world};
 ghost use Rattle.world_rows.specs.Cases.{bare_list, script_of, loaded_list, loaded_numbers, reading_numbers, sending_slot, no_numbers, lines_in};
 ghost use Rattle.world_rows.specs.Scripts.{written_and_read, reading_status};
