@@ -8,7 +8,7 @@ use Rattle.ttp_world.specs.declared.script.Script.{Script}
 use Rattle.script_text.specs.declared.error.LineFault.{LineFault}
 use Rattle.script_text.specs.declared.error.ScriptError.{ScriptError}
 use Rattle.script_text.specs.declared.error.ScriptError.TheVariants as errors
-use Rattle.script_text.specs.ScriptFile.{is_known, script_with, script_of}
+use Rattle.script_text.specs.ScriptFile.{is_known, file_script, script_of}
 
 -- a slot without payload, and one with two bytes
 abbrev pub bare_slot : Bool → SlotPlan
@@ -34,7 +34,7 @@ four_nodes = list_with 2
 
 -- what a text says where all forms of lines are read, and where those alone are that are built
 abbrev pub all_of : List ℕ → Result Script ScriptError
-all_of text = script_with is_known four_nodes text
+all_of text = file_script is_known four_nodes text
 
 abbrev pub built_of : List ℕ → Result Script ScriptError
 built_of text = script_of four_nodes text

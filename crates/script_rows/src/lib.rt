@@ -4,14 +4,14 @@
 //! equals what the format says of it, and the check computes it. So a wrong definition shows here,
 //! however well the code meets it. Forms of lines that the reader does not build yet are rows too,
 //! of the definition with every form built.
-#![tactic(auto, unfolding(script_text::specs::Lines::lines_of, script_text::specs::Lines::words_of, script_text::specs::Faults::statement_faults, script_text::specs::Faults::stated_faults, script_text::specs::Faults::form_faults, script_text::specs::Faults::line_faults, script_text::specs::Faults::add_line, script_text::specs::ScriptFile::script_in, script_text::specs::ScriptFile::script_by, script_text::specs::ScriptFile::script_with, script_text::specs::ScriptFile::script_of))]
+#![tactic(auto, unfolding(script_text::specs::Lines::lines_of, script_text::specs::Lines::words_of, script_text::specs::Faults::statement_faults, script_text::specs::Faults::stated_faults, script_text::specs::Faults::form_faults, script_text::specs::Faults::line_faults, script_text::specs::Faults::statements_after, script_text::specs::ScriptFile::stated_script, script_text::specs::ScriptFile::lines_script, script_text::specs::ScriptFile::file_script, script_text::specs::ScriptFile::script_of))]
 
 ghost use Rattle.std.specs.Prelude.{◌≡◌, ◌+◌, [], ◌∷◌, ◌++◌, pos, negsuc, true, false, Ok, None, Some, codes, replicate};
 ghost use Rattle.ttp_world.specs.declared.script.Source.TheVariants as source;
 ghost use Rattle.ttp_world.specs.declared.script.Fault.TheVariants as kind;
 ghost use Rattle.ttp_world.specs.declared.script.Event.TheVariants as event;
 ghost use Rattle.script_text.specs.declared.error.LineFault.TheVariants as faults;
-ghost use Rattle.script_text.specs.ScriptFile.{is_known, script_with, script_of};
+ghost use Rattle.script_text.specs.ScriptFile.{is_known, file_script, script_of};
 ghost use Rattle.script_rows.specs.Rows.{list_with, all_of, built_of, at, script, quiet, happens, five_nodes, all_on};
 ghost use Rattle.script_rows.specs.Busy.{eight_nodes, busy_text, busy_script};
 
@@ -43,7 +43,7 @@ pub fn bad_writes_and_reads()
     ensures reads_itself { all_of (codes "slots 20\nread 1 3 1\n") ≡ at 2 faults.Range }
     ensures no_payload_to_read { all_of (codes "slots 20\nread 0 3 2\n") ≡ at 2 faults.NoData }
     ensures too_many_writes { all_of (codes "slots 20\nwrite 1 3 0102\nwrite 1 3 0102\n") ≡ at 3 faults.TooMany }
-    ensures one_buffer { script_with is_known (list_with 1) (codes "slots 20\nwrite 1 3 0102\n") ≡ at 2 faults.NoBuffer }
+    ensures one_buffer { file_script is_known (list_with 1) (codes "slots 20\nwrite 1 3 0102\n") ≡ at 2 faults.NoBuffer }
 {}
 
 /// Forms of lines that are not built yet, and those that would be refused anyway.
@@ -72,7 +72,7 @@ pub fn first_faults()
     ensures no_data_before_range { all_of (codes "slots 20\nwrite 0 99 0\n") ≡ at 2 faults.NoData }
     ensures range_before_repeat { built_of (codes "slots 20\non 0 0\non 0 20\n") ≡ at 3 faults.Range }
     ensures range_of_slots_before_repeat { built_of (codes "slots 20\nslots 0\n") ≡ at 2 faults.Range }
-    ensures range_before_no_buffer { script_with is_known (list_with 1) (codes "slots 20\nwrite 1 20 0102\n") ≡ at 2 faults.Range }
+    ensures range_before_no_buffer { file_script is_known (list_with 1) (codes "slots 20\nwrite 1 20 0102\n") ≡ at 2 faults.Range }
     ensures first_line_first { built_of (codes "slots 20\non 0 20\nwait\n") ≡ at 2 faults.Range }
 {}
 
@@ -176,18 +176,18 @@ pub fn five_nodes_on()
       drift = replicate 5 (pos 0);
       events = [];
     }) }
-    ensures write_and_read { script_with is_known five_nodes (all_on ++ codes "write 2 17 0102030405060708\nread 0 17 2\n") ≡ Ok (record {
+    ensures write_and_read { file_script is_known five_nodes (all_on ++ codes "write 2 17 0102030405060708\nread 0 17 2\n") ≡ Ok (record {
       slots = 20;
       on = replicate 5 (Some 0);
       drift = replicate 5 (pos 0);
       events = event.Write 2 17 (1 ∷ 2 ∷ 3 ∷ 4 ∷ 5 ∷ 6 ∷ 7 ∷ 8 ∷ []) ∷ event.Read 0 17 (source.Node 2) ∷ [];
     }) }
-    ensures two_writes { script_with is_known five_nodes (all_on ++ codes "write 2 17 0102030405060708\nwrite 2 17 0102030405060708\n") ≡ at 8 faults.TooMany }
-    ensures send_past_the_run { script_with is_known five_nodes (codes "slots 20\nsend 2 AB noise 22 22\n") ≡ at 2 faults.Range }
+    ensures two_writes { file_script is_known five_nodes (all_on ++ codes "write 2 17 0102030405060708\nwrite 2 17 0102030405060708\n") ≡ at 8 faults.TooMany }
+    ensures send_past_the_run { file_script is_known five_nodes (codes "slots 20\nsend 2 AB noise 22 22\n") ≡ at 2 faults.Range }
     ensures send_not_built { script_of five_nodes (codes "slots 20\nsend 2 AB noise 22 22\n") ≡ at 2 faults.NotBuilt }
 {}
 
 /// A whole script for eight nodes, seventy-five lines of all forms but two.
 pub fn busy_hosts()
-    ensures script { script_with is_known eight_nodes busy_text ≡ Ok busy_script }
+    ensures script { file_script is_known eight_nodes busy_text ≡ Ok busy_script }
 {}

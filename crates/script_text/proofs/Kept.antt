@@ -4,6 +4,7 @@ use Rattle.std.specs.Prelude.{if◌then◌else◌}
 use Rattle.std.specs.Option.{option_or}
 use Rattle.std.proofs.lemmas.Grind.{common_steps}
 use Rattle.std.proofs.lemmas.Bool.Decides.{nat_tests}
+use Rattle.ttp_base.specs.Faults.{first_fault}
 use Rattle.ttp_world.specs.declared.medl.Medl.{Medl}
 use Rattle.ttp_world.specs.declared.script.Event.{Event}
 use Rattle.script_text.specs.declared.error.LineFault.TheVariants as faults
@@ -12,7 +13,7 @@ use Rattle.script_text.specs.declared.keyword.Keyword.TheVariants as keyword
 use Rattle.script_text.specs.declared.so_far.SoFar.{SoFar}
 use Rattle.script_text.specs.Lines.{word_at}
 use Rattle.script_text.specs.Statement.{Statement, says_slots, says_on, word_count, is_spelled}
-use Rattle.script_text.specs.Faults.{slots_of, faults_by, statement_faults, stated_faults, is_after_slots, form_faults, first_fault}
+use Rattle.script_text.specs.Faults.{slots_of, keyword_faults, statement_faults, stated_faults, is_after_slots, form_faults}
 use Rattle.script_text.specs.Numbers.{number_in}
 use Rattle.script_text.specs.ScriptFile.{is_built}
 use Rattle.script_text.specs.SoFar.{StandsFor, slots_faults, on_faults, TakesForm}
@@ -112,15 +113,16 @@ word_count-le keyword.Receive = lit≤ tt
 word_count-le keyword.Flip = lit≤ tt
 word_count-le keyword.Error = lit≤ tt
 word_count-le keyword.Jump = lit≤ tt
+word_count-le keyword.Arm = lit≤ tt
 word_count-le keyword.Write = lit≤ tt
 word_count-le keyword.Read = lit≤ tt
 
 not_spelled : (form : Keyword) (words : List (List ℕ)) → 6 < length words → is_spelled form words ≡ false
 not_spelled form words long = grind (arith, common_steps, nat_tests, word_count-le form)
 
-pub faults_by-too_long : (built : Keyword → Bool) (list : Medl) (before : List Statement) (words : List (List ℕ)) (form : Option Keyword)
-    → 6 < length words → first_fault (faults_by built list before words form) ≡ Some faults.Word
-faults_by-too_long built list before words None long = refl
-faults_by-too_long built list before words (Some form) long = form_faults-word built list before words form (not_spelled form words long)
+pub keyword_faults-too_long : (built : Keyword → Bool) (list : Medl) (before : List Statement) (words : List (List ℕ)) (form : Option Keyword)
+    → 6 < length words → first_fault (keyword_faults built list before words form) ≡ Some faults.Word
+keyword_faults-too_long built list before words None long = refl
+keyword_faults-too_long built list before words (Some form) long = form_faults-word built list before words form (not_spelled form words long)
 
-pub ruleset kept = (form_faults-word, form_faults-no_slots, form_faults-not_built, form_faults-stated, stated_faults-slots, stated_faults-on, faults_by-too_long)
+pub ruleset kept = (form_faults-word, form_faults-no_slots, form_faults-not_built, form_faults-stated, stated_faults-slots, stated_faults-on, keyword_faults-too_long)

@@ -9,7 +9,7 @@ use Rattle.ttp_world.specs.declared.script.Event.{Event}
 use Rattle.script_text.specs.declared.so_far.SoFar.{SoFar}
 use Rattle.script_text.specs.Statement.{Statement}
 use Rattle.script_text.specs.Faults.{on_of, drift_of}
-use Rattle.script_text.specs.ScriptFile.{end_faults, script_in, script_unless}
+use Rattle.script_text.specs.ScriptFile.{end_faults, stated_script, script_or_fault}
 use Rattle.script_text.specs.SoFar.{StandsFor}
 
 -- what is kept of each node is what the lines say of it
@@ -23,12 +23,12 @@ drift-none : (said : List Statement) → ((k : ℕ) → drift_of said k ≡ None
 drift-none said none a zero = refl
 drift-none said none a (suc n) = rw none (ap (λ (zs : List ℤ). pos 0 ∷ zs) (drift-none said none (a + 1) n))
 
-pub script_in-stated : (list : Medl) (so_far : SoFar) (said : List Statement) (number slots : ℕ) (on : List (Option ℕ)) (drift : List ℤ) (events : List Event)
+pub stated_script-kept : (list : Medl) (so_far : SoFar) (said : List Statement) (number slots : ℕ) (on : List (Option ℕ)) (drift : List ℤ) (events : List Event)
     → StandsFor so_far said → length so_far.on.items ≡ length list.slots
     → so_far.slots ≡ Some slots → on ≡ so_far.on.items → drift ≡ replicate (length list.slots) (pos 0) → events ≡ []
-    → script_unless (end_faults number said) (script_in list said) ≡ Ok (record { slots = slots; on = on; drift = drift; events = events })
-unfolding script_in
-script_in-stated list so_far said number slots on drift events stands nodes some on_is drift_is events_is =
+    → script_or_fault (end_faults number said) (stated_script list said) ≡ Ok (record { slots = slots; on = on; drift = drift; events = events })
+unfolding stated_script
+stated_script-kept list so_far said number slots on drift events stands nodes some on_is drift_is events_is =
     rw (
       sym stands.slots ∙ some,
       on-all so_far said (length list.slots) stands nodes,

@@ -8,6 +8,7 @@ use Rattle.ttp_world.specs.declared.script.Source.{Source}
 use Rattle.ttp_world.specs.declared.script.Source.TheVariants as source
 use Rattle.ttp_world.specs.declared.script.Event.{Event}
 use Rattle.ttp_world.specs.declared.script.Event.TheVariants as event
+use Rattle.ttp_world.specs.declared.script.TheConstants.{SLOT_LIMIT}
 use Rattle.ttp_world.specs.Medl.{plan_at}
 use Rattle.script_text.specs.declared.error.LineFault.{LineFault}
 use Rattle.script_text.specs.declared.error.LineFault.TheVariants as faults
@@ -23,37 +24,37 @@ abbrev pub newest : {X : Type 0} → (Statement → Option X) → List Statement
 newest told [] = None
 newest told (statement ∷ before) = option_or (told statement) (newest told before)
 
-abbrev pub slots_in : Statement → Option ℕ
-slots_in (says_slots count) = Some count
-slots_in _ = None
+abbrev pub slots_said : Statement → Option ℕ
+slots_said (says_slots count) = Some count
+slots_said _ = None
 
-abbrev pub on_in : ℕ → Statement → Option ℕ
-on_in k (says_on node slot) = if node == k then Some slot else None
-on_in k _ = None
+abbrev pub on_said : ℕ → Statement → Option ℕ
+on_said k (says_on node slot) = if node == k then Some slot else None
+on_said k _ = None
 
-abbrev pub drift_in : ℕ → Statement → Option ℤ
-drift_in k (says_drift node value) = if node == k then Some value else None
-drift_in k _ = None
+abbrev pub drift_said : ℕ → Statement → Option ℤ
+drift_said k (says_drift node value) = if node == k then Some value else None
+drift_said k _ = None
 
-abbrev pub event_in : Statement → Option Event
-event_in (says_event e) = Some e
-event_in _ = None
+abbrev pub event_said : Statement → Option Event
+event_said (says_event e) = Some e
+event_said _ = None
 
 -- how many slots the run has, where a line says so
 abbrev pub slots_of : List Statement → Option ℕ
-slots_of before = newest slots_in before
+slots_of before = newest slots_said before
 
 -- when a node is switched on, and how its clock drifts, where a line says so
 abbrev pub on_of : List Statement → ℕ → Option ℕ
-on_of before k = newest (on_in k) before
+on_of before k = newest (on_said k) before
 
 abbrev pub drift_of : List Statement → ℕ → Option ℤ
-drift_of before k = newest (drift_in k) before
+drift_of before k = newest (drift_said k) before
 
 -- all events, in the order of the script
 abbrev pub events_of : List Statement → List Event
 events_of [] = []
-events_of (statement ∷ before) = events_of before ++ option_to_list (event_in statement)
+events_of (statement ∷ before) = events_of before ++ option_to_list (event_said statement)
 
 -- Nodes of the list, and payload.
 
@@ -70,6 +71,7 @@ event_has_nodes list (event.Receive node channels kind from to) = is_node list n
 event_has_nodes list (event.Flip node channels bit slot) = is_node list node
 event_has_nodes list (event.Error node value from to) = is_node list node
 event_has_nodes list (event.Jump node value slot) = is_node list node
+event_has_nodes list (event.Arm node slot) = is_node list node
 event_has_nodes list (event.Write node slot payload) = is_node list node
 event_has_nodes list (event.Read node slot from) = is_node list node && is_read_node (is_node list) from
 
@@ -95,7 +97,7 @@ has_payload list _ = true
 -- Ranges.
 
 abbrev pub is_count : ℕ → Bool
-is_count count = nat_le 1 count && nat_le count 20000
+is_count count = nat_le 1 count && nat_le count SLOT_LIMIT
 
 -- a slot of the run
 abbrev pub is_slot : List Statement → ℕ → Bool
@@ -114,6 +116,7 @@ event_is_in_range list before words (event.Receive node channels kind from to) =
 event_is_in_range list before words (event.Flip node channels bit slot) = nat_le 8 bit && (nat_le bit 2047 && is_slot before slot)
 event_is_in_range list before words (event.Error node value from to) = is_within 10000 value && is_span before from to
 event_is_in_range list before words (event.Jump node value slot) = is_within 1000000 value && is_slot before slot
+event_is_in_range list before words (event.Arm node slot) = is_slot before slot
 event_is_in_range list before words (event.Write node slot payload) = is_slot before slot && (length (word_at words 3) == 2 * payload_size list node)
 event_is_in_range list before words (event.Read node slot from) = is_slot before slot && is_read_node (λ k. not (k == node)) from
 
@@ -153,6 +156,7 @@ unless holds fault = if holds then [] else fault ∷ []
 abbrev pub when : Bool → LineFault → List LineFault
 when holds fault = if holds then fault ∷ [] else []
 
+-- those of a line that states this
 unfoldable pub statement_faults : Medl → List Statement → List (List ℕ) → Statement → List LineFault
 statement_faults list before words statement =
     unless (has_nodes list statement) faults.NoNode
@@ -171,6 +175,7 @@ is_after_slots _ slots = is_some slots
 unfoldable pub stated_faults : Medl → List Statement → List (List ℕ) → Keyword → List LineFault
 stated_faults list before words form = unless (has_numbers form words) faults.Number ++ statement_faults list before words (statement_of form words)
 
+-- those of a line of a form
 unfoldable pub form_faults : (Keyword → Bool) → Medl → List Statement → List (List ℕ) → Keyword → List LineFault
 form_faults built list before words form =
     unless (is_spelled form words) faults.Word
@@ -178,22 +183,20 @@ form_faults built list before words form =
     ++ (unless (built form) faults.NotBuilt
     ++ stated_faults list before words form))
 
-abbrev pub faults_by : (Keyword → Bool) → Medl → List Statement → List (List ℕ) → Option Keyword → List LineFault
-faults_by built list before words None = faults.Word ∷ []
-faults_by built list before words (Some form) = form_faults built list before words form
+-- those of a line whose first word names this form, or none
+abbrev pub keyword_faults : (Keyword → Bool) → Medl → List Statement → List (List ℕ) → Option Keyword → List LineFault
+keyword_faults built list before words None = faults.Word ∷ []
+keyword_faults built list before words (Some form) = form_faults built list before words form
 
+-- those of a line, where these forms are built
 unfoldable pub line_faults : (Keyword → Bool) → Medl → List Statement → List (List ℕ) → List LineFault
-line_faults built list before words = if says_nothing words then [] else faults_by built list before words (keyword_of (word_at words 0))
+line_faults built list before words = if says_nothing words then [] else keyword_faults built list before words (keyword_of (word_at words 0))
+
+-- what the lines state with one line more, whose first word names this form, or none
+abbrev pub keyword_statements : List Statement → List (List ℕ) → Option Keyword → List Statement
+keyword_statements before words None = before
+keyword_statements before words (Some form) = statement_of form words ∷ before
 
 -- what the lines state with one line more
-abbrev pub add_form : List Statement → List (List ℕ) → Option Keyword → List Statement
-add_form before words None = before
-add_form before words (Some form) = statement_of form words ∷ before
-
-unfoldable pub add_line : List Statement → List (List ℕ) → List Statement
-add_line before words = if says_nothing words then before else add_form before words (keyword_of (word_at words 0))
-
--- the first of a line's faults, if it has one
-abbrev pub first_fault : List LineFault → Option LineFault
-first_fault [] = None
-first_fault (fault ∷ found) = Some fault
+unfoldable pub statements_after : List Statement → List (List ℕ) → List Statement
+statements_after before words = if says_nothing words then before else keyword_statements before words (keyword_of (word_at words 0))

@@ -1,6 +1,8 @@
 -- What the reader keeps of the lines that it has read.
 use Rattle.std.specs.Prelude.{◌≡◌, ℕ, ◌<◌, ◌≤◌, ◌&&◌, List, [], ◌∷◌, ◌++◌, length, nat_lt, All, Some, None, is_some, IfSome, unwrap_or, slice_index_or}
+use Rattle.ttp_base.specs.Faults.{first_fault}
 use Rattle.ttp_world.specs.declared.medl.Medl.{Medl}
+use Rattle.ttp_world.specs.declared.script.TheConstants.{SLOT_LIMIT}
 use Rattle.script_text.specs.declared.error.LineFault.{LineFault}
 use Rattle.script_text.specs.declared.error.LineFault.TheVariants as faults
 use Rattle.script_text.specs.declared.keyword.Keyword.{Keyword}
@@ -8,7 +10,7 @@ use Rattle.script_text.specs.declared.so_far.SoFar.{SoFar}
 use Rattle.script_text.specs.Lines.{word_at}
 use Rattle.script_text.specs.Numbers.{is_number, number_in}
 use Rattle.script_text.specs.Statement.{Statement, statement_of}
-use Rattle.script_text.specs.Faults.{slots_of, on_of, drift_of, events_of, is_count, unless, when, form_faults, line_faults, first_fault, add_line}
+use Rattle.script_text.specs.Faults.{slots_of, on_of, drift_of, events_of, is_count, unless, when, form_faults, line_faults, statements_after}
 use Rattle.script_text.specs.ScriptFile.{is_built}
 
 -- the lines so far state this, the newest first: no drift and no event, of which nothing is kept
@@ -20,7 +22,7 @@ pub record StandsFor (so_far : SoFar) (before : List Statement) : Type 0 where
 
 -- the run has slots in their range, and each node is switched on in one of them
 pub record IsInRange (so_far : SoFar) : Type 0 where
-  pub slots : IfSome so_far.slots (λ count. (1 ≤ count) × (count ≤ 20000))
+  pub slots : IfSome so_far.slots (λ count. (1 ≤ count) × (count ≤ SLOT_LIMIT))
   pub on : All (λ on. IfSome on (λ slot. slot < unwrap_or so_far.slots 0)) so_far.on.items
 
 -- the faults of a `slots` line and of an `on` line whose words are spelled as they are due, by what is kept
@@ -53,7 +55,7 @@ RefusesForm list words so_far form fault =
 -- the same of a whole line
 pub record TakesLine (list : Medl) (words : List (List ℕ)) (old new : SoFar) : Type 0 where
   pub faults : (before : List Statement) → StandsFor old before → line_faults is_built list before words ≡ []
-  pub after : (before : List Statement) → StandsFor old before → StandsFor new (add_line before words)
+  pub after : (before : List Statement) → StandsFor old before → StandsFor new (statements_after before words)
 
 abbrev pub RefusesLine : Medl → List (List ℕ) → SoFar → LineFault → Type 0
 RefusesLine list words so_far fault =

@@ -21,8 +21,9 @@ keyword_of word =
     if is_text (codes "flip") word then Some keyword.Flip else (
     if is_text (codes "error") word then Some keyword.Error else (
     if is_text (codes "jump") word then Some keyword.Jump else (
+    if is_text (codes "arm") word then Some keyword.Arm else (
     if is_text (codes "write") word then Some keyword.Write else (
-    if is_text (codes "read") word then Some keyword.Read else None)))))))))
+    if is_text (codes "read") word then Some keyword.Read else None))))))))))
 
 -- how many words a line of a form has
 abbrev pub word_count : Keyword → ℕ
@@ -34,6 +35,7 @@ word_count keyword.Receive = 6
 word_count keyword.Flip = 5
 word_count keyword.Error = 5
 word_count keyword.Jump = 4
+word_count keyword.Arm = 3
 word_count keyword.Write = 4
 word_count keyword.Read = 4
 
@@ -58,6 +60,7 @@ has_numbers keyword.Flip words = is_number (word_at words 1) && (is_number (word
 has_numbers keyword.Error words =
     is_number (word_at words 1) && (is_value (word_at words 2) && (is_number (word_at words 3) && is_number (word_at words 4)))
 has_numbers keyword.Jump words = is_number (word_at words 1) && (is_value (word_at words 2) && is_number (word_at words 3))
+has_numbers keyword.Arm words = is_number (word_at words 1) && is_number (word_at words 2)
 has_numbers keyword.Write words = is_number (word_at words 1) && (is_number (word_at words 2) && is_hex (word_at words 3))
 has_numbers keyword.Read words = is_number (word_at words 1) && (is_number (word_at words 2) && is_source (word_at words 3))
 
@@ -85,5 +88,6 @@ statement_of keyword.Flip words = says_event (event.Flip
 statement_of keyword.Error words = says_event (event.Error
     (number_in (word_at words 1)) (value_in (word_at words 2)) (number_in (word_at words 3)) (number_in (word_at words 4)))
 statement_of keyword.Jump words = says_event (event.Jump (number_in (word_at words 1)) (value_in (word_at words 2)) (number_in (word_at words 3)))
+statement_of keyword.Arm words = says_event (event.Arm (number_in (word_at words 1)) (number_in (word_at words 2)))
 statement_of keyword.Write words = says_event (event.Write (number_in (word_at words 1)) (number_in (word_at words 2)) (hex_bytes_in (word_at words 3)))
 statement_of keyword.Read words = says_event (event.Read (number_in (word_at words 1)) (number_in (word_at words 2)) (source_in (word_at words 3)))

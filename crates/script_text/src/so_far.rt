@@ -1,8 +1,8 @@
 //! What is kept of the lines that were read.
 ghost use Rattle.std.specs.Prelude.{◌≡◌, [], length, Some, IfOk, IfErr, OnOk, OnErr, vec_len, slice_set};
+ghost use Rattle.ttp_base.specs.Faults.{first_fault};
 ghost use Rattle.script_text.specs.Lines.{word_at};
 ghost use Rattle.script_text.specs.Numbers.{number_in};
-ghost use Rattle.script_text.specs.Faults.{first_fault};
 ghost use Rattle.script_text.specs.SoFar.{StandsFor, IsInRange, slots_faults, on_faults};
 
 use crate::error::LineFault;
@@ -10,7 +10,7 @@ use crate::lines::Words;
 use crate::number::number_in;
 use std::alloc::Global;
 use ttp_base::Memory;
-use ttp_world::Medl;
+use ttp_world::{Medl, SLOT_LIMIT};
 
 /// The slots of the run, and for each node the slot in which it is switched on, where lines said so.
 #[derive(Drop)]
@@ -18,9 +18,6 @@ pub(crate) struct SoFar {
     pub(crate) slots: Option<u32>,
     pub(crate) on: Vec<Option<u32>>,
 }
-
-// The most slots of a run.
-const MOST_SLOTS: u32 = 20_000;
 
 impl SoFar {
     /// Nothing was said of so many nodes.
@@ -46,7 +43,7 @@ impl SoFar {
         ensures in_range { IsInRange self.new }
     {
         let count = number_in(words.at(1)).ok_or(LineFault::Number)?;
-        if count < 1 || MOST_SLOTS < count {
+        if count < 1 || SLOT_LIMIT < count {
             return Err(LineFault::Range);
         }
         if self.slots.is_some() {
