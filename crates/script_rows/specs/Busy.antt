@@ -14,16 +14,18 @@ use Rattle.ttp_world.specs.declared.script.Event.TheVariants as event
 use Rattle.ttp_world.specs.declared.script.Script.{Script}
 
 abbrev pub loaded_slot : Bool → SlotPlan
-loaded_slot start = record { kinds = kind.N ∷ kind.X ∷ kind.N ∷ kind.X ∷ []; payload = 16; sync = true; start = start }
+loaded_slot start = record { kinds = kind.N ∷ kind.X ∷ kind.N ∷ kind.X ∷ []; payload = 16; sync = true; start = start; requests = false; live = 1 }
 
 abbrev pub eight_nodes : Medl
 eight_nodes = record {
+  version = 1;
   rounds = 4;
   schedule = 4660;
   buffers = 4;
   drift = pos 1;
   error = pos 2;
   window = pos 64;
+  modes = 1;
   slots = loaded_slot true ∷ loaded_slot true ∷ replicate 6 (loaded_slot false);
 }
 
