@@ -1,6 +1,7 @@
 -- A cluster of eight nodes with four buffers, which all send sixteen bytes, and a script with two faults, two clocks
 -- that drift, reading errors, and a host that writes in twenty slots while another reads.
-use Rattle.std.specs.Prelude.{ℕ, pos, negsuc, Bool, true, false, List, [], ◌∷◌, ◌++◌, codes, decimal, replicate, flat_map, Some}
+use Rattle.std.specs.Prelude.{ℕ, pos, negsuc, Bool, true, false, List, [], ◌∷◌}
+use Rattle.std.specs.Prelude.{◌++◌, codes, decimal, replicate, flat_map, Some}
 use Rattle.std.specs.List.{range_with_len}
 use Rattle.ttp_base.specs.NodeSet.{below}
 use Rattle.ttp_base.specs.Text.{hex}
@@ -14,7 +15,14 @@ use Rattle.ttp_world.specs.declared.script.Event.TheVariants as event
 use Rattle.ttp_world.specs.declared.script.Script.{Script}
 
 abbrev pub loaded_slot : Bool → SlotPlan
-loaded_slot start = record { kinds = kind.N ∷ kind.X ∷ kind.N ∷ kind.X ∷ []; payload = 16; sync = true; start = start; requests = false; live = 1 }
+loaded_slot start = record {
+  kinds = kind.N ∷ kind.X ∷ kind.N ∷ kind.X ∷ [];
+  payload = 16;
+  sync = true;
+  start = start;
+  requests = false;
+  live = 1;
+}
 
 abbrev pub eight_nodes : Medl
 eight_nodes = record {
@@ -44,7 +52,8 @@ busy_slots = range_with_len 100 20
 abbrev pub busy_text : List ℕ
 busy_text =
     codes "slots 400\non 0 0\non 1 0\non 2 0\non 3 0\non 4 0\non 5 0\non 6 0\non 7 0\n"
-    ++ codes "drift 1 1\ndrift 4 -1\nerror 2 2 0 399\nerror 5 -2 0 399\nsend 0 AB noise 40 40\nreceive 3 AB silence 70 70\n"
+    ++ codes "drift 1 1\ndrift 4 -1\nerror 2 2 0 399\nerror 5 -2 0 399\n"
+    ++ codes "send 0 AB noise 40 40\nreceive 3 AB silence 70 70\n"
     ++ flat_map busy_lines busy_slots
 
 abbrev pub busy_script : Script
@@ -53,6 +62,7 @@ busy_script = record {
   on = replicate 8 (Some 0);
   drift = pos 0 ∷ pos 1 ∷ pos 0 ∷ pos 0 ∷ negsuc 0 ∷ pos 0 ∷ pos 0 ∷ pos 0 ∷ [];
   events = event.Error 2 (pos 2) 0 399 ∷ event.Error 5 (negsuc 1) 0 399
-      ∷ event.Send 0 (record { a = true; b = true }) fault.Noise 40 40 ∷ event.Receive 3 (record { a = true; b = true }) fault.Silence 70 70
+      ∷ event.Send 0 (record { a = true; b = true }) fault.Noise 40 40
+      ∷ event.Receive 3 (record { a = true; b = true }) fault.Silence 70 70
       ∷ flat_map busy_events busy_slots;
 }

@@ -62,6 +62,10 @@ all_of text = file_script is_known (four_nodes 2) text
 abbrev pub built_of : List ℕ → Result Script ScriptError
 built_of text = script_of (four_nodes 2) text
 
+-- what a text says for five nodes where all forms are read
+abbrev pub five_of : List ℕ → Result Script ScriptError
+five_of text = file_script is_known five_nodes text
+
 -- a line with a fault
 abbrev pub fault_at : ℕ → LineFault → Result Script ScriptError
 fault_at number fault = Err (errors.Line number fault)

@@ -6,13 +6,15 @@
 //! of the definition with every form built.
 #![tactic(auto, unfolding(script_text::specs::Lines::lines_of, script_text::specs::Lines::words_of, script_text::specs::Faults::statement_faults, script_text::specs::Faults::stated_faults, script_text::specs::Faults::form_faults, script_text::specs::Faults::line_faults, script_text::specs::Faults::statements_after, script_text::specs::ScriptFile::stated_script, script_text::specs::ScriptFile::lines_script, script_text::specs::ScriptFile::file_script, script_text::specs::ScriptFile::script_of))]
 
-ghost use Rattle.std.specs.Prelude.{◌≡◌, ◌+◌, [], ◌∷◌, ◌++◌, pos, negsuc, true, false, Ok, None, Some, codes, replicate};
+ghost use Rattle.std.specs.Prelude.{◌≡◌, ◌+◌, [], ◌∷◌, ◌++◌, pos, negsuc, true};
+ghost use Rattle.std.specs.Prelude.{false, Ok, None, Some, codes, replicate};
 ghost use Rattle.ttp_world.specs.declared.script.Source.TheVariants as source;
 ghost use Rattle.ttp_world.specs.declared.script.Fault.TheVariants as kind;
 ghost use Rattle.ttp_world.specs.declared.script.Event.TheVariants as event;
 ghost use Rattle.script_text.specs.declared.error.LineFault.TheVariants as faults;
 ghost use Rattle.script_text.specs.ScriptFile.{is_known, file_script, script_of};
-ghost use Rattle.script_rows.specs.Rows.{four_nodes, all_of, built_of, fault_at, script, quiet_script, event_script, five_nodes, wide_list, all_on};
+ghost use Rattle.script_rows.specs.Rows.{four_nodes, all_of, built_of, fault_at, script, quiet_script};
+ghost use Rattle.script_rows.specs.Rows.{event_script, five_nodes, five_of, wide_list, all_on};
 ghost use Rattle.script_rows.specs.Busy.{eight_nodes, busy_text, busy_script};
 
 /// Bad scripts: the run's slots, and when nodes are switched on. These are read already.
@@ -43,7 +45,8 @@ pub fn bad_writes_and_reads()
     ensures reads_itself { all_of (codes "slots 20\nread 1 3 1\n") ≡ fault_at 2 faults.Range }
     ensures no_payload_to_read { all_of (codes "slots 20\nread 0 3 2\n") ≡ fault_at 2 faults.NoData }
     ensures too_many_writes { all_of (codes "slots 20\nwrite 1 3 0102\nwrite 1 3 0102\n") ≡ fault_at 3 faults.TooMany }
-    ensures one_buffer { file_script is_known (four_nodes 1) (codes "slots 20\nwrite 1 3 0102\n") ≡ fault_at 2 faults.NoBuffer }
+    ensures one_buffer { file_script is_known (four_nodes 1) (codes "slots 20\nwrite 1 3 0102\n")
+        ≡ fault_at 2 faults.NoBuffer }
 {}
 
 /// Forms of lines that are not built yet, and those that would be refused anyway.
@@ -73,7 +76,8 @@ pub fn first_faults()
     ensures no_data_before_range { all_of (codes "slots 20\nwrite 0 99 0\n") ≡ fault_at 2 faults.NoData }
     ensures range_before_repeat { built_of (codes "slots 20\non 0 0\non 0 20\n") ≡ fault_at 3 faults.Range }
     ensures range_of_slots_before_repeat { built_of (codes "slots 20\nslots 0\n") ≡ fault_at 2 faults.Range }
-    ensures range_before_no_buffer { file_script is_known (four_nodes 1) (codes "slots 20\nwrite 1 20 0102\n") ≡ fault_at 2 faults.Range }
+    ensures range_before_no_buffer { file_script is_known (four_nodes 1) (codes "slots 20\nwrite 1 20 0102\n")
+        ≡ fault_at 2 faults.Range }
     ensures first_line_first { built_of (codes "slots 20\non 0 20\nwait\n") ≡ fault_at 2 faults.Range }
 {}
 
@@ -138,33 +142,43 @@ pub fn numbers()
     ensures plus { built_of (codes "slots +20\n") ≡ fault_at 1 faults.Number }
     ensures minus_where_none_is_due { built_of (codes "slots 20\non -0 0\n") ≡ fault_at 2 faults.Number }
     ensures hexadecimal { built_of (codes "slots 0x14\n") ≡ fault_at 1 faults.Number }
-    ensures minus_zero { all_of (codes "slots 20\njump 0 -0 3\n") ≡ Ok (script 20 (replicate 4 None) (event.Jump 0 (pos 0) 3 ∷ [])) }
+    ensures minus_zero { all_of (codes "slots 20\njump 0 -0 3\n")
+        ≡ Ok (script 20 (replicate 4 None) (event.Jump 0 (pos 0) 3 ∷ [])) }
     ensures minus_and_ten_digits { all_of (codes "slots 20\njump 0 -0000000001 3\n") ≡ fault_at 2 faults.Number }
-    ensures minus_and_nine_digits { all_of (codes "slots 20\njump 0 -000000001 3\n") ≡ Ok (script 20 (replicate 4 None) (event.Jump 0 (negsuc 0) 3 ∷ [])) }
+    ensures minus_and_nine_digits { all_of (codes "slots 20\njump 0 -000000001 3\n")
+        ≡ Ok (script 20 (replicate 4 None) (event.Jump 0 (negsuc 0) 3 ∷ [])) }
     ensures two_signs { all_of (codes "slots 20\njump 0 --1 3\n") ≡ fault_at 2 faults.Number }
     ensures plus_and_value { all_of (codes "slots 20\njump 0 +1 3\n") ≡ fault_at 2 faults.Number }
 {}
 
 /// Scripts without a fault: each form of a line, with what it says.
 pub fn right_lines()
-    ensures on { all_of (codes "slots 20\non 0 0\non 3 19\n") ≡ Ok (script 20 (Some 0 ∷ None ∷ None ∷ Some 19 ∷ []) []) }
-    ensures on_is_built { built_of (codes "slots 20\non 3 19\non 0 0\n") ≡ Ok (script 20 (Some 0 ∷ None ∷ None ∷ Some 19 ∷ []) []) }
+    ensures on { all_of (codes "slots 20\non 0 0\non 3 19\n")
+        ≡ Ok (script 20 (Some 0 ∷ None ∷ None ∷ Some 19 ∷ []) []) }
+    ensures on_is_built { built_of (codes "slots 20\non 3 19\non 0 0\n")
+        ≡ Ok (script 20 (Some 0 ∷ None ∷ None ∷ Some 19 ∷ []) []) }
     ensures drift { all_of (codes "slots 20\ndrift 3 -1000\ndrift 1 7\n") ≡ Ok (record {
       slots = 20;
       on = replicate 4 None;
       drift = pos 0 ∷ pos 7 ∷ pos 0 ∷ negsuc 999 ∷ [];
       events = [];
     }) }
-    ensures send { all_of (codes "slots 20\nsend 2 AB noise 3 19\n") ≡ Ok (event_script (event.Send 2 (record { a = true; b = true }) kind.Noise 3 19)) }
-    ensures receive { all_of (codes "slots 20\nreceive 2 B silence 4 4\n") ≡ Ok (event_script (event.Receive 2 (record { a = false; b = true }) kind.Silence 4 4)) }
-    ensures flip { all_of (codes "slots 20\nflip 2 A 2047 3\n") ≡ Ok (event_script (event.Flip 2 (record { a = true; b = false }) 2047 3)) }
-    ensures error { all_of (codes "slots 20\nerror 2 -10000 0 19\n") ≡ Ok (event_script (event.Error 2 (negsuc 9999) 0 19)) }
+    ensures send { all_of (codes "slots 20\nsend 2 AB noise 3 19\n")
+        ≡ Ok (event_script (event.Send 2 (record { a = true; b = true }) kind.Noise 3 19)) }
+    ensures receive { all_of (codes "slots 20\nreceive 2 B silence 4 4\n")
+        ≡ Ok (event_script (event.Receive 2 (record { a = false; b = true }) kind.Silence 4 4)) }
+    ensures flip { all_of (codes "slots 20\nflip 2 A 2047 3\n")
+        ≡ Ok (event_script (event.Flip 2 (record { a = true; b = false }) 2047 3)) }
+    ensures error { all_of (codes "slots 20\nerror 2 -10000 0 19\n")
+        ≡ Ok (event_script (event.Error 2 (negsuc 9999) 0 19)) }
     ensures jump { all_of (codes "slots 20\njump 2 1000000 3\n") ≡ Ok (event_script (event.Jump 2 (pos 1000000) 3)) }
     ensures write { all_of (codes "slots 20\nwrite 1 3 aF09\n") ≡ Ok (event_script (event.Write 1 3 (175 ∷ 9 ∷ []))) }
-    ensures read_status { all_of (codes "slots 20\nread 1 3 status\n") ≡ Ok (event_script (event.Read 1 3 source.Status)) }
+    ensures read_status { all_of (codes "slots 20\nread 1 3 status\n")
+        ≡ Ok (event_script (event.Read 1 3 source.Status)) }
     ensures read_node { all_of (codes "slots 20\nread 0 3 1\n") ≡ Ok (event_script (event.Read 0 3 (source.Node 1))) }
     ensures in_order { all_of (codes "slots 20\njump 0 1 9\non 0 0\nread 0 3 1\njump 0 1 4\n")
-        ≡ Ok (script 20 (Some 0 ∷ None ∷ None ∷ None ∷ []) (event.Jump 0 (pos 1) 9 ∷ event.Read 0 3 (source.Node 1) ∷ event.Jump 0 (pos 1) 4 ∷ [])) }
+        ≡ Ok (script 20 (Some 0 ∷ None ∷ None ∷ None ∷ [])
+        (event.Jump 0 (pos 1) 9 ∷ event.Read 0 3 (source.Node 1) ∷ event.Jump 0 (pos 1) 4 ∷ [])) }
     ensures writes_apart { all_of (codes "slots 20\nwrite 1 3 0102\nwrite 1 4 0102\n")
         ≡ Ok (script 20 (replicate 4 None) (event.Write 1 3 (1 ∷ 2 ∷ []) ∷ event.Write 1 4 (1 ∷ 2 ∷ []) ∷ [])) }
 {}
@@ -200,15 +214,18 @@ pub fn five_nodes_on()
       drift = replicate 5 (pos 0);
       events = [];
     }) }
-    ensures write_and_read { file_script is_known five_nodes (all_on ++ codes "write 2 17 0102030405060708\nread 0 17 2\n") ≡ Ok (record {
+    ensures write_and_read { five_of (all_on ++ codes "write 2 17 0102030405060708\nread 0 17 2\n") ≡ Ok (record {
       slots = 20;
       on = replicate 5 (Some 0);
       drift = replicate 5 (pos 0);
       events = event.Write 2 17 (1 ∷ 2 ∷ 3 ∷ 4 ∷ 5 ∷ 6 ∷ 7 ∷ 8 ∷ []) ∷ event.Read 0 17 (source.Node 2) ∷ [];
     }) }
-    ensures two_writes { file_script is_known five_nodes (all_on ++ codes "write 2 17 0102030405060708\nwrite 2 17 0102030405060708\n") ≡ fault_at 8 faults.TooMany }
-    ensures send_past_the_run { file_script is_known five_nodes (codes "slots 20\nsend 2 AB noise 22 22\n") ≡ fault_at 2 faults.Range }
-    ensures send_not_built { script_of five_nodes (codes "slots 20\nsend 2 AB noise 22 22\n") ≡ fault_at 2 faults.NotBuilt }
+    ensures two_writes { five_of (all_on ++ codes "write 2 17 0102030405060708\nwrite 2 17 0102030405060708\n")
+        ≡ fault_at 8 faults.TooMany }
+    ensures send_past_the_run { five_of (codes "slots 20\nsend 2 AB noise 22 22\n")
+        ≡ fault_at 2 faults.Range }
+    ensures send_not_built { script_of five_nodes (codes "slots 20\nsend 2 AB noise 22 22\n")
+        ≡ fault_at 2 faults.NotBuilt }
 {}
 
 /// A list of as many nodes as there may be.

@@ -1,7 +1,9 @@
 -- The faults of a line, given what the lines before it state.
 --
 -- The lines before are a list of their statements, the newest first.
-use Rattle.std.specs.Prelude.{ℕ, ◌+◌, ◌*◌, ℤ, nat_abs, Bool, true, false, not, ◌&&◌, ◌==◌, List, [], ◌∷◌, ◌++◌, length, count_by, nat_le, nat_lt, Option, Some, None, is_some, unwrap_or, option_to_list, if◌then◌else◌}
+use Rattle.std.specs.Prelude.{ℕ, ◌+◌, ◌*◌, ℤ, nat_abs, Bool, true, false, not, ◌&&◌, ◌==◌}
+use Rattle.std.specs.Prelude.{List, [], ◌∷◌, ◌++◌, length, count_by, nat_le, nat_lt, Option}
+use Rattle.std.specs.Prelude.{Some, None, is_some, unwrap_or, option_to_list, if◌then◌else◌}
 use Rattle.std.specs.Option.{option_or}
 use Rattle.ttp_world.specs.declared.medl.Medl.{Medl}
 use Rattle.ttp_world.specs.declared.script.Source.{Source}
@@ -15,7 +17,8 @@ use Rattle.script_text.specs.declared.error.LineFault.TheVariants as faults
 use Rattle.script_text.specs.declared.keyword.Keyword.{Keyword}
 use Rattle.script_text.specs.declared.keyword.Keyword.TheVariants as keyword
 use Rattle.script_text.specs.Lines.{word_at, says_nothing}
-use Rattle.script_text.specs.Statement.{Statement, says_slots, says_on, says_drift, says_event, keyword_of, is_spelled, has_numbers, statement_of}
+use Rattle.script_text.specs.Statement.{Statement, says_slots, says_on, says_drift, says_event}
+use Rattle.script_text.specs.Statement.{keyword_of, is_spelled, has_numbers, statement_of}
 
 -- What the lines before state.
 
@@ -113,12 +116,15 @@ is_within bound value = nat_le (nat_abs value) bound
 abbrev pub event_is_in_range : Medl → List Statement → List (List ℕ) → Event → Bool
 event_is_in_range list before words (event.Send node channels kind from to) = is_span before from to
 event_is_in_range list before words (event.Receive node channels kind from to) = is_span before from to
-event_is_in_range list before words (event.Flip node channels bit slot) = nat_le 8 bit && (nat_le bit 2047 && is_slot before slot)
+event_is_in_range list before words (event.Flip node channels bit slot) =
+    nat_le 8 bit && (nat_le bit 2047 && is_slot before slot)
 event_is_in_range list before words (event.Error node value from to) = is_within 10000 value && is_span before from to
 event_is_in_range list before words (event.Jump node value slot) = is_within 1000000 value && is_slot before slot
 event_is_in_range list before words (event.Arm node slot) = is_slot before slot
-event_is_in_range list before words (event.Write node slot payload) = is_slot before slot && (length (word_at words 3) == 2 * payload_size list node)
-event_is_in_range list before words (event.Read node slot from) = is_slot before slot && is_read_node (λ k. not (k == node)) from
+event_is_in_range list before words (event.Write node slot payload) =
+    is_slot before slot && (length (word_at words 3) == 2 * payload_size list node)
+event_is_in_range list before words (event.Read node slot from) =
+    is_slot before slot && is_read_node (λ k. not (k == node)) from
 
 abbrev pub is_in_range : Medl → List Statement → List (List ℕ) → Statement → Bool
 is_in_range list before words (says_slots count) = is_count count
@@ -145,7 +151,8 @@ is_write_at k t (says_event (event.Write node slot payload)) = (node == k) && (s
 is_write_at k t _ = false
 
 abbrev pub fills_buffers : Medl → List Statement → Statement → Bool
-fills_buffers list before (says_event (event.Write node slot payload)) = nat_le list.buffers (count_by (is_write_at node slot) before + 1)
+fills_buffers list before (says_event (event.Write node slot payload)) =
+    nat_le list.buffers (count_by (is_write_at node slot) before + 1)
 fills_buffers list before _ = false
 
 -- The faults of a line, in the order in which they are looked for.
@@ -173,7 +180,8 @@ is_after_slots _ slots = is_some slots
 
 -- those of a line whose words are spelled as its form has them
 unfoldable pub stated_faults : Medl → List Statement → List (List ℕ) → Keyword → List LineFault
-stated_faults list before words form = unless (has_numbers form words) faults.Number ++ statement_faults list before words (statement_of form words)
+stated_faults list before words form =
+    unless (has_numbers form words) faults.Number ++ statement_faults list before words (statement_of form words)
 
 -- those of a line of a form
 unfoldable pub form_faults : (Keyword → Bool) → Medl → List Statement → List (List ℕ) → Keyword → List LineFault
@@ -190,7 +198,8 @@ keyword_faults built list before words (Some form) = form_faults built list befo
 
 -- those of a line, where these forms are built
 unfoldable pub line_faults : (Keyword → Bool) → Medl → List Statement → List (List ℕ) → List LineFault
-line_faults built list before words = if says_nothing words then [] else keyword_faults built list before words (keyword_of (word_at words 0))
+line_faults built list before words =
+    if says_nothing words then [] else keyword_faults built list before words (keyword_of (word_at words 0))
 
 -- what the lines state with one line more, whose first word names this form, or none
 abbrev pub keyword_statements : List Statement → List (List ℕ) → Option Keyword → List Statement
@@ -199,4 +208,5 @@ keyword_statements before words (Some form) = statement_of form words ∷ before
 
 -- what the lines state with one line more
 unfoldable pub statements_after : List Statement → List (List ℕ) → List Statement
-statements_after before words = if says_nothing words then before else keyword_statements before words (keyword_of (word_at words 0))
+statements_after before words =
+    if says_nothing words then before else keyword_statements before words (keyword_of (word_at words 0))

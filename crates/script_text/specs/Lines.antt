@@ -1,5 +1,6 @@
 -- A script file as lines, and a line as words.
-use Rattle.std.specs.Prelude.{ℕ, ◌-◌, Bool, true, false, not, ◌||◌, ◌==◌, List, [], ◌∷◌, map, length, take, filter, slice_index, unwrap_or, slice_get, if◌then◌else◌}
+use Rattle.std.specs.Prelude.{ℕ, ◌-◌, Bool, true, false, not, ◌||◌, ◌==◌, List, [], ◌∷◌, map, length}
+use Rattle.std.specs.Prelude.{take, filter, slice_index, unwrap_or, slice_get, if◌then◌else◌}
 use Rattle.std.specs.List.{slice_split}
 
 -- Lines.

@@ -2,7 +2,8 @@
 --
 -- The faults of a file are one list, over all its lines: those of each line in order, and at last the want of a
 -- `slots` line, which is told of the line after the last. A file with no fault is the script of what its lines state.
-use Rattle.std.specs.Prelude.{ℕ, suc, pos, Bool, true, false, List, [], ◌∷◌, ◌++◌, length, map, unwrap_or, is_some, Result, Ok, Err, if◌then◌else◌}
+use Rattle.std.specs.Prelude.{ℕ, suc, pos, Bool, true, false, List, [], ◌∷◌, ◌++◌, length}
+use Rattle.std.specs.Prelude.{map, unwrap_or, is_some, Result, Ok, Err, if◌then◌else◌}
 use Rattle.ttp_base.specs.NodeSet.{below}
 use Rattle.ttp_world.specs.declared.medl.Medl.{Medl}
 use Rattle.ttp_world.specs.declared.script.Script.{Script}
@@ -41,7 +42,8 @@ abbrev pub file_faults : (Keyword → Bool) → Medl → ℕ → List Statement 
 file_faults built list number before [] = end_faults number before
 file_faults built list number before (line ∷ lines) =
     let words = words_of line in
-    errors_at number (line_faults built list before words) ++ file_faults built list (suc number) (statements_after before words) lines
+    errors_at number (line_faults built list before words)
+    ++ file_faults built list (suc number) (statements_after before words) lines
 
 -- What lines without a fault say.
 
@@ -68,7 +70,8 @@ script_or_fault (fault ∷ found) script = Err fault
 
 -- what lines say where these forms are built
 unfoldable pub lines_script : (Keyword → Bool) → Medl → List (List ℕ) → Result Script ScriptError
-lines_script built list lines = script_or_fault (file_faults built list 1 [] lines) (stated_script list (statements_of [] lines))
+lines_script built list lines =
+    script_or_fault (file_faults built list 1 [] lines) (stated_script list (statements_of [] lines))
 
 -- what the bytes of a file say where these forms are built
 unfoldable pub file_script : (Keyword → Bool) → Medl → List ℕ → Result Script ScriptError
