@@ -14,6 +14,7 @@ use Rattle.ttp_world.specs.declared.script.Event.{Event}
 use Rattle.ttp_world.specs.declared.script.Event.TheVariants as event
 use Rattle.ttp_world.specs.declared.script.Script.{Script}
 
+-- a slot of N and X frames in turn, with sixteen bytes
 abbrev pub loaded_slot : Bool → SlotPlan
 loaded_slot start = record {
   kinds = kind.N ∷ kind.X ∷ kind.N ∷ kind.X ∷ [];
@@ -24,6 +25,7 @@ loaded_slot start = record {
   live = 1;
 }
 
+-- eight such nodes, of which two may start, with four buffers
 abbrev pub eight_nodes : Medl
 eight_nodes = record {
   version = 1;
@@ -46,9 +48,11 @@ busy_lines t =
 abbrev pub busy_events : ℕ → List Event
 busy_events t = event.Write 1 t (replicate 16 t) ∷ event.Read 5 t source.Status ∷ event.Read 5 t (source.Node 1) ∷ []
 
+-- the slots in which the hosts are busy
 abbrev pub busy_slots : List ℕ
 busy_slots = range_with_len 100 20
 
+-- the text of the script, and the script that it is
 abbrev pub busy_text : List ℕ
 busy_text =
     codes "slots 400\non 0 0\non 1 0\non 2 0\non 3 0\non 4 0\non 5 0\non 6 0\non 7 0\n"

@@ -27,6 +27,7 @@ abbrev pub newest : {X : Type 0} → (Statement → Option X) → List Statement
 newest told [] = None
 newest told (statement ∷ before) = option_or (told statement) (newest told before)
 
+-- what one line says of the run's slots, of when node k is on and how its clock drifts, and the event that it is
 abbrev pub slots_said : Statement → Option ℕ
 slots_said (says_slots count) = Some count
 slots_said _ = None
@@ -61,13 +62,16 @@ events_of (statement ∷ before) = events_of before ++ option_to_list (event_sai
 
 -- Nodes of the list, and payload.
 
+-- this is the number of a node of the list
 abbrev pub is_node : Medl → ℕ → Bool
 is_node list k = nat_lt k (length list.slots)
 
+-- a host reads its own status, or a node that passes this test
 abbrev pub is_read_node : (ℕ → Bool) → Source → Bool
 is_read_node test source.Status = true
 is_read_node test (source.Node k) = test k
 
+-- each node that an event names is one of the list
 abbrev pub event_has_nodes : Medl → Event → Bool
 event_has_nodes list (event.Send node channels kind from to) = is_node list node
 event_has_nodes list (event.Receive node channels kind from to) = is_node list node
@@ -85,20 +89,23 @@ has_nodes list (says_on node slot) = is_node list node
 has_nodes list (says_drift node value) = is_node list node
 has_nodes list (says_event e) = event_has_nodes list e
 
+-- the bytes of payload that a node's frames carry
 abbrev pub payload_size : Medl → ℕ → ℕ
 payload_size list k = (plan_at list k).payload
 
-abbrev pub is_sender : Medl → ℕ → Bool
-is_sender list k = nat_le 1 (payload_size list k)
+-- a node sends payload
+abbrev pub sends_payload : Medl → ℕ → Bool
+sends_payload list k = nat_le 1 (payload_size list k)
 
 -- a node whose host writes, and one that is read from, send payload
 abbrev pub has_payload : Medl → Statement → Bool
-has_payload list (says_event (event.Write node slot payload)) = is_sender list node
-has_payload list (says_event (event.Read node slot from)) = is_read_node (is_sender list) from
+has_payload list (says_event (event.Write node slot payload)) = sends_payload list node
+has_payload list (says_event (event.Read node slot from)) = is_read_node (sends_payload list) from
 has_payload list _ = true
 
 -- Ranges.
 
+-- a run may have so many slots
 abbrev pub is_count : ℕ → Bool
 is_count count = nat_le 1 count && nat_le count SLOT_LIMIT
 
@@ -106,13 +113,16 @@ is_count count = nat_le 1 count && nat_le count SLOT_LIMIT
 abbrev pub is_slot : List Statement → ℕ → Bool
 is_slot before slot = nat_lt slot (unwrap_or (slots_of before) 0)
 
+-- first and last slot of a fault
 abbrev pub is_span : List Statement → ℕ → ℕ → Bool
 is_span before from to = is_slot before from && (is_slot before to && nat_le from to)
 
--- a number of microticks lies within plus or minus a bound
+-- a number of microticks lies within plus or minus a bound, bounds included
 abbrev pub is_within : ℕ → ℤ → Bool
 is_within bound value = nat_le (nat_abs value) bound
 
+-- the numbers of an event are in their ranges; a message is written as two digits for each byte, and no host reads
+-- its own node's messages
 abbrev pub event_is_in_range : Medl → List Statement → List (List ℕ) → Event → Bool
 event_is_in_range list before words (event.Send node channels kind from to) = is_span before from to
 event_is_in_range list before words (event.Receive node channels kind from to) = is_span before from to
@@ -126,6 +136,7 @@ event_is_in_range list before words (event.Write node slot payload) =
 event_is_in_range list before words (event.Read node slot from) =
     is_slot before slot && is_read_node (λ k. not (k == node)) from
 
+-- the numbers of a line are in their ranges
 abbrev pub is_in_range : Medl → List Statement → List (List ℕ) → Statement → Bool
 is_in_range list before words (says_slots count) = is_count count
 is_in_range list before words (says_on node slot) = is_slot before slot
@@ -134,6 +145,7 @@ is_in_range list before words (says_event e) = event_is_in_range list before wor
 
 -- What a line says that was said before.
 
+-- a line before said this of the run, or of the node
 abbrev pub is_repeat : List Statement → Statement → Bool
 is_repeat before (says_slots count) = is_some (slots_of before)
 is_repeat before (says_on node slot) = is_some (on_of before node)
@@ -142,6 +154,7 @@ is_repeat before (says_event e) = false
 
 -- Writes of a node's host, which stay fewer in a slot than a ring has buffers.
 
+-- a node's host writes; and that of node k writes in slot t
 abbrev pub is_write : Statement → Bool
 is_write (says_event (event.Write node slot payload)) = true
 is_write _ = false
@@ -150,6 +163,7 @@ abbrev pub is_write_at : ℕ → ℕ → Statement → Bool
 is_write_at k t (says_event (event.Write node slot payload)) = (node == k) && (slot == t)
 is_write_at k t _ = false
 
+-- with this line the writes of the node in that slot reach the number of buffers
 abbrev pub fills_buffers : Medl → List Statement → Statement → Bool
 fills_buffers list before (says_event (event.Write node slot payload)) =
     nat_le list.buffers (count_by (is_write_at node slot) before + 1)
@@ -157,6 +171,7 @@ fills_buffers list before _ = false
 
 -- The faults of a line, in the order in which they are looked for.
 
+-- a fault that is there unless something holds, and one that is there where it holds
 abbrev pub unless : Bool → LineFault → List LineFault
 unless holds fault = if holds then [] else fault ∷ []
 

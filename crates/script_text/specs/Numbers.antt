@@ -19,6 +19,7 @@ is_text text word = bytes_eq word text
 abbrev pub most_digits : ℕ
 most_digits = 9
 
+-- decimal digits, 1 to 9 of them, and the number that they are
 abbrev pub is_number : List ℕ → Bool
 is_number word = list_all is_ascii_digit word && (nat_le 1 (length word) && nat_le (length word) most_digits)
 
@@ -54,6 +55,7 @@ is_source word = is_text (codes "status") word || is_number word
 abbrev pub source_in : List ℕ → Source
 source_in word = if is_text (codes "status") word then source.Status else source.Node (number_in word)
 
+-- `A`, `B` or `AB`
 abbrev pub is_channels : List ℕ → Bool
 is_channels word = is_text (codes "A") word || (is_text (codes "B") word || is_text (codes "AB") word)
 
@@ -63,6 +65,7 @@ channels_in word = record {
   b = is_text (codes "B") word || is_text (codes "AB") word;
 }
 
+-- `silence` or `noise`
 abbrev pub is_fault : List ℕ → Bool
 is_fault word = is_text (codes "silence") word || is_text (codes "noise") word
 

@@ -19,11 +19,13 @@ use Rattle.script_text.specs.Faults.{slots_of, on_of, drift_of, events_of, line_
 
 -- Forms of lines that are read, and that the rest of the bench knows. The others are `NotBuilt`.
 
+-- lines of this form are read
 abbrev pub is_built : Keyword → Bool
 is_built keyword.Slots = true
 is_built keyword.On = true
 is_built _ = false
 
+-- lines of this form are known, as all are
 abbrev pub is_known : Keyword → Bool
 is_known form = true
 

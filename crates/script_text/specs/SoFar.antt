@@ -60,6 +60,7 @@ pub record TakesLine (list : Medl) (words : List (List ℕ)) (old new : SoFar) :
   pub faults : (before : List Statement) → StandsFor old before → line_faults is_built list before words ≡ []
   pub after : (before : List Statement) → StandsFor old before → StandsFor new (statements_after before words)
 
+-- this is the first fault of a whole line, whatever lines are kept
 abbrev pub RefusesLine : Medl → List (List ℕ) → SoFar → LineFault → Type 0
 RefusesLine list words so_far fault =
     (before : List Statement) → StandsFor so_far before

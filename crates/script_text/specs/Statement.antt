@@ -47,6 +47,7 @@ has_channels keyword.Receive words = is_channels (word_at words 2) && is_fault (
 has_channels keyword.Flip words = is_channels (word_at words 2)
 has_channels _ words = true
 
+-- a line has the words of its form, as many, and spelled as they are due
 abbrev pub is_spelled : Keyword → List (List ℕ) → Bool
 is_spelled form words = (length words == word_count form) && has_channels form words
 
@@ -87,6 +88,7 @@ pub data Statement : Type 0 where
   -- something happens in slots
   says_event : Event → Statement
 
+-- what a line of a form states
 abbrev pub statement_of : Keyword → List (List ℕ) → Statement
 statement_of keyword.Slots words = says_slots (number_at words 1)
 statement_of keyword.On words = says_on (number_at words 1) (number_at words 2)
