@@ -21,24 +21,28 @@ use Rattle.script_text.specs.SoFar.{StandsFor, slots_faults, on_faults, TakesFor
 
 -- The faults of a line in turn: its spelling, its place after `slots`, whether it is built, and what it states.
 
-pub form_faults-word : (built : Keyword → Bool) (list : Medl) (before : List Statement) (words : List (List ℕ)) (form : Keyword)
+pub form_faults-word : (built : Keyword → Bool) (list : Medl) (before : List Statement) (words : List (List ℕ))
+    (form : Keyword)
     → is_spelled form words ≡ false → first_fault (form_faults built list before words form) ≡ Some faults.Word
 unfolding form_faults
 form_faults-word built list before words form spelled = grind (arith, common_steps)
 
-pub form_faults-no_slots : (built : Keyword → Bool) (list : Medl) (before : List Statement) (words : List (List ℕ)) (form : Keyword)
+pub form_faults-no_slots : (built : Keyword → Bool) (list : Medl) (before : List Statement) (words : List (List ℕ))
+    (form : Keyword)
     → is_spelled form words ≡ true → is_after_slots form (slots_of before) ≡ false
     → first_fault (form_faults built list before words form) ≡ Some faults.NoSlots
 unfolding form_faults
 form_faults-no_slots built list before words form spelled after = grind (arith, common_steps)
 
-pub form_faults-not_built : (built : Keyword → Bool) (list : Medl) (before : List Statement) (words : List (List ℕ)) (form : Keyword)
+pub form_faults-not_built : (built : Keyword → Bool) (list : Medl) (before : List Statement) (words : List (List ℕ))
+    (form : Keyword)
     → is_spelled form words ≡ true → is_after_slots form (slots_of before) ≡ true → built form ≡ false
     → first_fault (form_faults built list before words form) ≡ Some faults.NotBuilt
 unfolding form_faults
 form_faults-not_built built list before words form spelled after unbuilt = grind (arith, common_steps)
 
-pub form_faults-stated : (built : Keyword → Bool) (list : Medl) (before : List Statement) (words : List (List ℕ)) (form : Keyword)
+pub form_faults-stated : (built : Keyword → Bool) (list : Medl) (before : List Statement) (words : List (List ℕ))
+    (form : Keyword)
     → is_spelled form words ≡ true → is_after_slots form (slots_of before) ≡ true → built form ≡ true
     → form_faults built list before words form ≡ stated_faults list before words form
 unfolding form_faults
@@ -133,7 +137,8 @@ word_count-le keyword.Read = lit≤ tt
 not_spelled : (form : Keyword) (words : List (List ℕ)) → 6 < length words → is_spelled form words ≡ false
 not_spelled form words long = grind (arith, common_steps, nat_tests, word_count-le form)
 
-pub keyword_faults-too_long : (built : Keyword → Bool) (list : Medl) (before : List Statement) (words : List (List ℕ)) (form : Option Keyword)
+pub keyword_faults-too_long : (built : Keyword → Bool) (list : Medl) (before : List Statement) (words : List (List ℕ))
+    (form : Option Keyword)
     → 6 < length words → first_fault (keyword_faults built list before words form) ≡ Some faults.Word
 keyword_faults-too_long built list before words None long = refl
 keyword_faults-too_long built list before words (Some form) long =

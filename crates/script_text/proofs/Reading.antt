@@ -39,12 +39,15 @@ IsReading-none list text so_far stands in_range nodes = record {
 }
 
 -- the faults of what is left, where the first line of it has none
-faults-more : (list : Medl) (number : ℕ) (before : List Statement) (lines : List (List ℕ)) (line : List ℕ) (more : List (List ℕ)) → lines ≡ line ∷ more
+faults-more : (list : Medl) (number : ℕ) (before : List Statement) (lines : List (List ℕ)) (line : List ℕ)
+    (more : List (List ℕ)) → lines ≡ line ∷ more
     → line_faults is_built list before (words_of line) ≡ []
-    → file_faults is_built list number before lines ≡ file_faults is_built list (number + 1) (statements_after before (words_of line)) more
+    → file_faults is_built list number before lines
+    ≡ file_faults is_built list (number + 1) (statements_after before (words_of line)) more
 faults-more list number before lines line more cut none =
     ap (file_faults is_built list number before) cut
-    ∙ ap (λ (found : List LineFault). errors_at number found ++ file_faults is_built list (suc number) (statements_after before (words_of line)) more) none
+    ∙ ap (λ (found : List LineFault).
+    errors_at number found ++ file_faults is_built list (suc number) (statements_after before (words_of line)) more) none
     ∙ ap (λ (n : ℕ). file_faults is_built list n (statements_after before (words_of line)) more) (sym (add-one number))
 
 pub IsReading-more : (list : Medl) (text : List ℕ) (old new : SoFar) (number : ℕ) (rest line more : List ℕ)
@@ -65,12 +68,14 @@ IsReading-more list text old new number rest line more reading cut shorter takes
     }
 
 -- the first fault of a file is that of a line, where the lines before have none
-script_or_fault-first : (number : ℕ) (found : List LineFault) (fault : LineFault) (more : List ScriptError) (script : Script) → first_fault found ≡ Some fault
+script_or_fault-first : (number : ℕ) (found : List LineFault) (fault : LineFault) (more : List ScriptError)
+    (script : Script) → first_fault found ≡ Some fault
     → script_or_fault (errors_at number found ++ more) script ≡ Err (errors.Line number fault)
 script_or_fault-first number [] fault more script here = cc
 script_or_fault-first number (f ∷ found) fault more script here = cc
 
-pub script_of-refused : (list : Medl) (text : List ℕ) (so_far : SoFar) (number : ℕ) (rest line more : List ℕ) (fault : LineFault)
+pub script_of-refused : (list : Medl) (text : List ℕ) (so_far : SoFar) (number : ℕ) (rest line more : List ℕ)
+    (fault : LineFault)
     → IsReading list text so_far number rest → lines_of rest ≡ line ∷ lines_of more
     → RefusesLine list (words_of line) so_far fault
     → script_of list text ≡ Err (errors.Line number fault)

@@ -26,10 +26,12 @@ drift-none : (said : List Statement) → ((k : ℕ) → drift_of said k ≡ None
 drift-none said none a zero = refl
 drift-none said none a (suc n) = rw none (ap (λ (zs : List ℤ). pos 0 ∷ zs) (drift-none said none (a + 1) n))
 
-pub stated_script-kept : (list : Medl) (so_far : SoFar) (said : List Statement) (number slots : ℕ) (on : List (Option ℕ)) (drift : List ℤ) (events : List Event)
+pub stated_script-kept : (list : Medl) (so_far : SoFar) (said : List Statement) (number slots : ℕ)
+    (on : List (Option ℕ)) (drift : List ℤ) (events : List Event)
     → StandsFor so_far said → length so_far.on.items ≡ length list.slots
     → so_far.slots ≡ Some slots → on ≡ so_far.on.items → drift ≡ replicate (length list.slots) (pos 0) → events ≡ []
-    → script_or_fault (end_faults number said) (stated_script list said) ≡ Ok (record { slots = slots; on = on; drift = drift; events = events })
+    → script_or_fault (end_faults number said) (stated_script list said)
+    ≡ Ok (record { slots = slots; on = on; drift = drift; events = events })
 unfolding stated_script
 stated_script-kept list so_far said number slots on drift events stands nodes some on_is drift_is events_is =
     rw (

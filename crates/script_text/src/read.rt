@@ -1,6 +1,6 @@
 //! From the bytes of a file to the script.
 ghost use Rattle.std.specs.Prelude.{List as Items, ◌≡◌, ◌⊎◌, ◌≤◌, [], length, pos, Err};
-ghost use Rattle.std.specs.Prelude.{Some, IfOk, IfErr, OnOk, is_some, vec_len, replicate};
+ghost use Rattle.std.specs.Prelude.{Some, IfOk, IfErr, OnOk, vec_len, replicate};
 ghost use Rattle.ttp_world.specs.Medl.{IsValid};
 ghost use Rattle.ttp_world.specs.Script.{IsValidScript};
 ghost use Rattle.script_text.specs.Lines.{is_comment, lines_of, words_of};
