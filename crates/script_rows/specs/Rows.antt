@@ -1,5 +1,6 @@
--- A list of four nodes for which scripts are read, and what scripts for it say.
+-- Lists for which scripts are read, and what scripts for a list of four nodes say.
 use Rattle.std.specs.Prelude.{ℕ, pos, Bool, true, false, List, [], ◌∷◌, codes, replicate, Option, None, Result, Err}
+use Rattle.ttp_world.specs.declared.medl.Kind.{Kind}
 use Rattle.ttp_world.specs.declared.medl.Kind.TheVariants as kind
 use Rattle.ttp_world.specs.declared.medl.SlotPlan.{SlotPlan}
 use Rattle.ttp_world.specs.declared.medl.Medl.{Medl}
@@ -8,65 +9,79 @@ use Rattle.ttp_world.specs.declared.script.Script.{Script}
 use Rattle.script_text.specs.declared.error.LineFault.{LineFault}
 use Rattle.script_text.specs.declared.error.ScriptError.{ScriptError}
 use Rattle.script_text.specs.declared.error.ScriptError.TheVariants as errors
-use Rattle.script_text.specs.ScriptFile.{is_known, script_with, script_of}
+use Rattle.script_text.specs.ScriptFile.{is_known, file_script, script_of}
 
--- a slot without payload, and one with two bytes
+-- a slot of a list of one round and one mode
+abbrev pub plain_slot : Kind → ℕ → Bool → SlotPlan
+plain_slot frame payload start = record {
+  kinds = frame ∷ [];
+  payload = payload;
+  sync = true;
+  start = start;
+  requests = false;
+  live = 1;
+}
+
+-- a slot without payload, and one with so many bytes
 abbrev pub bare_slot : Bool → SlotPlan
-bare_slot start = record { kinds = kind.I ∷ []; payload = 0; sync = true; start = start }
+bare_slot start = plain_slot kind.I 0 start
 
-abbrev pub full_slot : SlotPlan
-full_slot = record { kinds = kind.N ∷ []; payload = 2; sync = true; start = false }
+abbrev pub full_slot : ℕ → SlotPlan
+full_slot payload = plain_slot kind.N payload false
 
--- four nodes, of which node 1 alone sends payload, with so many buffers
-abbrev pub list_with : ℕ → Medl
-list_with buffers = record {
+-- a list of these slots, with so many buffers
+abbrev pub small_list : ℕ → ℕ → List SlotPlan → Medl
+small_list version buffers slots = record {
+  version = version;
   rounds = 1;
   schedule = 0;
   buffers = buffers;
   drift = pos 0;
   error = pos 0;
   window = pos 1;
-  slots = bare_slot true ∷ full_slot ∷ bare_slot false ∷ bare_slot false ∷ [];
+  modes = 1;
+  slots = slots;
 }
 
-abbrev pub four_nodes : Medl
-four_nodes = list_with 2
+-- four nodes, of which node 1 alone sends payload, two bytes, with so many buffers
+abbrev pub four_nodes : ℕ → Medl
+four_nodes buffers = small_list 1 buffers (bare_slot true ∷ full_slot 2 ∷ bare_slot false ∷ bare_slot false ∷ [])
+
+-- five nodes, of which node 2 alone sends payload, eight bytes
+abbrev pub five_nodes : Medl
+five_nodes = small_list 1 2 (bare_slot true ∷ bare_slot false ∷ full_slot 8 ∷ bare_slot false ∷ bare_slot false ∷ [])
+
+-- as many nodes as a list may have, none of which sends payload
+abbrev pub wide_list : Medl
+wide_list = small_list 2 2 (bare_slot true ∷ replicate 23 (bare_slot false))
 
 -- what a text says where all forms of lines are read, and where those alone are that are built
 abbrev pub all_of : List ℕ → Result Script ScriptError
-all_of text = script_with is_known four_nodes text
+all_of text = file_script is_known (four_nodes 2) text
 
 abbrev pub built_of : List ℕ → Result Script ScriptError
-built_of text = script_of four_nodes text
+built_of text = script_of (four_nodes 2) text
+
+-- what a text says for five nodes where all forms are read
+abbrev pub five_of : List ℕ → Result Script ScriptError
+five_of text = file_script is_known five_nodes text
 
 -- a line with a fault
-abbrev pub at : ℕ → LineFault → Result Script ScriptError
-at number fault = Err (errors.Line number fault)
+abbrev pub fault_at : ℕ → LineFault → Result Script ScriptError
+fault_at number fault = Err (errors.Line number fault)
 
--- a script of so many slots in which no clock drifts
+-- a script of so many slots for four nodes in which no clock drifts
 abbrev pub script : ℕ → List (Option ℕ) → List Event → Script
 script slots on events = record { slots = slots; on = on; drift = replicate 4 (pos 0); events = events }
 
 -- one in which nothing happens
-abbrev pub quiet : ℕ → Script
-quiet slots = script slots (None ∷ None ∷ None ∷ None ∷ []) []
+abbrev pub quiet_script : ℕ → Script
+quiet_script slots = script slots (None ∷ None ∷ None ∷ None ∷ []) []
 
 -- one of twenty slots in which one thing happens
-abbrev pub happens : Event → Script
-happens e = script 20 (replicate 4 None) (e ∷ [])
+abbrev pub event_script : Event → Script
+event_script e = script 20 (replicate 4 None) (e ∷ [])
 
--- five nodes, of which node 2 alone sends payload, eight bytes
-abbrev pub five_nodes : Medl
-five_nodes = record {
-  rounds = 1;
-  schedule = 0;
-  buffers = 2;
-  drift = pos 0;
-  error = pos 0;
-  window = pos 1;
-  slots = bare_slot true ∷ bare_slot false ∷ record { kinds = kind.N ∷ []; payload = 8; sync = true; start = false } ∷ bare_slot false ∷ bare_slot false ∷ [];
-}
-
--- twenty slots, with every node on from the first
+-- twenty slots, with each of five nodes on from the first
 abbrev pub all_on : List ℕ
 all_on = codes "slots 20\non 0 0\non 1 0\non 2 0\non 3 0\non 4 0\n"

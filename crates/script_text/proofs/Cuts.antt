@@ -1,5 +1,6 @@
 -- A text cut at its first line feed, and a line at its first word.
-use Rattle.std.proofs.Common.{◌≡◌, ℕ, zero, suc, ◌+◌, ◌<◌, ◌≤◌, Bool, true, false, cond, List, [], ◌∷◌, length, take, drop, get_or, map, Some, None, filter, arith, refl, ap, sym, ◌∙◌}
+use Rattle.std.proofs.Common.{◌≡◌, ℕ, zero, suc, ◌+◌, ◌<◌, ◌≤◌, Bool, true, false, cond, List, [], ◌∷◌}
+use Rattle.std.proofs.Common.{length, take, drop, get_or, map, Some, None, filter, arith, refl, ap, sym, ◌∙◌}
 use Rattle.std.specs.List.{slice_split, position, position_or_len}
 use Rattle.std.proofs.lemmas.Bool.Decides.{nat_tests}
 use Rattle.std.proofs.lemmas.List.{length-map}
@@ -7,9 +8,11 @@ use Rattle.std.proofs.lemmas.List.Splits.{slice_split_first, length-slice_split,
 use Rattle.std.proofs.lemmas.List.Quantifiers.{position-Some}
 use Rattle.std.proofs.Math.ListN.{drop_of_length-le}
 use Rattle.std.proofs.Math.Seq.{drop-cons}
-use Rattle.script_text.specs.Lines.{is_line_feed, is_blank, is_part, has_bytes, without_return, without_empty_end, lines_of, words_of}
+use Rattle.script_text.specs.Lines.{is_line_feed, is_blank, is_part, has_bytes}
+use Rattle.script_text.specs.Lines.{without_return, without_empty_end, lines_of, words_of}
 
-position_or_len-is : {X : Type 0} (p : X → Bool) (xs : List X) (i : ℕ) → position p xs ≡ Some i → (position_or_len p xs ≡ i) × (position_or_len p xs < length xs)
+position_or_len-is : {X : Type 0} (p : X → Bool) (xs : List X) (i : ℕ) → position p xs ≡ Some i
+    → (position_or_len p xs ≡ i) × (position_or_len p xs < length xs)
 position_or_len-is p xs i here = (grind (arith, nat_tests), grind (arith, nat_tests))
 
 -- the first piece ends where the test first passes
@@ -22,14 +25,16 @@ slice_split_position p xs i d here =
 no_position-length : {X : Type 0} (p : X → Bool) (xs : List X) → position p xs ≡ None → length xs ≤ position_or_len p xs
 no_position-length p xs here = grind (arith, nat_tests)
 
-none-cons : {X : Type 0} (p : X → Bool) (x : X) (xs : List X) → position p (x ∷ xs) ≡ None → (p x ≡ false) × (position p xs ≡ None)
+none-cons : {X : Type 0} (p : X → Bool) (x : X) (xs : List X) → position p (x ∷ xs) ≡ None
+    → (p x ≡ false) × (position p xs ≡ None)
 none-cons p x xs here = (grind (arith, nat_tests), grind (arith, nat_tests))
 
 slice_split_nowhere : {X : Type 0} (p : X → Bool) (xs : List X) → position p xs ≡ None → slice_split p xs ≡ xs ∷ []
 slice_split_nowhere p [] here = refl
 slice_split_nowhere p (x ∷ xs) here = let step = none-cons p x xs here in grind (arith, slice_split_nowhere p xs step.1)
 
-without_empty_end-cons : (line : List ℕ) (lines : List (List ℕ)) → 0 < length lines → without_empty_end (line ∷ lines) ≡ line ∷ without_empty_end lines
+without_empty_end-cons : (line : List ℕ) (lines : List (List ℕ)) → 0 < length lines
+    → without_empty_end (line ∷ lines) ≡ line ∷ without_empty_end lines
 without_empty_end-cons line [] more = grind arith
 without_empty_end-cons line (next ∷ lines) more = refl
 
@@ -37,16 +42,19 @@ has_pieces : (f : List ℕ → List ℕ) (p : ℕ → Bool) (xs : List ℕ) → 
 has_pieces f p xs = omega (arith, length-map (slice_split p xs) f, length-slice_split p xs)
 
 -- the first line ends at the first line feed
-pub lines_of-cut : (text : List ℕ) (i : ℕ) → position is_line_feed text ≡ Some i → lines_of text ≡ without_return (take i text) ∷ lines_of (drop (i + 1) text)
+pub lines_of-cut : (text : List ℕ) (i : ℕ) → position is_line_feed text ≡ Some i
+    → lines_of text ≡ without_return (take i text) ∷ lines_of (drop (i + 1) text)
 unfolding lines_of
 lines_of-cut text i here =
     ap (λ (pieces : List (List ℕ)). without_empty_end (map without_return pieces)) (slice_split_position is_line_feed text i 0 here)
     ∙ without_empty_end-cons (without_return (take i text)) _ (has_pieces without_return is_line_feed (drop (i + 1) text))
 
 -- with no line feed, what is left is a line where it is not empty
-pub lines_of-rest : (text : List ℕ) → position is_line_feed text ≡ None → lines_of text ≡ without_empty_end (without_return text ∷ [])
+pub lines_of-rest : (text : List ℕ) → position is_line_feed text ≡ None
+    → lines_of text ≡ without_empty_end (without_return text ∷ [])
 unfolding lines_of
-lines_of-rest text here = ap (λ (pieces : List (List ℕ)). without_empty_end (map without_return pieces)) (slice_split_nowhere is_line_feed text here)
+lines_of-rest text here =
+    ap (λ (pieces : List (List ℕ)). without_empty_end (map without_return pieces)) (slice_split_nowhere is_line_feed text here)
 
 pub lines_of-empty : lines_of [] ≡ []
 unfolding lines_of
@@ -59,15 +67,18 @@ unfolding words_of
 words_of-blank x xs blank = ap (filter has_bytes) (slice_split-cons_yes is_blank x xs blank)
 
 -- how many blanks stand before the first word of a line that begins with this byte
-blanks-cons : (x : ℕ) (xs : List ℕ) → is_blank x ≡ true → position_or_len is_part (x ∷ xs) ≡ suc (position_or_len is_part xs)
+blanks-cons : (x : ℕ) (xs : List ℕ) → is_blank x ≡ true
+    → position_or_len is_part (x ∷ xs) ≡ suc (position_or_len is_part xs)
 blanks-cons x xs blank = grind arith
 
 blanks-none : (x : ℕ) (xs : List ℕ) → is_blank x ≡ false → position_or_len is_part (x ∷ xs) ≡ 0
 blanks-none x xs part = grind arith
 
-words_of-drop_more : (x : ℕ) (xs : List ℕ) (b : Bool) → is_blank x ≡ b → words_of xs ≡ words_of (drop (position_or_len is_part xs) xs)
+words_of-drop_more : (x : ℕ) (xs : List ℕ) (b : Bool) → is_blank x ≡ b
+    → words_of xs ≡ words_of (drop (position_or_len is_part xs) xs)
     → words_of (x ∷ xs) ≡ words_of (drop (position_or_len is_part (x ∷ xs)) (x ∷ xs))
-words_of-drop_more x xs true blank rest = words_of-blank x xs blank ∙ rest ∙ ap (λ (n : ℕ). words_of (drop n (x ∷ xs))) (sym (blanks-cons x xs blank))
+words_of-drop_more x xs true blank rest =
+    words_of-blank x xs blank ∙ rest ∙ ap (λ (n : ℕ). words_of (drop n (x ∷ xs))) (sym (blanks-cons x xs blank))
 words_of-drop_more x xs false part rest = ap (λ (n : ℕ). words_of (drop n (x ∷ xs))) (sym (blanks-none x xs part))
 
 words_of-drop_blanks : (line : List ℕ) → words_of line ≡ words_of (drop (position_or_len is_part line) line)
@@ -89,31 +100,38 @@ words_of-empty = refl
 
 -- blanks at the front say nothing
 pub words_of-start : (line : List ℕ) (i : ℕ) → position is_part line ≡ Some i → words_of line ≡ words_of (drop i line)
-words_of-start line i here = words_of-drop_blanks line ∙ ap (λ (n : ℕ). words_of (drop n line)) (position_or_len-is is_part line i here).0
+words_of-start line i here =
+    words_of-drop_blanks line ∙ ap (λ (n : ℕ). words_of (drop n line)) (position_or_len-is is_part line i here).0
 
 pub words_of-blanks : (line : List ℕ) → position is_part line ≡ None → words_of line ≡ []
-words_of-blanks line here = words_of-drop_blanks line ∙ ap words_of (drop_of_length-le line (no_position-length is_part line here)) ∙ words_of-empty
+words_of-blanks line here =
+    words_of-drop_blanks line ∙ ap words_of (drop_of_length-le line (no_position-length is_part line here))
+    ∙ words_of-empty
 
 -- a line with a word at its front has a first byte, which is no blank
-front-first : (line : List ℕ) → position is_part line ≡ Some 0 → (0 < length line) × (is_blank (get_or line 0 0) ≡ false)
+front-first : (line : List ℕ) → position is_part line ≡ Some 0
+    → (0 < length line) × (is_blank (get_or line 0 0) ≡ false)
 front-first line front = let first = position-Some is_part line 0 0 front in (first.0, grind (arith, first.1))
 
 -- so the word has bytes
-front-has_bytes : (line : List ℕ) (i : ℕ) → position is_part line ≡ Some 0 → position is_blank line ≡ Some i → has_bytes (take i line) ≡ true
+front-has_bytes : (line : List ℕ) (i : ℕ) → position is_part line ≡ Some 0 → position is_blank line ≡ Some i
+    → has_bytes (take i line) ≡ true
 front-has_bytes line i front end =
     let first = front-first line front in
     let blank = position-Some is_blank line i 0 end in
     has_bytes-take i line (grind (arith, first.1, blank.1)) first.0
 
 -- a word at the front ends at the first blank
-pub words_of-cut : (line : List ℕ) (i : ℕ) → position is_part line ≡ Some 0 → position is_blank line ≡ Some i → words_of line ≡ take i line ∷ words_of (drop (i + 1) line)
+pub words_of-cut : (line : List ℕ) (i : ℕ) → position is_part line ≡ Some 0 → position is_blank line ≡ Some i
+    → words_of line ≡ take i line ∷ words_of (drop (i + 1) line)
 unfolding words_of
 words_of-cut line i front here =
     ap (filter has_bytes) (slice_split_position is_blank line i 0 here)
     ∙ ap (λ (b : Bool). cond b (take i line ∷ words_of (drop (i + 1) line)) (words_of (drop (i + 1) line))) (front-has_bytes line i front here)
 
 -- or it is what is left
-pub words_of-rest : (line : List ℕ) → position is_part line ≡ Some 0 → position is_blank line ≡ None → words_of line ≡ line ∷ []
+pub words_of-rest : (line : List ℕ) → position is_part line ≡ Some 0 → position is_blank line ≡ None
+    → words_of line ≡ line ∷ []
 unfolding words_of
 words_of-rest line front here =
     ap (filter has_bytes) (slice_split_nowhere is_blank line here)
@@ -126,6 +144,8 @@ position-now p x xs passes = grind (arith, nat_tests)
 pub position-start : (line : List ℕ) (i : ℕ) → position is_part line ≡ Some i → position is_part (drop i line) ≡ Some 0
 position-start line i here =
     let first = position-Some is_part line i 0 here in
-    ap (position is_part) (drop-cons line i 0 first.0) ∙ position-now is_part (get_or line i 0) (drop (suc i) line) first.1
+    ap (position is_part) (drop-cons line i 0 first.0)
+    ∙ position-now is_part (get_or line i 0) (drop (suc i) line) first.1
 
-pub ruleset cuts = (lines_of-cut, lines_of-rest, lines_of-empty, words_of-empty, words_of-start, words_of-blanks, words_of-cut, words_of-rest, position-start)
+pub ruleset cuts =
+    (lines_of-cut, lines_of-rest, lines_of-empty, words_of-empty, words_of-start, words_of-blanks, words_of-cut, words_of-rest, position-start)

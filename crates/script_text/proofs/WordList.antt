@@ -6,8 +6,10 @@ use Rattle.std.proofs.lemmas.List.{map-set, take_more_set, length-map, length-ta
 abbrev pub all_now : List (Bor (List ℕ)) → List (List ℕ)
 all_now words = map (λ (p : Bor (List ℕ)). p.now) words
 
-pub length-held : (words : List (Bor (List ℕ))) (count : ℕ) → count ≤ length words → length (take count (all_now words)) ≡ count
-length-held words count within = omega (arith, length-take count (all_now words), length-map words (λ (p : Bor (List ℕ)). p.now))
+pub length-held : (words : List (Bor (List ℕ))) (count : ℕ) → count ≤ length words
+    → length (take count (all_now words)) ≡ count
+length-held words count within =
+    omega (arith, length-take count (all_now words), length-map words (λ (p : Bor (List ℕ)). p.now))
 
 -- one word more
 pub held-push : (words : List (Bor (List ℕ))) (count : ℕ) (word : Bor (List ℕ)) → count < length words

@@ -1,20 +1,24 @@
 -- The faults of a line, given what the lines before it state.
 --
 -- The lines before are a list of their statements, the newest first.
-use Rattle.std.specs.Prelude.{ℕ, ◌+◌, ◌*◌, ℤ, nat_abs, Bool, true, false, not, ◌&&◌, ◌==◌, List, [], ◌∷◌, ◌++◌, length, count_by, nat_le, nat_lt, Option, Some, None, is_some, unwrap_or, option_to_list, if◌then◌else◌}
+use Rattle.std.specs.Prelude.{ℕ, ◌+◌, ◌*◌, ℤ, nat_abs, Bool, true, false, not, ◌&&◌, ◌==◌}
+use Rattle.std.specs.Prelude.{List, [], ◌∷◌, ◌++◌, length, count_by, nat_le, nat_lt, Option}
+use Rattle.std.specs.Prelude.{Some, None, is_some, unwrap_or, option_to_list, if◌then◌else◌}
 use Rattle.std.specs.Option.{option_or}
 use Rattle.ttp_world.specs.declared.medl.Medl.{Medl}
 use Rattle.ttp_world.specs.declared.script.Source.{Source}
 use Rattle.ttp_world.specs.declared.script.Source.TheVariants as source
 use Rattle.ttp_world.specs.declared.script.Event.{Event}
 use Rattle.ttp_world.specs.declared.script.Event.TheVariants as event
+use Rattle.ttp_world.specs.declared.script.TheConstants.{SLOT_LIMIT}
 use Rattle.ttp_world.specs.Medl.{plan_at}
 use Rattle.script_text.specs.declared.error.LineFault.{LineFault}
 use Rattle.script_text.specs.declared.error.LineFault.TheVariants as faults
 use Rattle.script_text.specs.declared.keyword.Keyword.{Keyword}
 use Rattle.script_text.specs.declared.keyword.Keyword.TheVariants as keyword
 use Rattle.script_text.specs.Lines.{word_at, says_nothing}
-use Rattle.script_text.specs.Statement.{Statement, says_slots, says_on, says_drift, says_event, keyword_of, is_spelled, has_numbers, statement_of}
+use Rattle.script_text.specs.Statement.{Statement, says_slots, says_on, says_drift, says_event}
+use Rattle.script_text.specs.Statement.{keyword_of, is_spelled, has_numbers, statement_of}
 
 -- What the lines before state.
 
@@ -23,53 +27,58 @@ abbrev pub newest : {X : Type 0} → (Statement → Option X) → List Statement
 newest told [] = None
 newest told (statement ∷ before) = option_or (told statement) (newest told before)
 
-abbrev pub slots_in : Statement → Option ℕ
-slots_in (says_slots count) = Some count
-slots_in _ = None
+-- what one line says of the run's slots, of when node k is on and how its clock drifts, and the event that it is
+abbrev pub slots_said : Statement → Option ℕ
+slots_said (says_slots count) = Some count
+slots_said _ = None
 
-abbrev pub on_in : ℕ → Statement → Option ℕ
-on_in k (says_on node slot) = if node == k then Some slot else None
-on_in k _ = None
+abbrev pub on_said : ℕ → Statement → Option ℕ
+on_said k (says_on node slot) = if node == k then Some slot else None
+on_said k _ = None
 
-abbrev pub drift_in : ℕ → Statement → Option ℤ
-drift_in k (says_drift node value) = if node == k then Some value else None
-drift_in k _ = None
+abbrev pub drift_said : ℕ → Statement → Option ℤ
+drift_said k (says_drift node value) = if node == k then Some value else None
+drift_said k _ = None
 
-abbrev pub event_in : Statement → Option Event
-event_in (says_event e) = Some e
-event_in _ = None
+abbrev pub event_said : Statement → Option Event
+event_said (says_event e) = Some e
+event_said _ = None
 
 -- how many slots the run has, where a line says so
 abbrev pub slots_of : List Statement → Option ℕ
-slots_of before = newest slots_in before
+slots_of before = newest slots_said before
 
 -- when a node is switched on, and how its clock drifts, where a line says so
 abbrev pub on_of : List Statement → ℕ → Option ℕ
-on_of before k = newest (on_in k) before
+on_of before k = newest (on_said k) before
 
 abbrev pub drift_of : List Statement → ℕ → Option ℤ
-drift_of before k = newest (drift_in k) before
+drift_of before k = newest (drift_said k) before
 
 -- all events, in the order of the script
 abbrev pub events_of : List Statement → List Event
 events_of [] = []
-events_of (statement ∷ before) = events_of before ++ option_to_list (event_in statement)
+events_of (statement ∷ before) = events_of before ++ option_to_list (event_said statement)
 
 -- Nodes of the list, and payload.
 
+-- this is the number of a node of the list
 abbrev pub is_node : Medl → ℕ → Bool
 is_node list k = nat_lt k (length list.slots)
 
+-- a host reads its own status, or a node that passes this test
 abbrev pub is_read_node : (ℕ → Bool) → Source → Bool
 is_read_node test source.Status = true
 is_read_node test (source.Node k) = test k
 
+-- each node that an event names is one of the list
 abbrev pub event_has_nodes : Medl → Event → Bool
 event_has_nodes list (event.Send node channels kind from to) = is_node list node
 event_has_nodes list (event.Receive node channels kind from to) = is_node list node
 event_has_nodes list (event.Flip node channels bit slot) = is_node list node
 event_has_nodes list (event.Error node value from to) = is_node list node
 event_has_nodes list (event.Jump node value slot) = is_node list node
+event_has_nodes list (event.Arm node slot) = is_node list node
 event_has_nodes list (event.Write node slot payload) = is_node list node
 event_has_nodes list (event.Read node slot from) = is_node list node && is_read_node (is_node list) from
 
@@ -80,43 +89,54 @@ has_nodes list (says_on node slot) = is_node list node
 has_nodes list (says_drift node value) = is_node list node
 has_nodes list (says_event e) = event_has_nodes list e
 
+-- the bytes of payload that a node's frames carry
 abbrev pub payload_size : Medl → ℕ → ℕ
 payload_size list k = (plan_at list k).payload
 
-abbrev pub is_sender : Medl → ℕ → Bool
-is_sender list k = nat_le 1 (payload_size list k)
+-- a node sends payload
+abbrev pub sends_payload : Medl → ℕ → Bool
+sends_payload list k = nat_le 1 (payload_size list k)
 
 -- a node whose host writes, and one that is read from, send payload
 abbrev pub has_payload : Medl → Statement → Bool
-has_payload list (says_event (event.Write node slot payload)) = is_sender list node
-has_payload list (says_event (event.Read node slot from)) = is_read_node (is_sender list) from
+has_payload list (says_event (event.Write node slot payload)) = sends_payload list node
+has_payload list (says_event (event.Read node slot from)) = is_read_node (sends_payload list) from
 has_payload list _ = true
 
 -- Ranges.
 
+-- a run may have so many slots
 abbrev pub is_count : ℕ → Bool
-is_count count = nat_le 1 count && nat_le count 20000
+is_count count = nat_le 1 count && nat_le count SLOT_LIMIT
 
 -- a slot of the run
 abbrev pub is_slot : List Statement → ℕ → Bool
 is_slot before slot = nat_lt slot (unwrap_or (slots_of before) 0)
 
+-- first and last slot of a fault
 abbrev pub is_span : List Statement → ℕ → ℕ → Bool
 is_span before from to = is_slot before from && (is_slot before to && nat_le from to)
 
--- a number of microticks lies within plus or minus a bound
+-- a number of microticks lies within plus or minus a bound, bounds included
 abbrev pub is_within : ℕ → ℤ → Bool
 is_within bound value = nat_le (nat_abs value) bound
 
+-- the numbers of an event are in their ranges; a message is written as two digits for each byte, and no host reads
+-- its own node's messages
 abbrev pub event_is_in_range : Medl → List Statement → List (List ℕ) → Event → Bool
 event_is_in_range list before words (event.Send node channels kind from to) = is_span before from to
 event_is_in_range list before words (event.Receive node channels kind from to) = is_span before from to
-event_is_in_range list before words (event.Flip node channels bit slot) = nat_le 8 bit && (nat_le bit 2047 && is_slot before slot)
+event_is_in_range list before words (event.Flip node channels bit slot) =
+    nat_le 8 bit && (nat_le bit 2047 && is_slot before slot)
 event_is_in_range list before words (event.Error node value from to) = is_within 10000 value && is_span before from to
 event_is_in_range list before words (event.Jump node value slot) = is_within 1000000 value && is_slot before slot
-event_is_in_range list before words (event.Write node slot payload) = is_slot before slot && (length (word_at words 3) == 2 * payload_size list node)
-event_is_in_range list before words (event.Read node slot from) = is_slot before slot && is_read_node (λ k. not (k == node)) from
+event_is_in_range list before words (event.Arm node slot) = is_slot before slot
+event_is_in_range list before words (event.Write node slot payload) =
+    is_slot before slot && (length (word_at words 3) == 2 * payload_size list node)
+event_is_in_range list before words (event.Read node slot from) =
+    is_slot before slot && is_read_node (λ k. not (k == node)) from
 
+-- the numbers of a line are in their ranges
 abbrev pub is_in_range : Medl → List Statement → List (List ℕ) → Statement → Bool
 is_in_range list before words (says_slots count) = is_count count
 is_in_range list before words (says_on node slot) = is_slot before slot
@@ -125,6 +145,7 @@ is_in_range list before words (says_event e) = event_is_in_range list before wor
 
 -- What a line says that was said before.
 
+-- a line before said this of the run, or of the node
 abbrev pub is_repeat : List Statement → Statement → Bool
 is_repeat before (says_slots count) = is_some (slots_of before)
 is_repeat before (says_on node slot) = is_some (on_of before node)
@@ -133,6 +154,7 @@ is_repeat before (says_event e) = false
 
 -- Writes of a node's host, which stay fewer in a slot than a ring has buffers.
 
+-- a node's host writes; and that of node k writes in slot t
 abbrev pub is_write : Statement → Bool
 is_write (says_event (event.Write node slot payload)) = true
 is_write _ = false
@@ -141,18 +163,22 @@ abbrev pub is_write_at : ℕ → ℕ → Statement → Bool
 is_write_at k t (says_event (event.Write node slot payload)) = (node == k) && (slot == t)
 is_write_at k t _ = false
 
+-- with this line the writes of the node in that slot reach the number of buffers
 abbrev pub fills_buffers : Medl → List Statement → Statement → Bool
-fills_buffers list before (says_event (event.Write node slot payload)) = nat_le list.buffers (count_by (is_write_at node slot) before + 1)
+fills_buffers list before (says_event (event.Write node slot payload)) =
+    nat_le list.buffers (count_by (is_write_at node slot) before + 1)
 fills_buffers list before _ = false
 
 -- The faults of a line, in the order in which they are looked for.
 
+-- a fault that is there unless something holds, and one that is there where it holds
 abbrev pub unless : Bool → LineFault → List LineFault
 unless holds fault = if holds then [] else fault ∷ []
 
 abbrev pub when : Bool → LineFault → List LineFault
 when holds fault = if holds then fault ∷ [] else []
 
+-- those of a line that states this
 unfoldable pub statement_faults : Medl → List Statement → List (List ℕ) → Statement → List LineFault
 statement_faults list before words statement =
     unless (has_nodes list statement) faults.NoNode
@@ -169,8 +195,10 @@ is_after_slots _ slots = is_some slots
 
 -- those of a line whose words are spelled as its form has them
 unfoldable pub stated_faults : Medl → List Statement → List (List ℕ) → Keyword → List LineFault
-stated_faults list before words form = unless (has_numbers form words) faults.Number ++ statement_faults list before words (statement_of form words)
+stated_faults list before words form =
+    unless (has_numbers form words) faults.Number ++ statement_faults list before words (statement_of form words)
 
+-- those of a line of a form
 unfoldable pub form_faults : (Keyword → Bool) → Medl → List Statement → List (List ℕ) → Keyword → List LineFault
 form_faults built list before words form =
     unless (is_spelled form words) faults.Word
@@ -178,22 +206,22 @@ form_faults built list before words form =
     ++ (unless (built form) faults.NotBuilt
     ++ stated_faults list before words form))
 
-abbrev pub faults_by : (Keyword → Bool) → Medl → List Statement → List (List ℕ) → Option Keyword → List LineFault
-faults_by built list before words None = faults.Word ∷ []
-faults_by built list before words (Some form) = form_faults built list before words form
+-- those of a line whose first word names this form, or none
+abbrev pub keyword_faults : (Keyword → Bool) → Medl → List Statement → List (List ℕ) → Option Keyword → List LineFault
+keyword_faults built list before words None = faults.Word ∷ []
+keyword_faults built list before words (Some form) = form_faults built list before words form
 
+-- those of a line, where these forms are built
 unfoldable pub line_faults : (Keyword → Bool) → Medl → List Statement → List (List ℕ) → List LineFault
-line_faults built list before words = if says_nothing words then [] else faults_by built list before words (keyword_of (word_at words 0))
+line_faults built list before words =
+    if says_nothing words then [] else keyword_faults built list before words (keyword_of (word_at words 0))
+
+-- what the lines state with one line more, whose first word names this form, or none
+abbrev pub keyword_statements : List Statement → List (List ℕ) → Option Keyword → List Statement
+keyword_statements before words None = before
+keyword_statements before words (Some form) = statement_of form words ∷ before
 
 -- what the lines state with one line more
-abbrev pub add_form : List Statement → List (List ℕ) → Option Keyword → List Statement
-add_form before words None = before
-add_form before words (Some form) = statement_of form words ∷ before
-
-unfoldable pub add_line : List Statement → List (List ℕ) → List Statement
-add_line before words = if says_nothing words then before else add_form before words (keyword_of (word_at words 0))
-
--- the first of a line's faults, if it has one
-abbrev pub first_fault : List LineFault → Option LineFault
-first_fault [] = None
-first_fault (fault ∷ found) = Some fault
+unfoldable pub statements_after : List Statement → List (List ℕ) → List Statement
+statements_after before words =
+    if says_nothing words then before else keyword_statements before words (keyword_of (word_at words 0))

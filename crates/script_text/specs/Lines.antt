@@ -1,9 +1,11 @@
 -- A script file as lines, and a line as words.
-use Rattle.std.specs.Prelude.{ℕ, ◌-◌, Bool, true, false, not, ◌||◌, ◌==◌, List, [], ◌∷◌, map, length, take, filter, slice_index, unwrap_or, slice_get, if◌then◌else◌}
+use Rattle.std.specs.Prelude.{ℕ, ◌-◌, Bool, true, false, not, ◌||◌, ◌==◌, List, [], ◌∷◌, map, length}
+use Rattle.std.specs.Prelude.{take, filter, slice_index, unwrap_or, slice_get, if◌then◌else◌}
 use Rattle.std.specs.List.{slice_split}
 
 -- Lines.
 
+-- the byte that ends a line
 abbrev pub is_line_feed : ℕ → Bool
 is_line_feed b = b == 10
 
@@ -11,6 +13,7 @@ is_line_feed b = b == 10
 abbrev pub without_return : List ℕ → List ℕ
 without_return line = if slice_index line (length line - 1) == 13 then take (length line - 1) line else line
 
+-- a line, or a word, is not empty
 abbrev pub has_bytes : List ℕ → Bool
 has_bytes [] = false
 has_bytes (b ∷ bs) = true
@@ -31,6 +34,7 @@ lines_of bytes = without_empty_end (map without_return (slice_split is_line_feed
 abbrev pub is_blank : ℕ → Bool
 is_blank b = b == 32 || b == 9
 
+-- any other byte is part of a word
 abbrev pub is_part : ℕ → Bool
 is_part b = not (is_blank b)
 

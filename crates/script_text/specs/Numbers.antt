@@ -1,5 +1,6 @@
 -- Words that are numbers, channels, faults, sources and hexadecimal digits.
-use Rattle.std.specs.Prelude.{ℕ, ◌+◌, ◌*◌, ℤ, pos, neg_ℤ, Bool, ◌&&◌, ◌||◌, ◌==◌, List, [], ◌∷◌, length, drop, codes, slice_index, nat_le, nat_lt, if◌then◌else◌}
+use Rattle.std.specs.Prelude.{ℕ, ◌+◌, ◌*◌, ℤ, pos, neg_ℤ, Bool, ◌&&◌, ◌||◌, ◌==◌, List, [], ◌∷◌}
+use Rattle.std.specs.Prelude.{length, drop, codes, slice_index, nat_le, nat_lt, if◌then◌else◌}
 use Rattle.std.specs.Char.{digit_value, is_ascii_digit}
 use Rattle.std.specs.List.{list_all}
 use Rattle.std.specs.Str.{bytes_eq}
@@ -18,6 +19,7 @@ is_text text word = bytes_eq word text
 abbrev pub most_digits : ℕ
 most_digits = 9
 
+-- decimal digits, 1 to 9 of them, and the number that they are
 abbrev pub is_number : List ℕ → Bool
 is_number word = list_all is_ascii_digit word && (nat_le 1 (length word) && nat_le (length word) most_digits)
 
@@ -53,6 +55,7 @@ is_source word = is_text (codes "status") word || is_number word
 abbrev pub source_in : List ℕ → Source
 source_in word = if is_text (codes "status") word then source.Status else source.Node (number_in word)
 
+-- `A`, `B` or `AB`
 abbrev pub is_channels : List ℕ → Bool
 is_channels word = is_text (codes "A") word || (is_text (codes "B") word || is_text (codes "AB") word)
 
@@ -62,6 +65,7 @@ channels_in word = record {
   b = is_text (codes "B") word || is_text (codes "AB") word;
 }
 
+-- `silence` or `noise`
 abbrev pub is_fault : List ℕ → Bool
 is_fault word = is_text (codes "silence") word || is_text (codes "noise") word
 

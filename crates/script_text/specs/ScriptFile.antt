@@ -2,7 +2,8 @@
 --
 -- The faults of a file are one list, over all its lines: those of each line in order, and at last the want of a
 -- `slots` line, which is told of the line after the last. A file with no fault is the script of what its lines state.
-use Rattle.std.specs.Prelude.{ℕ, suc, pos, Bool, true, false, List, [], ◌∷◌, ◌++◌, length, map, unwrap_or, is_some, Result, Ok, Err, if◌then◌else◌}
+use Rattle.std.specs.Prelude.{ℕ, suc, pos, Bool, true, false, List, [], ◌∷◌, ◌++◌, length}
+use Rattle.std.specs.Prelude.{map, unwrap_or, is_some, Result, Ok, Err, if◌then◌else◌}
 use Rattle.ttp_base.specs.NodeSet.{below}
 use Rattle.ttp_world.specs.declared.medl.Medl.{Medl}
 use Rattle.ttp_world.specs.declared.script.Script.{Script}
@@ -14,23 +15,25 @@ use Rattle.script_text.specs.declared.keyword.Keyword.{Keyword}
 use Rattle.script_text.specs.declared.keyword.Keyword.TheVariants as keyword
 use Rattle.script_text.specs.Lines.{lines_of, words_of}
 use Rattle.script_text.specs.Statement.{Statement}
-use Rattle.script_text.specs.Faults.{slots_of, on_of, drift_of, events_of, line_faults, add_line}
+use Rattle.script_text.specs.Faults.{slots_of, on_of, drift_of, events_of, line_faults, statements_after}
 
 -- Forms of lines that are read, and that the rest of the bench knows. The others are `NotBuilt`.
 
+-- lines of this form are read
 abbrev pub is_built : Keyword → Bool
 is_built keyword.Slots = true
 is_built keyword.On = true
 is_built _ = false
 
+-- lines of this form are known, as all are
 abbrev pub is_known : Keyword → Bool
 is_known form = true
 
 -- The faults of all lines.
 
 -- faults of the line of this number
-abbrev pub at_line : ℕ → List LineFault → List ScriptError
-at_line number found = map (λ fault. errors.Line number fault) found
+abbrev pub errors_at : ℕ → List LineFault → List ScriptError
+errors_at number found = map (λ fault. errors.Line number fault) found
 
 -- the want of a `slots` line, after all lines before this number
 abbrev pub end_faults : ℕ → List Statement → List ScriptError
@@ -41,17 +44,19 @@ abbrev pub file_faults : (Keyword → Bool) → Medl → ℕ → List Statement 
 file_faults built list number before [] = end_faults number before
 file_faults built list number before (line ∷ lines) =
     let words = words_of line in
-    at_line number (line_faults built list before words) ++ file_faults built list (suc number) (add_line before words) lines
+    errors_at number (line_faults built list before words)
+    ++ file_faults built list (suc number) (statements_after before words) lines
 
 -- What lines without a fault say.
 
 -- what all lines state, the newest first, after lines that state this
 abbrev pub statements_of : List Statement → List (List ℕ) → List Statement
 statements_of before [] = before
-statements_of before (line ∷ lines) = statements_of (add_line before (words_of line)) lines
+statements_of before (line ∷ lines) = statements_of (statements_after before (words_of line)) lines
 
-unfoldable pub script_in : Medl → List Statement → Script
-script_in list said = record {
+-- the script of what all lines state
+unfoldable pub stated_script : Medl → List Statement → Script
+stated_script list said = record {
   slots = unwrap_or (slots_of said) 0;
   on = map (λ k. on_of said k) (below (length list.slots));
   drift = map (λ k. unwrap_or (drift_of said k) (pos 0)) (below (length list.slots));
@@ -61,17 +66,19 @@ script_in list said = record {
 -- The whole file.
 
 -- the script, where nothing is wrong, and else the first fault
-abbrev pub script_unless : List ScriptError → Script → Result Script ScriptError
-script_unless [] script = Ok script
-script_unless (fault ∷ found) script = Err fault
+abbrev pub script_or_fault : List ScriptError → Script → Result Script ScriptError
+script_or_fault [] script = Ok script
+script_or_fault (fault ∷ found) script = Err fault
 
 -- what lines say where these forms are built
-unfoldable pub script_by : (Keyword → Bool) → Medl → List (List ℕ) → Result Script ScriptError
-script_by built list lines = script_unless (file_faults built list 1 [] lines) (script_in list (statements_of [] lines))
+unfoldable pub lines_script : (Keyword → Bool) → Medl → List (List ℕ) → Result Script ScriptError
+lines_script built list lines =
+    script_or_fault (file_faults built list 1 [] lines) (stated_script list (statements_of [] lines))
 
-unfoldable pub script_with : (Keyword → Bool) → Medl → List ℕ → Result Script ScriptError
-script_with built list bytes = script_by built list (lines_of bytes)
+-- what the bytes of a file say where these forms are built
+unfoldable pub file_script : (Keyword → Bool) → Medl → List ℕ → Result Script ScriptError
+file_script built list bytes = lines_script built list (lines_of bytes)
 
 -- what the bytes of a file say: the script, or the first faulty line with its first fault
 unfoldable pub script_of : Medl → List ℕ → Result Script ScriptError
-script_of list bytes = script_with is_built list bytes
+script_of list bytes = file_script is_built list bytes

@@ -26,6 +26,8 @@ pub(crate) fn keyword_of(word: &[u8]) -> Option<Keyword>
         Some(Keyword::Error)
     } else if word == b"jump".as_slice() {
         Some(Keyword::Jump)
+    } else if word == b"arm".as_slice() {
+        Some(Keyword::Arm)
     } else if word == b"write".as_slice() {
         Some(Keyword::Write)
     } else if word == b"read".as_slice() {
@@ -40,7 +42,7 @@ fn word_count(form: Keyword) -> usize
 {
     match form {
         Keyword::Slots => 2,
-        Keyword::On | Keyword::Drift => 3,
+        Keyword::On | Keyword::Drift | Keyword::Arm => 3,
         Keyword::Jump | Keyword::Write | Keyword::Read => 4,
         Keyword::Flip | Keyword::Error => 5,
         Keyword::Send | Keyword::Receive => 6,

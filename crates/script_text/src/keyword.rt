@@ -11,6 +11,7 @@ pub(crate) enum Keyword {
     Flip,
     Error,
     Jump,
+    Arm,
     Write,
     Read,
 }

@@ -1,5 +1,6 @@
 //! A text cut into lines, and a line into words.
-ghost use Rattle.std.specs.Prelude.{◌≡◌, ◌+◌, ◌<◌, ◌≤◌, [], ◌∷◌, ◌++◌, length, map, take, drop, Some, position, IfSome, IfNone};
+ghost use Rattle.std.specs.Prelude.{◌≡◌, ◌+◌, ◌<◌, ◌≤◌, [], ◌∷◌, ◌++◌, length, map};
+ghost use Rattle.std.specs.Prelude.{take, drop, Some, position, IfSome, IfNone};
 ghost use Rattle.script_text.specs.Lines.{is_line_feed, is_blank, is_part, without_return, lines_of, words_of, word_at};
 
 use std::marker::Model;

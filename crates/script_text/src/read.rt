@@ -1,11 +1,13 @@
 //! From the bytes of a file to the script.
-ghost use Rattle.std.specs.Prelude.{List as Items, ◌≡◌, ◌⊎◌, ◌≤◌, [], length, pos, Err, Some, IfOk, IfErr, OnOk, is_some, vec_len, replicate};
+ghost use Rattle.std.specs.Prelude.{List as Items, ◌≡◌, ◌⊎◌, ◌≤◌, [], length, pos, Err};
+ghost use Rattle.std.specs.Prelude.{Some, IfOk, IfErr, OnOk, vec_len, replicate};
 ghost use Rattle.ttp_world.specs.Medl.{IsValid};
 ghost use Rattle.ttp_world.specs.Script.{IsValidScript};
 ghost use Rattle.script_text.specs.Lines.{is_comment, lines_of, words_of};
 ghost use Rattle.script_text.specs.Statement.{Statement};
 ghost use Rattle.script_text.specs.Faults.{is_after_slots};
-ghost use Rattle.script_text.specs.ScriptFile.{is_built, file_faults, end_faults, statements_of, script_in, script_unless, script_of};
+ghost use Rattle.script_text.specs.ScriptFile.{is_built, file_faults, end_faults, statements_of};
+ghost use Rattle.script_text.specs.ScriptFile.{stated_script, script_or_fault, script_of};
 ghost use Rattle.script_text.specs.SoFar.{StandsFor, IsInRange, TakesForm, RefusesForm, TakesLine, RefusesLine};
 
 use crate::error::{LineFault, ScriptError};
@@ -48,7 +50,7 @@ fn take_form(list: &Medl, form: Keyword, words: &Words, so_far: &mut SoFar) -> R
 }
 
 // Takes a line.
-#[tactic(auto, using(crate::proofs::Kept::kept), unfolding(crate::specs::Faults::line_faults, crate::specs::Faults::add_line))]
+#[tactic(auto, using(crate::proofs::Kept::kept), unfolding(crate::specs::Faults::line_faults, crate::specs::Faults::statements_after))]
 fn take_line(list: &Medl, line: &[u8], so_far: &mut SoFar) -> Result<(), LineFault>
     requires in_range { IsInRange so_far.old }
     requires nodes { vec_len so_far.old.on ≡ length list.now.slots }
@@ -89,7 +91,9 @@ fn take_lines(list: &Medl, text: &[u8], so_far: &mut SoFar) -> Result<u32, Scrip
     requires nodes { vec_len so_far.old.on ≡ length list.now.slots }
     requires size { length text.now ≤ 1048576 }
     ensures stands { OnOk result (StandsFor so_far.new (statements_of [] (lines_of text.now))) }
-    ensures faults { IfOk result (λ number. file_faults is_built list.now 1 [] (lines_of text.now) ≡ end_faults number (statements_of [] (lines_of text.now))) }
+    ensures faults { IfOk result (λ number.
+        file_faults is_built list.now 1 [] (lines_of text.now)
+        ≡ end_faults number (statements_of [] (lines_of text.now))) }
     ensures err { IfErr result (λ e. script_of list.now text.now ≡ Err e) }
     ensures in_range { IsInRange so_far.new }
     ensures nodes { vec_len so_far.new.on ≡ vec_len so_far.old.on }
@@ -127,9 +131,11 @@ fn script_from(
     requires in_range { IsInRange so_far }
     requires nodes { vec_len so_far.on ≡ length list.now.slots }
     ensures exact { (said : Items Statement) → StandsFor so_far said
-        → (result ≡ Err ScriptError.Memory) ⊎ (result ≡ script_unless (end_faults number said) (script_in list.now said)) }
+        → (result ≡ Err ScriptError.Memory)
+        ⊎ (result ≡ script_or_fault (end_faults number said) (stated_script list.now said)) }
     ensures valid { IfOk result (IsValidScript list.now) }
-    ensures plain { IfOk result (λ script. (script.events ≡ []) × (script.drift ≡ replicate (length list.now.slots) (pos 0))) }
+    ensures plain { IfOk result (λ script.
+        (script.events ≡ []) × (script.drift ≡ replicate (length list.now.slots) (pos 0))) }
 {
     let Some(slots) = so_far.slots else {
         let fault = LineFault::NoSlots;
@@ -153,13 +159,14 @@ fn script_from(
 ///
 /// The file is gone over once, a line after another, and a line once for its end and once for its
 /// words. Memory is taken for what is said of each node, and none for a line.
-#[tactic(auto, unfolding(crate::specs::ScriptFile::script_of, crate::specs::ScriptFile::script_with, crate::specs::ScriptFile::script_by))]
+#[tactic(auto, unfolding(crate::specs::ScriptFile::script_of, crate::specs::ScriptFile::file_script, crate::specs::ScriptFile::lines_script))]
 pub fn read_script(alloc: Global, list: &Medl, text: &[u8]) -> Result<Script, ScriptError>
     requires valid { IsValid list.now }
     requires size { length text.now ≤ 1048576 }
     ensures exact { (result ≡ Err ScriptError.Memory) ⊎ (result ≡ script_of list.now text.now) }
     ensures valid { IfOk result (IsValidScript list.now) }
-    ensures plain { IfOk result (λ script. (script.events ≡ []) × (script.drift ≡ replicate (length list.now.slots) (pos 0))) }
+    ensures plain { IfOk result (λ script.
+        (script.events ≡ []) × (script.drift ≡ replicate (length list.now.slots) (pos 0))) }
 {
     let mut so_far = SoFar::new(alloc, list.nodes())?;
     let number = take_lines(list, text, &mut so_far)?;

@@ -1,8 +1,7 @@
 //! What is kept of the lines that were read.
 ghost use Rattle.std.specs.Prelude.{◌≡◌, [], length, Some, IfOk, IfErr, OnOk, OnErr, vec_len, slice_set};
-ghost use Rattle.script_text.specs.Lines.{word_at};
-ghost use Rattle.script_text.specs.Numbers.{number_in};
-ghost use Rattle.script_text.specs.Faults.{first_fault};
+ghost use Rattle.ttp_base.specs.Faults.{first_fault};
+ghost use Rattle.script_text.specs.Statement.{number_at};
 ghost use Rattle.script_text.specs.SoFar.{StandsFor, IsInRange, slots_faults, on_faults};
 
 use crate::error::LineFault;
@@ -10,7 +9,7 @@ use crate::lines::Words;
 use crate::number::number_in;
 use std::alloc::Global;
 use ttp_base::Memory;
-use ttp_world::Medl;
+use ttp_world::{Medl, SLOT_LIMIT};
 
 /// The slots of the run, and for each node the slot in which it is switched on, where lines said so.
 #[derive(Drop)]
@@ -18,9 +17,6 @@ pub(crate) struct SoFar {
     pub(crate) slots: Option<u32>,
     pub(crate) on: Vec<Option<u32>>,
 }
-
-// The most slots of a run.
-const MOST_SLOTS: u32 = 20_000;
 
 impl SoFar {
     /// Nothing was said of so many nodes.
@@ -40,13 +36,13 @@ impl SoFar {
     pub(crate) fn take_slots(&mut self, words: &Words) -> Result<(), LineFault>
         requires { IsInRange self.old }
         ensures ok { OnOk result (slots_faults words.now self.old ≡ []) }
-        ensures value { OnOk result (self.new ≡ record self.old { slots = Some (number_in (word_at words.now 1)) }) }
+        ensures value { OnOk result (self.new ≡ record self.old { slots = Some (number_at words.now 1) }) }
         ensures err { IfErr result (λ fault. first_fault (slots_faults words.now self.old) ≡ Some fault) }
         ensures same { OnErr result (self.new ≡ self.old) }
         ensures in_range { IsInRange self.new }
     {
         let count = number_in(words.at(1)).ok_or(LineFault::Number)?;
-        if count < 1 || MOST_SLOTS < count {
+        if count < 1 || SLOT_LIMIT < count {
             return Err(LineFault::Range);
         }
         if self.slots.is_some() {
@@ -63,7 +59,8 @@ impl SoFar {
         requires nodes { vec_len self.old.on ≡ length list.now.slots }
         ensures ok { OnOk result (on_faults words.now list.now self.old ≡ []) }
         ensures slots { OnOk result (self.new.slots ≡ self.old.slots) }
-        ensures on { OnOk result (self.new.on.items ≡ slice_set self.old.on.items (number_in (word_at words.now 1)) (Some (number_in (word_at words.now 2)))) }
+        ensures on { OnOk result
+            (self.new.on.items ≡ slice_set self.old.on.items (number_at words.now 1) (Some (number_at words.now 2))) }
         ensures err { IfErr result (λ fault. first_fault (on_faults words.now list.now self.old) ≡ Some fault) }
         ensures same { OnErr result (self.new ≡ self.old) }
         ensures in_range { IsInRange self.new }

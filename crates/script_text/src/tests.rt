@@ -1,6 +1,6 @@
 //! Scripts with the words that are read so far, right and wrong. The expected answers come from the
 //! format's own text, never from a run.
-ghost use Rattle.std.specs.Prelude.{◌≡◌, [], ◌∷◌, ◌≤◌, length, true, IfOk};
+ghost use Rattle.std.specs.Prelude.{◌≡◌, [], ◌∷◌, ◌≤◌, length, true, false, IfOk};
 ghost use Rattle.ttp_world.specs.declared.medl.Kind.TheVariants as kind;
 ghost use Rattle.ttp_world.specs.Medl.{IsValid};
 
@@ -22,7 +22,14 @@ enum Due {
 }
 
 fn slot_of(alloc: Global, kind: Kind, payload: u8, start: bool) -> Result<SlotPlan, Memory>
-    ensures { IfOk result (λ plan. plan ≡ record { kinds = kind ∷ []; payload = payload; sync = true; start = start }) }
+    ensures { IfOk result (λ plan. plan ≡ record {
+      kinds = kind ∷ [];
+      payload = payload;
+      sync = true;
+      start = start;
+      requests = false;
+      live = 1;
+    }) }
 {
     let mut kinds = List::new(alloc);
     kinds.push(kind)?;
@@ -31,6 +38,8 @@ fn slot_of(alloc: Global, kind: Kind, payload: u8, start: bool) -> Result<SlotPl
         payload,
         sync: true,
         start,
+        requests: false,
+        live: 1,
     })
 }
 
@@ -44,12 +53,14 @@ fn four_nodes(alloc: Global) -> Result<Medl, Memory>
     slots.push(slot_of(alloc, Kind::I, 0, false)?)?;
     slots.push(slot_of(alloc, Kind::I, 0, false)?)?;
     Ok(Medl {
+        version: 1,
         rounds: 1,
         schedule: 0,
         buffers: 2,
         drift: 0,
         error: 0,
         window: 1,
+        modes: 1,
         slots,
     })
 }
@@ -78,7 +89,7 @@ const NONE_ON: [Option<u32>; 4] = [None; 4];
 #[test]
 fn each_script_gives_what_it_is_due_to_give(rt: HostRuntime) -> Result<(), Fail> {
     let list = four_nodes(rt.alloc())?;
-    let cases: [(&[u8], Due); 68] = [
+    let cases: [(&[u8], Due); 77] = [
         // What is read.
         (b"slots 20\n", Due::Script(20, NONE_ON)),
         (b"slots 1", Due::Script(1, NONE_ON)),
@@ -116,6 +127,8 @@ fn each_script_gives_what_it_is_due_to_give(rt: HostRuntime) -> Result<(), Fail>
         (b"#\n#\n\n", Due::Fault(4, LineFault::NoSlots)),
         (b"on 0 0\nslots 20\n", Due::Fault(1, LineFault::NoSlots)),
         (b"send 0 AB noise 0 0\n", Due::Fault(1, LineFault::NoSlots)),
+        (b"arm 0 0\nslots 20\n", Due::Fault(1, LineFault::NoSlots)),
+        (b"arm x 0\n", Due::Fault(1, LineFault::NoSlots)),
         // Words.
         (b"slots\n", Due::Fault(1, LineFault::Word)),
         (b"slots 20 20\n", Due::Fault(1, LineFault::Word)),
@@ -143,7 +156,10 @@ fn each_script_gives_what_it_is_due_to_give(rt: HostRuntime) -> Result<(), Fail>
             Due::Fault(2, LineFault::Word),
         ),
         (b"slots 20\nflip 0 C 8 0\n", Due::Fault(2, LineFault::Word)),
-        (b"slots 20\narm 0 0\n", Due::Fault(2, LineFault::Word)),
+        (b"slots 20\narm 0\n", Due::Fault(2, LineFault::Word)),
+        (b"slots 20\narm 0 0 0\n", Due::Fault(2, LineFault::Word)),
+        (b"slots 20\nArm 0 0\n", Due::Fault(2, LineFault::Word)),
+        (b"arm 0\n", Due::Fault(1, LineFault::Word)),
         // What is not read yet.
         (
             b"slots 20\nsend 2 AB noise 22 22\n",
@@ -169,6 +185,13 @@ fn each_script_gives_what_it_is_due_to_give(rt: HostRuntime) -> Result<(), Fail>
             b"slots 20\njump 0 1 3\n",
             Due::Fault(2, LineFault::NotBuilt),
         ),
+        (b"slots 20\narm 0 19\n", Due::Fault(2, LineFault::NotBuilt)),
+        (
+            b"slots 20\non 0 0\n\tarm  000000003 5 \n",
+            Due::Fault(3, LineFault::NotBuilt),
+        ),
+        (b"slots 20\narm x -1\n", Due::Fault(2, LineFault::NotBuilt)),
+        (b"slots 20\narm 4 20\n", Due::Fault(2, LineFault::NotBuilt)),
         (
             b"slots 20\nwrite 1 3 zz01\n",
             Due::Fault(2, LineFault::NotBuilt),
