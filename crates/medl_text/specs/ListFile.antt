@@ -5,10 +5,13 @@
 -- is not built yet. A file with no fault is the list of its values. A value that is missing or of another kind
 -- counts as 0, no or nothing, since a fault that stands earlier is then the answer. Three keys may be absent:
 -- `modes` is then 1, `requests` is no, and `live` names all modes.
-use Rattle.std.specs.Prelude.{◌==◌, ℕ, suc, ◌+◌, ◌-◌, ◌*◌, ◌^◌, nat_le, ℤ, pos, negsuc, Bool, true, false, ◌&&◌, ◌||◌, List, [], ◌∷◌, ◌++◌, length, map, count_by, codes, Option, Some, None, option_and_then, unwrap_or, Result, Ok, Err, if◌then◌else◌, is_some}
+use Rattle.std.specs.Prelude.{◌==◌, ℕ, suc, ◌+◌, ◌-◌, ◌*◌, ◌^◌, nat_le, ℤ, pos, negsuc, Bool, true, false, ◌&&◌, ◌||◌}
+use Rattle.std.specs.Prelude.{List, [], ◌∷◌, ◌++◌, length, map, count_by, codes, Option, Some, None, option_and_then}
+use Rattle.std.specs.Prelude.{unwrap_or, Result, Ok, Err, if◌then◌else◌, is_some}
 use Rattle.std.specs.List.{list_all, list_any}
 use Rattle.std.specs.Str.{bytes_eq, is_utf8}
-use Rattle.toml.specs.Data.{Data, Items, no_items, item, Members, no_members, member, get_member, as_integer, as_str, as_bool, as_array, as_table}
+use Rattle.toml.specs.Data.{Data, Items, no_items, item, Members, no_members, member, get_member, as_integer, as_str}
+use Rattle.toml.specs.Data.{as_bool, as_array, as_table}
 use Rattle.toml.specs.Parse.{parse_document}
 use Rattle.ttp_world.specs.declared.medl.Kind.{Kind}
 use Rattle.ttp_world.specs.declared.medl.Kind.TheVariants as kind
@@ -42,7 +45,8 @@ key_of names.Live = codes "live"
 -- the keys at the top, and those of a slot, in their order
 abbrev pub top_keys : List FieldName
 top_keys =
-    names.Version ∷ names.Rounds ∷ names.Schedule ∷ names.Buffers ∷ names.Drift ∷ names.Error ∷ names.Window ∷ names.Slot ∷ names.Modes ∷ []
+    names.Version ∷ names.Rounds ∷ names.Schedule ∷ names.Buffers ∷ names.Drift ∷ names.Error ∷ names.Window
+    ∷ names.Slot ∷ names.Modes ∷ []
 
 abbrev pub slot_keys : List FieldName
 slot_keys = names.Kinds ∷ names.DataSize ∷ names.Sync ∷ names.Start ∷ names.Requests ∷ names.Live ∷ []
@@ -125,7 +129,8 @@ abbrev pub letters_faults : ℕ → ℕ → List ℕ → List MedlError
 letters_faults rounds k letters = if length letters == rounds && list_all is_kind letters then [] else errors.Kinds k ∷ []
 
 unfoldable pub kinds_faults : ℕ → ℕ → Members → List MedlError
-kinds_faults rounds k table = key_faults (at_slot k names.Kinds) as_str (letters_faults rounds k) (held_at (at_slot k names.Kinds) table)
+kinds_faults rounds k table =
+    let field = at_slot k names.Kinds in key_faults field as_str (letters_faults rounds k) (held_at field table)
 
 abbrev pub kinds_at : ℕ → Members → List Kind
 kinds_at k table = map kind_of (text_at (at_slot k names.Kinds) table)
@@ -140,7 +145,7 @@ request_faults k payload requests = if requests && (payload == 0) then errors.No
 
 unfoldable pub requests_faults : ℕ → ℕ → Members → List MedlError
 requests_faults k payload table =
-    optional_faults (at_slot k names.Requests) as_bool (request_faults k payload) (held_at (at_slot k names.Requests) table)
+    let field = at_slot k names.Requests in optional_faults field as_bool (request_faults k payload) (held_at field table)
 
 -- The modes in which a slot is live. They are letters, `y` or `n`, one for each mode.
 
@@ -152,7 +157,7 @@ answers_faults modes k letters = if length letters == modes && list_all is_answe
 
 unfoldable pub live_faults : ℕ → ℕ → Members → List MedlError
 live_faults modes k table =
-    optional_faults (at_slot k names.Live) as_str (answers_faults modes k) (held_at (at_slot k names.Live) table)
+    let field = at_slot k names.Live in optional_faults field as_str (answers_faults modes k) (held_at field table)
 
 -- the number whose bit m is 1 where letter m is `y`
 abbrev pub live_of : List ℕ → ℕ
@@ -224,7 +229,8 @@ count_faults version n = if nat_le 4 n && nat_le n (slot_limit version) then [] 
 -- the faults of the slots from number k on
 abbrev pub slots_faults : ℕ → ℕ → ℕ → List Members → List MedlError
 slots_faults rounds modes k [] = []
-slots_faults rounds modes k (table ∷ tables) = slot_faults rounds modes k table ++ slots_faults rounds modes (suc k) tables
+slots_faults rounds modes k (table ∷ tables) =
+    slot_faults rounds modes k table ++ slots_faults rounds modes (suc k) tables
 
 abbrev pub plans_of : ℕ → ℕ → List Members → List SlotPlan
 plans_of modes k [] = []
@@ -252,7 +258,8 @@ unknown_in_slots k (table ∷ tables) = unknown_at_slot k table ++ unknown_in_sl
 -- Slots for clock synchronization, and what is not built yet.
 
 abbrev pub sync_faults : List SlotPlan → List MedlError
-sync_faults plans = let found = count_by (λ plan. plan.sync) plans in if nat_le 4 found then [] else errors.NoSync found ∷ []
+sync_faults plans =
+    let found = count_by (λ plan. plan.sync) plans in if nat_le 4 found then [] else errors.NoSync found ∷ []
 
 abbrev pub unbuilt_slot : ℕ → SlotPlan → List MedlError
 unbuilt_slot k plan = if list_all is_bare plan.kinds then [] else errors.NotBuilt (at_slot k names.Kinds) ∷ []
@@ -265,7 +272,8 @@ unbuilt_slots k (plan ∷ plans) = unbuilt_slot k plan ++ unbuilt_slots (suc k) 
 
 -- how many modes the cluster has
 unfoldable pub modes_faults : Members → List MedlError
-modes_faults file = optional_faults (at_top names.Modes) as_integer (range_faults (at_top names.Modes) 1 8) (held_at (at_top names.Modes) file)
+modes_faults file =
+    let field = at_top names.Modes in optional_faults field as_integer (range_faults field 1 8) (held_at field file)
 
 abbrev pub modes_in : Members → ℕ
 modes_in file = number_or 1 (at_top names.Modes) file

@@ -5,7 +5,9 @@ ghost use Rattle.toml.specs.View.{table_view, items_view};
 ghost use Rattle.ttp_base.specs.Faults.{first_fault};
 ghost use Rattle.ttp_world.specs.Medl.{IsBareList, IsValid, IsValidSlot};
 ghost use Rattle.medl_text.specs.Fault.{IsFirst};
-ghost use Rattle.medl_text.specs.ListFile.{are_tables, tables_of, slots_in, modes_faults, modes_in, slot_limit, count_faults, slots_faults, plans_of, unknown_in_slots, unknown_faults, unbuilt_slots, plans_faults, file_faults, list_in, document_of, medl_of};
+ghost use Rattle.medl_text.specs.ListFile.{are_tables, tables_of, slots_in, modes_faults, modes_in, slot_limit};
+ghost use Rattle.medl_text.specs.ListFile.{count_faults, slots_faults, plans_of, unknown_in_slots, unknown_faults};
+ghost use Rattle.medl_text.specs.ListFile.{unbuilt_slots, plans_faults, file_faults, list_in, document_of, medl_of};
 
 use crate::error::{FieldName, MedlError};
 use crate::slot::{are_bare, slot_of};

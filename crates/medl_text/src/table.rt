@@ -5,7 +5,9 @@ ghost use Rattle.std.specs.BTreeMap.{keys};
 ghost use Rattle.toml.specs.Data.{as_integer, as_bool, as_str};
 ghost use Rattle.toml.specs.View.{view, table_view, array_view, items_view};
 ghost use Rattle.ttp_base.specs.Faults.{first_fault};
-ghost use Rattle.medl_text.specs.ListFile.{at_top, at_slot, held_at, kind_faults, range_faults, key_faults, none_of, number_faults, number_at, flag_faults, flag_at, text_at, array_faults, items_at, are_tables, is_among, has_only};
+ghost use Rattle.medl_text.specs.ListFile.{at_top, at_slot, held_at, kind_faults, range_faults, key_faults, none_of};
+ghost use Rattle.medl_text.specs.ListFile.{number_faults, number_at, flag_faults, flag_at, text_at, array_faults};
+ghost use Rattle.medl_text.specs.ListFile.{items_at, are_tables, is_among, has_only};
 
 use crate::error::{Field, FieldName, MedlError};
 use toml::value::Array;
@@ -49,7 +51,8 @@ pub(crate) fn number_in(value: &Value, field: Field, low: u32, high: u32) -> Res
     ensures ok { IfOk result (λ v. kind_faults field (range_faults field low high) (as_integer (view value.now)) ≡ []) }
     ensures value { IfOk result (λ v. as_integer (view value.now) ≡ Some (pos v)) }
     ensures range { IfOk result (λ v. (low ≤ v) × (v ≤ high)) }
-    ensures err { IfErr result (λ e. first_fault (kind_faults field (range_faults field low high) (as_integer (view value.now))) ≡ Some e) }
+    ensures err { IfErr result
+        (λ e. first_fault (kind_faults field (range_faults field low high) (as_integer (view value.now))) ≡ Some e) }
 {
     let Some(value) = value.as_integer() else {
         return Err(MedlError::WrongKind { field });
@@ -101,7 +104,8 @@ pub(crate) fn flag(table: &Table, field: Field) -> Result<bool, MedlError>
 pub(crate) fn text(table: &Table, field: Field) -> Result<&str, MedlError>
     ensures ok { IfOk result (λ v. key_faults field as_str none_of (held_at field (table_view table.now)) ≡ []) }
     ensures value { IfOk result (λ v. v.now ≡ text_at field (table_view table.now)) }
-    ensures err { IfErr result (λ e. first_fault (key_faults field as_str none_of (held_at field (table_view table.now))) ≡ Some e) }
+    ensures err { IfErr result
+        (λ e. first_fault (key_faults field as_str none_of (held_at field (table_view table.now))) ≡ Some e) }
 {
     text_in(present(table, field)?, field)
 }
