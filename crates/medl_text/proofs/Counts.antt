@@ -9,8 +9,8 @@ pub length-tables_of : (vs : List Value) → length (tables_of (items_view vs)) 
 length-tables_of [] = refl
 length-tables_of (v ∷ vs) = ap suc (length-tables_of vs)
 
-pub length-plans_of : (k : ℕ) (tables : List Members) → length (plans_of k tables) ≡ length tables
-length-plans_of k [] = refl
-length-plans_of k (table ∷ tables) = ap suc (length-plans_of (suc k) tables)
+pub length-plans_of : (modes k : ℕ) (tables : List Members) → length (plans_of modes k tables) ≡ length tables
+length-plans_of modes k [] = refl
+length-plans_of modes k (table ∷ tables) = ap suc (length-plans_of modes (suc k) tables)
 
 pub ruleset counts = (length-tables_of, length-plans_of)

@@ -1,5 +1,6 @@
 -- Values and tables of a document, one after another.
-use Rattle.std.proofs.Common.{◌≡◌, ◌&&◌, true, ℕ, ◌+◌, ◌<◌, List, [], ◌∷◌, ◌++◌, length, get_or, drop, String, Global, string_bytes, refl, ap, sym, ◌∙◌}
+use Rattle.std.proofs.Common.{◌≡◌, ◌&&◌, true, ℕ, ◌+◌, ◌<◌, List, [], ◌∷◌, ◌++◌, length, get_or, drop, String, Global}
+use Rattle.std.proofs.Common.{string_bytes, refl, ap, sym, ◌∙◌}
 use Rattle.std.specs.Option.{is_some}
 use Rattle.std.specs.List.{list_all, AllByRecursion}
 use Rattle.std.specs.Map.{keys_of}
@@ -25,8 +26,8 @@ has_only-entries known [] = refl
 has_only-entries known (e ∷ es) = ap (λ rest. is_among known (string_bytes e.0) && rest) (has_only-entries known es)
 
 -- The first slots have no fault and were read, so that what is left decides.
-pub record AreRead (rounds : ℕ) (vs : List Value) (plans : List SlotPlan) (k : ℕ) : Type 0 where
+pub record AreRead (rounds modes : ℕ) (vs : List Value) (plans : List SlotPlan) (k : ℕ) : Type 0 where
   pub tables : are_tables (items_view (drop k vs)) ≡ true
-  pub faults : slots_faults rounds 0 (tables_of (items_view vs)) ≡ slots_faults rounds k (tables_of (items_view (drop k vs)))
-  pub values : plans_of 0 (tables_of (items_view vs)) ≡ plans ++ plans_of k (tables_of (items_view (drop k vs)))
-  pub valid : AllByRecursion (IsValidSlot rounds) plans
+  pub faults : slots_faults rounds modes 0 (tables_of (items_view vs)) ≡ slots_faults rounds modes k (tables_of (items_view (drop k vs)))
+  pub values : plans_of modes 0 (tables_of (items_view vs)) ≡ plans ++ plans_of modes k (tables_of (items_view (drop k vs)))
+  pub valid : AllByRecursion (IsValidSlot rounds modes) plans

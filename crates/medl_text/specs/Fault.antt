@@ -1,13 +1,9 @@
 -- The first of the things that are wrong with a list file.
-use Rattle.std.specs.Prelude.{◌≡◌, ◌⊎◌, List, [], ◌∷◌, Option, Some, None}
+use Rattle.std.specs.Prelude.{◌≡◌, ◌⊎◌, List, Some}
+use Rattle.ttp_base.specs.Faults.{first_fault}
 use Rattle.medl_text.specs.declared.error.MedlError.{MedlError}
 use Rattle.medl_text.specs.declared.error.MedlError.TheVariants as errors
 
--- the first one, if anything is wrong
-abbrev pub first : List MedlError → Option MedlError
-first [] = None
-first (e ∷ es) = Some e
-
 -- e is the first fault, or memory was refused
 abbrev pub IsFirst : MedlError → List MedlError → Type 0
-IsFirst e faults = (e ≡ errors.Memory) ⊎ (first faults ≡ Some e)
+IsFirst e faults = (e ≡ errors.Memory) ⊎ (first_fault faults ≡ Some e)

@@ -1,5 +1,4 @@
 pub mod ListFile
 pub mod Fault
-pub mod Numbers
 pub mod Schedule
 pub mod Starters

@@ -3,17 +3,21 @@
 -- The faults of a file are one list, over whole tables: those of each key at the top in the keys' order, of the
 -- number of slots, of each slot's keys, of keys that no list has, of the number of slots with `sync`, and of what
 -- is not built yet. A file with no fault is the list of its values. A value that is missing or of another kind
--- counts as 0, no or nothing, since a fault that stands earlier is then the answer.
-use Rattle.std.specs.Prelude.{◌==◌, ℕ, suc, nat_le, ℤ, pos, negsuc, Bool, true, false, ◌&&◌, ◌||◌, List, [], ◌∷◌, ◌++◌, length, map, count_by, codes, Option, Some, None, option_and_then, unwrap_or, Result, Ok, Err, if◌then◌else◌, is_some}
+-- counts as 0, no or nothing, since a fault that stands earlier is then the answer. Three keys may be absent:
+-- `modes` is then 1, `requests` is no, and `live` names all modes.
+use Rattle.std.specs.Prelude.{◌==◌, ℕ, suc, ◌+◌, ◌-◌, ◌*◌, ◌^◌, nat_le, ℤ, pos, negsuc, Bool, true, false, ◌&&◌, ◌||◌}
+use Rattle.std.specs.Prelude.{List, [], ◌∷◌, ◌++◌, length, map, count_by, codes, Option, Some, None, option_and_then}
+use Rattle.std.specs.Prelude.{unwrap_or, Result, Ok, Err, if◌then◌else◌, is_some}
 use Rattle.std.specs.List.{list_all, list_any}
 use Rattle.std.specs.Str.{bytes_eq, is_utf8}
-use Rattle.toml.specs.Data.{Data, Items, no_items, item, Members, no_members, member, get_member, as_integer, as_str, as_bool, as_array, as_table}
+use Rattle.toml.specs.Data.{Data, Items, no_items, item, Members, no_members, member, get_member, as_integer, as_str}
+use Rattle.toml.specs.Data.{as_bool, as_array, as_table}
 use Rattle.toml.specs.Parse.{parse_document}
 use Rattle.ttp_world.specs.declared.medl.Kind.{Kind}
 use Rattle.ttp_world.specs.declared.medl.Kind.TheVariants as kind
 use Rattle.ttp_world.specs.declared.medl.SlotPlan.{SlotPlan}
 use Rattle.ttp_world.specs.declared.medl.Medl.{Medl}
-use Rattle.ttp_world.specs.Medl.{is_bare}
+use Rattle.ttp_world.specs.Medl.{is_bare, member_bytes}
 use Rattle.medl_text.specs.declared.error.FieldName.{FieldName}
 use Rattle.medl_text.specs.declared.error.FieldName.TheVariants as names
 use Rattle.medl_text.specs.declared.error.Field.{Field}
@@ -30,17 +34,22 @@ key_of names.Drift = codes "drift"
 key_of names.Error = codes "error"
 key_of names.Window = codes "window"
 key_of names.Slot = codes "slot"
+key_of names.Modes = codes "modes"
 key_of names.Kinds = codes "kinds"
 key_of names.DataSize = codes "data"
 key_of names.Sync = codes "sync"
 key_of names.Start = codes "start"
+key_of names.Requests = codes "requests"
+key_of names.Live = codes "live"
 
 -- the keys at the top, and those of a slot, in their order
 abbrev pub top_keys : List FieldName
-top_keys = names.Version ∷ names.Rounds ∷ names.Schedule ∷ names.Buffers ∷ names.Drift ∷ names.Error ∷ names.Window ∷ names.Slot ∷ []
+top_keys =
+    names.Version ∷ names.Rounds ∷ names.Schedule ∷ names.Buffers ∷ names.Drift ∷ names.Error ∷ names.Window
+    ∷ names.Slot ∷ names.Modes ∷ []
 
 abbrev pub slot_keys : List FieldName
-slot_keys = names.Kinds ∷ names.DataSize ∷ names.Sync ∷ names.Start ∷ []
+slot_keys = names.Kinds ∷ names.DataSize ∷ names.Sync ∷ names.Start ∷ names.Requests ∷ names.Live ∷ []
 
 -- a key at the top, and a key of a slot
 abbrev pub at_top : FieldName → Field
@@ -63,6 +72,11 @@ abbrev pub key_faults : {X : Type 0} → Field → (Data → Option X) → (X �
 key_faults field seen_as faults None = errors.Missing field ∷ []
 key_faults field seen_as faults (Some d) = kind_faults field faults (seen_as d)
 
+-- the same of a key that may be absent
+abbrev pub optional_faults : {X : Type 0} → Field → (Data → Option X) → (X → List MedlError) → Option Data → List MedlError
+optional_faults field seen_as faults None = []
+optional_faults field seen_as faults (Some d) = kind_faults field faults (seen_as d)
+
 -- nothing is wrong with the value itself
 abbrev pub none_of : {X : Type 0} → X → List MedlError
 none_of x = []
@@ -75,10 +89,10 @@ is_within low high (negsuc n) = false
 abbrev pub range_faults : Field → ℕ → ℕ → ℤ → List MedlError
 range_faults field low high z = if is_within low high z then [] else errors.OutOfRange field z ∷ []
 
-abbrev pub number_faults : Field → ℕ → ℕ → Members → List MedlError
+unfoldable pub number_faults : Field → ℕ → ℕ → Members → List MedlError
 number_faults field low high table = key_faults field as_integer (range_faults field low high) (held_at field table)
 
-abbrev pub flag_faults : Field → Members → List MedlError
+unfoldable pub flag_faults : Field → Members → List MedlError
 flag_faults field table = key_faults field as_bool none_of (held_at field table)
 
 -- The values of one key.
@@ -87,8 +101,12 @@ abbrev pub natural : ℤ → ℕ
 natural (pos n) = n
 natural (negsuc n) = 0
 
+-- the number at a key, or another one where none is there
+abbrev pub number_or : ℕ → Field → Members → ℕ
+number_or other field table = natural (unwrap_or (option_and_then as_integer (held_at field table)) (pos other))
+
 abbrev pub number_at : Field → Members → ℕ
-number_at field table = natural (unwrap_or (option_and_then as_integer (held_at field table)) (pos 0))
+number_at field table = number_or 0 field table
 
 abbrev pub flag_at : Field → Members → Bool
 flag_at field table = unwrap_or (option_and_then as_bool (held_at field table)) false
@@ -110,8 +128,9 @@ kind_of letter = if letter == 78 then kind.N else (if letter == 88 then kind.X e
 abbrev pub letters_faults : ℕ → ℕ → List ℕ → List MedlError
 letters_faults rounds k letters = if length letters == rounds && list_all is_kind letters then [] else errors.Kinds k ∷ []
 
-abbrev pub kinds_faults : ℕ → ℕ → Members → List MedlError
-kinds_faults rounds k table = key_faults (at_slot k names.Kinds) as_str (letters_faults rounds k) (held_at (at_slot k names.Kinds) table)
+unfoldable pub kinds_faults : ℕ → ℕ → Members → List MedlError
+kinds_faults rounds k table =
+    let field = at_slot k names.Kinds in key_faults field as_str (letters_faults rounds k) (held_at field table)
 
 abbrev pub kinds_at : ℕ → Members → List Kind
 kinds_at k table = map kind_of (text_at (at_slot k names.Kinds) table)
@@ -120,22 +139,61 @@ kinds_at k table = map kind_of (text_at (at_slot k names.Kinds) table)
 abbrev pub most_payload : List Kind → ℕ
 most_payload kinds = if list_all is_bare kinds then 0 else 240
 
--- the faults of a slot's other keys, where its frames may have so much payload
-unfoldable pub rest_faults : ℕ → ℕ → Members → List MedlError
-rest_faults k most table =
-    number_faults (at_slot k names.DataSize) 0 most table
+-- a slot asks for modes by the first byte of its payload, so it has one
+abbrev pub request_faults : ℕ → ℕ → Bool → List MedlError
+request_faults k payload requests = if requests && (payload == 0) then errors.NoRequestData k ∷ [] else []
+
+unfoldable pub requests_faults : ℕ → ℕ → Members → List MedlError
+requests_faults k payload table =
+    let field = at_slot k names.Requests in optional_faults field as_bool (request_faults k payload) (held_at field table)
+
+-- The modes in which a slot is live. They are letters, `y` or `n`, one for each mode.
+
+abbrev pub is_answer : ℕ → Bool
+is_answer letter = letter == 121 || letter == 110
+
+abbrev pub answers_faults : ℕ → ℕ → List ℕ → List MedlError
+answers_faults modes k letters = if length letters == modes && list_all is_answer letters then [] else errors.Live k ∷ []
+
+unfoldable pub live_faults : ℕ → ℕ → Members → List MedlError
+live_faults modes k table =
+    let field = at_slot k names.Live in optional_faults field as_str (answers_faults modes k) (held_at field table)
+
+-- the number whose bit m is 1 where letter m is `y`
+abbrev pub live_of : List ℕ → ℕ
+live_of [] = 0
+live_of (letter ∷ letters) = (if letter == 121 then 1 else 0) + 2 * live_of letters
+
+-- the number of all modes
+abbrev pub all_live : ℕ → ℕ
+all_live modes = 2 ^ modes - 1
+
+abbrev pub live_or_all : ℕ → Option (List ℕ) → ℕ
+live_or_all modes None = all_live modes
+live_or_all modes (Some letters) = live_of letters
+
+abbrev pub live_at : ℕ → ℕ → Members → ℕ
+live_at modes k table = live_or_all modes (option_and_then as_str (held_at (at_slot k names.Live) table))
+
+-- The whole slot.
+
+unfoldable pub slot_faults : ℕ → ℕ → ℕ → Members → List MedlError
+slot_faults rounds modes k table =
+    kinds_faults rounds k table
+    ++ (number_faults (at_slot k names.DataSize) 0 (most_payload (kinds_at k table)) table
     ++ (flag_faults (at_slot k names.Sync) table
-    ++ flag_faults (at_slot k names.Start) table)
+    ++ (flag_faults (at_slot k names.Start) table
+    ++ (requests_faults k (number_at (at_slot k names.DataSize) table) table
+    ++ live_faults modes k table))))
 
-unfoldable pub slot_faults : ℕ → ℕ → Members → List MedlError
-slot_faults rounds k table = kinds_faults rounds k table ++ rest_faults k (most_payload (kinds_at k table)) table
-
-unfoldable pub plan_of : ℕ → Members → SlotPlan
-plan_of k table = record {
+unfoldable pub plan_of : ℕ → ℕ → Members → SlotPlan
+plan_of modes k table = record {
   kinds = kinds_at k table;
   payload = number_at (at_slot k names.DataSize) table;
   sync = flag_at (at_slot k names.Sync) table;
   start = flag_at (at_slot k names.Start) table;
+  requests = flag_at (at_slot k names.Requests) table;
+  live = live_at modes k table;
 }
 
 -- The array of slots.
@@ -147,7 +205,7 @@ are_tables (item d ds) = is_some (as_table d) && are_tables ds
 abbrev pub tables_faults : Field → Items → List MedlError
 tables_faults field ds = if are_tables ds then [] else errors.WrongKind field ∷ []
 
-abbrev pub array_faults : Field → Members → List MedlError
+unfoldable pub array_faults : Field → Members → List MedlError
 array_faults field table = key_faults field as_array (tables_faults field) (held_at field table)
 
 -- the elements, as tables
@@ -161,17 +219,22 @@ tables_of (item d ds) = element_of d ∷ tables_of ds
 abbrev pub slots_in : Members → List Members
 slots_in file = tables_of (items_at (at_top names.Slot) file)
 
-abbrev pub count_faults : ℕ → List MedlError
-count_faults n = if nat_le 4 n && nat_le n 16 then [] else errors.SlotCount n ∷ []
+-- the most slots of a list of this version: one for each bit of a membership
+abbrev pub slot_limit : ℕ → ℕ
+slot_limit version = 8 * member_bytes (version == 2)
+
+unfoldable pub count_faults : ℕ → ℕ → List MedlError
+count_faults version n = if nat_le 4 n && nat_le n (slot_limit version) then [] else errors.SlotCount n ∷ []
 
 -- the faults of the slots from number k on
-abbrev pub slots_faults : ℕ → ℕ → List Members → List MedlError
-slots_faults rounds k [] = []
-slots_faults rounds k (table ∷ tables) = slot_faults rounds k table ++ slots_faults rounds (suc k) tables
+abbrev pub slots_faults : ℕ → ℕ → ℕ → List Members → List MedlError
+slots_faults rounds modes k [] = []
+slots_faults rounds modes k (table ∷ tables) =
+    slot_faults rounds modes k table ++ slots_faults rounds modes (suc k) tables
 
-abbrev pub plans_of : ℕ → List Members → List SlotPlan
-plans_of k [] = []
-plans_of k (table ∷ tables) = plan_of k table ∷ plans_of (suc k) tables
+abbrev pub plans_of : ℕ → ℕ → List Members → List SlotPlan
+plans_of modes k [] = []
+plans_of modes k (table ∷ tables) = plan_of modes k table ∷ plans_of modes (suc k) tables
 
 -- Keys that no list has.
 
@@ -195,7 +258,8 @@ unknown_in_slots k (table ∷ tables) = unknown_at_slot k table ++ unknown_in_sl
 -- Slots for clock synchronization, and what is not built yet.
 
 abbrev pub sync_faults : List SlotPlan → List MedlError
-sync_faults plans = let found = count_by (λ plan. plan.sync) plans in if nat_le 4 found then [] else errors.NoSync found ∷ []
+sync_faults plans =
+    let found = count_by (λ plan. plan.sync) plans in if nat_le 4 found then [] else errors.NoSync found ∷ []
 
 abbrev pub unbuilt_slot : ℕ → SlotPlan → List MedlError
 unbuilt_slot k plan = if list_all is_bare plan.kinds then [] else errors.NotBuilt (at_slot k names.Kinds) ∷ []
@@ -206,18 +270,13 @@ unbuilt_slots k (plan ∷ plans) = unbuilt_slot k plan ++ unbuilt_slots (suc k) 
 
 -- The whole file.
 
-unfoldable pub numbers_faults : Members → List MedlError
-numbers_faults file =
-    number_faults (at_top names.Version) 1 1 file
-    ++ (number_faults (at_top names.Rounds) 1 64 file
-    ++ (number_faults (at_top names.Schedule) 0 16777215 file
-    ++ (number_faults (at_top names.Buffers) 1 16 file
-    ++ (number_faults (at_top names.Drift) 0 1000 file
-    ++ (number_faults (at_top names.Error) 0 1000 file
-    ++ number_faults (at_top names.Window) 1 1000000 file)))))
+-- how many modes the cluster has
+unfoldable pub modes_faults : Members → List MedlError
+modes_faults file =
+    let field = at_top names.Modes in optional_faults field as_integer (range_faults field 1 8) (held_at field file)
 
-unfoldable pub shape_faults : Members → List MedlError
-shape_faults file = array_faults (at_top names.Slot) file ++ count_faults (length (slots_in file))
+abbrev pub modes_in : Members → ℕ
+modes_in file = number_or 1 (at_top names.Modes) file
 
 unfoldable pub unknown_faults : Members → List MedlError
 unknown_faults file = unknown_at_top file ++ unknown_in_slots 0 (slots_in file)
@@ -228,21 +287,31 @@ plans_faults plans = sync_faults plans ++ unbuilt_slots 0 plans
 unfoldable pub file_faults : Members → List MedlError
 file_faults file =
     let slots = slots_in file in
-    numbers_faults file
-    ++ (shape_faults file
-    ++ (slots_faults (number_at (at_top names.Rounds) file) 0 slots
+    number_faults (at_top names.Version) 1 2 file
+    ++ (number_faults (at_top names.Rounds) 1 64 file
+    ++ (number_faults (at_top names.Schedule) 0 16777215 file
+    ++ (number_faults (at_top names.Buffers) 1 16 file
+    ++ (number_faults (at_top names.Drift) 0 1000 file
+    ++ (number_faults (at_top names.Error) 0 1000 file
+    ++ (number_faults (at_top names.Window) 1 1000000 file
+    ++ (array_faults (at_top names.Slot) file
+    ++ (modes_faults file
+    ++ (count_faults (number_at (at_top names.Version) file) (length slots)
+    ++ (slots_faults (number_at (at_top names.Rounds) file) (modes_in file) 0 slots
     ++ (unknown_faults file
-    ++ plans_faults (plans_of 0 slots))))
+    ++ plans_faults (plans_of (modes_in file) 0 slots))))))))))))
 
 unfoldable pub list_in : Members → Medl
 list_in file = record {
+  version = number_at (at_top names.Version) file;
   rounds = number_at (at_top names.Rounds) file;
   schedule = number_at (at_top names.Schedule) file;
   buffers = number_at (at_top names.Buffers) file;
   drift = pos (number_at (at_top names.Drift) file);
   error = pos (number_at (at_top names.Error) file);
   window = pos (number_at (at_top names.Window) file);
-  slots = plans_of 0 (slots_in file);
+  modes = modes_in file;
+  slots = plans_of (modes_in file) 0 (slots_in file);
 }
 
 -- the list, where nothing is wrong, and else the first fault

@@ -1,14 +1,10 @@
 -- The slot table: a line for the list, and one for each slot of each round.
-use Rattle.std.specs.Prelude.{ℕ, Bool, true, false, List, [], ◌∷◌, ◌++◌, length, codes, decimal, if◌then◌else◌}
-use Rattle.ttp_base.specs.Text.{hex, texts_below}
+use Rattle.std.specs.Prelude.{ℕ, Bool, true, false, List, ◌++◌, length, codes, decimal}
+use Rattle.ttp_base.specs.Text.{newline, hex, texts_below}
 use Rattle.ttp_world.specs.declared.medl.Kind.{Kind}
 use Rattle.ttp_world.specs.declared.medl.Kind.TheVariants as kind
 use Rattle.ttp_world.specs.declared.medl.Medl.{Medl}
-use Rattle.ttp_world.specs.Medl.{is_bare, kind_at, plan_at}
-
--- a line feed
-abbrev pub newline : List ℕ
-newline = 10 ∷ []
+use Rattle.ttp_world.specs.Medl.{kind_at, plan_at, payload_length}
 
 abbrev pub letter_of : Kind → List ℕ
 letter_of kind.I = codes "I"
@@ -21,19 +17,16 @@ yes_or_no false = codes "no"
 
 unfoldable pub table_head : Medl → List ℕ
 table_head list =
-    codes "ttpbench schedule 1 nodes " ++ decimal (length list.slots)
+    codes "ttpbench schedule " ++ decimal list.version
+    ++ codes " nodes " ++ decimal (length list.slots)
     ++ codes " rounds " ++ decimal list.rounds
     ++ codes " schedule " ++ hex 6 list.schedule ++ newline
-
--- the bytes of payload that the frame carries
-abbrev pub size_at : Medl → ℕ → ℕ → ℕ
-size_at list round slot = if is_bare (kind_at list round slot) then 0 else (plan_at list slot).payload
 
 unfoldable pub slot_line : Medl → ℕ → ℕ → List ℕ
 slot_line list round slot =
     codes "round " ++ decimal round ++ codes " slot " ++ decimal slot
     ++ codes " kind " ++ letter_of (kind_at list round slot)
-    ++ codes " data " ++ decimal (size_at list round slot)
+    ++ codes " data " ++ decimal (payload_length list round slot)
     ++ codes " sync " ++ yes_or_no (plan_at list slot).sync
     ++ codes " start " ++ yes_or_no (plan_at list slot).start ++ newline
 

@@ -13,11 +13,17 @@ pub enum FieldName {
     Error,
     Window,
     Slot,
+    /// May be absent.
+    Modes,
     Kinds,
     /// The key `data`.
     DataSize,
     Sync,
     Start,
+    /// May be absent.
+    Requests,
+    /// May be absent.
+    Live,
 }
 
 impl FieldName {
@@ -38,10 +44,13 @@ impl FieldName {
             FieldName::Error => "error",
             FieldName::Window => "window",
             FieldName::Slot => "slot",
+            FieldName::Modes => "modes",
             FieldName::Kinds => "kinds",
             FieldName::DataSize => "data",
             FieldName::Sync => "sync",
             FieldName::Start => "start",
+            FieldName::Requests => "requests",
+            FieldName::Live => "live",
         }
     }
 }
@@ -62,16 +71,20 @@ pub struct Field {
 pub enum MedlError {
     /// The bytes are no UTF-8, or no TOML document.
     NotToml,
-    /// A key is absent.
+    /// A key is absent that has to be there.
     Missing { field: Field },
     /// A key holds another kind of value than it is due to.
     WrongKind { field: Field },
     /// A number lies outside the key's range.
     OutOfRange { field: Field, value: i64 },
-    /// There are fewer than 4 slots, or more than 16.
+    /// There are fewer than 4 slots, or more than 16 in a list of version 1 or 24 in one of version 2.
     SlotCount { found: usize },
     /// The kinds of a slot are not exactly one letter `I`, `N` or `X` for each round.
     Kinds { slot: u8 },
+    /// A slot asks for modes, and its frames carry no payload.
+    NoRequestData { slot: u8 },
+    /// What a slot says of the modes in which it is live is not exactly one letter `y` or `n` for each mode.
+    Live { slot: u8 },
     /// There is a key that the file does not have: at the top, or in an element of `slot`.
     Unknown { slot: Option<u8> },
     /// Fewer than four slots have `sync`.

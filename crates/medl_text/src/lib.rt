@@ -10,6 +10,7 @@
 mod error;
 mod read;
 mod schedule;
+mod slot;
 mod starters;
 mod table;
 

@@ -2,8 +2,8 @@
 ghost use Rattle.std.specs.Prelude.{◌≡◌, ◌+◌, ◌<◌, ◌≤◌, ◌++◌, length, decimal, OnOk, OnErr};
 ghost use Rattle.std.specs.Io.KnownBytes.{Appends};
 ghost use Rattle.ttp_base.specs.Outside.{HasRisen, AppendsFront};
-ghost use Rattle.ttp_world.specs.Medl.{IsValid, plan_at};
-ghost use Rattle.medl_text.specs.Schedule.{letter_of, yes_or_no, size_at, table_head, slot_line, round_lines, slot_table};
+ghost use Rattle.ttp_world.specs.Medl.{IsValid, plan_at, payload_length};
+ghost use Rattle.medl_text.specs.Schedule.{letter_of, yes_or_no, table_head, slot_line, round_lines, slot_table};
 
 use ttp_base::{Failed, Line, Sink};
 use ttp_world::{Kind, Medl};
@@ -42,7 +42,9 @@ fn head_line(list: &Medl) -> Line
     ensures { result ≡ table_head list.now }
 {
     let mut line = Line::new();
-    line.put_text("ttpbench schedule 1 nodes ");
+    line.put_text("ttpbench schedule ");
+    put_small(&mut line, list.version);
+    line.put_text(" nodes ");
     put_small(&mut line, list.nodes());
     line.put_text(" rounds ");
     put_small(&mut line, list.rounds);
@@ -53,11 +55,11 @@ fn head_line(list: &Medl) -> Line
 }
 
 // The bytes of payload that a frame carries.
-fn size_at(list: &Medl, round: u8, slot: u8) -> u8
+fn payload_length(list: &Medl, round: u8, slot: u8) -> u8
     requires valid { IsValid list.now }
     requires round { round < list.now.rounds }
     requires slot { slot < length list.now.slots }
-    ensures { result ≡ size_at list.now round slot }
+    ensures { result ≡ payload_length list.now round slot }
 {
     match list.kind_at(round, slot) {
         Kind::I => 0,
@@ -81,7 +83,7 @@ fn slot_line(list: &Medl, round: u8, slot: u8) -> Line
     line.put_text(" kind ");
     line.put_text(letter_of(list.kind_at(round, slot)));
     line.put_text(" data ");
-    put_small(&mut line, size_at(list, round, slot));
+    put_small(&mut line, payload_length(list, round, slot));
     line.put_text(" sync ");
     line.put_text(yes_or_no(plan.sync));
     line.put_text(" start ");

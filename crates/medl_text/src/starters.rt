@@ -1,7 +1,6 @@
 //! The slots that may start the cluster.
 ghost use Rattle.std.specs.Prelude.{◌≡◌, ◌<◌, ◌↔◌, length, slice_get, IsNone};
-ghost use Rattle.ttp_world.specs.Medl.{IsValid};
-ghost use Rattle.ttp_world.specs.Fitting.{may_start};
+ghost use Rattle.ttp_world.specs.Medl.{IsValid, may_start};
 ghost use Rattle.medl_text.specs.Starters.{starters};
 
 use ttp_world::Medl;

@@ -1,6 +1,7 @@
 //! Each public call once. What is refused, and how it is told, is tested where the lines are printed.
 
 use crate::{Field, FieldName, MedlError, put_schedule, read_medl, second_starter};
+use std::alloc::{AllocError, Global};
 use std::test::Fail;
 use ttp_base::{List, MemorySink};
 use ttp_world::Kind;
@@ -11,6 +12,12 @@ const LIST: &str =
 [[slot]]\nkinds = \"I\"\ndata = 0\nsync = true\nstart = false\n
 [[slot]]\nkinds = \"I\"\ndata = 0\nsync = true\nstart = false\n
 [[slot]]\nkinds = \"I\"\ndata = 0\nsync = true\nstart = false\n";
+
+const NUMBERS: &str = "rounds = 1\nschedule = 0\nbuffers = 2\ndrift = 0\nerror = 0\nwindow = 1\n";
+
+const BARE: &str = "kinds = \"I\"\ndata = 0\n";
+
+const SLOT: &str = "[[slot]]\nkinds = \"I\"\ndata = 0\nsync = true\nstart = false\n";
 
 // Slots 1, 3 and 4 may start.
 const STARTERS: &str =
@@ -30,6 +37,7 @@ fn a_list_is_read_and_shown(rt: HostRuntime) -> Result<(), Fail> {
     assert_eq!(rt; list.drift, 1);
     assert_eq!(rt; list.error, 2);
     assert_eq!(rt; list.window, 64);
+    assert_eq!(rt; list.version, 1);
     assert_eq!(rt; list.nodes(), 4);
     assert!(rt; list.kind_at(0, 3) == Kind::I);
     let mut out = MemorySink::new(rt.alloc(), 1024, List::new(rt.alloc()))?;
@@ -64,5 +72,294 @@ fn a_refusal_names_its_key(rt: HostRuntime) -> Result<(), Fail> {
     };
     assert!(rt; error == MedlError::Missing { field });
     assert_eq!(rt; FieldName::DataSize.key(), "data");
+    Ok(())
+}
+
+#[test]
+fn a_list_of_24_nodes_is_read_and_shown(rt: HostRuntime) -> Result<(), Fail> {
+    let mut text = format!(in rt.alloc();
+        "version = 2\nmodes = 3\n{NUMBERS}{SLOT}requests = false\n{SLOT}live = \"yny\"\n"
+    )?;
+    let mut table = format!(in rt.alloc();
+        "ttpbench schedule 2 nodes 24 rounds 1 schedule 000000\n"
+    )?;
+    for _ in 2..24 {
+        text.push_str(SLOT)?;
+    }
+    for k in 0..24 {
+        let line = format!(in rt.alloc(); "round 0 slot {k} kind I data 0 sync yes start no\n")?;
+        table.push_str(line.as_str())?;
+    }
+    let list = read_medl(rt.alloc(), text.as_bytes())?;
+    assert_eq!(rt; list.version, 2);
+    assert_eq!(rt; list.nodes(), 24);
+    assert_eq!(rt; list.modes, 3);
+    assert!(rt; !list.slots.get(0).requests);
+    assert_eq!(rt; list.slots.get(0).live, 7);
+    assert_eq!(rt; list.slots.get(1).live, 5);
+    let mut out = MemorySink::new(rt.alloc(), 2048, List::new(rt.alloc()))?;
+    assert!(rt; put_schedule(&list, &mut out).is_ok());
+    assert_eq!(rt; out.bytes(), table.as_bytes());
+    Ok(())
+}
+
+// Four slots, with these keys for modes at the top, and these of slot 1 beside `sync` and `start`.
+fn list_with(alloc: Global, top: &str, slot: &str) -> Result<String, AllocError> {
+    format!(in alloc;
+        "version = 1\n{NUMBERS}{top}\n{SLOT}[[slot]]\nsync = true\nstart = false\n{slot}\n{SLOT}{SLOT}"
+    )
+}
+
+// What is told of such a list, if it is refused.
+fn told_of(alloc: Global, top: &str, slot: &str) -> Result<Option<MedlError>, AllocError> {
+    let text = list_with(alloc, top, slot)?;
+    Ok(read_medl(alloc, text.as_bytes()).err())
+}
+
+#[test]
+fn keys_for_modes_that_are_right(rt: HostRuntime) -> Result<(), Fail> {
+    // The keys at the top and in slot 1; the number of modes, and those in which slot 1 is live.
+    let rows = [
+        ("", "", 1, 1),
+        ("", "requests = false", 1, 1),
+        ("", "live = \"n\"", 1, 0),
+        ("modes = 1", "", 1, 1),
+        ("modes = 3", "", 3, 7),
+        ("modes = 8", "", 8, 255),
+        ("modes = 3", "live = \"yyn\"", 3, 3),
+        ("modes = 3", "live = \"nny\"\nrequests = false", 3, 4),
+        ("modes = 8", "live = \"nnnnnnny\"", 8, 128),
+        ("modes = 8", "live = \"nnnnnnnn\"", 8, 0),
+    ];
+    for (top, keys, modes, live) in rows {
+        let slot = format!(in rt.alloc(); "{BARE}{keys}")?;
+        let text = list_with(rt.alloc(), top, slot.as_str())?;
+        let list = read_medl(rt.alloc(), text.as_bytes())?;
+        assert_eq!(rt; list.modes, modes, "{top} {keys}");
+        assert_eq!(rt; list.slots.get(1).live, live, "{top} {keys}");
+        assert!(rt; !list.slots.get(1).requests);
+    }
+    Ok(())
+}
+
+#[test]
+fn keys_for_modes_that_are_refused(rt: HostRuntime) -> Result<(), Fail> {
+    let modes = Field {
+        name: FieldName::Modes,
+        slot: None,
+    };
+    let data = Field {
+        name: FieldName::DataSize,
+        slot: Some(1),
+    };
+    let requests = Field {
+        name: FieldName::Requests,
+        slot: Some(1),
+    };
+    let live = Field {
+        name: FieldName::Live,
+        slot: Some(1),
+    };
+    let kinds = Field {
+        name: FieldName::Kinds,
+        slot: Some(1),
+    };
+    let bare = "kinds = \"I\"\ndata = 0\n";
+    let empty = "kinds = \"N\"\ndata = 0\n";
+    let loaded = "kinds = \"N\"\ndata = 1\n";
+    let rows = [
+        // One thing is wrong.
+        (
+            "modes = 0",
+            bare,
+            "",
+            MedlError::OutOfRange {
+                field: modes,
+                value: 0,
+            },
+        ),
+        (
+            "modes = 9",
+            bare,
+            "",
+            MedlError::OutOfRange {
+                field: modes,
+                value: 9,
+            },
+        ),
+        (
+            "modes = -1",
+            bare,
+            "",
+            MedlError::OutOfRange {
+                field: modes,
+                value: -1,
+            },
+        ),
+        (
+            "modes = 1.0",
+            bare,
+            "",
+            MedlError::WrongKind { field: modes },
+        ),
+        (
+            "modes = \"1\"",
+            bare,
+            "",
+            MedlError::WrongKind { field: modes },
+        ),
+        (
+            "",
+            bare,
+            "requests = 1",
+            MedlError::WrongKind { field: requests },
+        ),
+        (
+            "",
+            bare,
+            "requests = \"true\"",
+            MedlError::WrongKind { field: requests },
+        ),
+        (
+            "",
+            bare,
+            "requests = true",
+            MedlError::NoRequestData { slot: 1 },
+        ),
+        (
+            "",
+            empty,
+            "requests = true",
+            MedlError::NoRequestData { slot: 1 },
+        ),
+        (
+            "",
+            loaded,
+            "requests = true",
+            MedlError::NotBuilt { field: kinds },
+        ),
+        (
+            "",
+            bare,
+            "live = true",
+            MedlError::WrongKind { field: live },
+        ),
+        (
+            "",
+            bare,
+            "live = [\"y\"]",
+            MedlError::WrongKind { field: live },
+        ),
+        // The keys stand in the other table.
+        (
+            "requests = false",
+            bare,
+            "",
+            MedlError::Unknown { slot: None },
+        ),
+        ("live = \"y\"", bare, "", MedlError::Unknown { slot: None }),
+        ("", bare, "modes = 1", MedlError::Unknown { slot: Some(1) }),
+        // Several things are wrong.
+        (
+            "modes = 9",
+            bare,
+            "requests = true\nlive = \"\"",
+            MedlError::OutOfRange {
+                field: modes,
+                value: 9,
+            },
+        ),
+        (
+            "",
+            "kinds = \"I\"\n",
+            "requests = true\nlive = 1",
+            MedlError::Missing { field: data },
+        ),
+        (
+            "",
+            bare,
+            "requests = 1\nlive = 1",
+            MedlError::WrongKind { field: requests },
+        ),
+        (
+            "",
+            bare,
+            "requests = true\nlive = 1",
+            MedlError::NoRequestData { slot: 1 },
+        ),
+        (
+            "",
+            bare,
+            "requests = true\nlive = \"\"",
+            MedlError::NoRequestData { slot: 1 },
+        ),
+        (
+            "",
+            loaded,
+            "requests = true\nlive = \"\"",
+            MedlError::Live { slot: 1 },
+        ),
+        (
+            "speed = 1",
+            bare,
+            "live = \"\"",
+            MedlError::Live { slot: 1 },
+        ),
+    ];
+    for (top, keys, more, error) in rows {
+        let slot = format!(in rt.alloc(); "{keys}{more}")?;
+        assert!(rt;
+            told_of(rt.alloc(), top, slot.as_str())? == Some(error),
+            "{top} {keys} {more}"
+        );
+    }
+    Ok(())
+}
+
+#[test]
+fn live_of_each_length_and_letter(rt: HostRuntime) -> Result<(), Fail> {
+    let texts = [
+        "",
+        "y",
+        "yn",
+        "yny",
+        "ynyn",
+        "ynyny",
+        "ynynyn",
+        "ynynyny",
+        "ynynynyn",
+        "ynynynyny",
+    ];
+    let refused = Some(MedlError::Live { slot: 1 });
+    for modes in 1..9 {
+        let top = format!(in rt.alloc(); "modes = {modes}")?;
+        for letters in texts {
+            let slot = format!(in rt.alloc(); "{BARE}live = \"{letters}\"")?;
+            let told = told_of(rt.alloc(), top.as_str(), slot.as_str())?;
+            assert!(rt;
+                told == if letters.len() == modes {
+                    None
+                } else {
+                    refused
+                },
+                "{modes} {letters}"
+            );
+        }
+    }
+    for letter in ' '..='~' {
+        let slot = format!(in rt.alloc(); "{BARE}live = 'y{letter}n'")?;
+        let told = told_of(rt.alloc(), "modes = 3", slot.as_str())?;
+        let is_right = letter == 'y' || letter == 'n';
+        // A quote ends the text, and what follows it is no TOML.
+        let error = if letter == '\'' {
+            MedlError::NotToml
+        } else {
+            MedlError::Live { slot: 1 }
+        };
+        assert!(rt;
+            told == if is_right { None } else { Some(error) },
+            "{letter}"
+        );
+    }
     Ok(())
 }

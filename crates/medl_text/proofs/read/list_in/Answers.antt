@@ -1,20 +1,26 @@
 use Rattle.std.proofs.Common.{rules, arith}
+use Rattle.std.proofs.lemmas.Grind.{common_steps}
+use Rattle.medl_text.specs.ListFile.{plans_faults}
+use Rattle.medl_text.proofs.Built.{AllByRecursion-built}
 use Rattle.medl_text.proofs.Counts.{counts}
 use Rattle.medl_text.proofs.Microticks.{IsWithin-widened}
 use Rattle.medl_text.proofs.read.list_in.Goals as goal
 
 pub returns-clause-valid : goal.returns-clause-valid
-returns-clause-valid c =
-    let range = c.in_ok-numbers.ensures.range in
-    let n = c.in_ok-numbers.numbers in
-    record {
-      rounds = range.rounds;
-      schedule = range.schedule;
-      buffers = range.buffers;
-      drift = IsWithin-widened 0 1000 n.drift _ c.from.ensures (omega arith) range.drift (omega arith);
-      error = IsWithin-widened 0 1000 n.error _ c.from-2.ensures (omega arith) range.error (omega arith);
-      window = IsWithin-widened 1 1000000 n.window _ c.from-3.ensures range.window.0 range.window.1 (omega arith);
-      count = (grind (arith, counts), grind (arith, counts));
-      slots = c.in_ok-slots.ensures.valid;
-      sync = search rules;
-    }
+returns-clause-valid c = record {
+  version = c.in_ok-version.ensures.range;
+  rounds = c.in_ok-rounds.ensures.range;
+  schedule = omega (arith, c.in_ok-schedule.ensures.range.1);
+  buffers = c.in_ok-buffers.ensures.range;
+  drift = IsWithin-widened 0 1000 _ _ c.from-drift.ensures (omega arith) c.in_ok-number.ensures.range.1 (omega arith);
+  error = IsWithin-widened 0 1000 _ _ c.from-error.ensures (omega arith) c.in_ok-number-2.ensures.range.1 (omega arith);
+  window = IsWithin-widened 1 1000000 _ _ c.from-window.ensures c.in_ok-number-3.ensures.range.0 c.in_ok-number-3.ensures.range.1 (omega arith);
+  modes = c.in_ok-modes.ensures.range;
+  count = (grind (arith, counts), grind (arith, counts));
+  slots = c.in_ok-slots.ensures.valid;
+  sync = search rules;
+}
+
+pub returns-clause-bare : goal.returns-clause-bare
+unfolding plans_faults
+returns-clause-bare c = AllByRecursion-built 0 c.in_ok-slots.slots (grind (arith, common_steps))

@@ -1,8 +1,9 @@
-use Rattle.std.proofs.Common.{◌≡◌, ◌<◌, ◌↔◌, ℕ, List, [], ◌∷◌, IsNone, length, slice_get, refl, rules, tests, arith, sym, ◌∙◌}
+use Rattle.std.proofs.Common.{◌≡◌, ◌<◌, ◌↔◌, ℕ, List, [], ◌∷◌, IsNone, length, slice_get, refl, rules, tests, arith}
+use Rattle.std.proofs.Common.{sym, ◌∙◌}
 use Rattle.std.proofs.lemmas.Iterator.{YieldsList-from_range}
 use Rattle.std.proofs.lemmas.Iterator.Adapters.{option_map_id}
 use Rattle.std.proofs.lemmas.Iterator.Consumers.{YieldsList-from_filter, nth_from_yields_List}
-use Rattle.ttp_world.specs.Fitting.{may_start}
+use Rattle.ttp_world.specs.Medl.{may_start}
 use Rattle.medl_text.specs.Starters.{starters}
 use Rattle.medl_text.proofs.starters.second_starter.Goals as goal
 

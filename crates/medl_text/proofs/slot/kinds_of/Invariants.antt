@@ -1,7 +1,7 @@
 use Rattle.std.proofs.Common.{◌≡◌, true, take, map}
 use Rattle.std.specs.List.{list_all}
 use Rattle.medl_text.specs.ListFile.{is_kind, kind_of}
-use Rattle.medl_text.proofs.read.kinds_of.Given as goal
+use Rattle.medl_text.proofs.slot.kinds_of.Given as goal
 
 -- each letter so far is one, and its kind was added
 abbrev pub invariant-loop-letter : goal.invariant-loop-letter
