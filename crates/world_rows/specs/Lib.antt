@@ -1,3 +1,5 @@
 pub mod Cases
 pub mod Frames
 pub mod Scripts
+pub mod Version2
+pub mod Jumps
