@@ -3,3 +3,6 @@ pub mod Frames
 pub mod Scripts
 pub mod Version2
 pub mod Jumps
+pub mod Rejoining
+pub mod Moves
+pub mod Pasts
