@@ -15,23 +15,23 @@ far_jump = script_of 6 48 (event.Jump 3 (pos 4) 26 ∷ [])
 
 -- it jumps, and so does that of node 1, and nobody receives the frame of node 2
 abbrev pub jumps_and_a_loss : Script
-jumps_and_a_loss = script_of 6 48 (event.Jump 3 (pos 4) 26 ∷ event.Jump 1 (pos 4) 26 ∷ event.Send 2 both fault.Noise 26 26 ∷ [])
+jumps_and_a_loss = script_of 6 27 (event.Jump 3 (pos 4) 26 ∷ event.Jump 1 (pos 4) 26 ∷ event.Send 2 both fault.Noise 26 26 ∷ [])
 
--- node 3 is never on, or late, or comes with the others
+-- node 3 of six is never on, or is switched on in slot 8
 abbrev pub without_node_3 : List (Option ℕ)
 without_node_3 = Some 0 ∷ Some 0 ∷ Some 0 ∷ None ∷ Some 0 ∷ Some 0 ∷ []
 
 abbrev pub late_node_3 : List (Option ℕ)
 late_node_3 = Some 0 ∷ Some 0 ∷ Some 0 ∷ Some 8 ∷ Some 0 ∷ Some 0 ∷ []
 
--- what the test says of six nodes with these events
-abbrev pub keeps_with : List Event → Keep
-keeps_with events = keeps (bare_list 6) (script_of 6 48 events)
+-- what the test says of so many slots of six nodes with these events
+abbrev pub keeps_with : ℕ → List Event → Keep
+keeps_with slots events = keeps (bare_list 6) (script_of 6 slots events)
 
 -- the same for six nodes that are switched on at these slots
-abbrev pub keeps_on : List (Option ℕ) → List Event → Keep
-keeps_on on events = keeps (bare_list 6) (script_on 48 on events)
+abbrev pub keeps_on : ℕ → List (Option ℕ) → List Event → Keep
+keeps_on slots on events = keeps (bare_list 6) (script_on slots on events)
 
 -- the same where the window is five microticks, and node 3 jumps so far in slot 26
 abbrev pub keeps_in_five : ℤ → Keep
-keeps_in_five value = keeps (list_with (pos 0) (pos 0) (pos 5) (map (bare_slot (0 ∷ [])) (below 6))) (script_of 6 48 (event.Jump 3 value 26 ∷ []))
+keeps_in_five value = keeps (list_with (pos 0) (pos 0) (pos 5) (map (bare_slot (0 ∷ [])) (below 6))) (script_of 6 27 (event.Jump 3 value 26 ∷ []))
