@@ -25,13 +25,13 @@ abbrev pub late_node_3 : List (Option ℕ)
 late_node_3 = Some 0 ∷ Some 0 ∷ Some 0 ∷ Some 8 ∷ Some 0 ∷ Some 0 ∷ []
 
 -- what the test says of so many slots of six nodes with these events
-abbrev pub keeps_with : ℕ → List Event → Keep
-keeps_with slots events = keeps (bare_list 6) (script_of 6 slots events)
+abbrev pub six_nodes_keep : ℕ → List Event → Keep
+six_nodes_keep slots events = keeps (bare_list 6) (script_of 6 slots events)
 
 -- the same for six nodes that are switched on at these slots
-abbrev pub keeps_on : ℕ → List (Option ℕ) → List Event → Keep
-keeps_on slots on events = keeps (bare_list 6) (script_on slots on events)
+abbrev pub late_nodes_keep : ℕ → List (Option ℕ) → List Event → Keep
+late_nodes_keep slots on events = keeps (bare_list 6) (script_on slots on events)
 
 -- the same where the window is five microticks, and node 3 jumps so far in slot 26
-abbrev pub keeps_in_five : ℤ → Keep
-keeps_in_five value = keeps (list_with (pos 0) (pos 0) (pos 5) (map (bare_slot (0 ∷ [])) (below 6))) (script_of 6 27 (event.Jump 3 value 26 ∷ []))
+abbrev pub wide_window_keeps : ℤ → Keep
+wide_window_keeps value = keeps (list_with (pos 0) (pos 0) (pos 5) (map (bare_slot (0 ∷ [])) (below 6))) (script_of 6 27 (event.Jump 3 value 26 ∷ []))

@@ -4,6 +4,7 @@ ghost use Rattle.ttp_base.specs.NodeSet.{below};
 ghost use Rattle.ttp_base.specs.Text.{hex_bytes};
 ghost use Rattle.ttp_world.specs.declared.keep.Keep.TheVariants as keep;
 ghost use Rattle.ttp_world.specs.Fitting.{fits, joinable};
+ghost use Rattle.ttp_world.specs.Frame.{frame};
 ghost use Rattle.ttp_world.specs.Hypothesis.{keeps};
 ghost use Rattle.ttp_world.specs.Legal.{is_legal};
 ghost use Rattle.ttp_world.specs.Medl.{member_bytes, node_limit, member_limit};
@@ -15,12 +16,13 @@ ghost use Rattle.world_rows.specs.Frames.{cstate, cold_start};
 ghost use Rattle.world_rows.specs.Scripts.{reading_status};
 ghost use Rattle.world_rows.specs.Version2.{wide_list, wide_frame, wide_cold_start, last_of_24, first_round_of_24};
 
-/// The cold-start frame of node 0, a frame in which all of 24 nodes are members, and one with
-/// implicit C-state whose members don't fit two bytes.
+/// The cold-start frame of node 0, a frame in which all of 24 nodes are members, and two whose
+/// members don't fit two bytes: one with implicit C-state, and one with two bytes of payload.
 pub fn wide_frames()
     ensures cold_start { hex_bytes wide_cold_start ≡ codes "03000000000000015e19a1" }
     ensures all_members { hex_bytes (wide_frame 1 last_of_24) ≡ codes "0100470017ffffffe1049c" }
     ensures implicit { hex_bytes (wide_frame 0 (cstate 0 0 0 (0 ∷ 16 ∷ 23 ∷ []))) ≡ codes "009de5b9" }
+    ensures payload { hex_bytes (frame (member_bytes true) 2 (cstate 300 1 17 (0 ∷ 17 ∷ [])) (10 ∷ 11 ∷ []) 4660) ≡ codes "02012c01110200010a0b10b12c" }
 {}
 
 /// A frame with implicit C-state tells members past 15 too.
