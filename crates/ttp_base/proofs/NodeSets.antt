@@ -57,7 +57,7 @@ pub same_sieve : (p q : ℕ → Bool) (n : ℕ) → ((j : ℕ) → j < n → p j
 same_sieve p q n agree = filter_agree-range p q 0 n (λ j within. agree j (omega arith))
 
 -- a filter of a filter keeps what passes both
-filter-filter : (p q : ℕ → Bool) (xs : List ℕ) → filter q (filter p xs) ≡ filter (λ x. p x && q x) xs
+pub filter-filter : (p q : ℕ → Bool) (xs : List ℕ) → filter q (filter p xs) ≡ filter (λ x. p x && q x) xs
 filter-filter p q [] = refl
 filter-filter p q (x ∷ xs) = by (p x) (filter-filter p q xs)
   where

@@ -17,7 +17,7 @@ use Rattle.script_text.specs.declared.error.ScriptError.{ScriptError}
 use Rattle.script_text.specs.ScriptFile.{script_of}
 use Rattle.ttp_top.specs.Words.{schedule, run}
 use Rattle.ttp_top.specs.Ending.{Ending, list_limit, list_read, list_from, one_starter, runnable, runnable_from, script_limit, script_read, script_from, schedule_ending, trace_ending, script_ending, refused_list, run_with, run_ending, Ends, SaysEnding, WroteTrace, Outcome}
-use Rattle.ttp_top.specs.Passed.{plain_numbers}
+use Rattle.bare_run.specs.Passed.{plain_numbers}
 
 -- what a library tells is what the bytes are
 told_bytes : (told : Option (List ℕ)) (bytes mine : List ℕ) → told ≡ Some bytes → IfSome told (λ all. mine ≡ all) → mine ≡ bytes

@@ -13,9 +13,9 @@ use Rattle.medl_text.specs.Schedule.{slot_table}
 use Rattle.medl_text.specs.Starters.{starters}
 use Rattle.script_text.specs.declared.error.ScriptError.{ScriptError}
 use Rattle.script_text.specs.ScriptFile.{script_of}
+use Rattle.bare_run.specs.Passed.{plain_numbers}
 use Rattle.ttp_top.specs.Words.{Form, schedule, run}
 use Rattle.ttp_top.specs.Lines.{usage_line, load_list_line, load_script_line, fault_text, list_line, script_fault_text, script_line}
-use Rattle.ttp_top.specs.Passed.{plain_numbers}
 
 -- the status, and the text that is due with it
 pub record Ending : Type 0 where

@@ -3,9 +3,4 @@ pub mod Lines
 pub mod Ending
 pub mod Asked
 pub mod Part
-pub mod Passed
-pub mod Printed
 pub mod Refusal
-pub mod Shown
-pub mod Slot
-pub mod Standing

@@ -1,11 +1,11 @@
 -- The lines that a call writes beside its output.
 use Rattle.std.specs.Prelude.{ℕ, List, [], ◌++◌, codes, decimal, Option, Some, None}
 use Rattle.std.specs.Fmt.{signed_decimal}
+use Rattle.ttp_base.specs.Text.{newline}
 use Rattle.medl_text.specs.declared.error.Field.{Field}
 use Rattle.medl_text.specs.declared.error.MedlError.{MedlError}
 use Rattle.medl_text.specs.declared.error.MedlError.TheVariants as errors
 use Rattle.medl_text.specs.ListFile.{key_of}
-use Rattle.medl_text.specs.Schedule.{newline}
 use Rattle.script_text.specs.declared.error.LineFault.{LineFault}
 use Rattle.script_text.specs.declared.error.LineFault.TheVariants as faults
 use Rattle.script_text.specs.declared.error.ScriptError.{ScriptError}
@@ -43,6 +43,8 @@ fault_text (errors.SlotCount found) = codes "slot count " ++ decimal found
 fault_text (errors.Kinds k) = codes "kinds of slot " ++ decimal k
 fault_text (errors.Unknown slot) = unknown_text slot
 fault_text (errors.NoSync found) = codes "sync slots " ++ decimal found
+fault_text (errors.NoRequestData k) = codes "no data for requests of slot " ++ decimal k
+fault_text (errors.Live k) = codes "live of slot " ++ decimal k
 fault_text (errors.NotBuilt field) = codes "not built " ++ field_text field
 fault_text errors.Memory = []
 

@@ -1,9 +1,9 @@
 //! What a command makes of a file's bytes: a list, a script, or the line that refuses it.
 ghost use Rattle.std.specs.Prelude.{◌≡◌, Ok, IfOk, IfErr};
-ghost use Rattle.ttp_world.specs.Medl.{IsValid};
+ghost use Rattle.ttp_world.specs.Medl.{IsValid, IsBareList};
 ghost use Rattle.ttp_world.specs.Script.{IsValidScript};
 ghost use Rattle.ttp_top.specs.Ending.{list_from, runnable_from, script_from};
-ghost use Rattle.ttp_top.specs.Passed.{IsBareList, IsPlainScript};
+ghost use Rattle.bare_run.specs.Passed.{IsPlainScript};
 ghost use Rattle.ttp_top.specs.Refusal.{RefusesList, RefusesScript};
 
 use crate::lines::{fault_line, script_fault_line, too_large_line, too_large_script_line};

@@ -11,9 +11,6 @@
 mod call;
 mod files;
 mod lines;
-mod run;
-mod shown;
-mod trace;
 mod words;
 
 pub use call::bench;

@@ -71,6 +71,14 @@ fn put_fault(line: &mut Line, fault: MedlError)
             line.put_text("sync slots ");
             line.put_number(u64::from(found));
         }
+        MedlError::NoRequestData { slot } => {
+            line.put_text("no data for requests of slot ");
+            line.put_number(u64::from(slot));
+        }
+        MedlError::Live { slot } => {
+            line.put_text("live of slot ");
+            line.put_number(u64::from(slot));
+        }
         MedlError::NotBuilt { field } => {
             line.put_text("not built ");
             put_field(line, field);

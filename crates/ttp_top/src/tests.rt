@@ -3,7 +3,6 @@
 
 mod refusals;
 mod runs;
-mod trace;
 
 use crate::bench;
 use std::sync::Wait;

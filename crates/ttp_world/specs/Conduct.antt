@@ -83,15 +83,15 @@ judging_entry list k past h =
     (entry_deviation (is_taken_from_a view_a view_b) (heard_deviation h.deviation h.a) (heard_deviation h.deviation h.b))
 
 -- the entry of node k by what it does
-abbrev pub entry_after : Medl → ℕ → NodePast → Chosen → Hearing → Act → Entry
-entry_after list k past chosen h Off = entry.Off
-entry_after list k past chosen h Gone = entry.Gone
-entry_after list k past chosen h Start = entry.Started
-entry_after list k past chosen h Retry = entry.Retried
-entry_after list k past chosen h (Leave why) = entry.Left why k
-entry_after list k past chosen h Send = entry.Sent (message_sent list (coming_place list past) chosen)
-entry_after list k past chosen h Listen = listening_entry list h
-entry_after list k past chosen h Judge = judging_entry list k past h
+abbrev pub new_entry : Medl → ℕ → NodePast → Chosen → Hearing → Act → Entry
+new_entry list k past chosen h Off = entry.Off
+new_entry list k past chosen h Gone = entry.Gone
+new_entry list k past chosen h Start = entry.Started
+new_entry list k past chosen h Retry = entry.Retried
+new_entry list k past chosen h (Leave why) = entry.Left why k
+new_entry list k past chosen h Send = entry.Sent (message_sent list (coming_place list past) chosen)
+new_entry list k past chosen h Listen = listening_entry list h
+new_entry list k past chosen h Judge = judging_entry list k past h
 
 -- Delivery: the payload of a correct frame, from channel A where A's view was of the first candidate, and else from B.
 

@@ -9,6 +9,7 @@ pub mod Membership
 pub mod Counts
 pub mod Clock
 pub mod Past
+pub mod After
 pub mod Medium
 pub mod Act
 pub mod Reception

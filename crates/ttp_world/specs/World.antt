@@ -10,7 +10,7 @@ use Rattle.ttp_world.specs.declared.node.Entry.{Entry}
 use Rattle.ttp_world.specs.declared.script.Channel.TheVariants as channel
 use Rattle.ttp_world.specs.declared.script.Script.{Script}
 use Rattle.ttp_world.specs.Act.{Act, act, Off}
-use Rattle.ttp_world.specs.Conduct.{node_frames, entry_after}
+use Rattle.ttp_world.specs.Conduct.{node_frames, new_entry}
 use Rattle.ttp_world.specs.Diary.{History, diary_of}
 use Rattle.ttp_world.specs.Medium.{SentFrame, heard, surroundings_of}
 use Rattle.ttp_world.specs.Outgoing.{nothing_chosen, message_chosen}
@@ -79,7 +79,7 @@ hearing_in list script slot nodes frames r = record {
 abbrev pub entry_in : Medl → Script → ℕ → List ReadyNode → List SentFrame → ℕ → Entry
 entry_in list script slot nodes frames k =
     let node = ready_at list nodes k in
-    entry_after list k node.past node.chosen (hearing_in list script slot nodes frames k) node.act
+    new_entry list k node.past node.chosen (hearing_in list script slot nodes frames k) node.act
 
 abbrev pub row_in : Medl → Script → ℕ → List ReadyNode → List SentFrame → List Entry
 row_in list script slot nodes frames = map (entry_in list script slot nodes frames) (below (length list.slots))

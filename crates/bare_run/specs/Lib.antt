@@ -1,0 +1,4 @@
+pub mod Passed
+pub mod Slot
+pub mod Shown
+pub mod Printed

@@ -1,0 +1,53 @@
+-- The numbers below a number, one after another.
+use Rattle.std.proofs.Common.{◌≡◌, ℕ, zero, suc, ◌+◌, ◌<◌, ◌≤◌, List, [], ◌∷◌, ◌++◌, refl, ap, sym, ◌∙◌, arith}
+use Rattle.std.specs.Prelude.{map}
+use Rattle.std.specs.List.{flat_map, range_with_len, AllByRecursion}
+use Rattle.std.proofs.lemmas.List.{append-nil, map-id}
+use Rattle.std.proofs.lemmas.List.Concat.{flat_map-append}
+use Rattle.std.proofs.lemmas.List.FromFn.{map-range_with_len_more}
+use Rattle.ttp_base.specs.NodeSet.{below}
+
+-- Each is below it.
+
+range_with_len-lt : (a n m : ℕ) → a + n ≤ m → AllByRecursion (λ k. k < m) (range_with_len a n)
+range_with_len-lt a zero m few = tt
+range_with_len-lt a (suc n) m few = (omega arith, range_with_len-lt (a + 1) n m (omega arith))
+
+pub below-lt : (n : ℕ) → AllByRecursion (λ k. k < n) (below n)
+below-lt n = range_with_len-lt 0 n n (omega arith)
+
+-- Functions that agree below n.
+
+map_agree-range : {X : Type 0} (f g : ℕ → X) (a n : ℕ) → ((k : ℕ) → k < a + n → f k ≡ g k) → map f (range_with_len a n) ≡ map g (range_with_len a n)
+map_agree-range f g a zero agree = refl
+map_agree-range f g a (suc n) agree =
+    let rest = map_agree-range f g (a + 1) n (λ k less. agree k (omega arith)) in
+    λ i. agree a (omega arith) i ∷ rest i
+
+pub map_agree-below : {X : Type 0} (f g : ℕ → X) (n : ℕ) → ((k : ℕ) → k < n → f k ≡ g k) → map f (below n) ≡ map g (below n)
+map_agree-below f g n agree = map_agree-range f g 0 n (λ k less. agree k (omega arith))
+
+flat_map_agree-range : {X : Type 0} (f g : ℕ → List X) (a n : ℕ) → ((k : ℕ) → k < a + n → f k ≡ g k) → flat_map f (range_with_len a n) ≡ flat_map g (range_with_len a n)
+flat_map_agree-range f g a zero agree = refl
+flat_map_agree-range f g a (suc n) agree =
+    let rest = flat_map_agree-range f g (a + 1) n (λ k less. agree k (omega arith)) in
+    λ i. agree a (omega arith) i ++ rest i
+
+pub flat_map_agree-below : {X : Type 0} (f g : ℕ → List X) (n : ℕ) → ((k : ℕ) → k < n → f k ≡ g k) → flat_map f (below n) ≡ flat_map g (below n)
+flat_map_agree-below f g n agree = flat_map_agree-range f g 0 n (λ k less. agree k (omega arith))
+
+-- what holds of a function below n holds of its values there
+pub map_each-below : {X : Type 0} (P : X → Type 0) (f : ℕ → X) (n : ℕ) → ((k : ℕ) → k < n → P (f k)) → AllByRecursion P (map f (below n))
+map_each-below P f n each = on (below n) (below-lt n)
+  where
+    on : (ks : List ℕ) → AllByRecursion (λ k. k < n) ks → AllByRecursion P (map f ks)
+    on [] within = tt
+    on (k ∷ ks) within = (each k within.0, on ks within.1)
+
+-- One number more.
+
+pub below-next : (n : ℕ) → below (n + 1) ≡ below n ++ n ∷ []
+below-next n = sym (map-id (below (n + 1))) ∙ map-range_with_len_more (λ k. k) 0 n n (omega arith) ∙ ap (λ xs. xs ++ n ∷ []) (map-id (below n))
+
+pub flat_map-next : {X : Type 0} (f : ℕ → List X) (n : ℕ) → flat_map f (below (n + 1)) ≡ flat_map f (below n) ++ f n
+flat_map-next f n = ap (flat_map f) (below-next n) ∙ flat_map-append f (below n) (n ∷ []) ∙ ap (λ ys. flat_map f (below n) ++ ys) (append-nil (f n))
