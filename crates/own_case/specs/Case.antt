@@ -11,30 +11,37 @@ use Rattle.ttp_world.specs.Diary.{History}
 use Rattle.ttp_world.specs.Trace.{node_line_of}
 use Rattle.ttp_world.specs.World.{SlotNumbers, Numbers, world}
 
--- a slot of bare frames; a slot's kinds are kind.I, kind.N or kind.X, one for each round
-abbrev pub bare : SlotPlan
-bare = record { kinds = kind.I ∷ []; payload = 0; sync = true; start = false }
+-- A slot's kinds are kind.I, kind.N or kind.X, one for each round. Bit m of `live`, the least significant first, is mode m.
 
--- microticks are pos n, and negsuc n for -(n + 1)
+abbrev pub starting : SlotPlan
+starting = record { kinds = kind.I ∷ []; payload = 0; sync = true; start = true; requests = false; live = 1 }
+
+abbrev pub bare : SlotPlan
+bare = record { kinds = kind.I ∷ []; payload = 0; sync = true; start = false; requests = false; live = 1 }
+
+abbrev pub loaded : SlotPlan
+loaded = record { kinds = kind.N ∷ []; payload = 2; sync = true; start = false; requests = false; live = 1 }
+
+-- Version 2 has up to 24 slots, and version 1 up to 16. Microticks are pos n, and negsuc n for -(n + 1).
 abbrev pub list : Medl
 list = record {
+  version = 1;
   rounds = 1;
   schedule = 0;
   buffers = 2;
   drift = pos 0;
   error = pos 0;
   window = pos 1;
-  slots =
-      record { kinds = kind.I ∷ []; payload = 0; sync = true; start = true }
-      ∷ record { kinds = kind.N ∷ []; payload = 2; sync = true; start = false }
-      ∷ bare ∷ bare ∷ [];
+  modes = 1;
+  slots = starting ∷ loaded ∷ bare ∷ bare ∷ [];
 }
 
 -- `on` and `drift` have one place for each node. The events of a script are
 --   event.Send node channels fault from to          event.Receive node channels fault from to
 --   event.Flip node channels bit slot               event.Error node value from to
---   event.Jump node value slot                      event.Write node slot payload
---   event.Read node slot source.Status              event.Read node slot (source.Node sender)
+--   event.Jump node value slot                      event.Arm node slot
+--   event.Write node slot payload                   event.Read node slot source.Status
+--                                                   event.Read node slot (source.Node sender)
 -- with channels as record { a = true; b = false }, and fault.Silence or fault.Noise
 abbrev pub script : Script
 script = record {
@@ -58,9 +65,9 @@ abbrev pub numbers : Numbers
 numbers = record { sent = None ∷ Some 1 ∷ None ∷ None ∷ []; read = 1 ∷ [] } ∷ replicate 9 quiet
 
 -- the line of node k after the newest slot that has numbers
-abbrev pub line_in : Medl → Script → History → ℕ → List ℕ
-line_in l s [] k = []
-line_in l s (row ∷ before) k = node_line_of l s row before k
+abbrev pub line_after : Medl → Script → History → ℕ → List ℕ
+line_after l s [] k = []
+line_after l s (row ∷ before) k = node_line_of l s row before k
 
 abbrev pub newest_line : Medl → Script → Numbers → ℕ → List ℕ
-newest_line l s n k = line_in l s (world l s n) k
+newest_line l s n k = line_after l s (world l s n) k

@@ -3,7 +3,7 @@ ghost use Rattle.std.specs.Prelude.{◌≡◌, [], ◌∷◌, pos, negsuc};
 ghost use Rattle.ttp_world.specs.declared.keep.Keep.TheVariants as keep;
 ghost use Rattle.ttp_world.specs.Clock.{fta};
 ghost use Rattle.ttp_world.specs.Hypothesis.{keeps};
-ghost use Rattle.world_rows.specs.Cases.{drifting_list, bare_run, clocks_after, notes_at};
+ghost use Rattle.world_rows.specs.Cases.{drifting_list, clocks_after, notes_at};
 ghost use Rattle.world_rows.specs.Scripts.{drifting, drifting_with_a_loss};
 
 /// Averages of notes, the newest first: of the last four the smallest and the largest are dropped,

@@ -1,5 +1,5 @@
 //! Check words, frames, and when bytes are a frame.
-ghost use Rattle.std.specs.Prelude.{◌≡◌, [], ◌∷◌, ℕ, take, true, false, Some, None, codes};
+ghost use Rattle.std.specs.Prelude.{◌≡◌, [], ◌∷◌, take, true, false, Some, None, codes};
 ghost use Rattle.ttp_base.specs.Text.{hex, hex_bytes};
 ghost use Rattle.ttp_world.specs.CheckWord.{check_word};
 ghost use Rattle.ttp_world.specs.Frame.{frame};

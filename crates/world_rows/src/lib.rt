@@ -11,6 +11,11 @@
 pub mod clocks;
 pub mod faults;
 pub mod frames;
+pub mod jumps;
 pub mod messages;
+pub mod moves;
+pub mod pasts;
+pub mod rejoining;
 pub mod starts;
 pub mod tests_of_hypothesis;
+pub mod version_2;

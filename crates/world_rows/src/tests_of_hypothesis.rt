@@ -20,10 +20,13 @@ pub fn narrow_windows()
     ensures wide { keeps (drifting_list (pos 17)) (script_of 4 16 []) ≡ keep.Yes 8 }
 {}
 
-/// Flipped bits and jumps, of which the least slot is named, also of a jump by nothing.
+/// Flipped bits, armed nodes and jumps that are too short, of which the least slot is named, also of a
+/// jump by nothing.
 pub fn faults_outside_the_hypothesis()
     ensures flip { keeps (bare_list 4) (script_of 4 16 (event.Flip 1 both 16 12 ∷ event.Jump 2 (pos 1) 13 ∷ [])) ≡ keep.No 3 12 }
     ensures jump { keeps (bare_list 4) (script_of 4 16 (event.Flip 1 only_a 16 12 ∷ event.Jump 2 (pos 0) 11 ∷ [])) ≡ keep.No 3 11 }
+    ensures arm { keeps (bare_list 4) (script_of 4 16 (event.Flip 1 both 16 12 ∷ event.Arm 2 9 ∷ event.Jump 2 (pos 1) 11 ∷ [])) ≡ keep.No 3 9 }
+    ensures flip_before_a_far_jump { keeps (bare_list 4) (script_of 4 16 (event.Flip 1 both 16 12 ∷ event.Jump 2 (pos 4) 11 ∷ [])) ≡ keep.No 3 12 }
 {}
 
 /// No starter, two that reach the same slot, and a node that comes too late; two starters of which
