@@ -26,7 +26,7 @@ use Rattle.ttp_world.specs.Medl.{is_wide, member_width, may_start, IsBareList, I
 use Rattle.ttp_world.specs.Past.{NodePast}
 use Rattle.ttp_world.specs.Reception.{Hearing, Expected, expected_of, is_within_window, is_expected_form, fits_members, view_of_frame, view_of_bits, view_of, verdict_of, is_taken_from_a, heard_deviation, entry_deviation}
 use Rattle.ttp_world.specs.Script.{is_on, is_armed}
-use Rattle.ttp_world.specs.World.{ReadyNode, ready_node, node_past, chosen_of, ready_nodes, no_node, ready_at, frames_of, frames_in}
+use Rattle.ttp_world.specs.World.{ReadyNode, ready_node, node_past, chosen_of, ready_nodes, no_node, ready_of, frames_of, frames_in}
 use Rattle.ttp_world.proofs.Lists.{kind_at-bare, payload_length-bare, IsPlace}
 use Rattle.ttp_world.proofs.Pasts.{elim-cond}
 use Rattle.bare_run.specs.Passed.{without_clock, plain_past, plain_pasts, past_at, plain_act, Passed, Nothing, Collision, ColdStart, Listed, passed_of, node_passed, passed_in, combined, bus_in, join_if, plain_listening, fits_passed, view_of_cstate, plain_view, plain_judging}
@@ -66,9 +66,9 @@ node_frames-passed list script history chosen (Leave why) k valid bare node plai
 node_frames-passed list script history chosen Judge k valid bare node plain = tt
 
 -- a node that is ready
-pub ready_at-map : (list : Medl) (script : Script) (history : History) (chosen : List Chosen) (k : ℕ) → k < length list.slots
-    → ready_at list (ready_nodes list script history chosen) k ≡ ready_node list script (length history) (node_past list script history k) (chosen_of chosen k) k
-ready_at-map list script history chosen k node =
+pub ready_of-map : (list : Medl) (script : Script) (history : History) (chosen : List Chosen) (k : ℕ) → k < length list.slots
+    → ready_of list (ready_nodes list script history chosen) k ≡ ready_node list script (length history) (node_past list script history k) (chosen_of chosen k) k
+ready_of-map list script history chosen k node =
     get_or-map-range_with_len (λ j. ready_node list script (length history) (node_past list script history j) (chosen_of chosen j) j) 0 (length list.slots) k k (no_node list) node (omega arith)
 
 -- what a node does rests on no clock
@@ -89,12 +89,12 @@ node_act-plain list script history k none =
 
 frames_of-passed : (list : Medl) (script : Script) (history : History) (chosen : List Chosen) (k : ℕ) → IsValid list → IsBareList list → script.events ≡ []
     → k < length list.slots → IsPlainHistory list history
-    → AllZip (IsSentFrameOf list) (frames_of list k (ready_at list (ready_nodes list script history chosen) k))
+    → AllZip (IsSentFrameOf list) (frames_of list k (ready_of list (ready_nodes list script history chosen) k))
     (node_passed list script (length history) (plain_pasts list script history) k)
 frames_of-passed list script history chosen k valid bare none node plain =
     let slot = length history in
     let past = node_past list script history k in
-    let same = ap (frames_of list k) (ready_at-map list script history chosen k node)
+    let same = ap (frames_of list k) (ready_of-map list script history chosen k node)
     ∙ ap (node_frames list k past (chosen_of chosen k)) (node_act-plain list script history k none) in
     let passed = ap (λ p. passed_of list k p (plain_act list script slot k p)) (past_at-map list (plain_past list script history) k node) in
     subst (λ frames. AllZip (IsSentFrameOf list) frames (node_passed list script slot (plain_pasts list script history) k)) (sym same)
@@ -139,7 +139,7 @@ frames_in-signals list script history chosen valid bare none plain =
     let nodes = ready_nodes list script history chosen in
     let pasts = plain_pasts list script history in
     combined_frames-combined list (frames_in list nodes) (passed_in list script (length history) pasts)
-    (AllZip-flat_map (IsSentFrameOf list) (λ k. frames_of list k (ready_at list nodes k)) (node_passed list script (length history) pasts) (length list.slots) (below (length list.slots))
+    (AllZip-flat_map (IsSentFrameOf list) (λ k. frames_of list k (ready_of list nodes k)) (node_passed list script (length history) pasts) (length list.slots) (below (length list.slots))
     (λ k node. frames_of-passed list script history chosen k valid bare none node plain) (below-lt (length list.slots)))
 
 -- Listening.

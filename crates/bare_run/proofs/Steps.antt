@@ -26,7 +26,7 @@ use Rattle.bare_run.specs.Slot.{IsWithin, AreWithin}
 use Rattle.bare_run.proofs.Clocks.{deviation_in-plain}
 use Rattle.bare_run.proofs.Frames.{FitsFrame}
 use Rattle.bare_run.proofs.OneSlot.{length-plain_run, nodes_after-plain_pasts, plain_pasts-first}
-use Rattle.bare_run.proofs.Passing.{Signals, frames_in-signals, ready_at-map, node_act-plain, heard_twice, listening_entry-plain, judging_entry-plain}
+use Rattle.bare_run.proofs.Passing.{Signals, frames_in-signals, ready_of-map, node_act-plain, heard_twice, listening_entry-plain, judging_entry-plain}
 use Rattle.bare_run.proofs.Plain.{IsPlainEntry, IsPlainHistory, coming_place-plain, expected_of-words}
 use Rattle.bare_run.proofs.Undisturbed.{combined_frames, heard_is}
 use Rattle.bare_run.proofs.Within.{past_at-map, first_nodes-within, nodes_after-within}
@@ -93,7 +93,7 @@ entry_in-plain list script history chosen k calm node =
     let heard = hearing_in-plain list script history nodes frames k calm.quiet in
     let does = node_act-plain list script history k calm.quiet.events in
     let before = past_at-map list (plain_past list script history) k node in
-    ap made (ready_at-map list script history chosen k node)
+    ap made (ready_of-map list script history chosen k node)
     ∙ (λ i. new_entry list k past (chosen_of chosen k) (heard i) (does i))
     ∙ new_entry-plain list script history chosen (plain_act list script slot k (plain_past list script history k)) k calm node
     ∙ ap (λ p. plain_entry list k p passed (plain_act list script slot k p)) (sym before)

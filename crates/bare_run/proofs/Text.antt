@@ -21,7 +21,7 @@ use Rattle.ttp_world.specs.Messages.{messages_of, delivered_of}
 use Rattle.ttp_world.specs.Past.{NodePast, state_of}
 use Rattle.ttp_world.specs.Reception.{Hearing, expected_of}
 use Rattle.ttp_world.specs.Trace.{trace_head, member_digits, node_line, number_delivered, message_shown, node_line_of, write_lines, more_write_lines, read_line, read_lines, slot_text, history_text, run_text}
-use Rattle.ttp_world.specs.World.{SlotNumbers, ready_at, ready_nodes, frames_in, hearing_in, node_past, world}
+use Rattle.ttp_world.specs.World.{SlotNumbers, ready_of, ready_nodes, frames_in, hearing_in, node_past, world}
 use Rattle.ttp_base.proofs.SetWords.{set_bits-small}
 use Rattle.ttp_world.proofs.Lists.{node_limit-most, payload_length-bare}
 use Rattle.bare_run.specs.Passed.{IsPlainScript, plain_past, plain_pasts, past_at, passed_row, no_numbers, plain_numbers, plain_run}
@@ -71,7 +71,7 @@ message_shown-bare list script row before k (entry.Sent message) bare plain = pl
 message_shown-bare list script row before k (entry.Judged sender v deviation) bare plain =
     let nodes = ready_nodes list script before (messages_of list script (length before) row) in
     ap (option_map (number_delivered list script (row ∷ before) k))
-    (delivery-bare list k (ready_at list nodes k).past (hearing_in list script (length before) nodes (frames_in list nodes) k) (entry_of row k) bare)
+    (delivery-bare list k (ready_of list nodes k).past (hearing_in list script (length before) nodes (frames_in list nodes) k) (entry_of row k) bare)
 message_shown-bare list script row before k entry.Off bare plain = refl
 message_shown-bare list script row before k entry.Waited bare plain = refl
 message_shown-bare list script row before k entry.Retried bare plain = refl

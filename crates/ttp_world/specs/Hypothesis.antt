@@ -154,14 +154,14 @@ loss_among sender others [] = Harmless
 loss_among sender others (r ∷ []) = if length others == 1 then Makes sender else Makes r
 loss_among sender others (r ∷ q ∷ lost) = if length others == length (r ∷ q ∷ lost) then Makes sender else Breaks
 
-abbrev pub loss_of : Script → ℕ → ℕ → List ℕ → Loss
-loss_of script sender slot others = loss_among sender others (filter (loses script sender slot) others)
+abbrev pub receivers_loss : Script → ℕ → ℕ → List ℕ → Loss
+receivers_loss script sender slot others = loss_among sender others (filter (loses script sender slot) others)
 
 -- of a sender that is never on or faulty nothing is asked
 abbrev pub sender_loss : Medl → Script → List ℕ → ℕ → ℕ → Loss
 sender_loss list script faulty slot sender =
     if not (is_ever_on script sender) || has_node faulty sender then Harmless
-    else loss_of script sender slot (others_in list script faulty sender slot)
+    else receivers_loss script sender slot (others_in list script faulty sender slot)
 
 -- the nodes that become faulty in a slot by their jumps, where these are faulty before it
 abbrev pub jumps_now : Script → List ℕ → ℕ → ℕ → Bool

@@ -22,7 +22,7 @@ use Rattle.ttp_world.specs.Medium.{is_sending}
 use Rattle.ttp_world.specs.Medl.{member_width}
 use Rattle.ttp_world.specs.Outgoing.{zeros_of, message_chosen}
 use Rattle.ttp_world.specs.Past.{NodePast}
-use Rattle.ttp_world.specs.World.{ReadyNode, ready_at, ready_nodes, frames_in, hearing_in, node_past}
+use Rattle.ttp_world.specs.World.{ReadyNode, ready_of, ready_nodes, frames_in, hearing_in, node_past}
 
 -- Payloads.
 
@@ -37,7 +37,7 @@ messages_of list script slot row = map (λ k. message_chosen list script slot k 
 -- what node r delivers in a slot for which these nodes are ready, by the entry that it makes
 abbrev pub delivered_in : Medl → Script → ℕ → List ReadyNode → ℕ → Entry → Option Delivered
 delivered_in list script slot nodes r e =
-    delivery list r (ready_at list nodes r).past (hearing_in list script slot nodes (frames_in list nodes) r) e
+    delivery list r (ready_of list nodes r).past (hearing_in list script slot nodes (frames_in list nodes) r) e
 
 -- what node r delivered in the slot of a row, after the history before it
 abbrev pub delivered_of : Medl → Script → History → List Entry → ℕ → Option Delivered

@@ -19,8 +19,8 @@ newest_slot history = length history - 1
 abbrev pub correct_nodes : Medl → Script → History → List ℕ
 correct_nodes list script history = filter (is_correct_after list script (newest_slot history)) (nodes_of list)
 
-abbrev pub members_in_diary : Medl → History → ℕ → List ℕ
-members_in_diary list history k = members_of list k (diary_of history k)
+abbrev pub members_of_node : Medl → History → ℕ → List ℕ
+members_of_node list history k = members_of list k (diary_of history k)
 
 -- correct nodes that do not wait for a second successor
 abbrev pub is_settled : History → ℕ → Bool
@@ -30,7 +30,7 @@ abbrev pub settled_nodes : Medl → Script → History → List ℕ
 settled_nodes list script history = filter (is_settled history) (correct_nodes list script history)
 
 abbrev pub are_same_members : Medl → History → ℕ → ℕ → Bool
-are_same_members list history j k = bytes_eq (members_in_diary list history j) (members_in_diary list history k)
+are_same_members list history j k = bytes_eq (members_of_node list history j) (members_of_node list history k)
 
 abbrev pub has_ever_sent : Diary → Bool
 has_ever_sent diary = list_any is_sending diary
@@ -40,7 +40,7 @@ has_left history k = is_left_phase (phase_of (diary_of history k))
 
 -- no correct node holds node j for a member
 abbrev pub is_out : Medl → Script → History → ℕ → Bool
-is_out list script history j = list_all (λ k. not (has_node (members_in_diary list history k) j)) (correct_nodes list script history)
+is_out list script history j = list_all (λ k. not (has_node (members_of_node list history k) j)) (correct_nodes list script history)
 
 -- the correct nodes that have started or sent
 abbrev pub correct_senders : Medl → Script → History → List ℕ
@@ -58,7 +58,7 @@ members_agree list script history =
 
 abbrev pub senders_are_members : Medl → Script → History → Bool
 senders_are_members list script history =
-    list_all (λ j. list_all (λ k. has_node (members_in_diary list history k) j) (correct_nodes list script history))
+    list_all (λ j. list_all (λ k. has_node (members_of_node list history k) j) (correct_nodes list script history))
     (correct_senders list script history)
 
 abbrev pub none_has_left : Medl → Script → History → Bool

@@ -50,8 +50,8 @@ ready_nodes list script history chosen =
 abbrev pub no_node : Medl → ReadyNode
 no_node list = record { past = no_past list 0; act = Off; chosen = nothing_chosen; clock = pos 0 }
 
-abbrev pub ready_at : Medl → List ReadyNode → ℕ → ReadyNode
-ready_at list nodes k = get_or nodes k (no_node list)
+abbrev pub ready_of : Medl → List ReadyNode → ℕ → ReadyNode
+ready_of list nodes k = get_or nodes k (no_node list)
 
 -- The frames of a slot.
 
@@ -59,13 +59,13 @@ abbrev pub frames_of : Medl → ℕ → ReadyNode → List SentFrame
 frames_of list k node = node_frames list k node.past node.chosen node.act
 
 abbrev pub frames_in : Medl → List ReadyNode → List SentFrame
-frames_in list nodes = flat_map (λ k. frames_of list k (ready_at list nodes k)) (below (length list.slots))
+frames_in list nodes = flat_map (λ k. frames_of list k (ready_of list nodes k)) (below (length list.slots))
 
 -- What node r hears, measured by its own clock and with its reading errors.
 
 abbrev pub deviation_in : Medl → Script → ℕ → List ReadyNode → ℕ → ℕ → ℤ
 deviation_in list script slot nodes r p =
-    ((ready_at list nodes p).clock -ℤ (ready_at list nodes r).clock) +ℤ reading_error script r slot
+    ((ready_of list nodes p).clock -ℤ (ready_of list nodes r).clock) +ℤ reading_error script r slot
 
 abbrev pub hearing_in : Medl → Script → ℕ → List ReadyNode → List SentFrame → ℕ → Hearing
 hearing_in list script slot nodes frames r = record {
@@ -78,7 +78,7 @@ hearing_in list script slot nodes frames r = record {
 
 abbrev pub entry_in : Medl → Script → ℕ → List ReadyNode → List SentFrame → ℕ → Entry
 entry_in list script slot nodes frames k =
-    let node = ready_at list nodes k in
+    let node = ready_of list nodes k in
     new_entry list k node.past node.chosen (hearing_in list script slot nodes frames k) node.act
 
 abbrev pub row_in : Medl → Script → ℕ → List ReadyNode → List SentFrame → List Entry
