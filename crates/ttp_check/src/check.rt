@@ -1,0 +1,67 @@
+//! The check word of bytes that come in pieces.
+ghost use Rattle.std.specs.Prelude.{◌≡◌, ℕ, ◌^◌, ◌<◌, List, [], ◌∷◌, ◌++◌};
+ghost use Rattle.ttp_world.specs.CheckWord.{check_word};
+ghost use Rattle.ttp_check.specs.StandsFor.{StandsFor};
+
+use crate::table::word_of;
+use std::marker::Model;
+
+/// What is known of some bytes by their check word, from a start.
+///
+/// It stands for the start and all bytes that it was fed, and contracts see it as their check word.
+#[derive(Clone, Copy, Debug, PartialEq, Eq)]
+pub struct Check {
+    word: u32,
+}
+
+impl Model for Check {
+    ghost use Rattle.std.specs.Prelude.{ℕ, ◌<◌, ◌^◌};
+
+    ghost Value = { ℕ };
+
+    ghost view = { λ c. c.word };
+
+    ghost invariant = { λ c. c.word < 2 ^ 24 };
+
+    ghost inverse = { λ word. record { word = word } };
+}
+
+// The word after one byte more.
+fn next_word(word: u32, byte: u8) -> u32
+    requires { word < 2 ^ 24 }
+    ensures { result ≡ check_word word (byte ∷ []) }
+{
+    let front = (word >> 16) as u8;
+    ((word << 8) & 0xff_ffff) ^ word_of(front ^ byte)
+}
+
+impl Check {
+    /// A check that begins with this word, which no byte has changed yet.
+    pub fn new(start: u32) -> Check
+        requires { start < 2 ^ 24 }
+        ensures { StandsFor result start [] }
+    {
+        Check { word: start }
+    }
+
+    /// Takes more bytes, with one table step for each.
+    pub fn feed(&mut self, bytes: &[u8])
+        ensures stands { (start : ℕ) (fed : List ℕ) → StandsFor self.old start fed → StandsFor self.new start (fed ++ bytes.now) }
+        ensures word { self.new ≡ check_word self.old bytes.now }
+    {
+        let mut word = self.word;
+        for byte in bytes {
+            word = next_word(word, *byte);
+        }
+        self.word = word;
+    }
+
+    /// The check word of all bytes so far: a number below 2^24, which a frame carries in three bytes
+    /// with the most significant first.
+    pub fn word(&self) -> u32
+        ensures fits { result < 2 ^ 24 }
+        ensures value { result ≡ self.now }
+    {
+        self.word
+    }
+}

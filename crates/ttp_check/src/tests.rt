@@ -1,0 +1,3 @@
+//! Published check words, words of pieces, and words against a loop over bits.
+
+use crate::Check;
