@@ -1,9 +1,9 @@
 -- The register: what it makes of sums of rows, and that nothing which it holds is lost.
-use Rattle.std.proofs.Common.{◌≡◌, ℕ, zero, suc, ◌+◌, ◌-◌, ◌<◌, ◌≤◌, Bool, true, false, cond, not, List, [], ◌∷◌, ◌++◌, length, get_or, replicate, refl, ap, sym, ◌∙◌, arith, length-append}
+use Rattle.std.proofs.Common.{◌≡◌, ℕ, zero, suc, ◌+◌, ◌-◌, ◌<◌, ◌≤◌, Bool, true, false, cond, not, List, [], ◌∷◌, ◌++◌, length, get_or, replicate, refl, ap, sym, ◌∙◌, arith, append_assoc, length-append}
 use Rattle.std.proofs.lemmas.Bool.{false≢true}
-use Rattle.std.proofs.lemmas.List.{append_cancel_right, get_or-append_right, length-replicate}
+use Rattle.std.proofs.lemmas.List.{append_cancel_right, append-nil, get_or-append_right, length-replicate, replicate-append-replicate}
 use Rattle.ttp_world.specs.CheckWord.{xor, xor_bits, generator, next_register, remainder}
-use Rattle.ttp_check.proofs.Bits.{xor-assoc, xor-right_comm, xor-four, xor-cancel, length-xor_bits, xor_bits-nil, xor_bits-right_comm, xor_bits-assoc, xor_bits-twice, xor_bits-both, xor_bits-append, xor_bits-front, xor_bits-zeros, xor_bits-self, xor_bits-cancel, get_or-xor_bits}
+use Rattle.ttp_check.proofs.Bits.{xor-assoc, xor-right_comm, xor-four, xor-cancel, length-xor_bits, xor_bits-nil, xor_bits-right_comm, xor_bits-assoc, xor_bits-twice, xor_bits-both, xor_bits-append, xor_bits-front, xor_bits-zeros, xor_bits-self, xor_bits-cancel, get_or-xor_bits, zeros-xor_bits}
 
 -- the rest of a register moves one place, and a row is added to it where this is asked for
 abbrev moved : List Bool → List Bool → Bool → List Bool
@@ -135,3 +135,31 @@ remainder-injective a b [] size size_too alike = alike
 remainder-injective a b (bit ∷ bits) size size_too alike =
     next_register-injective a b bit size size_too
       (remainder-injective (next_register a bit) (next_register b bit) bits (length-next_register a bit ∙ size) (length-next_register b bit ∙ size_too) alike)
+
+-- ---- bits read in parts
+
+-- zeros in front are pushed out by as many zeros that are read
+remainder-zeros : (k : ℕ) (rest : List Bool) → remainder (replicate k false ++ rest) (replicate k false) ≡ rest ++ replicate k false
+remainder-zeros zero rest = sym (append-nil rest)
+remainder-zeros (suc k) rest =
+    ap (λ r. remainder r (replicate k false)) (append_assoc (replicate k false) rest (false ∷ []))
+    ∙ remainder-zeros k (rest ++ false ∷ []) ∙ append_assoc rest (false ∷ []) (replicate k false)
+
+-- bits change the register by its front alone, and the rest moves up
+pub remainder-split : (front rest bits : List Bool) → length front ≡ length bits →
+    remainder (front ++ rest) bits ≡ xor_bits (remainder (replicate (length front + length rest) false) (xor_bits front bits)) (rest ++ replicate (length front) false)
+remainder-split front rest bits same =
+    let n : ℕ = length front in
+    let none : List Bool = replicate (length front) false in
+    let read : List Bool = xor_bits front bits in
+    let shape : none ++ replicate (length rest) false ≡ replicate (length front + length rest) false = replicate-append-replicate n (length rest) false in
+    let of_front : front ++ rest ≡ xor_bits (none ++ rest) front = ap (λ xs. xs ++ rest) (sym (zeros-xor_bits front)) ∙ sym (xor_bits-front none front rest (omega (arith, length-replicate n false))) in
+    let of_rest : none ++ rest ≡ xor_bits (none ++ replicate (length rest) false) (none ++ rest) =
+      sym (xor_bits-append none none (replicate (length rest) false) rest refl ∙ ap (λ xs. xs ++ xor_bits (replicate (length rest) false) rest) (xor_bits-zeros none n) ∙ ap (λ xs. none ++ xs) (zeros-xor_bits rest)) in
+    ap (λ r. remainder r bits) of_front
+    ∙ remainder-front (none ++ rest) front bits same (omega (arith, length-append none rest, length-replicate n false))
+    ∙ ap (λ r. remainder r read) of_rest
+    ∙ ap (remainder (xor_bits (none ++ replicate (length rest) false) (none ++ rest))) (sym (xor_bits-zeros read n))
+    ∙ remainder-xor (none ++ replicate (length rest) false) (none ++ rest) read none (omega (arith, length-append none (replicate (length rest) false), length-append none rest, length-replicate (length rest) false)) (length-xor_bits front bits ∙ sym (length-replicate n false))
+    ∙ ap (λ r. xor_bits (remainder r read) (remainder (none ++ rest) none)) shape
+    ∙ ap (xor_bits (remainder (replicate (length front + length rest) false) read)) (remainder-zeros n rest)
