@@ -1,8 +1,8 @@
 -- Check words of bytes in pieces, of sums, and of one byte more.
-use Rattle.std.proofs.Common.{◌≡◌, ℕ, zero, suc, ◌+◌, ◌*◌, ◌/◌, ◌%◌, ◌^◌, ◌<◌, ◌≤◌, Bool, false, List, [], ◌∷◌, ◌++◌, length, replicate, refl, ap, sym, subst, ◌∙◌, arith, length-append}
+use Rattle.std.proofs.Common.{◌≡◌, ℕ, zero, suc, ◌+◌, ◌*◌, ◌/◌, ◌%◌, ◌^◌, ◌<◌, ◌≤◌, Bool, false, List, [], ◌∷◌, ◌++◌, length, get_or, take, replicate, refl, ap, sym, subst, ◌∙◌, arith, length-append}
 use Rattle.std.specs.Int.RustNames.{bit_and, bit_xor}
 use Rattle.std.proofs.Math.Nat.{mod-eq_of_lt}
-use Rattle.std.proofs.lemmas.List.{append-nil}
+use Rattle.std.proofs.lemmas.List.{append-nil, take_more}
 use Rattle.std.proofs.lemmas.List.Concat.{flat_map-append}
 use Rattle.std.proofs.lemmas.Nat.{and_mask, shl-shr, xor_comm}
 use Rattle.ttp_world.specs.CheckWord.{bits_of, bits_of_byte, bits_of_bytes, number_of, xor_bits, remainder, word_bits, check_word}
@@ -62,6 +62,12 @@ pub check_word-append : (start : ℕ) (fed more : List ℕ) → check_word (chec
 check_word-append start fed more =
     ap (λ r. number_of (remainder r (bits_of_bytes more))) (bits_of-check_word start fed)
     ∙ ap number_of (sym (ap (remainder (bits_of 24 start)) (bits_of_bytes-append fed more) ∙ remainder-append (bits_of 24 start) (bits_of_bytes fed) (bits_of_bytes more)))
+
+-- the word of one byte more of a list
+pub check_word-more : (start word next i : ℕ) (bytes : List ℕ) → i < length bytes → word ≡ check_word start (take i bytes) → next ≡ check_word word (get_or bytes i 0 ∷ []) → next ≡ check_word start (take (i + 1) bytes)
+check_word-more start word next i bytes within so_far is =
+    let byte : List ℕ = get_or bytes i 0 ∷ [] in
+    is ∙ ap (λ w. check_word w byte) so_far ∙ check_word-append start (take i bytes) byte ∙ ap (check_word start) (sym (take_more bytes i 0 within))
 
 -- the word of a sum is the sum of the words
 pub check_word-xor : (start begin : ℕ) (one other : List ℕ) → length one ≡ length other → check_word (bit_xor start begin) (xor_bytes one other) ≡ bit_xor (check_word start one) (check_word begin other)

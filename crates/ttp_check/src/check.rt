@@ -29,10 +29,24 @@ impl Model for Check {
 // The word after one byte more.
 fn next_word(word: u32, byte: u8) -> u32
     requires { word < 2 ^ 24 }
-    ensures { result ≡ check_word word (byte ∷ []) }
+    ensures fits { result < 2 ^ 24 }
+    ensures value { result ≡ check_word word (byte ∷ []) }
 {
     let front = (word >> 16) as u8;
     ((word << 8) & 0xff_ffff) ^ word_of(front ^ byte)
+}
+
+// The word after these bytes more.
+fn word_after(word: u32, bytes: &[u8]) -> u32
+    requires { word < 2 ^ 24 }
+    ensures fits { result < 2 ^ 24 }
+    ensures value { result ≡ check_word word bytes.now }
+{
+    let mut word = word;
+    for byte in bytes {
+        word = next_word(word, *byte);
+    }
+    word
 }
 
 impl Check {
@@ -49,11 +63,7 @@ impl Check {
         ensures stands { (start : ℕ) (fed : List ℕ) → StandsFor self.old start fed → StandsFor self.new start (fed ++ bytes.now) }
         ensures word { self.new ≡ check_word self.old bytes.now }
     {
-        let mut word = self.word;
-        for byte in bytes {
-            word = next_word(word, *byte);
-        }
-        self.word = word;
+        self.word = word_after(self.word, bytes);
     }
 
     /// The check word of all bytes so far: a number below 2^24, which a frame carries in three bytes
