@@ -1,5 +1,6 @@
 pub mod Bits
 pub mod Numbers
 pub mod Registers
+pub mod WordLaws
 pub mod Words
 pub mod WordsOfBytes
