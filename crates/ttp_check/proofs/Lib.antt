@@ -1,4 +1,5 @@
 pub mod Bits
+pub mod Bursts
 pub mod Numbers
 pub mod Registers
 pub mod WordLaws

@@ -134,7 +134,7 @@ pub remainder-injective : (a b bits : List Bool) → length a ≡ 24 → length 
 remainder-injective a b [] size size_too alike = alike
 remainder-injective a b (bit ∷ bits) size size_too alike =
     next_register-injective a b bit size size_too
-      (remainder-injective (next_register a bit) (next_register b bit) bits (length-next_register a bit ∙ size) (length-next_register b bit ∙ size_too) alike)
+    (remainder-injective (next_register a bit) (next_register b bit) bits (length-next_register a bit ∙ size) (length-next_register b bit ∙ size_too) alike)
 
 -- ---- bits read in parts
 
@@ -155,7 +155,7 @@ remainder-split front rest bits same =
     let shape : none ++ replicate (length rest) false ≡ replicate (length front + length rest) false = replicate-append-replicate n (length rest) false in
     let of_front : front ++ rest ≡ xor_bits (none ++ rest) front = ap (λ xs. xs ++ rest) (sym (zeros-xor_bits front)) ∙ sym (xor_bits-front none front rest (omega (arith, length-replicate n false))) in
     let of_rest : none ++ rest ≡ xor_bits (none ++ replicate (length rest) false) (none ++ rest) =
-      sym (xor_bits-append none none (replicate (length rest) false) rest refl ∙ ap (λ xs. xs ++ xor_bits (replicate (length rest) false) rest) (xor_bits-zeros none n) ∙ ap (λ xs. none ++ xs) (zeros-xor_bits rest)) in
+    sym (xor_bits-append none none (replicate (length rest) false) rest refl ∙ ap (λ xs. xs ++ xor_bits (replicate (length rest) false) rest) (xor_bits-zeros none n) ∙ ap (λ xs. none ++ xs) (zeros-xor_bits rest)) in
     ap (λ r. remainder r bits) of_front
     ∙ remainder-front (none ++ rest) front bits same (omega (arith, length-append none rest, length-replicate n false))
     ∙ ap (λ r. remainder r read) of_rest

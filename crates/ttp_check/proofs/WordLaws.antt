@@ -44,9 +44,9 @@ remainder-tells : (register one other : List Bool) → length register ≡ 24 �
 remainder-tells register one other size same short alike =
     let zeros : List Bool = replicate (length one) false in
     let sums : remainder (xor_bits register one) zeros ≡ remainder (xor_bits register other) zeros =
-      sym (remainder-read register one (omega arith)) ∙ alike ∙ remainder-read register other (omega arith) ∙ ap (λ n. remainder (xor_bits register other) (replicate n false)) (sym same) in
+    sym (remainder-read register one (omega arith)) ∙ alike ∙ remainder-read register other (omega arith) ∙ ap (λ n. remainder (xor_bits register other) (replicate n false)) (sym same) in
     xor_bits-cancel register one other same (omega arith)
-      (remainder-injective (xor_bits register one) (xor_bits register other) zeros (length-xor_bits register one ∙ size) (length-xor_bits register other ∙ size) sums)
+    (remainder-injective (xor_bits register one) (xor_bits register other) zeros (length-xor_bits register one ∙ size) (length-xor_bits register other ∙ size) sums)
 
 -- a row of bits is its first bits, so many from there on, and what follows
 in_parts : (bits : List Bool) (from width : ℕ) → take from bits ++ (take width (drop from bits) ++ drop (from + width) bits) ≡ bits
@@ -72,13 +72,13 @@ remainder-burst register one other from width size short same before after alike
     let middle_too : List Bool = take width (drop from other) in
     let held_size : length held ≡ 24 = length-remainder register (take from one) ∙ size in
     let ends : remainder (remainder held middle) (drop (from + width) one) ≡ remainder (remainder held middle_too) (drop (from + width) one) =
-      sym (remainder-parts register one from width) ∙ alike ∙ remainder-parts register other from width
-      ∙ ap (λ xs. remainder (remainder (remainder register xs) middle_too) (drop (from + width) other)) (sym before)
-      ∙ ap (remainder (remainder held middle_too)) (sym after) in
+    sym (remainder-parts register one from width) ∙ alike ∙ remainder-parts register other from width
+    ∙ ap (λ xs. remainder (remainder (remainder register xs) middle_too) (drop (from + width) other)) (sym before)
+    ∙ ap (remainder (remainder held middle_too)) (sym after) in
     let held_alike : remainder held middle ≡ remainder held middle_too =
-      remainder-injective (remainder held middle) (remainder held middle_too) (drop (from + width) one) (length-remainder held middle ∙ held_size) (length-remainder held middle_too ∙ held_size) ends in
+    remainder-injective (remainder held middle) (remainder held middle_too) (drop (from + width) one) (length-remainder held middle ∙ held_size) (length-remainder held middle_too ∙ held_size) ends in
     let middles : middle ≡ middle_too =
-      remainder-tells held middle middle_too held_size (omega (arith, length-take {A = Bool}, length-drop {A = Bool})) (omega (arith, length-take {A = Bool})) held_alike in
+    remainder-tells held middle middle_too held_size (omega (arith, length-take {A = Bool}, length-drop {A = Bool})) (omega (arith, length-take {A = Bool})) held_alike in
     sym (in_parts one from width)
     ∙ ap (λ xs. xs ++ (middle ++ drop (from + width) one)) before
     ∙ ap (λ xs. take from other ++ (xs ++ drop (from + width) one)) middles
@@ -89,5 +89,5 @@ remainder-burst register one other from width size short same before after alike
 pub bursts_change_the_word : (start : ℕ) (one other : List ℕ) → DifferWithin 24 one other → check_word start one ≢ check_word start other
 bursts_change_the_word start one other apart alike =
     apart.differ (remainder-burst (bits_of 24 start) (bits_of_bytes one) (bits_of_bytes other) apart.from 24 (length-bits_of 24 start) (omega arith)
-      (omega (arith, apart.same_length, length-bits_of_bytes one, length-bits_of_bytes other)) apart.before apart.after
-      (sym (bits_of-check_word start one) ∙ ap (bits_of 24) alike ∙ bits_of-check_word start other))
+    (omega (arith, apart.same_length, length-bits_of_bytes one, length-bits_of_bytes other)) apart.before apart.after
+    (sym (bits_of-check_word start one) ∙ ap (bits_of 24) alike ∙ bits_of-check_word start other))

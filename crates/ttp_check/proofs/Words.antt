@@ -30,6 +30,10 @@ bits_of_bytes-xor (a ∷ as_) (b ∷ bs) same =
     ∙ ap (λ xs. xs ++ xor_bits (bits_of_bytes as_) (bits_of_bytes bs)) (bits_of-xor 8 a b)
     ∙ sym (xor_bits-append (bits_of_byte a) (bits_of_byte b) (bits_of_bytes as_) (bits_of_bytes bs) (length-bits_of 8 a ∙ sym (length-bits_of 8 b)))
 
+pub length-big_endian : (count v : ℕ) → length (big_endian count v) ≡ count
+length-big_endian zero v = refl
+length-big_endian (suc count) v = omega (arith, length-append (big_endian count (v / 256)) (v % 256 ∷ []), length-big_endian count (v / 256))
+
 -- a number's lowest bytes have its lowest bits
 pub bits_of_bytes-big_endian : (count v : ℕ) → bits_of_bytes (big_endian count v) ≡ bits_of (8 * count) v
 bits_of_bytes-big_endian zero v = refl
@@ -84,8 +88,8 @@ low_bits_moved : (word : ℕ) → bits_of 16 word ++ replicate 8 false ≡ bits_
 low_bits_moved word =
     let none : word * 2 ^ 8 % 2 ^ 8 ≡ 0 = omega arith in
     sym (bits_of-add 16 8 (word * 2 ^ 8)
-      ∙ ap (λ h. bits_of 16 h ++ bits_of 8 (word * 2 ^ 8)) (shl-shr word 8)
-      ∙ ap (λ xs. bits_of 16 word ++ xs) (sym (bits_of-mod 8 (word * 2 ^ 8)) ∙ ap (bits_of 8) none))
+    ∙ ap (λ h. bits_of 16 h ++ bits_of 8 (word * 2 ^ 8)) (shl-shr word 8)
+    ∙ ap (λ xs. bits_of 16 word ++ xs) (sym (bits_of-mod 8 (word * 2 ^ 8)) ∙ ap (bits_of 8) none))
 
 -- the bits of one byte
 bits_of_bytes-one : (byte : ℕ) → bits_of_bytes (byte ∷ []) ≡ bits_of 8 byte

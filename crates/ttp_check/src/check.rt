@@ -61,7 +61,7 @@ impl Check {
     /// Takes more bytes, with one table step for each.
     pub fn feed(&mut self, bytes: &[u8])
         ensures stands { (start : ℕ) (fed : List ℕ) → StandsFor self.old start fed → StandsFor self.new start (fed ++ bytes.now) }
-        ensures word { self.new ≡ check_word self.old bytes.now }
+        ensures value { self.new ≡ check_word self.old bytes.now }
     {
         self.word = word_after(self.word, bytes);
     }
