@@ -4,10 +4,10 @@ use Rattle.std.proofs.Math.Nat.{mod-eq_of_lt}
 use Rattle.std.proofs.Math.ListN.{drop_of_length-le}
 use Rattle.std.proofs.Math.Seq.{take-append-add, drop-append-add}
 use Rattle.std.proofs.lemmas.List.{append_cancel_left, append_cancel_right}
-use Rattle.ttp_world.specs.CheckWord.{bits_of, bits_of_bytes, number_of, check_word}
+use Rattle.ttp_world.specs.CheckWord.{bits_of_bytes, number_of, check_word}
 use Rattle.ttp_world.specs.Frame.{big_endian}
 use Rattle.ttp_check.specs.Bytes.{DifferWithin}
-use Rattle.ttp_check.proofs.Numbers.{length-bits_of, number_of-bits_of}
+use Rattle.ttp_check.proofs.Numbers.{number_of-bits_of}
 use Rattle.ttp_check.proofs.Words.{length-bits_of_bytes, length-big_endian, bits_of_bytes-append, bits_of_bytes-big_endian}
 use Rattle.ttp_check.proofs.WordLaws.{bursts_change_the_word}
 

@@ -1,8 +1,8 @@
 -- Numbers as rows of bits, the most significant first.
-use Rattle.std.proofs.Common.{◌≡◌, ℕ, zero, suc, ◌+◌, ◌*◌, ◌/◌, ◌%◌, ◌^◌, ◌<◌, ◌≤◌, Bool, true, false, cond, List, [], ◌∷◌, ◌++◌, length, fold, refl, ap, sym, ◌∙◌, arith, append_assoc, length-append, add-zero, add-one, add-suc}
+use Rattle.std.proofs.Common.{◌≡◌, ℕ, zero, suc, ◌+◌, ◌*◌, ◌/◌, ◌%◌, ◌^◌, ◌<◌, Bool, true, false, cond, List, [], ◌∷◌, ◌++◌, length, fold, refl, ap, sym, ◌∙◌, arith, append_assoc, length-append, add-zero, add-one, add-suc}
 use Rattle.std.specs.Prelude.{◌==◌}
 use Rattle.std.specs.Int.RustNames.{bit_xor}
-use Rattle.std.proofs.Math.Nat.{mod-eq_of_lt, mod-one, div-one, pow-suc}
+use Rattle.std.proofs.Math.Nat.{mod-eq_of_lt, mod-one, div-one}
 use Rattle.std.proofs.lemmas.List.{append-nil}
 use Rattle.std.proofs.lemmas.List.Sums.{fold-append}
 use Rattle.std.proofs.lemmas.Nat.{pow_pos, shr-shr, shr_split, mod-pow-add, mod_below, xor_shr, xor_mod, xor_lt}

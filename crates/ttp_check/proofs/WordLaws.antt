@@ -1,15 +1,15 @@
 -- The laws of check words, and what shows that bytes differ in a short run of bits.
-use Rattle.std.proofs.Common.{◌≡◌, ◌≢◌, ℕ, zero, suc, ◌+◌, ◌-◌, ◌*◌, ◌<◌, ◌≤◌, min, Bool, false, List, [], ◌∷◌, ◌++◌, length, take, drop, replicate, refl, ap, sym, subst, ◌∙◌, arith, length-append}
+use Rattle.std.proofs.Common.{◌≡◌, ◌≢◌, ℕ, ◌+◌, ◌≤◌, Bool, false, List, ◌++◌, length, take, drop, replicate, ap, sym, ◌∙◌, arith}
 use Rattle.std.specs.Int.Bits.{xor_self}
 use Rattle.std.specs.Int.RustNames.{bit_xor}
-use Rattle.std.proofs.lemmas.List.{append_cancel_left, length-take, length-drop, drop-drop, take-append-drop}
-use Rattle.ttp_world.specs.CheckWord.{bits_of, bits_of_byte, bits_of_bytes, number_of, xor_bits, remainder, word_bits, check_word}
+use Rattle.std.proofs.lemmas.List.{length-take, length-drop, drop-drop, take-append-drop}
+use Rattle.ttp_world.specs.CheckWord.{bits_of, bits_of_bytes, number_of, xor_bits, remainder, check_word}
 use Rattle.ttp_world.specs.Frame.{big_endian, word_bytes}
 use Rattle.ttp_check.specs.Bytes.{xor_bytes, DifferWithin}
 use Rattle.ttp_check.proofs.Bits.{length-xor_bits, xor_bits-self, xor_bits-cancel}
 use Rattle.ttp_check.proofs.Numbers.{length-bits_of}
 use Rattle.ttp_check.proofs.Registers.{length-remainder, remainder-append, remainder-read, remainder-injective}
-use Rattle.ttp_check.proofs.Words.{length-bits_of_bytes, bits_of_bytes-append, bits_of_bytes-big_endian, bits_of-check_word, check_word-append, check_word-xor}
+use Rattle.ttp_check.proofs.Words.{length-bits_of_bytes, bits_of_bytes-big_endian, bits_of-check_word, check_word-append, check_word-xor}
 
 -- ---- sums
 
