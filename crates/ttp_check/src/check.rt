@@ -53,7 +53,8 @@ impl Check {
     /// A check that begins with this word, which no byte has changed yet.
     pub fn new(start: u32) -> Check
         requires { start < 2 ^ 24 }
-        ensures { StandsFor result start [] }
+        ensures stands { StandsFor result start [] }
+        ensures value { result ≡ start }
     {
         Check { word: start }
     }
