@@ -103,7 +103,7 @@ numbers_change_the_word start count v w front back short fits fits_too other =
     let one : List ℕ = big_endian count v ++ back in
     let another : List ℕ = big_endian count w ++ back in
     let apart : DifferWithin 24 one another =
-      DifferWithin-before 24 (big_endian count v) (big_endian count w) back (DifferWithin-big_endian 24 count v w (omega arith) fits fits_too other) in
+    DifferWithin-before 24 (big_endian count v) (big_endian count w) back (DifferWithin-big_endian 24 count v w (omega arith) fits fits_too other) in
     bursts_change_the_word start (front ++ one) (front ++ another) (DifferWithin-behind 24 front one another apart)
 
 -- Lists that end with their own words, be these over the same bytes before them too, never differ within 24 bits alone.

@@ -1,9 +1,9 @@
 -- The register: what it makes of sums of rows, and that nothing which it holds is lost.
-use Rattle.std.proofs.Common.{◌≡◌, ℕ, zero, suc, ◌+◌, ◌-◌, ◌≤◌, Bool, true, false, cond, List, [], ◌∷◌, ◌++◌, length, get_or, replicate, refl, ap, sym, ◌∙◌, arith, append_assoc, length-append}
+use Rattle.std.proofs.Common.{◌≡◌, ℕ, zero, suc, ◌+◌, ◌-◌, ◌≤◌, Bool, true, false, cond, List, [], ◌∷◌, ◌++◌, length, get_or, take, drop, replicate, refl, ap, sym, ◌∙◌, arith, append_assoc, length-append}
 use Rattle.std.proofs.lemmas.Bool.{false≢true}
-use Rattle.std.proofs.lemmas.List.{append_cancel_right, append-nil, get_or-append_right, length-replicate, replicate-append-replicate}
+use Rattle.std.proofs.lemmas.List.{append_cancel_right, append-nil, drop-drop, get_or-append_right, length-drop, length-take, length-replicate, replicate-append-replicate, take-append-drop}
 use Rattle.ttp_world.specs.CheckWord.{xor, xor_bits, generator, next_register, remainder}
-use Rattle.ttp_check.proofs.Bits.{xor-assoc, xor-four, xor-cancel, length-xor_bits, xor_bits-nil, xor_bits-right_comm, xor_bits-assoc, xor_bits-twice, xor_bits-both, xor_bits-append, xor_bits-front, xor_bits-zeros, get_or-xor_bits, zeros-xor_bits}
+use Rattle.ttp_check.proofs.Bits.{xor-assoc, xor-four, xor-cancel, length-xor_bits, xor_bits-nil, xor_bits-right_comm, xor_bits-assoc, xor_bits-twice, xor_bits-both, xor_bits-append, xor_bits-front, xor_bits-zeros, xor_bits-self, xor_bits-cancel, get_or-xor_bits, zeros-xor_bits}
 
 -- the rest of a register moves one place, and a row is added to it where this is asked for
 abbrev moved : List Bool → List Bool → Bool → List Bool
@@ -149,17 +149,103 @@ remainder-zeros (suc k) rest =
 pub remainder-split : (front rest bits : List Bool) → length front ≡ length bits →
     remainder (front ++ rest) bits ≡ xor_bits (remainder (replicate (length front + length rest) false) (xor_bits front bits)) (rest ++ replicate (length front) false)
 remainder-split front rest bits same =
-    let n : ℕ = length front in
-    let none : List Bool = replicate (length front) false in
-    let read : List Bool = xor_bits front bits in
-    let shape : none ++ replicate (length rest) false ≡ replicate (length front + length rest) false = replicate-append-replicate n (length rest) false in
-    let of_front : front ++ rest ≡ xor_bits (none ++ rest) front = ap (λ xs. xs ++ rest) (sym (zeros-xor_bits front)) ∙ sym (xor_bits-front none front rest (omega (arith, length-replicate n false))) in
-    let of_rest : none ++ rest ≡ xor_bits (none ++ replicate (length rest) false) (none ++ rest) =
-    sym (xor_bits-append none none (replicate (length rest) false) rest refl ∙ ap (λ xs. xs ++ xor_bits (replicate (length rest) false) rest) (xor_bits-zeros none n) ∙ ap (λ xs. none ++ xs) (zeros-xor_bits rest)) in
     ap (λ r. remainder r bits) of_front
     ∙ remainder-front (none ++ rest) front bits same (omega (arith, length-append none rest, length-replicate n false))
     ∙ ap (λ r. remainder r read) of_rest
-    ∙ ap (remainder (xor_bits (none ++ replicate (length rest) false) (none ++ rest))) (sym (xor_bits-zeros read n))
-    ∙ remainder-xor (none ++ replicate (length rest) false) (none ++ rest) read none (omega (arith, length-append none (replicate (length rest) false), length-append none rest, length-replicate (length rest) false)) (length-xor_bits front bits ∙ sym (length-replicate n false))
-    ∙ ap (λ r. xor_bits (remainder r read) (remainder (none ++ rest) none)) shape
-    ∙ ap (xor_bits (remainder (replicate (length front + length rest) false) read)) (remainder-zeros n rest)
+    ∙ ap (remainder (xor_bits zeros (none ++ rest))) (sym (xor_bits-zeros read n))
+    ∙ remainder-xor zeros (none ++ rest) read none
+    (omega (arith, length-append none rest, length-replicate n false, length-replicate (n + length rest) false)) (length-xor_bits front bits ∙ sym (length-replicate n false))
+    ∙ ap (xor_bits (remainder zeros read)) (remainder-zeros n rest)
+  where
+    n : ℕ
+    n = length front
+
+    none : List Bool
+    none = replicate n false
+
+    zeros : List Bool
+    zeros = replicate (n + length rest) false
+
+    read : List Bool
+    read = xor_bits front bits
+
+    of_front : front ++ rest ≡ xor_bits (none ++ rest) front
+    of_front = ap (λ xs. xs ++ rest) (sym (zeros-xor_bits front)) ∙ sym (xor_bits-front none front rest (omega (arith, length-replicate n false)))
+
+    of_rest : none ++ rest ≡ xor_bits zeros (none ++ rest)
+    of_rest = sym (ap (λ k. xor_bits (replicate k false) (none ++ rest)) size ∙ zeros-xor_bits (none ++ rest))
+      where
+        size : n + length rest ≡ length (none ++ rest)
+        size = omega (arith, length-append none rest, length-replicate n false)
+
+-- ---- what a register tells
+
+-- a register tells rows apart that are no longer than it is
+pub remainder-tells : (register one other : List Bool) → length register ≡ 24 → length one ≡ length other → length one ≤ 24 → remainder register one ≡ remainder register other → one ≡ other
+remainder-tells register one other size same short alike =
+    xor_bits-cancel register one other same (omega arith)
+    (remainder-injective (xor_bits register one) (xor_bits register other) zeros (length-xor_bits register one ∙ size) (length-xor_bits register other ∙ size) sums)
+  where
+    zeros : List Bool
+    zeros = replicate (length one) false
+
+    sums : remainder (xor_bits register one) zeros ≡ remainder (xor_bits register other) zeros
+    sums =
+        sym (remainder-read register one (omega arith)) ∙ alike ∙ remainder-read register other (omega arith)
+        ∙ ap (λ n. remainder (xor_bits register other) (replicate n false)) (sym same)
+
+-- a register that reads the bits that it holds becomes zeros
+pub remainder-self : (register : List Bool) → length register ≡ 24 → remainder register register ≡ replicate 24 false
+remainder-self register size =
+    remainder-read register register (omega arith)
+    ∙ ap (λ r. remainder r (replicate (length register) false)) (xor_bits-self register)
+    ∙ ap (λ n. remainder (replicate n false) (replicate n false)) size
+
+-- a row of bits is its first bits, so many from there on, and what follows
+in_parts : (bits : List Bool) (from width : ℕ) → take from bits ++ (take width (drop from bits) ++ drop (from + width) bits) ≡ bits
+in_parts bits from width =
+    ap (λ xs. take from bits ++ (take width (drop from bits) ++ xs)) (sym (drop-drop width from bits))
+    ∙ ap (λ xs. take from bits ++ xs) (take-append-drop width (drop from bits))
+    ∙ take-append-drop from bits
+
+remainder-parts : (register bits : List Bool) (from width : ℕ) → remainder register bits ≡ remainder (remainder (remainder register (take from bits)) (take width (drop from bits))) (drop (from + width) bits)
+remainder-parts register bits from width =
+    let first : List Bool = take from bits in
+    let middle : List Bool = take width (drop from bits) in
+    ap (remainder register) (sym (in_parts bits from width))
+    ∙ remainder-append register first (middle ++ drop (from + width) bits)
+    ∙ remainder-append (remainder register first) middle (drop (from + width) bits)
+
+-- rows that differ only within 24 bits, and leave the same register, are equal
+pub remainder-burst : (register one other : List Bool) (from width : ℕ) → length register ≡ 24 → width ≤ 24 → length one ≡ length other
+    → take from one ≡ take from other → drop (from + width) one ≡ drop (from + width) other → remainder register one ≡ remainder register other → one ≡ other
+remainder-burst register one other from width size short same before after alike =
+    sym (in_parts one from width)
+    ∙ ap (λ xs. xs ++ (middle one ++ rest)) before
+    ∙ ap (λ xs. take from other ++ (xs ++ rest)) middles
+    ∙ ap (λ xs. take from other ++ (middle other ++ xs)) after
+    ∙ in_parts other from width
+  where
+    middle : List Bool → List Bool
+    middle bits = take width (drop from bits)
+
+    rest : List Bool
+    rest = drop (from + width) one
+
+    held : List Bool
+    held = remainder register (take from one)
+
+    held_size : length held ≡ 24
+    held_size = length-remainder register (take from one) ∙ size
+
+    ends : remainder (remainder held (middle one)) rest ≡ remainder (remainder held (middle other)) rest
+    ends =
+        sym (remainder-parts register one from width) ∙ alike ∙ remainder-parts register other from width
+        ∙ ap (λ xs. remainder (remainder (remainder register xs) (middle other)) (drop (from + width) other)) (sym before)
+        ∙ ap (remainder (remainder held (middle other))) (sym after)
+
+    held_alike : remainder held (middle one) ≡ remainder held (middle other)
+    held_alike = remainder-injective (remainder held (middle one)) (remainder held (middle other)) rest (length-remainder held (middle one) ∙ held_size) (length-remainder held (middle other) ∙ held_size) ends
+
+    middles : middle one ≡ middle other
+    middles = remainder-tells held (middle one) (middle other) held_size (omega (arith, length-take {A = Bool}, length-drop {A = Bool})) (omega (arith, length-take {A = Bool})) held_alike

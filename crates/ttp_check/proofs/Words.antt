@@ -1,9 +1,11 @@
 -- Check words of bytes in pieces, of sums, and of one byte more.
-use Rattle.std.proofs.Common.{◌≡◌, ℕ, zero, suc, ◌+◌, ◌*◌, ◌/◌, ◌%◌, ◌^◌, ◌<◌, false, List, [], ◌∷◌, ◌++◌, length, get_or, take, replicate, refl, ap, sym, subst, ◌∙◌, arith, length-append}
+use Rattle.std.proofs.Common.{◌≡◌, ℕ, zero, suc, ◌+◌, ◌*◌, ◌/◌, ◌%◌, ◌^◌, ◌<◌, false, List, [], ◌∷◌, ◌++◌, length, get_or, take, drop, replicate, refl, ap, sym, subst, ◌∙◌, arith, length-append}
+use Rattle.std.specs.List.{All}
 use Rattle.std.specs.Int.RustNames.{bit_and, bit_xor}
 use Rattle.std.proofs.Math.Nat.{mod-eq_of_lt}
 use Rattle.std.proofs.lemmas.List.{append-nil, take_more}
 use Rattle.std.proofs.lemmas.List.Concat.{flat_map-append}
+use Rattle.std.proofs.lemmas.List.Elements.{All-push}
 use Rattle.std.proofs.lemmas.Nat.{and_mask, shl-shr, xor_comm}
 use Rattle.ttp_world.specs.CheckWord.{bits_of, bits_of_byte, bits_of_bytes, number_of, xor_bits, remainder, word_bits, check_word}
 use Rattle.ttp_world.specs.Frame.{big_endian}
@@ -30,9 +32,24 @@ bits_of_bytes-xor (a ∷ as_) (b ∷ bs) same =
     ∙ ap (λ xs. xs ++ xor_bits (bits_of_bytes as_) (bits_of_bytes bs)) (bits_of-xor 8 a b)
     ∙ sym (xor_bits-append (bits_of_byte a) (bits_of_byte b) (bits_of_bytes as_) (bits_of_bytes bs) (length-bits_of 8 a ∙ sym (length-bits_of 8 b)))
 
+-- bytes with the same bits are the same
+pub bits_of_bytes-injective : (one other : List ℕ) → length one ≡ length other → All (λ b. b < 2 ^ 8) one → All (λ b. b < 2 ^ 8) other → bits_of_bytes one ≡ bits_of_bytes other → one ≡ other
+bits_of_bytes-injective [] [] same fit fit_too alike = refl
+bits_of_bytes-injective [] (b ∷ bs) same fit fit_too alike = absurd (omega arith)
+bits_of_bytes-injective (a ∷ as_) [] same fit fit_too alike = absurd (omega arith)
+bits_of_bytes-injective (a ∷ as_) (b ∷ bs) same fit fit_too alike =
+    let number = λ (n : ℕ) (small : n < 2 ^ 8). number_of-bits_of 8 n ∙ mod-eq_of_lt small in
+    let first : a ≡ b = sym (number a (fit 0 0 (omega arith))) ∙ ap (λ bits. number_of (take 8 bits)) alike ∙ number b (fit_too 0 0 (omega arith)) in
+    let rest : as_ ≡ bs = bits_of_bytes-injective as_ bs (omega arith) (λ k d within. fit (suc k) d (omega arith)) (λ k d within. fit_too (suc k) d (omega arith)) (ap (drop 8) alike) in
+    cc
+
 pub length-big_endian : (count v : ℕ) → length (big_endian count v) ≡ count
 length-big_endian zero v = refl
 length-big_endian (suc count) v = omega (arith, length-append (big_endian count (v / 256)) (v % 256 ∷ []), length-big_endian count (v / 256))
+
+pub All-big_endian : (count v : ℕ) → All (λ b. b < 2 ^ 8) (big_endian count v)
+All-big_endian zero v = λ k d within. absurd (omega arith)
+All-big_endian (suc count) v = All-push (λ b. b < 2 ^ 8) (big_endian count (v / 256)) (v % 256) (All-big_endian count (v / 256)) (omega arith)
 
 -- a number's lowest bytes have its lowest bits
 pub bits_of_bytes-big_endian : (count v : ℕ) → bits_of_bytes (big_endian count v) ≡ bits_of (8 * count) v

@@ -6,9 +6,10 @@ ghost use Rattle.ttp_check.specs.StandsFor.{StandsFor};
 use crate::table::word_of;
 use std::marker::Model;
 
-/// What is known of some bytes by their check word, from a start.
+/// The check word of bytes that come in pieces.
 ///
-/// It stands for the start and all bytes that it was fed, and contracts see it as their check word.
+/// It stands for a start and all bytes that it was fed since, and contracts see it as the word of
+/// these. It is one word of 32 bits: a copy stands for the same, and goes on by itself.
 #[derive(Clone, Copy, Debug, PartialEq, Eq)]
 pub struct Check {
     word: u32,
@@ -50,7 +51,7 @@ fn word_after(word: u32, bytes: &[u8]) -> u32
 }
 
 impl Check {
-    /// A check that begins with this word, which no byte has changed yet.
+    /// A check that was fed nothing yet. The start is a number below 2^24, and is the word until then.
     pub fn new(start: u32) -> Check
         requires { start < 2 ^ 24 }
         ensures stands { StandsFor result start [] }
@@ -59,7 +60,7 @@ impl Check {
         Check { word: start }
     }
 
-    /// Takes more bytes, with one table step for each.
+    /// Takes more bytes behind those before. It costs one table step for each byte.
     pub fn feed(&mut self, bytes: &[u8])
         ensures stands { (start : ℕ) (fed : List ℕ) → StandsFor self.old start fed → StandsFor self.new start (fed ++ bytes.now) }
         ensures value { self.new ≡ check_word self.old bytes.now }
@@ -67,8 +68,8 @@ impl Check {
         self.word = word_after(self.word, bytes);
     }
 
-    /// The check word of all bytes so far: a number below 2^24, which a frame carries in three bytes
-    /// with the most significant first.
+    /// The check word of all bytes so far: a number below 2^24. A frame carries it in three bytes, the
+    /// most significant first.
     pub fn word(&self) -> u32
         ensures fits { result < 2 ^ 24 }
         ensures value { result ≡ self.now }

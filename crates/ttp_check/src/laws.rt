@@ -1,7 +1,8 @@
 //! The laws of check words.
 //!
-//! Each function does nothing, and its contract is a law: it holds for every start and for lists of
-//! any length. `proofs/WordLaws.antt` has each under the function's name, for proofs to cite.
+//! Each function does nothing, and its contract is a law, for every start and lists of any length.
+//! `proofs/WordLaws.antt` has each under the function's name, for proofs to cite, and
+//! `proofs/Bursts.antt` what follows for lists that differ in one place.
 ghost use Rattle.std.specs.Prelude.{◌≡◌, ◌≢◌, ℕ, List, ◌++◌, length, bit_xor};
 ghost use Rattle.ttp_world.specs.CheckWord.{check_word};
 ghost use Rattle.ttp_world.specs.Frame.{word_bytes};
