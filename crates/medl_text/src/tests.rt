@@ -1,4 +1,5 @@
-//! Each public call once. What is refused, and how it is told, is tested where the lines are printed.
+//! Each public call once, and what is told of the keys for modes. What else is refused, and how it is told, is
+//! tested where the lines are printed.
 
 use crate::{Field, FieldName, MedlError, put_schedule, read_medl, second_starter};
 use std::alloc::{AllocError, Global};
@@ -142,176 +143,88 @@ fn keys_for_modes_that_are_right(rt: HostRuntime) -> Result<(), Fail> {
     Ok(())
 }
 
+const MODES: Field = Field {
+    name: FieldName::Modes,
+    slot: None,
+};
+
+const NO_DATA: MedlError = MedlError::NoRequestData { slot: 1 };
+
+const NO_LIVE: MedlError = MedlError::Live { slot: 1 };
+
+fn at_slot_1(name: FieldName) -> Field {
+    Field {
+        name,
+        slot: Some(1),
+    }
+}
+
+fn wrong(field: Field) -> MedlError {
+    MedlError::WrongKind { field }
+}
+
+fn out_of_range(value: i64) -> MedlError {
+    MedlError::OutOfRange {
+        field: MODES,
+        value,
+    }
+}
+
 #[test]
 fn keys_for_modes_that_are_refused(rt: HostRuntime) -> Result<(), Fail> {
-    let modes = Field {
-        name: FieldName::Modes,
-        slot: None,
-    };
-    let data = Field {
-        name: FieldName::DataSize,
-        slot: Some(1),
-    };
-    let requests = Field {
-        name: FieldName::Requests,
-        slot: Some(1),
-    };
-    let live = Field {
-        name: FieldName::Live,
-        slot: Some(1),
-    };
-    let kinds = Field {
-        name: FieldName::Kinds,
-        slot: Some(1),
-    };
-    let bare = "kinds = \"I\"\ndata = 0\n";
+    let requests = at_slot_1(FieldName::Requests);
+    let live = at_slot_1(FieldName::Live);
+    // The key at the top, a key of slot 1, and what is told.
+    let rows = [
+        ("modes = 0", "", out_of_range(0)),
+        ("modes = 9", "", out_of_range(9)),
+        ("modes = -1", "", out_of_range(-1)),
+        ("modes = 1.0", "", wrong(MODES)),
+        ("modes = \"1\"", "", wrong(MODES)),
+        ("", "requests = 1", wrong(requests)),
+        ("", "requests = \"true\"", wrong(requests)),
+        ("", "requests = true", NO_DATA),
+        ("", "live = true", wrong(live)),
+        ("", "live = [\"y\"]", wrong(live)),
+        ("requests = false", "", MedlError::Unknown { slot: None }),
+        ("live = \"y\"", "", MedlError::Unknown { slot: None }),
+        ("", "modes = 1", MedlError::Unknown { slot: Some(1) }),
+    ];
+    for (top, key, error) in rows {
+        let slot = format!(in rt.alloc(); "{BARE}{key}")?;
+        let told = told_of(rt.alloc(), top, slot.as_str())?;
+        assert!(rt; told == Some(error), "{top} {key}");
+    }
+    Ok(())
+}
+
+#[test]
+fn the_first_of_several_wrong_keys_is_told(rt: HostRuntime) -> Result<(), Fail> {
     let empty = "kinds = \"N\"\ndata = 0\n";
     let loaded = "kinds = \"N\"\ndata = 1\n";
+    let requests = wrong(at_slot_1(FieldName::Requests));
+    let missing = MedlError::Missing {
+        field: at_slot_1(FieldName::DataSize),
+    };
+    let unbuilt = MedlError::NotBuilt {
+        field: at_slot_1(FieldName::Kinds),
+    };
+    // The key at the top, `kinds` and `data` of slot 1, its other keys, and what is told.
     let rows = [
-        // One thing is wrong.
-        (
-            "modes = 0",
-            bare,
-            "",
-            MedlError::OutOfRange {
-                field: modes,
-                value: 0,
-            },
-        ),
-        (
-            "modes = 9",
-            bare,
-            "",
-            MedlError::OutOfRange {
-                field: modes,
-                value: 9,
-            },
-        ),
-        (
-            "modes = -1",
-            bare,
-            "",
-            MedlError::OutOfRange {
-                field: modes,
-                value: -1,
-            },
-        ),
-        (
-            "modes = 1.0",
-            bare,
-            "",
-            MedlError::WrongKind { field: modes },
-        ),
-        (
-            "modes = \"1\"",
-            bare,
-            "",
-            MedlError::WrongKind { field: modes },
-        ),
-        (
-            "",
-            bare,
-            "requests = 1",
-            MedlError::WrongKind { field: requests },
-        ),
-        (
-            "",
-            bare,
-            "requests = \"true\"",
-            MedlError::WrongKind { field: requests },
-        ),
-        (
-            "",
-            bare,
-            "requests = true",
-            MedlError::NoRequestData { slot: 1 },
-        ),
-        (
-            "",
-            empty,
-            "requests = true",
-            MedlError::NoRequestData { slot: 1 },
-        ),
-        (
-            "",
-            loaded,
-            "requests = true",
-            MedlError::NotBuilt { field: kinds },
-        ),
-        (
-            "",
-            bare,
-            "live = true",
-            MedlError::WrongKind { field: live },
-        ),
-        (
-            "",
-            bare,
-            "live = [\"y\"]",
-            MedlError::WrongKind { field: live },
-        ),
-        // The keys stand in the other table.
-        (
-            "requests = false",
-            bare,
-            "",
-            MedlError::Unknown { slot: None },
-        ),
-        ("live = \"y\"", bare, "", MedlError::Unknown { slot: None }),
-        ("", bare, "modes = 1", MedlError::Unknown { slot: Some(1) }),
-        // Several things are wrong.
-        (
-            "modes = 9",
-            bare,
-            "requests = true\nlive = \"\"",
-            MedlError::OutOfRange {
-                field: modes,
-                value: 9,
-            },
-        ),
-        (
-            "",
-            "kinds = \"I\"\n",
-            "requests = true\nlive = 1",
-            MedlError::Missing { field: data },
-        ),
-        (
-            "",
-            bare,
-            "requests = 1\nlive = 1",
-            MedlError::WrongKind { field: requests },
-        ),
-        (
-            "",
-            bare,
-            "requests = true\nlive = 1",
-            MedlError::NoRequestData { slot: 1 },
-        ),
-        (
-            "",
-            bare,
-            "requests = true\nlive = \"\"",
-            MedlError::NoRequestData { slot: 1 },
-        ),
-        (
-            "",
-            loaded,
-            "requests = true\nlive = \"\"",
-            MedlError::Live { slot: 1 },
-        ),
-        (
-            "speed = 1",
-            bare,
-            "live = \"\"",
-            MedlError::Live { slot: 1 },
-        ),
+        ("modes = 9", BARE, "requests = true", out_of_range(9)),
+        ("", "kinds = \"I\"", "requests = true", missing),
+        ("", BARE, "requests = 1\nlive = 1", requests),
+        ("", BARE, "requests = true\nlive = 1", NO_DATA),
+        ("", BARE, "live = \"\"\nrequests = true", NO_DATA),
+        ("", empty, "requests = true", NO_DATA),
+        ("", loaded, "requests = true\nlive = \"\"", NO_LIVE),
+        ("speed = 1", BARE, "live = \"\"", NO_LIVE),
+        ("", loaded, "requests = true", unbuilt),
     ];
-    for (top, keys, more, error) in rows {
-        let slot = format!(in rt.alloc(); "{keys}{more}")?;
-        assert!(rt;
-            told_of(rt.alloc(), top, slot.as_str())? == Some(error),
-            "{top} {keys} {more}"
-        );
+    for (top, data, keys, error) in rows {
+        let slot = format!(in rt.alloc(); "{data}\n{keys}")?;
+        let told = told_of(rt.alloc(), top, slot.as_str())?;
+        assert!(rt; told == Some(error), "{top} {data} {keys}");
     }
     Ok(())
 }
@@ -330,7 +243,6 @@ fn live_of_each_length_and_letter(rt: HostRuntime) -> Result<(), Fail> {
         "ynynynyn",
         "ynynynyny",
     ];
-    let refused = Some(MedlError::Live { slot: 1 });
     for modes in 1..9 {
         let top = format!(in rt.alloc(); "modes = {modes}")?;
         for letters in texts {
@@ -340,7 +252,7 @@ fn live_of_each_length_and_letter(rt: HostRuntime) -> Result<(), Fail> {
                 told == if letters.len() == modes {
                     None
                 } else {
-                    refused
+                    Some(NO_LIVE)
                 },
                 "{modes} {letters}"
             );
@@ -354,7 +266,7 @@ fn live_of_each_length_and_letter(rt: HostRuntime) -> Result<(), Fail> {
         let error = if letter == '\'' {
             MedlError::NotToml
         } else {
-            MedlError::Live { slot: 1 }
+            NO_LIVE
         };
         assert!(rt;
             told == if is_right { None } else { Some(error) },
