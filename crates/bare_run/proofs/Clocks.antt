@@ -13,7 +13,7 @@ use Rattle.ttp_world.specs.Diary.{Diary, Surroundings, SlotSurroundings, History
 use Rattle.ttp_world.specs.Medium.{surroundings_of}
 use Rattle.ttp_world.specs.Medl.{plan_at}
 use Rattle.ttp_world.specs.Script.{is_on, jump_of}
-use Rattle.ttp_world.specs.World.{ReadyNode, ready_node, node_past, chosen_of, ready_nodes, ready_of, no_node, deviation_in}
+use Rattle.ttp_world.specs.World.{ReadyNode, ready_node, node_past, chosen_of, ready_nodes, no_node, deviation_in}
 use Rattle.ttp_world.proofs.Pasts.{elim_both}
 use Rattle.bare_run.specs.Passed.{IsPlainScript}
 use Rattle.bare_run.proofs.Plain.{IsPlainEntry, IsPlainHistory, diary_of-plain, get_or-each}

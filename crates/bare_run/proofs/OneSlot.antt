@@ -1,7 +1,6 @@
 -- A slot told from where the nodes stand is the slot of the history.
-use Rattle.std.proofs.Common.{◌≡◌, ℕ, zero, suc, ◌+◌, ◌<◌, Bool, true, false, cond, not, ◌||◌, List, [], ◌∷◌, ◌++◌, length, take, drop, refl, ap, sym, subst, ◌∙◌, add-one}
-use Rattle.std.specs.Prelude.{◌==◌, map}
-use Rattle.std.specs.List.{flat_map}
+use Rattle.std.proofs.Common.{◌≡◌, ℕ, zero, suc, ◌+◌, ◌<◌, Bool, true, false, not, ◌||◌, List, [], ◌∷◌, ◌++◌, length, take, drop, refl, ap, sym, subst, ◌∙◌, add-one}
+use Rattle.std.specs.Prelude.{map}
 use Rattle.std.proofs.Math.Bool.{or-true}
 use Rattle.std.proofs.lemmas.Bool.{cond_both}
 use Rattle.std.proofs.lemmas.List.{take_at}
@@ -10,27 +9,19 @@ use Rattle.ttp_base.specs.NodeSet.{below}
 use Rattle.ttp_base.proofs.Below.{map_agree-below}
 use Rattle.ttp_world.specs.declared.medl.Medl.{Medl}
 use Rattle.ttp_world.specs.declared.node.Entry.{Entry}
-use Rattle.ttp_world.specs.declared.node.Entry.TheVariants as entry
 use Rattle.ttp_world.specs.declared.node.Phase.{Phase}
 use Rattle.ttp_world.specs.declared.node.Phase.TheVariants as phase
-use Rattle.ttp_world.specs.declared.node.Reason.TheVariants as reason
-use Rattle.ttp_world.specs.declared.node.Verdict.{Verdict}
-use Rattle.ttp_world.specs.declared.node.Verdict.TheVariants as verdict
 use Rattle.ttp_world.specs.declared.node.CState.{CState}
 use Rattle.ttp_world.specs.declared.script.Script.{Script}
-use Rattle.ttp_world.specs.Act.{Act, act, phase_act, is_start_due, own_act, unacknowledged_act, coming_place, Off, Gone, Listen, Start, Retry, Leave, Send, Judge}
-use Rattle.ttp_world.specs.Acknowledgement.{is_open}
-use Rattle.ttp_world.specs.After.{past_after}
-use Rattle.ttp_world.specs.Conduct.{verdict_entry}
-use Rattle.ttp_world.specs.Diary.{Diary, History, diary_of, entry_of, phase_of, is_active_phase, continues_stint, may_follow}
+use Rattle.ttp_world.specs.Act.{phase_act, is_start_due, Off, Listen, Start}
+use Rattle.ttp_world.specs.Diary.{History, diary_of, entry_of, phase_of, is_active_phase, continues_stint, may_follow}
 use Rattle.ttp_world.specs.Medium.{surroundings_of, surroundings_in}
-use Rattle.ttp_world.specs.Past.{NodePast, past_of, no_past, state_of}
+use Rattle.ttp_world.specs.Past.{NodePast, no_past, state_of}
 use Rattle.ttp_world.specs.Script.{is_on}
-use Rattle.ttp_world.specs.World.{node_past}
 use Rattle.ttp_world.proofs.Pasts.{past_of-cons}
-use Rattle.bare_run.specs.Passed.{without_clock, plain_past, plain_pasts, past_at, plain_act, Passed, Nothing, Collision, ColdStart, Listed, bus_in, join_if, plain_listening, plain_judging, plain_entry, entry_in, passed_row, plain_run}
+use Rattle.bare_run.specs.Passed.{without_clock, plain_past, plain_pasts, plain_act, Passed, Nothing, Collision, ColdStart, Listed, bus_in, join_if, plain_listening, plain_entry, passed_row, plain_run}
 use Rattle.bare_run.specs.Shown.{shown_after, shown_in}
-use Rattle.bare_run.specs.Slot.{is_nothing, plain_after, node_after, nodes_after}
+use Rattle.bare_run.specs.Slot.{plain_after, node_after, nodes_after}
 use Rattle.bare_run.proofs.Silence.{entry_of-passed_row, is_silent-passed_row}
 use Rattle.bare_run.proofs.Within.{past_at-map}
 

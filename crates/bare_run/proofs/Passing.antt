@@ -1,5 +1,5 @@
 -- What passes in a slot and what is heard of it, where nothing is disturbed.
-use Rattle.std.proofs.Common.{◌≡◌, ℕ, zero, suc, ◌<◌, ◌≤◌, ℤ, pos, negsuc, neg_ℤ, ◌≤ℤ◌, int_le, Bool, true, false, not, ◌&&◌, ◌==◌, List, [], ◌∷◌, ◌++◌, length, flat_map, Option, Some, None, IfSome, option_map, unwrap_or, if◌then◌else◌, refl, ap, sym, subst, ◌∙◌, arith}
+use Rattle.std.proofs.Common.{◌≡◌, ℕ, zero, suc, ◌<◌, ℤ, pos, negsuc, neg_ℤ, ◌≤ℤ◌, int_le, Bool, true, false, not, ◌&&◌, ◌==◌, List, [], ◌∷◌, ◌++◌, length, flat_map, Option, Some, None, IfSome, option_map, unwrap_or, if◌then◌else◌, refl, ap, sym, subst, ◌∙◌, arith}
 use Rattle.std.specs.List.{AllZip, AllByRecursion}
 use Rattle.std.specs.Option.{option_or}
 use Rattle.std.proofs.lemmas.Bool.{le-leb}
@@ -26,10 +26,10 @@ use Rattle.ttp_world.specs.Medl.{is_wide, member_width, may_start, IsBareList, I
 use Rattle.ttp_world.specs.Past.{NodePast}
 use Rattle.ttp_world.specs.Reception.{Hearing, Expected, expected_of, is_within_window, is_expected_form, fits_members, view_of_frame, view_of_bits, view_of, verdict_of, is_taken_from_a, heard_deviation, entry_deviation}
 use Rattle.ttp_world.specs.Script.{is_on, is_armed}
-use Rattle.ttp_world.specs.World.{ReadyNode, ready_node, node_past, chosen_of, ready_nodes, no_node, ready_of, frames_of, frames_in}
+use Rattle.ttp_world.specs.World.{ready_node, node_past, chosen_of, ready_nodes, no_node, ready_of, frames_of, frames_in}
 use Rattle.ttp_world.proofs.Lists.{kind_at-bare, payload_length-bare, IsPlace}
 use Rattle.ttp_world.proofs.Pasts.{elim-cond}
-use Rattle.bare_run.specs.Passed.{without_clock, plain_past, plain_pasts, past_at, plain_act, Passed, Nothing, Collision, ColdStart, Listed, passed_of, node_passed, passed_in, combined, bus_in, join_if, plain_listening, fits_passed, view_of_cstate, plain_view, plain_judging}
+use Rattle.bare_run.specs.Passed.{without_clock, plain_past, plain_pasts, plain_act, Passed, Nothing, Collision, ColdStart, Listed, passed_of, node_passed, passed_in, combined, bus_in, join_if, plain_listening, fits_passed, view_of_cstate, plain_view, plain_judging}
 use Rattle.bare_run.proofs.Frames.{FitsFrame, bare_frame, fits-cstate, is_formed-listed, is_formed-cold_as_listed, joinable-cold, joinable-listed}
 use Rattle.bare_run.proofs.Plain.{IsPlainHistory, HasListWord, HasWords, cstate_at-fits, cold_start_cstate-fits, own_cstate-fits}
 use Rattle.bare_run.proofs.Undisturbed.{combined_frames, is_armed_is}

@@ -1,7 +1,7 @@
 -- Histories in which nothing was disturbed: what nodes stand at and hold fits the list's frames.
-use Rattle.std.proofs.Common.{◌≡◌, ℕ, zero, suc, ◌*◌, ◌<◌, ◌≤◌, pos, Bool, true, false, List, [], ◌∷◌, length, get_or, Option, Some, None, IfSome, refl, arith}
+use Rattle.std.proofs.Common.{◌≡◌, ℕ, zero, suc, ◌<◌, pos, List, [], ◌∷◌, length, get_or, None, IfSome, arith}
 use Rattle.std.specs.List.{AllByRecursion}
-use Rattle.ttp_base.specs.NodeSet.{most_nodes, with_node, without_node}
+use Rattle.ttp_base.specs.NodeSet.{with_node, without_node}
 use Rattle.ttp_base.proofs.SetWords.{HasWord, HasWord-nil, HasWord-filter, HasWord-with, HasWord-without, HasWord-only, set_bits-small, members_in-set_bits}
 use Rattle.ttp_world.specs.declared.medl.Medl.{Medl}
 use Rattle.ttp_world.specs.declared.node.Ack.{Ack}
@@ -11,7 +11,7 @@ use Rattle.ttp_world.specs.declared.node.Entry.TheVariants as entry
 use Rattle.ttp_world.specs.declared.script.Script.{Script}
 use Rattle.ttp_world.specs.Act.{coming_place}
 use Rattle.ttp_world.specs.Conduct.{cold_start_cstate, own_cstate}
-use Rattle.ttp_world.specs.Diary.{Diary, History, diary_of, entry_of, is_active, Place, no_place, next_place, stint_place, place_of, cstate_at}
+use Rattle.ttp_world.specs.Diary.{Diary, History, diary_of, is_active, Place, no_place, stint_place, place_of, cstate_at}
 use Rattle.ttp_world.specs.Medl.{node_limit, IsValid}
 use Rattle.ttp_world.specs.Membership.{is_good, members_of}
 use Rattle.ttp_world.specs.Reception.{Candidates, candidate_sets, expected_of}

@@ -1,19 +1,16 @@
 -- A slot of the world in which nothing is disturbed: the C-states of the frames pass, and nothing else counts.
 use Rattle.std.proofs.Common.{◌≡◌, ℕ, zero, suc, ◌+◌, ◌<◌, pos, Bool, true, false, not, ◌==◌, List, [], ◌∷◌, length, Some, None, if◌then◌else◌, refl, ap, sym, subst, ◌∙◌, add-one}
-use Rattle.std.specs.List.{AllByRecursion}
-use Rattle.ttp_base.specs.NodeSet.{below}
 use Rattle.ttp_base.proofs.Below.{map_agree-below, map_each-below}
 use Rattle.ttp_world.specs.declared.medl.Medl.{Medl}
 use Rattle.ttp_world.specs.declared.node.CState.{CState}
 use Rattle.ttp_world.specs.declared.node.Chosen.{Chosen}
-use Rattle.ttp_world.specs.declared.node.Entry.{Entry}
 use Rattle.ttp_world.specs.declared.node.Entry.TheVariants as entry
 use Rattle.ttp_world.specs.declared.node.Verdict.{Verdict}
 use Rattle.ttp_world.specs.declared.node.Verdict.TheVariants as verdict
 use Rattle.ttp_world.specs.declared.script.Channel.TheVariants as channel
 use Rattle.ttp_world.specs.declared.script.Script.{Script}
 use Rattle.ttp_world.specs.Act.{Act, coming_place, Off, Gone, Listen, Start, Retry, Leave, Send, Judge}
-use Rattle.ttp_world.specs.Conduct.{listening_entry, judging_entry, verdict_entry, new_entry}
+use Rattle.ttp_world.specs.Conduct.{verdict_entry, new_entry}
 use Rattle.ttp_world.specs.Diary.{History}
 use Rattle.ttp_world.specs.Medium.{SentFrame, Signal, Silence, Noise, Bits}
 use Rattle.ttp_world.specs.Medl.{IsBareList, IsValid}
@@ -21,11 +18,11 @@ use Rattle.ttp_world.specs.Past.{NodePast}
 use Rattle.ttp_world.specs.World.{ReadyNode, node_past, chosen_of, ready_nodes, frames_in, deviation_in, hearing_in, step, messages_chosen, world}
 use Rattle.ttp_world.specs.World as worlds
 use Rattle.ttp_world.proofs.Lists.{payload_length-bare}
-use Rattle.bare_run.specs.Passed.{IsPlainScript, plain_past, plain_pasts, past_at, plain_act, Passed, Nothing, Collision, ColdStart, Listed, bus_in, join_if, plain_listening, plain_judging, plain_entry, entry_in, passed_row, no_numbers, plain_numbers, plain_run}
+use Rattle.bare_run.specs.Passed.{IsPlainScript, plain_past, plain_pasts, past_at, plain_act, Passed, Nothing, Collision, ColdStart, Listed, bus_in, join_if, plain_listening, plain_entry, entry_in, passed_row, no_numbers, plain_numbers, plain_run}
 use Rattle.bare_run.specs.Slot.{IsWithin, AreWithin}
 use Rattle.bare_run.proofs.Clocks.{deviation_in-plain}
 use Rattle.bare_run.proofs.Frames.{FitsFrame}
-use Rattle.bare_run.proofs.OneSlot.{length-plain_run, nodes_after-plain_pasts, plain_pasts-first}
+use Rattle.bare_run.proofs.OneSlot.{length-plain_run, nodes_after-plain_pasts}
 use Rattle.bare_run.proofs.Passing.{Signals, frames_in-signals, ready_of-map, node_act-plain, heard_twice, listening_entry-plain, judging_entry-plain}
 use Rattle.bare_run.proofs.Plain.{IsPlainEntry, IsPlainHistory, coming_place-plain, expected_of-words}
 use Rattle.bare_run.proofs.Undisturbed.{combined_frames, heard_is}

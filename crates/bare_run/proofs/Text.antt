@@ -1,5 +1,5 @@
 -- The trace of a run in which nothing is disturbed: it shows each node after each slot, and nothing else.
-use Rattle.std.proofs.Common.{◌≡◌, ℕ, zero, suc, ◌+◌, ◌*◌, Bool, true, false, not, ◌&&◌, ◌==◌, List, [], ◌∷◌, ◌++◌, length, Option, None, option_map, append-nil, append_assoc, add-zero, add-one, zero-add, refl, ap, sym, subst, ◌∙◌, arith}
+use Rattle.std.proofs.Common.{◌≡◌, ℕ, zero, suc, ◌+◌, ◌*◌, Bool, true, false, not, ◌&&◌, ◌==◌, List, [], ◌∷◌, ◌++◌, length, None, option_map, append-nil, append_assoc, add-zero, add-one, zero-add, refl, ap, sym, subst, ◌∙◌, arith}
 use Rattle.std.specs.Prelude.{map, Some, if◌then◌else◌}
 use Rattle.std.specs.List.{All, flat_map, range_with_len}
 use Rattle.std.proofs.lemmas.List.Elements.{All-append, All-map, All-nil}
@@ -13,18 +13,18 @@ use Rattle.ttp_world.specs.declared.node.NodeState.{NodeState}
 use Rattle.ttp_world.specs.declared.script.Script.{Script}
 use Rattle.ttp_world.specs.Acknowledgement.{is_correct}
 use Rattle.ttp_world.specs.Act.{coming_place}
-use Rattle.ttp_world.specs.Conduct.{carries_payload, payload_taken, delivery}
+use Rattle.ttp_world.specs.Conduct.{carries_payload, delivery}
 use Rattle.ttp_world.specs.Diary.{History, diary_of, entry_of}
 use Rattle.ttp_world.specs.Legal.{read_messages}
 use Rattle.ttp_world.specs.Medl.{node_limit, IsBareList, IsValid}
-use Rattle.ttp_world.specs.Messages.{messages_of, delivered_of}
+use Rattle.ttp_world.specs.Messages.{messages_of}
 use Rattle.ttp_world.specs.Past.{NodePast, state_of}
-use Rattle.ttp_world.specs.Reception.{Hearing, expected_of}
+use Rattle.ttp_world.specs.Reception.{Hearing}
 use Rattle.ttp_world.specs.Trace.{trace_head, member_digits, node_line, number_delivered, message_shown, node_line_of, write_lines, more_write_lines, read_line, read_lines, slot_text, history_text, run_text}
-use Rattle.ttp_world.specs.World.{SlotNumbers, ready_of, ready_nodes, frames_in, hearing_in, node_past, world}
+use Rattle.ttp_world.specs.World.{SlotNumbers, ready_of, ready_nodes, frames_in, hearing_in, node_past}
 use Rattle.ttp_base.proofs.SetWords.{set_bits-small}
 use Rattle.ttp_world.proofs.Lists.{node_limit-most, payload_length-bare}
-use Rattle.bare_run.specs.Passed.{IsPlainScript, plain_past, plain_pasts, past_at, passed_row, no_numbers, plain_numbers, plain_run}
+use Rattle.bare_run.specs.Passed.{IsPlainScript, plain_past, plain_pasts, passed_row, no_numbers, plain_numbers, plain_run}
 use Rattle.bare_run.specs.Printed.{HasDigits, slots_text, shown_run}
 use Rattle.bare_run.specs.Shown.{shown_after, shown_in, bare_line, lines_since, shown_text}
 use Rattle.bare_run.proofs.Clocks.{offset_of-plain}

@@ -20,7 +20,7 @@ use Rattle.ttp_world.specs.declared.node.Verdict.{Verdict}
 use Rattle.ttp_world.specs.declared.node.Verdict.TheVariants as verdict
 use Rattle.ttp_world.specs.declared.script.Script.{Script}
 use Rattle.ttp_world.specs.Act.{Act, act, is_start_due, own_act, unacknowledged_act, phase_act, coming_place, Off, Gone, Listen, Start, Retry, Leave, Send, Judge}
-use Rattle.ttp_world.specs.After.{opined_members, ack_answered, accepted_after, rejected_after}
+use Rattle.ttp_world.specs.After.{ack_answered}
 use Rattle.ttp_world.specs.Conduct.{verdict_entry}
 use Rattle.ttp_world.specs.Counts.{is_rejection}
 use Rattle.ttp_world.specs.Acknowledgement.{is_correct, is_open}
@@ -29,7 +29,7 @@ use Rattle.ttp_world.specs.Fitting.{is_joinable_state}
 use Rattle.ttp_world.specs.Membership.{AreNodes}
 use Rattle.ttp_world.specs.Past.{NodePast, no_past}
 use Rattle.ttp_world.specs.Script.{is_on}
-use Rattle.bare_run.specs.Passed.{without_clock, past_at, bus_in, entry_in, Passed, Nothing, Collision, ColdStart, Listed, join_if, plain_listening, plain_judging, plain_entry}
+use Rattle.bare_run.specs.Passed.{without_clock, past_at, bus_in, entry_in, Passed, Nothing, Collision, ColdStart, Listed, join_if, plain_listening, plain_entry}
 use Rattle.bare_run.specs.Slot.{IsAckWithin, IsEntryWithin, slots_to_own, IsWithin, AreWithin, plain_after, is_nothing, node_after, nodes_after}
 
 -- a node of a list that a function gives

@@ -1,5 +1,5 @@
 -- A slot, from where the nodes stand before it, in the words of the code.
-use Rattle.std.specs.Prelude.{◌≡◌, ◌≢◌, ℕ, ◌+◌, ◌-◌, ◌*◌, ◌<◌, ◌≤◌, pos, nat_lt, Bool, true, false, List, [], ◌∷◌, length, map, if◌then◌else◌}
+use Rattle.std.specs.Prelude.{◌≢◌, ℕ, ◌+◌, ◌-◌, ◌*◌, ◌<◌, ◌≤◌, pos, nat_lt, Bool, true, false, List, [], ◌∷◌, length, map, if◌then◌else◌}
 use Rattle.ttp_base.specs.NodeSet.{most_nodes, below}
 use Rattle.ttp_world.specs.declared.medl.Medl.{Medl}
 use Rattle.ttp_world.specs.declared.node.Ack.{Ack}

@@ -1,14 +1,13 @@
 -- Sets of nodes below a number of bits, as 16 or 24: each has a word of so many bits that stands for it.
-use Rattle.std.proofs.Common.{◌≡◌, ℕ, zero, suc, ◌+◌, ◌-◌, ◌*◌, ◌/◌, ◌%◌, ◌<◌, ◌≤◌, ◌^◌, Bool, true, false, cond, ◌||◌, bit_or, List, [], ◌∷◌, ◌++◌, append-nil, refl, ap, sym, subst, ◌∙◌, inl, inr, zero-lt-suc, arith}
+use Rattle.std.proofs.Common.{◌≡◌, ℕ, zero, suc, ◌+◌, ◌-◌, ◌*◌, ◌/◌, ◌%◌, ◌<◌, ◌≤◌, ◌^◌, Bool, true, false, cond, bit_or, List, [], ◌∷◌, ◌++◌, append-nil, refl, ap, sym, subst, ◌∙◌, zero-lt-suc, arith}
 use Rattle.std.specs.Prelude.{◌==◌}
 use Rattle.std.specs.Int.{bit_at, bit_not, w32}
 use Rattle.std.specs.List.{filter, range_with_len}
 use Rattle.std.proofs.Math.Nat.{pow-le-pow_right}
-use Rattle.std.proofs.lemmas.Bool.{cases_eq, eq-eqb, ne_eqb, cond-true, cond-false}
 use Rattle.std.proofs.lemmas.List.Elements.{filter-append}
 use Rattle.std.proofs.lemmas.Nat.{and_le_l, one_shl, or_lt, pow_below, pow_pos}
 use Rattle.std.proofs.lemmas.Nat.Bits.{bit_at_above, bit_at_lowest, bit_at-suc}
-use Rattle.ttp_base.specs.NodeSet.{most_nodes, below, has_node, with_node, without_node, set_bits, members_in}
+use Rattle.ttp_base.specs.NodeSet.{most_nodes, below, with_node, without_node, set_bits, members_in}
 use Rattle.ttp_base.specs.NodeSetWord.{bits_of_members}
 use Rattle.ttp_base.proofs.NodeLists.{filter-none, with_node-nil}
 use Rattle.ttp_base.proofs.NodeSets.{members_in-with, members_in-without, members_in-zero, same_sieve}

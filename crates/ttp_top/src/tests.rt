@@ -56,7 +56,7 @@ fn answer_files<R: Threads + Wait + Sync + AllocGlobal>(
     if let Some(bytes) = script {
         library.add("five.script", bytes)?;
     }
-    let mut out = MemorySink::new(rt.alloc(), 65_536, fail_write)?;
+    let mut out = MemorySink::new(rt.alloc(), 262_144, fail_write)?;
     let mut texts = Vec::new(rt.alloc());
     for word in words {
         texts.push(String::from_str(rt.alloc(), word)?)?;

@@ -1,5 +1,5 @@
 -- The entry that a node makes by what it does may follow its diary: only an active node sends its frame or judges.
-use Rattle.std.proofs.Common.{◌≡◌, ℕ, ℤ, Bool, true, false, cond, not, ◌||◌, Option, Some, None, IfSome, unwrap_or, refl}
+use Rattle.std.proofs.Common.{◌≡◌, ℕ, ℤ, Bool, true, false, not, ◌||◌, Option, Some, None, IfSome, unwrap_or, refl}
 use Rattle.std.specs.Option.{option_or}
 use Rattle.std.proofs.Math.Bool.{or-true}
 use Rattle.std.proofs.lemmas.Bool.{cond_both}

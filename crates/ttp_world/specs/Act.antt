@@ -1,5 +1,5 @@
 -- What a node does in a slot, by its past.
-use Rattle.std.specs.Prelude.{ℕ, suc, nat_le, Bool, true, false, ◌&&◌, ◌==◌, if◌then◌else◌}
+use Rattle.std.specs.Prelude.{ℕ, nat_le, Bool, ◌&&◌, ◌==◌, if◌then◌else◌}
 use Rattle.ttp_world.specs.declared.medl.Medl.{Medl}
 use Rattle.ttp_world.specs.declared.node.Phase.{Phase}
 use Rattle.ttp_world.specs.declared.node.Phase.TheVariants as phase

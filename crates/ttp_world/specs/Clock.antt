@@ -1,5 +1,5 @@
 -- Clocks: how far each node's clock is ahead, in microticks, read from its diary and its surroundings.
-use Rattle.std.specs.Prelude.{ℕ, nat_lt, nat_le, ℤ, pos, ◌+ℤ◌, Bool, true, false, ◌&&◌, ◌||◌, ◌==◌, List, [], ◌∷◌, ◌++◌, length, take, drop, Option, Some, None, int_div, int_le, if◌then◌else◌}
+use Rattle.std.specs.Prelude.{ℕ, nat_lt, ℤ, pos, ◌+ℤ◌, Bool, true, false, ◌&&◌, ◌||◌, ◌==◌, List, [], ◌∷◌, ◌++◌, length, take, drop, Option, Some, None, int_div, int_le, if◌then◌else◌}
 use Rattle.std.specs.Option.{option_to_list}
 use Rattle.ttp_world.specs.declared.medl.Medl.{Medl}
 use Rattle.ttp_world.specs.declared.node.Entry.{Entry}

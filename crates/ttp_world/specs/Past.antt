@@ -2,10 +2,9 @@
 --
 -- The rules of conduct are functions of this record. An active node's part of it is that of its stint: in every other
 -- phase there is no place, no member, no count and no note, and the acknowledgement is closed.
-use Rattle.std.specs.Prelude.{ℕ, ◌+◌, ◌*◌, ℤ, pos, Bool, true, false, ◌&&◌, List, [], ◌∷◌, length, Option, Some, None, if◌then◌else◌}
+use Rattle.std.specs.Prelude.{ℕ, ◌+◌, ◌*◌, ℤ, Bool, true, false, List, [], ◌∷◌, length, Option, Some, if◌then◌else◌}
 use Rattle.ttp_world.specs.declared.medl.Medl.{Medl}
 use Rattle.ttp_world.specs.declared.node.Ack.{Ack}
-use Rattle.ttp_world.specs.declared.node.Ack.TheVariants as ack
 use Rattle.ttp_world.specs.declared.node.Entry.{Entry}
 use Rattle.ttp_world.specs.declared.node.Entry.TheVariants as entry
 use Rattle.ttp_world.specs.declared.node.NodeState.{NodeState}
@@ -13,7 +12,7 @@ use Rattle.ttp_world.specs.declared.node.Phase.{Phase}
 use Rattle.ttp_world.specs.Acknowledgement.{newest_sent_or_joined, ack_of}
 use Rattle.ttp_world.specs.Clock.{notes_of, offset_of}
 use Rattle.ttp_world.specs.Counts.{accepted_of, rejected_of}
-use Rattle.ttp_world.specs.Diary.{Diary, Surroundings, newest_entry, phase_of, is_active, Place, no_place, place_of}
+use Rattle.ttp_world.specs.Diary.{Diary, Surroundings, newest_entry, phase_of, is_active, Place, place_of}
 use Rattle.ttp_world.specs.Membership.{members_of}
 
 -- Cold starts.

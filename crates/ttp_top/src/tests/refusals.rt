@@ -41,8 +41,8 @@ fn a_wrong_number_at_the_top(rt: HostRuntime) -> Result<(), Fail> {
             "list: missing version\n",
         ),
         (
-            &["version = 2\n", REST, FIRST, SLOT, SLOT, SLOT],
-            "list: out of range version 2\n",
+            &["version = 3\n", REST, FIRST, SLOT, SLOT, SLOT],
+            "list: out of range version 3\n",
         ),
         (
             &["version = 1.0\n", REST, FIRST, SLOT, SLOT, SLOT],
@@ -324,6 +324,98 @@ fn the_first_of_several_faults_is_told(rt: HostRuntime) -> Result<(), Fail> {
         ),
         (&["version = 9223372036854775808\n"], "list: not toml\n"),
         (&[HEAD, "[[slot]]\nkinds = \""], "list: not toml\n"),
+    ];
+    refuses_each(&rt, &wrong)
+}
+
+const LONG: &[&str] = &[
+    SLOT, SLOT, SLOT, SLOT, SLOT, SLOT, SLOT, SLOT, SLOT, SLOT, SLOT, SLOT, SLOT, SLOT, SLOT, SLOT,
+];
+
+#[test]
+fn keys_for_modes_and_more_nodes(rt: HostRuntime) -> Result<(), Fail> {
+    let sixteen = joined(&rt, LONG)?;
+    let wrong: [(&[&str], &str); 11] = [
+        (&[HEAD, FIRST, &sixteen], "list: slot count 17\n"),
+        (
+            &[
+                "version = 2\n",
+                REST,
+                FIRST,
+                &sixteen,
+                SLOT,
+                SLOT,
+                SLOT,
+                SLOT,
+                SLOT,
+                SLOT,
+                SLOT,
+                SLOT,
+            ],
+            "list: slot count 25\n",
+        ),
+        (
+            &["version = 2\n", REST, FIRST, SLOT, SLOT],
+            "list: slot count 3\n",
+        ),
+        (
+            &[HEAD, "modes = 9\n", FIRST, SLOT, SLOT, SLOT],
+            "list: out of range modes 9\n",
+        ),
+        (
+            &[HEAD, "modes = 0\n", FIRST, SLOT, SLOT, SLOT],
+            "list: out of range modes 0\n",
+        ),
+        (
+            &[HEAD, FIRST, "requests = true\n", SLOT, SLOT, SLOT],
+            "list: no data for requests of slot 0\n",
+        ),
+        (
+            &[HEAD, FIRST, SLOT, "requests = 1\n", SLOT, SLOT],
+            "list: wrong kind slot 1 requests\n",
+        ),
+        (
+            &[HEAD, FIRST, SLOT, "live = \"yy\"\n", SLOT, SLOT],
+            "list: live of slot 1\n",
+        ),
+        (
+            &[
+                HEAD,
+                "modes = 2\n",
+                FIRST,
+                "live = \"yn\"\n",
+                SLOT,
+                "live = \"yx\"\n",
+                SLOT,
+                SLOT,
+            ],
+            "list: live of slot 1\n",
+        ),
+        // Requests without payload come before the letters of `live`, in one slot and in a later one.
+        (
+            &[
+                HEAD,
+                FIRST,
+                SLOT,
+                "live = \"\"\nrequests = true\n",
+                SLOT,
+                SLOT,
+            ],
+            "list: no data for requests of slot 1\n",
+        ),
+        // Modes come before what the slots hold.
+        (
+            &[
+                HEAD,
+                "modes = 9\n",
+                FIRST,
+                "requests = true\n",
+                SLOT,
+                SLOT,
+                SLOT,
+            ],
+            "list: out of range modes 9\n",
+        ),
     ];
     refuses_each(&rt, &wrong)
 }

@@ -140,7 +140,7 @@ fn refuses_each_script<R: Threads + Wait + Sync + AllocGlobal + Abort>(
 
 #[test]
 fn scripts_that_are_refused(rt: HostRuntime) -> Result<(), Fail> {
-    let wrong: [(&str, &str); 10] = [
+    let wrong: [(&str, &str); 12] = [
         ("", "script: line 1 no slots\n"),
         ("on 0 0\n", "script: line 1 no slots\n"),
         ("# nothing\n\n", "script: line 3 no slots\n"),
@@ -149,6 +149,8 @@ fn scripts_that_are_refused(rt: HostRuntime) -> Result<(), Fail> {
             "slots 20\nsend 2 AB noise 22 22\n",
             "script: line 2 not built\n",
         ),
+        ("slots 20\non 2 0\narm 2 8\n", "script: line 3 not built\n"),
+        ("slots 20\narm 9 x\n", "script: line 2 not built\n"),
         ("slots 1234567890\n", "script: line 1 number\n"),
         ("slots 20\non 5 0\n", "script: line 2 no node\n"),
         ("slots 20001\n", "script: line 1 range\n"),
@@ -188,6 +190,39 @@ fn a_starter_alone(rt: HostRuntime) -> Result<(), Fail> {
         "slot 20 node 0 wait peer - msg - mem 0000 acc 0 rej 0 ack none clock 0\n",
     ] {
         assert!(rt; words.contains(line), "{line}");
+    }
+    Ok(())
+}
+
+// A list of version 2 with as many nodes as it can have, all of them switched on.
+#[test]
+fn twenty_four_nodes(rt: HostRuntime) -> Result<(), Fail> {
+    let mut list = joined(
+        &rt,
+        &[
+            "version = 2\nrounds = 1\nschedule = 0\nbuffers = 2\ndrift = 0\nerror = 0\nwindow = 1\n",
+            FIRST,
+        ],
+    )?;
+    for _ in 1..24 {
+        list.push_str(SLOT)?;
+    }
+    let script =
+        "slots 72\non 0 0\non 1 0\non 2 0\non 3 0\non 4 0\non 5 0\non 6 0\non 7 0\non 8 0\non 9 0\non 10 0\non 11 0\non 12 0\non 13 0\non 14 0\non 15 0\non 16 0\non 17 0\non 18 0\non 19 0\non 20 0\non 21 0\non 22 0\non 23 0\n";
+    let words = ["run", "cluster.toml", "five.script"];
+    let (status, text) = answer_files(&rt, &words, list.as_bytes(), Some(script.as_bytes()), 0, 0)?;
+    assert_eq!(rt; status, 0);
+    let trace = str::from_utf8(&text)?;
+    assert_eq!(rt; trace.lines().count(), 1729);
+    for line in [
+        "ttpbench trace 2 nodes 24 rounds 1 slots 72 schedule 000000\n",
+        "slot 47 node 0 wait peer - msg - mem 000000 acc 0 rej 0 ack none clock 0\n",
+        "slot 48 node 0 start peer 0 msg - mem 000001 acc 1 rej 0 ack first clock 0\n",
+        "slot 48 node 23 join peer 0 msg - mem 000001 acc 1 rej 0 ack none clock 0\n",
+        "slot 71 node 0 correct peer 23 msg - mem ffffff acc 24 rej 0 ack none clock 0\n",
+        "slot 71 node 23 send peer 23 msg - mem ffffff acc 1 rej 0 ack first clock 0\n",
+    ] {
+        assert!(rt; trace.contains(line), "{line}");
     }
     Ok(())
 }

@@ -1,8 +1,5 @@
-use Rattle.std.proofs.Common.{◌≡◌, List, ℕ, length, subst, ap, sym, ◌∙◌}
+use Rattle.std.proofs.Common.{List, length, subst, ap, sym, ◌∙◌}
 use Rattle.std.specs.Prelude.{All}
-use Rattle.std.specs.Io.KnownBytes.{Appends}
-use Rattle.std.proofs.lemmas.Result.{on_err_weaker, on_ok_weaker}
-use Rattle.ttp_base.specs.Outside.{AppendsFront}
 use Rattle.ttp_world.specs.declared.node.NodeState.{NodeState}
 use Rattle.bare_run.specs.Passed.{plain_run}
 use Rattle.bare_run.specs.Printed.{HasDigits, shown_run}

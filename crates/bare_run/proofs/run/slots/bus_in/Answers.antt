@@ -1,7 +1,7 @@
-use Rattle.std.proofs.Common.{ℕ, length, ◌<◌, subst, sym, ap, ◌∙◌, arith}
+use Rattle.std.proofs.Common.{length, ◌<◌, subst, sym, ap, ◌∙◌, arith}
 use Rattle.std.proofs.lemmas.List.{get_or_read}
 use Rattle.ttp_world.specs.Past.{NodePast, no_past}
-use Rattle.bare_run.specs.Passed.{without_clock, past_at, plain_act, passed_of}
+use Rattle.bare_run.specs.Passed.{without_clock, plain_act, passed_of}
 use Rattle.bare_run.proofs.BusOf.{put_together-next}
 use Rattle.bare_run.proofs.run.slots.bus_in.Goals as goal
 

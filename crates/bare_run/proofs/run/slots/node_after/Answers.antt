@@ -1,5 +1,4 @@
 use Rattle.std.proofs.Common.{subst, sym, ◌∙◌, ap}
-use Rattle.ttp_world.specs.Script.{is_on}
 use Rattle.bare_run.specs.Passed.{plain_entry}
 use Rattle.bare_run.specs.Slot.{passed_meant, IsEntryWithin}
 use Rattle.bare_run.proofs.Within.{plain_entry-within}

@@ -1,7 +1,7 @@
-use Rattle.std.proofs.Common.{◌≡◌, ℕ, subst, sym, ap, ◌∙◌, arith}
+use Rattle.std.proofs.Common.{subst, sym, ◌∙◌, arith}
 use Rattle.std.proofs.lemmas.List.{get_or_default}
 use Rattle.ttp_world.specs.Past.{NodePast, no_past}
-use Rattle.bare_run.specs.Passed.{Passed, without_clock, past_at, plain_act, plain_entry, bus_in}
+use Rattle.bare_run.specs.Passed.{Passed, without_clock, plain_act, plain_entry}
 use Rattle.bare_run.specs.Slot.{IsWithin, is_nothing, plain_after}
 use Rattle.bare_run.proofs.Taken.{Taken-at, Taken-next}
 use Rattle.bare_run.proofs.Within.{IsWithin-longer}
