@@ -62,7 +62,8 @@ impl Check {
 
     /// Takes more bytes behind those before. It costs one table step for each byte.
     pub fn feed(&mut self, bytes: &[u8])
-        ensures stands { (start : ℕ) (fed : List ℕ) → StandsFor self.old start fed → StandsFor self.new start (fed ++ bytes.now) }
+        ensures stands { (start : ℕ) (fed : List ℕ)
+            → StandsFor self.old start fed → StandsFor self.new start (fed ++ bytes.now) }
         ensures value { self.new ≡ check_word self.old bytes.now }
     {
         self.word = word_after(self.word, bytes);

@@ -12,7 +12,8 @@ ghost use Rattle.ttp_check.specs.Bytes.{xor_bytes, DifferWithin};
 /// lists' bytes, combined in the same way.
 pub fn words_combine()
     ensures { (start : ℕ) (one other : List ℕ) → length one ≡ length other
-        → bit_xor (check_word start one) (check_word start other) ≡ check_word 0 (xor_bytes one other) }
+        → bit_xor (check_word start one) (check_word start other)
+        ≡ check_word 0 (xor_bytes one other) }
 {}
 
 /// A list that ends with its own word, in three bytes with the most significant first, has the word 0.
@@ -23,5 +24,6 @@ pub fn own_word_gives_zero()
 /// Two lists of equal length that differ, and differ only within 24 consecutive bits, have different
 /// words.
 pub fn bursts_change_the_word()
-    ensures { (start : ℕ) (one other : List ℕ) → DifferWithin 24 one other → check_word start one ≢ check_word start other }
+    ensures { (start : ℕ) (one other : List ℕ) → DifferWithin 24 one other
+        → check_word start one ≢ check_word start other }
 {}
