@@ -1,0 +1,9 @@
+//! Frames as bytes.
+#![tactic(auto)]
+
+mod frame;
+mod judging;
+mod pieces;
+
+pub use frame::{FrameIn, encode};
+pub use judging::{Expect, FrameMatch, judge};
