@@ -2,7 +2,7 @@
 use Rattle.std.proofs.Common.{◌≡◌, ◌≢◌, ℕ, ◌+◌, ◌-◌, ◌*◌, ◌<◌, ◌≤◌, ◌^◌, Bool, true, false, ◌&&◌, List, [], ◌++◌, length, take, drop, if◌then◌else◌, refl, ap, sym, subst, ◌∙◌, inl, inr, arith, append_assoc, length-append}
 use Rattle.std.specs.Prelude.{◌↔◌, not, IsTrue}
 use Rattle.std.specs.Str.{bytes_eq}
-use Rattle.std.proofs.lemmas.Bool.{and_parts, and_from, cases_eq, false≢true}
+use Rattle.std.proofs.lemmas.Bool.{and_parts, and_from, cases_eq, false_from_ne_true, false≢true}
 use Rattle.std.proofs.lemmas.List.{append_cancel_left}
 use Rattle.std.proofs.lemmas.Slice.Eq.{bytes_eq-Decides}
 use Rattle.ttp_base.specs.NodeSet.{set_bits, members_in}
@@ -178,3 +178,16 @@ pub members_told : (wide : Bool) (bytes : List ℕ) (header size start : ℕ) (c
     → fits (member_bytes wide) bytes header size start c ≡ true → fits (member_bytes wide) bytes header size start d ≡ true → c.members ≡ d.members
 members_told wide bytes header size start c d place has has_too fit fit_too =
     sym has.set ∙ ap members_in (set_bits-told wide bytes header size start c d place has.room has_too.room fit fit_too) ∙ has_too.set
+
+-- So of C-states that differ in members alone, none but one matches.
+pub other_members_never_fit : (found : FrameMatch) (wide : Bool) (bytes : List ℕ) (header size start : ℕ) (c : CState) → found ≡ match_of wide bytes header size start c
+    → HaveRoom wide c.members → (members : List ℕ) → HaveRoom wide members → set_bits members ≢ set_bits c.members → found ≡ Match
+    → IsTrue (not (fits (member_bytes wide) bytes header size start (record c { members = members })))
+other_members_never_fit found wide bytes header size start c is room members room_too other match =
+    ap not (false_from_ne_true (fits (member_bytes wide) bytes header size start (record c { members = members }))
+    (λ fit_too. other (sym (set_bits-told wide bytes header size start c (record c { members = members }) refl room room_too ((Match-fits found wide bytes header size start c is).0 match) fit_too))))
+
+pub bursts_never_match : (found : FrameMatch) (wide : Bool) (bytes : List ℕ) (header size start : ℕ) (c : CState) → found ≡ match_of wide bytes header size start c
+    → (sender : List ℕ) → DifferWithin 24 sender bytes → IsTrue (fits (member_bytes wide) sender header size start c) → found ≢ Match
+bursts_never_match found wide bytes header size start c is sender apart fit match =
+    bursts_never_fit (member_bytes wide) header size start c sender bytes fit apart ((Match-fits found wide bytes header size start c is).0 match)

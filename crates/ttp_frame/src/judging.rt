@@ -1,6 +1,9 @@
 //! Bytes beside an expected frame.
-ghost use Rattle.std.specs.Prelude.{◌≡◌, ◌+◌, ◌<◌, ◌≤◌, length};
+ghost use Rattle.std.specs.Prelude.{◌≡◌, ◌≢◌, ◌↔◌, ℕ, ◌+◌, ◌<◌, ◌≤◌, ◌&&◌, not, List, length, IsTrue};
+ghost use Rattle.ttp_base.specs.NodeSet.{set_bits};
+ghost use Rattle.ttp_world.specs.Fitting.{fits, is_formed};
 ghost use Rattle.ttp_world.specs.Medl.{member_bytes, schedule_limit};
+ghost use Rattle.ttp_check.specs.Bytes.{DifferWithin};
 ghost use Rattle.ttp_frame.specs.Match.{match_of};
 ghost use Rattle.ttp_frame.specs.Shape.{IsShape, HaveRoom, has_shape, carries};
 
@@ -50,12 +53,11 @@ fn carries(piece: &[u8], bytes: &[u8]) -> bool
     &bytes[1..1 + piece.len()] == piece
 }
 
-/// Judges bytes by the frame that a receiver expects, from its own C-state.
-pub fn judge(bytes: &[u8], start: u32, expect: &Expect, cstate: &CState) -> FrameMatch
+// The answer of `judge`.
+fn found(bytes: &[u8], start: u32, expect: &Expect, cstate: &CState) -> FrameMatch
     requires shape { IsShape expect.now.header expect.now.payload }
     requires start { start < schedule_limit }
-    requires members { HaveRoom expect.now.wide cstate.now.members }
-    ensures answer { result ≡ match_of expect.now.wide bytes.now expect.now.header expect.now.payload start cstate.now }
+    ensures { result ≡ match_of expect.now.wide bytes.now expect.now.header expect.now.payload start cstate.now }
 {
     if !has_shape(bytes, expect.wide, expect.header, expect.payload) {
         return FrameMatch::Invalid;
@@ -74,4 +76,35 @@ pub fn judge(bytes: &[u8], start: u32, expect: &Expect, cstate: &CState) -> Fram
     } else {
         FrameMatch::Differs
     }
+}
+
+/// Judges bytes by the frame that a receiver expects, from its own C-state.
+///
+/// A frame with explicit C-state tells a sender of another C-state from noise. One with implicit
+/// C-state does not: where its word is wrong it differs, whatever the reason.
+pub fn judge(bytes: &[u8], start: u32, expect: &Expect, cstate: &CState) -> FrameMatch
+    requires shape { IsShape expect.now.header expect.now.payload }
+    requires start { start < schedule_limit }
+    requires members { HaveRoom expect.now.wide cstate.now.members }
+    ensures answer { result ≡ match_of expect.now.wide bytes.now expect.now.header expect.now.payload start cstate.now }
+    ensures matches { (result ≡ FrameMatch.Match)
+        ↔ IsTrue (fits (member_bytes expect.now.wide) bytes.now expect.now.header expect.now.payload start cstate.now) }
+    ensures differs { (result ≡ FrameMatch.Differs)
+        ↔ IsTrue (is_formed (member_bytes expect.now.wide) bytes.now expect.now.header expect.now.payload start
+        && not (fits (member_bytes expect.now.wide) bytes.now expect.now.header expect.now.payload start cstate.now)) }
+    ensures invalid { (result ≡ FrameMatch.Invalid)
+        ↔ IsTrue (not (is_formed (member_bytes expect.now.wide) bytes.now expect.now.header expect.now.payload start)) }
+
+    // Of the C-states that differ in their members alone, at most one matches.
+    ensures told { (members : List ℕ) → HaveRoom expect.now.wide members → set_bits members ≢ set_bits cstate.now.members
+        → result ≡ FrameMatch.Match
+        → IsTrue (not (fits (member_bytes expect.now.wide) bytes.now expect.now.header expect.now.payload start
+        (record cstate.now { members = members }))) }
+
+    // A frame that would match does not where some of 24 consecutive bits are wrong.
+    ensures bursts { (sent : List ℕ) → DifferWithin 24 sent bytes.now
+        → IsTrue (fits (member_bytes expect.now.wide) sent expect.now.header expect.now.payload start cstate.now)
+        → result ≢ FrameMatch.Match }
+{
+    found(bytes, start, expect, cstate)
 }

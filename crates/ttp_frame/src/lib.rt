@@ -3,6 +3,7 @@
 
 mod frame;
 mod judging;
+pub mod laws;
 mod pieces;
 
 pub use frame::{FrameIn, encode};
