@@ -32,6 +32,13 @@ length-sent width header c = by (is_explicit header)
     by true = length-cstate_bytes width c
     by false = refl
 
+pub length-unsent : (width header : ℕ) (c : CState) → length (unsent width header c) ≡ (if is_explicit header then 0 else 4 + width)
+length-unsent width header c = by (is_explicit header)
+  where
+    by : (e : Bool) → length (if e then [] else cstate_bytes width c) ≡ (if e then 0 else 4 + width)
+    by true = refl
+    by false = length-cstate_bytes width c
+
 -- The pieces of a frame.
 
 -- the word goes over what is not sent of the C-state, and then over the body
