@@ -1,0 +1,5 @@
+pub mod FlippedFrames
+pub mod Flips
+pub mod FrameLaws
+pub mod Frames
+pub mod StateBytes
