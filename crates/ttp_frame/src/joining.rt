@@ -4,7 +4,8 @@
 ghost use Rattle.std.specs.Prelude.{◌≡◌, ◌≢◌, ◌+◌, ◌<◌, ◌≤◌, length, nat_lt};
 ghost use Rattle.std.specs.List.{list_all};
 ghost use Rattle.ttp_base.specs.NodeSet.{members_in};
-ghost use Rattle.ttp_world.specs.Fitting.{carried, is_cold_start, is_formed, is_joinable_state, is_listed_explicit, joinable};
+ghost use Rattle.ttp_world.specs.Fitting.{carried, is_formed, joinable};
+ghost use Rattle.ttp_world.specs.Fitting.{is_cold_start, is_joinable_state, is_listed_explicit};
 ghost use Rattle.ttp_world.specs.Frame.{header_of};
 ghost use Rattle.ttp_world.specs.Medl.{member_bytes, may_start, payload_length, schedule_limit, IsValid};
 
