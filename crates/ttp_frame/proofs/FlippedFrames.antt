@@ -1,9 +1,9 @@
 -- Frames with flipped bits: how they are judged does not depend on their payload.
-use Rattle.std.proofs.Common.{◌≡◌, ◌≢◌, ℕ, ◌+◌, ◌-◌, ◌<◌, ◌≤◌, ◌^◌, Bool, true, false, ◌&&◌, ◌||◌, List, [], ◌∷◌, ◌++◌, length, take, drop, Option, Some, None, if◌then◌else◌, refl, ap, sym, subst, ◌∙◌, inl, inr, arith, append_assoc, length-append}
+use Rattle.std.proofs.Common.{◌≡◌, ◌≢◌, ℕ, ◌+◌, ◌-◌, ◌<◌, ◌≤◌, ◌^◌, Bool, true, false, ◌&&◌, ◌||◌, List, [], ◌∷◌, ◌++◌, length, take, drop, Some, None, if◌then◌else◌, refl, ap, sym, subst, ◌∙◌, inl, inr, arith, append_assoc, length-append}
 use Rattle.std.specs.Prelude.{◌==◌, not, slice_index}
 use Rattle.std.specs.Str.{bytes_eq}
 use Rattle.std.specs.List.{All}
-use Rattle.std.proofs.lemmas.Bool.{and_right, and_left, cases_eq, cases_Bool, ne_eqb, eqb-true, not-true, not-false, true≢false, false≢true}
+use Rattle.std.proofs.lemmas.Bool.{and_right, and_left, cases_eq, ne_eqb, true≢false}
 use Rattle.std.proofs.lemmas.List.{take-take}
 use Rattle.ttp_base.specs.NodeSet.{members_in}
 use Rattle.ttp_world.specs.declared.medl.Medl.{Medl}
@@ -14,12 +14,12 @@ use Rattle.ttp_world.specs.Frame.{is_explicit, cold_start_header, header_of, wor
 use Rattle.ttp_world.specs.Medl.{is_wide, member_bytes, member_width, kind_at, payload_length, may_start}
 use Rattle.ttp_check.specs.Bytes.{xor_bytes}
 use Rattle.ttp_check.proofs.WordLaws.{own_word_gives_zero}
-use Rattle.ttp_check.proofs.Words.{length-big_endian, All-big_endian}
+use Rattle.ttp_check.proofs.Words.{All-big_endian}
 use Rattle.ttp_frame.specs.declared.judging.FrameMatch.TheVariants.{Match, Differs, Invalid}
 use Rattle.ttp_frame.specs.Match.{match_of}
 use Rattle.ttp_frame.specs.Shape.{sent, unsent, has_shape, has_word, carries}
 use Rattle.ttp_frame.proofs.Flips.{AreBytes, length-xor_bytes, take-xor_bytes, drop-xor_bytes, first-xor_bytes, All-xor_bytes, check_word-flipped, has_word-zero}
-use Rattle.ttp_frame.proofs.Frames.{front, ended, frame-pieces, length-frame, length-sent, length-unsent, match_of-parts, is_formed-parts}
+use Rattle.ttp_frame.proofs.Frames.{front, frame-pieces, length-frame, length-sent, length-unsent, match_of-parts, is_formed-parts}
 
 -- Bytes that receivers take alike.
 

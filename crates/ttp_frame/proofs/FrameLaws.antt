@@ -1,7 +1,6 @@
 -- The laws of frames: what bytes tell of a sender's members, and that short runs of wrong bits are seen.
-use Rattle.std.proofs.Common.{◌≡◌, ◌≢◌, ℕ, ◌+◌, ◌-◌, ◌*◌, ◌<◌, ◌≤◌, ◌^◌, Bool, true, false, ◌&&◌, List, [], ◌++◌, length, take, drop, if◌then◌else◌, refl, ap, sym, subst, ◌∙◌, inl, inr, arith, append_assoc, length-append}
+use Rattle.std.proofs.Common.{◌≡◌, ◌≢◌, ℕ, ◌-◌, ◌*◌, ◌<◌, ◌≤◌, ◌^◌, Bool, true, false, ◌&&◌, List, [], ◌++◌, length, take, drop, if◌then◌else◌, refl, ap, sym, subst, ◌∙◌, inl, inr, arith, append_assoc, length-append}
 use Rattle.std.specs.Prelude.{◌↔◌, not, IsTrue}
-use Rattle.std.specs.Str.{bytes_eq}
 use Rattle.std.proofs.lemmas.Bool.{and_parts, and_from, cases_eq, false_from_ne_true, false≢true}
 use Rattle.std.proofs.lemmas.List.{append_cancel_left}
 use Rattle.std.proofs.lemmas.Slice.Eq.{bytes_eq-Decides}
@@ -10,7 +9,7 @@ use Rattle.ttp_world.specs.declared.node.CState.{CState}
 use Rattle.ttp_world.specs.CheckWord.{check_word}
 use Rattle.ttp_world.specs.Diary.{Place, joined_place}
 use Rattle.ttp_world.specs.Fitting.{number_in, payload_in, fits, is_formed}
-use Rattle.ttp_world.specs.Frame.{big_endian, is_explicit, cstate_bytes, word_bytes, frame}
+use Rattle.ttp_world.specs.Frame.{big_endian, is_explicit, word_bytes, frame}
 use Rattle.ttp_world.specs.Medl.{member_bytes}
 use Rattle.ttp_check.specs.Bytes.{DifferWithin}
 use Rattle.ttp_check.proofs.Bursts.{numbers_change_the_word, own_words_are_apart}
@@ -19,17 +18,17 @@ use Rattle.ttp_frame.specs.declared.judging.FrameMatch.{FrameMatch}
 use Rattle.ttp_frame.specs.declared.judging.FrameMatch.TheVariants.{Match, Differs, Invalid}
 use Rattle.ttp_frame.specs.Match.{match_of}
 use Rattle.ttp_frame.specs.Shape.{HaveRoom, HavePlaces, sent, unsent, has_shape, has_word, carries}
-use Rattle.ttp_frame.proofs.Frames.{front, ended, frame-pieces, length-cstate_bytes, fits-parts, is_formed-parts}
+use Rattle.ttp_frame.proofs.Frames.{front, ended, frame-pieces, fits-parts, is_formed-parts}
 
 -- What fits.
 
 -- the parts of bytes that fit
-record FitParts (width : ℕ) (bytes : List ℕ) (header size start : ℕ) (c : CState) : Type 0 where
-  shape : has_shape width bytes header size ≡ true
-  word : has_word start (unsent width header c) bytes ≡ true
-  carried : carries (sent width header c) bytes ≡ true
+pub record FitParts (width : ℕ) (bytes : List ℕ) (header size start : ℕ) (c : CState) : Type 0 where
+  pub shape : has_shape width bytes header size ≡ true
+  pub word : has_word start (unsent width header c) bytes ≡ true
+  pub carried : carries (sent width header c) bytes ≡ true
 
-parts_of : (width : ℕ) (bytes : List ℕ) (header size start : ℕ) (c : CState) → fits width bytes header size start c ≡ true → FitParts width bytes header size start c
+pub parts_of : (width : ℕ) (bytes : List ℕ) (header size start : ℕ) (c : CState) → fits width bytes header size start c ≡ true → FitParts width bytes header size start c
 parts_of width bytes header size start c told =
     let both = and_parts _ _ (sym (fits-parts width bytes header size start c) ∙ told) in
     let rest = and_parts _ _ both.1 in

@@ -1,8 +1,6 @@
 -- Frames in pieces, and when bytes are one.
 use Rattle.std.proofs.Common.{◌≡◌, ℕ, suc, ◌+◌, ◌-◌, ◌≤◌, Bool, true, false, ◌&&◌, List, [], ◌∷◌, ◌++◌, length, take, drop, min, if◌then◌else◌, refl, ap, sym, ◌∙◌, arith, append_assoc, length-append}
-use Rattle.std.specs.Prelude.{◌==◌, slice_index}
-use Rattle.std.specs.Bool.{Decides}
-use Rattle.std.specs.Str.{bytes_eq}
+use Rattle.std.specs.Prelude.{◌==◌}
 use Rattle.std.proofs.lemmas.Bool.{and_parts, and_from, eq-eqb, eqb-true}
 use Rattle.std.proofs.lemmas.Bool.Decides.{same_from_decides}
 use Rattle.std.proofs.lemmas.List.{length-take, length-drop, take-append-drop, take-take, take_at, drop_at, drop-take}
@@ -14,7 +12,6 @@ use Rattle.ttp_world.specs.Frame.{big_endian, is_explicit, cstate_bytes, body, c
 use Rattle.ttp_world.specs.CheckWord.{check_word}
 use Rattle.ttp_world.specs.Medl.{member_bytes}
 use Rattle.ttp_check.proofs.Words.{length-big_endian}
-use Rattle.ttp_frame.specs.declared.judging.FrameMatch.{FrameMatch}
 use Rattle.ttp_frame.specs.declared.judging.FrameMatch.TheVariants.{Match, Differs, Invalid}
 use Rattle.ttp_frame.specs.Match.{match_of}
 use Rattle.ttp_frame.specs.Shape.{sent, unsent, has_shape, carries, has_word}

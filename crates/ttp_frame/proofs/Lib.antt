@@ -3,3 +3,4 @@ pub mod Flips
 pub mod FrameLaws
 pub mod Frames
 pub mod StateBytes
+pub mod Undisturbed

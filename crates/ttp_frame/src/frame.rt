@@ -42,6 +42,7 @@ pub fn encode(frame: &FrameIn, start: u32, out: &mut [u8; 256]) -> usize
     requires members { HaveRoom frame.now.wide frame.now.cstate.members }
     ensures length { result
         ≡ 1 + carried_length (member_bytes frame.now.wide) frame.now.header + length frame.now.payload.now + 3 }
+    ensures fits { result ≤ 256 }
     ensures front { take result out.new
         ≡ frame_bytes (member_bytes frame.now.wide) frame.now.header frame.now.cstate frame.now.payload.now start }
 {

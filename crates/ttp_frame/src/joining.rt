@@ -4,20 +4,15 @@
 ghost use Rattle.std.specs.Prelude.{◌≡◌, ◌≢◌, ◌+◌, ◌<◌, ◌≤◌, length, nat_lt};
 ghost use Rattle.std.specs.List.{list_all};
 ghost use Rattle.ttp_base.specs.NodeSet.{members_in};
-ghost use Rattle.ttp_world.specs.Fitting.{carried, is_cold_start, is_formed, is_joinable_state, is_listed_explicit, joinable};
+ghost use Rattle.ttp_world.specs.Fitting.{carried, is_formed, joinable};
+ghost use Rattle.ttp_world.specs.Fitting.{is_cold_start, is_joinable_state, is_listed_explicit};
 ghost use Rattle.ttp_world.specs.Frame.{header_of};
 ghost use Rattle.ttp_world.specs.Medl.{member_bytes, may_start, payload_length, schedule_limit, IsValid};
 
 use crate::judging::has_shape;
-use crate::pieces::{IMPLICIT, ends_with_word, state_len};
+use crate::pieces::{BARE, COLD_START, EXPLICIT, IMPLICIT, ends_with_word, state_len};
 use ttp_base::NodeSet;
 use ttp_world::{CState, Kind, Medl};
-
-const BARE: u8 = 1;
-
-const EXPLICIT: u8 = 2;
-
-const COLD_START: u8 = 3;
 
 // The set whose members are the bits of a word.
 fn members_of(word: u32) -> NodeSet

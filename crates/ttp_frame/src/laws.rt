@@ -2,14 +2,13 @@
 //!
 //! Each function does nothing, and its contract is a law over the definitions. `proofs/FrameLaws.antt`
 //! has each under the function's name, for proofs to cite.
-ghost use Rattle.std.specs.Prelude.{◌≡◌, ℕ, ◌+◌, ◌<◌, Bool, List, length, slice_index, IsTrue};
+ghost use Rattle.std.specs.Prelude.{◌≡◌, ℕ, ◌<◌, Bool, List, length, slice_index, IsTrue};
 ghost use Rattle.ttp_world.specs.declared.medl.Medl.{Medl};
 ghost use Rattle.ttp_world.specs.declared.node.CState.{CState};
 ghost use Rattle.ttp_world.specs.Diary.{joined_place};
-ghost use Rattle.ttp_world.specs.Fitting.{carried_length, fits, joinable};
-ghost use Rattle.ttp_world.specs.Frame.{frame as frame_bytes};
+ghost use Rattle.ttp_world.specs.Fitting.{fits, joinable};
 ghost use Rattle.ttp_world.specs.Medl.{is_wide, member_bytes, schedule_limit, IsValid};
-ghost use Rattle.ttp_check.specs.Bytes.{xor_bytes};
+ghost use Rattle.ttp_frame.specs.FrameBytes.{bytes_of, flipped_bytes};
 ghost use Rattle.ttp_frame.specs.Match.{match_of};
 ghost use Rattle.ttp_frame.specs.Shape.{IsShape, HavePlaces, HaveRoom};
 
@@ -36,20 +35,13 @@ pub fn flipped(flips: &[u8], frame: &FrameIn, other: &FrameIn, start: u32)
     requires header { other.now.header ≡ frame.now.header }
     requires cstate { other.now.cstate ≡ frame.now.cstate }
     requires payload { length other.now.payload.now ≡ length frame.now.payload.now }
-    requires flips { length flips.now
-        ≡ 1 + carried_length (member_bytes frame.now.wide) frame.now.header + length frame.now.payload.now + 3 }
+    requires flips { length flips.now ≡ length (bytes_of frame.now start) }
     requires kept { slice_index flips.now 0 ≡ 0 }
 
-    ensures judged { (header size : ℕ) (c : CState) → match_of frame.now.wide
-        (xor_bytes (frame_bytes (member_bytes frame.now.wide) frame.now.header frame.now.cstate frame.now.payload.now start)
-        flips.now) header size start c
-        ≡ match_of frame.now.wide
-        (xor_bytes (frame_bytes (member_bytes other.now.wide) other.now.header other.now.cstate other.now.payload.now start)
-        flips.now) header size start c }
-    ensures joined { (list : Medl) → IsValid list → is_wide list ≡ frame.now.wide → list.schedule ≡ start → joinable list
-        (xor_bytes (frame_bytes (member_bytes frame.now.wide) frame.now.header frame.now.cstate frame.now.payload.now start)
-        flips.now)
-        ≡ joinable list
-        (xor_bytes (frame_bytes (member_bytes other.now.wide) other.now.header other.now.cstate other.now.payload.now start)
-        flips.now) }
+    ensures judged { (header size : ℕ) (c : CState)
+        → match_of frame.now.wide (flipped_bytes frame.now start flips.now) header size start c
+        ≡ match_of frame.now.wide (flipped_bytes other.now start flips.now) header size start c }
+    ensures joined { (list : Medl) → IsValid list → is_wide list ≡ frame.now.wide → list.schedule ≡ start
+        → joinable list (flipped_bytes frame.now start flips.now)
+        ≡ joinable list (flipped_bytes other.now start flips.now) }
 {}

@@ -1,4 +1,26 @@
-//! Frames as bytes.
+//! Frames as bytes: what a node sends in its slot, and what a receiver makes of what it hears.
+//!
+//! A TTP/C frame (SAE AS6003) begins with a header and ends with a check word of 24 bits. A frame
+//! with explicit C-state carries the sender's controller state: its time, round and slot, and the
+//! members that it sees. A frame with implicit C-state does not, and its word goes over that state
+//! and then the frame:
+//!
+//! | header | the frame | its word goes over |
+//! |---|---|---|
+//! | 0, implicit | header, payload, word | C-state, header, payload |
+//! | 1, explicit without payload | header, C-state, word | header, C-state |
+//! | 2, explicit with payload | header, C-state, payload, word | header, C-state, payload |
+//! | 3, cold start | header, C-state, word | header, C-state |
+//!
+//! A C-state has six bytes, or seven where it is wide, as in lists of version 2.
+//!
+//! [`encode`] makes the bytes of a frame. [`judge`] tells whether bytes are the frame that a receiver
+//! expects from its own C-state, and [`read_explicit`] gives the C-state on which a listening node
+//! joins. Each is exactly what `ttp_world`'s definitions say. [`laws`] has what later proofs rest on.
+//!
+//! The crate keeps no state, takes no memory and copies no payload but into a sender's buffer, and
+//! none of its calls can fail. It knows no slots, channels or windows: when a frame is looked at is
+//! for the layers above.
 #![tactic(auto)]
 
 mod frame;
@@ -10,3 +32,6 @@ mod pieces;
 pub use frame::{FrameIn, encode};
 pub use joining::read_explicit;
 pub use judging::{Expect, FrameMatch, judge};
+
+#[cfg(test)]
+mod tests;

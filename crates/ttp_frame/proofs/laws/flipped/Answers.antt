@@ -1,7 +1,7 @@
 use Rattle.std.proofs.Common.{◌≡◌, ℕ, ◌≤◌, Bool, List, length, ap, sym, subst, ◌∙◌, arith}
 use Rattle.ttp_world.specs.Frame.{frame}
 use Rattle.ttp_world.specs.Fitting.{joinable}
-use Rattle.ttp_world.specs.Medl.{member_bytes, member_width}
+use Rattle.ttp_world.specs.Medl.{member_bytes}
 use Rattle.ttp_check.specs.Bytes.{xor_bytes}
 use Rattle.ttp_frame.specs.Match.{match_of}
 use Rattle.ttp_frame.proofs.Flips.{length-xor_bytes}
@@ -16,7 +16,7 @@ returns-clause-judged c =
     let flips = c.args.flips.now in
     let other_is : frame (member_bytes o.wide) o.header o.cstate o.payload.now c.args.start ≡ frame (member_bytes f.wide) f.header f.cstate o.payload.now c.args.start =
     λ i. frame (member_bytes (c.requires.wide i)) (c.requires.header i) (c.requires.cstate i) o.payload.now c.args.start in
-    let alike = AreAlike-flipped (member_bytes f.wide) f.header f.cstate f.payload.now o.payload.now flips c.args.start (sym c.requires.payload) c.requires.flips (λ i. (c.type_inv.flips i).fits) c.requires.kept in
+    let alike = AreAlike-flipped (member_bytes f.wide) f.header f.cstate f.payload.now o.payload.now flips c.args.start (sym c.requires.payload) (c.requires.flips ∙ length-frame (member_bytes f.wide) f.header f.cstate f.payload.now c.args.start) (λ i. (c.type_inv.flips i).fits) c.requires.kept in
     λ header size d. match_of-alike f.wide f.header c.args.start _ _ alike header size d ∙ ap (λ bytes. match_of f.wide (xor_bytes bytes flips) header size c.args.start d) (sym other_is)
 
 pub returns-clause-joined : goal.returns-clause-joined
@@ -30,7 +30,7 @@ returns-clause-joined c =
     let two : List ℕ = xor_bytes others flips in
     let other_is : frame (member_bytes o.wide) o.header o.cstate o.payload.now c.args.start ≡ others =
     λ i. frame (member_bytes (c.requires.wide i)) (c.requires.header i) (c.requires.cstate i) o.payload.now c.args.start in
-    let alike = AreAlike-flipped (member_bytes f.wide) f.header f.cstate f.payload.now o.payload.now flips c.args.start (sym c.requires.payload) c.requires.flips (λ i. (c.type_inv.flips i).fits) c.requires.kept in
+    let alike = AreAlike-flipped (member_bytes f.wide) f.header f.cstate f.payload.now o.payload.now flips c.args.start (sym c.requires.payload) (c.requires.flips ∙ length-frame (member_bytes f.wide) f.header f.cstate f.payload.now c.args.start) (λ i. (c.type_inv.flips i).fits) c.requires.kept in
     let some : 1 ≤ length one = omega (arith, length-xor_bytes bytes flips, length-frame (member_bytes f.wide) f.header f.cstate f.payload.now c.args.start) in
     λ list valid wide start.
     joinable-alike list f.header one two some
