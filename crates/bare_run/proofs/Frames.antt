@@ -1,20 +1,19 @@
--- Frames of C-states as bytes: what they carry, and when two of them are one.
-use Rattle.std.proofs.Common.{◌≡◌, ℕ, ◌*◌, ◌-◌, ◌^◌, ◌/◌, ◌%◌, ◌<◌, Bool, true, false, ◌&&◌, ◌||◌, List, [], ◌∷◌, ◌++◌, length, take, drop, length-append, Some, None, if◌then◌else◌, refl, ap, sym, ◌∙◌, arith}
+-- Frames without payload: when two of their C-states are one, and when a node joins on one.
+use Rattle.std.proofs.Common.{◌≡◌, ◌≢◌, ℕ, ◌<◌, Bool, true, false, ◌&&◌, ◌||◌, List, [], length, Some, None, if◌then◌else◌, refl, ap, ◌∙◌, arith}
 use Rattle.std.specs.Bool.{Decides}
-use Rattle.std.specs.Str.{bytes_eq}
 use Rattle.std.proofs.Math.Bool.{and-true, or-false}
 use Rattle.std.proofs.lemmas.Bool.{and_parts, and_from, eq-eqb, eqb-true}
 use Rattle.std.proofs.lemmas.Bool.Decides.{same_from_decides}
-use Rattle.std.proofs.lemmas.List.{take_at, drop_at}
 use Rattle.std.proofs.lemmas.Slice.Eq.{bytes_eq-Decides}
 use Rattle.ttp_base.specs.NodeSet.{set_bits, members_in}
 use Rattle.ttp_world.specs.declared.medl.Medl.{Medl}
 use Rattle.ttp_world.specs.declared.node.CState.{CState}
 use Rattle.ttp_world.specs.Diary.{time_limit}
-use Rattle.ttp_world.specs.Fitting.{number_in, carried, fits, has_right_word, is_formed, is_joinable_state, is_listed_explicit, joinable_cstate, joinable}
-use Rattle.ttp_world.specs.Frame.{big_endian, bare_header, cold_start_header, header_of, is_explicit, word_bytes, frame}
+use Rattle.ttp_world.specs.Fitting.{carried, fits, is_formed, is_joinable_state, is_listed_explicit, joinable_cstate, joinable}
+use Rattle.ttp_world.specs.Frame.{bare_header, cold_start_header, header_of, is_explicit, frame}
 use Rattle.ttp_world.specs.Medl.{is_wide, member_bytes, member_width, member_limit, may_start, IsBareList, IsValid}
 use Rattle.ttp_world.proofs.Lists.{node_limit-most, kind_at-bare, payload_length-bare}
+use Rattle.ttp_frame.proofs.Undisturbed.{FitsBytes, carried-frame, is_formed-frame, is_formed-other, fits-explicit}
 use Rattle.bare_run.specs.Passed.{is_same_cstate}
 
 -- A C-state that fits a list's frames.
@@ -25,66 +24,18 @@ pub record FitsFrame (list : Medl) (c : CState) : Type 0 where
   pub members : members_in (set_bits c.members) ≡ c.members
   pub word : set_bits c.members < member_limit list
 
--- a number of two bytes, or of three, is the number that they stand for
-number_of_two : (v : ℕ) → v < 65536 → number_in (big_endian 2 v) ≡ v
-number_of_two v small = omega arith
-
-number_of_three : (v : ℕ) → v < 16777216 → number_in (big_endian 3 v) ≡ v
-number_of_three v small = omega arith
-
--- a frame without payload of this header
-abbrev pub bare_frame : Bool → ℕ → CState → ℕ → List ℕ
-bare_frame wide header c start = frame (member_bytes wide) header c [] start
-
--- what it says before its word
-abbrev front : Bool → ℕ → CState → List ℕ
-front true header c =
-    header ∷ c.time / 256 % 256 ∷ c.time % 256 ∷ c.round % 256 ∷ c.slot % 256
-    ∷ set_bits c.members / 256 / 256 % 256 ∷ set_bits c.members / 256 % 256 ∷ set_bits c.members % 256 ∷ []
-front false header c =
-    header ∷ c.time / 256 % 256 ∷ c.time % 256 ∷ c.round % 256 ∷ c.slot % 256
-    ∷ set_bits c.members / 256 % 256 ∷ set_bits c.members % 256 ∷ []
-
--- the numbers of a C-state in a frame are in the range of their bytes
-record HasBytes (wide : Bool) (c : CState) : Type 0 where
-  time : c.time < 65536
-  round : c.round < 256
-  slot : c.slot < 256
-  members : members_in (set_bits c.members) ≡ c.members
-  word : set_bits c.members < 2 ^ (8 * member_bytes wide)
-
--- a C-state that fits a valid list's frame has its numbers there
-bytes_of : (list : Medl) (c : CState) → IsValid list → FitsFrame list c → HasBytes (is_wide list) c
+-- so its fields have their places in a frame
+bytes_of : (list : Medl) (c : CState) → IsValid list → FitsFrame list c → FitsBytes (is_wide list) c
 bytes_of list c valid fit = record {
   time = fit.time;
   round = omega (arith, fit.round, valid.rounds);
   slot = omega (arith, fit.slot, valid.count, node_limit-most list);
-  members = fit.members;
-  word = fit.word;
+  members = record { room = fit.word; set = fit.members };
 }
 
--- a frame carries the C-state that it was made of
-carried-front : (wide : Bool) (header : ℕ) (c : CState) (word : List ℕ) → HasBytes wide c → carried (member_bytes wide) (front wide header c ++ word) ≡ c
-carried-front true header c word fit = λ i. record {
-  time = number_of_two c.time fit.time i;
-  round = (let e : c.round % 256 ≡ c.round = omega arith in e) i;
-  slot = (let e : c.slot % 256 ≡ c.slot = omega arith in e) i;
-  members = (ap members_in (number_of_three (set_bits c.members) fit.word) ∙ fit.members) i;
-}
-carried-front false header c word fit = λ i. record {
-  time = number_of_two c.time fit.time i;
-  round = (let e : c.round % 256 ≡ c.round = omega arith in e) i;
-  slot = (let e : c.slot % 256 ≡ c.slot = omega arith in e) i;
-  members = (ap members_in (number_of_two (set_bits c.members) fit.word) ∙ fit.members) i;
-}
-
--- two lists of one length, each with what follows from it, are the same where the lists are
-bytes_eq-with : (tail : List ℕ → List ℕ) (bs cs : List ℕ) → length bs ≡ length cs → bytes_eq (bs ++ tail bs) (cs ++ tail cs) ≡ bytes_eq bs cs
-bytes_eq-with tail bs cs long =
-    let whole = bytes_eq-Decides (bs ++ tail bs) (cs ++ tail cs) in
-    let part = bytes_eq-Decides bs cs in
-    let back : bs ++ tail bs ≡ cs ++ tail cs → bs ≡ cs = λ same. sym (take_at bs (tail bs) (length cs) long) ∙ ap (take (length cs)) same ∙ take_at cs (tail cs) (length cs) refl in
-    same_from_decides (bytes_eq (bs ++ tail bs) (cs ++ tail cs)) (bytes_eq bs cs) whole (λ yes. ap (λ b. b ++ tail b) (part.0 yes), λ same. part.1 (back same))
+-- a frame without payload of this header
+abbrev pub bare_frame : Bool → ℕ → CState → ℕ → List ℕ
+bare_frame wide header c start = frame (member_bytes wide) header c [] start
 
 -- two C-states are the same where their fields are
 same_cstate : (c d : CState) → Decides (is_same_cstate c d) (c ≡ d)
@@ -104,65 +55,24 @@ same_cstate c d = (
       (and_from _ _ (eq-eqb c.slot d.slot (ap (λ (e : CState). e.slot) same)) ((bytes_eq-Decides c.members d.members).1 (ap (λ (e : CState). e.members) same)))),
 )
 
--- so are the bytes that say them
-bytes_eq-front : (wide : Bool) (header : ℕ) (c d : CState) → HasBytes wide c → HasBytes wide d → bytes_eq (front wide header c) (front wide header d) ≡ is_same_cstate c d
-bytes_eq-front wide header c d fit_c fit_d =
-    let told = bytes_eq-Decides (front wide header c) (front wide header d) in
-    let same = same_cstate c d in
-    let back : front wide header c ≡ front wide header d → c ≡ d =
-    λ e. sym (carried-front wide header c [] fit_c) ∙ ap (λ bs. carried (member_bytes wide) (bs ++ [])) e ∙ carried-front wide header d [] fit_d in
-    same_from_decides (bytes_eq (front wide header c) (front wide header d)) (is_same_cstate c d) told (λ yes. ap (front wide header) (same.0 yes), λ e. same.1 (back e))
-
 -- a frame fits the frame of another C-state where it is the same
-fits-same : (wide : Bool) (c d : CState) (start : ℕ) → HasBytes wide c → HasBytes wide d
-    → fits (member_bytes wide) (bare_frame wide bare_header c start) bare_header 0 start d ≡ is_same_cstate c d
-fits-same true c d start fit_c fit_d =
-    bytes_eq-with (word_bytes start) (front true 1 c) (front true 1 d) refl ∙ bytes_eq-front true 1 c d fit_c fit_d
-fits-same false c d start fit_c fit_d =
-    bytes_eq-with (word_bytes start) (front false 1 c) (front false 1 d) refl ∙ bytes_eq-front false 1 c d fit_c fit_d
-
 pub fits-cstate : (list : Medl) (c d : CState) (start : ℕ) → IsValid list → FitsFrame list c → FitsFrame list d
     → fits (member_width list) (bare_frame (is_wide list) bare_header c start) bare_header 0 start d ≡ is_same_cstate c d
-fits-cstate list c d start valid fit_c fit_d = fits-same (is_wide list) c d start (bytes_of list c valid fit_c) (bytes_of list d valid fit_d)
-
--- bytes that end with their word have the right word
-ends_with_word : (tail : List ℕ → List ℕ) (bs : List ℕ) → length (tail bs) ≡ 3
-    → bytes_eq (drop (length (bs ++ tail bs) - 3) (bs ++ tail bs)) (tail (take (length (bs ++ tail bs) - 3) (bs ++ tail bs))) ≡ true
-ends_with_word tail bs three =
-    let cut : length (bs ++ tail bs) - 3 ≡ length bs = omega (arith, length-append bs (tail bs)) in
-    let back = drop_at bs (tail bs) (length bs) refl in
-    let front_of = take_at bs (tail bs) (length bs) refl in
-    (bytes_eq-Decides _ _).1 (ap (λ n. drop n (bs ++ tail bs)) cut ∙ back ∙ ap tail (sym front_of) ∙ sym (ap (λ n. tail (take n (bs ++ tail bs))) cut))
-
--- so a frame has the right word
-has_right_word-front : (wide : Bool) (header start : ℕ) (c : CState) → has_right_word (front wide header c ++ word_bytes start (front wide header c)) start ≡ true
-has_right_word-front wide header start c = ends_with_word (word_bytes start) (front wide header c) refl
+fits-cstate list c d start valid fit_c fit_d =
+    same_from_decides _ _ (fits-explicit (is_wide list) bare_header c d [] start refl (bytes_of list c valid fit_c) (bytes_of list d valid fit_d)) (same_cstate c d)
 
 -- a frame of the list without payload is formed so, and no cold-start frame; and the other way round
-pub is_formed-listed : (wide : Bool) (c : CState) (start : ℕ) → is_formed (member_bytes wide) (bare_frame wide bare_header c start) bare_header 0 start ≡ true
-is_formed-listed true c start = has_right_word-front true 1 start c
-is_formed-listed false c start = has_right_word-front false 1 start c
+cold≢bare : cold_start_header ≢ bare_header
+cold≢bare e = omega (arith, e)
 
-pub is_formed-cold : (wide : Bool) (c : CState) (start : ℕ) → is_formed (member_bytes wide) (bare_frame wide cold_start_header c start) cold_start_header 0 start ≡ true
-is_formed-cold true c start = has_right_word-front true 3 start c
-is_formed-cold false c start = has_right_word-front false 3 start c
+bare≢cold : bare_header ≢ cold_start_header
+bare≢cold e = omega (arith, e)
+
+pub is_formed-listed : (wide : Bool) (c : CState) (start : ℕ) → is_formed (member_bytes wide) (bare_frame wide bare_header c start) bare_header 0 start ≡ true
+is_formed-listed wide c start = is_formed-frame (member_bytes wide) bare_header c [] start
 
 pub is_formed-cold_as_listed : (wide : Bool) (c : CState) (start : ℕ) → is_formed (member_bytes wide) (bare_frame wide cold_start_header c start) bare_header 0 start ≡ false
-is_formed-cold_as_listed true c start = refl
-is_formed-cold_as_listed false c start = refl
-
-pub is_formed-listed_as_cold : (wide : Bool) (c : CState) (start : ℕ) → is_formed (member_bytes wide) (bare_frame wide bare_header c start) cold_start_header 0 start ≡ false
-is_formed-listed_as_cold true c start = refl
-is_formed-listed_as_cold false c start = refl
-
--- a frame carries its C-state
-carried-listed : (wide : Bool) (c : CState) (start : ℕ) → HasBytes wide c → carried (member_bytes wide) (bare_frame wide bare_header c start) ≡ c
-carried-listed true c start fit = carried-front true 1 c (word_bytes start (front true 1 c)) fit
-carried-listed false c start fit = carried-front false 1 c (word_bytes start (front false 1 c)) fit
-
-carried-cold : (wide : Bool) (c : CState) (start : ℕ) → HasBytes wide c → carried (member_bytes wide) (bare_frame wide cold_start_header c start) ≡ c
-carried-cold true c start fit = carried-front true 3 c (word_bytes start (front true 3 c)) fit
-carried-cold false c start fit = carried-front false 3 c (word_bytes start (front false 3 c)) fit
+is_formed-cold_as_listed wide c start = is_formed-other (member_bytes wide) cold_start_header c [] start bare_header 0 cold≢bare
 
 -- a node joins on bytes that carry a C-state and are formed so
 joinable_of : (list : Medl) (c : CState) (bytes : List ℕ) (cold listed : Bool) → IsBareList list → carried (member_width list) bytes ≡ c
@@ -180,8 +90,9 @@ pub joinable-cold : (list : Medl) (c : CState) → IsValid list → IsBareList l
     → joinable list (bare_frame (is_wide list) cold_start_header c list.schedule) ≡ (if is_joinable_state list c && may_start list c.slot then Some c else None)
 joinable-cold list c valid bare fit =
     let wide = is_wide list in
-    joinable_of list c (bare_frame wide cold_start_header c list.schedule) true false bare (carried-cold wide c list.schedule (bytes_of list c valid fit))
-    (is_formed-cold wide c list.schedule) (is_formed-cold_as_listed wide c list.schedule)
+    let bytes = bare_frame wide cold_start_header c list.schedule in
+    joinable_of list c bytes true false bare (carried-frame wide cold_start_header c [] list.schedule refl (bytes_of list c valid fit))
+    (is_formed-frame (member_bytes wide) cold_start_header c [] list.schedule) (is_formed-cold_as_listed wide c list.schedule)
     ∙ ap (λ b. if is_joinable_state list c && b then Some c else None) (or-false (may_start list c.slot))
 
 -- and on a frame of the list
@@ -189,6 +100,7 @@ pub joinable-listed : (list : Medl) (c : CState) → IsValid list → IsBareList
     → joinable list (bare_frame (is_wide list) bare_header c list.schedule) ≡ (if is_joinable_state list c then Some c else None)
 joinable-listed list c valid bare fit =
     let wide = is_wide list in
-    joinable_of list c (bare_frame wide bare_header c list.schedule) false true bare (carried-listed wide c list.schedule (bytes_of list c valid fit))
-    (is_formed-listed_as_cold wide c list.schedule) (is_formed-listed wide c list.schedule)
+    let bytes = bare_frame wide bare_header c list.schedule in
+    joinable_of list c bytes false true bare (carried-frame wide bare_header c [] list.schedule refl (bytes_of list c valid fit))
+    (is_formed-other (member_bytes wide) bare_header c [] list.schedule cold_start_header 0 bare≢cold) (is_formed-listed wide c list.schedule)
     ∙ ap (λ b. if b then Some c else None) (and-true (is_joinable_state list c))
