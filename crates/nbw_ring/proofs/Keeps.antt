@@ -1,5 +1,5 @@
 -- Each step on the words of a ring keeps its rule.
-use Rattle.std.proofs.Common.{◌≡◌, ℕ, zero, suc, ◌+◌, ◌*◌, ◌/◌, ◌%◌, ◌<◌, ◌≤◌, ◌≢◌, ◌⊎◌, Bool, true, false, cond, List, [], ◌∷◌, ◌++◌, length, get_or, set, take, replicate, All, refl, sym, ap, ◌∙◌, subst, ⊎_elim, arith, le_refl, length-append, length-set, get_or-set_other, get_or-set_same, nat_lt, Some}
+use Rattle.std.proofs.Common.{◌≡◌, ℕ, zero, suc, ◌+◌, ◌*◌, ◌/◌, ◌<◌, ◌≤◌, ◌≢◌, Bool, true, false, cond, List, [], ◌∷◌, ◌++◌, length, get_or, set, take, replicate, All, refl, sym, ap, ◌∙◌, subst, ⊎_elim, arith, le_refl, length-append, length-set, get_or-set_other, get_or-set_same, nat_lt, Some}
 use mathlib.Core.Logic.{dite}
 use mathlib.Core.Option.{some, some-injective, some-ne-none, none}
 use native.Mathlib.Decide.{ℕ_discrete}
@@ -9,7 +9,7 @@ use Rattle.std.proofs.lemmas.Bool.{ltb-true}
 use Rattle.std.proofs.lemmas.List.{set-get_or, get_or_push, get_or-replicate, length-replicate}
 use Rattle.std.proofs.lemmas.List.Elements.{All-push}
 use Rattle.std.proofs.lemmas.Option.{slice_get-get_or}
-use Rattle.atomic_table.specs.Table.{State, Me, step, keeps, stepped, opening, Allows, Splits, Joins}
+use Rattle.atomic_table.specs.Table.{State, step, keeps, stepped, opening, Allows, Splits, Joins}
 use Rattle.atomic_table.proofs.Lists.{at_set, at_snoc}
 use Rattle.nbw_ring.specs.declared.view.Shape.{Shape}
 use Rattle.nbw_ring.specs.declared.view.Message.{Message}
@@ -81,7 +81,7 @@ module _ (shape : Shape) where
     buffered = r.buffered;
     long = r.long;
     counted = r.counted;
-        few = r.few;
+    few = r.few;
     wide = r.wide;
     stored = r.stored;
     putting = r.putting;
@@ -119,7 +119,7 @@ module _ (shape : Shape) where
           attempt = λ _. refl;
           got = known.got;
         },
-        ((λ k. (as_reader (with_first c) (sym is k), me.1)), subst (Follows c) (sym is) (e, counter_small s r)),
+        ((λ k. (as_reader (with_first c) (sym is k), me.1)), subst (Follows c) (sym is) record { above_floor = omega arith; above_seen = e; small = counter_small s r }),
       )
 
   -- 5
@@ -190,6 +190,7 @@ module _ (shape : Shape) where
       let c : ℕ = counted_at s in
       let number : ℕ = y.first / 2 in
       let known = reader_at s r id me.0 y is at in
+      let a : 2 * y.floor ≤ y.first = known.floored in
       let b : y.first ≤ y.seen = known.begun in
       let e : y.seen ≤ c = known.loaded in
       let there : number < length r.writing.messages = half_inside (length r.writing.messages) c y.first r.writing.is_open r.counted (omega arith) in
@@ -200,7 +201,7 @@ module _ (shape : Shape) where
         unmoved s r 0 id me.1 (Reader (with_last c y))
             (subst (λ (z : Shape). ReaderKnows shape c r.writing.messages (cond (nat_lt c (limit z number)) (record y { seen = c; floor = number; got = y.got ++ attempt_of y ∷ [] }) (record y { seen = c })))
             (sym known.shaped) (knows_last c r.writing.messages y known whole there long (nat_lt c (limit shape number)) refl)),
-        ((λ k. (as_reader (with_last c) (sym is k), me.1)), subst (Follows c) (sym is) (e, counter_small s r)),
+        ((λ k. (as_reader (with_last c) (sym is k), me.1)), subst (Follows c) (sym is) record { above_floor = omega arith; above_seen = e; small = counter_small s r }),
       )
 
   -- 1
@@ -235,8 +236,8 @@ module _ (shape : Shape) where
               (known.0, ap with_open same, settled_stays c new w.messages w.messages w.joined (omega arith) (λ p m. m) known.2)
               (λ j d other there. others_stay c new r.writer r.writing (with_open r.writing) j (λ e. other (e ∙ sym known.0))
               (λ v k. let low : v.first ≤ v.seen = k.begun in let high : v.seen ≤ c = k.loaded in
-                  reader_stays c new r.writing.messages r.writing.messages v (omega arith)
-                  (half_inside (length r.writing.messages) c v.first r.writing.is_open r.counted (omega arith)) (λ i inside. refl) (λ p m. m) k)
+              reader_stays c new r.writing.messages r.writing.messages v (omega arith)
+              (half_inside (length r.writing.messages) c v.first r.writing.is_open r.counted (omega arith)) (λ i inside. refl) (λ p m. m) k)
               d (r.each_seat j d there)));
         },
         (λ k. (as_writer with_open (sym is k), me.1)),
@@ -277,10 +278,10 @@ module _ (shape : Shape) where
               get_or-set_other s.words i (place shape j l) x 0 (λ e. apart (e ∙ place_is)) ∙ r.stored j l below intact' within;
           putting = λ _ l within. dite (ℕ_discrete l k)
               (λ e. ap (λ z. get_or (set s.words i x) z 0) (ap (place shape number) e ∙ sym place_is)
-                  ∙ (get_or-set_same s.words i x 0 (omega arith) ∙ (sym (get_or_push r.writing.put x 0 k refl) ∙ ap (λ z. get_or (r.writing.put ++ x ∷ []) z 0) (sym e))))
+              ∙ (get_or-set_same s.words i x 0 (omega arith) ∙ (sym (get_or_push r.writing.put x 0 k refl) ∙ ap (λ z. get_or (r.writing.put ++ x ∷ []) z 0) (sym e))))
               (λ apart. let before : l < k = omega arith in
-                  get_or-set_other s.words i (place shape number l) x 0 (λ e. words_apart shape number l k apart (e ∙ place_is))
-                  ∙ (r.putting open_now l before ∙ sym (get_or-append r.writing.put (x ∷ []) 0 l before)));
+              get_or-set_other s.words i (place shape number l) x 0 (λ e. words_apart shape number l k apart (e ∙ place_is))
+              ∙ (r.putting open_now l before ∙ sym (get_or-append r.writing.put (x ∷ []) 0 l before)));
           each_seat = subst (λ (z : ℕ). (j : ℕ) (d : View) → get_elem? (set s.views id (Writer (with_word x w))) j ≡ some d → Knows shape z r.writer (with_word x r.writing) j d) (sym still)
               (seats_stay (Knows shape c r.writer (with_word x r.writing)) s.views id (Writer (with_word x w))
               (known.0, ap (with_word x) same, known.2)
@@ -325,17 +326,17 @@ module _ (shape : Shape) where
           stored = λ i k below intact within.
               get_or-set_other s.words 0 (place shape i k) new 0 (λ e. omega arith)
               ∙ dite (ℕ_discrete i number)
-                  (λ e. ap (λ z. get_or s.words (place shape z k) 0) e ∙ (r.putting open_now k (omega arith) ∙ ap (λ m. get_or m k 0) (sym (newest_is i e))))
-                  (λ apart. let old : i < number = omega arith in
-                      r.stored i k old (omega arith) within ∙ ap (λ m. get_or m k 0) (sym (message-before messages put i old)));
+              (λ e. ap (λ z. get_or s.words (place shape z k) 0) e ∙ (r.putting open_now k (omega arith) ∙ ap (λ m. get_or m k 0) (sym (newest_is i e))))
+              (λ apart. let old : i < number = omega arith in
+              r.stored i k old (omega arith) within ∙ ap (λ m. get_or m k 0) (sym (message-before messages put i old)));
           putting = λ _ k within. absurd (omega arith);
           each_seat = subst (λ (z : ℕ). (j : ℕ) (d : View) → get_elem? (set s.views id (Writer (with_message w))) j ≡ some d → Knows shape z r.writer (with_message r.writing) j d) (sym now)
               (seats_stay (Knows shape new r.writer (with_message r.writing)) s.views id (Writer (with_message w))
               (known.0, ap with_message same, settled_stays c new w.messages (w.messages ++ w.put ∷ []) w.joined (omega arith) (still_message w.messages w.put) known.2)
               (λ j d other there. others_stay c new r.writer r.writing (with_message r.writing) j (λ e. other (e ∙ sym known.0))
               (λ v k. let low : v.first ≤ v.seen = k.begun in let high : v.seen ≤ c = k.loaded in
-                  reader_stays c new messages (messages ++ put ∷ []) v (omega arith)
-                  (half_inside number c v.first r.writing.is_open r.counted (omega arith)) (message-before messages put) (still_message messages put) k)
+              reader_stays c new messages (messages ++ put ∷ []) v (omega arith)
+              (half_inside number c v.first r.writing.is_open r.counted (omega arith)) (message-before messages put) (still_message messages put) k)
               d (r.each_seat j d there)));
         },
         (λ k. (as_writer with_message (sym is k), me.1)),
@@ -384,12 +385,12 @@ module _ (shape : Shape) where
       let both : View = Writer (with_settled y w) in
       let both_is : joined_view v u ≡ both = λ k. joined_view (is k) (it k) in
       let elsewhere : get_elem? s.views other ≡ some u = ⊎_elim (λ (t : (other ≡ id) × (joined_view v u ≡ u)). absurd (apart t.0)) (λ (t : (other ≢ id) × (get_elem? s.views other ≡ some u)). t.1)
-          (at_set s.views id other (joined_view v u) u there) in
+      (at_set s.views id other (joined_view v u) u there) in
       let its = reader_at s r other u y it elsewhere in
       let fresh : IsSettled w.messages c (settled y) = ((λ k d within. subst (λ (z : Writing). IsMessageOf z.messages (get_or y.got k d)) (sym same) (its.got k d within).0), its.loaded) in
       let K = Knows shape c r.writer (with_settled y r.writing) in
       let stays : (j : ℕ) (d : View) → j ≢ id → get_elem? s.views j ≡ some d → K j d = λ j d other there.
-          others_stay c c r.writer r.writing (with_settled y r.writing) j (λ e. other (e ∙ sym known.0)) (λ x k. k) d (r.each_seat j d there) in
+      others_stay c c r.writer r.writing (with_settled y r.writing) j (λ e. other (e ∙ sym known.0)) (λ x k. k) d (r.each_seat j d there) in
       record {
         writer = r.writer;
         writing = with_settled y r.writing;

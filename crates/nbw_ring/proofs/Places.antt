@@ -1,7 +1,5 @@
 -- Where the words of messages lie, and lists of messages.
-use Rattle.std.proofs.Common.{◌≡◌, ℕ, suc, ◌+◌, ◌*◌, ◌/◌, ◌%◌, ◌<◌, ◌≤◌, ◌≢◌, ◌⊎◌, Bool, true, false, List, [], ◌∷◌, ◌++◌, length, get_or, take, refl, sym, ap, ◌∙◌, subst, ⊎_elim, Some, slice_get, arith, length-append}
-use mathlib.Core.Logic.{dite}
-use native.Mathlib.Decide.{ℕ_discrete}
+use Rattle.std.proofs.Common.{◌≡◌, ℕ, suc, ◌+◌, ◌*◌, ◌/◌, ◌%◌, ◌<◌, ◌≤◌, ◌≢◌, ◌⊎◌, Bool, true, false, List, [], ◌∷◌, ◌++◌, length, get_or, take, refl, sym, ap, ◌∙◌, ⊎_elim, Some, arith, length-append}
 use Rattle.std.proofs.Math.Nat.{mul-le-mul_right, suc-mul, mod-lt}
 use Rattle.std.proofs.Math.ListN.{get_or-append}
 use Rattle.std.proofs.lemmas.Bool.{cases_order}
@@ -10,7 +8,7 @@ use Rattle.std.proofs.lemmas.Option.{slice_get-get_or, slice_get_within, get_or_
 use Rattle.atomic_table.proofs.Lists.{one_turn}
 use Rattle.nbw_ring.specs.declared.view.Shape.{Shape}
 use Rattle.nbw_ring.specs.declared.view.Message.{Message}
-use Rattle.nbw_ring.specs.Numbers.{limit, place, message_at, IsMessageOf, odd_part}
+use Rattle.nbw_ring.specs.Numbers.{place, message_at, IsMessageOf, odd_part}
 
 pub odd_part_small : (b : Bool) → odd_part b ≤ 1
 odd_part_small true = omega arith
@@ -31,8 +29,8 @@ rows_apart : (r q width k j : ℕ) → r ≢ q → k < width → j < width → 1
 rows_apart r q width k j apart inside within same = ⊎_elim
     (λ (e : r ≡ q). apart e)
     (λ (o : (r < q) ⊎ (q < r)). ⊎_elim
-        (λ (h : r < q). let f = row_further r q width h in absurd (omega arith))
-        (λ (h : q < r). let f = row_further q r width h in absurd (omega arith)) o)
+    (λ (h : r < q). let f = row_further r q width h in absurd (omega arith))
+    (λ (h : q < r). let f = row_further q r width h in absurd (omega arith)) o)
     (cases_order r q)
 
 -- a number in [n + 1 - B, n] has another buffer than n + 1

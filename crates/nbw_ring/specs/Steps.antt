@@ -1,7 +1,6 @@
 -- What each step makes of what its thread knows.
-use Rattle.std.specs.Prelude.{◌≡◌, ℕ, ◌+◌, ◌-◌, ◌*◌, ◌/◌, ◌<◌, ◌≤◌, Bool, true, false, List, [], ◌∷◌, ◌++◌, All, length, nat_lt, if◌then◌else◌}
+use Rattle.std.specs.Prelude.{◌≡◌, ℕ, ◌+◌, ◌*◌, ◌/◌, ◌≤◌, true, false, [], ◌∷◌, ◌++◌, All, length, nat_lt, if◌then◌else◌}
 use Rattle.atomic_table.specs.Table.{Me, Step}
-use Rattle.nbw_ring.specs.declared.view.Shape.{Shape}
 use Rattle.nbw_ring.specs.declared.view.Message.{Message}
 use Rattle.nbw_ring.specs.declared.view.Settled.{Settled}
 use Rattle.nbw_ring.specs.declared.view.Writing.{Writing}
@@ -80,10 +79,15 @@ joined_view (Writer w) Spent = Writer w
 joined_view (Reader v) other = Reader v
 joined_view Spent other = Spent
 
--- the counter is not below any that the reader loaded before, and twice a number near it fits a word
+-- a load of the counter is not below what the reader knows of it, and twice a number near it fits a word
+pub record IsLater (counter : ℕ) (v : Reading) : Type 0 where
+  pub above_floor : 2 * v.floor ≤ counter
+  pub above_seen : v.seen ≤ counter
+  pub small : counter ≤ 2 * most_number + 1
+
 abbrev pub Follows : ℕ → View → Type 0
 Follows counter (Writer w) = Unit {0}
-Follows counter (Reader v) = (v.seen ≤ counter) × (counter ≤ 2 * most_number + 1)
+Follows counter (Reader v) = IsLater counter v
 Follows counter Spent = Unit {0}
 
 -- what the load of the counter tells the writer once a reader was joined
