@@ -65,23 +65,13 @@ impl Ring {
         requires room { newest_number writer.old.messages < most_number }
         ensures { writer.new ≡ record writer.old { messages = writer.old.messages ++ words.now ∷ [] } }
     {
+        let cells = &self.table.shared;
         let number = writer.number + 1;
         gate.pass(1);
-        self.table
-            .shared
-            .store::<Begin>(&mut writer.seat, 0, 2 * number - 1);
-        put_words(
-            &self.table.shared,
-            &mut writer.seat,
-            self.shape,
-            number,
-            words,
-            gate,
-        );
+        cells.store::<Begin>(&mut writer.seat, 0, 2 * number - 1);
+        put_words(cells, &mut writer.seat, self.shape, number, words, gate);
         gate.pass(3);
-        self.table
-            .shared
-            .store::<End>(&mut writer.seat, 0, 2 * number);
+        cells.store::<End>(&mut writer.seat, 0, 2 * number);
         writer.number = number;
     }
 
@@ -119,28 +109,20 @@ impl Ring {
         ensures got { OnGot reader.old reader.new result }
         ensures overrun { OnOverrun reader.old reader.new result }
     {
+        let cells = &self.table.shared;
         gate.pass(4);
-        let begin = self.table.shared.load::<FirstLoad>(&mut reader.seat, 0);
+        let begin = cells.load::<FirstLoad>(&mut reader.seat, 0);
         let number = begin / 2;
         let limit = 2 * (number + self.shape.buffers as u64) - 1;
         if begin >= limit {
-            return Try::Overrun {
-                number,
-                begin,
-                end: begin,
-            };
+            let end = begin;
+            return Try::Overrun { number, begin, end };
         }
         let kept = reader.words.len();
-        load_words(
-            &self.table.shared,
-            &mut reader.seat,
-            self.shape,
-            number,
-            &mut reader.words,
-            gate,
-        );
+        let (seat, words) = (&mut reader.seat, &mut reader.words);
+        load_words(cells, seat, self.shape, number, words, gate);
         gate.pass(6);
-        let end = self.table.shared.load::<LastLoad>(&mut reader.seat, 0);
+        let end = cells.load::<LastLoad>(&mut reader.seat, 0);
         if end >= limit {
             reader.words.truncate(kept);
             return Try::Overrun { number, begin, end };
@@ -189,10 +171,9 @@ impl Ring {
             spare: _,
         } = reader;
         let receipts = pair_up(self.alloc, &numbers, &words, width)?;
-        self.table
-            .shared
-            .join_seat::<Settle>(&mut writer.seat, seat);
-        self.table.shared.load::<SettleLoad>(&mut writer.seat, 0);
+        let cells = &self.table.shared;
+        cells.join_seat::<Settle>(&mut writer.seat, seat);
+        cells.load::<SettleLoad>(&mut writer.seat, 0);
         Ok(receipts)
     }
 }
