@@ -14,7 +14,7 @@ use Rattle.nbw_ring.specs.Numbers.{newest_number, limit, place, IsMessageOf, odd
 use Rattle.nbw_ring.specs.Rule.{IsSettled, Kept}
 use Rattle.nbw_ring.specs.Seats.{writing_of, reading_of, RingSeat, IsTableOf, ring_of, writer_state, reader_state}
 use Rattle.nbw_ring.specs.States.{RingState, WriterState, ReaderState}
-use Rattle.nbw_ring.specs.Steps.{Sat, as_writer, as_reader, with_first, attempt_of, with_last, settled, with_settled, joined_view, Confirms, tells_put, tells_word_load}
+use Rattle.nbw_ring.specs.Steps.{Sat, with_open, as_writer, as_reader, with_first, attempt_of, with_last, reading_settlement, with_settled, joined_view, Confirms, tells_put, tells_word_load}
 use Rattle.nbw_ring.proofs.Places.{place_inside}
 use Rattle.nbw_ring.proofs.Keeps.{puts, word_loads}
 
@@ -73,6 +73,13 @@ pub got_last : (counter : ℕ) (y : Reading) → counter < limit y.shape (y.firs
     → with_last counter y ≡ record y { seen = counter; floor = y.first / 2; got = y.got ++ attempt_of y ∷ [] }
 got_last counter y below = ap (λ (b : Bool). cond b (record y { seen = counter; floor = y.first / 2; got = y.got ++ attempt_of y ∷ [] }) (record y { seen = counter })) (lt-ltb counter (limit y.shape (y.first / 2)) below)
 
+-- a write whose words were put
+pub filled_next : (m m' m'' : Sat) (w : Writing) (words : List ℕ) → m ≡ (Writer w, []) → m' ≡ (as_writer with_open m.0, m.1) → m'' ≡ (Writer (record (writing_of m'.0) { put = words }), [])
+    → m'' ≡ (Writer (record (with_open w) { put = words }), [])
+filled_next m m' m'' w words is begun filled =
+    let opened : m' ≡ (Writer (with_open w), []) = writer_next with_open m m' w is begun in
+    filled ∙ ap (λ (z : Writing). (Writer (record z { put = words }), [])) (ap (λ (z : Sat). writing_of z.0) opened)
+
 -- an attempt whose words were loaded
 pub loaded_next : (begin : ℕ) (m m' m'' : Sat) (y : Reading) (words : List ℕ) → m ≡ (Reader y, []) → m' ≡ (as_reader (with_first begin) m.0, m.1) → m'' ≡ (Reader (record (reading_of m'.0) { words = words }), [])
     → m'' ≡ (Reader (record (with_first begin y) { words = words }), [])
@@ -89,9 +96,9 @@ pub told : (found : ℕ) (w : Writing) (y : Reading) → w.is_open ≡ false →
     → All (IsMessageOf w.messages) y.got × (y.seen ≤ 2 * newest_number w.messages)
 told found w y closed confirmed =
     let n : ℕ = length w.joined in
-    let longer : n < length (w.joined ++ settled y ∷ []) = omega (arith, length-append w.joined (settled y ∷ [])) in
-    let last : get_or (w.joined ++ settled y ∷ []) n (settled y) ≡ settled y = get_or_push w.joined (settled y) (settled y) n refl in
-    let its : IsSettled w.messages found (settled y) = subst (IsSettled w.messages found) last (confirmed.1 n (settled y) longer) in
+    let longer : n < length (w.joined ++ reading_settlement y ∷ []) = omega (arith, length-append w.joined (reading_settlement y ∷ [])) in
+    let last : get_or (w.joined ++ reading_settlement y ∷ []) n (reading_settlement y) ≡ reading_settlement y = get_or_push w.joined (reading_settlement y) (reading_settlement y) n refl in
+    let its : IsSettled w.messages found (reading_settlement y) = subst (IsSettled w.messages found) last (confirmed.1 n (reading_settlement y) longer) in
     let counted : found + 2 ≡ 2 * length w.messages + odd_part w.is_open = confirmed.0 in
     let shut : odd_part w.is_open ≡ 0 = ap odd_part closed in
     let low : y.seen ≤ found = its.1 in

@@ -13,14 +13,14 @@ use Rattle.atomic_table.specs.Table.{State, step, keeps, stepped, opening, Allow
 use Rattle.atomic_table.proofs.Lists.{at_set, at_snoc}
 use Rattle.nbw_ring.specs.declared.view.Shape.{Shape}
 use Rattle.nbw_ring.specs.declared.view.Message.{Message}
-use Rattle.nbw_ring.specs.declared.view.Settled.{Settled}
+use Rattle.nbw_ring.specs.declared.view.Settlement.{Settlement}
 use Rattle.nbw_ring.specs.declared.view.Writing.{Writing}
 use Rattle.nbw_ring.specs.declared.view.Reading.{Reading}
 use Rattle.nbw_ring.specs.declared.view.View.{View}
 use Rattle.nbw_ring.specs.declared.view.View.TheVariants.{Writer, Reader, Spent}
 use Rattle.nbw_ring.specs.Numbers.{most_number, newest_number, limit, place, message_at, IsMessageOf, odd_part}
-use Rattle.nbw_ring.specs.Rule.{IsSettled, ReaderKnows, Knows, Kept, blank, first_view}
-use Rattle.nbw_ring.specs.Steps.{Sat, with_open, with_word, with_message, with_first, with_loaded, attempt_of, with_last, lent, settled, with_settled, as_writer, as_reader, lent_view, joined_view, Follows, Confirms, tells_begin, tells_put, tells_end, tells_first_load, tells_word_load, tells_last_load, tells_settle_load}
+use Rattle.nbw_ring.specs.Rule.{IsSettled, ReaderKnows, Knows, Kept, first_writing, first_view}
+use Rattle.nbw_ring.specs.Steps.{Sat, with_open, with_word, with_new_message, with_first, with_loaded, attempt_of, with_last, new_reading, reading_settlement, with_settled, as_writer, as_reader, lent_view, joined_view, Follows, Confirms, tells_begin, tells_put, tells_end, tells_first_load, tells_word_load, tells_last_load, tells_settle_load}
 use Rattle.nbw_ring.proofs.Places.{odd_part_small, place_inside, places_apart, words_apart, message-before, message-newest, still_message, attempt_more, attempt_whole, half_inside}
 
 abbrev St : Type 0
@@ -59,7 +59,7 @@ module _ (shape : Shape) where
     got = λ k d within. let g = known.got k d within in (still (get_or v.got k d) g.0, g.1);
   }
 
-  settled_stays : (c c' : ℕ) (messages messages' : List (List ℕ)) (joined : List Settled) → c ≤ c' → ((p : Message) → IsMessageOf messages p → IsMessageOf messages' p)
+  settled_stays : (c c' : ℕ) (messages messages' : List (List ℕ)) (joined : List Settlement) → c ≤ c' → ((p : Message) → IsMessageOf messages p → IsMessageOf messages' p)
       → All (IsSettled messages c) joined → All (IsSettled messages' c') joined
   settled_stays c c' messages messages' joined rises still known k d within = let g = known k d within in
       let low : (get_or joined k d).seen ≤ c = g.1 in ((λ i e inside. still _ (g.0 i e inside)), omega arith)
@@ -309,12 +309,12 @@ module _ (shape : Shape) where
       let now : get_or (set s.words 0 new) 0 0 ≡ new = get_or-set_same s.words 0 new 0 (omega arith) in
       let more : length (messages ++ put ∷ []) ≡ number + 1 = omega (arith, length-append messages (put ∷ [])) in
       let newest_is : (i : ℕ) → i ≡ number → message_at (messages ++ put ∷ []) i ≡ put = λ i e. ap (message_at (messages ++ put ∷ [])) e ∙ message-newest messages put in (
-        Writer (with_message w),
+        Writer (with_new_message w),
         keeps,
         tt,
         record {
           writer = r.writer;
-          writing = with_message r.writing;
+          writing = with_new_message r.writing;
           shaped = r.shaped;
           buffered = r.buffered;
           long = length-set s.words 0 new ∙ long;
@@ -330,16 +330,16 @@ module _ (shape : Shape) where
               (λ apart. let old : i < number = omega arith in
               r.stored i k old (omega arith) within ∙ ap (λ m. get_or m k 0) (sym (message-before messages put i old)));
           putting = λ _ k within. absurd (omega arith);
-          each_seat = subst (λ (z : ℕ). (j : ℕ) (d : View) → get_elem? (set s.views id (Writer (with_message w))) j ≡ some d → Knows shape z r.writer (with_message r.writing) j d) (sym now)
-              (seats_stay (Knows shape new r.writer (with_message r.writing)) s.views id (Writer (with_message w))
-              (known.0, ap with_message same, settled_stays c new w.messages (w.messages ++ w.put ∷ []) w.joined (omega arith) (still_message w.messages w.put) known.2)
-              (λ j d other there. others_stay c new r.writer r.writing (with_message r.writing) j (λ e. other (e ∙ sym known.0))
+          each_seat = subst (λ (z : ℕ). (j : ℕ) (d : View) → get_elem? (set s.views id (Writer (with_new_message w))) j ≡ some d → Knows shape z r.writer (with_new_message r.writing) j d) (sym now)
+              (seats_stay (Knows shape new r.writer (with_new_message r.writing)) s.views id (Writer (with_new_message w))
+              (known.0, ap with_new_message same, settled_stays c new w.messages (w.messages ++ w.put ∷ []) w.joined (omega arith) (still_message w.messages w.put) known.2)
+              (λ j d other there. others_stay c new r.writer r.writing (with_new_message r.writing) j (λ e. other (e ∙ sym known.0))
               (λ v k. let low : v.first ≤ v.seen = k.begun in let high : v.seen ≤ c = k.loaded in
               reader_stays c new messages (messages ++ put ∷ []) v (omega arith)
               (half_inside number c v.first r.writing.is_open r.counted (omega arith)) (message-before messages put) (still_message messages put) k)
               d (r.each_seat j d there)));
         },
-        (λ k. (as_writer with_message (sym is k), me.1)),
+        (λ k. (as_writer with_new_message (sym is k), me.1)),
       )
 
   -- a reader is lent
@@ -352,7 +352,7 @@ module _ (shape : Shape) where
       let counted : c + 2 ≡ 2 * length r.writing.messages + odd_part r.writing.is_open = r.counted in
       let count : length w.messages ≡ length r.writing.messages = ap (λ (x : Writing). length x.messages) same in
       let K = Knows shape c r.writer r.writing in
-      let fresh : ReaderKnows shape c r.writing.messages (lent w) = record {
+      let fresh : ReaderKnows shape c r.writing.messages (new_reading w) = record {
         shaped = ap (λ (x : Writing). x.shape) same ∙ r.shaped;
         floored = le_refl (2 * newest_number w.messages);
         begun = le_refl (2 * newest_number w.messages);
@@ -387,7 +387,7 @@ module _ (shape : Shape) where
       let elsewhere : get_elem? s.views other ≡ some u = ⊎_elim (λ (t : (other ≡ id) × (joined_view v u ≡ u)). absurd (apart t.0)) (λ (t : (other ≢ id) × (get_elem? s.views other ≡ some u)). t.1)
       (at_set s.views id other (joined_view v u) u there) in
       let its = reader_at s r other u y it elsewhere in
-      let fresh : IsSettled w.messages c (settled y) = ((λ k d within. subst (λ (z : Writing). IsMessageOf z.messages (get_or y.got k d)) (sym same) (its.got k d within).0), its.loaded) in
+      let fresh : IsSettled w.messages c (reading_settlement y) = ((λ k d within. subst (λ (z : Writing). IsMessageOf z.messages (get_or y.got k d)) (sym same) (its.got k d within).0), its.loaded) in
       let K = Knows shape c r.writer (with_settled y r.writing) in
       let stays : (j : ℕ) (d : View) → j ≢ id → get_elem? s.views j ≡ some d → K j d = λ j d other there.
       others_stay c c r.writer r.writing (with_settled y r.writing) j (λ e. other (e ∙ sym known.0)) (λ x k. k) d (r.each_seat j d there) in
@@ -404,7 +404,7 @@ module _ (shape : Shape) where
         putting = r.putting;
         each_seat = seats_stay K (set s.views id (joined_view v u)) other Spent tt
             (λ j d _. seats_stay K s.views id (joined_view v u)
-            (subst (K id) (sym both_is) (known.0, ap (with_settled y) same, All-push (IsSettled w.messages c) w.joined (settled y) known.2 fresh))
+            (subst (K id) (sym both_is) (known.0, ap (with_settled y) same, All-push (IsSettled w.messages c) w.joined (reading_settlement y) known.2 fresh))
             stays j d);
       }
 
@@ -430,20 +430,20 @@ module _ (shape : Shape) where
       let zero_at : (i : ℕ) → i < size → get_or words i 0 ≡ 0 = λ i inside. ap (λ l. get_or l i 0) are ∙ get_or-replicate size i 0 0 inside in
       let at_rest : get_or words 0 0 ≡ 0 = zero_at 0 (omega arith) in
       let only : (i : ℕ) → i < 1 → i ≡ 0 = λ i small. omega arith in
-      let knows : Knows shape (get_or words 0 0) 0 (blank shape) 0 (first_view shape) = (refl, refl, λ k d within. absurd (omega arith)) in
+      let zero_word : (i k : ℕ) → i < 1 → k < shape.width → get_or (message_at (zeros ∷ []) i) k 0 ≡ 0 = λ i k below within.
+      ap (λ z. get_or (message_at (zeros ∷ []) z) k 0) (only i below) ∙ get_or-replicate shape.width k 0 0 within in
+      let knows : Knows shape (get_or words 0 0) 0 (first_writing shape) 0 (first_view shape) = (refl, refl, λ k d within. absurd (omega arith)) in
       record {
         writer = 0;
-        writing = blank shape;
+        writing = first_writing shape;
         shaped = refl;
         buffered = some_buffer;
         long = long;
         counted = ap (λ z. z + 2) at_rest;
         few = omega arith;
         wide = λ i below. ap (λ z. length (message_at (zeros ∷ []) z)) (only i below) ∙ length-replicate shape.width 0;
-        stored = λ i k below intact within.
-            zero_at (place shape i k) (place_inside shape i k some_buffer within)
-            ∙ (sym (get_or-replicate shape.width k 0 0 within) ∙ ap (λ z. get_or (message_at (zeros ∷ []) z) k 0) (sym (only i below)));
+        stored = λ i k below intact within. zero_at (place shape i k) (place_inside shape i k some_buffer within) ∙ sym (zero_word i k below within);
         putting = λ _ k within. absurd (omega arith);
         each_seat = λ j d there. let t = at_single (first_view shape) d j there in
-            subst (λ (z : ℕ × View). Knows shape (get_or words 0 0) 0 (blank shape) z.0 z.1) (λ k. (sym t.0 k, t.1 k)) knows;
+            subst (λ (z : ℕ × View). Knows shape (get_or words 0 0) 0 (first_writing shape) z.0 z.1) (λ k. (sym t.0 k, t.1 k)) knows;
       }

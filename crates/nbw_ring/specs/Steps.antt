@@ -2,7 +2,7 @@
 use Rattle.std.specs.Prelude.{◌≡◌, ℕ, ◌+◌, ◌*◌, ◌/◌, ◌≤◌, true, false, [], ◌∷◌, ◌++◌, All, length, nat_lt, if◌then◌else◌}
 use Rattle.atomic_table.specs.Table.{Me, Step}
 use Rattle.nbw_ring.specs.declared.view.Message.{Message}
-use Rattle.nbw_ring.specs.declared.view.Settled.{Settled}
+use Rattle.nbw_ring.specs.declared.view.Settlement.{Settlement}
 use Rattle.nbw_ring.specs.declared.view.Writing.{Writing}
 use Rattle.nbw_ring.specs.declared.view.Reading.{Reading}
 use Rattle.nbw_ring.specs.declared.view.View.{View}
@@ -23,8 +23,8 @@ abbrev pub with_word : ℕ → Writing → Writing
 with_word x w = record w { put = w.put ++ x ∷ [] }
 
 -- 3 end: the words become a message
-abbrev pub with_message : Writing → Writing
-with_message w = record w { messages = w.messages ++ w.put ∷ []; is_open = false; put = [] }
+abbrev pub with_new_message : Writing → Writing
+with_new_message w = record w { messages = w.messages ++ w.put ∷ []; is_open = false; put = [] }
 
 -- 4 first load: an attempt begins
 abbrev pub with_first : ℕ → Reading → Reading
@@ -46,15 +46,23 @@ with_last counter v =
     else record v { seen = counter }
 
 -- a new reader, whose floor is the writer's number
-abbrev pub lent : Writing → Reading
-lent w = record { shape = w.shape; floor = newest_number w.messages; seen = 2 * newest_number w.messages; first = 2 * newest_number w.messages; tries = 0; words = []; got = [] }
+abbrev pub new_reading : Writing → Reading
+new_reading w = record {
+  shape = w.shape;
+  floor = newest_number w.messages;
+  seen = 2 * newest_number w.messages;
+  first = 2 * newest_number w.messages;
+  tries = 0;
+  words = [];
+  got = [];
+}
 
 -- what is settled of a reader
-abbrev pub settled : Reading → Settled
-settled v = record { pairs = v.got; seen = v.seen; tries = v.tries }
+abbrev pub reading_settlement : Reading → Settlement
+reading_settlement v = record { pairs = v.got; seen = v.seen; tries = v.tries }
 
 abbrev pub with_settled : Reading → Writing → Writing
-with_settled v w = record w { joined = w.joined ++ settled v ∷ [] }
+with_settled v w = record w { joined = w.joined ++ reading_settlement v ∷ [] }
 
 -- a change of what the writer knows, and one of what a reader knows
 abbrev pub as_writer : (Writing → Writing) → View → View
@@ -68,7 +76,7 @@ as_reader f (Reader v) = Reader (f v)
 as_reader f Spent = Spent
 
 abbrev pub lent_view : View → View
-lent_view (Writer w) = Reader (lent w)
+lent_view (Writer w) = Reader (new_reading w)
 lent_view (Reader v) = Spent
 lent_view Spent = Spent
 
@@ -92,7 +100,9 @@ Follows counter Spent = Unit {0}
 
 -- what the load of the counter tells the writer once a reader was joined
 abbrev pub Confirms : ℕ → View → Type 0
-Confirms counter (Writer w) = (counter + 2 ≡ 2 * length w.messages + odd_part w.is_open) × All (IsSettled w.messages counter) w.joined
+Confirms counter (Writer w) =
+    (counter + 2 ≡ 2 * length w.messages + odd_part w.is_open)
+    × All (IsSettled w.messages counter) w.joined
 Confirms counter (Reader v) = Unit {0}
 Confirms counter Spent = Unit {0}
 
@@ -104,7 +114,7 @@ abbrev pub tells_put : Step (Unit {0}) → Sat → ℕ → Sat → Type 0
 tells_put st m found m' = m' ≡ (as_writer (with_word st.first) m.0, m.1)
 
 abbrev pub tells_end : Step (Unit {0}) → Sat → ℕ → Sat → Type 0
-tells_end st m found m' = m' ≡ (as_writer with_message m.0, m.1)
+tells_end st m found m' = m' ≡ (as_writer with_new_message m.0, m.1)
 
 abbrev pub tells_first_load : Step (Unit {0}) → Sat → ℕ → Sat → Type 0
 tells_first_load st m found m' = (m' ≡ (as_reader (with_first found) m.0, m.1)) × Follows found m.0

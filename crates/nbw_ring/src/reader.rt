@@ -51,7 +51,8 @@ impl Reader {
     /// The words of the newest message that it got.
     pub fn words(&self) -> &[u64]
         requires { 0 < length self.now.got }
-        ensures { IsSomeAnd (slice_get self.now.got (length self.now.got - 1)) (λ pair. pair.words ≡ result.now) }
+        ensures { let newest = slice_get self.now.got (length self.now.got - 1) in
+            IsSomeAnd newest (λ pair. pair.words ≡ result.now) }
     {
         &self.words[self.words.len() - self.width..]
     }

@@ -1,7 +1,7 @@
 //! A ring.
-ghost use Rattle.std.specs.Prelude.{◌≡◌, ◌+◌, ◌*◌, ◌/◌, ◌<◌, ◌≤◌, [], ◌∷◌, ◌++◌, All, length, replicate, IfOk, OnOk, OnErr};
+ghost use Rattle.std.specs.Prelude.{◌≡◌, ◌+◌, ◌*◌, ◌/◌, ◌<◌, ◌≤◌, All, length, IfOk, OnOk, OnErr};
 ghost use Rattle.nbw_ring.specs.Numbers.{most_number, newest_number, limit, IsMessageOf};
-ghost use Rattle.nbw_ring.specs.States.{new_reader, settled_of};
+ghost use Rattle.nbw_ring.specs.States.{new_writer, new_reader, with_message, with_joined};
 ghost use Rattle.nbw_ring.specs.Attempts.{number_of, Gets, OnGot, OnOverrun};
 
 use crate::plays::{Begin, End, FirstLoad, LastLoad, Lend, Settle, SettleLoad};
@@ -43,7 +43,7 @@ impl Ring {
         requires width { (0 < width) × (width ≤ 32) }
         requires buffers { (0 < buffers) × (buffers ≤ 16) }
         ensures shape { IfOk result (λ r. r.0.shape ≡ record { width = width; buffers = buffers }) }
-        ensures writer { IfOk result (λ r. r.1 ≡ record { ring = r.0; messages = replicate width 0 ∷ []; joined = [] }) }
+        ensures writer { IfOk result (λ r. r.1 ≡ new_writer r.0) }
     {
         let shape = Shape { width, buffers };
         let words = vec![in alloc; 0u64; 1 + buffers * width]?;
@@ -63,7 +63,7 @@ impl Ring {
         requires own { writer.old.ring ≡ self.now }
         requires width { length words.now ≡ self.now.shape.width }
         requires room { newest_number writer.old.messages < most_number }
-        ensures { writer.new ≡ record writer.old { messages = writer.old.messages ++ words.now ∷ [] } }
+        ensures { writer.new ≡ with_message writer.old words.now }
     {
         let cells = &self.table.shared;
         let number = writer.number + 1;
@@ -160,7 +160,7 @@ impl Ring {
         ensures pairs { IfOk result (λ r. r ≡ reader.got) }
         ensures whole { OnOk result (All (IsMessageOf writer.old.messages) reader.got) }
         ensures seen { OnOk result (reader.seen ≤ 2 * newest_number writer.old.messages) }
-        ensures joined { OnOk result (writer.new ≡ record writer.old { joined = writer.old.joined ++ settled_of reader ∷ [] }) }
+        ensures joined { OnOk result (writer.new ≡ with_joined writer.old reader) }
         ensures err { OnErr result (writer.new ≡ writer.old) }
     {
         let Reader {

@@ -1,8 +1,8 @@
 //! The words of a ring, and the two loops over the words of a message.
-ghost use Rattle.std.specs.Prelude.{◌≡◌, ◌+◌, ◌/◌, ◌≤◌, true, [], ◌++◌, length, vec_len, vec_capacity};
+ghost use Rattle.std.specs.Prelude.{◌≡◌, ◌+◌, ◌≤◌, [], ◌++◌, length, vec_len, vec_capacity};
 ghost use Rattle.nbw_ring.specs.declared.view.View.TheVariants.{Writer, Reader};
 ghost use Rattle.nbw_ring.specs.Numbers.{place};
-ghost use Rattle.nbw_ring.specs.Seats.{writing_of, reading_of, IsWriterSeat, IsReaderSeat, IsShape, IsTableOf};
+ghost use Rattle.nbw_ring.specs.Seats.{writing_of, reading_of, IsWriterSeat, IsReaderSeat, IsShape, IsTableOf, IsWriting, IsAttempting};
 
 use crate::plays::{Put, RingRule, WordLoad};
 use crate::view::{Shape, View};
@@ -36,9 +36,10 @@ pub(crate) fn put_words<G: Gate>(
     words: &[u64],
     gate: &G,
 )
-    requires table { (seat.old.table_id ≡ cells.now.table_id) × IsTableOf shape cells.now.key cells.now.table_id }
+    requires seat { seat.old.table_id ≡ cells.now.table_id }
+    requires table { IsTableOf shape cells.now.key cells.now.table_id }
     requires writer { IsWriterSeat seat.old }
-    requires open { ((writing_of seat.old.me.0).is_open ≡ true) × ((writing_of seat.old.me.0).put ≡ []) × (length (writing_of seat.old.me.0).messages ≡ number) }
+    requires open { IsWriting (writing_of seat.old.me.0) number }
     requires width { length words.now ≡ shape.width }
     ensures table { seat.new.table_id ≡ seat.old.table_id }
     ensures seat { seat.new.me ≡ (Writer (record (writing_of seat.old.me.0) { put = words.now }), []) }
@@ -59,11 +60,14 @@ pub(crate) fn load_words<G: Gate>(
     words: &mut Vec<u64>,
     gate: &G,
 )
-    requires table { (seat.old.table_id ≡ cells.now.table_id) × IsTableOf shape cells.now.key cells.now.table_id }
-    requires reader { IsReaderSeat seat.old × ((reading_of seat.old.me.0).words ≡ []) × ((reading_of seat.old.me.0).first / 2 ≡ number) }
+    requires seat { seat.old.table_id ≡ cells.now.table_id }
+    requires table { IsTableOf shape cells.now.key cells.now.table_id }
+    requires reader { IsReaderSeat seat.old }
+    requires begun { IsAttempting (reading_of seat.old.me.0) number }
     requires room { vec_len words.old + shape.width ≤ vec_capacity words.old }
     ensures table { seat.new.table_id ≡ seat.old.table_id }
-    ensures seat { seat.new.me ≡ (Reader (record (reading_of seat.old.me.0) { words = (reading_of seat.new.me.0).words }), []) }
+    ensures seat { let words = (reading_of seat.new.me.0).words in
+        seat.new.me ≡ (Reader (record (reading_of seat.old.me.0) { words = words }), []) }
     ensures loaded { words.new.items ≡ words.old.items ++ (reading_of seat.new.me.0).words }
     ensures wide { length (reading_of seat.new.me.0).words ≡ shape.width }
     ensures more { vec_len words.new ≡ vec_len words.old + shape.width }

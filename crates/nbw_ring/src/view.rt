@@ -18,7 +18,7 @@ pub struct Message {
 
 /// What was settled of one reader: the pairs that it got, the newest counter that it loaded, and how
 /// many attempts it began.
-pub struct Settled {
+pub struct Settlement {
     pub pairs: LinkedList<Message>,
     pub seen: u64,
     pub tries: u64,
@@ -34,7 +34,7 @@ pub struct Writing {
     /// The words put since the write began.
     pub put: LinkedList<u64>,
     /// What was settled, reader after reader.
-    pub joined: LinkedList<Settled>,
+    pub joined: LinkedList<Settlement>,
 }
 
 /// What a reader knows.

@@ -14,17 +14,15 @@ pub struct Writer {
 }
 
 impl Model for Writer {
-    ghost use Rattle.std.specs.Prelude.{◌≡◌, ◌+◌, ◌≤◌, false, length};
     ghost use Rattle.nbw_ring.specs.States.{WriterState};
 
     ghost Value = { WriterState };
 
-    ghost use Rattle.nbw_ring.specs.Numbers.{most_number};
-    ghost use Rattle.nbw_ring.specs.Seats.{writing_of, writer_state, IsWriterSeat};
+    ghost use Rattle.nbw_ring.specs.Seats.{writer_state, IsAtRest};
 
     ghost view = { λ w. writer_state w.seat };
 
-    ghost invariant = { λ w. IsWriterSeat w.seat × ((writing_of w.seat.me.0).is_open ≡ false) × (w.number + 1 ≡ length (writing_of w.seat.me.0).messages) };
+    ghost invariant = { λ w. IsAtRest w.seat w.number };
 }
 
 impl Writer {

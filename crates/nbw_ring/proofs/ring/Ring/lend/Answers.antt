@@ -13,5 +13,5 @@ split_seat-seat-requires c =
     let words = c.self.invariant.2 in (
       at.0,
       omega arith,
-      lends table.key seat.id seat.me.0 (writing_of seat.me.0) (view_is seat.me (Writer (writing_of seat.me.0)) c.writer.invariant.0) c.writer.invariant.1,
+      lends table.key seat.id seat.me.0 (writing_of seat.me.0) (view_is seat.me (Writer (writing_of seat.me.0)) c.writer.invariant.seated) c.writer.invariant.closed,
     )

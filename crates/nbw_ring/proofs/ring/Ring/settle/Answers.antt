@@ -32,7 +32,7 @@ join_seat-requires c =
       beside.0,
       ap (λ m. m.1) c.reader.invariant.seated,
       omega arith,
-      joins table.key seat.id seat.me.0 w other.id other.me.0 y (view_is seat.me (Writer w) c.writer.invariant.0) (view_is other.me (Reader y) c.reader.invariant.seated),
+      joins table.key seat.id seat.me.0 w other.id other.me.0 y (view_is seat.me (Writer w) c.writer.invariant.seated) (view_is other.me (Reader y) c.reader.invariant.seated),
     )
 
 pub load-requires : goal.load-requires
@@ -44,7 +44,7 @@ load-requires c =
     let w : Writing = writing_of seat.me.0 in
     let y : Reading = reading_of other.me.0 in
     let at = writer_table seat c.args.writer.now table.table_id c.self.inside.shape c.args.self.now c.writer.view_is c.self.view_is c.requires.own.0 in
-    let joined = joined_next seat.me other.me after.me w y c.writer.invariant.0 c.reader.invariant.seated c.join_seat.ensures.2 in
+    let joined = joined_next seat.me other.me after.me w y c.writer.invariant.seated c.reader.invariant.seated c.join_seat.ensures.2 in
     let words = c.self.invariant.2 in (
       c.join_seat.ensures.0 ∙ at.0,
       omega arith,
@@ -63,14 +63,14 @@ pub returns-clause-whole : goal.returns-clause-whole
 returns-clause-whole c =
     let w : Writing = writing_of c.writer.inside.seat.me.0 in
     let y : Reading = reading_of c.reader.inside.seat.me.0 in
-    let joined = joined_next c.writer.inside.seat.me c.reader.inside.seat.me c.join_seat.new.seat.me w y c.writer.invariant.0 c.reader.invariant.seated c.join_seat.ensures.2 in
+    let joined = joined_next c.writer.inside.seat.me c.reader.inside.seat.me c.join_seat.new.seat.me w y c.writer.invariant.seated c.reader.invariant.seated c.join_seat.ensures.2 in
     let confirmed = subst (Confirms c.load.result) (view_is c.join_seat.new.seat.me (Writer (with_settled y w)) joined) c.load.ensures.2.1 in
-    subst (λ (z : List (List ℕ) × List Message). All (IsMessageOf z.0) z.1) (λ i. ((c.writer.view_is i).messages, (c.reader.view_is i).got)) (told c.load.result w y c.writer.invariant.1 confirmed).0
+    subst (λ (z : List (List ℕ) × List Message). All (IsMessageOf z.0) z.1) (λ i. ((c.writer.view_is i).messages, (c.reader.view_is i).got)) (told c.load.result w y c.writer.invariant.closed confirmed).0
 
 pub returns-clause-seen : goal.returns-clause-seen
 returns-clause-seen c =
     let w : Writing = writing_of c.writer.inside.seat.me.0 in
     let y : Reading = reading_of c.reader.inside.seat.me.0 in
-    let joined = joined_next c.writer.inside.seat.me c.reader.inside.seat.me c.join_seat.new.seat.me w y c.writer.invariant.0 c.reader.invariant.seated c.join_seat.ensures.2 in
+    let joined = joined_next c.writer.inside.seat.me c.reader.inside.seat.me c.join_seat.new.seat.me w y c.writer.invariant.seated c.reader.invariant.seated c.join_seat.ensures.2 in
     let confirmed = subst (Confirms c.load.result) (view_is c.join_seat.new.seat.me (Writer (with_settled y w)) joined) c.load.ensures.2.1 in
-    subst (λ (z : ℕ × List (List ℕ)). z.0 ≤ 2 * newest_number z.1) (λ i. ((c.reader.view_is i).seen, (c.writer.view_is i).messages)) (told c.load.result w y c.writer.invariant.1 confirmed).1
+    subst (λ (z : ℕ × List (List ℕ)). z.0 ≤ 2 * newest_number z.1) (λ i. ((c.reader.view_is i).seen, (c.writer.view_is i).messages)) (told c.load.result w y c.writer.invariant.closed confirmed).1
