@@ -1,6 +1,6 @@
 //! A ring.
 ghost use Rattle.std.specs.Prelude.{◌≡◌, ◌+◌, ◌*◌, ◌/◌, ◌<◌, ◌≤◌, All, length, IfOk, OnOk, OnErr};
-ghost use Rattle.nbw_ring.specs.Numbers.{most_number, newest_number, limit, IsMessageOf};
+ghost use Rattle.nbw_ring.specs.Numbers.{most_number, newest_number, IsMessageOf};
 ghost use Rattle.nbw_ring.specs.States.{new_writer, new_reader, with_message, with_joined};
 ghost use Rattle.nbw_ring.specs.Attempts.{number_of, Gets, OnGot, OnOverrun};
 
@@ -142,7 +142,6 @@ impl Ring {
         ensures forward { reader.new.first ≤ reader.new.seen }
         ensures number { result ≡ reader.new.first / 2 }
         ensures floor { reader.old.floor ≤ result }
-        ensures intact { reader.new.seen < limit reader.new.ring.shape result }
         ensures got { Gets reader.old reader.new result }
     {
         for _ in rt.forever() {
