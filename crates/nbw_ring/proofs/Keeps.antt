@@ -10,7 +10,7 @@ use Rattle.std.proofs.lemmas.List.{set-get_or, get_or_push, get_or-replicate, le
 use Rattle.std.proofs.lemmas.List.Elements.{All-push}
 use Rattle.std.proofs.lemmas.Option.{slice_get-get_or}
 use Rattle.atomic_table.specs.Table.{State, step, keeps, stepped, opening, Allows, Splits, Joins}
-use Rattle.atomic_table.proofs.Lists.{at_set, at_snoc}
+use Rattle.atomic_table.proofs.Lists.{at_set, at_snoc, at_longer, set_else, set_again}
 use Rattle.nbw_ring.specs.declared.view.Shape.{Shape}
 use Rattle.nbw_ring.specs.declared.view.Message.{Message}
 use Rattle.nbw_ring.specs.declared.view.Settlement.{Settlement}
@@ -34,6 +34,12 @@ counted_at s = get_or s.words 0 0
 at_single : (a b : View) (j : ℕ) → get_elem? (a ∷ []) j ≡ some b → (j ≡ 0) × (a ≡ b)
 at_single a b zero e = (refl, some-injective a b e)
 at_single a b (suc j) e = absurd (some-ne-none b (sym e))
+
+-- what is put at a place that there is stands there
+set_there : (l : List View) (i : ℕ) (a b : View) → get_elem? l i ≡ some a → get_elem? (set l i b) i ≡ some b
+set_there [] i a b e = absurd (some-ne-none a (sym e))
+set_there (x ∷ xs) zero a b e = refl
+set_there (x ∷ xs) (suc i) a b e = set_there xs i a b e
 
 module _ (shape : Shape) where
   abbrev Rule : St → Type 0
@@ -71,12 +77,25 @@ module _ (shape : Shape) where
   others_stay c c' writer w w' j other stays (Reader v) known = stays v known
   others_stay c c' writer w w' j other stays Spent known = tt
 
+  -- the writer's seat stays where it is, where a reader's view changes and where its own does
+  writer_beside : (s : St) (r : Rule s) (id : ℕ) (v w : View) (y : Reading) → v ≡ Reader y → get_elem? s.views id ≡ some v → get_elem? (set s.views id w) r.writer ≡ some (Writer r.writing)
+  writer_beside s r id v w y is at =
+      let apart : r.writer ≢ id = λ e.
+      let clash : Writer r.writing ≡ Reader y = some-injective (Writer r.writing) (Reader y) (sym r.present ∙ (ap (get_elem? s.views) e ∙ (at ∙ ap some is))) in cc in
+      set_else s.views id r.writer w apart ∙ r.present
+
+  writer_there : (s : St) (writer id : ℕ) (v : View) (w w' : Writing) → id ≡ writer → w ≡ w' → get_elem? s.views id ≡ some v → get_elem? (set s.views id (Writer w)) writer ≡ some (Writer w')
+  writer_there s writer id v w w' own same at =
+      ap (get_elem? (set s.views id (Writer w))) (sym own) ∙ (set_there s.views id v (Writer w) at ∙ ap (λ z. some (Writer z)) same)
+
   -- a step that changes no word
   unmoved : (s : St) (r : Rule s) (i me : ℕ) (cs : List (ℕ × Unit {0})) (w : View) → Knows shape (counted_at s) r.writer r.writing me w
+      → get_elem? (set s.views me w) r.writer ≡ some (Writer r.writing)
       → Rule (stepped s i (get_or s.words i 0) me cs w keeps)
-  unmoved s r i me cs w mine = subst (λ (ws : List ℕ). Rule record { words = ws; homes = s.homes; views = set s.views me w }) (sym (set-get_or s.words i 0)) record {
+  unmoved s r i me cs w mine there = subst (λ (ws : List ℕ). Rule record { words = ws; homes = s.homes; views = set s.views me w }) (sym (set-get_or s.words i 0)) record {
     writer = r.writer;
     writing = r.writing;
+    present = there;
     shaped = r.shaped;
     buffered = r.buffered;
     long = r.long;
@@ -118,7 +137,8 @@ module _ (shape : Shape) where
           loaded = le_refl c;
           attempt = λ _. refl;
           got = known.got;
-        },
+        }
+            (writer_beside s r id me.0 (Reader (with_first c y)) y is at),
         ((λ k. (as_reader (with_first c) (sym is k), me.1)), subst (Follows c) (sym is) record { above_floor = omega arith; above_seen = e; small = counter_small s r }),
       )
 
@@ -146,7 +166,8 @@ module _ (shape : Shape) where
           attempt = λ intact. attempt_more y.words m x (known.attempt intact) (omega arith)
               (ap (λ k. get_or s.words k 0) here ∙ r.stored number (length y.words) there intact inside);
           got = known.got;
-        },
+        }
+            (writer_beside s r id me.0 (Reader (with_loaded x y)) y is at),
         (λ k. (as_reader (with_loaded x) (sym is k), me.1)),
       )
 
@@ -200,7 +221,8 @@ module _ (shape : Shape) where
         tt,
         unmoved s r 0 id me.1 (Reader (with_last c y))
             (subst (λ (z : Shape). ReaderKnows shape c r.writing.messages (cond (nat_lt c (limit z number)) (record y { seen = c; floor = number; got = y.got ++ attempt_of y ∷ [] }) (record y { seen = c })))
-            (sym known.shaped) (knows_last c r.writing.messages y known whole there long (nat_lt c (limit shape number)) refl)),
+            (sym known.shaped) (knows_last c r.writing.messages y known whole there long (nat_lt c (limit shape number)) refl))
+            (writer_beside s r id me.0 (Reader (with_last c y)) y is at),
         ((λ k. (as_reader (with_last c) (sym is k), me.1)), subst (Follows c) (sym is) record { above_floor = omega arith; above_seen = e; small = counter_small s r }),
       )
 
@@ -223,6 +245,7 @@ module _ (shape : Shape) where
         record {
           writer = r.writer;
           writing = with_open r.writing;
+          present = writer_there s r.writer id me.0 (with_open w) (with_open r.writing) known.0 (ap with_open same) at;
           shaped = r.shaped;
           buffered = r.buffered;
           long = length-set s.words 0 new ∙ long;
@@ -266,6 +289,7 @@ module _ (shape : Shape) where
         record {
           writer = r.writer;
           writing = with_word x r.writing;
+          present = writer_there s r.writer id me.0 (with_word x w) (with_word x r.writing) known.0 (ap (with_word x) same) at;
           shaped = r.shaped;
           buffered = r.buffered;
           long = length-set s.words i x ∙ long;
@@ -315,6 +339,7 @@ module _ (shape : Shape) where
         record {
           writer = r.writer;
           writing = with_new_message r.writing;
+          present = writer_there s r.writer id me.0 (with_new_message w) (with_new_message r.writing) known.0 (ap with_new_message same) at;
           shaped = r.shaped;
           buffered = r.buffered;
           long = length-set s.words 0 new ∙ long;
@@ -363,6 +388,7 @@ module _ (shape : Shape) where
       record {
         writer = r.writer;
         writing = r.writing;
+        present = at_longer (set s.views id v) (lent_view v ∷ []) r.writer (Writer r.writing) (ap (λ l. get_elem? l r.writer) (set_again s.views id v at) ∙ r.present);
         shaped = r.shaped;
         buffered = r.buffered;
         long = r.long;
@@ -394,6 +420,8 @@ module _ (shape : Shape) where
       record {
         writer = r.writer;
         writing = with_settled y r.writing;
+        present = set_else (set s.views id (joined_view v u)) other r.writer Spent (λ e. apart (sym e ∙ sym known.0))
+            ∙ (ap (λ z. get_elem? (set s.views id z) r.writer) both_is ∙ writer_there s r.writer id v (with_settled y w) (with_settled y r.writing) known.0 (ap (with_settled y) same) at);
         shaped = r.shaped;
         buffered = r.buffered;
         long = r.long;
@@ -417,7 +445,7 @@ module _ (shape : Shape) where
         me.0,
         keeps,
         tt,
-        unmoved s r 0 id me.1 me.0 (r.each_seat id me.0 at),
+        unmoved s r 0 id me.1 me.0 (r.each_seat id me.0 at) (ap (λ l. get_elem? l r.writer) (set_again s.views id me.0 at) ∙ r.present),
         (refl, subst (Confirms c) (sym is) (counted, known.2)),
       )
 
@@ -436,6 +464,7 @@ module _ (shape : Shape) where
       record {
         writer = 0;
         writing = first_writing shape;
+        present = refl;
         shaped = refl;
         buffered = some_buffer;
         long = long;

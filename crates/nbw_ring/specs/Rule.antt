@@ -34,8 +34,10 @@ Knows shape counter writer writing seat Spent = Unit {0}
 
 -- the rule: the words of a ring, and what each seat knows, fit
 pub record Kept (shape : Shape) (s : State (Unit {0}) View) : Type 0 where
+  -- one seat is the writer's, and `each_seat` says that no other is
   pub writer : ℕ
   pub writing : Writing
+  pub present : get_elem? s.views writer ≡ some (Writer writing)
   pub shaped : writing.shape ≡ shape
   pub buffered : 0 < shape.buffers
   pub long : length s.words ≡ 1 + shape.buffers * shape.width
