@@ -1,0 +1,40 @@
+-- What an attempt to read answers.
+use Rattle.std.specs.Prelude.{◌≡◌, ℕ, ◌+◌, ◌<◌, ◌≤◌, List, [], ◌∷◌, ◌++◌, length}
+use Rattle.nbw_ring.specs.declared.reader.Try.{Try}
+use Rattle.nbw_ring.specs.declared.reader.Try.TheVariants.{Got, Overrun}
+use Rattle.nbw_ring.specs.Numbers.{limit}
+use Rattle.nbw_ring.specs.States.{ReaderState}
+
+-- the number that an attempt answers
+abbrev pub number_of : Try → ℕ
+number_of (Got number) = number
+number_of (Overrun number begin end) = number
+
+-- the message of this number was intact at the last load: a pair of that number was added to what the reader got, and the floor was raised to it
+pub record Gets (old new : ReaderState) (number : ℕ) : Type 0 where
+  pub intact : new.seen < limit new.ring.shape number
+  pub words : List ℕ
+  pub wide : length words ≡ new.ring.shape.width
+  pub got : new.got ≡ old.got ++ record { number = number; words = words } ∷ []
+  pub floor : new.floor ≡ number
+  pub spare : new.spare + 1 ≡ old.spare
+
+-- the message of this number was not intact at the last load, of `last`: what the reader got is as before. Where the first load, of `start`, shows it already, it is the last
+pub record GetsNothing (old new : ReaderState) (number start last : ℕ) : Type 0 where
+  pub late : limit new.ring.shape number ≤ last
+  pub first_load : start ≡ new.first
+  pub last_load : last ≡ new.seen
+  pub at_once : limit new.ring.shape number ≤ start → last ≡ start
+  pub got : new.got ≡ old.got
+  pub floor : new.floor ≡ old.floor
+  pub spare : new.spare ≡ old.spare
+
+-- `Got` comes only where a pair was added
+abbrev pub OnGot : ReaderState → ReaderState → Try → Type 0
+OnGot old new (Got number) = Gets old new number
+OnGot old new (Overrun number begin end) = Unit {0}
+
+-- `Overrun` comes only where none was added, with the counters of the first load and of the last
+abbrev pub OnOverrun : ReaderState → ReaderState → Try → Type 0
+OnOverrun old new (Got number) = Unit {0}
+OnOverrun old new (Overrun number begin end) = GetsNothing old new number begin end

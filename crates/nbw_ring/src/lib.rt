@@ -1,0 +1,32 @@
+//! The ring of the host interface: one writer puts messages, and readers take the newest one without
+//! ever making the writer wait.
+//!
+//! A ring stands for a list of messages, which its [`Writer`] adds to. A [`Reader`] is lent by the
+//! writer, may go to another thread, and reads while the writer writes. Where the writer overtakes it,
+//! it notices that and answers [`Try::Overrun`]. When it has come back, it is settled, and the pairs
+//! that it got are handed out as [`Pair`]s: each is the writer's message of its number, whole, however
+//! the steps of the threads fell between one another.
+//!
+//! Every step is one sequentially consistent step on one atomic word, and directly before it a
+//! [`ttp_base::Gate`] is passed with the number of the step. `docs/RING.md` has the steps, and what
+//! holds between any two of them.
+//!
+//! The crate never takes a lock, and only [`Ring::read`] may wait: it repeats attempts. It doesn't say
+//! that a reader which repeats attempts ever gets a message.
+#![tactic(auto)]
+
+mod plays;
+mod reader;
+mod receipts;
+mod ring;
+mod steps;
+mod view;
+mod writer;
+
+pub use reader::{Reader, Try};
+pub use receipts::{Pair, Receipts};
+pub use ring::Ring;
+pub use writer::Writer;
+
+#[cfg(test)]
+mod tests;

@@ -1,0 +1,178 @@
+//! A ring.
+ghost use Rattle.std.specs.Prelude.{◌≡◌, ◌+◌, ◌*◌, ◌/◌, ◌<◌, ◌≤◌, All, length, IfOk, OnOk, OnErr};
+ghost use Rattle.nbw_ring.specs.Numbers.{most_number, newest_number, IsMessageOf};
+ghost use Rattle.nbw_ring.specs.States.{new_writer, new_reader, with_message, with_joined};
+ghost use Rattle.nbw_ring.specs.Attempts.{number_of, Gets, OnGot, OnOverrun};
+
+use crate::plays::{Begin, End, FirstLoad, LastLoad, Lend, Settle, SettleLoad};
+use crate::reader::{Reader, Try};
+use crate::receipts::{Receipts, pair_up};
+use crate::steps::{Words, load_words, put_words};
+use crate::view::Shape;
+use crate::writer::Writer;
+use atomic_table::Table;
+use std::alloc::Global;
+use std::marker::Model;
+use std::sync::Wait;
+use ttp_base::{Gate, Memory};
+
+/// A ring, which threads share by reference. Contracts see which ring it is, and its shape.
+#[derive(Drop)]
+pub struct Ring {
+    table: Words,
+    shape: Shape,
+    alloc: Global,
+}
+
+impl Model for Ring {
+    ghost use Rattle.nbw_ring.specs.States.{RingState};
+
+    ghost Value = { RingState };
+
+    ghost use Rattle.nbw_ring.specs.Seats.{ring_of, IsTableOf};
+
+    ghost view = { λ r. ring_of r.table.shared.table_id r.shape };
+
+    ghost invariant = { λ r. IsTableOf r.shape r.table.shared.key r.table.shared.table_id };
+}
+
+impl Ring {
+    /// A ring of messages of `width` words in so many buffers, with the one who writes it. Its opening
+    /// message, number 0, has zeros.
+    pub fn new(alloc: Global, width: usize, buffers: usize) -> Result<(Ring, Writer), Memory>
+        requires width { (0 < width) × (width ≤ 32) }
+        requires buffers { (0 < buffers) × (buffers ≤ 16) }
+        ensures shape { IfOk result (λ r. r.0.shape ≡ record { width = width; buffers = buffers }) }
+        ensures writer { IfOk result (λ r. r.1 ≡ new_writer r.0) }
+    {
+        let shape = Shape { width, buffers };
+        let words = vec![in alloc; 0u64; 1 + buffers * width]?;
+        let (table, seat) = Table::of_words(alloc, words.as_slice(), &shape)?;
+        Ok((
+            Ring {
+                table,
+                shape,
+                alloc,
+            },
+            Writer { seat, number: 0 },
+        ))
+    }
+
+    /// Writes one message more.
+    pub fn write<G: Gate>(&self, writer: &mut Writer, words: &[u64], gate: &G)
+        requires own { writer.old.ring ≡ self.now }
+        requires width { length words.now ≡ self.now.shape.width }
+        requires room { newest_number writer.old.messages < most_number }
+        ensures { writer.new ≡ with_message writer.old words.now }
+    {
+        let cells = &self.table.shared;
+        let number = writer.number + 1;
+        gate.pass(1);
+        cells.store::<Begin>(&mut writer.seat, 0, 2 * number - 1);
+        put_words(cells, &mut writer.seat, self.shape, number, words, gate);
+        gate.pass(3);
+        cells.store::<End>(&mut writer.seat, 0, 2 * number);
+        writer.number = number;
+    }
+
+    /// A new reader with room for so many messages, none of them older than the writer's newest.
+    pub fn lend(&self, writer: &mut Writer, reads: usize) -> Result<Reader, Memory>
+        requires own { writer.old.ring ≡ self.now }
+        ensures reader { IfOk result (λ r. r ≡ new_reader writer.old reads) }
+        ensures writer { writer.new ≡ writer.old }
+    {
+        let Some(room) = reads.checked_mul(self.shape.width) else {
+            return Err(Memory);
+        };
+        let numbers = Vec::with_capacity(self.alloc, reads)?;
+        let words = Vec::with_capacity(self.alloc, room)?;
+        let seat = self.table.shared.split_seat::<Lend>(&mut writer.seat);
+        Ok(Reader {
+            seat,
+            numbers,
+            words,
+            width: self.shape.width,
+            spare: reads,
+        })
+    }
+
+    /// One attempt to read the newest message.
+    pub fn try_read<G: Gate>(&self, reader: &mut Reader, gate: &G) -> Try
+        requires own { reader.old.ring ≡ self.now }
+        requires room { 1 ≤ reader.old.spare }
+        ensures ring { reader.new.ring ≡ reader.old.ring }
+        ensures tries { reader.new.tries ≡ reader.old.tries + 1 }
+        ensures later { reader.old.seen ≤ reader.new.first }
+        ensures forward { reader.new.first ≤ reader.new.seen }
+        ensures number { number_of result ≡ reader.new.first / 2 }
+        ensures floor { reader.old.floor ≤ number_of result }
+        ensures got { OnGot reader.old reader.new result }
+        ensures overrun { OnOverrun reader.old reader.new result }
+    {
+        let cells = &self.table.shared;
+        gate.pass(4);
+        let begin = cells.load::<FirstLoad>(&mut reader.seat, 0);
+        let number = begin / 2;
+        let limit = 2 * (number + self.shape.buffers as u64) - 1;
+        if begin >= limit {
+            let end = begin;
+            return Try::Overrun { number, begin, end };
+        }
+        let kept = reader.words.len();
+        let (seat, words) = (&mut reader.seat, &mut reader.words);
+        load_words(cells, seat, self.shape, number, words, gate);
+        gate.pass(6);
+        let end = cells.load::<LastLoad>(&mut reader.seat, 0);
+        if end >= limit {
+            reader.words.truncate(kept);
+            return Try::Overrun { number, begin, end };
+        }
+        reader.numbers.push_reserved(number);
+        reader.spare -= 1;
+        Try::Got { number }
+    }
+
+    /// Attempts to read until a message is got, and answers its number.
+    pub fn read<R: Wait, G: Gate>(&self, rt: &R, reader: &mut Reader, gate: &G) -> u64
+        requires own { reader.old.ring ≡ self.now }
+        requires room { 1 ≤ reader.old.spare }
+        ensures ring { reader.new.ring ≡ reader.old.ring }
+        ensures tries { reader.old.tries < reader.new.tries }
+        ensures later { reader.old.seen ≤ reader.new.first }
+        ensures forward { reader.new.first ≤ reader.new.seen }
+        ensures number { result ≡ reader.new.first / 2 }
+        ensures floor { reader.old.floor ≤ result }
+        ensures got { Gets reader.old reader.new result }
+    {
+        for _ in rt.forever() {
+            if let Try::Got { number } = self.try_read(reader, gate) {
+                return number;
+            }
+        }
+        unreachable!()
+    }
+
+    /// Takes a reader back, and hands out the pairs that it got: each is the writer's message of its
+    /// number. Where memory is refused, nothing is joined in the writer.
+    pub fn settle(&self, writer: &mut Writer, reader: Reader) -> Result<Receipts, Memory>
+        requires own { (writer.old.ring ≡ self.now) × (reader.ring ≡ self.now) }
+        ensures pairs { IfOk result (λ r. r ≡ reader.got) }
+        ensures whole { OnOk result (All (IsMessageOf writer.old.messages) reader.got) }
+        ensures seen { OnOk result (reader.seen ≤ 2 * newest_number writer.old.messages) }
+        ensures joined { OnOk result (writer.new ≡ with_joined writer.old reader) }
+        ensures err { OnErr result (writer.new ≡ writer.old) }
+    {
+        let Reader {
+            seat,
+            numbers,
+            words,
+            width,
+            spare: _,
+        } = reader;
+        let receipts = pair_up(self.alloc, &numbers, &words, width)?;
+        let cells = &self.table.shared;
+        cells.join_seat::<Settle>(&mut writer.seat, seat);
+        cells.load::<SettleLoad>(&mut writer.seat, 0);
+        Ok(receipts)
+    }
+}
