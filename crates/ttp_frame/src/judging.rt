@@ -95,7 +95,8 @@ pub fn judge(bytes: &[u8], start: u32, expect: &Expect, cstate: &CState) -> Fram
     ensures invalid { (result ≡ FrameMatch.Invalid)
         ↔ IsTrue (not (is_formed (member_bytes expect.now.wide) bytes.now expect.now.header expect.now.payload start)) }
 
-    // Of the C-states that differ in their members alone, at most one matches.
+    // No C-state with the same time, round and slot and other members fits: a set of nodes and its word tell each
+    // other.
     ensures told { (members : List ℕ) → HaveRoom expect.now.wide members
         → set_bits members ≢ set_bits cstate.now.members → result ≡ FrameMatch.Match
         → IsTrue (not (fits (member_bytes expect.now.wide) bytes.now expect.now.header expect.now.payload start

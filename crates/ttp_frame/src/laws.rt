@@ -1,7 +1,8 @@
 //! The laws of frames.
 //!
-//! Each function does nothing, and its contract is a law over the definitions. `proofs/FrameLaws.antt`
-//! has each under the function's name, for proofs to cite.
+//! Each function does nothing, and its contract is a law over the definitions. For proofs to cite,
+//! `proofs/FrameLaws.antt` has the first under the function's name, `proofs/FlippedFrames.antt` what
+//! the second rests on, and `proofs/Undisturbed.antt` what follows for frames as they were sent.
 ghost use Rattle.std.specs.Prelude.{◌≡◌, ℕ, ◌<◌, Bool, List, length, slice_index, IsTrue};
 ghost use Rattle.ttp_world.specs.declared.medl.Medl.{Medl};
 ghost use Rattle.ttp_world.specs.declared.node.CState.{CState};

@@ -1,13 +1,13 @@
 //! Published frames, and frames beside those of an encoder that goes bit by bit.
-ghost use Rattle.std.specs.Prelude.{◌≡◌, ◌*◌, ◌^◌, ◌<◌, ◌≤◌, length};
-ghost use Rattle.ttp_world.specs.Medl.{member_bytes};
+ghost use Rattle.std.specs.Prelude.{◌≡◌, ◌*◌, ◌^◌, ◌<◌, ◌≤◌, true, false, [], ◌∷◌, length, IfOk};
+ghost use Rattle.ttp_world.specs.Medl.{member_bytes, IsValid};
 
-use crate::{Expect, FrameIn, FrameMatch, encode, judge, laws};
+use crate::{Expect, FrameIn, FrameMatch, encode, judge, laws, read_explicit};
 use std::alloc::{AllocError, Global};
 use std::process::Abort;
 use std::test::Fail;
-use ttp_base::NodeSet;
-use ttp_world::CState;
+use ttp_base::{List, Memory, NodeSet};
+use ttp_world::{CState, Kind, Medl, SlotPlan};
 
 // The number of words that members have.
 fn room(wide: bool) -> u32
@@ -239,7 +239,112 @@ fn frames_of_all_kinds(rt: HostRuntime) -> Result<(), Fail> {
     Ok(())
 }
 
+fn slot_of(alloc: Global, kind: Kind, payload: u8, start: bool) -> Result<SlotPlan, Memory>
+    ensures { IfOk result (λ plan. plan ≡ record {
+      kinds = kind ∷ [];
+      payload = payload;
+      sync = true;
+      start = start;
+      requests = false;
+      live = 1;
+    }) }
+{
+    let mut kinds = List::new(alloc);
+    kinds.push(kind)?;
+    Ok(SlotPlan {
+        kinds,
+        payload,
+        sync: true,
+        start,
+        requests: false,
+        live: 1,
+    })
+}
+
+// Four nodes with frames of all kinds, of which node 0 alone may start.
+fn four_nodes(alloc: Global) -> Result<Medl, Memory>
+    ensures { IfOk result IsValid }
+{
+    let mut slots = List::new(alloc);
+    slots.push(slot_of(alloc, Kind::I, 0, true)?)?;
+    slots.push(slot_of(alloc, Kind::X, 2, false)?)?;
+    slots.push(slot_of(alloc, Kind::N, 2, false)?)?;
+    slots.push(slot_of(alloc, Kind::I, 0, false)?)?;
+    Ok(Medl {
+        version: 1,
+        rounds: 1,
+        schedule: 7,
+        buffers: 2,
+        drift: 0,
+        error: 0,
+        window: 1,
+        modes: 1,
+        slots,
+    })
+}
+
+#[test]
+fn nodes_join_on_frames_that_the_list_gives(rt: HostRuntime) -> Result<(), Fail> {
+    let list = four_nodes(rt.alloc())?;
+    let mut out = [0u8; 256];
+    for (header, round, slot, members, payload, joins) in [
+        (3, 0, 0, 0b0001, "", true),
+        (3, 0, 3, 0b1000, "", false),
+        (1, 0, 0, 0b1101, "", true),
+        (1, 0, 3, 0b1000, "", true),
+        (1, 0, 3, 0b0111, "", false),
+        (1, 0, 3, 0b11000, "", false),
+        (1, 1, 3, 0b1000, "", false),
+        (1, 0, 4, 0b10000, "", false),
+        (1, 0, 1, 0b0010, "", false),
+        (2, 0, 1, 0b0011, "ab", true),
+        (2, 0, 1, 0b0011, "a", false),
+        (2, 0, 2, 0b0100, "ab", false),
+        (0, 0, 2, 0b0100, "ab", false),
+    ] {
+        let frame = FrameIn {
+            wide: false,
+            header,
+            cstate: state(513, round, slot, members),
+            payload: payload.as_bytes(),
+        };
+        let len = encoded(&rt, &frame, 7, &mut out);
+        let due = if joins { Some(frame.cstate) } else { None };
+        assert!(rt;
+            read_explicit(&out[..len], &list) == due,
+            "{header} {round} {slot} {members}"
+        );
+        assert!(rt; read_explicit(&out[..len.saturating_sub(1)], &list).is_none());
+        flip_run(&mut out, 79, 1);
+        assert!(rt; read_explicit(&out[..len], &list).is_none());
+    }
+    Ok(())
+}
+
 #[test]
 fn laws_are_met() {
+    let frame = FrameIn {
+        wide: true,
+        header: 2,
+        cstate: CState {
+            time: 1,
+            round: 0,
+            slot: 2,
+            members: NodeSet::empty(),
+        },
+        payload: b"a",
+    };
+    let other = FrameIn {
+        wide: true,
+        header: 2,
+        cstate: CState {
+            time: 1,
+            round: 0,
+            slot: 2,
+            members: NodeSet::empty(),
+        },
+        payload: b"b",
+    };
+    laws::flipped(&[0, 1, 0, 0, 0, 0, 0, 0, 0, 0, 0, 0], &frame, &other, 7);
     laws::members_told();
 }
