@@ -77,8 +77,8 @@ impl Clique {
         self.rejected
     }
 
-    /// Whether the node may send: it accepted more frames than it rejected, so it is in the larger clique. A tie
-    /// does not send.
+    /// Whether the node may send: it accepted more frames than it rejected, and so is in the larger
+    /// clique. A tie does not send.
     pub fn may_send(&self) -> bool
         ensures { IsTrue result ↔ (self.now.rejected < self.now.accepted) }
     {
