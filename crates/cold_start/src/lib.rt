@@ -25,3 +25,6 @@ mod listener;
 
 pub use heard::{Heard, ListenMove};
 pub use listener::Listener;
+
+#[cfg(test)]
+mod tests;
