@@ -21,3 +21,6 @@
 mod clock;
 
 pub use clock::SlotClock;
+
+#[cfg(test)]
+mod tests;
