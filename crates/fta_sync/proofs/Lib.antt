@@ -1,0 +1,3 @@
+pub mod MiddleTwo
+pub mod Halves
+pub mod KeptNotes

@@ -1,0 +1,20 @@
+-- The frames that a node accepted and rejected.
+use Rattle.std.specs.Prelude.{ℕ, ◌+◌, Bool, if◌then◌else◌}
+use Rattle.ack_check.specs.declared.moves.AckMove.{AckMove}
+use Rattle.ack_check.specs.Moves.{adds_accepted, adds_rejected}
+
+pub record FrameCounts : Type 0 where
+  pub accepted : ℕ
+  pub rejected : ℕ
+
+-- those of a node that has just sent, started or joined: its own frame is accepted
+abbrev pub first_counts : FrameCounts
+first_counts = record { accepted = 1; rejected = 0 }
+
+-- one more where a frame is to be counted
+abbrev pub counted : Bool → ℕ → ℕ
+counted more count = (if more then 1 else 0) + count
+
+-- after a move
+abbrev pub moved_counts : AckMove → FrameCounts → FrameCounts
+moved_counts move counts = record { accepted = counted (adds_accepted move) counts.accepted; rejected = counted (adds_rejected move) counts.rejected }

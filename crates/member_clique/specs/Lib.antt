@@ -1,0 +1,4 @@
+pub mod FrameCounts
+pub mod Judged
+pub mod Members
+pub mod Counted

@@ -1,0 +1,2 @@
+pub mod PlaceInCycle
+pub mod StandsFor
