@@ -8,14 +8,11 @@ bytes a second of both, by the least time of some runs, and the ratio. It prints
 nothing passes or fails here.
 """
 
-import os
-import shutil
-import subprocess
 import sys
 import tempfile
 
-TOP = os.path.dirname(os.path.dirname(os.path.abspath(__file__)))
-CRATES = ("ttp_base", "ttp_world", "ttp_check")
+from programs import c_program, lines_of, rattle_program
+
 RUNS = 9
 TIMES = {16: 4_000_000, 64: 1_000_000, 256: 250_000, 1_048_576: 64}
 
@@ -113,43 +110,10 @@ def filled(text, left, right):
     return text.replace("ROWS", rows).replace("RUNS", str(RUNS))
 
 
-def write(path, text):
-    os.makedirs(os.path.dirname(path), exist_ok=True)
-    with open(path, "w", encoding="utf-8") as file:
-        file.write(text)
-
-
-def rattle_program(folder):
-    crates = os.path.join(folder, "crates")
-    for crate in CRATES:
-        shutil.copytree(os.path.join(TOP, "crates", crate), os.path.join(crates, crate))
-    with open(os.path.join(TOP, "crates.txt"), encoding="utf-8") as file:
-        lines = [line for line in file if line.split(":")[0].split(" ")[0] in CRATES]
-    write(os.path.join(folder, "crates.txt"), "".join(lines) + "check_speed: ttp_check\n")
-    program = os.path.join(crates, "check_speed")
-    write(os.path.join(program, "src", "main.rt"), filled(RATTLE, "(", ")"))
-    built = subprocess.run(["rt", "run"], cwd=program, stdin=subprocess.DEVNULL, capture_output=True, text=True)
-    if built.returncode != 0:
-        sys.exit(built.stdout[-2000:] + built.stderr[-2000:])
-    return os.path.join(program, "out", "check_speed")
-
-
-def c_program(folder):
-    compiler = shutil.which("cc") or shutil.which("gcc") or shutil.which("clang")
-    if compiler is None:
-        return None
-    source = os.path.join(folder, "c", "loop.c")
-    write(source, filled(C, "{", "}"))
-    program = os.path.join(folder, "c", "loop")
-    subprocess.run([compiler, "-O2", "-o", program, source], check=True)
-    return program
-
-
 def figures_of(program):
     least, words = {}, {}
-    output = subprocess.run([program], check=True, capture_output=True, text=True).stdout
-    for line in output.splitlines():
-        size, times, taken, word = (int(part) for part in line.split())
+    for line in lines_of(program):
+        size, times, taken, word = (int(part) for part in line)
         speed = size * times / taken * 1e9
         least[size] = max(speed, least.get(size, 0))
         words[size] = word
@@ -157,11 +121,9 @@ def figures_of(program):
 
 
 def main():
-    if shutil.which("rt") is None:
-        sys.exit("rt is not on the path")
     with tempfile.TemporaryDirectory() as folder:
-        loop = c_program(folder)
-        ours, words = figures_of(rattle_program(folder))
+        loop = c_program(folder, filled(C, "{", "}"))
+        ours, words = figures_of(rattle_program(folder, "check_speed", "ttp_check", filled(RATTLE, "(", ")")))
         theirs, their_words = figures_of(loop) if loop else ({}, words)
         if words != their_words:
             sys.exit(f"the words differ: {words} {their_words}")
