@@ -328,29 +328,24 @@ fn the_first_of_several_faults_is_told(rt: HostRuntime) -> Result<(), Fail> {
     refuses_each(&rt, &wrong)
 }
 
-const LONG: &[&str] = &[
-    SLOT, SLOT, SLOT, SLOT, SLOT, SLOT, SLOT, SLOT, SLOT, SLOT, SLOT, SLOT, SLOT, SLOT, SLOT, SLOT,
-];
+// Four slots.
+const FOUR: &str =
+    "[[slot]]\nkinds = \"I\"\ndata = 0\nsync = true\nstart = false\n[[slot]]\nkinds = \"I\"\ndata = 0\nsync = true\nstart = false\n[[slot]]\nkinds = \"I\"\ndata = 0\nsync = true\nstart = false\n[[slot]]\nkinds = \"I\"\ndata = 0\nsync = true\nstart = false\n";
 
 #[test]
 fn keys_for_modes_and_more_nodes(rt: HostRuntime) -> Result<(), Fail> {
-    let sixteen = joined(&rt, LONG)?;
-    let wrong: [(&[&str], &str); 11] = [
-        (&[HEAD, FIRST, &sixteen], "list: slot count 17\n"),
+    let wrong: [(&[&str], &str); 10] = [
         (
             &[
                 "version = 2\n",
                 REST,
                 FIRST,
-                &sixteen,
-                SLOT,
-                SLOT,
-                SLOT,
-                SLOT,
-                SLOT,
-                SLOT,
-                SLOT,
-                SLOT,
+                FOUR,
+                FOUR,
+                FOUR,
+                FOUR,
+                FOUR,
+                FOUR,
             ],
             "list: slot count 25\n",
         ),
