@@ -7,6 +7,13 @@ import sys
 
 TOP = os.path.dirname(os.path.dirname(os.path.abspath(__file__)))
 
+INVARIANT = """use Rattle.std.proofs.Common.{{◌≡◌}}
+use Rattle.{name}.proofs.{function}.Given as goal
+
+abbrev pub invariant-loop : goal.invariant-loop
+invariant-loop l = {invariant}
+"""
+
 
 def write(path, text):
     os.makedirs(os.path.dirname(path), exist_ok=True)
@@ -14,11 +21,11 @@ def write(path, text):
         file.write(text)
 
 
-def rattle_program(folder, name, uses, source):
+def rattle_program(folder, name, uses, source, invariants={}):
     """A program of this name and source, over a copy of the crates that it uses and those below them.
 
-    `uses` is what stands behind the program's name in crates.txt. Building it proves it, and what `rt` has not proved
-    before.
+    `uses` is what stands behind the program's name in crates.txt, and `invariants` has what the loop of a function
+    keeps. Building the program proves it, and what `rt` has not proved before.
     """
     if shutil.which("rt") is None:
         sys.exit("rt is not on the path")
@@ -39,6 +46,9 @@ def rattle_program(folder, name, uses, source):
     shutil.copy(os.path.join(TOP, "HANDLES"), os.path.join(folder, "HANDLES"))
     program = os.path.join(crates, name)
     write(os.path.join(program, "src", "main.rt"), source)
+    for function, invariant in invariants.items():
+        text = INVARIANT.format(name=name, function=function, invariant=invariant)
+        write(os.path.join(program, "proofs", function, "Invariants.antt"), text)
     built = os.path.join(program, "out", name)
     told = subprocess.run(["rt", "run"], cwd=program, stdin=subprocess.DEVNULL, capture_output=True, text=True)
     if not os.path.exists(built):

@@ -14,6 +14,10 @@ from programs import c_program, lines_of, rattle_program
 
 RUNS = 5
 COUNT = 500_000
+INVARIANTS = {
+    "write_many": "l.writer.ring ≡ l.ring",
+    "read_many": "l.reader.ring ≡ l.ring",
+}
 
 RATTLE = """//! Prints for each run: kind, width, buffers, nanoseconds, overruns.
 #![tactic(auto)]
@@ -226,7 +230,9 @@ def figures_of(program):
 def main():
     with tempfile.TemporaryDirectory() as folder:
         loop = c_program(folder, C.replace("RUNS", str(RUNS)), "-pthread")
-        ours = figures_of(rattle_program(folder, "ring_speed", "ttp_base nbw_ring anyhow", RATTLE.replace("RUNS", str(RUNS))))
+        source = RATTLE.replace("RUNS", str(RUNS))
+        program = rattle_program(folder, "ring_speed", "ttp_base nbw_ring anyhow", source, INVARIANTS)
+        ours = figures_of(program)
         theirs = figures_of(loop) if loop else {}
     for (kind, width, buffers), (taken, share) in ours.items():
         line = f"{kind:5s} width {width:2d} buffers {buffers}   ring {COUNT / taken * 1e3:7.2f} M/s, overrun {share:6.2%}"
