@@ -1,5 +1,5 @@
 #!/usr/bin/env python3
-"""Times `run` for clusters of 4, 8 and 16 nodes over 1,000, 5,000 and 20,000 slots.
+"""Times `run` for clusters of 4, 8, 16 and 24 nodes over 1,000, 5,000 and 20,000 slots.
 
 Prints the time of the whole process (the least of some runs, with the trace to /dev/null), the most
 memory that it held, the nanoseconds for each node and slot, and how that figure grows from the
@@ -15,7 +15,7 @@ import time
 
 from peak import memory_of
 
-NODES = (4, 8, 16)
+NODES = (4, 8, 16, 24)
 SLOTS = (1_000, 5_000, 20_000)
 RUNS = {1_000: 25, 5_000: 15, 20_000: 9}
 TOP = os.path.dirname(os.path.dirname(os.path.abspath(__file__)))
@@ -23,7 +23,8 @@ PROGRAM = os.path.join(TOP, "crates", "ttpbench", "out", "ttpbench")
 
 
 def list_text(nodes):
-    head = "version = 1\nrounds = 1\nschedule = 0\nbuffers = 2\ndrift = 0\nerror = 0\nwindow = 1\n"
+    version = 1 if nodes <= 16 else 2
+    head = f"version = {version}\nrounds = 1\nschedule = 0\nbuffers = 2\ndrift = 0\nerror = 0\nwindow = 1\n"
     slots = [
         f'[[slot]]\nkinds = "I"\ndata = 0\nsync = true\nstart = {"true" if k == 0 else "false"}\n'
         for k in range(nodes)

@@ -1,7 +1,7 @@
 #!/usr/bin/env python3
 """Times `schedule` on a list at the format's limits, and says how much memory it takes.
 
-The list has 16 slots, 64 rounds and comments up to the size limit of 1,048,576 bytes. For
+The list has 24 slots, 64 rounds and comments up to the size limit of 1,048,576 bytes. For
 comparison it also times a list of four nodes, and Python's own reader of TOML on the same bytes.
 Each figure is of many runs: the least and the median. It needs the program that `./ttpbench`
 builds, and prints figures alone; nothing passes or fails here.
@@ -24,7 +24,7 @@ PROGRAM = os.path.join(TOP, "crates", "ttpbench", "out", "ttpbench")
 
 def list_text(slots, rounds, size):
     head = (
-        "version = 1\n"
+        f"version = {1 if slots <= 16 else 2}\n"
         f"rounds = {rounds}\n"
         "schedule = 16777215\nbuffers = 16\ndrift = 1000\nerror = 1000\nwindow = 1000000\n"
     )
@@ -68,15 +68,15 @@ def main():
         large = os.path.join(folder, "large.toml")
         small = os.path.join(folder, "small.toml")
         dense = os.path.join(folder, "dense.toml")
-        large_text = list_text(16, 64, LIMIT)
+        large_text = list_text(24, 64, LIMIT)
         for path, text in (
             (large, large_text),
             (small, list_text(4, 1, 0)),
-            (dense, list_text(16, 64, 0)),
+            (dense, list_text(24, 64, 0)),
         ):
             with open(path, "w", encoding="ascii") as file:
                 file.write(text)
-        print(f"list at the limits: {os.path.getsize(large)} bytes, 16 slots, 64 rounds, 1025 lines of output")
+        print(f"list at the limits: {os.path.getsize(large)} bytes, 24 slots, 64 rounds, 1537 lines of output")
         rows = (
             ("at the limits", large),
             ("the same without comments", dense),
