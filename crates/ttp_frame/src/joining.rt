@@ -60,8 +60,9 @@ fn are_below(members: NodeSet, limit: u8) -> bool
     true
 }
 
-// Whether round, slot and members exist in the list, and the owner of the slot is a member.
-fn is_joinable_state(list: &Medl, c: &CState) -> bool
+/// Whether a C-state is one on which a node may join: its round, slot and members exist in the list,
+/// and the owner of the slot is a member.
+pub fn is_joinable_state(list: &Medl, c: &CState) -> bool
     requires { IsValid list.now }
     ensures { result ≡ is_joinable_state list.now c.now }
 {

@@ -2,7 +2,7 @@
 ghost use Rattle.std.specs.Prelude.{◌≡◌, ◌*◌, ◌^◌, ◌<◌, ◌≤◌, true, false, [], ◌∷◌, length, IfOk};
 ghost use Rattle.ttp_world.specs.Medl.{member_bytes, IsValid};
 
-use crate::{Expect, FrameIn, FrameMatch, encode, judge, laws, read_explicit};
+use crate::{Expect, FrameIn, FrameMatch, encode, is_joinable_state, judge, laws, read_explicit};
 use std::alloc::{AllocError, Global};
 use std::process::Abort;
 use std::test::Fail;
@@ -281,6 +281,26 @@ fn four_nodes(alloc: Global) -> Result<Medl, Memory>
         modes: 1,
         slots,
     })
+}
+
+#[test]
+fn states_on_which_nodes_may_join(rt: HostRuntime) -> Result<(), Fail> {
+    let list = four_nodes(rt.alloc())?;
+    for (round, slot, members, joinable) in [
+        (0, 0, 0b1101, true),
+        (0, 3, 0b1000, true),
+        (0, 3, 0b0111, false),
+        (0, 3, 0b11000, false),
+        (0, 4, 0b10000, false),
+        (1, 3, 0b1000, false),
+    ] {
+        let cstate = state(513, round, slot, members);
+        assert!(rt;
+            is_joinable_state(&list, &cstate) == joinable,
+            "{round} {slot} {members}"
+        );
+    }
+    Ok(())
 }
 
 #[test]

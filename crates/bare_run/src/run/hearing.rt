@@ -1,10 +1,8 @@
 //! What a node makes of the frame that passes in a slot.
-ghost use Rattle.std.specs.Prelude.{◌≡◌, ◌<◌, ◌≤◌, length, pos, false, nat_lt, unwrap_or, option_map};
-ghost use Rattle.std.specs.List.{list_all};
+ghost use Rattle.std.specs.Prelude.{◌≡◌, ◌<◌, length, pos, false, unwrap_or, option_map};
 ghost use Rattle.std.specs.Str.{bytes_eq};
 ghost use Rattle.ttp_world.specs.Conduct.{verdict_entry};
 ghost use Rattle.ttp_world.specs.Diary.{cstate_at};
-ghost use Rattle.ttp_world.specs.Fitting.{is_joinable_state};
 ghost use Rattle.ttp_world.specs.Medl.{IsValid};
 ghost use Rattle.ttp_world.specs.Reception.{candidate_sets, verdict_of_view};
 ghost use Rattle.bare_run.specs.Passed.{plain_listening, plain_judging, plain_entry, is_same_cstate, view_of_cstate, plain_view};
@@ -15,33 +13,8 @@ use crate::run::bus::Bus;
 use crate::run::deed::{Deed, may_start};
 use crate::run::standing::Standing;
 use ttp_base::NodeSet;
+use ttp_frame::is_joinable_state;
 use ttp_world::{Ack, CState, ChannelView, Entry, Medl, Reason, Verdict};
-
-// Whether each member is below a number.
-fn are_below(members: NodeSet, limit: u8) -> bool
-    requires { limit ≤ 24 }
-    ensures { result ≡ list_all (λ k. nat_lt k limit) members }
-{
-    let mut rest = members;
-    while let Some(k) = rest.first() {
-        if k >= limit {
-            return false;
-        }
-        rest = rest.without(k);
-    }
-    true
-}
-
-// Whether round, slot and members exist in the list, and the owner of the slot is a member.
-fn is_joinable(list: &Medl, c: &CState) -> bool
-    requires { IsValid list.now }
-    ensures { result ≡ is_joinable_state list.now c.now }
-{
-    c.round < list.rounds
-        && c.slot < list.nodes()
-        && are_below(c.members, list.nodes())
-        && c.members.has(c.slot)
-}
 
 fn joined(c: &CState) -> Entry
     ensures { result ≡ Entry.Joined c.now.slot c.now (pos 0) }
@@ -60,8 +33,8 @@ fn listening(list: &Medl, bus: &Bus) -> Entry
     ensures { result ≡ plain_listening list.now (passed_meant bus.now) }
 {
     match bus {
-        Bus::ColdStart(c) if is_joinable(list, c) && may_start(list, c.slot) => joined(c),
-        Bus::Listed(c) if is_joinable(list, c) => joined(c),
+        Bus::ColdStart(c) if is_joinable_state(list, c) && may_start(list, c.slot) => joined(c),
+        Bus::Listed(c) if is_joinable_state(list, c) => joined(c),
         _ => Entry::Waited,
     }
 }
