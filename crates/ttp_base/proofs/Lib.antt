@@ -1,8 +1,12 @@
 pub mod Below
 mod Hex
+mod Known
+pub mod Lines
 pub mod NodeLists
 pub mod NodeSets
 pub mod NodeTests
+pub mod Outputs
 pub mod Room
 pub mod SetWords
+mod Walks
 pub mod Written

@@ -1,11 +1,18 @@
 -- What a library in memory keeps.
-use Rattle.std.specs.Prelude.{◌≡◌, ◌≢◌, ℕ, List, Option, Some, None, option_map}
+use Rattle.std.specs.Prelude.{◌≡◌, ◌≢◌, ℕ, List, Option, Some, None}
 use Rattle.std.specs.BTreeMap.{get_by_text}
+use Rattle.std.specs.declared.alloc.Global.{Global}
+use Rattle.std.specs.declared.vec.Vec.{Vec}
 use Rattle.ttp_base.specs.declared.memory_library.MemoryLibrary.{MemoryLibrary}
+use Rattle.ttp_base.specs.Outside.{Held, absent, holds, Files}
 
--- the bytes held under a name
-abbrev pub library_held : MemoryLibrary → List ℕ → Option (List ℕ)
-library_held library name = option_map (λ v. v.items) (get_by_text library.files name)
+-- what is held under a name
+abbrev pub held_in : Option (Vec ℕ Global) → Held
+held_in None = absent
+held_in (Some bytes) = holds bytes.items
+
+abbrev pub library_held : MemoryLibrary → List ℕ → Held
+library_held library name = held_in (get_by_text library.files name)
 
 -- the numbers of the calls that are to fail, and how many calls there were
 abbrev pub library_fail : MemoryLibrary → List ℕ
@@ -18,11 +25,26 @@ library_calls library = library.calls
 abbrev pub library_faults : MemoryLibrary → ℕ
 library_faults library = library.faults
 
+-- what it tells of them
+abbrev pub library_files : MemoryLibrary → Files
+library_files library = record {
+  held = library_held library;
+  faults = λ _. library_faults library;
+  loads = (library.asked).loads;
+}
+
 -- nothing is held under any name
 abbrev pub HoldsNothing : MemoryLibrary → Type 0
-HoldsNothing library = (name : List ℕ) → library_held library name ≡ None
+HoldsNothing library = (name : List ℕ) → library_held library name ≡ absent
 
 -- these bytes are held under the name, and under each other name what was held before
 pub record HoldsOneMore (old new : MemoryLibrary) (name bytes : List ℕ) : Type 0 where
-  pub added : library_held new name ≡ Some bytes
+  pub added : library_held new name ≡ holds bytes
   pub others : (other : List ℕ) → other ≢ name → library_held new other ≡ library_held old other
+
+-- what is told beside the bytes is as before
+pub record KeepsTheRest (old new : MemoryLibrary) : Type 0 where
+  pub fail : library_fail new ≡ library_fail old
+  pub calls : library_calls new ≡ library_calls old
+  pub faults : library_faults new ≡ library_faults old
+  pub loads : (library_files new).loads ≡ (library_files old).loads

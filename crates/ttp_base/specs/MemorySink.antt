@@ -1,6 +1,7 @@
 -- What a sink in memory keeps.
-use Rattle.std.specs.Prelude.{ℕ, List}
+use Rattle.std.specs.Prelude.{ℕ, List, Some}
 use Rattle.ttp_base.specs.declared.memory_sink.MemorySink.{MemorySink}
+use Rattle.ttp_base.specs.Outside.{Output}
 
 -- what was written
 abbrev pub sink_bytes : MemorySink → List ℕ
@@ -20,3 +21,7 @@ sink_calls sink = sink.calls
 -- how many faults there were
 abbrev pub sink_faults : MemorySink → ℕ
 sink_faults sink = sink.faults
+
+-- what it tells
+abbrev pub sink_output : MemorySink → Output
+sink_output sink = record { written = Some (sink_bytes sink); pieces = sink.pieces; faults = sink_faults sink }

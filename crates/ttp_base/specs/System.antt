@@ -1,11 +1,13 @@
--- What the real outside counts.
-use Rattle.std.specs.Prelude.{ℕ}
+-- What the real outside tells.
+use Rattle.std.specs.Prelude.{ℕ, List, Option}
 use Rattle.ttp_base.specs.declared.system.FileLibrary.{FileLibrary}
 use Rattle.ttp_base.specs.declared.system.StreamSink.{StreamSink}
+use Rattle.ttp_base.specs.Outside.{untold, Files, Output}
 
--- how many faults there were
-abbrev pub library_faults : {R : Type 0} → FileLibrary R → ℕ
-library_faults library = library.faults
+-- nothing of the bytes that files hold, how many faults there were, and the loads
+abbrev pub library_files : {R : Type 0} → FileLibrary R → Files
+library_files library = record { held = λ _. untold; faults = λ _. library.faults; loads = (library.asked).loads }
 
-abbrev pub sink_faults : {W : Type 0} → StreamSink W → ℕ
-sink_faults sink = sink.faults
+-- what the writer tells of its bytes
+abbrev pub sink_output : {W : Type 0} → (W → Option (List ℕ)) → StreamSink W → Output
+sink_output contents sink = record { written = contents sink.writer; pieces = sink.pieces; faults = sink.faults }

@@ -1,10 +1,15 @@
 -- The texts that a line is made of, beside std's decimal numbers.
-use Rattle.std.specs.Prelude.{ℕ, zero, suc, ◌+◌, ◌/◌, ◌%◌, List, [], ◌∷◌, ◌++◌, nat_lt, if◌then◌else◌}
+use Rattle.std.specs.Prelude.{ℕ, zero, suc, ◌==◌, ◌+◌, ◌/◌, ◌%◌, nat_lt, if◌then◌else◌}
+use Rattle.std.specs.Prelude.{List, [], ◌∷◌, ◌++◌, count_by}
 use Rattle.std.specs.List.{flat_map}
 
 -- the line feed that ends a line
 abbrev pub newline : List ℕ
 newline = 10 ∷ []
+
+-- how many lines a text has: each ends with a line feed
+abbrev pub line_count : List ℕ → ℕ
+line_count text = count_by (λ b. b == 10) text
 
 -- the lower-case hexadecimal digit of a number below 16
 abbrev pub hex_digit : ℕ → ℕ

@@ -10,6 +10,7 @@
 //! The crate knows nothing of TTP/C. It never ends the process, starts no thread and waits for none.
 #![tactic(auto)]
 
+mod asked;
 mod calls;
 mod fault;
 mod gate;
@@ -20,6 +21,7 @@ mod memory_library;
 mod memory_sink;
 mod node_set;
 mod sink;
+mod streams;
 mod system;
 
 pub use fault::{Failed, Memory};

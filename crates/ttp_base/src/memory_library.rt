@@ -1,7 +1,10 @@
 //! A library in memory.
-ghost use Rattle.std.specs.Prelude.{◌≡◌, ◌⊎◌, ◌+◌, ◌^◌, ◌<◌, ◌≤◌, ◌↔◌, take, min, Some, vec_len, IsTrue, IsNone, IfOk, IfSome, IsErrOf, OnOk, OnErr};
-ghost use Rattle.ttp_base.specs.Outside.{HasRisen, NoneFell, HoldsTheSame, comes_up, count_end};
+ghost use Rattle.std.specs.Prelude.{◌≡◌, ◌⊎◌, ◌+◌, ◌^◌, ◌<◌, ◌≤◌, ◌↔◌, [], take, min, vec_len};
+ghost use Rattle.std.specs.Prelude.{IsTrue, IfOk, IsErrOf, OnOk, OnErr};
+ghost use Rattle.ttp_base.specs.Outside.{absent, Gives, AskedFor, HasRisen, NoneRose, NoneFell, HoldsTheSame};
+ghost use Rattle.ttp_base.specs.Outside.{comes_up, count_end};
 
+use crate::asked::{Asked, Request};
 use crate::calls::is_next_to_fail;
 use crate::fault::Memory;
 use crate::library::{Library, LoadError};
@@ -20,10 +23,12 @@ pub struct MemoryLibrary {
     fail: List<u32>,
     calls: u64,
     faults: u64,
+    asked: Asked,
 }
 
 impl MemoryLibrary {
-    ghost use Rattle.ttp_base.specs.MemoryLibrary.{library_held, library_fail, library_calls, library_faults, HoldsNothing, HoldsOneMore};
+    ghost use Rattle.ttp_base.specs.MemoryLibrary.{library_fail, library_calls, library_faults, library_files};
+    ghost use Rattle.ttp_base.specs.MemoryLibrary.{HoldsNothing, HoldsOneMore, KeepsTheRest};
 
     /// A library that holds nothing yet. The numbers in `fail` are those of the calls of
     /// [`Library::load`] that are to fail, counted from 1.
@@ -31,6 +36,7 @@ impl MemoryLibrary {
         ensures empty { HoldsNothing result }
         ensures fail { (library_fail result ≡ fail) × (library_calls result ≡ 0) }
         ensures count { library_faults result ≡ 0 }
+        ensures asked { (library_files result).loads ≡ [] }
     {
         MemoryLibrary {
             alloc,
@@ -38,14 +44,15 @@ impl MemoryLibrary {
             fail,
             calls: 0,
             faults: 0,
+            asked: Asked::nothing(),
         }
     }
 
     /// Holds these bytes under a name, in place of what it held there.
     pub fn add(&mut self, name: &str, bytes: &[u8]) -> Result<(), Memory>
         ensures ok { OnOk result (HoldsOneMore self.old self.new name.now bytes.now) }
-        ensures err { OnErr result (HoldsTheSame (library_held self.old) (library_held self.new)) }
-        ensures keeps { (library_fail self.new ≡ library_fail self.old) × (library_calls self.new ≡ library_calls self.old) × (library_faults self.new ≡ library_faults self.old) }
+        ensures err { OnErr result (HoldsTheSame (library_files self.old) (library_files self.new)) }
+        ensures keeps { KeepsTheRest self.old self.new }
     {
         let key = String::from_str(self.alloc, name)?;
         let value = Vec::from_slice(self.alloc, bytes)?;
@@ -55,29 +62,34 @@ impl MemoryLibrary {
 }
 
 impl Library for MemoryLibrary {
-    ghost use Rattle.ttp_base.specs.MemoryLibrary.{library_held, library_fail, library_calls, library_faults};
+    ghost use Rattle.ttp_base.specs.MemoryLibrary.{library_held, library_fail, library_calls};
+    ghost use Rattle.ttp_base.specs.MemoryLibrary.{library_faults, library_files};
 
-    ghost held = { library_held };
-
-    ghost faults = { λ library _. library_faults library };
+    ghost files = { library_files };
 
     /// Answers [`LoadError::Failed`] exactly where the call's number is to fail or nothing is held
     /// under the name.
     fn load(&mut self, alloc: Global, name: &str, limit: usize) -> Result<Vec<u8>, LoadError>
         requires { limit < 2 ^ 32 }
-        ensures bytes { IfOk result (λ bytes. IfSome (library_held self.old name.now) (λ all. bytes.items ≡ take (limit + 1) all)) }
+        ensures bytes { IfOk result (λ bytes. Gives (library_held self.old name.now) limit bytes.items) }
         ensures within { IfOk result (λ bytes. vec_len bytes ≤ limit + 1) }
-        ensures failed { IsErrOf result LoadError.Failed → HasRisen (library_faults self.old) (library_faults self.new) }
-        ensures count { NoneFell (λ _. library_faults self.old) (λ _. library_faults self.new) }
-        ensures keeps { HoldsTheSame (library_held self.old) (library_held self.new) }
+        ensures asks { AskedFor (library_files self.old) (library_files self.new) name.now limit }
+        ensures failed { IsErrOf result LoadError.Failed
+            → HasRisen (library_faults self.old) (library_faults self.new) }
+        ensures quiet { IsErrOf result LoadError.Failed ⊎ NoneRose (library_files self.old) (library_files self.new) }
+        ensures count { NoneFell (library_files self.old) (library_files self.new) }
+        ensures keeps { HoldsTheSame (library_files self.old) (library_files self.new) }
 
         ensures number { library_calls self.new ≡ min (library_calls self.old + 1) count_end }
-        ensures exact { IsErrOf result LoadError.Failed ↔ (IsTrue (comes_up (library_fail self.old) (library_calls self.new)) ⊎ IsNone (library_held self.old name.now)) }
+        ensures exact { IsErrOf result LoadError.Failed
+            ↔ (IsTrue (comes_up (library_fail self.old) (library_calls self.new))
+            ⊎ (library_held self.old name.now ≡ absent)) }
         ensures stays { library_fail self.new ≡ library_fail self.old }
-        // It counts each fault once, and nothing else.
-        ensures counted { IsErrOf result LoadError.Failed → library_faults self.new ≡ min (library_faults self.old + 1) count_end }
-        ensures uncounted { IsErrOf result LoadError.Failed ⊎ (library_faults self.new ≡ library_faults self.old) }
+        // It counts each fault once.
+        ensures counted { IsErrOf result LoadError.Failed
+            → library_faults self.new ≡ min (library_faults self.old + 1) count_end }
     {
+        self.asked = Asked::and(&self.asked, &Request { name, limit });
         let is_to_fail = is_next_to_fail(&self.fail, &mut self.calls);
         match self.files.get(name) {
             Some(bytes) if !is_to_fail => copy_of_front(alloc, bytes.as_slice(), limit + 1),

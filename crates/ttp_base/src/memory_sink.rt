@@ -1,7 +1,7 @@
 //! A sink in memory.
-ghost use Rattle.std.specs.Prelude.{◌≡◌, ◌⊎◌, ◌+◌, ◌<◌, ◌≤◌, ◌↔◌, [], length, min, Some, vec_len, vec_capacity, is_ok, if◌then◌else◌, IsTrue, IsErr, IfOk, OnOk, OnErr};
-ghost use Rattle.std.specs.Io.KnownBytes.{Appends};
-ghost use Rattle.ttp_base.specs.Outside.{HasRisen, AppendsFront, comes_up, count_end};
+ghost use Rattle.std.specs.Prelude.{◌≡◌, ◌⊎◌, ◌+◌, ◌<◌, ◌≤◌, ◌↔◌, [], length, min, vec_len, vec_capacity};
+ghost use Rattle.std.specs.Prelude.{is_ok, if◌then◌else◌, IsTrue, IsErr, IfOk, OnOk, OnErr};
+ghost use Rattle.ttp_base.specs.Outside.{Wrote, CutShort, comes_up, count_end};
 
 use crate::calls::is_next_to_fail;
 use crate::fault::{Failed, Memory};
@@ -18,13 +18,15 @@ pub struct MemorySink {
     room: usize,
     fail: List<u32>,
     calls: u64,
+    pieces: u64,
     faults: u64,
     ghost fits: { vec_len bytes ≤ room },
     ghost reserved: { room ≤ vec_capacity bytes },
 }
 
 impl MemorySink {
-    ghost use Rattle.ttp_base.specs.MemorySink.{sink_bytes, sink_room, sink_fail, sink_calls, sink_faults};
+    ghost use Rattle.ttp_base.specs.MemorySink.{sink_bytes, sink_room, sink_fail, sink_calls};
+    ghost use Rattle.ttp_base.specs.MemorySink.{sink_faults, sink_output};
 
     /// An empty sink with room for `room` bytes. The numbers in `fail` are those of the calls of
     /// [`Sink::write`] that are to fail, counted from 1.
@@ -32,7 +34,7 @@ impl MemorySink {
         ensures empty { IfOk result (λ sink. sink_bytes sink ≡ []) }
         ensures room { IfOk result (λ sink. sink_room sink ≡ room) }
         ensures fail { IfOk result (λ sink. (sink_fail sink ≡ fail) × (sink_calls sink ≡ 0)) }
-        ensures count { IfOk result (λ sink. sink_faults sink ≡ 0) }
+        ensures counts { IfOk result (λ sink. ((sink_output sink).pieces ≡ 0) × (sink_faults sink ≡ 0)) }
     {
         match Vec::with_capacity(alloc, room) {
             Ok(bytes) => Ok(MemorySink {
@@ -40,6 +42,7 @@ impl MemorySink {
                 room,
                 fail,
                 calls: 0,
+                pieces: 0,
                 faults: 0,
             }),
             Err(_) => Err(Memory),
@@ -55,26 +58,24 @@ impl MemorySink {
 }
 
 impl Sink for MemorySink {
-    ghost use Rattle.ttp_base.specs.MemorySink.{sink_bytes, sink_room, sink_fail, sink_calls, sink_faults};
+    ghost use Rattle.ttp_base.specs.MemorySink.{sink_bytes, sink_room, sink_fail, sink_calls};
+    ghost use Rattle.ttp_base.specs.MemorySink.{sink_faults, sink_output};
 
-    ghost written = { λ sink. Some (sink_bytes sink) };
-
-    ghost faults = { sink_faults };
+    ghost output = { sink_output };
 
     /// Fails exactly where the call's number is to fail or the piece doesn't fit the rest of the
     /// room, and then writes nothing.
     fn write(&mut self, piece: &[u8]) -> Result<(), Failed>
-        ensures ok { OnOk result (Appends (Some (sink_bytes self.old)) (Some (sink_bytes self.new)) piece.now) }
-        ensures front { OnErr result (AppendsFront (Some (sink_bytes self.old)) (Some (sink_bytes self.new)) piece.now) }
-        ensures failed { OnErr result (HasRisen (sink_faults self.old) (sink_faults self.new)) }
-        ensures count { sink_faults self.old ≤ sink_faults self.new }
+        ensures ok { OnOk result (Wrote (sink_output self.old) (sink_output self.new) 1 piece.now) }
+        ensures failed { OnErr result (CutShort (sink_output self.old) (sink_output self.new) piece.now) }
 
         ensures number { sink_calls self.new ≡ min (sink_calls self.old + 1) count_end }
         ensures exact { IsErr result ↔ (IsTrue (comes_up (sink_fail self.old) (sink_calls self.new))
             ⊎ (sink_room self.old < length (sink_bytes self.old) + length piece.now)) }
         ensures nothing { OnErr result (sink_bytes self.new ≡ sink_bytes self.old) }
         // It counts each fault once, and nothing else.
-        ensures counted { sink_faults self.new ≡ (if is_ok result then sink_faults self.old else min (sink_faults self.old + 1) count_end) }
+        ensures counted { sink_faults self.new
+            ≡ (if is_ok result then sink_faults self.old else min (sink_faults self.old + 1) count_end) }
         ensures keeps { (sink_fail self.new ≡ sink_fail self.old) × (sink_room self.new ≡ sink_room self.old) }
     {
         let is_to_fail = is_next_to_fail(&self.fail, &mut self.calls);
@@ -83,7 +84,10 @@ impl Sink for MemorySink {
             return Err(Failed);
         }
         match self.bytes.extend_from_slice(piece) {
-            Ok(()) => Ok(()),
+            Ok(()) => {
+                self.pieces = self.pieces.saturating_add(1);
+                Ok(())
+            }
             Err(_) => unreachable!(),
         }
     }

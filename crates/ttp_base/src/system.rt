@@ -1,98 +1,116 @@
-//! The real outside: files, and a stream. No contract can say what they hold, so they tell nothing.
-ghost use Rattle.std.specs.Prelude.{◌≡◌, ◌+◌, ◌≤◌, None, vec_len, IfOk, OnErr, IsErrOf};
+//! The real outside: files, and a stream.
+ghost use Rattle.std.specs.Prelude.{◌≡◌, [], vec_len, IfOk, ◌≤◌};
 
+use crate::asked::{Asked, Request};
 use crate::fault::Failed;
 use crate::library::{Library, LoadError};
 use crate::sink::Sink;
+use crate::streams::{cause_of, read_front, send};
 use std::alloc::Global;
-use std::io::{Read, Write};
+use std::fs;
+use std::io::Write;
 use std::rt::Files;
-use std::{fs, io};
 
-/// Files by their paths. It tells no bytes, and one counter stands for every name.
+/// Files by their paths. No contract can say what a file holds, so it tells no bytes. One counter
+/// stands for every name.
 ///
 /// Each call reads at most `limit + 1` bytes of the file, and raises the count where it answers
-/// [`LoadError::Failed`]: where the file can't be opened, or a read fails.
+/// [`LoadError::Failed`]: where the file can't be opened, or a read fails. A read that a signal
+/// interrupts is tried again, at most 1,000,000 times.
 #[derive(Drop)]
 pub struct FileLibrary<'a, R> {
     rt: &'a R,
     faults: u64,
+    asked: Asked,
 }
 
 impl<'a, R: Files> FileLibrary<'a, R> {
-    ghost use Rattle.ttp_base.specs.System.{library_faults};
+    ghost use Rattle.ttp_base.specs.System.{library_files};
 
     pub fn new(rt: &'a R) -> FileLibrary<'a, R>
-        ensures { library_faults result ≡ 0 }
+        ensures count { (name : _) → (library_files result).faults name ≡ 0 }
+        ensures asked { (library_files result).loads ≡ [] }
     {
-        FileLibrary { rt, faults: 0 }
+        FileLibrary {
+            rt,
+            faults: 0,
+            asked: Asked::nothing(),
+        }
     }
 }
 
 impl<R: Files> Library for FileLibrary<'_, R> {
-    ghost use Rattle.ttp_base.specs.System.{library_faults};
+    ghost use Rattle.ttp_base.specs.System.{library_files};
 
-    ghost held = { λ _ _. None };
-
-    ghost faults = { λ library _. library_faults library };
+    ghost files = { library_files };
 
     fn load(&mut self, alloc: Global, name: &str, limit: usize) -> Result<Vec<u8>, LoadError> {
-        match read_front(self.rt, alloc, name, limit + 1) {
-            Ok(bytes) => Ok(bytes),
-            Err(error) if error.kind() == io::ErrorKind::OutOfMemory => Err(LoadError::Memory),
-            Err(_) => {
-                self.faults = self.faults.saturating_add(1);
-                Err(LoadError::Failed)
-            }
+        self.asked = Asked::and(&self.asked, &Request { name, limit });
+        let loaded = load_front(self.rt, alloc, name, limit + 1);
+        if let Err(LoadError::Failed) = loaded {
+            self.faults = self.faults.saturating_add(1);
         }
+        loaded
     }
 }
 
 // The first bytes of a file, at most so many.
-fn read_front<R: Files>(rt: &R, alloc: Global, name: &str, count: usize) -> io::Result<Vec<u8>>
+fn load_front<R: Files>(
+    rt: &R,
+    alloc: Global,
+    name: &str,
+    count: usize,
+) -> Result<Vec<u8>, LoadError>
     ensures { IfOk result (λ bytes. vec_len bytes ≤ count) }
 {
-    let file = fs::open(rt, name)?;
-    let mut bytes = Vec::new(alloc);
-    file.take(count as u64).read_to_end(&mut bytes)?;
-    // `take` has read no more than that, which its contract doesn't say.
-    bytes.truncate(count);
-    Ok(bytes)
+    match fs::open(rt, name) {
+        Ok(mut file) => read_front(alloc, &mut file, count),
+        Err(error) => Err(cause_of(&error)),
+    }
 }
 
-/// A stream, as standard output. It tells no bytes.
+/// A stream, as standard output. It tells what its writer tells of its bytes: a writer in memory tells
+/// them, and standard output does not.
 ///
-/// Each piece is written whole and flushed. A write that takes nothing is a fault, and so is a
-/// failed flush; each raises the count.
+/// Each piece is written whole and then flushed. A write that takes nothing is a fault, and so is a
+/// failed flush; each raises the count. A write that a signal interrupts is tried again, at most
+/// 1,000,000 times.
 #[derive(Drop)]
 pub struct StreamSink<W> {
     writer: W,
+    pieces: u64,
     faults: u64,
 }
 
 impl<W: Write> StreamSink<W> {
-    ghost use Rattle.ttp_base.specs.System.{sink_faults};
+    ghost use Rattle.ttp_base.specs.System.{sink_output};
 
     pub fn new(writer: W) -> StreamSink<W>
-        ensures { sink_faults result ≡ 0 }
+        ensures { sink_output W.contents result ≡ record { written = W.contents writer; pieces = 0; faults = 0 } }
     {
-        StreamSink { writer, faults: 0 }
+        StreamSink {
+            writer,
+            pieces: 0,
+            faults: 0,
+        }
     }
 }
 
 impl<W: Write> Sink for StreamSink<W> {
-    ghost use Rattle.ttp_base.specs.System.{sink_faults};
+    ghost use Rattle.ttp_base.specs.System.{sink_output};
 
-    ghost written = { λ _. None };
-
-    ghost faults = { sink_faults };
+    ghost output = { sink_output W.contents };
 
     fn write(&mut self, piece: &[u8]) -> Result<(), Failed> {
-        let written = self.writer.write_all(piece);
-        if written.is_ok() && self.writer.flush().is_ok() {
-            return Ok(());
+        match send(&mut self.writer, piece) {
+            Ok(()) => {
+                self.pieces = self.pieces.saturating_add(1);
+                Ok(())
+            }
+            Err(Failed) => {
+                self.faults = self.faults.saturating_add(1);
+                Err(Failed)
+            }
         }
-        self.faults = self.faults.saturating_add(1);
-        Err(Failed)
     }
 }

@@ -1,10 +1,11 @@
 //! Each public call once, and what no clause says of the real outside.
 
+use crate::streams::read_front;
 use crate::{
     Failed, FileLibrary, Gate, Library, Line, List, LoadError, MemoryLibrary, MemorySink, NodeSet,
     OpenGate, Sink, StreamSink,
 };
-use std::io::Write;
+use std::io::{Read, Write};
 use std::test::Fail;
 use std::{fs, io};
 
@@ -118,77 +119,206 @@ fn a_sink_in_memory(rt: HostRuntime) -> Result<(), Fail> {
 }
 
 #[test]
-fn a_real_file_and_a_missing_one(rt: HostRuntime) -> Result<(), Fail> {
+fn a_file_as_it_lies(rt: HostRuntime) -> Result<(), Fail> {
     let path = "ttp_base_test_file";
     fs::write(&rt, path, b"0123456789".as_slice())?;
     let mut library = FileLibrary::new(&rt);
-    let whole = library.load(rt.alloc(), path, 10).ok().ok_or("there")?;
-    assert_eq!(rt; whole.as_slice(), b"0123456789".as_slice());
-    // One byte past the limit, and no more.
-    let front = library.load(rt.alloc(), path, 4).ok().ok_or("there")?;
-    assert_eq!(rt; front.as_slice(), b"01234".as_slice());
+    // One byte past the limit, and no more; and the file stays as it is.
+    for (limit, expected) in [(4, b"01234".as_slice()), (10, b"0123456789".as_slice())] {
+        let front = library.load(rt.alloc(), path, limit).ok().ok_or("there")?;
+        assert_eq!(rt; front.as_slice(), expected);
+    }
     fs::remove_file(&rt, path)?;
-    assert!(rt; library.load(rt.alloc(), path, 4).err() == Some(LoadError::Failed));
+    for name in [path, "."] {
+        assert!(rt; library.load(rt.alloc(), name, 4).err() == Some(LoadError::Failed));
+    }
     Ok(())
 }
 
-// A writer that takes at most so many bytes of a piece, and may fail to flush.
+// A reader that gives at most so many bytes at once, is interrupted at first, and may fail at a place.
+#[derive(Drop)]
+struct Pieces {
+    at: usize,
+    most: usize,
+    interrupts: u32,
+    fails: Option<(usize, io::ErrorKind)>,
+}
+
+impl Read for Pieces {
+    fn read(&mut self, buf: &mut [u8]) -> io::Result<usize> {
+        if self.interrupts > 0 {
+            self.interrupts -= 1;
+            return Err(io::Error::from(io::ErrorKind::Interrupted));
+        }
+        if let Some((place, kind)) = self.fails
+            && place <= self.at
+        {
+            return Err(io::Error::from(kind));
+        }
+        let rest = &b"0123456789"[self.at.min(10)..];
+        let count = rest.len().min(self.most).min(buf.len());
+        buf[..count].copy_from_slice(&rest[..count]);
+        self.at = self.at.min(10) + count;
+        Ok(count)
+    }
+}
+
+#[test]
+fn the_front_of_what_a_reader_gives(rt: HostRuntime) {
+    let cases = [
+        (5, 3, 0, None, Ok(b"01234".as_slice()), 5),
+        (20, 3, 0, None, Ok(b"0123456789".as_slice()), 10),
+        (5, 1, 4, None, Ok(b"01234".as_slice()), 5),
+        (0, 3, 0, None, Ok(b"".as_slice()), 0),
+        (
+            8,
+            3,
+            0,
+            Some((6, io::ErrorKind::BrokenPipe)),
+            Err(LoadError::Failed),
+            6,
+        ),
+        (
+            8,
+            3,
+            0,
+            Some((6, io::ErrorKind::OutOfMemory)),
+            Err(LoadError::Memory),
+            6,
+        ),
+        (
+            6,
+            3,
+            0,
+            Some((6, io::ErrorKind::BrokenPipe)),
+            Ok(b"012345".as_slice()),
+            6,
+        ),
+    ];
+    for (count, most, interrupts, fails, expected, taken) in cases {
+        let mut reader = Pieces {
+            at: 0,
+            most,
+            interrupts,
+            fails,
+        };
+        match (read_front(rt.alloc(), &mut reader, count), expected) {
+            (Ok(bytes), Ok(expected)) => assert_eq!(rt; bytes.as_slice(), expected),
+            (Err(error), Err(expected)) => assert_eq!(rt; error, expected),
+            _ => assert!(rt; false, "another outcome"),
+        }
+        assert_eq!(rt; reader.at, taken);
+    }
+}
+
+// A writer that takes at most so many bytes of a piece, is interrupted at first, and fails at first to
+// flush. It notes its calls in their order.
 #[derive(Drop)]
 struct Slow {
     taken: Vec<u8>,
+    calls: Vec<u8>,
     most: usize,
-    flushes: bool,
+    interrupts: u32,
+    unflushed: u32,
 }
 
 impl Write for Slow {
     fn write(&mut self, buf: &[u8]) -> io::Result<usize> {
+        self.calls.push(b'w')?;
+        if self.interrupts > 0 {
+            self.interrupts -= 1;
+            return Err(io::Error::from(io::ErrorKind::Interrupted));
+        }
         let count = buf.len().min(self.most);
         self.taken.extend_from_slice(&buf[..count])?;
         Ok(count)
     }
 
     fn flush(&mut self) -> io::Result<()> {
-        if self.flushes {
-            Ok(())
-        } else {
-            Err(io::Error::from(io::ErrorKind::BrokenPipe))
+        self.calls.push(b'f')?;
+        if self.unflushed > 0 {
+            self.unflushed -= 1;
+            return Err(io::Error::from(io::ErrorKind::BrokenPipe));
         }
+        Ok(())
     }
 }
 
 #[test]
-fn a_stream_that_takes_a_piece_in_parts(rt: HostRuntime) {
-    let mut slow = Slow {
-        taken: Vec::new(rt.alloc()),
-        most: 2,
-        flushes: true,
-    };
-    let mut sink = StreamSink::new(&mut slow);
-    assert!(rt; sink.write(b"abcde").is_ok());
-    assert!(rt; sink.write(b"").is_ok());
-    drop(sink);
-    assert_eq!(rt; slow.taken.as_slice(), b"abcde".as_slice());
-}
-
-#[test]
-fn a_stream_that_takes_nothing(rt: HostRuntime) {
-    let mut sink = StreamSink::new(Slow {
-        taken: Vec::new(rt.alloc()),
-        most: 0,
-        flushes: true,
-    });
-    assert!(rt; sink.write(b"abcde").err() == Some(Failed));
-    assert!(rt; sink.write(b"").is_ok());
-}
-
-#[test]
-fn a_stream_that_does_not_flush(rt: HostRuntime) {
-    let mut sink = StreamSink::new(Slow {
-        taken: Vec::new(rt.alloc()),
-        most: 9,
-        flushes: false,
-    });
-    assert!(rt; sink.write(b"abcde").err() == Some(Failed));
+fn a_stream_writes_each_piece_whole_and_flushes_it(rt: HostRuntime) {
+    let long = [b'x'; 640];
+    // The most bytes at once, interrupted writes, failed flushes and the piece; whether it is taken, the
+    // bytes, and the calls.
+    let cases = [
+        (
+            2,
+            0,
+            0,
+            b"abcde".as_slice(),
+            true,
+            b"abcde".as_slice(),
+            b"wwwf".as_slice(),
+        ),
+        (
+            9,
+            2,
+            0,
+            b"abcde".as_slice(),
+            true,
+            b"abcde".as_slice(),
+            b"wwwf".as_slice(),
+        ),
+        (
+            999,
+            0,
+            0,
+            long.as_slice(),
+            true,
+            long.as_slice(),
+            b"wf".as_slice(),
+        ),
+        (
+            0,
+            0,
+            0,
+            b"".as_slice(),
+            true,
+            b"".as_slice(),
+            b"f".as_slice(),
+        ),
+        (
+            0,
+            0,
+            0,
+            b"abcde".as_slice(),
+            false,
+            b"".as_slice(),
+            b"w".as_slice(),
+        ),
+        (
+            9,
+            0,
+            1,
+            b"abcde".as_slice(),
+            false,
+            b"abcde".as_slice(),
+            b"wf".as_slice(),
+        ),
+    ];
+    for (most, interrupts, unflushed, piece, is_taken, bytes, calls) in cases {
+        let mut slow = Slow {
+            taken: Vec::new(rt.alloc()),
+            calls: Vec::new(rt.alloc()),
+            most,
+            interrupts,
+            unflushed,
+        };
+        let mut sink = StreamSink::new(&mut slow);
+        assert_eq!(rt; sink.write(piece).is_ok(), is_taken);
+        drop(sink);
+        assert_eq!(rt; slow.taken.as_slice(), bytes);
+        assert_eq!(rt; slow.calls.as_slice(), calls);
+    }
 }
 
 #[test]
