@@ -10,7 +10,8 @@ use Rattle.ttp_world.specs.declared.node.Entry.{Entry}
 use Rattle.ttp_world.specs.declared.node.Entry.TheVariants as entry
 use Rattle.ttp_world.specs.declared.node.Phase.{Phase}
 use Rattle.ttp_world.specs.declared.node.Phase.TheVariants as phase
-use Rattle.ttp_world.specs.Act.{act, phase_act, is_start_due, Off, Gone, Listen, Start}
+use Rattle.ttp_world.specs.declared.node.Act.TheVariants.{Off, Gone, Listen, Start}
+use Rattle.ttp_world.specs.Act.{act, phase_act, is_start_due}
 use Rattle.ttp_world.specs.Conduct.{join_entry, channel_join, listening_entry, new_entry}
 use Rattle.ttp_world.specs.Diary.{Diary, Surroundings, phase_of, is_active_phase, continues_stint, may_follow}
 use Rattle.ttp_world.specs.Fitting.{joinable}

@@ -1,4 +1,14 @@
 pub mod Entries
+pub mod EventBounds
+pub mod FlipLists
+pub mod Fronts
 pub mod Lists
 pub mod MemberSets
 pub mod Pasts
+pub mod Covering
+pub mod PointBounds
+pub mod Splits
+pub mod Sweep
+pub mod Told
+pub mod Totals
+pub mod WeightBounds

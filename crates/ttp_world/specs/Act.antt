@@ -1,24 +1,15 @@
 -- What a node does in a slot, by its past.
 use Rattle.std.specs.Prelude.{ℕ, nat_le, Bool, ◌&&◌, ◌==◌, if◌then◌else◌}
 use Rattle.ttp_world.specs.declared.medl.Medl.{Medl}
+use Rattle.ttp_world.specs.declared.node.Act.{Act}
+use Rattle.ttp_world.specs.declared.node.Act.TheVariants.{Off, Gone, Listen, Start, Retry, Leave, Send, Judge}
 use Rattle.ttp_world.specs.declared.node.Phase.{Phase}
 use Rattle.ttp_world.specs.declared.node.Phase.TheVariants as phase
-use Rattle.ttp_world.specs.declared.node.Reason.{Reason}
 use Rattle.ttp_world.specs.declared.node.Reason.TheVariants as reason
 use Rattle.ttp_world.specs.Acknowledgement.{is_open}
 use Rattle.ttp_world.specs.Diary.{Place, next_place}
 use Rattle.ttp_world.specs.Medl.{may_start}
 use Rattle.ttp_world.specs.Past.{NodePast}
-
-pub data Act : Type 0 where
-  Off : Act
-  Gone : Act
-  Listen : Act
-  Start : Act
-  Retry : Act
-  Leave : (reason : Reason) → Act
-  Send : Act
-  Judge : Act
 
 -- the place of the coming slot, by an active node's own C-state
 abbrev pub coming_place : Medl → NodePast → Place

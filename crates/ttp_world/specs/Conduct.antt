@@ -12,7 +12,9 @@ use Rattle.ttp_world.specs.declared.node.Reason.TheVariants as reason
 use Rattle.ttp_world.specs.declared.node.Verdict.{Verdict}
 use Rattle.ttp_world.specs.declared.node.Verdict.TheVariants as verdict
 use Rattle.ttp_world.specs.Acknowledgement.{is_correct}
-use Rattle.ttp_world.specs.Act.{Act, coming_place, Off, Gone, Listen, Start, Retry, Leave, Send, Judge}
+use Rattle.ttp_world.specs.declared.node.Act.{Act}
+use Rattle.ttp_world.specs.declared.node.Act.TheVariants.{Off, Gone, Listen, Start, Retry, Leave, Send, Judge}
+use Rattle.ttp_world.specs.Act.{coming_place}
 use Rattle.ttp_world.specs.Diary.{Place, cstate_at}
 use Rattle.ttp_world.specs.Fitting.{joinable}
 use Rattle.ttp_world.specs.Frame.{cold_start_header, header_of, frame}

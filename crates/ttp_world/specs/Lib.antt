@@ -1,4 +1,9 @@
 pub mod Medl
+pub mod Events
+pub mod Index
+pub mod Weights
+pub mod Points
+pub mod Flips
 pub mod Script
 pub mod CheckWord
 pub mod Frame

@@ -1,20 +1,19 @@
 -- What a script says of a slot, and when it is valid for a list.
 --
 -- A script is asked by its events: which of them speak of a node in a slot, and what they add up to.
-use Rattle.std.specs.Prelude.{◌≡◌, ◌≢◌, ℕ, ◌<◌, ◌≤◌, nat_le, ℤ, pos, neg_ℤ, ◌+ℤ◌, is_some, if◌then◌else◌, ◌≤ℤ◌, Bool, true, false, ◌&&◌, ◌==◌, List, [], ◌∷◌, length, get_or, count_by, slice_get, All, Option, Some, None, unwrap_or, IfSome}
+use Rattle.std.specs.Prelude.{◌≡◌, ◌≢◌, ℕ, ◌<◌, ◌≤◌, nat_le, ℤ, pos, is_some, if◌then◌else◌, Bool, true, false, ◌==◌, List, length, get_or, count_by, slice_get, All, Option, Some, None, unwrap_or, IfSome}
 use Rattle.std.specs.List.{list_any, filter_map}
+use Rattle.ttp_world.specs.declared.events.Incidents.{Incidents}
 use Rattle.ttp_world.specs.declared.medl.Medl.{Medl}
 use Rattle.ttp_world.specs.declared.script.Channel.{Channel}
-use Rattle.ttp_world.specs.declared.script.Channel.TheVariants as channel
-use Rattle.ttp_world.specs.declared.script.Channels.{Channels}
-use Rattle.ttp_world.specs.declared.script.Fault.{Fault}
-use Rattle.ttp_world.specs.declared.script.Fault.TheVariants as fault
-use Rattle.ttp_world.specs.declared.script.Source.{Source}
-use Rattle.ttp_world.specs.declared.script.Source.TheVariants as source
 use Rattle.ttp_world.specs.declared.script.Event.{Event}
 use Rattle.ttp_world.specs.declared.script.Event.TheVariants as event
+use Rattle.ttp_world.specs.declared.script.Fault.{Fault}
 use Rattle.ttp_world.specs.declared.script.Script.{Script}
-use Rattle.ttp_world.specs.declared.script.TheConstants.{SLOT_LIMIT}
+use Rattle.ttp_world.specs.declared.script.Source.{Source}
+use Rattle.ttp_world.specs.declared.script.Source.TheVariants as source
+use Rattle.ttp_world.specs.declared.script.TheConstants.{SLOT_LIMIT, EVENT_LIMIT, HOST_EVENT_LIMIT, DRIFT_LIMIT, ERROR_LIMIT, JUMP_LIMIT, FIRST_FLIPPED_BIT, LAST_FLIPPED_BIT}
+pub use Rattle.ttp_world.specs.Events.{arms, covers, is_among, is_same_fault, is_send_fault, is_receive_fault, flipped_bit, bit_on, bits_on, sum_ℤ, error_in, jump_in, incidents_in, IsWithinSpan, IsBounded, AreBounded}
 use Rattle.ttp_world.specs.Medl.{plan_at}
 
 -- When nodes are switched on.
@@ -34,39 +33,11 @@ has_come slot (Some on) = nat_le on slot
 abbrev pub is_on : Script → ℕ → ℕ → Bool
 is_on script k slot = has_come slot (on_slot script k)
 
--- whether an event arms a node in a slot, and whether one of them does
-abbrev pub arms : ℕ → ℕ → Event → Bool
-arms k slot (event.Arm node at) = (node == k) && (at == slot)
-arms k slot _ = false
-
+-- whether an event arms a node in a slot
 abbrev pub is_armed : Script → ℕ → ℕ → Bool
 is_armed script k slot = list_any (arms k slot) script.events
 
 -- Faults on a channel.
-
-abbrev pub covers : ℕ → ℕ → ℕ → Bool
-covers from to slot = nat_le from slot && nat_le slot to
-
-abbrev pub is_among : Channel → Channels → Bool
-is_among channel.A channels = channels.a
-is_among channel.B channels = channels.b
-
-abbrev pub is_same_fault : Fault → Fault → Bool
-is_same_fault fault.Silence fault.Silence = true
-is_same_fault fault.Silence fault.Noise = false
-is_same_fault fault.Noise fault.Silence = false
-is_same_fault fault.Noise fault.Noise = true
-
--- an event is a send fault, or a receive fault, of this kind on a node's channel in a slot
-abbrev pub is_send_fault : Fault → ℕ → Channel → ℕ → Event → Bool
-is_send_fault kind k c slot (event.Send node channels f from to) =
-    (node == k) && (is_among c channels && (is_same_fault f kind && covers from to slot))
-is_send_fault kind k c slot _ = false
-
-abbrev pub is_receive_fault : Fault → ℕ → Channel → ℕ → Event → Bool
-is_receive_fault kind k c slot (event.Receive node channels f from to) =
-    (node == k) && (is_among c channels && (is_same_fault f kind && covers from to slot))
-is_receive_fault kind k c slot _ = false
 
 abbrev pub has_send_fault : Script → Fault → ℕ → Channel → ℕ → Bool
 has_send_fault script kind k c slot = list_any (is_send_fault kind k c slot) script.events
@@ -74,42 +45,31 @@ has_send_fault script kind k c slot = list_any (is_send_fault kind k c slot) scr
 abbrev pub has_receive_fault : Script → Fault → ℕ → Channel → ℕ → Bool
 has_receive_fault script kind k c slot = list_any (is_receive_fault kind k c slot) script.events
 
--- the bit that an event flips in the frame that a node sends on a channel in a slot, and all such bits
-abbrev pub flipped_bit : ℕ → Channel → ℕ → Event → Option ℕ
-flipped_bit k c slot (event.Flip node channels bit at) = if (node == k) && (is_among c channels && (at == slot)) then Some bit else None
-flipped_bit k c slot _ = None
-
+-- the bits that events flip in the frame that a node sends on a channel in a slot, in the order of the script
 abbrev pub flipped_bits : Script → ℕ → Channel → ℕ → List ℕ
 flipped_bits script k c slot = filter_map (flipped_bit k c slot) script.events
 
 -- Clocks.
 
-abbrev pub sum_ℤ : List ℤ → ℤ
-sum_ℤ [] = pos 0
-sum_ℤ (z ∷ zs) = z +ℤ sum_ℤ zs
-
 abbrev pub drift_of : Script → ℕ → ℤ
 drift_of script k = get_or script.drift k (pos 0)
 
--- the reading error that an event gives a receiver in a slot, and the sum of them
-abbrev pub error_in : ℕ → ℕ → Event → Option ℤ
-error_in k slot (event.Error node value from to) = if (node == k) && covers from to slot then Some value else None
-error_in k slot _ = None
-
+-- the sum of a receiver's reading errors in a slot
 abbrev pub reading_error : Script → ℕ → ℕ → ℤ
 reading_error script k slot = sum_ℤ (filter_map (error_in k slot) script.events)
 
--- the jump that an event gives a node's clock in a slot, and the sum of them
-abbrev pub jump_in : ℕ → ℕ → Event → Option ℤ
-jump_in k slot (event.Jump node value at) = if (node == k) && (at == slot) then Some value else None
-jump_in k slot _ = None
-
+-- the sum of the jumps of a node's clock in a slot
 abbrev pub jump_of : Script → ℕ → ℕ → ℤ
 jump_of script k slot = sum_ℤ (filter_map (jump_in k slot) script.events)
 
 -- whether there is one, be it by nothing
 abbrev pub has_jump : Script → ℕ → ℕ → Bool
 has_jump script k slot = list_any (λ e. is_some (jump_in k slot e)) script.events
+
+-- All that happens to a node in a slot but what its host does.
+
+abbrev pub incidents_of : Script → ℕ → ℕ → Incidents
+incidents_of script k slot = incidents_in script.events k slot
 
 -- Hosts.
 
@@ -147,10 +107,6 @@ messages_written script k slot = filter_map (payload_of_host k) (writes_in scrip
 
 -- When a script is valid for a list.
 
--- a number of microticks lies within plus or minus a bound
-abbrev pub IsWithinSpan : ℕ → ℤ → Type 0
-IsWithinSpan bound z = (neg_ℤ (pos bound) ≤ℤ z) × (z ≤ℤ pos bound)
-
 -- a node of the list, in slots of the run
 abbrev pub IsSpan : Script → ℕ → ℕ → Type 0
 IsSpan script from to = (from ≤ to) × (to < script.slots)
@@ -163,9 +119,9 @@ IsSource list host (source.Node k) = (k < length list.slots) × (1 ≤ (plan_at 
 abbrev pub IsValidEvent : Medl → Script → Event → Type 0
 IsValidEvent list script (event.Send node channels f from to) = (node < length list.slots) × IsSpan script from to
 IsValidEvent list script (event.Receive node channels f from to) = (node < length list.slots) × IsSpan script from to
-IsValidEvent list script (event.Flip node channels bit slot) = (node < length list.slots) × (8 ≤ bit) × (bit ≤ 2047) × (slot < script.slots)
-IsValidEvent list script (event.Error node value from to) = (node < length list.slots) × IsWithinSpan 10000 value × IsSpan script from to
-IsValidEvent list script (event.Jump node value slot) = (node < length list.slots) × IsWithinSpan 1000000 value × (slot < script.slots)
+IsValidEvent list script (event.Flip node channels bit slot) = (node < length list.slots) × (FIRST_FLIPPED_BIT ≤ bit) × (bit ≤ LAST_FLIPPED_BIT) × (slot < script.slots)
+IsValidEvent list script (event.Error node value from to) = (node < length list.slots) × IsWithinSpan ERROR_LIMIT value × IsSpan script from to
+IsValidEvent list script (event.Jump node value slot) = (node < length list.slots) × IsWithinSpan JUMP_LIMIT value × (slot < script.slots)
 IsValidEvent list script (event.Arm node slot) = (node < length list.slots) × (slot < script.slots)
 IsValidEvent list script (event.Write node slot payload) =
     (node < length list.slots) × (slot < script.slots) × (1 ≤ (plan_at list node).payload) × (length payload ≡ (plan_at list node).payload)
@@ -186,8 +142,8 @@ pub record IsValidScript (list : Medl) (script : Script) : Type 0 where
   pub on_count : length script.on ≡ length list.slots
   pub on : All (IsWithinRun script) script.on
   pub drift_count : length script.drift ≡ length list.slots
-  pub drift : All (IsWithinSpan 1000) script.drift
+  pub drift : All (IsWithinSpan DRIFT_LIMIT) script.drift
   pub events : All (IsValidEvent list script) script.events
   pub writes : (k slot : ℕ) → length (messages_written script k slot) < list.buffers
-  pub event_count : length script.events ≤ 131072
-  pub host_event_count : count_by is_host_event script.events ≤ 95325
+  pub event_count : length script.events ≤ EVENT_LIMIT
+  pub host_event_count : count_by is_host_event script.events ≤ HOST_EVENT_LIMIT

@@ -2,14 +2,16 @@
 --
 -- A history is all that there is. From it, the list, the script and the messages that the nodes are to send, each
 -- slot adds one entry to each node's diary.
-use Rattle.std.specs.Prelude.{ℕ, ℤ, pos, ◌+ℤ◌, ◌-ℤ◌, List, [], ◌∷◌, map, length, get_or, flat_map, Option, None, if◌then◌else◌}
+use Rattle.std.specs.Prelude.{ℕ, ℤ, pos, ◌+ℤ◌, ◌-ℤ◌, List, [], ◌∷◌, map, length, get_or, flat_map, Option, None}
 use Rattle.ttp_base.specs.NodeSet.{below}
 use Rattle.ttp_world.specs.declared.medl.Medl.{Medl}
 use Rattle.ttp_world.specs.declared.node.Chosen.{Chosen}
 use Rattle.ttp_world.specs.declared.node.Entry.{Entry}
 use Rattle.ttp_world.specs.declared.script.Channel.TheVariants as channel
 use Rattle.ttp_world.specs.declared.script.Script.{Script}
-use Rattle.ttp_world.specs.Act.{Act, act, Off}
+use Rattle.ttp_world.specs.declared.node.Act.{Act}
+use Rattle.ttp_world.specs.declared.node.Act.TheVariants.{Off}
+use Rattle.ttp_world.specs.Act.{act}
 use Rattle.ttp_world.specs.Conduct.{node_frames, new_entry}
 use Rattle.ttp_world.specs.Diary.{History, diary_of}
 use Rattle.ttp_world.specs.Medium.{SentFrame, heard, surroundings_of}
@@ -18,8 +20,13 @@ use Rattle.ttp_world.specs.Past.{NodePast, past_of, no_past}
 use Rattle.ttp_world.specs.Reception.{Hearing}
 use Rattle.ttp_world.specs.Script.{is_on, is_armed, jump_of, reading_error}
 
+-- The jumps of a slot move the clock of a node that isn't off.
+abbrev pub jump_taken : Act → ℤ → ℤ
+jump_taken Off jump = pos 0
+jump_taken _ jump = jump
+
 -- A node that is ready for a slot: its past, what it does, the message that it is to send, and its clock at the slot's
--- beginning, with the slot's jumps where the node is on.
+-- beginning, with the slot's jumps.
 
 pub record ReadyNode : Type 0 where
   pub past : NodePast
@@ -28,12 +35,9 @@ pub record ReadyNode : Type 0 where
   pub clock : ℤ
 
 abbrev pub ready_node : Medl → Script → ℕ → NodePast → Chosen → ℕ → ReadyNode
-ready_node list script slot past chosen k = record {
-  past = past;
-  act = act list k (is_on script k slot) (is_armed script k slot) past;
-  chosen = chosen;
-  clock = past.offset +ℤ (if is_on script k slot then jump_of script k slot else pos 0);
-}
+ready_node list script slot past chosen k =
+    let does = act list k (is_on script k slot) (is_armed script k slot) past in
+    record { past = past; act = does; chosen = chosen; clock = past.offset +ℤ jump_taken does (jump_of script k slot) }
 
 -- what is read of node k's past in a history
 abbrev pub node_past : Medl → Script → History → ℕ → NodePast

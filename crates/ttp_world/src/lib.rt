@@ -7,18 +7,34 @@
 //! What the cluster then does is the world of `specs/World.antt`, a list of the entries of all nodes
 //! for each slot.
 //!
+//! A script finds what happens to a node in a slot by an index of its [`Events`], which is made once:
+//! [`Script::incidents`] and [`Script::flips`] cost the same however many events there are.
+//!
 //! The crate reads, prints and decides nothing.
 #![tactic(auto)]
 
+mod events;
+mod flips;
+mod index;
 mod keep;
 mod medl;
 mod node;
+mod points;
 mod script;
+mod weights;
 
+pub use events::{Events, FlippedBit, Incidents};
 pub use keep::Keep;
 pub use medl::{Kind, Medl, SlotPlan};
 pub use node::{
-    Ack, CState, ChannelView, Chosen, Delivered, Entry, NodeState, Phase, Reason, StatusWords,
+    Ack, Act, CState, ChannelView, Chosen, Delivered, Entry, NodeState, Phase, Reason, StatusWords,
     Verdict,
 };
-pub use script::{Channel, Channels, Event, Fault, Payload, SLOT_LIMIT, Script, Source};
+pub use script::{
+    Channel, Channels, DRIFT_LIMIT, ERROR_LIMIT, EVENT_LIMIT, Event, FIRST_FLIPPED_BIT, Fault,
+    HOST_EVENT_LIMIT, JUMP_LIMIT, LAST_FLIPPED_BIT, PAYLOAD_LIMIT, Payload, SLOT_LIMIT, Script,
+    Source,
+};
+
+#[cfg(test)]
+mod tests;

@@ -1,6 +1,9 @@
 //! The message descriptor list.
 
-use ttp_base::List;
+ghost use Rattle.std.specs.Prelude.{◌≡◌, IfOk};
+
+use std::alloc::Global;
+use ttp_base::{List, Memory};
 
 /// What a node sends in its slot.
 ///
@@ -56,9 +59,48 @@ pub struct Medl {
     pub slots: List<SlotPlan>,
 }
 
+impl SlotPlan {
+    ghost use Rattle.std.specs.Prelude.{◌≡◌, IfOk};
+
+    // A copy of a slot.
+    fn copy(&self, alloc: Global) -> Result<SlotPlan, Memory>
+        ensures { IfOk result (λ copy. copy ≡ self.now) }
+    {
+        let Ok(kinds) = Vec::from_slice(alloc, self.kinds.as_slice()) else {
+            return Err(Memory);
+        };
+        Ok(SlotPlan {
+            kinds: List::from_vec(kinds),
+            payload: self.payload,
+            sync: self.sync,
+            start: self.start,
+            requests: self.requests,
+            live: self.live,
+        })
+    }
+}
+
 impl Medl {
-    ghost use Rattle.std.specs.Prelude.{◌≡◌, ◌<◌, length};
+    ghost use Rattle.std.specs.Prelude.{◌≡◌, ◌<◌, length, IfOk};
     ghost use Rattle.ttp_world.specs.Medl.{IsValid, kind_at, is_wide};
+
+    /// A copy of the list.
+    pub fn copy(&self, alloc: Global) -> Result<Medl, Memory>
+        ensures { IfOk result (λ copy. copy ≡ self.now) }
+    {
+        let slots = copy_of(alloc, self.slots.as_slice())?;
+        Ok(Medl {
+            version: self.version,
+            rounds: self.rounds,
+            schedule: self.schedule,
+            buffers: self.buffers,
+            drift: self.drift,
+            error: self.error,
+            window: self.window,
+            modes: self.modes,
+            slots,
+        })
+    }
 
     /// How many nodes the cluster has: one for each slot.
     pub fn nodes(&self) -> u8
@@ -84,4 +126,15 @@ impl Medl {
     {
         *self.slots.get(slot as usize).kinds.get(round as usize)
     }
+}
+
+// A copy of slots.
+fn copy_of(alloc: Global, slots: &[SlotPlan]) -> Result<List<SlotPlan>, Memory>
+    ensures { IfOk result (λ copy. copy ≡ slots.now) }
+{
+    let mut copy = List::new(alloc);
+    for slot in slots {
+        copy.push(slot.copy(alloc)?)?;
+    }
+    Ok(copy)
 }

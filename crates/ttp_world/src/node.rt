@@ -79,6 +79,27 @@ pub enum Phase {
     Left,
 }
 
+/// What a node does in a slot, by its past alone.
+#[derive(Clone, Copy, Debug, PartialEq, Eq)]
+pub enum Act {
+    /// It is off.
+    Off,
+    /// It has left, and does not listen again in this slot.
+    Gone,
+    /// It listens.
+    Listen,
+    /// It sends a cold-start frame.
+    Start,
+    /// It withdraws its cold start, and listens from the next slot on.
+    Retry,
+    /// It leaves in its own slot.
+    Leave(Reason),
+    /// It sends its frame.
+    Send,
+    /// It judges the slot of another node.
+    Judge,
+}
+
 /// What a node did in a slot.
 #[derive(Clone, Copy, Debug, PartialEq, Eq)]
 pub enum Entry {

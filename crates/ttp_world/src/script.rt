@@ -1,10 +1,39 @@
 //! What a script says: which nodes are switched on, their clocks, faults, and what hosts do.
 
+ghost use Rattle.std.specs.Prelude.{◌≡◌, ◌<◌, length};
+ghost use Rattle.ttp_world.specs.declared.script.Channel.{Channel};
+ghost use Rattle.ttp_world.specs.Script.{is_on, incidents_of, flipped_bits, bits_on, AreBounded};
+
+use crate::events::{Events, FlippedBit, Incidents};
 use std::marker::Model;
 use ttp_base::List;
 
 /// The most slots of a run.
 pub const SLOT_LIMIT: u32 = 20_000;
+
+/// The most events of a script.
+pub const EVENT_LIMIT: usize = 131_072;
+
+/// The most events of a script that speak of hosts: writes and reads.
+pub const HOST_EVENT_LIMIT: usize = 95_325;
+
+/// The largest drift of a node's clock in one slot, in microticks, either way.
+pub const DRIFT_LIMIT: u32 = 1_000;
+
+/// The largest reading error of one event, in microticks, either way.
+pub const ERROR_LIMIT: u32 = 10_000;
+
+/// The largest jump of one event, in microticks, either way.
+pub const JUMP_LIMIT: u32 = 1_000_000;
+
+/// The first bit of a frame that can be flipped: the first after the header.
+pub const FIRST_FLIPPED_BIT: u16 = 8;
+
+/// The last bit that an event can flip: the last of 256 bytes.
+pub const LAST_FLIPPED_BIT: u16 = 2_047;
+
+/// The most bytes of a frame's payload.
+pub const PAYLOAD_LIMIT: usize = 240;
 
 /// One of the two channels of the bus.
 #[derive(Clone, Copy, Debug, PartialEq, Eq)]
@@ -42,7 +71,7 @@ pub struct Payload {
     /// How many bytes there are.
     pub len: u8,
     /// The bytes, with zeros after them.
-    pub bytes: [u8; 240],
+    pub bytes: [u8; PAYLOAD_LIMIT],
 }
 
 impl Model for Payload {
@@ -125,5 +154,34 @@ pub struct Script {
     /// For each node how far its clock drifts in a slot, in microticks.
     pub drift: List<i64>,
     /// What happens in slots, in the order of the script.
-    pub events: List<Event>,
+    pub events: Events,
+}
+
+impl Script {
+    /// Whether a node is on in a slot: from the slot on in which it is switched on.
+    pub fn is_on(&self, node: u8, slot: u32) -> bool
+        requires { node < length self.now.on }
+        ensures { result ≡ is_on self.now node slot }
+    {
+        match self.on.get(node as usize) {
+            Some(on) => *on <= slot,
+            None => false,
+        }
+    }
+
+    /// What happens to a node in a slot, all but what its host does. Costs a binary search.
+    pub fn incidents(&self, node: u8, slot: u32) -> Incidents
+        ensures value { result ≡ incidents_of self.now node slot }
+        ensures bounds { AreBounded result }
+    {
+        self.events.incidents(node, slot)
+    }
+
+    /// The bits that are flipped in the frame that a node sends in a slot, each with its channels, in
+    /// the order of the script. Costs two binary searches.
+    pub fn flips(&self, node: u8, slot: u32) -> &[FlippedBit]
+        ensures { (c : Channel) → bits_on c result.now ≡ flipped_bits self.now node c slot }
+    {
+        self.events.flips(node, slot)
+    }
 }

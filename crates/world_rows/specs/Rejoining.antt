@@ -9,7 +9,8 @@ use Rattle.ttp_world.specs.declared.node.Verdict.TheVariants as verdict
 use Rattle.ttp_world.specs.declared.script.Event.TheVariants as event
 use Rattle.ttp_world.specs.declared.script.Fault.TheVariants as fault
 use Rattle.ttp_world.specs.declared.script.Script.{Script}
-use Rattle.ttp_world.specs.Act.{Act, act}
+use Rattle.ttp_world.specs.declared.node.Act.{Act}
+use Rattle.ttp_world.specs.Act.{act}
 use Rattle.ttp_world.specs.Diary.{Diary}
 use Rattle.ttp_world.specs.Past.{past_of}
 use Rattle.world_rows.specs.Cases.{bare_list, bare_slot, list_with, script_of, script_on, both}

@@ -2,7 +2,8 @@
 ghost use Rattle.std.specs.Prelude.{◌≡◌, [], ◌∷◌, ◌++◌, pos, true, false, None, codes};
 ghost use Rattle.ttp_world.specs.declared.keep.Keep.TheVariants as keep;
 ghost use Rattle.ttp_world.specs.declared.node.Entry.TheVariants as entry;
-ghost use Rattle.ttp_world.specs.Act.{act, Off, Gone, Listen, Judge};
+ghost use Rattle.ttp_world.specs.declared.node.Act.TheVariants.{Off, Gone, Listen, Judge};
+ghost use Rattle.ttp_world.specs.Act.{act};
 ghost use Rattle.ttp_world.specs.Clock.{notes_of, correction_of};
 ghost use Rattle.ttp_world.specs.Hypothesis.{keeps};
 ghost use Rattle.ttp_world.specs.Past.{past_of, limit_of};

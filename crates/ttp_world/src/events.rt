@@ -1,0 +1,117 @@
+//! The events of a script, which are found by node and slot.
+ghost use Rattle.std.specs.Prelude.{◌≡◌, ◌≤◌, [], length, All, IfOk};
+ghost use Rattle.std.specs.List.{filter_map};
+ghost use Rattle.ttp_world.specs.declared.script.Channel.{Channel};
+ghost use Rattle.ttp_world.specs.Events.{bits_on, flipped_bit, incidents_in, IsBounded, AreBounded};
+
+use crate::index::{
+    Index, bits_between, incidents_before, key_of, keys_below, keys_up_to, steps_up_to,
+};
+use crate::script::{Channels, EVENT_LIMIT, Event};
+use std::alloc::Global;
+use std::marker::Model;
+use ttp_base::{List, Memory};
+
+/// What happens to a node in a slot, all but what its host does.
+#[derive(Clone, Copy, Debug, PartialEq, Eq)]
+pub struct Incidents {
+    /// The channels on which what it sends is silenced.
+    pub send_silence: Channels,
+    /// The channels on which what it sends is turned into noise.
+    pub send_noise: Channels,
+    /// The channels on which what it hears is silenced.
+    pub receive_silence: Channels,
+    /// The channels on which what it hears is turned into noise.
+    pub receive_noise: Channels,
+    /// Whether a bit of the frame that it sends is flipped, on either channel.
+    pub has_flip: bool,
+    /// Whether it is armed to listen again.
+    pub armed: bool,
+    /// The sum of its reading errors, in microticks.
+    pub error: i64,
+    /// The sum of the jumps of its clock, in microticks.
+    pub jump: i64,
+}
+
+/// A bit of a frame that is flipped on these channels.
+#[derive(Clone, Copy, Debug, PartialEq, Eq)]
+pub struct FlippedBit {
+    pub channels: Channels,
+    /// Counted from the first byte's most significant.
+    pub bit: u16,
+}
+
+/// The events of a script, which contracts see as the list of them in the order of the script.
+///
+/// They have an index, which is made once: what happens to a node in a slot is found by a binary
+/// search in it, however many events there are and however many cover the slot.
+#[derive(Debug, Drop)]
+pub struct Events {
+    items: List<Event>,
+    index: Index,
+}
+
+impl Model for Events {
+    ghost use Rattle.std.specs.Prelude.{List as Items};
+    ghost use Rattle.ttp_world.specs.declared.script.Event.{Event};
+
+    ghost Value = { Items Event };
+
+    ghost use Rattle.ttp_world.specs.Index.{AreFew, IsIndexOf};
+
+    ghost view = { λ e. e.items };
+
+    ghost invariant = { λ e. AreFew e.items × IsIndexOf e.items e.index };
+}
+
+impl Events {
+    /// No events. Takes no memory.
+    pub fn none(alloc: Global) -> Events
+        ensures { result ≡ [] }
+    {
+        Events {
+            items: List::new(alloc),
+            index: Index::empty(alloc),
+        }
+    }
+
+    /// These events, with their index. Takes time as a sort of the events does, and memory that
+    /// grows with their number.
+    pub fn index(alloc: Global, items: List<Event>) -> Result<Events, Memory>
+        requires count { length items ≤ EVENT_LIMIT }
+        requires values { All IsBounded items }
+        ensures { IfOk result (λ events. events ≡ items) }
+    {
+        let index = Index::of(alloc, items.as_slice())?;
+        Ok(Events { items, index })
+    }
+
+    /// All events, in the order of the script.
+    pub fn as_slice(&self) -> &[Event]
+        ensures { result.now ≡ self.now }
+    {
+        self.items.as_slice()
+    }
+
+    /// What happens to a node in a slot. Costs a binary search.
+    pub(crate) fn incidents(&self, node: u8, slot: u32) -> Incidents
+        ensures value { result ≡ incidents_in self.now node slot }
+        ensures bounds { AreBounded result }
+    {
+        let steps = self.index.steps.as_slice();
+        let place = steps_up_to(steps, key_of(node, slot));
+        incidents_before(steps, place)
+    }
+
+    /// The bits that are flipped in the frame that a node sends in a slot, in the order of the
+    /// script. Costs two binary searches.
+    pub(crate) fn flips(&self, node: u8, slot: u32) -> &[FlippedBit]
+        ensures { (c : Channel) → bits_on c result.now ≡ filter_map (flipped_bit node c slot) self.now }
+    {
+        let key = key_of(node, slot);
+        let keys = self.index.flips.keys.as_slice();
+        let from = keys_below(keys, key);
+        let to = keys_up_to(keys, key);
+        bits_between(self.index.flips.bits.as_slice(), from, to)
+    }
+}
