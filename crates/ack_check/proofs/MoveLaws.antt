@@ -6,17 +6,20 @@ use Rattle.ttp_base.specs.NodeSet.{most_nodes, below, has_node, with_node, witho
 use Rattle.ttp_base.proofs.NodeSets.{same_sieve, filter-filter, has_node-without}
 use Rattle.ttp_world.specs.declared.node.Ack.{Ack}
 use Rattle.ttp_world.specs.declared.node.Ack.TheVariants as ack
+use Rattle.ttp_world.specs.declared.node.ChannelView.{ChannelView}
+use Rattle.ttp_world.specs.declared.node.ChannelView.TheVariants as view
 use Rattle.ttp_world.specs.declared.node.Entry.TheVariants as entry
 use Rattle.ttp_world.specs.declared.node.Verdict.{Verdict}
 use Rattle.ttp_world.specs.declared.node.Verdict.TheVariants as verdict
 use Rattle.ttp_world.specs.Acknowledgement.{is_correct}
 use Rattle.ttp_world.specs.After.{judged_members, ack_answered}
 use Rattle.ttp_world.specs.Counts.{is_rejection}
+use Rattle.ttp_world.specs.Reception.{better_view, verdict_of_view, verdict_of}
 use Rattle.ttp_world.proofs.Pasts.{ack_of-cons}
 use Rattle.ack_check.specs.declared.moves.AckMove.{AckMove}
 use Rattle.ack_check.specs.declared.moves.AckMove.TheVariants.{Accept, Reject, Hold, Resolve, Leave}
 use Rattle.ack_check.specs.StandsFor.{StandsAfterJudged}
-use Rattle.ack_check.specs.Moves.{moved_members, adds_accepted, adds_rejected, move_of, IsDoubtElsewhere, IsMoveOf}
+use Rattle.ack_check.specs.Moves.{moved_members, adds_accepted, adds_rejected, taken_verdict, move_of, IsDoubtElsewhere, IsMoveOf}
 
 -- The acknowledgement.
 
@@ -122,3 +125,26 @@ IsMoveOf-move_of a v sender = record {
   rejects = rejects-move_of a v;
   members = moved_members-move_of a v sender;
 }
+
+-- Verdicts.
+
+taken-view : (v : ChannelView) (a : Ack) → taken_verdict a (verdict_of_view v a) ≡ verdict_of_view v a
+taken-view view.First ack.Closed = refl
+taken-view view.First ack.First = refl
+taken-view view.First (ack.Doubt x) = refl
+taken-view view.Second ack.Closed = refl
+taken-view view.Second ack.First = refl
+taken-view view.Second (ack.Doubt x) = refl
+taken-view view.Other ack.Closed = refl
+taken-view view.Other ack.First = refl
+taken-view view.Other (ack.Doubt x) = refl
+taken-view view.Bad ack.Closed = refl
+taken-view view.Bad ack.First = refl
+taken-view view.Bad (ack.Doubt x) = refl
+taken-view view.Silent ack.Closed = refl
+taken-view view.Silent ack.First = refl
+taken-view view.Silent (ack.Doubt x) = refl
+
+-- the verdict of two views is one that the acknowledgement can have
+pub taken-verdict_of : (x y : ChannelView) (a : Ack) → taken_verdict a (verdict_of x y a) ≡ verdict_of x y a
+taken-verdict_of x y a = taken-view (better_view x y) a

@@ -1,5 +1,5 @@
 //! How long it has been silent.
-ghost use Rattle.std.specs.Prelude.{◌≡◌, ◌↔◌};
+ghost use Rattle.std.specs.Prelude.{◌≡◌, ◌↔◌, nat_le};
 ghost use Rattle.ttp_world.specs.declared.node.CState.{CState as CStateValue};
 ghost use Rattle.cold_start.specs.StandsFor.{StandsFor, IsDueExactly, StandsAfterHeard, StandsAfterWaited, listen_move};
 
@@ -40,7 +40,8 @@ impl Listener {
 
     /// Whether the last `limit` slots or more were silent.
     pub fn due(&self) -> bool
-        ensures { IsDueExactly self.now result }
+        ensures value { result ≡ nat_le self.now.limit self.now.silent_slots }
+        ensures exact { IsDueExactly self.now result }
     {
         self.silent_slots >= self.limit
     }

@@ -1,5 +1,6 @@
 -- Members and counts after one more entry.
-use Rattle.std.proofs.Common.{ℕ, Bool, List, length, refl, ap, sym, ◌∙◌}
+use Rattle.std.proofs.Common.{◌≡◌, ℕ, ◌+◌, Bool, true, false, not, List, length, refl, ap, sym, ◌∙◌}
+use Rattle.std.specs.Prelude.{IsTrue, count_by}
 use Rattle.std.specs.List.{filter}
 use Rattle.std.proofs.lemmas.Bool.{false≢true}
 use Rattle.ttp_base.specs.NodeSet.{below, has_node, with_node}
@@ -7,7 +8,8 @@ use Rattle.ttp_base.proofs.NodeSets.{same_sieve, has_node-sieve}
 use Rattle.ttp_base.proofs.NodeLists.{filter-none}
 use Rattle.ttp_world.specs.declared.medl.Medl.{Medl}
 use Rattle.ttp_world.specs.declared.node.Entry.TheVariants as entry
-use Rattle.ttp_world.specs.Acknowledgement.{ack_of}
+use Rattle.ttp_world.specs.Acknowledgement.{is_judged_correct, since_sent_or_joined, ack_of}
+use Rattle.ttp_world.specs.Counts.{rejected_since}
 use Rattle.ttp_world.specs.Diary.{Diary, is_active}
 use Rattle.ttp_world.specs.Membership.{members_of, AreNodes, is_good}
 use Rattle.ttp_world.proofs.Lists.{nodes-most}
@@ -15,13 +17,13 @@ use Rattle.ttp_world.proofs.MemberSets.{members_after-Sent, members_after-Judged
 use Rattle.ttp_world.proofs.Pasts.{elim_both, members_of-cons, accepted_of-cons, rejected_of-cons}
 use Rattle.ack_check.specs.declared.moves.AckMove.{AckMove}
 use Rattle.ack_check.specs.Moves.{moved_members}
-use Rattle.member_clique.specs.FrameCounts.{FrameCounts, first_counts, counted, moved_counts}
+use Rattle.member_clique.specs.FrameCounts.{FrameCounts, no_counts, first_counts, counted, moved_counts}
 use Rattle.member_clique.specs.Members.{HoldAfterJoined, HoldAfterSent, HoldAfterJudged}
-use Rattle.member_clique.specs.Counted.{CountedAfterOwn, CountedAfterJudged}
+use Rattle.member_clique.specs.Counted.{CountedIdle, CountedAfterOwn, CountedAfterJudged}
 
 -- The members of a diary are nodes of the list.
 
-AreNodes-filter : (list : Medl) (p : ℕ → Bool) → AreNodes list (filter p (below (length list.slots)))
+pub AreNodes-filter : (list : Medl) (p : ℕ → Bool) → AreNodes list (filter p (below (length list.slots)))
 AreNodes-filter list p =
     let n = length list.slots in
     same_sieve p (has_node (filter p (below n))) n (λ j within. sym (has_node-sieve p n j within))
@@ -52,6 +54,17 @@ HoldAfterJudged-moved old move sender list k diary v deviation of after elsewher
     ∙ sym (members_of-cons list k diary (entry.Judged sender v deviation) after.active)
 
 -- Counts.
+
+-- a reading that stops where a test holds, where it does not hold
+elim-not : {A : Type 0} (b : Bool) (x y : A) → IsTrue (not b) → y ≡ (elim b [ true ↦ x | false ↦ y ])
+elim-not true x y fails = absurd (false≢true fails)
+elim-not false x y fails = refl
+
+pub CountedIdle-none : CountedIdle no_counts
+CountedIdle-none diary idle = record {
+  accepted = elim-not (is_active diary) (1 + count_by is_judged_correct (since_sent_or_joined diary)) 0 idle;
+  rejected = elim-not (is_active diary) (rejected_since diary) 0 idle;
+}
 
 pub CountedAfterOwn-first : CountedAfterOwn first_counts
 CountedAfterOwn-first diary entry.Started own = record { accepted = refl; rejected = refl }

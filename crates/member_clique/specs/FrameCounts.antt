@@ -7,6 +7,10 @@ pub record FrameCounts : Type 0 where
   pub accepted : ℕ
   pub rejected : ℕ
 
+-- those of a node that is not active
+abbrev pub no_counts : FrameCounts
+no_counts = record { accepted = 0; rejected = 0 }
+
 -- those of a node that has just sent, started or joined: its own frame is accepted
 abbrev pub first_counts : FrameCounts
 first_counts = record { accepted = 1; rejected = 0 }

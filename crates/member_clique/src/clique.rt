@@ -1,7 +1,7 @@
 //! The frames that an active node accepted and rejected.
 ghost use Rattle.std.specs.Prelude.{◌≡◌, ◌<◌, ◌↔◌, IsTrue};
-ghost use Rattle.member_clique.specs.FrameCounts.{FrameCounts, first_counts, counted, moved_counts};
-ghost use Rattle.member_clique.specs.Counted.{CountedAfterOwn, CountedAfterJudged};
+ghost use Rattle.member_clique.specs.FrameCounts.{FrameCounts, no_counts, first_counts, counted, moved_counts};
+ghost use Rattle.member_clique.specs.Counted.{CountedIdle, CountedAfterOwn, CountedAfterJudged};
 
 use ack_check::AckMove;
 use std::marker::Model;
@@ -42,6 +42,17 @@ impl Clique {
     {
         Clique {
             accepted: 1,
+            rejected: 0,
+        }
+    }
+
+    /// The counts of a node that is not active.
+    pub fn none() -> Clique
+        ensures value { result ≡ no_counts }
+        ensures idle { CountedIdle result }
+    {
+        Clique {
+            accepted: 0,
             rejected: 0,
         }
     }

@@ -19,7 +19,7 @@
 #![tactic(auto)]
 
 ghost use Rattle.std.specs.Prelude.{◌≡◌};
-ghost use Rattle.ttp_world.specs.Reception.{rank_of, better_view, verdict_of_view, verdict_of};
+ghost use Rattle.ttp_world.specs.Reception.{rank_of, is_taken_from_a, better_view, verdict_of_view, verdict_of};
 
 pub use ttp_world::ChannelView;
 use ttp_world::{Ack, Verdict};
@@ -40,11 +40,17 @@ fn rank_of(view: ChannelView) -> u8
     }
 }
 
-// The better of two views, and that of channel A where they are equal.
+/// Whether the view of channel A is taken, of these of A and B: it is the better, or they are equal.
+pub fn is_taken_from_a(a: ChannelView, b: ChannelView) -> bool
+    ensures { result ≡ is_taken_from_a a b }
+{
+    rank_of(a) <= rank_of(b)
+}
+
 fn better_view(a: ChannelView, b: ChannelView) -> ChannelView
     ensures { result ≡ better_view a b }
 {
-    if rank_of(a) <= rank_of(b) { a } else { b }
+    if is_taken_from_a(a, b) { a } else { b }
 }
 
 fn verdict_of_view(view: ChannelView, ack: Ack) -> Verdict
