@@ -1,0 +1,4 @@
+pub mod Carried
+pub mod Shows
+pub mod StandsFor
+pub mod ChannelState
