@@ -1,0 +1,130 @@
+-- What a controller stands for at each turn of a slot.
+use Rattle.std.proofs.Common.{◌≡◌, ◌<◌, None, ℕ, ◌≤◌, ℤ, pos, Bool, List, length, Option, refl, sym, ap, ◌∙◌, arith}
+use Rattle.ttp_world.specs.declared.medl.Medl.{Medl}
+use Rattle.ttp_world.specs.declared.node.Act.{Act}
+use Rattle.ttp_world.specs.declared.node.Act.TheVariants.{Off, Gone, Listen, Start, Retry, Leave, Send, Judge}
+use Rattle.ttp_world.specs.declared.node.Chosen.{Chosen}
+use Rattle.ttp_world.specs.Act.{act}
+use Rattle.ttp_world.specs.Conduct.{node_frames}
+use Rattle.ttp_world.specs.Diary.{Diary, Surroundings}
+use Rattle.ttp_world.specs.Medl.{IsValid}
+use Rattle.ttp_world.specs.Past.{NodePast, past_of}
+use Rattle.ttp_world.specs.World.{jump_taken}
+use Rattle.ttp_world.proofs.Lists.{nodes-most}
+use Rattle.cold_start.specs.StandsFor.{most_silent}
+use Rattle.controller.specs.Kept.{kept}
+use Rattle.controller.specs.StandsFor.{Begins, Plans, frames_planned, message_planned, payload_planned}
+use Rattle.controller.specs.Turn.{Turn, Ended, Begun, Planned, Seat}
+use Rattle.controller.proofs.Kept.{act-kept}
+use Rattle.controller.proofs.Within.{limit_of-within}
+
+-- a controller at a turn
+abbrev pub seat_at : Medl → ℕ → NodePast → ℕ → Turn → Seat
+seat_at list k past slots now = record { list = list; node = k; past = past; slots = slots; turn = now }
+
+-- what a turn knows of the slot
+abbrev act_in : Turn → Act
+act_in Ended = Off
+act_in (Begun does jump) = does
+act_in (Planned does jump message) = does
+
+abbrev jump_in : Turn → ℤ
+jump_in Ended = pos 0
+jump_in (Begun does jump) = jump
+jump_in (Planned does jump message) = jump
+
+abbrev message_in : Turn → Option ℕ
+message_in Ended = None
+message_in (Begun does jump) = None
+message_in (Planned does jump message) = message
+
+pub same_act : (now there : Turn) → now ≡ there → act_in now ≡ act_in there
+same_act now there same = ap act_in same
+
+pub same_jump : (now there : Turn) → now ≡ there → jump_in now ≡ jump_in there
+same_jump now there same = ap jump_in same
+
+pub same_message : (now there : Turn) → now ≡ there → message_in now ≡ message_in there
+same_message now there same = ap message_in same
+
+-- The beginning.
+
+limit-small : (list : Medl) (k : ℕ) (diary : Diary) (surroundings : Surroundings) → IsValid list → k < length list.slots → (past_of list k diary surroundings).limit ≤ most_silent
+limit-small list k diary surroundings valid node = omega (arith, limit_of-within list k diary node, nodes-most list valid)
+
+-- what a node does by what its controller keeps is what it does by its diary
+pub act_kept-of : (list : Medl) (k : ℕ) (on armed : Bool) (past : NodePast) (diary : Diary) (surroundings : Surroundings) → IsValid list → k < length list.slots
+    → past ≡ kept (past_of list k diary surroundings) → act list k on armed past ≡ act list k on armed (past_of list k diary surroundings)
+act_kept-of list k on armed past diary surroundings valid node is =
+    ap (act list k on armed) is ∙ act-kept list k on armed (past_of list k diary surroundings) (limit-small list k diary surroundings valid node)
+
+pub Begins-turn : (list : Medl) (k : ℕ) (past : NodePast) (slots : ℕ) (now : Turn) (on armed : Bool) (jump : ℤ) (does : Act) (jumped : ℤ) → IsValid list → k < length list.slots
+    → does ≡ act list k on armed past → jumped ≡ jump_taken does jump
+    → Begins (seat_at list k past slots now) (seat_at list k past slots (Begun does jumped)) on armed jump
+Begins-turn list k past slots now on armed jump does jumped valid node is taken = λ diary surroundings stands.
+    let done = is ∙ act_kept-of list k on armed past diary surroundings valid node stands.past in
+    record {
+      past = stands.past;
+      slots = stands.slots;
+      turn = λ i. Begun (done i) ((taken ∙ ap (λ a. jump_taken a jump) done) i);
+    }
+
+-- The plan.
+
+pub message_planned-kept : (list : Medl) (past : NodePast) (chosen : Chosen) (does : Act) → message_planned list (kept past) chosen does ≡ message_planned list past chosen does
+message_planned-kept list past chosen Off = refl
+message_planned-kept list past chosen Gone = refl
+message_planned-kept list past chosen Listen = refl
+message_planned-kept list past chosen Start = refl
+message_planned-kept list past chosen Retry = refl
+message_planned-kept list past chosen (Leave why) = refl
+message_planned-kept list past chosen Send = refl
+message_planned-kept list past chosen Judge = refl
+
+payload_planned-kept : (list : Medl) (past : NodePast) (chosen : Chosen) (does : Act) → payload_planned list (kept past) chosen does ≡ payload_planned list past chosen does
+payload_planned-kept list past chosen Off = refl
+payload_planned-kept list past chosen Gone = refl
+payload_planned-kept list past chosen Listen = refl
+payload_planned-kept list past chosen Start = refl
+payload_planned-kept list past chosen Retry = refl
+payload_planned-kept list past chosen (Leave why) = refl
+payload_planned-kept list past chosen Send = refl
+payload_planned-kept list past chosen Judge = refl
+
+node_frames-kept : (list : Medl) (k : ℕ) (past : NodePast) (chosen : Chosen) (does : Act) → node_frames list k (kept past) chosen does ≡ node_frames list k past chosen does
+node_frames-kept list k past chosen Off = refl
+node_frames-kept list k past chosen Gone = refl
+node_frames-kept list k past chosen Listen = refl
+node_frames-kept list k past chosen Start = refl
+node_frames-kept list k past chosen Retry = refl
+node_frames-kept list k past chosen (Leave why) = refl
+node_frames-kept list k past chosen Send = refl
+node_frames-kept list k past chosen Judge = refl
+
+pub Plans-turn : (list : Medl) (k : ℕ) (past : NodePast) (slots : ℕ) (now : Turn) (does : Act) (jumped again : ℤ) (number : ℕ) (payload : List ℕ) (message : Option ℕ) (planned : Option (List ℕ))
+    → now ≡ Begun does jumped → again ≡ jumped
+    → ((chosen : Chosen) → chosen.number ≡ number → message ≡ message_planned list past chosen does)
+    → ((chosen : Chosen) → payload_planned list past chosen does ≡ payload → frames_planned k planned ≡ node_frames list k past chosen does)
+    → Plans (seat_at list k past slots now) (seat_at list k past slots (Planned does again message)) number payload planned
+Plans-turn list k past slots now does jumped again number payload message planned begun same messages frames = λ diary surroundings a jump chosen stands numbered paid.
+    let read = past_of list k diary surroundings in
+    let turns = sym begun ∙ stands.turn in
+    let acts = same_act (Begun does jumped) (Begun a jump) turns in
+    let carried =
+    messages chosen numbered
+    ∙ (λ i. message_planned list (stands.past i) chosen (acts i))
+    ∙ message_planned-kept list read chosen a in
+    let asked =
+    (λ i. payload_planned list (stands.past i) chosen (acts i))
+    ∙ payload_planned-kept list read chosen a
+    ∙ paid in
+    record {
+      frames = frames chosen asked
+          ∙ (λ i. node_frames list k (stands.past i) chosen (acts i))
+          ∙ node_frames-kept list k read chosen a;
+      stands = record {
+        past = stands.past;
+        slots = stands.slots;
+        turn = λ i. Planned (acts i) ((same ∙ same_jump (Begun does jumped) (Begun a jump) turns) i) (carried i);
+      };
+    }

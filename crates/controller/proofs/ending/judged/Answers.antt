@@ -1,0 +1,17 @@
+use Rattle.std.proofs.Common.{w64, FitsSigned, rules, ◌∙◌}
+use Rattle.std.proofs.lemmas.Int.{to_z-of_z}
+use Rattle.controller.proofs.ending.judged.Goals as goal
+
+pub returns : goal.returns
+returns c = λ chosen is sent_a sent_b clock shows_a shows_b.
+    let k = c.args.k in
+    let past = c.args.node.now in
+    let own : FitsSigned w64 c.args.own = search rules in
+    let error : FitsSigned w64 c.args.error = search rules in
+    let judges = rw (to_z-of_z w64 c.args.own own, to_z-of_z w64 c.args.error error) at c.judging-judgement.ensures in
+    let judgement = judges past (record { coming = c.coming.ensures; ack = c.acknowledgement.ensures; members = c.members.ensures }) sent_a sent_b clock shows_a shows_b in
+    let sender = c.sender.ensures.value ∙ (λ i. (c.coming.ensures.place i).slot) in
+    record {
+      entry = c.judged_entry.ensures.judging c.args.list.now k past _ sender judgement;
+      delivered = c.delivered.ensures k past c.args.own c.args.error c.coming.ensures sent_a sent_b clock shows_a shows_b judgement;
+    }

@@ -1,0 +1,13 @@
+use Rattle.std.proofs.Common.{◌≡◌, ℕ, length, Some, []}
+use Rattle.std.specs.Prelude.{slice_get}
+use Rattle.controller.specs.PlantWithin.{IsSeatOf}
+use Rattle.controller.specs.StandsFor.{StandsFor}
+use Rattle.controller.specs.Turn.{Seat}
+use Rattle.controller.proofs.plant.controllers_of.Given as goal
+
+abbrev pub invariant-loop-k : goal.invariant-loop-k
+invariant-loop-k l = record {
+  count : length l.controllers ≡ l.k;
+  each : (k : ℕ) (seat : Seat) → slice_get l.controllers k ≡ Some seat → IsSeatOf l.list 0 k seat;
+  stand : (k : ℕ) (seat : Seat) → slice_get l.controllers k ≡ Some seat → StandsFor seat [] [];
+}

@@ -1,0 +1,14 @@
+pub mod Kept
+pub mod Within
+pub mod Stint
+pub mod Turn
+pub mod SeatWithin
+pub mod Sending
+pub mod Limits
+pub mod Hearing
+pub mod StandsFor
+pub mod Ending
+pub mod PlantView
+pub mod PlantWithin
+pub mod Passes
+pub mod PlantStands

@@ -1,0 +1,240 @@
+//! A controller: one node, slot by slot.
+ghost use Rattle.std.specs.Prelude.{◌≡◌, ◌&&◌, ◌<◌, ◌≤◌, ◌+◌, [], length, unsigned_abs, IfOk};
+ghost use Rattle.ttp_world.specs.Medl.{IsValid};
+ghost use Rattle.ttp_world.specs.World.{jump_taken};
+ghost use Rattle.controller.specs.Hearing.{is_silent_arrival};
+ghost use Rattle.controller.specs.Limits.{JumpFits, ArrivalFits, StaysNear, IsBegun, IsPlanned, seat_clock, seat_intent, payload_wanted};
+ghost use Rattle.controller.specs.StandsFor.{StandsFor, IsSameSeat, Begins, Plans, Ends, ShowsState};
+ghost use Rattle.controller.specs.Turn.{Ended};
+
+use crate::ending::ending_of;
+use crate::node::{Node, Outside};
+use crate::sending::{frame_of, intent_of, message_of};
+use crate::status::status_words;
+use crate::turn::Turn;
+use medium::{Arrival, Outgoing};
+use std::alloc::Global;
+use std::marker::Model;
+use ttp_base::Memory;
+use ttp_world::{Act, Delivered, Medl, NodeState, StatusWords};
+
+/// What a node's next plan sends.
+#[derive(Clone, Copy, Debug, PartialEq, Eq)]
+pub enum Intent {
+    /// Nothing.
+    Quiet,
+    /// A frame without payload.
+    Bare,
+    /// A frame with payload.
+    Loaded,
+}
+
+/// What a slot leaves for a node's host.
+#[derive(Debug, Drop)]
+pub struct Outcome {
+    /// The payload of a correct frame.
+    pub delivered: Option<Delivered>,
+    /// The status of the node after the slot.
+    pub status: StatusWords,
+}
+
+// By how much the clock of a node jumps that does this.
+fn jump_taken(act: Act, jump: i64) -> i64
+    ensures { result ≡ jump_taken act jump }
+{
+    match act {
+        Act::Off => 0,
+        _ => jump,
+    }
+}
+
+// Whether nothing came on either channel.
+fn are_silent(a: &Arrival, b: &Arrival) -> bool
+    ensures { result ≡ (is_silent_arrival a.now && is_silent_arrival b.now) }
+{
+    matches!((a, b), (Arrival::Silence, Arrival::Silence))
+}
+
+/// The controller of one node.
+///
+/// It keeps a packed state and no diary, and *stands for* a diary of its node: what it keeps is what
+/// the definitions read of that diary. In each slot `begin`, `plan` and `take` are called once, in
+/// this order; after them it stands for the diary with one entry more.
+#[derive(Drop)]
+pub struct Controller {
+    list: Medl,
+    number: u8,
+    node: Node,
+    slots: u64,
+    turn: Turn,
+}
+
+impl Model for Controller {
+    ghost use Rattle.controller.specs.Turn.{Seat};
+    ghost use Rattle.controller.specs.SeatWithin.{IsSeatWithin};
+
+    ghost Value = { Seat };
+
+    ghost view = { λ c. record { list = c.list; node = c.number; past = c.node; slots = c.slots; turn = c.turn } };
+
+    ghost invariant = { λ c. IsSeatWithin c.list c.number c.node c.turn };
+}
+
+impl Controller {
+    /// The controller of a node that is off, before the first slot. Only this call takes memory: for
+    /// a copy of the list.
+    pub fn new(alloc: Global, list: &Medl, node: u8) -> Result<Controller, Memory>
+        requires valid { IsValid list.now }
+        requires node { node < length list.now.slots }
+        ensures list { IfOk result (λ c. c.list ≡ list.now) }
+        ensures node { IfOk result (λ c. c.node ≡ node) }
+        ensures stands { IfOk result (λ c. StandsFor c [] []) }
+    {
+        Ok(Controller {
+            list: list.copy(alloc)?,
+            number: node,
+            node: Node::new(list, node),
+            slots: 0,
+            turn: Turn::Ended,
+        })
+    }
+
+    /// The beginning of a slot, in which the node is to be on or not, is armed to listen again or
+    /// not, and its clock jumps by so many microticks. A node that is on stays on.
+    pub fn begin(&mut self, on: bool, armed: bool, jump: i64)
+        requires turn { self.old.turn ≡ Ended }
+        requires clock { JumpFits self.old.past.offset jump }
+        ensures same { IsSameSeat self.old self.new }
+        ensures begins { Begins self.old self.new on armed jump }
+        ensures clock { unsigned_abs (seat_clock self.new) ≤ unsigned_abs self.old.past.offset + unsigned_abs jump }
+        ensures turn { IsBegun self.new.turn }
+    {
+        let act = self.node.act(&self.list, self.number, on, armed);
+        self.turn = Turn::Begun {
+            act,
+            jump: jump_taken(act, jump),
+        };
+    }
+
+    /// Whether this slot's `plan` sends nothing, a frame without payload, or one with payload.
+    pub fn intent(&self) -> Intent
+        requires { IsBegun self.now.turn }
+        ensures { result ≡ seat_intent self.now }
+    {
+        match self.turn {
+            Turn::Begun { act, .. } => intent_of(&self.list, self.number, &self.node, act),
+            Turn::Ended | Turn::Planned { .. } => Intent::Quiet,
+        }
+    }
+
+    /// The node's clock in this slot, in microticks, with the slot's jump.
+    pub fn clock(&self) -> i64
+        ensures { result ≡ seat_clock self.now }
+    {
+        match self.turn {
+            Turn::Ended => self.node.offset(),
+            Turn::Begun { jump, .. } => self.node.offset() + jump,
+            Turn::Planned { jump, .. } => self.node.offset() + jump,
+        }
+    }
+
+    /// The frame that the node sends in this slot, if it sends one: with the message of this number
+    /// and payload, where the intent is Loaded. The payload is empty otherwise.
+    pub fn plan(&mut self, message: u64, payload: &[u8]) -> Option<Outgoing>
+        requires turn { IsBegun self.old.turn }
+        requires payload { length payload.now ≡ payload_wanted self.old }
+        ensures same { IsSameSeat self.old self.new }
+        ensures clock { seat_clock self.new ≡ seat_clock self.old }
+        ensures plans { Plans self.old self.new message payload.now result }
+        ensures turn { IsPlanned self.new.turn }
+    {
+        match self.turn {
+            Turn::Begun { act, jump } => {
+                let message = message_of(&self.list, self.number, &self.node, act, message);
+                self.turn = Turn::Planned { act, jump, message };
+                frame_of(&self.list, self.number, &self.node, act, payload)
+            }
+            Turn::Ended | Turn::Planned { .. } => None,
+        }
+    }
+
+    /// The end of the slot, by what came on both channels. The reading error is that of the node as
+    /// a receiver in this slot, and the drift that of its clock, in microticks. A node that sent,
+    /// left or retried in this slot hears nothing.
+    pub fn take(&mut self, a: &Arrival, b: &Arrival, error: i64, drift: i64) -> Outcome
+        requires turn { IsPlanned self.old.turn }
+        requires a { ArrivalFits self.old.list (seat_clock self.old) a.now error drift }
+        requires b { ArrivalFits self.old.list (seat_clock self.old) b.now error drift }
+        ensures same { IsSameSeat self.old self.new }
+        ensures ends { Ends self.old self.new result a.now b.now error drift }
+        ensures clock { StaysNear self.new.past.offset self.old a.now b.now error drift }
+        ensures turn { self.new.turn ≡ Ended }
+    {
+        match self.turn {
+            Turn::Planned { act, jump, message } => {
+                self.end(act, jump, message, a, b, error, drift)
+            }
+            Turn::Ended | Turn::Begun { .. } => Outcome {
+                delivered: None,
+                status: StatusWords { words: [0; 4] },
+            },
+        }
+    }
+
+    // The end of a slot in which the node does this, and its clock jumped and its frame carried a
+    // message so.
+    fn end(
+        &mut self,
+        act: Act,
+        jump: i64,
+        message: Option<u64>,
+        a: &Arrival,
+        b: &Arrival,
+        error: i64,
+        drift: i64,
+    ) -> Outcome
+        requires turn { self.old.turn ≡ Turn.Planned act jump message }
+        requires a { ArrivalFits self.old.list (seat_clock self.old) a.now error drift }
+        requires b { ArrivalFits self.old.list (seat_clock self.old) b.now error drift }
+        ensures same { IsSameSeat self.old self.new }
+        ensures ends { Ends self.old self.new result a.now b.now error drift }
+        ensures clock { StaysNear self.new.past.offset self.old a.now b.now error drift }
+        ensures turn { self.new.turn ≡ Ended }
+    {
+        let own = self.node.offset() + jump;
+        let ending = ending_of(
+            &self.list,
+            self.number,
+            &self.node,
+            act,
+            message,
+            own,
+            error,
+            a,
+            b,
+        );
+        let outside = Outside {
+            jump,
+            drift,
+            armed: false,
+            silent: are_silent(a, b),
+        };
+        self.node
+            .enter(&self.list, self.number, &ending.entry, &outside);
+        let delivers = ending.delivered.is_some();
+        let status = status_words(&self.list, self.number, self.slots, &self.node, delivers);
+        self.slots = self.slots.saturating_add(1);
+        self.turn = Turn::Ended;
+        Outcome {
+            delivered: ending.delivered,
+            status,
+        }
+    }
+
+    /// What is shown of the node after the newest slot.
+    pub fn state(&self) -> NodeState
+        ensures { ShowsState self.now result }
+    {
+        self.node.state()
+    }
+}

@@ -1,0 +1,423 @@
+//! What a node makes of what comes to it in a slot: its entry, and what it hands to its host.
+ghost use Rattle.std.specs.Prelude.{◌≡◌, ◌↔◌, ◌+◌, ◌≤◌, ◌<◌, ℕ, ℤ, ◌-ℤ◌, ◌+ℤ◌, Bool, not, IsTrue, ◌++◌, drop, length, unsigned_abs, if◌then◌else◌};
+ghost use Rattle.ttp_frame.specs.Shape.{HaveRoom};
+ghost use Rattle.ttp_world.specs.Act.{coming_place};
+ghost use Rattle.ttp_world.specs.Conduct.{channel_join, delivery, join_entry, judging_entry, listening_entry, verdict_entry};
+ghost use Rattle.ttp_world.specs.Fitting.{carried_length, payload_in};
+ghost use Rattle.ttp_world.specs.Medl.{IsValid, is_wide, member_bytes};
+ghost use Rattle.ttp_world.specs.Past.{NodePast};
+ghost use Rattle.ttp_world.specs.Reception.{Hearing, entry_deviation, expected_of, fits_members, fits_second, is_expected_form, is_first_view, is_within_window, payload_heard, view_of_bits, view_of_frame};
+ghost use Rattle.slot_clock.specs.StandsFor.{StandsFor};
+ghost use Rattle.controller.specs.Hearing.{ForSignals, ForHearings, ReadingFits, IsReceiver, Receives, awaited_by, awaited_meant, IsExpected, IsSeen, IsJudgement};
+ghost use Rattle.controller.specs.Limits.{most_clock};
+ghost use Rattle.controller.specs.Within.{IsWithin};
+
+use crate::form::form_of;
+use crate::node::Node;
+use ack_check::AckState;
+use medium::Arrival;
+use reception::{is_taken_from_a, slot_verdict};
+use slot_clock::SlotClock;
+use ttp_base::NodeSet;
+use ttp_frame::{Expect, FrameMatch, judge, read_explicit};
+use ttp_world::{
+    Ack, CState, ChannelView, Delivered, Entry, Medl, PAYLOAD_LIMIT, Payload, Reason, Verdict,
+};
+
+/// What an active node judges the slot of another node by.
+#[derive(Clone, Copy, Debug)]
+pub(crate) struct Receiver {
+    /// The node's own number.
+    pub(crate) number: u8,
+    /// The place of the slot that it judges.
+    pub(crate) coming: SlotClock,
+    pub(crate) ack: AckState,
+    pub(crate) members: NodeSet,
+}
+
+/// What an active node makes of what it hears in the slot of another node.
+#[derive(Clone, Copy, Debug, PartialEq, Eq)]
+pub(crate) struct Judgement {
+    pub(crate) verdict: Verdict,
+    /// How late the frame came whose view is taken, in microticks; 0 where no channel carried bits.
+    pub(crate) deviation: i64,
+    /// Whether the frame on channel A is of the first candidate.
+    pub(crate) from_a: bool,
+}
+
+// The frame that a receiver expects: that of a place, with the members of one of two candidates.
+#[derive(Clone, Copy, Debug)]
+struct Expected {
+    place: SlotClock,
+    first: NodeSet,
+    second: Option<NodeSet>,
+}
+
+// How a channel is seen, and how late what came on it is, if it is bits.
+#[derive(Clone, Copy, Debug)]
+struct Seen {
+    view: ChannelView,
+    deviation: Option<i64>,
+}
+
+// How late bits came whose sender's clock is so far ahead, by a receiver's own clock and reading
+// error.
+fn deviation_of(offset: i64, own: i64, error: i64) -> i64
+    requires { unsigned_abs own + unsigned_abs offset + unsigned_abs error ≤ most_clock }
+    ensures { result ≡ (offset -ℤ own) +ℤ error }
+{
+    offset - own + error
+}
+
+// Listening.
+
+// The entry by which a node joins by a C-state, if it can.
+fn join_entry(deviation: i64, joinable: Option<CState>) -> Option<Entry>
+    ensures { result ≡ join_entry deviation joinable }
+{
+    match joinable {
+        Some(cstate) => Some(Entry::Joined {
+            sender: cstate.slot,
+            cstate,
+            deviation,
+        }),
+        None => None,
+    }
+}
+
+// The entry by which a node joins on what came on a channel, if it can.
+fn channel_join(list: &Medl, own: i64, error: i64, came: &Arrival) -> Option<Entry>
+    requires valid { IsValid list.now }
+    requires fits { ReadingFits own came.now error }
+    ensures { ForSignals came.now own error (λ sent deviation. result ≡ channel_join list.now deviation sent) }
+{
+    match came {
+        Arrival::Silence | Arrival::Noise => None,
+        Arrival::Bits { bytes, offset } => {
+            join_entry(
+                deviation_of(*offset, own, error),
+                read_explicit(bytes, list),
+            )
+        }
+    }
+}
+
+/// The entry of a listening node: it joins on what came on channel A, or else on B, or waits.
+///
+/// `own` is the node's clock and `error` its reading error in this slot, in microticks.
+pub(crate) fn listening_entry(list: &Medl, own: i64, error: i64, a: &Arrival, b: &Arrival) -> Entry
+    requires valid { IsValid list.now }
+    requires a { ReadingFits own a.now error }
+    requires b { ReadingFits own b.now error }
+    ensures { ForHearings a.now b.now own error (λ h. result ≡ listening_entry list.now h) }
+{
+    match channel_join(list, own, error, a) {
+        Some(entry) => entry,
+        None => channel_join(list, own, error, b).unwrap_or(Entry::Waited),
+    }
+}
+
+// Judging.
+
+/// What node k judges its coming slot by.
+pub(crate) fn receiver_of(list: &Medl, k: u8, node: &Node) -> Receiver
+    requires valid { IsValid list.now }
+    requires number { k < length list.now.slots }
+    requires within { IsWithin list.now k node.now }
+    ensures number { result.number ≡ k }
+    ensures receives { Receives list.now node.now result }
+    ensures receiver { IsReceiver list.now result }
+{
+    Receiver {
+        number: k,
+        coming: node.coming(list),
+        ack: node.acknowledgement(),
+        members: node.members(),
+    }
+}
+
+// What a receiver expects.
+fn expected_of(list: &Medl, receiver: &Receiver) -> Expected
+    requires valid { IsValid list.now }
+    requires receiver { IsReceiver list.now receiver.now }
+    ensures value { awaited_meant result ≡ awaited_by receiver.now }
+    ensures expected { IsExpected list.now result }
+{
+    let sender = receiver.coming.sender();
+    let (first, second) = receiver
+        .ack
+        .candidates(receiver.number, receiver.members, sender);
+    Expected {
+        place: receiver.coming,
+        first,
+        second,
+    }
+}
+
+// Whether bytes are the expected frame with these members, with others, or no frame of its form.
+fn match_with(list: &Medl, expected: &Expected, members: NodeSet, bytes: &[u8]) -> FrameMatch
+    requires valid { IsValid list.now }
+    requires place { StandsFor expected.now.place list.now expected.now.place.place }
+    requires members { HaveRoom (is_wide list.now) members }
+    ensures fits { (result ≡ FrameMatch.Match)
+        ↔ IsTrue (fits_members list.now (awaited_meant expected.now) bytes.now members) }
+    ensures formed { (result ≡ FrameMatch.Invalid)
+        ↔ IsTrue (not (is_expected_form list.now (awaited_meant expected.now) bytes.now)) }
+{
+    let form = form_of(list, &expected.place);
+    judge(bytes, list.schedule, &form, &expected.place.cstate(members))
+}
+
+// Whether bytes are the expected frame with the members of the second candidate.
+fn fits_second(list: &Medl, expected: &Expected, bytes: &[u8]) -> bool
+    requires valid { IsValid list.now }
+    requires expected { IsExpected list.now expected.now }
+    ensures { result ≡ fits_second list.now (awaited_meant expected.now) bytes.now }
+{
+    match expected.second {
+        Some(members) => match_with(list, expected, members, bytes) == FrameMatch::Match,
+        None => false,
+    }
+}
+
+// How bytes are seen that came within the window.
+fn view_of_frame(list: &Medl, expected: &Expected, bytes: &[u8]) -> ChannelView
+    requires valid { IsValid list.now }
+    requires expected { IsExpected list.now expected.now }
+    ensures { result
+        ≡ if is_expected_form list.now (awaited_meant expected.now) bytes.now
+        then view_of_frame list.now (awaited_meant expected.now) bytes.now else ChannelView.Bad }
+{
+    match match_with(list, expected, expected.first, bytes) {
+        FrameMatch::Match => ChannelView::First,
+        FrameMatch::Invalid => ChannelView::Bad,
+        FrameMatch::Differs => {
+            if fits_second(list, expected, bytes) {
+                ChannelView::Second
+            } else {
+                ChannelView::Other
+            }
+        }
+    }
+}
+
+fn is_within_window(list: &Medl, deviation: i64) -> bool
+    requires { IsValid list.now }
+    ensures { result ≡ is_within_window list.now deviation }
+{
+    -list.window <= deviation && deviation <= list.window
+}
+
+fn view_of_bits(list: &Medl, expected: &Expected, bytes: &[u8], deviation: i64) -> ChannelView
+    requires valid { IsValid list.now }
+    requires expected { IsExpected list.now expected.now }
+    ensures { result ≡ view_of_bits list.now (awaited_meant expected.now) bytes.now deviation }
+{
+    if is_within_window(list, deviation) {
+        view_of_frame(list, expected, bytes)
+    } else {
+        ChannelView::Bad
+    }
+}
+
+// What a receiver sees on a channel.
+fn see(list: &Medl, expected: &Expected, own: i64, error: i64, came: &Arrival) -> Seen
+    requires valid { IsValid list.now }
+    requires expected { IsExpected list.now expected.now }
+    requires fits { ReadingFits own came.now error }
+    ensures { ForSignals came.now own error (λ sent deviation.
+        IsSeen result list.now (awaited_meant expected.now) sent deviation) }
+{
+    match came {
+        Arrival::Silence => Seen {
+            view: ChannelView::Silent,
+            deviation: None,
+        },
+        Arrival::Noise => Seen {
+            view: ChannelView::Bad,
+            deviation: None,
+        },
+        Arrival::Bits { bytes, offset } => {
+            let deviation = deviation_of(*offset, own, error);
+            Seen {
+                view: view_of_bits(list, expected, bytes, deviation),
+                deviation: Some(deviation),
+            }
+        }
+    }
+}
+
+// The deviation of the channel that carried bits, and where both did, of the one that is taken.
+fn entry_deviation(from_a: bool, a: Option<i64>, b: Option<i64>) -> i64
+    ensures { result ≡ entry_deviation from_a a b }
+{
+    match (a, b) {
+        (None, None) => 0,
+        (Some(deviation), None) | (None, Some(deviation)) => deviation,
+        (Some(of_a), Some(of_b)) => { if from_a { of_a } else { of_b } }
+    }
+}
+
+fn is_first_view(view: ChannelView) -> bool
+    ensures { result ≡ is_first_view view }
+{
+    view == ChannelView::First
+}
+
+// A check word costs time, so channel B is judged only where A's view does not settle the verdict.
+fn judged_by(
+    list: &Medl,
+    expected: &Expected,
+    ack: Ack,
+    own: i64,
+    error: i64,
+    a: &Arrival,
+    b: &Arrival,
+) -> Judgement
+    requires valid { IsValid list.now }
+    requires expected { IsExpected list.now expected.now }
+    requires a { ReadingFits own a.now error }
+    requires b { ReadingFits own b.now error }
+    ensures { ForHearings a.now b.now own error (λ h. IsJudgement result list.now (awaited_meant expected.now) ack h) }
+{
+    let on_a = see(list, expected, own, error, a);
+    if is_first_view(on_a.view) {
+        return Judgement {
+            verdict: Verdict::Correct,
+            deviation: on_a.deviation.unwrap_or(0),
+            from_a: true,
+        };
+    }
+    let on_b = see(list, expected, own, error, b);
+    let taken_from_a = is_taken_from_a(on_a.view, on_b.view);
+    Judgement {
+        verdict: slot_verdict(on_a.view, on_b.view, ack),
+        deviation: entry_deviation(taken_from_a, on_a.deviation, on_b.deviation),
+        from_a: false,
+    }
+}
+
+/// What a receiver makes of what came on both channels: the verdict and the deviation of its entry.
+///
+/// `own` is its clock and `error` its reading error in this slot, in microticks. It costs at most two
+/// check words for each channel.
+pub(crate) fn judging(
+    list: &Medl,
+    receiver: &Receiver,
+    own: i64,
+    error: i64,
+    a: &Arrival,
+    b: &Arrival,
+) -> Judgement
+    requires valid { IsValid list.now }
+    requires receiver { IsReceiver list.now receiver.now }
+    requires a { ReadingFits own a.now error }
+    requires b { ReadingFits own b.now error }
+    ensures { (past : NodePast) → Receives list.now past receiver.now
+        → ForHearings a.now b.now own error (λ h.
+        IsJudgement result list.now (expected_of list.now receiver.now.number past) past.ack h) }
+{
+    let expected = expected_of(list, receiver);
+    judged_by(list, &expected, receiver.ack.value(), own, error, a, b)
+}
+
+/// The entry of a verdict on this sender. A node that is denied leaves.
+pub(crate) fn judged_entry(sender: u8, judgement: &Judgement) -> Entry
+    ensures value { result ≡ verdict_entry sender judgement.now.verdict judgement.now.deviation }
+    ensures judging { (list : Medl) (k : ℕ) (past : NodePast) (h : Hearing) → sender ≡ (coming_place list past).slot
+        → IsJudgement judgement.now list (expected_of list k past) past.ack h → result ≡ judging_entry list k past h }
+{
+    match judgement.verdict {
+        Verdict::Denied => Entry::Left {
+            reason: Reason::Denied,
+            peer: sender,
+        },
+        verdict => Entry::Judged {
+            sender,
+            verdict,
+            deviation: judgement.deviation,
+        },
+    }
+}
+
+// Delivery.
+
+// The bytes that stand in the payload's place in a frame of this form.
+fn payload_in<'a>(form: &Expect, bytes: &'a [u8]) -> &'a [u8]
+    ensures { result.now ≡ payload_in (member_bytes form.now.wide) form.now.header form.now.payload bytes.now }
+{
+    let carried = match (form.header, form.wide) {
+        (0, _) => 0,
+        (_, true) => 7,
+        (_, false) => 6,
+    };
+    let behind = &bytes[bytes.len().min(1 + carried)..];
+    &behind[..behind.len().min(form.payload as usize)]
+}
+
+// Writes bytes to the front of others.
+fn put_front(out: &mut [u8; PAYLOAD_LIMIT], bytes: &[u8])
+    requires { length bytes.now ≤ 240 }
+    ensures { out.new ≡ bytes.now ++ drop (length bytes.now) out.old }
+{
+    out[..bytes.len()].copy_from_slice(bytes);
+}
+
+// The payload of these bytes.
+fn payload_of(bytes: &[u8]) -> Payload
+    requires { length bytes.now ≤ 240 }
+    ensures { result ≡ bytes.now }
+{
+    let mut copied = [0; PAYLOAD_LIMIT];
+    put_front(&mut copied, bytes);
+    Payload {
+        len: bytes.len() as u8,
+        bytes: copied,
+    }
+}
+
+// The payload that came on a channel, in a frame of this place.
+fn payload_heard(list: &Medl, place: &SlotClock, came: &Arrival) -> Payload
+    requires valid { IsValid list.now }
+    requires place { StandsFor place.now list.now place.now.place }
+    ensures { (own error : ℤ) → ForSignals came.now own error (λ sent deviation.
+        result ≡ payload_heard list.now place.now.place sent) }
+{
+    match came {
+        Arrival::Silence | Arrival::Noise => payload_of(&[]),
+        Arrival::Bits { bytes, .. } => payload_of(payload_in(&form_of(list, place), bytes)),
+    }
+}
+
+/// What a receiver hands to its host: the payload of a correct frame, if it carries payload, from
+/// channel A where A's frame was of the first candidate, and else from B.
+pub(crate) fn delivered(
+    list: &Medl,
+    coming: &SlotClock,
+    judgement: &Judgement,
+    a: &Arrival,
+    b: &Arrival,
+) -> Option<Delivered>
+    requires valid { IsValid list.now }
+    requires coming { StandsFor coming.now list.now coming.now.place }
+    ensures { (k : ℕ) (past : NodePast) (own error : ℤ) → StandsFor coming.now list.now (coming_place list.now past)
+        → ForHearings a.now b.now own error (λ h.
+        IsJudgement judgement.now list.now (expected_of list.now k past) past.ack h
+        → result ≡ delivery list.now k past h (judging_entry list.now k past h)) }
+{
+    if judgement.verdict != Verdict::Correct || form_of(list, coming).payload == 0 {
+        return None;
+    }
+    let payload = if judgement.from_a {
+        payload_heard(list, coming, a)
+    } else {
+        payload_heard(list, coming, b)
+    };
+    Some(Delivered {
+        sender: coming.sender(),
+        payload,
+    })
+}
+
+#[cfg(test)]
+mod tests;
