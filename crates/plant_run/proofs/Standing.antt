@@ -1,0 +1,102 @@
+-- One slot takes a run to the world of one slot more.
+use Rattle.std.proofs.Common.{◌≡◌, ℕ, ◌+◌, ◌<◌, List, ◌∷◌, length, IfSome, ap, sym, subst, ◌∙◌, add-one, ◌^◌, arith}
+use Rattle.std.proofs.lemmas.List.{length-replicate}
+use Rattle.std.proofs.lemmas.List.FromFn.{length-map-range_with_len}
+use Rattle.ttp_world.specs.declared.medl.Medl.{Medl}
+use Rattle.ttp_world.specs.declared.node.Chosen.{Chosen}
+use Rattle.ttp_world.specs.declared.node.Entry.{Entry}
+use Rattle.ttp_world.specs.declared.script.Script.{Script}
+use Rattle.ttp_world.specs.Medl.{plan_at, IsValid}
+use Rattle.ttp_world.specs.Script.{IsValidScript}
+use Rattle.controller.specs.PlantStands.{PlantStandsFor, Steps, row_added, delivered_added, outcome_at, AreChosen}
+use Rattle.controller.specs.PlantView.{PlantView}
+use Rattle.plant_run.specs.Deliveries.{count_of, count_at, Tally, Tells}
+use Rattle.plant_run.specs.FirstNumbers.{zeros_chosen, all_zeros, zeros_row, first_world}
+use Rattle.plant_run.specs.RunAfter.{HoldsDelivered}
+use Rattle.plant_run.proofs.FirstRows.{chosen_of-all_zeros, length-first_world, first_world-next}
+use Rattle.plant_run.proofs.FirstRows.{delivered_of-zeros_row}
+use Rattle.plant_run.proofs.Places.{IsSentInList, delivered_of-sender}
+use Rattle.plant_run.proofs.Received.{received-next, received-few}
+
+-- one slot more, as code counts it
+pub first_world-more : (list : Medl) (script : Script) (slot : ℕ)
+    → first_world list script (slot + 1)
+    ≡ zeros_row list script (first_world list script slot) ∷ first_world list script slot
+first_world-more list script slot = ap (first_world list script) (add-one slot) ∙ first_world-next list script slot
+
+-- The plant.
+
+pub plant_next : (list : Medl) (script : Script) (slot : ℕ) (old new : PlantView) (chosen : List Chosen)
+    → new.list ≡ list → chosen ≡ all_zeros list
+    → Steps old new script chosen → PlantStandsFor old script (first_world list script slot)
+    → PlantStandsFor new script (first_world list script (slot + 1))
+plant_next list script slot old new chosen same zeros steps stands =
+    let history = first_world list script slot in
+    let row : row_added new.list script history chosen
+    ≡ zeros_row list script history = λ i. row_added (same i) script history (zeros i) in
+    subst (PlantStandsFor new script)
+    (ap (λ (r : List Entry). r ∷ history) row ∙ sym (first_world-more list script slot))
+    (steps history stands).stands
+
+pub holds_delivered : (list : Medl) (script : Script) (slot : ℕ) (old new : PlantView) (chosen : List Chosen)
+    → new.list ≡ list → chosen ≡ all_zeros list
+    → Steps old new script chosen → PlantStandsFor old script (first_world list script slot)
+    → HoldsDelivered new list script slot
+holds_delivered list script slot old new chosen same zeros steps stands = λ k node.
+    let history = first_world list script slot in
+    let within = subst (λ (l : Medl). k < length l.slots) (sym same) node in
+    ((steps history stands).left k within).delivered
+    ∙ (λ i. delivered_added (same i) script history (zeros i) k)
+    ∙ delivered_of-zeros_row list script history k
+
+-- The counts.
+
+pub tally_next : (list : Medl) (script : Script) (slot : ℕ) (before now : Tally) (plant : PlantView)
+    → now.nodes ≡ before.nodes
+    → ((k p : ℕ) → k < length list.slots → p < length list.slots
+    → count_at now k p ≡ count_at before k p + count_of p (outcome_at plant k).delivered)
+    → HoldsDelivered plant list script slot → Tells before list script (first_world list script slot)
+    → Tells now list script (first_world list script (slot + 1))
+tally_next list script slot before now plant nodes counted holds tells =
+    let history = first_world list script slot in
+    let row = zeros_row list script history in
+    subst (Tells now list script) (sym (first_world-more list script slot)) (record {
+      nodes = nodes ∙ tells.nodes;
+      counts = λ k p receiver sender.
+          counted k p receiver sender
+          ∙ (λ i. tells.counts k p receiver sender i + count_of p (holds k receiver i))
+          ∙ sym (received-next list script row history k p);
+    })
+
+-- What the calls of a slot ask.
+
+pub length-all_zeros : (list : Medl) → length (all_zeros list) ≡ length list.slots
+length-all_zeros list = length-map-range_with_len (zeros_chosen list) 0 (length list.slots)
+
+pub AreChosen-all_zeros : (list : Medl) → AreChosen list (all_zeros list)
+AreChosen-all_zeros list k node =
+    ap (λ (c : Chosen). length c.payload) (chosen_of-all_zeros list k node)
+    ∙ length-replicate (plan_at list k).payload 0
+
+pub senders-of_list : (list : Medl) (script : Script) (slot : ℕ) (plant : PlantView) (n : ℕ) → IsValid list
+    → n ≡ length list.slots → HoldsDelivered plant list script slot
+    → (k : ℕ) → k < n → IfSome (outcome_at plant k).delivered (λ d. d.sender < n)
+senders-of_list list script slot plant n valid nodes holds k node =
+    let within : k < length list.slots = omega arith in
+    subst (λ (m : ℕ). IfSome (outcome_at plant k).delivered (λ d. d.sender < m)) (sym nodes)
+    (subst (IsSentInList list) (sym (holds k within)) (delivered_of-sender list script slot k valid within))
+
+-- the counts stay far below what their numbers hold
+pub count_at-few : (list : Medl) (script : Script) (slot : ℕ) (tally : Tally) (k p : ℕ) → IsValidScript list script
+    → slot < script.slots
+    → Tells tally list script (first_world list script slot) → k < length list.slots → p < length list.slots
+    → count_at tally k p + 1 < 2 ^ 32
+count_at-few list script slot tally k p valid less tells receiver sender =
+    omega (
+      arith,
+      tells.counts k p receiver sender,
+      received-few list script
+          (first_world list script slot) k p,
+      length-first_world list script slot,
+      valid.slots,
+    )

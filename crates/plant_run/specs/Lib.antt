@@ -1,0 +1,4 @@
+pub mod Deliveries
+pub mod FirstNumbers
+pub mod Fault
+pub mod RunAfter

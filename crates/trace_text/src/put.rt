@@ -1,0 +1,41 @@
+//! The lines, written.
+ghost use Rattle.std.specs.Prelude.{OnOk, OnErr};
+ghost use Rattle.ttp_base.specs.Outside.{WroteLines, CutShort};
+ghost use Rattle.ttp_world.specs.Medl.{IsValid};
+ghost use Rattle.ttp_world.specs.Trace.{trace_head};
+ghost use Rattle.trace_text.specs.LineParts.{HasDigits, listed_line};
+
+use crate::head_line::head_line;
+use crate::node_line::node_line;
+use ttp_base::{Failed, Sink};
+use ttp_world::{Medl, NodeState, Script};
+
+/// Writes the first line of a trace, as one piece. `Failed` is the sink's: some first bytes of the
+/// line were written, or none. Takes no memory.
+pub fn put_header<K: Sink>(list: &Medl, script: &Script, out: &mut K) -> Result<(), Failed>
+    requires { IsValid list.now }
+    ensures ok { OnOk result (WroteLines (K.output out.old) (K.output out.new) (trace_head list.now script.now)) }
+    ensures failed { OnErr result (CutShort (K.output out.old) (K.output out.new) (trace_head list.now script.now)) }
+{
+    out.write(head_line(list, script).bytes())
+}
+
+/// Writes the line of a node after a slot, as one piece. The message is the one that the node's
+/// frame carried, or the number of the one that the node delivered in its ring. `Failed` is the
+/// sink's: some first bytes of the line were written, or none. Takes no memory.
+pub fn put_node_line<K: Sink>(
+    list: &Medl,
+    slot: u32,
+    node: u8,
+    state: &NodeState,
+    message: Option<u64>,
+    out: &mut K,
+) -> Result<(), Failed>
+    requires { HasDigits list.now state.now }
+    ensures ok { OnOk result (WroteLines (K.output out.old) (K.output out.new)
+        (listed_line list.now slot node state.now message)) }
+    ensures failed { OnErr result (CutShort (K.output out.old) (K.output out.new)
+        (listed_line list.now slot node state.now message)) }
+{
+    out.write(node_line(list, slot, node, state, message).bytes())
+}

@@ -1,0 +1,201 @@
+//! Lines of nodes, as the format of the trace gives them.
+ghost use Rattle.std.specs.Prelude.{◌≡◌};
+
+use crate::node_line::node_line;
+use crate::put_node_line;
+use std::test::Fail;
+use ttp_base::{List, MemorySink, NodeSet};
+use ttp_world::{Ack, CState, Entry, Medl, NodeState, Phase, Reason, Verdict};
+
+// A list without slots: of it a line needs the version alone.
+fn list(rt: &HostRuntime, version: u8) -> Medl
+    ensures { result.version ≡ version }
+{
+    Medl {
+        version,
+        rounds: 1,
+        schedule: 0,
+        buffers: 2,
+        drift: 0,
+        error: 0,
+        window: 1,
+        modes: 1,
+        slots: List::new(rt.alloc()),
+    }
+}
+
+// The members {0, 1, 3, 4}.
+fn four_members() -> NodeSet {
+    NodeSet::empty().with(0).with(1).with(3).with(4)
+}
+
+fn judged(sender: u8, verdict: Verdict) -> Entry {
+    Entry::Judged {
+        sender,
+        verdict,
+        deviation: 0,
+    }
+}
+
+fn left(reason: Reason, peer: u8) -> Entry {
+    Entry::Left { reason, peer }
+}
+
+// What a line shows of an active node whose clock is at 0.
+fn active(entry: Entry, members: NodeSet, accepted: u8, rejected: u8, ack: Ack) -> NodeState {
+    NodeState {
+        phase: Phase::Active,
+        entry,
+        members,
+        accepted,
+        rejected,
+        ack,
+        offset: 0,
+    }
+}
+
+// What a line shows of a node that is not active.
+fn idle(phase: Phase, entry: Entry) -> NodeState {
+    NodeState {
+        phase,
+        entry,
+        members: NodeSet::empty(),
+        accepted: 0,
+        rejected: 0,
+        ack: Ack::Closed,
+        offset: 0,
+    }
+}
+
+#[test]
+fn active_nodes(rt: HostRuntime) {
+    let narrow = list(&rt, 1);
+    let sent = Entry::Sent { message: Some(1) };
+    let bare = Entry::Sent { message: None };
+    let joined = Entry::Joined {
+        sender: 0,
+        cstate: CState {
+            time: 0,
+            round: 0,
+            slot: 0,
+            members: NodeSet::empty().with(0),
+        },
+        deviation: 0,
+    };
+    let one = NodeSet::empty().with(0);
+    let two = one.with(1);
+    let four = four_members();
+    let all = four.with(2);
+    let correct = judged(1, Verdict::Correct);
+    let rows: [(u32, u8, NodeState, Option<u64>); 10] = [
+        (10, 0, active(Entry::Started, one, 1, 0, Ack::First), None),
+        (10, 1, active(joined, one, 1, 0, Ack::Closed), None),
+        (11, 0, active(correct, two, 2, 0, Ack::Closed), None),
+        (11, 1, active(bare, two, 1, 0, Ack::First), None),
+        (
+            17,
+            0,
+            active(judged(2, Verdict::Correct), all, 3, 0, Ack::Closed),
+            Some(2),
+        ),
+        (17, 2, active(sent, all, 1, 0, Ack::First), Some(1)),
+        (
+            22,
+            0,
+            active(judged(2, Verdict::Invalid), four, 2, 1, Ack::Closed),
+            None,
+        ),
+        (
+            23,
+            2,
+            active(judged(3, Verdict::Tentative), all, 1, 0, Ack::Doubt(3)),
+            None,
+        ),
+        (
+            24,
+            1,
+            active(judged(2, Verdict::Null), four, 2, 0, Ack::Closed),
+            None,
+        ),
+        (
+            24,
+            3,
+            active(judged(2, Verdict::Incorrect), four, 2, 1, Ack::First),
+            None,
+        ),
+    ];
+    let lines = [
+        "slot 10 node 0 start peer 0 msg - mem 0001 acc 1 rej 0 ack first clock 0\n",
+        "slot 10 node 1 join peer 0 msg - mem 0001 acc 1 rej 0 ack none clock 0\n",
+        "slot 11 node 0 correct peer 1 msg - mem 0003 acc 2 rej 0 ack none clock 0\n",
+        "slot 11 node 1 send peer 1 msg - mem 0003 acc 1 rej 0 ack first clock 0\n",
+        "slot 17 node 0 correct peer 2 msg 2 mem 001f acc 3 rej 0 ack none clock 0\n",
+        "slot 17 node 2 send peer 2 msg 1 mem 001f acc 1 rej 0 ack first clock 0\n",
+        "slot 22 node 0 invalid peer 2 msg - mem 001b acc 2 rej 1 ack none clock 0\n",
+        "slot 23 node 2 tentative peer 3 msg - mem 001f acc 1 rej 0 ack doubt:3 clock 0\n",
+        "slot 24 node 1 null peer 2 msg - mem 001b acc 2 rej 0 ack none clock 0\n",
+        "slot 24 node 3 incorrect peer 2 msg - mem 001b acc 2 rej 1 ack first clock 0\n",
+    ];
+    for (row, text) in rows.iter().zip(lines.iter()) {
+        let (slot, node, state, message) = *row;
+        assert!(rt; state.members.bits() < 65_536);
+        let line = node_line(&narrow, slot, node, &state, message);
+        assert!(rt; line.bytes() == text.as_bytes(), "{text}");
+    }
+}
+
+#[test]
+fn other_nodes(rt: HostRuntime) {
+    let narrow = list(&rt, 1);
+    let off = Phase::Off;
+    let listening = Phase::Listening;
+    let gone = Phase::Left;
+    let rows: [(u32, u8, NodeState); 7] = [
+        (0, 3, idle(off, Entry::Off)),
+        (9, 4, idle(listening, Entry::Waited)),
+        (16, 1, idle(listening, Entry::Retried)),
+        (24, 2, idle(gone, left(Reason::Denied, 4))),
+        (33, 3, idle(gone, left(Reason::Unacknowledged, 3))),
+        (31, 1, idle(gone, left(Reason::Clique, 1))),
+        (32, 1, idle(gone, Entry::Gone)),
+    ];
+    let lines = [
+        "slot 0 node 3 off peer - msg - mem 0000 acc 0 rej 0 ack none clock 0\n",
+        "slot 9 node 4 wait peer - msg - mem 0000 acc 0 rej 0 ack none clock 0\n",
+        "slot 16 node 1 retry peer - msg - mem 0000 acc 0 rej 0 ack none clock 0\n",
+        "slot 24 node 2 denied peer 4 msg - mem 0000 acc 0 rej 0 ack none clock 0\n",
+        "slot 33 node 3 unacknowledged peer 3 msg - mem 0000 acc 0 rej 0 ack none clock 0\n",
+        "slot 31 node 1 clique peer 1 msg - mem 0000 acc 0 rej 0 ack none clock 0\n",
+        "slot 32 node 1 gone peer - msg - mem 0000 acc 0 rej 0 ack none clock 0\n",
+    ];
+    for (row, text) in rows.iter().zip(lines.iter()) {
+        let (slot, node, state) = *row;
+        assert!(rt; state.members.bits() < 65_536);
+        let line = node_line(&narrow, slot, node, &state, None);
+        assert!(rt; line.bytes() == text.as_bytes(), "{text}");
+    }
+}
+
+// The widest line there can be: the members of a list of version 2 have six digits.
+#[test]
+fn a_wide_line_is_one_piece(rt: HostRuntime) -> Result<(), Fail> {
+    let wide = list(&rt, 2);
+    let mut state = active(
+        judged(23, Verdict::Correct),
+        four_members().with(23),
+        255,
+        255,
+        Ack::Doubt(22),
+    );
+    state.offset = -576_460_752_303_423_488;
+    assert!(rt; state.members.bits() < 16_777_216);
+    let text =
+        "slot 19999 node 23 correct peer 23 msg 20000 mem 80001b acc 255 rej 255 ack doubt:22 clock -576460752303423488\n";
+    let mut whole = MemorySink::new(rt.alloc(), 111, List::new(rt.alloc()))?;
+    let mut narrow = MemorySink::new(rt.alloc(), 110, List::new(rt.alloc()))?;
+    assert!(rt; put_node_line(&wide, 19_999, 23, &state, Some(20_000), &mut whole).is_ok());
+    assert!(rt; whole.bytes() == text.as_bytes());
+    assert!(rt; put_node_line(&wide, 19_999, 23, &state, Some(20_000), &mut narrow).is_err());
+    assert!(rt; narrow.bytes().is_empty(), "a part of a line was written");
+    Ok(())
+}
