@@ -3,6 +3,7 @@ use Rattle.std.specs.Prelude.{ℕ, zero, suc, pos, true, false, Bool, List, [], 
 use Rattle.std.specs.Prelude.{Result}
 use Rattle.toml.specs.Data.{Data, string, integer, boolean, array, table, Items, no_items, item, Members, no_members}
 use Rattle.toml.specs.Data.{member}
+use Rattle.ttp_world.specs.declared.medl.Kind.{Kind}
 use Rattle.ttp_world.specs.declared.medl.Kind.TheVariants as kind
 use Rattle.ttp_world.specs.declared.medl.SlotPlan.{SlotPlan}
 use Rattle.ttp_world.specs.declared.medl.Medl.{Medl}
@@ -39,6 +40,10 @@ live_slot start live = record {
 -- where there is one mode
 abbrev pub bare_slot : Bool → SlotPlan
 bare_slot start = live_slot start 1
+
+-- one with so much payload
+abbrev pub loaded_slot : Kind → ℕ → SlotPlan
+loaded_slot frame payload = record (bare_slot false) { kinds = frame ∷ []; payload = payload }
 
 abbrev pub four_nodes : Medl
 four_nodes = short_list 1 1 (bare_slot true ∷ bare_slot false ∷ bare_slot false ∷ bare_slot false ∷ [])

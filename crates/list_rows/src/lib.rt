@@ -7,12 +7,13 @@
 
 ghost use Rattle.std.specs.Prelude.{◌≡◌, [], pos, true, false, Ok, Err, None, Some, codes, ◌∷◌};
 ghost use Rattle.toml.specs.Data.{string, integer, boolean, no_items, item};
+ghost use Rattle.ttp_world.specs.declared.medl.Kind.TheVariants as kinds;
 ghost use Rattle.medl_text.specs.declared.error.FieldName.TheVariants as names;
 ghost use Rattle.medl_text.specs.declared.error.MedlError.TheVariants as errors;
 ghost use Rattle.medl_text.specs.ListFile.{at_top, at_slot, element_of, slot_faults, plan_of, medl_in, medl_of};
 ghost use Rattle.medl_text.specs.Schedule.{slot_table};
 ghost use Rattle.list_rows.specs.Rows.{four_nodes, modal_nodes, many_nodes, mixed_nodes, short_list, bare_slot};
-ghost use Rattle.list_rows.specs.Rows.{live_slot};
+ghost use Rattle.list_rows.specs.Rows.{live_slot, loaded_slot};
 ghost use Rattle.list_rows.specs.Rows.{four_nodes_table, mixed_nodes_table, four_nodes_text, modal_nodes_text};
 ghost use Rattle.list_rows.specs.Rows.{file_of, many_slots, four_slots, two_slots, one, slots_mean, modes_mean};
 ghost use Rattle.list_rows.specs.Rows.{slot_of, slot_with, first_slot, other_slot, fast_slot, live_in, answers, asking};
@@ -43,6 +44,14 @@ pub fn wrong_at_the_top()
     ensures numbers_for_slots { slots_mean (item one (item one no_items)) ≡ Err (errors.WrongKind (at_top names.Slot)) }
 {}
 
+/// Slots with payload, of the largest size and of none.
+pub fn right_payload()
+    ensures most_and_none { slots_mean
+        (four_slots other_slot (slot_of (codes "N") 240 true false) (slot_of (codes "X") 0 true false))
+        ≡ Ok (short_list 1 1
+        (bare_slot true ∷ bare_slot false ∷ loaded_slot kinds.N 240 ∷ loaded_slot kinds.X 0 ∷ [])) }
+{}
+
 /// Lists with something wrong in a slot.
 pub fn wrong_in_a_slot()
     ensures two_letters_for_one { slots_mean (four_slots other_slot (slot_of (codes "II") 0 true false) other_slot)
@@ -55,8 +64,6 @@ pub fn wrong_in_a_slot()
         ≡ Err (errors.Unknown (Some 1)) }
     ensures three_with_sync { slots_mean (four_slots other_slot other_slot (slot_of (codes "I") 0 false false))
         ≡ Err (errors.NoSync 3) }
-    ensures not_built { slots_mean (four_slots other_slot (slot_of (codes "N") 0 true false) other_slot)
-        ≡ Err (errors.NotBuilt (at_slot 2 names.Kinds)) }
 {}
 
 /// How many slots a list has in each version, of which there are two.
@@ -78,6 +85,8 @@ pub fn right_modes()
         ≡ Ok (short_list 1 1 (bare_slot false ∷ live_slot false 0 ∷ bare_slot false ∷ bare_slot false ∷ [])) }
     ensures asking_for_none { slots_mean (four_slots (asking (boolean false)) other_slot other_slot) ≡ Ok four_nodes }
     ensures asking_plan { plan_of 3 1 (element_of asking_slot) ≡ asking_plan }
+    ensures asking_list { modes_mean (integer (pos 3)) (two_slots other_slot asking_slot)
+        ≡ Ok (short_list 1 3 (live_slot false 7 ∷ asking_plan ∷ live_slot false 7 ∷ live_slot false 7 ∷ [])) }
     ensures asking_without_fault { slot_faults 1 3 1 (element_of asking_slot) ≡ [] }
 {}
 
@@ -118,8 +127,4 @@ pub fn first_of_wrong_modes()
         ≡ Err (errors.NoRequestData 1) }
     ensures first_slot { slots_mean (two_slots (answers []) (asking (boolean true))) ≡ Err (errors.Live 0) }
     ensures live_before_unknown { slots_mean (four_slots fast_slot (answers []) other_slot) ≡ Err (errors.Live 2) }
-    ensures live_before_unbuilt { slots_mean (two_slots (slot_of (codes "N") 0 true false) (answers []))
-        ≡ Err (errors.Live 1) }
-    ensures unbuilt_last { modes_mean (integer (pos 3)) (two_slots other_slot asking_slot)
-        ≡ Err (errors.NotBuilt (at_slot 1 names.Kinds)) }
 {}

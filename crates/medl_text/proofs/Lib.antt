@@ -1,4 +1,4 @@
 pub mod Tables
-pub mod Built
 pub mod Counts
+mod Lines
 pub mod Microticks

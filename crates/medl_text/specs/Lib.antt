@@ -1,4 +1,3 @@
 pub mod ListFile
 pub mod Fault
 pub mod Schedule
-pub mod Starters

@@ -1,10 +1,10 @@
 -- What a list file means: the list, or the first of its faults in the order of the format.
 --
 -- The faults of a file are one list, over whole tables: those of each key at the top in the keys' order, of the
--- number of slots, of each slot's keys, of keys that no list has, of the number of slots with `sync`, and of what
--- is not built yet. A file with no fault is the list of its values. A value that is missing or of another kind
--- counts as 0, no or nothing, since a fault that stands earlier is then the answer. Three keys may be absent:
--- `modes` is then 1, `requests` is no, and `live` names all modes.
+-- number of slots, of each slot's keys, of keys that no list has, and of the number of slots with `sync`. A file with
+-- no fault is the list of its values. A value that is missing or of another kind counts as 0, no or nothing, since a
+-- fault that stands earlier is then the answer. Three keys may be absent: `modes` is then 1, `requests` is no, and
+-- `live` names all modes.
 use Rattle.std.specs.Prelude.{◌==◌, ℕ, suc, ◌+◌, ◌-◌, ◌*◌, ◌^◌, nat_le, ℤ, pos, negsuc, Bool, true, false, ◌&&◌, ◌||◌}
 use Rattle.std.specs.Prelude.{List, [], ◌∷◌, ◌++◌, length, map, count_by, codes, Option, Some, None, option_and_then}
 use Rattle.std.specs.Prelude.{unwrap_or, Result, Ok, Err, if◌then◌else◌, is_some}
@@ -255,18 +255,11 @@ abbrev pub unknown_in_slots : ℕ → List Members → List MedlError
 unknown_in_slots k [] = []
 unknown_in_slots k (table ∷ tables) = unknown_at_slot k table ++ unknown_in_slots (suc k) tables
 
--- Slots for clock synchronization, and what is not built yet.
+-- Slots for clock synchronization.
 
-abbrev pub sync_faults : List SlotPlan → List MedlError
+unfoldable pub sync_faults : List SlotPlan → List MedlError
 sync_faults plans =
     let found = count_by (λ plan. plan.sync) plans in if nat_le 4 found then [] else errors.NoSync found ∷ []
-
-abbrev pub unbuilt_slot : ℕ → SlotPlan → List MedlError
-unbuilt_slot k plan = if list_all is_bare plan.kinds then [] else errors.NotBuilt (at_slot k names.Kinds) ∷ []
-
-abbrev pub unbuilt_slots : ℕ → List SlotPlan → List MedlError
-unbuilt_slots k [] = []
-unbuilt_slots k (plan ∷ plans) = unbuilt_slot k plan ++ unbuilt_slots (suc k) plans
 
 -- The whole file.
 
@@ -280,9 +273,6 @@ modes_in file = number_or 1 (at_top names.Modes) file
 
 unfoldable pub unknown_faults : Members → List MedlError
 unknown_faults file = unknown_at_top file ++ unknown_in_slots 0 (slots_in file)
-
-unfoldable pub plans_faults : List SlotPlan → List MedlError
-plans_faults plans = sync_faults plans ++ unbuilt_slots 0 plans
 
 unfoldable pub file_faults : Members → List MedlError
 file_faults file =
@@ -299,7 +289,7 @@ file_faults file =
     ++ (count_faults (number_at (at_top names.Version) file) (length slots)
     ++ (slots_faults (number_at (at_top names.Rounds) file) (modes_in file) 0 slots
     ++ (unknown_faults file
-    ++ plans_faults (plans_of (modes_in file) 0 slots))))))))))))
+    ++ sync_faults (plans_of (modes_in file) 0 slots))))))))))))
 
 unfoldable pub list_in : Members → Medl
 list_in file = record {

@@ -89,7 +89,7 @@ pub enum MedlError {
     Unknown { slot: Option<u8> },
     /// Fewer than four slots have `sync`.
     NoSync { found: u8 },
-    /// The list asks for what this bench does not run yet.
+    /// The list asks for what a command can't do yet. No text that is read as a list is told this.
     NotBuilt { field: Field },
     /// Memory was refused. It may come at any place.
     Memory,

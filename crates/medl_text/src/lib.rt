@@ -11,13 +11,11 @@ mod error;
 mod read;
 mod schedule;
 mod slot;
-mod starters;
 mod table;
 
 pub use error::{Field, FieldName, MedlError};
 pub use read::read_medl;
 pub use schedule::put_schedule;
-pub use starters::second_starter;
 
 #[cfg(test)]
 mod tests;

@@ -3,14 +3,14 @@ ghost use Rattle.std.specs.Prelude.{◌≡◌, ◌⊎◌, ◌≤◌, true, [], l
 ghost use Rattle.std.specs.List.{AllByRecursion};
 ghost use Rattle.toml.specs.View.{table_view, items_view};
 ghost use Rattle.ttp_base.specs.Faults.{first_fault};
-ghost use Rattle.ttp_world.specs.Medl.{IsBareList, IsValid, IsValidSlot};
+ghost use Rattle.ttp_world.specs.Medl.{IsValid, IsValidSlot};
 ghost use Rattle.medl_text.specs.Fault.{IsFirst};
 ghost use Rattle.medl_text.specs.ListFile.{are_tables, tables_of, slots_in, modes_faults, modes_in, slot_limit};
 ghost use Rattle.medl_text.specs.ListFile.{count_faults, slots_faults, plans_of, unknown_in_slots, unknown_faults};
-ghost use Rattle.medl_text.specs.ListFile.{unbuilt_slots, plans_faults, file_faults, list_in, document_of, medl_of};
+ghost use Rattle.medl_text.specs.ListFile.{sync_faults, file_faults, list_in, document_of, medl_of};
 
 use crate::error::{FieldName, MedlError};
-use crate::slot::{are_bare, slot_of};
+use crate::slot::slot_of;
 use crate::table::{array, at_slot, at_top, has_only, member, number, number_in};
 use std::alloc::Global;
 use std::str;
@@ -80,21 +80,6 @@ fn unknown_in(elements: &[Value]) -> Result<(), MedlError>
     Ok(())
 }
 
-// The first slot with a kind of frame that is not built yet.
-fn unbuilt_in(plans: &[SlotPlan]) -> Result<(), MedlError>
-    requires { length plans.now ≤ 24 }
-    ensures ok { OnOk result (unbuilt_slots 0 plans.now ≡ []) }
-    ensures err { IfErr result (λ e. first_fault (unbuilt_slots 0 plans.now) ≡ Some e) }
-{
-    for (k, plan) in plans.iter().enumerate() {
-        if !are_bare(plan.kinds.as_slice()) {
-            let field = at_slot(k as u8, FieldName::Kinds);
-            return Err(MedlError::NotBuilt { field });
-        }
-    }
-    Ok(())
-}
-
 // How many modes the cluster has.
 #[tactic(auto, unfolding(crate::specs::ListFile::modes_faults))]
 fn modes_in(file: &Table) -> Result<u8, MedlError>
@@ -154,19 +139,19 @@ fn sync_count(plans: &[SlotPlan]) -> usize
     plans.iter().filter(|plan| plan.sync).count()
 }
 
-// Whether enough slots are measured, and each is built.
-#[tactic(auto, unfolding(crate::specs::ListFile::plans_faults))]
-fn usable(plans: &[SlotPlan]) -> Result<(), MedlError>
+// Whether enough slots are measured.
+#[tactic(auto, unfolding(crate::specs::ListFile::sync_faults))]
+fn measurable(plans: &[SlotPlan]) -> Result<(), MedlError>
     requires { length plans.now ≤ 24 }
-    ensures ok { OnOk result (plans_faults plans.now ≡ []) }
+    ensures ok { OnOk result (sync_faults plans.now ≡ []) }
     ensures sync { OnOk result (4 ≤ count_by (λ plan. plan.sync) plans.now) }
-    ensures err { IfErr result (λ e. first_fault (plans_faults plans.now) ≡ Some e) }
+    ensures err { IfErr result (λ e. first_fault (sync_faults plans.now) ≡ Some e) }
 {
     let found = sync_count(plans);
     if found < 4 {
         return Err(MedlError::NoSync { found: found as u8 });
     }
-    unbuilt_in(plans)
+    Ok(())
 }
 
 #[tactic(auto, using(crate::proofs::Counts::counts), unfolding(crate::specs::ListFile::file_faults, crate::specs::ListFile::list_in))]
@@ -174,7 +159,6 @@ fn list_in(alloc: Global, file: &Table) -> Result<Medl, MedlError>
     ensures ok { IfOk result (λ list. file_faults (table_view file.now) ≡ []) }
     ensures value { IfOk result (λ list. list ≡ list_in (table_view file.now)) }
     ensures valid { IfOk result IsValid }
-    ensures bare { IfOk result IsBareList }
     ensures err { IfErr result (λ e. IsFirst e (file_faults (table_view file.now))) }
 {
     let version = number(file, at_top(FieldName::Version), 1, 2)? as u8;
@@ -189,7 +173,7 @@ fn list_in(alloc: Global, file: &Table) -> Result<Medl, MedlError>
     countable(version, elements.len())?;
     let slots = slots_of(alloc, rounds, modes, elements)?;
     known_keys(file, elements)?;
-    usable(slots.as_slice())?;
+    measurable(slots.as_slice())?;
     Ok(Medl {
         version,
         rounds,
@@ -222,14 +206,12 @@ fn document_of(alloc: Global, text: &[u8]) -> Result<Table, MedlError>
 /// Reads a descriptor list from the bytes of a TOML document.
 ///
 /// The answer is `medl_of` of the bytes, which is the list or the first thing wrong with it; but
-/// for want of memory, which may be answered for any text. What is read meets `IsValid`, and each of
-/// its frames is bare: payload is not built yet, so a list that has any is refused. A list of version 1
-/// has up to 16 slots, and one of version 2 up to 24.
+/// for want of memory, which may be answered for any text. What is read meets `IsValid`. A list of
+/// version 1 has up to 16 slots, and one of version 2 up to 24.
 #[tactic(auto, unfolding(crate::specs::ListFile::medl_of, crate::specs::ListFile::medl_in))]
 pub fn read_medl(alloc: Global, text: &[u8]) -> Result<Medl, MedlError>
     ensures exact { (result ≡ Err MedlError.Memory) ⊎ (result ≡ medl_of text.now) }
     ensures valid { IfOk result IsValid }
-    ensures bare { IfOk result IsBareList }
 {
     let file = document_of(alloc, text)?;
     list_in(alloc, &file)

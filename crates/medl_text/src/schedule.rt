@@ -1,14 +1,14 @@
 //! The slot table of one cluster cycle.
 ghost use Rattle.std.specs.Prelude.{◌≡◌, ◌+◌, ◌<◌, ◌≤◌, ◌++◌, length, decimal, OnOk, OnErr};
-ghost use Rattle.std.specs.Io.KnownBytes.{Appends};
-ghost use Rattle.ttp_base.specs.Outside.{HasRisen, AppendsFront};
+ghost use Rattle.ttp_base.specs.Outside.{WroteLines, CutShort};
 ghost use Rattle.ttp_world.specs.Medl.{IsValid, plan_at, payload_length};
 ghost use Rattle.medl_text.specs.Schedule.{letter_of, yes_or_no, table_head, slot_line, round_lines, slot_table};
 
 use ttp_base::{Failed, Line, Sink};
 use ttp_world::{Kind, Medl};
 
-// Adds a number below 256.
+// Adds a number below 256. That it fits is proved here once: beside ten more texts of a line the search
+// for it gives up.
 #[tactic(auto, using(ttp_base::proofs::Room::room))]
 fn put_small(line: &mut Line, number: u8)
     requires { length line.old + 3 ≤ 640 }
@@ -96,10 +96,8 @@ fn slot_line(list: &Medl, round: u8, slot: u8) -> Line
 fn put_round<K: Sink>(list: &Medl, round: u8, out: &mut K) -> Result<(), Failed>
     requires valid { IsValid list.now }
     requires round { round < list.now.rounds }
-    ensures ok { OnOk result (Appends (K.written out.old) (K.written out.new) (round_lines list.now round)) }
-    ensures front { OnErr result (AppendsFront (K.written out.old) (K.written out.new) (round_lines list.now round)) }
-    ensures failed { OnErr result (HasRisen (K.faults out.old) (K.faults out.new)) }
-    ensures count { K.faults out.old ≤ K.faults out.new }
+    ensures ok { OnOk result (WroteLines (K.output out.old) (K.output out.new) (round_lines list.now round)) }
+    ensures failed { OnErr result (CutShort (K.output out.old) (K.output out.new) (round_lines list.now round)) }
 {
     for slot in 0..list.nodes() {
         out.write(slot_line(list, round, slot).bytes())?;
@@ -114,10 +112,8 @@ fn put_round<K: Sink>(list: &Medl, round: u8, out: &mut K) -> Result<(), Failed>
 #[tactic(auto, unfolding(crate::specs::Schedule::slot_table))]
 pub fn put_schedule<K: Sink>(list: &Medl, out: &mut K) -> Result<(), Failed>
     requires { IsValid list.now }
-    ensures ok { OnOk result (Appends (K.written out.old) (K.written out.new) (slot_table list.now)) }
-    ensures front { OnErr result (AppendsFront (K.written out.old) (K.written out.new) (slot_table list.now)) }
-    ensures failed { OnErr result (HasRisen (K.faults out.old) (K.faults out.new)) }
-    ensures count { K.faults out.old ≤ K.faults out.new }
+    ensures ok { OnOk result (WroteLines (K.output out.old) (K.output out.new) (slot_table list.now)) }
+    ensures failed { OnErr result (CutShort (K.output out.old) (K.output out.new) (slot_table list.now)) }
 {
     out.write(head_line(list).bytes())?;
     for round in 0..list.rounds {

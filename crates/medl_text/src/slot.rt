@@ -57,7 +57,7 @@ fn is_bare(kind: &Kind) -> bool
     }
 }
 
-pub(crate) fn are_bare(kinds: &[Kind]) -> bool
+fn are_bare(kinds: &[Kind]) -> bool
     ensures { result ≡ list_all is_bare kinds.now }
 {
     kinds.iter().all(|kind| is_bare(kind))

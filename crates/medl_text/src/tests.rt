@@ -1,7 +1,7 @@
 //! Each public call once, and what is told of the keys for modes. What else is refused, and how it is told, is
 //! tested where the lines are printed.
 
-use crate::{Field, FieldName, MedlError, put_schedule, read_medl, second_starter};
+use crate::{Field, FieldName, MedlError, put_schedule, read_medl};
 use std::alloc::{AllocError, Global};
 use std::test::Fail;
 use ttp_base::{List, MemorySink};
@@ -20,14 +20,11 @@ const BARE: &str = "kinds = \"I\"\ndata = 0\n";
 
 const SLOT: &str = "[[slot]]\nkinds = \"I\"\ndata = 0\nsync = true\nstart = false\n";
 
-// Slots 1, 3 and 4 may start.
-const STARTERS: &str =
-    "version = 1\nrounds = 1\nschedule = 0\nbuffers = 4\ndrift = 1\nerror = 2\nwindow = 64\n
-[[slot]]\nkinds = \"I\"\ndata = 0\nsync = true\nstart = false\n
-[[slot]]\nkinds = \"I\"\ndata = 0\nsync = true\nstart = true\n
-[[slot]]\nkinds = \"I\"\ndata = 0\nsync = true\nstart = false\n
-[[slot]]\nkinds = \"I\"\ndata = 0\nsync = true\nstart = true\n
-[[slot]]\nkinds = \"I\"\ndata = 0\nsync = false\nstart = true\n";
+// Four slots in three rounds, of which two may start.
+const LOADED: &str = "[[slot]]\nkinds = \"III\"\ndata = 0\nsync = true\nstart = true\n
+[[slot]]\nkinds = \"INX\"\ndata = 240\nsync = true\nstart = true\nrequests = true\n
+[[slot]]\nkinds = \"XXX\"\ndata = 0\nsync = true\nstart = false\n
+[[slot]]\nkinds = \"INI\"\ndata = 1\nsync = true\nstart = false\n";
 
 #[test]
 fn a_list_is_read_and_shown(rt: HostRuntime) -> Result<(), Fail> {
@@ -53,12 +50,29 @@ round 0 slot 3 kind I data 0 sync yes start no\n";
 }
 
 #[test]
-fn the_second_slot_that_may_start(rt: HostRuntime) -> Result<(), Fail> {
-    let list = read_medl(rt.alloc(), STARTERS.as_bytes())?;
-    assert_eq!(rt; second_starter(&list), Some(3));
-    // Only one slot may start.
-    let list = read_medl(rt.alloc(), LIST.as_bytes())?;
-    assert_eq!(rt; second_starter(&list), None);
+fn payload_is_read_and_shown(rt: HostRuntime) -> Result<(), Fail> {
+    let text = format!(in rt.alloc();
+        "version = 1\nrounds = 3\nschedule = 0\nbuffers = 2\ndrift = 0\nerror = 0\nwindow = 1\n{LOADED}"
+    )?;
+    let list = read_medl(rt.alloc(), text.as_bytes())?;
+    assert_eq!(rt; list.slots.get(1).payload, 240);
+    assert!(rt; list.slots.get(1).requests);
+    let mut out = MemorySink::new(rt.alloc(), 2048, List::new(rt.alloc()))?;
+    assert!(rt; put_schedule(&list, &mut out).is_ok());
+    let table = b"ttpbench schedule 1 nodes 4 rounds 3 schedule 000000
+round 0 slot 0 kind I data 0 sync yes start yes
+round 0 slot 1 kind I data 0 sync yes start yes
+round 0 slot 2 kind X data 0 sync yes start no
+round 0 slot 3 kind I data 0 sync yes start no
+round 1 slot 0 kind I data 0 sync yes start yes
+round 1 slot 1 kind N data 240 sync yes start yes
+round 1 slot 2 kind X data 0 sync yes start no
+round 1 slot 3 kind N data 1 sync yes start no
+round 2 slot 0 kind I data 0 sync yes start yes
+round 2 slot 1 kind X data 240 sync yes start yes
+round 2 slot 2 kind X data 0 sync yes start no
+round 2 slot 3 kind I data 0 sync yes start no\n";
+    assert_eq!(rt; out.bytes(), table.as_slice());
     Ok(())
 }
 
@@ -206,9 +220,6 @@ fn the_first_of_several_wrong_keys_is_told(rt: HostRuntime) -> Result<(), Fail> 
     let missing = MedlError::Missing {
         field: at_slot_1(FieldName::DataSize),
     };
-    let unbuilt = MedlError::NotBuilt {
-        field: at_slot_1(FieldName::Kinds),
-    };
     // The key at the top, `kinds` and `data` of slot 1, its other keys, and what is told.
     let rows = [
         ("modes = 9", BARE, "requests = true", out_of_range(9)),
@@ -219,7 +230,6 @@ fn the_first_of_several_wrong_keys_is_told(rt: HostRuntime) -> Result<(), Fail> 
         ("", empty, "requests = true", NO_DATA),
         ("", loaded, "requests = true\nlive = \"\"", NO_LIVE),
         ("speed = 1", BARE, "live = \"\"", NO_LIVE),
-        ("", loaded, "requests = true", unbuilt),
     ];
     for (top, data, keys, error) in rows {
         let slot = format!(in rt.alloc(); "{data}\n{keys}")?;

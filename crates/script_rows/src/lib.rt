@@ -17,7 +17,7 @@ ghost use Rattle.script_rows.specs.Rows.{four_nodes, all_of, built_of, fault_at,
 ghost use Rattle.script_rows.specs.Rows.{event_script, five_nodes, five_of, wide_list, all_on};
 ghost use Rattle.script_rows.specs.Busy.{eight_nodes, busy_text, busy_script};
 
-/// Bad scripts: the run's slots, and when nodes are switched on. These are read already.
+/// Bad scripts: the run's slots, and when nodes are switched on.
 pub fn bad_slots_and_on()
     ensures on_before_slots { built_of (codes "on 0 0\n") ≡ fault_at 1 faults.NoSlots }
     ensures too_many_slots { built_of (codes "slots 20001\n") ≡ fault_at 1 faults.Range }
@@ -30,11 +30,11 @@ pub fn bad_slots_and_on()
 
 /// Bad scripts: faults and clocks.
 pub fn bad_faults_and_clocks()
-    ensures channels { all_of (codes "slots 20\nsend 0 BA noise 0 0\n") ≡ fault_at 2 faults.Word }
-    ensures backwards { all_of (codes "slots 20\nsend 0 AB noise 5 4\n") ≡ fault_at 2 faults.Range }
-    ensures past_the_last_bit { all_of (codes "slots 20\nflip 0 A 2048 3\n") ≡ fault_at 2 faults.Range }
-    ensures drift_too_far { all_of (codes "slots 20\ndrift 0 -1001\n") ≡ fault_at 2 faults.Range }
-    ensures sign_alone { all_of (codes "slots 20\ndrift 0 -\n") ≡ fault_at 2 faults.Number }
+    ensures channels { built_of (codes "slots 20\nsend 0 BA noise 0 0\n") ≡ fault_at 2 faults.Word }
+    ensures backwards { built_of (codes "slots 20\nsend 0 AB noise 5 4\n") ≡ fault_at 2 faults.Range }
+    ensures past_the_last_bit { built_of (codes "slots 20\nflip 0 A 2048 3\n") ≡ fault_at 2 faults.Range }
+    ensures drift_too_far { built_of (codes "slots 20\ndrift 0 -1001\n") ≡ fault_at 2 faults.Range }
+    ensures sign_alone { built_of (codes "slots 20\ndrift 0 -\n") ≡ fault_at 2 faults.Number }
 {}
 
 /// Bad scripts: what hosts write and read.
@@ -49,29 +49,24 @@ pub fn bad_writes_and_reads()
         ≡ fault_at 2 faults.NoBuffer }
 {}
 
-/// Forms of lines that are not built yet, and those that would be refused anyway.
+/// Forms of lines that are not built yet, and a word that names no form.
 pub fn not_built_yet()
-    ensures send { built_of (codes "slots 20\nsend 2 AB noise 22 22") ≡ fault_at 2 faults.NotBuilt }
-    ensures drift { built_of (codes "slots 20\ndrift 0 1\n") ≡ fault_at 2 faults.NotBuilt }
-    ensures receive { built_of (codes "slots 20\nreceive 2 A silence 2 2\n") ≡ fault_at 2 faults.NotBuilt }
-    ensures flip { built_of (codes "slots 20\nflip 0 B 8 3\n") ≡ fault_at 2 faults.NotBuilt }
-    ensures error { built_of (codes "slots 20\nerror 0 1 3 3\n") ≡ fault_at 2 faults.NotBuilt }
-    ensures jump { built_of (codes "slots 20\njump 0 1 3\n") ≡ fault_at 2 faults.NotBuilt }
-    ensures arm { built_of (codes "slots 20\narm 0 3\n") ≡ fault_at 2 faults.NotBuilt }
     ensures write { built_of (codes "slots 20\nwrite 1 3 0102\n") ≡ fault_at 2 faults.NotBuilt }
     ensures read { built_of (codes "slots 20\nread 0 3 status\n") ≡ fault_at 2 faults.NotBuilt }
     ensures no_word { built_of (codes "slots 20\nwait 0 3\n") ≡ fault_at 2 faults.Word }
-    ensures built_later { all_of (codes "slots 20\nsend 2 AB noise 22 22") ≡ fault_at 2 faults.Range }
 {}
 
 /// The order of a line's faults: each line here has two or more.
 pub fn first_faults()
     ensures word_before_no_slots { built_of (codes "on 0\n") ≡ fault_at 1 faults.Word }
-    ensures no_slots_before_not_built { built_of (codes "send 0 A noise 0 0\n") ≡ fault_at 1 faults.NoSlots }
-    ensures word_before_not_built { built_of (codes "slots 20\nsend 0 C noise 0 0\n") ≡ fault_at 2 faults.Word }
-    ensures not_built_before_number { built_of (codes "slots 20\nsend x A noise 0 0\n") ≡ fault_at 2 faults.NotBuilt }
+    ensures no_slots_before_not_built { built_of (codes "write 1 3 0102\n") ≡ fault_at 1 faults.NoSlots }
+    ensures word_before_not_built { built_of (codes "slots 20\nwrite 1 3\n") ≡ fault_at 2 faults.Word }
+    ensures not_built_before_number { built_of (codes "slots 20\nwrite x 3 0102\n") ≡ fault_at 2 faults.NotBuilt }
     ensures no_slots_before_number { built_of (codes "on x y\n") ≡ fault_at 1 faults.NoSlots }
     ensures number_before_no_node { built_of (codes "slots 20\non 9 x\n") ≡ fault_at 2 faults.Number }
+    ensures no_node_before_range { built_of (codes "slots 20\nflip 4 A 7 3\n") ≡ fault_at 2 faults.NoNode }
+    ensures range_before_repeat_of_drift { built_of (codes "slots 20\ndrift 0 1\ndrift 0 1001\n")
+        ≡ fault_at 3 faults.Range }
     ensures no_node_before_no_data { all_of (codes "slots 20\nread 4 3 2\n") ≡ fault_at 2 faults.NoNode }
     ensures no_data_before_range { all_of (codes "slots 20\nwrite 0 99 0\n") ≡ fault_at 2 faults.NoData }
     ensures range_before_repeat { built_of (codes "slots 20\non 0 0\non 0 20\n") ≡ fault_at 3 faults.Range }
@@ -93,25 +88,21 @@ pub fn without_slots()
 
 /// Lines that let a node listen again.
 pub fn arm_lines()
-    ensures once { all_of (codes "slots 20\narm 2 19\n") ≡ Ok (event_script (event.Arm 2 19)) }
-    ensures again_and_again { all_of (codes "slots 20\narm 3 9\narm 3 0\narm 3 9\n")
+    ensures once { built_of (codes "slots 20\narm 2 19\n") ≡ Ok (event_script (event.Arm 2 19)) }
+    ensures again_and_again { built_of (codes "slots 20\narm 3 9\narm 3 0\narm 3 9\n")
         ≡ Ok (script 20 (replicate 4 None) (event.Arm 3 9 ∷ event.Arm 3 0 ∷ event.Arm 3 9 ∷ [])) }
-    ensures word_too_few { all_of (codes "slots 20\narm 2\n") ≡ fault_at 2 faults.Word }
-    ensures word_too_many { all_of (codes "slots 20\narm 2 3 4\n") ≡ fault_at 2 faults.Word }
-    ensures upper_case { all_of (codes "slots 20\nArm 2 3\n") ≡ fault_at 2 faults.Word }
-    ensures before_slots { all_of (codes "arm 2 3\nslots 20\n") ≡ fault_at 1 faults.NoSlots }
-    ensures node_of_no_number { all_of (codes "slots 20\narm x 3\n") ≡ fault_at 2 faults.Number }
-    ensures slot_of_no_number { all_of (codes "slots 20\narm 2 -3\n") ≡ fault_at 2 faults.Number }
-    ensures no_node { all_of (codes "slots 20\narm 4 3\n") ≡ fault_at 2 faults.NoNode }
-    ensures past_the_run { all_of (codes "slots 20\narm 2 20\n") ≡ fault_at 2 faults.Range }
-    ensures word_before_no_slots { all_of (codes "arm 2\n") ≡ fault_at 1 faults.Word }
-    ensures no_slots_before_number { all_of (codes "arm x y\n") ≡ fault_at 1 faults.NoSlots }
-    ensures number_before_no_node { all_of (codes "slots 20\narm 4 x\n") ≡ fault_at 2 faults.Number }
-    ensures no_node_before_range { all_of (codes "slots 20\narm 4 20\n") ≡ fault_at 2 faults.NoNode }
-    ensures word_before_not_built { built_of (codes "slots 20\narm 2\n") ≡ fault_at 2 faults.Word }
-    ensures no_slots_before_not_built { built_of (codes "arm 2 3\n") ≡ fault_at 1 faults.NoSlots }
-    ensures not_built_before_number { built_of (codes "slots 20\narm x 3\n") ≡ fault_at 2 faults.NotBuilt }
-    ensures not_built_before_no_node { built_of (codes "slots 20\narm 4 20\n") ≡ fault_at 2 faults.NotBuilt }
+    ensures word_too_few { built_of (codes "slots 20\narm 2\n") ≡ fault_at 2 faults.Word }
+    ensures word_too_many { built_of (codes "slots 20\narm 2 3 4\n") ≡ fault_at 2 faults.Word }
+    ensures upper_case { built_of (codes "slots 20\nArm 2 3\n") ≡ fault_at 2 faults.Word }
+    ensures before_slots { built_of (codes "arm 2 3\nslots 20\n") ≡ fault_at 1 faults.NoSlots }
+    ensures node_of_no_number { built_of (codes "slots 20\narm x 3\n") ≡ fault_at 2 faults.Number }
+    ensures slot_of_no_number { built_of (codes "slots 20\narm 2 -3\n") ≡ fault_at 2 faults.Number }
+    ensures no_node { built_of (codes "slots 20\narm 4 3\n") ≡ fault_at 2 faults.NoNode }
+    ensures past_the_run { built_of (codes "slots 20\narm 2 20\n") ≡ fault_at 2 faults.Range }
+    ensures word_before_no_slots { built_of (codes "arm 2\n") ≡ fault_at 1 faults.Word }
+    ensures no_slots_before_number { built_of (codes "arm x y\n") ≡ fault_at 1 faults.NoSlots }
+    ensures number_before_no_node { built_of (codes "slots 20\narm 4 x\n") ≡ fault_at 2 faults.Number }
+    ensures no_node_before_range { built_of (codes "slots 20\narm 4 20\n") ≡ fault_at 2 faults.NoNode }
 {}
 
 /// How a file is cut into lines and words.
@@ -142,36 +133,37 @@ pub fn numbers()
     ensures plus { built_of (codes "slots +20\n") ≡ fault_at 1 faults.Number }
     ensures minus_where_none_is_due { built_of (codes "slots 20\non -0 0\n") ≡ fault_at 2 faults.Number }
     ensures hexadecimal { built_of (codes "slots 0x14\n") ≡ fault_at 1 faults.Number }
-    ensures minus_zero { all_of (codes "slots 20\njump 0 -0 3\n")
+    ensures minus_zero { built_of (codes "slots 20\njump 0 -0 3\n")
         ≡ Ok (script 20 (replicate 4 None) (event.Jump 0 (pos 0) 3 ∷ [])) }
-    ensures minus_and_ten_digits { all_of (codes "slots 20\njump 0 -0000000001 3\n") ≡ fault_at 2 faults.Number }
-    ensures minus_and_nine_digits { all_of (codes "slots 20\njump 0 -000000001 3\n")
+    ensures minus_and_ten_digits { built_of (codes "slots 20\njump 0 -0000000001 3\n") ≡ fault_at 2 faults.Number }
+    ensures minus_and_nine_digits { built_of (codes "slots 20\njump 0 -000000001 3\n")
         ≡ Ok (script 20 (replicate 4 None) (event.Jump 0 (negsuc 0) 3 ∷ [])) }
-    ensures two_signs { all_of (codes "slots 20\njump 0 --1 3\n") ≡ fault_at 2 faults.Number }
-    ensures plus_and_value { all_of (codes "slots 20\njump 0 +1 3\n") ≡ fault_at 2 faults.Number }
+    ensures two_signs { built_of (codes "slots 20\njump 0 --1 3\n") ≡ fault_at 2 faults.Number }
+    ensures plus_and_value { built_of (codes "slots 20\njump 0 +1 3\n") ≡ fault_at 2 faults.Number }
 {}
 
 /// Scripts without a fault: each form of a line, with what it says.
 pub fn right_lines()
-    ensures on { all_of (codes "slots 20\non 0 0\non 3 19\n")
+    ensures on { built_of (codes "slots 20\non 0 0\non 3 19\n")
         ≡ Ok (script 20 (Some 0 ∷ None ∷ None ∷ Some 19 ∷ []) []) }
-    ensures on_is_built { built_of (codes "slots 20\non 3 19\non 0 0\n")
+    ensures on_in_another_order { built_of (codes "slots 20\non 3 19\non 0 0\n")
         ≡ Ok (script 20 (Some 0 ∷ None ∷ None ∷ Some 19 ∷ []) []) }
-    ensures drift { all_of (codes "slots 20\ndrift 3 -1000\ndrift 1 7\n") ≡ Ok (record {
+    ensures drift { built_of (codes "slots 20\ndrift 3 -1000\ndrift 1 7\n") ≡ Ok (record {
       slots = 20;
       on = replicate 4 None;
       drift = pos 0 ∷ pos 7 ∷ pos 0 ∷ negsuc 999 ∷ [];
       events = [];
     }) }
-    ensures send { all_of (codes "slots 20\nsend 2 AB noise 3 19\n")
+    ensures send { built_of (codes "slots 20\nsend 2 AB noise 3 19\n")
         ≡ Ok (event_script (event.Send 2 (record { a = true; b = true }) kind.Noise 3 19)) }
-    ensures receive { all_of (codes "slots 20\nreceive 2 B silence 4 4\n")
+    ensures receive { built_of (codes "slots 20\nreceive 2 B silence 4 4\n")
         ≡ Ok (event_script (event.Receive 2 (record { a = false; b = true }) kind.Silence 4 4)) }
-    ensures flip { all_of (codes "slots 20\nflip 2 A 2047 3\n")
+    ensures flip { built_of (codes "slots 20\nflip 2 A 2047 3\n")
         ≡ Ok (event_script (event.Flip 2 (record { a = true; b = false }) 2047 3)) }
-    ensures error { all_of (codes "slots 20\nerror 2 -10000 0 19\n")
+    ensures error { built_of (codes "slots 20\nerror 2 -10000 0 19\n")
         ≡ Ok (event_script (event.Error 2 (negsuc 9999) 0 19)) }
-    ensures jump { all_of (codes "slots 20\njump 2 1000000 3\n") ≡ Ok (event_script (event.Jump 2 (pos 1000000) 3)) }
+    ensures jump { built_of (codes "slots 20\njump 2 1000000 3\n")
+        ≡ Ok (event_script (event.Jump 2 (pos 1000000) 3)) }
     ensures write { all_of (codes "slots 20\nwrite 1 3 aF09\n") ≡ Ok (event_script (event.Write 1 3 (175 ∷ 9 ∷ []))) }
     ensures read_status { all_of (codes "slots 20\nread 1 3 status\n")
         ≡ Ok (event_script (event.Read 1 3 source.Status)) }
@@ -185,25 +177,25 @@ pub fn right_lines()
 
 /// One past the end of a range.
 pub fn past_a_range()
-    ensures flips_the_header { all_of (codes "slots 20\nflip 2 A 7 3\n") ≡ fault_at 2 faults.Range }
-    ensures drift { all_of (codes "slots 20\ndrift 0 1001\n") ≡ fault_at 2 faults.Range }
-    ensures error { all_of (codes "slots 20\nerror 0 10001 0 0\n") ≡ fault_at 2 faults.Range }
-    ensures error_below { all_of (codes "slots 20\nerror 0 -10001 0 0\n") ≡ fault_at 2 faults.Range }
-    ensures jump { all_of (codes "slots 20\njump 0 1000001 0\n") ≡ fault_at 2 faults.Range }
-    ensures jump_below { all_of (codes "slots 20\njump 0 -1000001 0\n") ≡ fault_at 2 faults.Range }
-    ensures last_slot { all_of (codes "slots 20\nreceive 0 A noise 19 20\n") ≡ fault_at 2 faults.Range }
+    ensures flips_the_header { built_of (codes "slots 20\nflip 2 A 7 3\n") ≡ fault_at 2 faults.Range }
+    ensures drift { built_of (codes "slots 20\ndrift 0 1001\n") ≡ fault_at 2 faults.Range }
+    ensures error { built_of (codes "slots 20\nerror 0 10001 0 0\n") ≡ fault_at 2 faults.Range }
+    ensures error_below { built_of (codes "slots 20\nerror 0 -10001 0 0\n") ≡ fault_at 2 faults.Range }
+    ensures jump { built_of (codes "slots 20\njump 0 1000001 0\n") ≡ fault_at 2 faults.Range }
+    ensures jump_below { built_of (codes "slots 20\njump 0 -1000001 0\n") ≡ fault_at 2 faults.Range }
+    ensures last_slot { built_of (codes "slots 20\nreceive 0 A noise 19 20\n") ≡ fault_at 2 faults.Range }
     ensures write_slot { all_of (codes "slots 20\nwrite 1 20 0102\n") ≡ fault_at 2 faults.Range }
     ensures read_slot { all_of (codes "slots 20\nread 1 20 status\n") ≡ fault_at 2 faults.Range }
     ensures message_too_long { all_of (codes "slots 20\nwrite 1 3 010203\n") ≡ fault_at 2 faults.Range }
     ensures half_a_byte { all_of (codes "slots 20\nwrite 1 3 010\n") ≡ fault_at 2 faults.Range }
     ensures source_of_no_node { all_of (codes "slots 20\nread 0 3 4\n") ≡ fault_at 2 faults.NoNode }
     ensures source_of_no_number { all_of (codes "slots 20\nread 0 3 Status\n") ≡ fault_at 2 faults.Number }
-    ensures drift_again { all_of (codes "slots 20\ndrift 0 1\ndrift 0 1\n") ≡ fault_at 3 faults.Repeat }
-    ensures fault_in_upper_case { all_of (codes "slots 20\nsend 0 A Noise 0 0\n") ≡ fault_at 2 faults.Word }
-    ensures fault_misspelled { all_of (codes "slots 20\nreceive 0 A noises 0 0\n") ≡ fault_at 2 faults.Word }
-    ensures flip_on_no_channel { all_of (codes "slots 20\nflip 0 ab 8 0\n") ≡ fault_at 2 faults.Word }
+    ensures drift_again { built_of (codes "slots 20\ndrift 0 1\ndrift 0 1\n") ≡ fault_at 3 faults.Repeat }
+    ensures fault_in_upper_case { built_of (codes "slots 20\nsend 0 A Noise 0 0\n") ≡ fault_at 2 faults.Word }
+    ensures fault_misspelled { built_of (codes "slots 20\nreceive 0 A noises 0 0\n") ≡ fault_at 2 faults.Word }
+    ensures flip_on_no_channel { built_of (codes "slots 20\nflip 0 ab 8 0\n") ≡ fault_at 2 faults.Word }
     ensures word_too_many { all_of (codes "slots 20\nread 0 3 1 2\n") ≡ fault_at 2 faults.Word }
-    ensures word_too_few { all_of (codes "slots 20\nerror 0 1 2\n") ≡ fault_at 2 faults.Word }
+    ensures word_too_few { built_of (codes "slots 20\nerror 0 1 2\n") ≡ fault_at 2 faults.Word }
 {}
 
 /// A list of five nodes, of which node 2 sends eight bytes.
@@ -222,9 +214,9 @@ pub fn five_nodes_on()
     }) }
     ensures two_writes { five_of (all_on ++ codes "write 2 17 0102030405060708\nwrite 2 17 0102030405060708\n")
         ≡ fault_at 8 faults.TooMany }
-    ensures send_past_the_run { five_of (codes "slots 20\nsend 2 AB noise 22 22\n")
+    ensures send_past_the_run { script_of five_nodes (codes "slots 20\nsend 2 AB noise 22 22\n")
         ≡ fault_at 2 faults.Range }
-    ensures send_not_built { script_of five_nodes (codes "slots 20\nsend 2 AB noise 22 22\n")
+    ensures write_not_built { script_of five_nodes (codes "slots 20\nwrite 2 17 0102030405060708\n")
         ≡ fault_at 2 faults.NotBuilt }
 {}
 
@@ -237,13 +229,13 @@ pub fn wide_list_lines()
       events = [];
     }) }
     ensures no_node { script_of wide_list (codes "slots 72\non 24 5\n") ≡ fault_at 2 faults.NoNode }
-    ensures arm { file_script is_known wide_list (codes "slots 72\narm 23 71\n") ≡ Ok (record {
+    ensures arm { script_of wide_list (codes "slots 72\narm 23 71\n") ≡ Ok (record {
       slots = 72;
       on = replicate 24 None;
       drift = replicate 24 (pos 0);
       events = event.Arm 23 71 ∷ [];
     }) }
-    ensures arms_no_node { file_script is_known wide_list (codes "slots 72\narm 24 71\n") ≡ fault_at 2 faults.NoNode }
+    ensures arms_no_node { script_of wide_list (codes "slots 72\narm 24 71\n") ≡ fault_at 2 faults.NoNode }
 {}
 
 /// A whole script for eight nodes, seventy-five lines of all forms but two.

@@ -1,19 +1,26 @@
 -- A file that is read line by line.
-use Rattle.std.proofs.Common.{◌≡◌, ℕ, ◌+◌, ◌<◌, ◌≤◌, List, [], ◌∷◌, ◌++◌, length, vec_len}
-use Rattle.std.proofs.Common.{Some, Err, arith, refl, ap, sym, ◌∙◌, add-one, suc, subst}
+use Rattle.std.proofs.Common.{◌≡◌, ◌⊎◌, ℕ, ◌+◌, ◌*◌, ◌<◌, ◌≤◌, List, [], ◌∷◌, ◌++◌, length}
+use Rattle.std.proofs.Common.{Some, Result, Err, arith, refl, ap, sym, ◌∙◌, add-one, suc, subst, inl, inr}
+use Rattle.std.specs.Prelude.{All}
 use Rattle.ttp_base.specs.Faults.{first_fault}
 use Rattle.ttp_world.specs.declared.medl.Medl.{Medl}
 use Rattle.ttp_world.specs.declared.script.Script.{Script}
+use Rattle.ttp_world.specs.declared.script.TheConstants.{EVENT_LIMIT}
+use Rattle.ttp_world.specs.Script.{IsBounded}
 use Rattle.script_text.specs.declared.error.LineFault.{LineFault}
+use Rattle.script_text.specs.declared.error.Refusal.{Refusal}
+use Rattle.script_text.specs.declared.error.Refusal.TheVariants as refusals
 use Rattle.script_text.specs.declared.error.ScriptError.{ScriptError}
 use Rattle.script_text.specs.declared.error.ScriptError.TheVariants as errors
 use Rattle.script_text.specs.declared.so_far.SoFar.{SoFar}
 use Rattle.script_text.specs.Lines.{lines_of, words_of}
 use Rattle.script_text.specs.Statement.{Statement}
-use Rattle.script_text.specs.Faults.{line_faults, statements_after}
+use Rattle.script_text.specs.Faults.{events_of, line_faults, statements_after}
 use Rattle.script_text.specs.ScriptFile.{is_built, errors_at, file_faults, end_faults, statements_of}
 use Rattle.script_text.specs.ScriptFile.{stated_script, script_or_fault, lines_script, file_script, script_of}
-use Rattle.script_text.specs.SoFar.{StandsFor, IsInRange, TakesLine, RefusesLine}
+use Rattle.script_text.specs.SoFar.{StandsFor, HasNodes, TakesLine, RefusesLine, error_at}
+use Rattle.script_text.proofs.Sizes.{size_of, size-lines_of}
+use Rattle.script_text.proofs.Valid.{AreValid, AreValid-none, line_right, events_bounded}
 
 -- The lines so far have no fault, so that what is left decides; and what they state is kept.
 pub record IsReading (list : Medl) (text : List ℕ) (so_far : SoFar) (number : ℕ) (rest : List ℕ) : Type 0 where
@@ -21,20 +28,21 @@ pub record IsReading (list : Medl) (text : List ℕ) (so_far : SoFar) (number : 
   pub stands : StandsFor so_far before
   pub faults : file_faults is_built list 1 [] (lines_of text) ≡ file_faults is_built list number before (lines_of rest)
   pub said : statements_of [] (lines_of text) ≡ statements_of before (lines_of rest)
-  pub in_range : IsInRange so_far
-  pub nodes : vec_len so_far.on ≡ length list.slots
+  pub nodes : HasNodes list so_far
+  pub valid : AreValid list before
+  pub size : 8 * length (events_of before) + size_of (lines_of rest) ≤ length text + 1
   pub count : number + length rest ≤ length text + 1
 
-pub IsReading-none : (list : Medl) (text : List ℕ) (so_far : SoFar) → StandsFor so_far [] → IsInRange so_far
-    → vec_len so_far.on ≡ length list.slots
+pub IsReading-none : (list : Medl) (text : List ℕ) (so_far : SoFar) → StandsFor so_far [] → HasNodes list so_far
     → IsReading list text so_far 1 text
-IsReading-none list text so_far stands in_range nodes = record {
+IsReading-none list text so_far stands nodes = record {
   before = [];
   stands = stands;
   faults = refl;
   said = refl;
-  in_range = in_range;
   nodes = nodes;
+  valid = AreValid-none list;
+  size = omega (arith, size-lines_of text);
   count = omega arith;
 }
 
@@ -53,17 +61,19 @@ faults-more list number before lines line more cut none =
 pub IsReading-more : (list : Medl) (text : List ℕ) (old new : SoFar) (number : ℕ) (rest line more : List ℕ)
     → IsReading list text old number rest
     → lines_of rest ≡ line ∷ lines_of more → length more < length rest → TakesLine list (words_of line) old new
-    → IsInRange new → vec_len new.on ≡ vec_len old.on → IsReading list text new (number + 1) more
-IsReading-more list text old new number rest line more reading cut shorter takes in_range nodes =
+    → HasNodes list new → IsReading list text new (number + 1) more
+IsReading-more list text old new number rest line more reading cut shorter takes nodes =
     let before = reading.before in
+    let right = line_right list before line (takes.faults before reading.stands) reading.valid in
     record {
       before = statements_after before (words_of line);
       stands = takes.after before reading.stands;
       faults = reading.faults
           ∙ faults-more list number before (lines_of rest) line (lines_of more) cut (takes.faults before reading.stands);
       said = reading.said ∙ ap (statements_of before) cut;
-      in_range = in_range;
-      nodes = nodes ∙ reading.nodes;
+      nodes = nodes;
+      valid = right.0;
+      size = omega (arith, reading.size, right.1, ap size_of cut);
       count = omega (arith, reading.count);
     }
 
@@ -74,17 +84,19 @@ script_or_fault-first : (number : ℕ) (found : List LineFault) (fault : LineFau
 script_or_fault-first number [] fault more script here = cc
 script_or_fault-first number (f ∷ found) fault more script here = cc
 
+-- that of a line is the whole script's, unless memory was refused
 pub script_of-refused : (list : Medl) (text : List ℕ) (so_far : SoFar) (number : ℕ) (rest line more : List ℕ)
-    (fault : LineFault)
+    (refusal : Refusal)
     → IsReading list text so_far number rest → lines_of rest ≡ line ∷ lines_of more
-    → RefusesLine list (words_of line) so_far fault
-    → script_of list text ≡ Err (errors.Line number fault)
+    → RefusesLine list (words_of line) so_far refusal
+    → (error_at number refusal ≡ errors.Memory) ⊎ (script_of list text ≡ Err (error_at number refusal))
 unfolding script_of file_script lines_script
-script_of-refused list text so_far number rest line more fault reading cut refuses =
+script_of-refused list text so_far number rest line more (refusals.Fault fault) reading cut refuses =
     let before = reading.before in
-    ap (λ (found : List ScriptError). script_or_fault found (stated_script list (statements_of [] (lines_of text))))
+    inr (ap (λ (found : List ScriptError). script_or_fault found (stated_script list (statements_of [] (lines_of text))))
     (reading.faults ∙ ap (file_faults is_built list number before) cut)
-    ∙ script_or_fault-first number (line_faults is_built list before (words_of line)) fault _ _ (refuses before reading.stands)
+    ∙ script_or_fault-first number (line_faults is_built list before (words_of line)) fault _ _ (refuses before reading.stands))
+script_of-refused list text so_far number rest line more refusals.Memory reading cut refuses = inl refl
 
 -- no line is left
 pub stands-end : (list : Medl) (text : List ℕ) (so_far : SoFar) (number : ℕ) (rest : List ℕ)
@@ -101,4 +113,24 @@ faults-end list text so_far number rest reading done =
     reading.faults ∙ ap (file_faults is_built list number reading.before) done
     ∙ ap (end_faults number) (sym (reading.said ∙ ap (statements_of reading.before) done))
 
-pub ruleset reading = (IsReading-none, IsReading-more, script_of-refused, stands-end, faults-end)
+-- what happens in slots is as the index of events wants it
+pub count-end : (list : Medl) (text : List ℕ) (so_far : SoFar) (number : ℕ) (rest : List ℕ)
+    → length text ≤ 1048576 → IsReading list text so_far number rest → length so_far.events ≤ EVENT_LIMIT
+count-end list text so_far number rest size reading = omega (arith, reading.size, ap length reading.stands.events)
+
+pub values-end : (list : Medl) (text : List ℕ) (so_far : SoFar) (number : ℕ) (rest : List ℕ)
+    → IsReading list text so_far number rest → All IsBounded so_far.events
+values-end list text so_far number rest reading =
+    rw reading.stands.events (events_bounded list reading.before reading.valid)
+
+-- the answer for the whole file
+pub script_of-read : (list : Medl) (text : List ℕ) (number : ℕ) (result : Result Script ScriptError)
+    → file_faults is_built list 1 [] (lines_of text) ≡ end_faults number (statements_of [] (lines_of text))
+    → (result ≡ Err errors.Memory)
+    ⊎ (result ≡ script_or_fault (end_faults number (statements_of [] (lines_of text))) (stated_script list (statements_of [] (lines_of text))))
+    → (result ≡ Err errors.Memory) ⊎ (result ≡ script_of list text)
+unfolding script_of file_script lines_script
+script_of-read list text number result found (inl refused) = inl refused
+script_of-read list text number result found (inr told) = inr (rw found told)
+
+pub ruleset reading = (IsReading-none, IsReading-more, script_of-refused, stands-end, faults-end, count-end)

@@ -10,7 +10,8 @@ use Rattle.ttp_world.specs.declared.script.Source.{Source}
 use Rattle.ttp_world.specs.declared.script.Source.TheVariants as source
 use Rattle.ttp_world.specs.declared.script.Event.{Event}
 use Rattle.ttp_world.specs.declared.script.Event.TheVariants as event
-use Rattle.ttp_world.specs.declared.script.TheConstants.{SLOT_LIMIT}
+use Rattle.ttp_world.specs.declared.script.TheConstants.{SLOT_LIMIT, DRIFT_LIMIT, ERROR_LIMIT, JUMP_LIMIT}
+use Rattle.ttp_world.specs.declared.script.TheConstants.{FIRST_FLIPPED_BIT, LAST_FLIPPED_BIT}
 use Rattle.ttp_world.specs.Medl.{plan_at}
 use Rattle.script_text.specs.declared.error.LineFault.{LineFault}
 use Rattle.script_text.specs.declared.error.LineFault.TheVariants as faults
@@ -47,6 +48,10 @@ event_said _ = None
 -- how many slots the run has, where a line says so
 abbrev pub slots_of : List Statement → Option ℕ
 slots_of before = newest slots_said before
+
+-- as a number, which is 0 where none says so
+abbrev pub run_slots : List Statement → ℕ
+run_slots before = unwrap_or (slots_of before) 0
 
 -- when a node is switched on, and how its clock drifts, where a line says so
 abbrev pub on_of : List Statement → ℕ → Option ℕ
@@ -109,39 +114,42 @@ has_payload list _ = true
 abbrev pub is_count : ℕ → Bool
 is_count count = nat_le 1 count && nat_le count SLOT_LIMIT
 
--- a slot of the run
-abbrev pub is_slot : List Statement → ℕ → Bool
-is_slot before slot = nat_lt slot (unwrap_or (slots_of before) 0)
+-- a slot of a run of so many slots
+abbrev pub is_slot : ℕ → ℕ → Bool
+is_slot slots slot = nat_lt slot slots
 
 -- first and last slot of a fault
-abbrev pub is_span : List Statement → ℕ → ℕ → Bool
-is_span before from to = is_slot before from && (is_slot before to && nat_le from to)
+abbrev pub is_span : ℕ → ℕ → ℕ → Bool
+is_span slots from to = is_slot slots from && (is_slot slots to && nat_le from to)
 
 -- a number of microticks lies within plus or minus a bound, bounds included
 abbrev pub is_within : ℕ → ℤ → Bool
 is_within bound value = nat_le (nat_abs value) bound
 
+-- a bit that a line may flip
+abbrev pub is_flipped_bit : ℕ → Bool
+is_flipped_bit bit = nat_le FIRST_FLIPPED_BIT bit && nat_le bit LAST_FLIPPED_BIT
+
 -- the numbers of an event are in their ranges; a message is written as two digits for each byte, and no host reads
 -- its own node's messages
-abbrev pub event_is_in_range : Medl → List Statement → List (List ℕ) → Event → Bool
-event_is_in_range list before words (event.Send node channels kind from to) = is_span before from to
-event_is_in_range list before words (event.Receive node channels kind from to) = is_span before from to
-event_is_in_range list before words (event.Flip node channels bit slot) =
-    nat_le 8 bit && (nat_le bit 2047 && is_slot before slot)
-event_is_in_range list before words (event.Error node value from to) = is_within 10000 value && is_span before from to
-event_is_in_range list before words (event.Jump node value slot) = is_within 1000000 value && is_slot before slot
-event_is_in_range list before words (event.Arm node slot) = is_slot before slot
-event_is_in_range list before words (event.Write node slot payload) =
-    is_slot before slot && (length (word_at words 3) == 2 * payload_size list node)
-event_is_in_range list before words (event.Read node slot from) =
-    is_slot before slot && is_read_node (λ k. not (k == node)) from
+abbrev pub event_is_in_range : Medl → ℕ → List (List ℕ) → Event → Bool
+event_is_in_range list slots words (event.Send node channels kind from to) = is_span slots from to
+event_is_in_range list slots words (event.Receive node channels kind from to) = is_span slots from to
+event_is_in_range list slots words (event.Flip node channels bit slot) = is_flipped_bit bit && is_slot slots slot
+event_is_in_range list slots words (event.Error node value from to) = is_within ERROR_LIMIT value && is_span slots from to
+event_is_in_range list slots words (event.Jump node value slot) = is_within JUMP_LIMIT value && is_slot slots slot
+event_is_in_range list slots words (event.Arm node slot) = is_slot slots slot
+event_is_in_range list slots words (event.Write node slot payload) =
+    is_slot slots slot && (length (word_at words 3) == 2 * payload_size list node)
+event_is_in_range list slots words (event.Read node slot from) =
+    is_slot slots slot && is_read_node (λ k. not (k == node)) from
 
--- the numbers of a line are in their ranges
-abbrev pub is_in_range : Medl → List Statement → List (List ℕ) → Statement → Bool
-is_in_range list before words (says_slots count) = is_count count
-is_in_range list before words (says_on node slot) = is_slot before slot
-is_in_range list before words (says_drift node value) = is_within 1000 value
-is_in_range list before words (says_event e) = event_is_in_range list before words e
+-- the numbers of a line are in their ranges, where the run has so many slots
+abbrev pub is_in_range : Medl → ℕ → List (List ℕ) → Statement → Bool
+is_in_range list slots words (says_slots count) = is_count count
+is_in_range list slots words (says_on node slot) = is_slot slots slot
+is_in_range list slots words (says_drift node value) = is_within DRIFT_LIMIT value
+is_in_range list slots words (says_event e) = event_is_in_range list slots words e
 
 -- What a line says that was said before.
 
@@ -183,7 +191,7 @@ unfoldable pub statement_faults : Medl → List Statement → List (List ℕ) �
 statement_faults list before words statement =
     unless (has_nodes list statement) faults.NoNode
     ++ (unless (has_payload list statement) faults.NoData
-    ++ (unless (is_in_range list before words statement) faults.Range
+    ++ (unless (is_in_range list (run_slots before) words statement) faults.Range
     ++ (when (is_repeat before statement) faults.Repeat
     ++ (when (is_write statement && (list.buffers == 1)) faults.NoBuffer
     ++ when (fills_buffers list before statement) faults.TooMany))))

@@ -15,15 +15,15 @@ use Rattle.script_text.specs.declared.keyword.Keyword.{Keyword}
 use Rattle.script_text.specs.declared.keyword.Keyword.TheVariants as keyword
 use Rattle.script_text.specs.Lines.{lines_of, words_of}
 use Rattle.script_text.specs.Statement.{Statement}
-use Rattle.script_text.specs.Faults.{slots_of, on_of, drift_of, events_of, line_faults, statements_after}
+use Rattle.script_text.specs.Faults.{slots_of, run_slots, on_of, drift_of, events_of, line_faults, statements_after}
 
 -- Forms of lines that are read, and that the rest of the bench knows. The others are `NotBuilt`.
 
 -- lines of this form are read
 abbrev pub is_built : Keyword → Bool
-is_built keyword.Slots = true
-is_built keyword.On = true
-is_built _ = false
+is_built keyword.Write = false
+is_built keyword.Read = false
+is_built _ = true
 
 -- lines of this form are known, as all are
 abbrev pub is_known : Keyword → Bool
@@ -57,7 +57,7 @@ statements_of before (line ∷ lines) = statements_of (statements_after before (
 -- the script of what all lines state
 unfoldable pub stated_script : Medl → List Statement → Script
 stated_script list said = record {
-  slots = unwrap_or (slots_of said) 0;
+  slots = run_slots said;
   on = map (λ k. on_of said k) (below (length list.slots));
   drift = map (λ k. unwrap_or (drift_of said k) (pos 0)) (below (length list.slots));
   events = events_of said;

@@ -1,33 +1,40 @@
 -- What the reader keeps of the lines that it has read.
-use Rattle.std.specs.Prelude.{◌≡◌, ℕ, ◌<◌, ◌≤◌, ◌&&◌, List, [], ◌∷◌, ◌++◌, length, nat_lt}
-use Rattle.std.specs.Prelude.{All, Some, None, is_some, IfSome, unwrap_or, slice_index_or}
+use Rattle.std.specs.Prelude.{◌≡◌, ℕ, ◌&&◌, Bool, false, List, [], ◌∷◌, ◌++◌, length, nat_lt, vec_len}
+use Rattle.std.specs.Prelude.{Some, None, is_some, unwrap_or, slice_index_or}
 use Rattle.ttp_base.specs.Faults.{first_fault}
 use Rattle.ttp_world.specs.declared.medl.Medl.{Medl}
-use Rattle.ttp_world.specs.declared.script.TheConstants.{SLOT_LIMIT}
+use Rattle.ttp_world.specs.declared.script.TheConstants.{DRIFT_LIMIT}
 use Rattle.script_text.specs.declared.error.LineFault.{LineFault}
 use Rattle.script_text.specs.declared.error.LineFault.TheVariants as faults
+use Rattle.script_text.specs.declared.error.Refusal.{Refusal}
+use Rattle.script_text.specs.declared.error.Refusal.TheVariants as refusals
+use Rattle.script_text.specs.declared.error.ScriptError.{ScriptError}
+use Rattle.script_text.specs.declared.error.ScriptError.TheVariants as errors
 use Rattle.script_text.specs.declared.keyword.Keyword.{Keyword}
+use Rattle.script_text.specs.declared.keyword.Keyword.TheVariants as keyword
 use Rattle.script_text.specs.declared.so_far.SoFar.{SoFar}
 use Rattle.script_text.specs.Lines.{word_at}
-use Rattle.script_text.specs.Numbers.{is_number}
-use Rattle.script_text.specs.Statement.{Statement, number_at, statement_of}
-use Rattle.script_text.specs.Faults.{slots_of, on_of, drift_of, events_of, is_count, unless}
-use Rattle.script_text.specs.Faults.{when, form_faults, line_faults, statements_after}
+use Rattle.script_text.specs.Numbers.{is_number, is_value, value_in}
+use Rattle.script_text.specs.Statement.{Statement, number_at, has_numbers, statement_of}
+use Rattle.script_text.specs.Faults.{slots_of, on_of, drift_of, events_of, is_count, is_within}
+use Rattle.script_text.specs.Faults.{has_nodes, is_in_range, unless, when, form_faults, line_faults, statements_after}
 use Rattle.script_text.specs.ScriptFile.{is_built}
 
--- the lines so far state this, the newest first: no drift and no event, of which nothing is kept
+-- the lines so far state this, the newest first
 pub record StandsFor (so_far : SoFar) (before : List Statement) : Type 0 where
   pub slots : so_far.slots ≡ slots_of before
   pub on : (k : ℕ) → slice_index_or so_far.on.items k None ≡ on_of before k
-  pub drift : (k : ℕ) → drift_of before k ≡ None
-  pub events : events_of before ≡ []
+  pub drift : (k : ℕ) → slice_index_or so_far.drift.items k None ≡ drift_of before k
+  pub events : so_far.events ≡ events_of before
 
--- the run has slots in their range, and each node is switched on in one of them
-pub record IsInRange (so_far : SoFar) : Type 0 where
-  pub slots : IfSome so_far.slots (λ count. (1 ≤ count) × (count ≤ SLOT_LIMIT))
-  pub on : All (λ on. IfSome on (λ slot. slot < unwrap_or so_far.slots 0)) so_far.on.items
+-- something is kept of each node of a list
+pub record HasNodes (list : Medl) (so_far : SoFar) : Type 0 where
+  pub on : vec_len so_far.on ≡ length list.slots
+  pub drift : vec_len so_far.drift ≡ length list.slots
 
--- the faults of a `slots` line and of an `on` line whose words are spelled as they are due, by what is kept
+-- The faults of a line whose words are spelled as they are due, by what is kept: those of a `slots` line, of an `on`
+-- line, of a `drift` line, and of one that says what happens in slots, where the run has so many.
+
 unfoldable pub slots_faults : List (List ℕ) → SoFar → List LineFault
 slots_faults words so_far =
     let count = number_at words 1 in
@@ -44,24 +51,58 @@ on_faults words list so_far =
     ++ (unless (nat_lt slot (unwrap_or so_far.slots 0)) faults.Range
     ++ when (is_some (slice_index_or so_far.on.items node None)) faults.Repeat))
 
+unfoldable pub drift_faults : List (List ℕ) → Medl → SoFar → List LineFault
+drift_faults words list so_far =
+    let node = number_at words 1 in
+    unless (is_number (word_at words 1) && is_value (word_at words 2)) faults.Number
+    ++ (unless (nat_lt node (length list.slots)) faults.NoNode
+    ++ (unless (is_within DRIFT_LIMIT (value_in (word_at words 2))) faults.Range
+    ++ when (is_some (slice_index_or so_far.drift.items node None)) faults.Repeat))
+
+unfoldable pub event_faults : List (List ℕ) → Medl → ℕ → Keyword → List LineFault
+event_faults words list slots form =
+    unless (has_numbers form words) faults.Number
+    ++ (unless (has_nodes list (statement_of form words)) faults.NoNode
+    ++ unless (is_in_range list slots words (statement_of form words)) faults.Range)
+
+-- a line of this form is read, and says what happens in slots
+abbrev pub is_event_form : Keyword → Bool
+is_event_form keyword.Slots = false
+is_event_form keyword.On = false
+is_event_form keyword.Drift = false
+is_event_form form = is_built form
+
+-- this is the first fault of a line that says what happens in slots; or memory was refused
+abbrev pub RefusesEvent : List (List ℕ) → Medl → ℕ → Keyword → Refusal → Type 0
+RefusesEvent words list slots form (refusals.Fault fault) =
+    first_fault (event_faults words list slots form) ≡ Some fault
+RefusesEvent words list slots form refusals.Memory = Unit {0}
+
 -- a line of a form was taken: it has no fault, whatever lines are kept, and is kept beside them
 pub record TakesForm (list : Medl) (words : List (List ℕ)) (old new : SoFar) (form : Keyword) : Type 0 where
   pub faults : (before : List Statement) → StandsFor old before → form_faults is_built list before words form ≡ []
   pub after : (before : List Statement) → StandsFor old before → StandsFor new (statement_of form words ∷ before)
 
--- this is its first fault, whatever lines are kept
-abbrev pub RefusesForm : Medl → List (List ℕ) → SoFar → Keyword → LineFault → Type 0
-RefusesForm list words so_far form fault =
+-- this is its first fault, whatever lines are kept; or memory was refused
+abbrev pub RefusesForm : Medl → List (List ℕ) → SoFar → Keyword → Refusal → Type 0
+RefusesForm list words so_far form (refusals.Fault fault) =
     (before : List Statement) → StandsFor so_far before
     → first_fault (form_faults is_built list before words form) ≡ Some fault
+RefusesForm list words so_far form refusals.Memory = Unit {0}
 
 -- the same of a whole line
 pub record TakesLine (list : Medl) (words : List (List ℕ)) (old new : SoFar) : Type 0 where
   pub faults : (before : List Statement) → StandsFor old before → line_faults is_built list before words ≡ []
   pub after : (before : List Statement) → StandsFor old before → StandsFor new (statements_after before words)
 
--- this is the first fault of a whole line, whatever lines are kept
-abbrev pub RefusesLine : Medl → List (List ℕ) → SoFar → LineFault → Type 0
-RefusesLine list words so_far fault =
+-- this is the first fault of a whole line, whatever lines are kept; or memory was refused
+abbrev pub RefusesLine : Medl → List (List ℕ) → SoFar → Refusal → Type 0
+RefusesLine list words so_far (refusals.Fault fault) =
     (before : List Statement) → StandsFor so_far before
     → first_fault (line_faults is_built list before words) ≡ Some fault
+RefusesLine list words so_far refusals.Memory = Unit {0}
+
+-- why a script is refused whose line of this number is not taken
+abbrev pub error_at : ℕ → Refusal → ScriptError
+error_at number (refusals.Fault fault) = errors.Line number fault
+error_at number refusals.Memory = errors.Memory

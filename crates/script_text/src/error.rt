@@ -49,3 +49,49 @@ impl From<Memory> for ScriptError {
         ScriptError::Memory
     }
 }
+
+/// Why a line was not taken.
+#[derive(Clone, Copy, Debug, PartialEq, Eq)]
+pub(crate) enum Refusal {
+    /// The line's first fault.
+    Fault(LineFault),
+    /// Memory was refused.
+    Memory,
+}
+
+impl Refusal {
+    ghost use Rattle.std.specs.Prelude.{◌≡◌};
+    ghost use Rattle.script_text.specs.SoFar.{error_at};
+
+    /// Why a script is refused whose line of this number is not taken.
+    pub(crate) fn at_line(self, number: u32) -> ScriptError
+        ensures { result ≡ error_at number self }
+    {
+        match self {
+            Refusal::Fault(fault) => ScriptError::Line { number, fault },
+            Refusal::Memory => ScriptError::Memory,
+        }
+    }
+}
+
+impl From<LineFault> for Refusal {
+    ghost use Rattle.std.specs.Prelude.{◌≡◌};
+    ghost use Rattle.script_text.specs.declared.error.Refusal.TheVariants as refusals;
+
+    ghost from_gives = { λ fault r. r ≡ refusals.Fault fault };
+
+    fn from(fault: LineFault) -> Refusal {
+        Refusal::Fault(fault)
+    }
+}
+
+impl From<Memory> for Refusal {
+    ghost use Rattle.std.specs.Prelude.{◌≡◌};
+    ghost use Rattle.script_text.specs.declared.error.Refusal.TheVariants as refusals;
+
+    ghost from_gives = { λ _ r. r ≡ refusals.Memory };
+
+    fn from(_memory: Memory) -> Refusal {
+        Refusal::Memory
+    }
+}

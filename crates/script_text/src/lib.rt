@@ -2,19 +2,21 @@
 //!
 //! [`read_script`] reads a script for a list from the bytes of a file. What a file means is the
 //! definition `script_of` of `specs/ScriptFile.antt`, over the list of all its lines: the script, or
-//! the first faulty line with its first fault in a fixed order. So far a script switches nodes on;
-//! its other lines are `NotBuilt`.
+//! the first faulty line with its first fault in a fixed order. Lines by which hosts write and read
+//! are `NotBuilt` so far.
 //!
 //! ```text
 //! slots 20
 //! on 0 0
+//! send 0 AB noise 12 15
 //! ```
 //!
-//! The layer above gets a script that is valid for the list. The crate never reads a file, never
-//! takes memory for a line, and never keeps a refused script.
+//! The layer above gets a script that is valid for the list. The crate never reads a file, takes
+//! memory only for what lines say of nodes and slots, and never keeps a refused script.
 #![tactic(auto)]
 
 mod error;
+mod event;
 mod form;
 mod keyword;
 mod lines;

@@ -1,47 +1,58 @@
 //! What is kept of the lines that were read.
-ghost use Rattle.std.specs.Prelude.{◌≡◌, [], length, Some, IfOk, IfErr, OnOk, OnErr, vec_len, slice_set};
+ghost use Rattle.std.specs.Prelude.{◌≡◌, [], ◌++◌, true, Some, IfOk, IfErr, OnOk, OnErr};
+ghost use Rattle.std.specs.Prelude.{slice_set, unwrap_or, option_to_list};
 ghost use Rattle.ttp_base.specs.Faults.{first_fault};
-ghost use Rattle.script_text.specs.Statement.{number_at};
-ghost use Rattle.script_text.specs.SoFar.{StandsFor, IsInRange, slots_faults, on_faults};
+ghost use Rattle.ttp_world.specs.Medl.{IsValid};
+ghost use Rattle.script_text.specs.Lines.{word_at};
+ghost use Rattle.script_text.specs.Numbers.{value_in};
+ghost use Rattle.script_text.specs.Statement.{number_at, statement_of};
+ghost use Rattle.script_text.specs.Faults.{event_said};
+ghost use Rattle.script_text.specs.SoFar.{StandsFor, HasNodes, slots_faults, on_faults, drift_faults};
+ghost use Rattle.script_text.specs.SoFar.{event_faults, is_event_form, RefusesEvent};
 
-use crate::error::LineFault;
+use crate::error::{LineFault, Refusal};
+use crate::event::{event_in, is_within, node_of, number_at, value_at};
+use crate::keyword::Keyword;
 use crate::lines::Words;
-use crate::number::number_in;
 use std::alloc::Global;
-use ttp_base::Memory;
-use ttp_world::{Medl, SLOT_LIMIT};
+use ttp_base::{List, Memory};
+use ttp_world::{DRIFT_LIMIT, Event, Medl, SLOT_LIMIT};
 
-/// The slots of the run, and for each node the slot in which it is switched on, where lines said so.
+/// The slots of the run, for each node the slot in which it is switched on and its drift, where
+/// lines said so, and what happens in slots, in the order of the lines.
 #[derive(Drop)]
 pub(crate) struct SoFar {
     pub(crate) slots: Option<u32>,
     pub(crate) on: Vec<Option<u32>>,
+    pub(crate) drift: Vec<Option<i64>>,
+    pub(crate) events: List<Event>,
 }
 
 impl SoFar {
-    /// Nothing was said of so many nodes.
-    pub(crate) fn new(alloc: Global, nodes: u8) -> Result<SoFar, Memory>
+    /// Nothing was said, of this list's nodes or of the run.
+    pub(crate) fn new(alloc: Global, list: &Medl) -> Result<SoFar, Memory>
+        requires { IsValid list.now }
         ensures stands { IfOk result (λ so_far. StandsFor so_far []) }
-        ensures in_range { IfOk result IsInRange }
-        ensures nodes { IfOk result (λ so_far. vec_len so_far.on ≡ nodes) }
+        ensures nodes { IfOk result (HasNodes list.now) }
     {
-        match vec![in alloc; None; nodes as usize] {
-            Ok(on) => Ok(SoFar { slots: None, on }),
-            Err(_) => Err(Memory),
-        }
+        let nodes = list.nodes();
+        Ok(SoFar {
+            slots: None,
+            on: vec![in alloc; None; nodes as usize]?,
+            drift: vec![in alloc; None; nodes as usize]?,
+            events: List::new(alloc),
+        })
     }
 
     /// Takes a `slots` line.
     #[tactic(auto, unfolding(crate::specs::SoFar::slots_faults))]
     pub(crate) fn take_slots(&mut self, words: &Words) -> Result<(), LineFault>
-        requires { IsInRange self.old }
         ensures ok { OnOk result (slots_faults words.now self.old ≡ []) }
         ensures value { OnOk result (self.new ≡ record self.old { slots = Some (number_at words.now 1) }) }
         ensures err { IfErr result (λ fault. first_fault (slots_faults words.now self.old) ≡ Some fault) }
         ensures same { OnErr result (self.new ≡ self.old) }
-        ensures in_range { IsInRange self.new }
     {
-        let count = number_in(words.at(1)).ok_or(LineFault::Number)?;
+        let count = number_at(words, 1)?;
         if count < 1 || SLOT_LIMIT < count {
             return Err(LineFault::Range);
         }
@@ -55,21 +66,18 @@ impl SoFar {
     /// Takes an `on` line, which stands after a `slots` line.
     #[tactic(auto, unfolding(crate::specs::SoFar::on_faults))]
     pub(crate) fn take_on(&mut self, words: &Words, list: &Medl) -> Result<(), LineFault>
-        requires in_range { IsInRange self.old }
-        requires nodes { vec_len self.old.on ≡ length list.now.slots }
+        requires valid { IsValid list.now }
+        requires nodes { HasNodes list.now self.old }
         ensures ok { OnOk result (on_faults words.now list.now self.old ≡ []) }
-        ensures slots { OnOk result (self.new.slots ≡ self.old.slots) }
+        ensures value { OnOk result (self.new ≡ record self.old { on = self.new.on }) }
         ensures on { OnOk result
             (self.new.on.items ≡ slice_set self.old.on.items (number_at words.now 1) (Some (number_at words.now 2))) }
         ensures err { IfErr result (λ fault. first_fault (on_faults words.now list.now self.old) ≡ Some fault) }
         ensures same { OnErr result (self.new ≡ self.old) }
-        ensures in_range { IsInRange self.new }
     {
-        let node = number_in(words.at(1)).ok_or(LineFault::Number)? as usize;
-        let slot = number_in(words.at(2)).ok_or(LineFault::Number)?;
-        if list.slots.len() <= node {
-            return Err(LineFault::NoNode);
-        }
+        let number = number_at(words, 1)?;
+        let slot = number_at(words, 2)?;
+        let node = node_of(list, number)? as usize;
         if self.slots.unwrap_or(0) <= slot {
             return Err(LineFault::Range);
         }
@@ -77,6 +85,52 @@ impl SoFar {
             return Err(LineFault::Repeat);
         }
         self.on[node] = Some(slot);
+        Ok(())
+    }
+
+    /// Takes a `drift` line.
+    #[tactic(auto, unfolding(crate::specs::SoFar::drift_faults))]
+    pub(crate) fn take_drift(&mut self, words: &Words, list: &Medl) -> Result<(), LineFault>
+        requires valid { IsValid list.now }
+        requires nodes { HasNodes list.now self.old }
+        ensures ok { OnOk result (drift_faults words.now list.now self.old ≡ []) }
+        ensures value { OnOk result (self.new ≡ record self.old { drift = self.new.drift }) }
+        ensures drift { OnOk result (self.new.drift.items
+            ≡ slice_set self.old.drift.items (number_at words.now 1) (Some (value_in (word_at words.now 2)))) }
+        ensures err { IfErr result (λ fault. first_fault (drift_faults words.now list.now self.old) ≡ Some fault) }
+        ensures same { OnErr result (self.new ≡ self.old) }
+    {
+        let number = number_at(words, 1)?;
+        let value = value_at(words, 2)?;
+        let node = node_of(list, number)? as usize;
+        if !is_within(DRIFT_LIMIT, value) {
+            return Err(LineFault::Range);
+        }
+        if self.drift[node].is_some() {
+            return Err(LineFault::Repeat);
+        }
+        self.drift[node] = Some(value);
+        Ok(())
+    }
+
+    /// Takes a line that says what happens in slots, which stands after a `slots` line.
+    pub(crate) fn take_event(
+        &mut self,
+        form: Keyword,
+        words: &Words,
+        list: &Medl,
+    ) -> Result<(), Refusal>
+        requires form { is_event_form form ≡ true }
+        requires valid { IsValid list.now }
+        ensures ok { OnOk result (event_faults words.now list.now (unwrap_or self.old.slots 0) form ≡ []) }
+        ensures value { OnOk result (self.new ≡ record self.old {
+          events = self.old.events ++ option_to_list (event_said (statement_of form words.now));
+        }) }
+        ensures err { IfErr result (RefusesEvent words.now list.now (unwrap_or self.old.slots 0) form) }
+        ensures same { OnErr result (self.new ≡ self.old) }
+    {
+        let event = event_in(form, words, list, self.slots.unwrap_or(0))?;
+        self.events.push(event)?;
         Ok(())
     }
 }

@@ -9,7 +9,7 @@ use std::alloc::Global;
 use std::process::Abort;
 use std::test::Fail;
 use ttp_base::{List, Memory};
-use ttp_world::{Kind, Medl, SlotPlan};
+use ttp_world::{Event, Fault, Kind, Medl, SlotPlan};
 
 /// The most bytes of a script file.
 const LIMIT: usize = 1_048_576;
@@ -75,7 +75,7 @@ fn gives(alloc: Global, list: &Medl, text: &[u8], due: Due) -> bool
             script.slots == slots
                 && script.on.as_slice() == on.as_slice()
                 && script.drift.as_slice() == [0; 4].as_slice()
-                && script.events.len() == 0
+                && script.events.as_slice().is_empty()
         }
         (Err(ScriptError::Line { number, fault }), Due::Fault(line, want)) => {
             number == line && fault == want
@@ -89,7 +89,7 @@ const NONE_ON: [Option<u32>; 4] = [None; 4];
 #[test]
 fn each_script_gives_what_it_is_due_to_give(rt: HostRuntime) -> Result<(), Fail> {
     let list = four_nodes(rt.alloc())?;
-    let cases: [(&[u8], Due); 77] = [
+    let cases: [(&[u8], Due); 46] = [
         // What is read.
         (b"slots 20\n", Due::Script(20, NONE_ON)),
         (b"slots 1", Due::Script(1, NONE_ON)),
@@ -162,44 +162,30 @@ fn each_script_gives_what_it_is_due_to_give(rt: HostRuntime) -> Result<(), Fail>
         (b"arm 0\n", Due::Fault(1, LineFault::Word)),
         // What is not read yet.
         (
-            b"slots 20\nsend 2 AB noise 22 22\n",
+            b"slots 20\nwrite 1 3 0102\n",
             Due::Fault(2, LineFault::NotBuilt),
         ),
-        (
-            b"slots 20\nreceive 9 A silence x y\n",
-            Due::Fault(2, LineFault::NotBuilt),
-        ),
-        (
-            b"slots 20\nflip 0 B 2048 3\n",
-            Due::Fault(2, LineFault::NotBuilt),
-        ),
-        (
-            b"slots 20\ndrift 0 -1001\n",
-            Due::Fault(2, LineFault::NotBuilt),
-        ),
-        (
-            b"slots 20\nerror 0 1 5 4\n",
-            Due::Fault(2, LineFault::NotBuilt),
-        ),
-        (
-            b"slots 20\njump 0 1 3\n",
-            Due::Fault(2, LineFault::NotBuilt),
-        ),
-        (b"slots 20\narm 0 19\n", Due::Fault(2, LineFault::NotBuilt)),
-        (
-            b"slots 20\non 0 0\n\tarm  000000003 5 \n",
-            Due::Fault(3, LineFault::NotBuilt),
-        ),
-        (b"slots 20\narm x -1\n", Due::Fault(2, LineFault::NotBuilt)),
-        (b"slots 20\narm 4 20\n", Due::Fault(2, LineFault::NotBuilt)),
         (
             b"slots 20\nwrite 1 3 zz01\n",
             Due::Fault(2, LineFault::NotBuilt),
         ),
         (
-            b"slots 20\nread 1 3 1\n",
+            b"slots 20\n\tread  000000009 x y \n",
             Due::Fault(2, LineFault::NotBuilt),
         ),
+    ];
+    for (text, due) in &cases {
+        let text = *text;
+        assert!(rt; text.len() <= LIMIT);
+        assert!(rt; gives(rt.alloc(), &list, text, *due), "{text:?}");
+    }
+    Ok(())
+}
+
+#[test]
+fn each_number_that_is_wrong_is_found(rt: HostRuntime) -> Result<(), Fail> {
+    let list = four_nodes(rt.alloc())?;
+    let cases: [(&[u8], Due); 44] = [
         // Numbers, nodes and ranges.
         (b"slots 1234567890\n", Due::Fault(1, LineFault::Number)),
         (b"slots 0000000020\n", Due::Fault(1, LineFault::Number)),
@@ -219,6 +205,72 @@ fn each_script_gives_what_it_is_due_to_give(rt: HostRuntime) -> Result<(), Fail>
         (b"slots 20001\n", Due::Fault(1, LineFault::Range)),
         (b"slots 999999999\n", Due::Fault(1, LineFault::Range)),
         (b"slots 20\non 0 20\n", Due::Fault(2, LineFault::Range)),
+        (b"slots 20\ndrift 0 -\n", Due::Fault(2, LineFault::Number)),
+        (
+            b"slots 20\njump 0 --1 3\n",
+            Due::Fault(2, LineFault::Number),
+        ),
+        (b"slots 20\njump 0 +1 3\n", Due::Fault(2, LineFault::Number)),
+        (
+            b"slots 20\njump 0 -0000000001 3\n",
+            Due::Fault(2, LineFault::Number),
+        ),
+        (
+            b"slots 20\nsend 9 A noise x 0\n",
+            Due::Fault(2, LineFault::Number),
+        ),
+        (
+            b"slots 20\nreceive 0 A noise 0 -0\n",
+            Due::Fault(2, LineFault::Number),
+        ),
+        (
+            b"slots 20\nflip 9 A x 20\n",
+            Due::Fault(2, LineFault::Number),
+        ),
+        (b"slots 20\narm x 0\n", Due::Fault(2, LineFault::Number)),
+        (b"slots 20\narm 4 0\n", Due::Fault(2, LineFault::NoNode)),
+        (
+            b"slots 20\ndrift 4 1001\n",
+            Due::Fault(2, LineFault::NoNode),
+        ),
+        (
+            b"slots 20\nsend 260 A noise 5 4\n",
+            Due::Fault(2, LineFault::NoNode),
+        ),
+        (
+            b"slots 20\nflip 256 A 0 0\n",
+            Due::Fault(2, LineFault::NoNode),
+        ),
+        (
+            b"slots 20\nsend 0 AB noise 5 4\n",
+            Due::Fault(2, LineFault::Range),
+        ),
+        (
+            b"slots 20\nreceive 0 A noise 19 20\n",
+            Due::Fault(2, LineFault::Range),
+        ),
+        (
+            b"slots 20\nflip 0 A 2048 3\n",
+            Due::Fault(2, LineFault::Range),
+        ),
+        (b"slots 20\nflip 0 A 7 3\n", Due::Fault(2, LineFault::Range)),
+        (
+            b"slots 20\nflip 0 A 65544 3\n",
+            Due::Fault(2, LineFault::Range),
+        ),
+        (
+            b"slots 20\ndrift 0 -1001\n",
+            Due::Fault(2, LineFault::Range),
+        ),
+        (
+            b"slots 20\nerror 0 -10001 0 0\n",
+            Due::Fault(2, LineFault::Range),
+        ),
+        (
+            b"slots 20\njump 0 1000001 3\n",
+            Due::Fault(2, LineFault::Range),
+        ),
+        (b"slots 20\narm 0 20\n", Due::Fault(2, LineFault::Range)),
         // What was said before.
         (b"slots 20\nslots 20\n", Due::Fault(2, LineFault::Repeat)),
         (b"slots 20\nslots 0\n", Due::Fault(2, LineFault::Range)),
@@ -230,11 +282,115 @@ fn each_script_gives_what_it_is_due_to_give(rt: HostRuntime) -> Result<(), Fail>
             b"slots 20\non 0 0\n\n#\non 0 20\n",
             Due::Fault(5, LineFault::Range),
         ),
+        (
+            b"slots 20\ndrift 0 1\ndrift 0 1\n",
+            Due::Fault(3, LineFault::Repeat),
+        ),
     ];
     for (text, due) in &cases {
         let text = *text;
         assert!(rt; text.len() <= LIMIT);
         assert!(rt; gives(rt.alloc(), &list, text, *due), "{text:?}");
+    }
+    Ok(())
+}
+
+// Whether an event is the one that stands at a place of the script with every form.
+fn is_due(place: usize, event: &Event) -> bool {
+    match (place, event) {
+        (
+            0,
+            Event::Send {
+                node,
+                channels,
+                fault,
+                from,
+                to,
+            },
+        ) => {
+            *node == 2
+                && channels.a
+                && channels.b
+                && *fault == Fault::Noise
+                && (*from, *to) == (3, 19)
+        }
+        (
+            1,
+            Event::Receive {
+                node,
+                channels,
+                fault,
+                from,
+                to,
+            },
+        ) => {
+            *node == 3
+                && !channels.a
+                && channels.b
+                && *fault == Fault::Silence
+                && (*from, *to) == (4, 4)
+        }
+        (
+            2,
+            Event::Flip {
+                node,
+                channels,
+                bit,
+                slot,
+            },
+        ) => { *node == 1 && channels.a && !channels.b && (*bit, *slot) == (2_047, 19) }
+        (
+            3,
+            Event::Flip {
+                node,
+                channels,
+                bit,
+                slot,
+            },
+        ) => { *node == 1 && channels.a && channels.b && (*bit, *slot) == (8, 0) }
+        (
+            4,
+            Event::Error {
+                node,
+                value,
+                from,
+                to,
+            },
+        ) => { *node == 2 && *value == -10_000 && (*from, *to) == (0, 19) }
+        (
+            5,
+            Event::Error {
+                node,
+                value,
+                from,
+                to,
+            },
+        ) => { *node == 2 && *value == 10_000 && (*from, *to) == (19, 19) }
+        (6, Event::Jump { node, value, slot }) => *node == 0 && *value == 1_000_000 && *slot == 3,
+        (7, Event::Jump { node, value, slot }) => *node == 0 && *value == 0 && *slot == 19,
+        (8 | 9, Event::Arm { node, slot }) => *node == 3 && *slot == 7,
+        _ => false,
+    }
+}
+
+#[test]
+fn a_script_with_every_form(rt: HostRuntime) -> Result<(), Fail> {
+    let list = four_nodes(rt.alloc())?;
+    let text: &[u8] = b"slots 20\non 0 0\ndrift 3 -1000\nsend 2 AB noise 3 19\n\
+        receive 3 B silence 4 4\nflip 1 A 2047 19\nflip 1 AB 8 0\nerror 2 -10000 0 19\n\
+        error 2 10000 19 19\ndrift 0 1000\njump 0 1000000 3\njump 0 -0 19\n# twice\narm 3 7\n\
+        arm 3 7\non 3 19";
+    assert!(rt; text.len() <= LIMIT);
+    let Ok(script) = read_script(rt.alloc(), &list, text) else {
+        return Err(Fail::new("refused"));
+    };
+    assert!(rt; script.slots == 20);
+    assert!(rt; script.on.as_slice() == [Some(0), None, None, Some(19)].as_slice());
+    assert!(rt; script.drift.as_slice() == [1_000, 0, 0, -1_000].as_slice());
+    let events = script.events.as_slice();
+    assert!(rt; events.len() == 10);
+    for (place, event) in events.iter().enumerate() {
+        assert!(rt; is_due(place, event), "{place}");
     }
     Ok(())
 }
@@ -272,5 +428,20 @@ fn a_file_at_the_size_limit(rt: HostRuntime) -> Result<(), Fail> {
         assert!(rt; text.len() == LIMIT);
         assert!(rt; gives(rt.alloc(), &list, &text, *due), "{front:?}");
     }
+    Ok(())
+}
+
+#[test]
+fn as_many_events_as_a_file_has_room_for(rt: HostRuntime) -> Result<(), Fail> {
+    let list = four_nodes(rt.alloc())?;
+    let mut text = Vec::from_slice(rt.alloc(), b"slots 1\n")?;
+    for _ in 0..131_071 {
+        text.extend_from_slice(b"arm 0 0\n")?;
+    }
+    assert!(rt; text.len() <= LIMIT);
+    let Ok(script) = read_script(rt.alloc(), &list, &text) else {
+        return Err(Fail::new("refused"));
+    };
+    assert!(rt; script.events.as_slice().len() == 131_071);
     Ok(())
 }

@@ -12,6 +12,4 @@ returns c = record {
   requests_before_live = refl;
   first_slot = refl;
   live_before_unknown = refl;
-  live_before_unbuilt = refl;
-  unbuilt_last = refl;
 }

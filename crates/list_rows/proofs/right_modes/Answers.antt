@@ -9,5 +9,6 @@ returns c = record {
   none_of_one = refl;
   asking_for_none = refl;
   asking_plan = refl;
+  asking_list = refl;
   asking_without_fault = refl;
 }

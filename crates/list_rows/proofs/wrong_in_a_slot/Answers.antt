@@ -10,5 +10,4 @@ returns c = record {
   too_much_payload = refl;
   unknown_before_sync = refl;
   three_with_sync = refl;
-  not_built = refl;
 }

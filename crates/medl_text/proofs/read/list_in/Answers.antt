@@ -1,7 +1,4 @@
 use Rattle.std.proofs.Common.{rules, arith}
-use Rattle.std.proofs.lemmas.Grind.{common_steps}
-use Rattle.medl_text.specs.ListFile.{plans_faults}
-use Rattle.medl_text.proofs.Built.{AllByRecursion-built}
 use Rattle.medl_text.proofs.Counts.{counts}
 use Rattle.medl_text.proofs.Microticks.{IsWithin-widened}
 use Rattle.medl_text.proofs.read.list_in.Goals as goal
@@ -20,7 +17,3 @@ returns-clause-valid c = record {
   slots = c.in_ok-slots.ensures.valid;
   sync = search rules;
 }
-
-pub returns-clause-bare : goal.returns-clause-bare
-unfolding plans_faults
-returns-clause-bare c = AllByRecursion-built 0 c.in_ok-slots.slots (grind (arith, common_steps))

@@ -1,5 +1,4 @@
-use Rattle.std.proofs.Common.{◌≤◌}
-use Rattle.std.specs.Io.KnownBytes.{Appends}
+use Rattle.ttp_base.specs.Outside.{WroteLines}
 use Rattle.ttp_base.specs.Text.{texts_below}
 use Rattle.medl_text.specs.Schedule.{slot_line}
 use Rattle.medl_text.proofs.schedule.put_round.Given as goal
@@ -7,5 +6,4 @@ use Rattle.medl_text.proofs.schedule.put_round.Given as goal
 -- the lines of the slots so far were written
 abbrev pub invariant-loop-slot : goal.invariant-loop-slot
 invariant-loop-slot g l =
-    Appends (g.K.Sink.written l.fn.out) (g.K.Sink.written l.out) (texts_below (slot_line l.list l.round) l.slot)
-    × (g.K.Sink.faults l.fn.out ≤ g.K.Sink.faults l.out)
+    WroteLines (g.K.Sink.output l.fn.out) (g.K.Sink.output l.out) (texts_below (slot_line l.list l.round) l.slot)

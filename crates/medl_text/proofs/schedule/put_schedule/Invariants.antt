@@ -1,5 +1,5 @@
-use Rattle.std.proofs.Common.{◌≤◌, ◌++◌}
-use Rattle.std.specs.Io.KnownBytes.{Appends}
+use Rattle.std.proofs.Common.{◌++◌}
+use Rattle.ttp_base.specs.Outside.{WroteLines}
 use Rattle.ttp_base.specs.Text.{texts_below}
 use Rattle.medl_text.specs.Schedule.{table_head, round_lines}
 use Rattle.medl_text.proofs.schedule.put_schedule.Given as goal
@@ -7,5 +7,4 @@ use Rattle.medl_text.proofs.schedule.put_schedule.Given as goal
 -- the head and the lines of the rounds so far were written
 abbrev pub invariant-loop-round : goal.invariant-loop-round
 invariant-loop-round g l =
-    Appends (g.K.Sink.written l.fn.out) (g.K.Sink.written l.out) (table_head l.list ++ texts_below (round_lines l.list) l.round)
-    × (g.K.Sink.faults l.fn.out ≤ g.K.Sink.faults l.out)
+    WroteLines (g.K.Sink.output l.fn.out) (g.K.Sink.output l.out) (table_head l.list ++ texts_below (round_lines l.list) l.round)
