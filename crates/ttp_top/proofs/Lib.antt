@@ -1,5 +1,4 @@
-mod Clauses
-mod Fronts
-mod Outcomes
 mod Parts
-mod Told
+pub mod Files
+pub mod Calls
+pub mod Runs

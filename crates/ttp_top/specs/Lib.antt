@@ -1,6 +1,3 @@
-pub mod Words
-pub mod Lines
-pub mod Ending
-pub mod Asked
-pub mod Part
-pub mod Refusal
+pub mod Files
+pub mod Calls
+pub mod Runs

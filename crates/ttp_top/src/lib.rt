@@ -9,8 +9,10 @@
 #![tactic(auto)]
 
 mod call;
-mod files;
 mod lines;
+mod read;
+mod run;
+mod schedule;
 mod words;
 
 pub use call::bench;

@@ -1,11 +1,15 @@
 //! The lines that a call writes beside its output.
-ghost use Rattle.std.specs.Prelude.{◌≡◌, ◌+◌, ◌≤◌, ◌++◌, codes, length, decimal};
+ghost use Rattle.std.specs.Prelude.{◌≡◌, ◌+◌, ◌≤◌, ◌++◌, length, decimal};
 ghost use Rattle.std.specs.Fmt.{signed_decimal};
-ghost use Rattle.ttp_top.specs.Lines.{field_text, unknown_text, fault_text, list_line, line_fault_text, script_fault_text, script_line};
+ghost use Rattle.ttp_base.specs.Text.{line_count};
+ghost use Rattle.ttp_top.specs.Calls.Outcome.{Says};
+ghost use Rattle.ttp_top.specs.Files.Lines.{field_text, unknown_text, list_fault_text, line_fault_text};
+ghost use Rattle.ttp_top.specs.Files.Lines.{script_fault_text, fault_text, fault_line};
 
+use crate::read::FileFault;
 use medl_text::{Field, MedlError};
 use script_text::{LineFault, ScriptError};
-use ttp_base::Line;
+use ttp_base::{Line, Sink};
 
 #[tactic(auto, using(ttp_base::proofs::Room::room))]
 fn put_field(line: &mut Line, field: Field)
@@ -37,9 +41,9 @@ fn put_unknown(line: &mut Line, slot: Option<u8>)
 }
 
 #[tactic(auto, using(ttp_base::proofs::Room::room))]
-fn put_fault(line: &mut Line, fault: MedlError)
+fn put_list_fault(line: &mut Line, fault: MedlError)
     requires { length line.old + 100 ≤ 640 }
-    ensures text { line.new ≡ line.old ++ fault_text fault }
+    ensures text { line.new ≡ line.old ++ list_fault_text fault }
     ensures short { length line.new ≤ length line.old + 100 }
 {
     match fault {
@@ -87,28 +91,6 @@ fn put_fault(line: &mut Line, fault: MedlError)
     }
 }
 
-/// The line that says what is wrong with a list.
-#[tactic(auto, unfolding(crate::specs::Lines::list_line))]
-pub(crate) fn fault_line(fault: MedlError) -> Line
-    ensures { result ≡ list_line (fault_text fault) }
-{
-    let mut line = Line::new();
-    line.put_text("list: ");
-    put_fault(&mut line, fault);
-    line.put_text("\n");
-    line
-}
-
-/// The line that says that a list is too large.
-#[tactic(auto, unfolding(crate::specs::Lines::list_line))]
-pub(crate) fn too_large_line() -> Line
-    ensures { result ≡ list_line (codes "too large") }
-{
-    let mut line = Line::new();
-    line.put_text("list: too large\n");
-    line
-}
-
 fn line_fault_text(fault: LineFault) -> &'static str
     ensures text { result.now ≡ line_fault_text fault }
     ensures short { length result.now ≤ 9 }
@@ -144,24 +126,31 @@ fn put_script_fault(line: &mut Line, fault: ScriptError)
     }
 }
 
-/// The line that says what is wrong with a script.
-#[tactic(auto, unfolding(crate::specs::Lines::script_line))]
-pub(crate) fn script_fault_line(fault: ScriptError) -> Line
-    ensures { result ≡ script_line (script_fault_text fault) }
+/// The line that says what is wrong with a file: `list` or `script` stands before it.
+#[tactic(auto, unfolding(crate::specs::Files::Lines::fault_line))]
+pub(crate) fn fault_line(file: &str, fault: FileFault) -> Line
+    requires { length file.now ≤ 9 }
+    ensures { result ≡ fault_line file.now fault }
 {
     let mut line = Line::new();
-    line.put_text("script: ");
-    put_script_fault(&mut line, fault);
+    line.put_text(file);
+    line.put_text(": ");
+    match fault {
+        FileFault::TooLarge => line.put_text("too large"),
+        FileFault::List(fault) => put_list_fault(&mut line, fault),
+        FileFault::Script(fault) => put_script_fault(&mut line, fault),
+    }
     line.put_text("\n");
     line
 }
 
-/// The line that says that a script is too large.
-#[tactic(auto, unfolding(crate::specs::Lines::script_line))]
-pub(crate) fn too_large_script_line() -> Line
-    ensures { result ≡ script_line (codes "too large") }
+/// Writes one line, and answers the status, or 6 where the line could not be written.
+pub(crate) fn say<K: Sink>(out: &mut K, line: &[u8], status: u8) -> u8
+    requires { line_count line.now ≡ 1 }
+    ensures { Says (record { status = status; text = line.now }) (K.output out.old) (K.output out.new) result }
 {
-    let mut line = Line::new();
-    line.put_text("script: too large\n");
-    line
+    match out.write(line) {
+        Ok(()) => status,
+        Err(_) => 6,
+    }
 }

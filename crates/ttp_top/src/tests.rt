@@ -2,6 +2,7 @@
 //! text and from TOML's, never from a run.
 
 mod refusals;
+mod rows;
 mod runs;
 
 use crate::bench;
@@ -86,21 +87,12 @@ fn shown<R: Threads + Wait + Sync + AllocGlobal>(
 }
 
 #[test]
-fn a_right_list_gives_its_table(rt: HostRuntime) -> Result<(), Fail> {
-    let list = joined(&rt, &[HEAD, FIRST, SLOT, SLOT, SLOT])?;
-    let table = joined(&rt, &TABLE)?;
-    let (status, text) = shown(&rt, list.as_bytes())?;
-    assert_eq!(rt; status, 0);
-    assert_eq!(rt; text.as_slice(), table.as_bytes());
-    Ok(())
-}
-
-#[test]
-fn the_same_list_in_other_spellings(rt: HostRuntime) -> Result<(), Fail> {
+fn a_list_gives_its_table_in_each_spelling(rt: HostRuntime) -> Result<(), Fail> {
     let table = joined(&rt, &TABLE)?;
     let inline =
         "slot = [{kinds=\"I\",data=0,sync=true,start=true},{kinds=\"I\",data=0,sync=true,start=false},\n  {kinds='I',data=0,sync=true,start=false},{kinds=\"\\u0049\",data=0,sync=true,start=false}]\n";
-    let spellings: [&[&str]; 6] = [
+    let spellings: [&[&str]; 7] = [
+        &[HEAD, FIRST, SLOT, SLOT, SLOT],
         // Integers in other forms, comments and white space.
         &[
             "version=0x1 # one\nrounds = +1\nschedule = -0\nbuffers = 0x10\ndrift = +5\nerror = 0o0\nwindow = 1\n",
@@ -144,35 +136,6 @@ fn the_same_list_in_other_spellings(rt: HostRuntime) -> Result<(), Fail> {
         assert_eq!(rt; status, 0, "{list}");
         assert_eq!(rt; text.as_slice(), table.as_bytes());
     }
-    Ok(())
-}
-
-#[test]
-fn each_number_and_letter_is_shown(rt: HostRuntime) -> Result<(), Fail> {
-    let head =
-        "version = 1\nrounds = 2\nschedule = 16777215\nbuffers = 16\ndrift = 1_000\nerror = 1000\nwindow = 1000000\n";
-    let slot = "[[slot]]\nkinds = \"II\"\ndata = 0\nsync = true\nstart = false\n";
-    let odd = "[[slot]]\nkinds = \"II\"\ndata = 0\nsync = false\nstart = true\n";
-    let list = joined(&rt, &[head, slot, odd, slot, slot, slot])?;
-    let table = joined(
-        &rt,
-        &[
-            "ttpbench schedule 1 nodes 5 rounds 2 schedule ffffff\n",
-            "round 0 slot 0 kind I data 0 sync yes start no\n",
-            "round 0 slot 1 kind I data 0 sync no start yes\n",
-            "round 0 slot 2 kind I data 0 sync yes start no\n",
-            "round 0 slot 3 kind I data 0 sync yes start no\n",
-            "round 0 slot 4 kind I data 0 sync yes start no\n",
-            "round 1 slot 0 kind I data 0 sync yes start no\n",
-            "round 1 slot 1 kind I data 0 sync no start yes\n",
-            "round 1 slot 2 kind I data 0 sync yes start no\n",
-            "round 1 slot 3 kind I data 0 sync yes start no\n",
-            "round 1 slot 4 kind I data 0 sync yes start no\n",
-        ],
-    )?;
-    let (status, text) = shown(&rt, list.as_bytes())?;
-    assert_eq!(rt; status, 0);
-    assert_eq!(rt; text.as_slice(), table.as_bytes());
     Ok(())
 }
 

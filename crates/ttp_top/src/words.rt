@@ -1,7 +1,6 @@
 //! The forms of a call's words.
 ghost use Rattle.std.specs.Prelude.{◌≡◌};
-ghost use Rattle.ttp_top.specs.Words.{texts_of, form_of};
-ghost use Rattle.ttp_top.specs.Asked.{form_asked};
+ghost use Rattle.ttp_top.specs.Calls.Words.{texts_of, form_of, form_asked};
 
 /// What a call is asked for.
 #[derive(Clone, Copy)]

@@ -1,4 +1,5 @@
-//! Lists with one thing wrong, or several, and the line that says which.
+//! Lists with one thing wrong, or several, and the line that says which. Each kind of line stands once
+//! at least; which texts have which fault is also told by the worked rows of lists.
 
 use super::{FIRST, HEAD, SLOT, joined, shown};
 use std::process::Abort;
@@ -17,13 +18,30 @@ const FAST: &str = "[[slot]]\nkinds = \"I\"\ndata = 0\nsync = true\nstart = fals
 
 const LOADED: &str = "[[slot]]\nkinds = \"N\"\ndata = 8\nsync = true\nstart = false\n";
 
-// Each list, and the line that says what is wrong with it.
+// The slot that a letter stands for: the one that may start, another, one without `sync`, one with an
+// unknown key, one with payload, and the odd one of a case.
+fn slot_of(letter: u8, odd: &str) -> &str {
+    match letter {
+        b'F' => FIRST,
+        b'S' => SLOT,
+        b'Q' => QUIET,
+        b'U' => FAST,
+        b'N' => LOADED,
+        _ => odd,
+    }
+}
+
+// Each list, as two texts for its top, letters for its slots and the odd slot, and the line that says
+// what is wrong with it.
 fn refuses_each<R: Threads + Wait + Sync + AllocGlobal + Abort>(
     rt: &R,
-    wrong: &[(&[&str], &str)],
+    wrong: &[(&str, &str, &str, &str, &str)],
 ) -> Result<(), Fail> {
-    for (parts, line) in wrong {
-        let list = joined(rt, parts)?;
+    for (before, top, slots, odd, line) in wrong {
+        let mut list = joined(rt, &[before, top])?;
+        for letter in slots.as_bytes() {
+            list.push_str(slot_of(*letter, odd))?;
+        }
         let (status, text) = shown(rt, list.as_bytes())?;
         assert_eq!(rt; status, 3, "{list}");
         assert_eq!(rt; text.as_slice(), line.as_bytes(), "{list}");
@@ -33,384 +51,217 @@ fn refuses_each<R: Threads + Wait + Sync + AllocGlobal + Abort>(
 
 #[test]
 fn a_wrong_number_at_the_top(rt: HostRuntime) -> Result<(), Fail> {
-    let wrong: [(&[&str], &str); 18] = [
-        (&[], "list: missing version\n"),
-        (&[REST, FIRST, SLOT, SLOT, SLOT], "list: missing version\n"),
-        (
-            &["Version = 1\n", REST, FIRST, SLOT, SLOT, SLOT],
-            "list: missing version\n",
-        ),
-        (
-            &["version = 3\n", REST, FIRST, SLOT, SLOT, SLOT],
-            "list: out of range version 3\n",
-        ),
-        (
-            &["version = 1.0\n", REST, FIRST, SLOT, SLOT, SLOT],
-            "list: wrong kind version\n",
-        ),
-        (
-            &["version = 2026-11-27\n", REST, FIRST, SLOT, SLOT, SLOT],
-            "list: wrong kind version\n",
-        ),
-        (
-            &["version.major = 1\n", REST, FIRST, SLOT, SLOT, SLOT],
-            "list: wrong kind version\n",
-        ),
-        (
-            &[
+    refuses_each(
+        &rt,
+        &[
+            ("", "", "", "", "list: missing version\n"),
+            (
+                "version = 3\n",
+                REST,
+                "FSSS",
+                "",
+                "list: out of range version 3\n",
+            ),
+            (
+                "version = 1.0\n",
+                REST,
+                "FSSS",
+                "",
+                "list: wrong kind version\n",
+            ),
+            (
+                "version.major = 1\n",
+                REST,
+                "FSSS",
+                "",
+                "list: wrong kind version\n",
+            ),
+            (
                 "version = -9223372036854775808\n",
                 REST,
-                FIRST,
-                SLOT,
-                SLOT,
-                SLOT,
-            ],
-            "list: out of range version -9223372036854775808\n",
-        ),
-        (
-            &[
+                "FSSS",
+                "",
+                "list: out of range version -9223372036854775808\n",
+            ),
+            (
                 "version = 9223372036854775807\n",
                 REST,
-                FIRST,
-                SLOT,
-                SLOT,
-                SLOT,
-            ],
-            "list: out of range version 9223372036854775807\n",
-        ),
-        (
-            &[NO_ROUNDS, FIRST, SLOT, SLOT, SLOT],
-            "list: missing rounds\n",
-        ),
-        (
-            &[NO_ROUNDS, "rounds = \"1\"\n", FIRST, SLOT, SLOT, SLOT],
-            "list: wrong kind rounds\n",
-        ),
-        (
-            &[NO_ROUNDS, "rounds = 0\n", FIRST, SLOT, SLOT, SLOT],
-            "list: out of range rounds 0\n",
-        ),
-        (
-            &[NO_ROUNDS, "rounds = 65\n", FIRST, SLOT, SLOT, SLOT],
-            "list: out of range rounds 65\n",
-        ),
-        (
-            &[
-                "version = 1\nrounds = 1\nschedule = 16777216\nbuffers = 2\ndrift = 0\nerror = 0\nwindow = 1\n",
-                FIRST,
-                SLOT,
-                SLOT,
-                SLOT,
-            ],
-            "list: out of range schedule 16777216\n",
-        ),
-        (
-            &[
-                "version = 1\nrounds = 1\nschedule = 0\nbuffers = 17\ndrift = 0\nerror = 0\nwindow = 1\n",
-                FIRST,
-                SLOT,
-                SLOT,
-                SLOT,
-            ],
-            "list: out of range buffers 17\n",
-        ),
-        (
-            &[
-                "version = 1\nrounds = 1\nschedule = 0\nbuffers = 2\ndrift = 1001\nerror = 0\nwindow = 1\n",
-                FIRST,
-                SLOT,
-                SLOT,
-                SLOT,
-            ],
-            "list: out of range drift 1001\n",
-        ),
-        (
-            &[
-                "version = 1\nrounds = 1\nschedule = 0\nbuffers = 2\ndrift = 0\nerror = -1\nwindow = 1\n",
-                FIRST,
-                SLOT,
-                SLOT,
-                SLOT,
-            ],
-            "list: out of range error -1\n",
-        ),
-        (
-            &[
-                "version = 1\nrounds = 1\nschedule = 0\nbuffers = 2\ndrift = 0\nerror = 0\nwindow = 0\n",
-                FIRST,
-                SLOT,
-                SLOT,
-                SLOT,
-            ],
-            "list: out of range window 0\n",
-        ),
-    ];
-    refuses_each(&rt, &wrong)
+                "FSSS",
+                "",
+                "list: out of range version 9223372036854775807\n",
+            ),
+            ("", NO_ROUNDS, "FSSS", "", "list: missing rounds\n"),
+            (
+                "rounds = 0\n",
+                NO_ROUNDS,
+                "FSSS",
+                "",
+                "list: out of range rounds 0\n",
+            ),
+            (
+                "version = 1\nrounds = 1\nschedule = 16777216\nbuffers = 2\n",
+                "drift = 0\nerror = 0\nwindow = 1\n",
+                "FSSS",
+                "",
+                "list: out of range schedule 16777216\n",
+            ),
+            (
+                "version = 1\nrounds = 1\nschedule = 0\nbuffers = 17\n",
+                "drift = 0\nerror = 0\nwindow = 1\n",
+                "FSSS",
+                "",
+                "list: out of range buffers 17\n",
+            ),
+            (
+                "version = 1\nrounds = 1\nschedule = 0\nbuffers = 2\n",
+                "drift = 1001\nerror = 0\nwindow = 1\n",
+                "FSSS",
+                "",
+                "list: out of range drift 1001\n",
+            ),
+            (
+                "version = 1\nrounds = 1\nschedule = 0\nbuffers = 2\n",
+                "drift = 0\nerror = -1\nwindow = 1\n",
+                "FSSS",
+                "",
+                "list: out of range error -1\n",
+            ),
+            (
+                "version = 1\nrounds = 1\nschedule = 0\nbuffers = 2\n",
+                "drift = 0\nerror = 0\nwindow = 0\n",
+                "FSSS",
+                "",
+                "list: out of range window 0\n",
+            ),
+        ],
+    )
 }
 
 #[test]
 fn a_wrong_slot(rt: HostRuntime) -> Result<(), Fail> {
-    let wrong: [(&[&str], &str); 18] = [
-        (&[HEAD], "list: missing slot\n"),
-        (&[HEAD, "slot = 1\n"], "list: wrong kind slot\n"),
-        (&[HEAD, "slot = {}\n"], "list: wrong kind slot\n"),
-        (&[HEAD, "slot = []\n"], "list: slot count 0\n"),
-        (&[HEAD, "slot = [1, 2]\n"], "list: wrong kind slot\n"),
-        (&[HEAD, "slot = [[]]\n"], "list: wrong kind slot\n"),
-        (
-            &[HEAD, "[slot]\nkinds = \"I\"\n"],
-            "list: wrong kind slot\n",
-        ),
-        (&[HEAD, FIRST, SLOT, SLOT], "list: slot count 3\n"),
-        (
-            &[
-                HEAD, FIRST, SLOT, SLOT, SLOT, SLOT, SLOT, SLOT, SLOT, SLOT, SLOT, SLOT, SLOT,
-                SLOT, SLOT, SLOT, SLOT, SLOT,
-            ],
-            "list: slot count 17\n",
-        ),
-        (
-            &[HEAD, FIRST, SLOT, SLOT, "[[slot]]\n"],
-            "list: missing slot 3 kinds\n",
-        ),
-        (
-            &[HEAD, FIRST, SLOT, "[[slot]]\nkinds = 1\n", SLOT],
-            "list: wrong kind slot 2 kinds\n",
-        ),
-        (
-            &[
+    refuses_each(
+        &rt,
+        &[
+            ("", HEAD, "", "", "list: missing slot\n"),
+            (HEAD, "slot = {}\n", "", "", "list: wrong kind slot\n"),
+            (
                 HEAD,
-                FIRST,
-                SLOT,
-                "[[slot]]\nkinds = \"II\"\ndata = 0\nsync = true\nstart = false\n",
-                SLOT,
-            ],
-            "list: kinds of slot 2\n",
-        ),
-        (
-            &[
+                "[slot]\nkinds = \"I\"\n",
+                "",
+                "",
+                "list: wrong kind slot\n",
+            ),
+            (
+                "",
                 HEAD,
-                FIRST,
-                SLOT,
+                "FSSO",
+                "[[slot]]\n",
+                "list: missing slot 3 kinds\n",
+            ),
+            (
+                "",
+                HEAD,
+                "FSOS",
+                "[[slot]]\nkinds = 1\n",
+                "list: wrong kind slot 2 kinds\n",
+            ),
+            (
+                "",
+                HEAD,
+                "FSOS",
                 "[[slot]]\nkinds = \"i\"\ndata = 0\nsync = true\nstart = false\n",
-                SLOT,
-            ],
-            "list: kinds of slot 2\n",
-        ),
-        (
-            &[
+                "list: kinds of slot 2\n",
+            ),
+            (
+                "",
                 HEAD,
-                FIRST,
+                "FOSS",
                 "[[slot]]\nkinds = \"I\"\nsync = true\nstart = false\n",
-                SLOT,
-                SLOT,
-            ],
-            "list: missing slot 1 data\n",
-        ),
-        (
-            &[
+                "list: missing slot 1 data\n",
+            ),
+            (
+                "",
                 HEAD,
-                "[[slot]]\nkinds = \"X\"\ndata = 241\nsync = true\nstart = true\n",
-                SLOT,
-                SLOT,
-                SLOT,
-            ],
-            "list: out of range slot 0 data 241\n",
-        ),
-        (
-            &[
-                HEAD,
-                FIRST,
-                SLOT,
-                SLOT,
-                "[[slot]]\nkinds = \"I\"\ndata = 8\nsync = true\nstart = false\n",
-            ],
-            "list: out of range slot 3 data 8\n",
-        ),
-        (
-            &[
-                HEAD,
-                FIRST,
+                "FOSS",
                 "[[slot]]\nkinds = \"I\"\ndata = 0\nsync = \"yes\"\nstart = false\n",
-                SLOT,
-                SLOT,
-            ],
-            "list: wrong kind slot 1 sync\n",
-        ),
-        (
-            &[
+                "list: wrong kind slot 1 sync\n",
+            ),
+            (
+                "",
                 HEAD,
-                FIRST,
-                "[[slot]]\nkinds = \"I\"\ndata = 0\nsync = true\n",
-                SLOT,
-                SLOT,
-            ],
-            "list: missing slot 1 start\n",
-        ),
-    ];
-    refuses_each(&rt, &wrong)
+                "FSSSO",
+                "requests = true\n",
+                "list: no data for requests of slot 3\n",
+            ),
+            (
+                "",
+                HEAD,
+                "FSSSO",
+                "live = \"yy\"\n",
+                "list: live of slot 3\n",
+            ),
+        ],
+    )
 }
 
 #[test]
 fn the_first_of_several_faults_is_told(rt: HostRuntime) -> Result<(), Fail> {
-    let wrong: [(&[&str], &str); 15] = [
-        // A wrong value in a slot comes before an unknown key at the top.
-        (
-            &[
+    refuses_each(
+        &rt,
+        &[
+            // A wrong value in a slot comes before an unknown key at the top.
+            (
                 "speed = 1\n",
                 HEAD,
-                FIRST,
-                SLOT,
-                SLOT,
+                "FSSO",
                 "[[slot]]\nkinds = \"I\"\ndata = 8\nsync = true\nstart = false\n",
-            ],
-            "list: out of range slot 3 data 8\n",
-        ),
-        // A later key of an earlier slot comes before an earlier key of a later one.
-        (
-            &[
+                "list: out of range slot 3 data 8\n",
+            ),
+            // A later key of an earlier slot comes before an earlier key of a later one.
+            (
+                "",
                 HEAD,
-                FIRST,
-                "[[slot]]\nkinds = \"I\"\ndata = 0\nsync = true\n",
-                "[[slot]]\n",
-                SLOT,
-            ],
-            "list: missing slot 1 start\n",
-        ),
-        // The number of slots comes before what is in them.
-        (&[HEAD, "[[slot]]\n", SLOT, SLOT], "list: slot count 3\n"),
-        // Unknown keys: at the top first, then in the first slot that has one; a key of the other table is unknown.
-        (
-            &["speed = 1\n", HEAD, FIRST, FAST, SLOT, SLOT],
-            "list: unknown key at top\n",
-        ),
-        (
-            &["data = 0\n", HEAD, FIRST, SLOT, SLOT, SLOT],
-            "list: unknown key at top\n",
-        ),
-        (
-            &["Version = 1\n", HEAD, FIRST, SLOT, SLOT, SLOT],
-            "list: unknown key at top\n",
-        ),
-        (
-            &[HEAD, FIRST, SLOT, SLOT, SLOT, "rounds = 1\n"],
-            "list: unknown key in slot 3\n",
-        ),
-        (
-            &[HEAD, FIRST, FAST, SLOT, QUIET],
-            "list: unknown key in slot 1\n",
-        ),
-        // Too few slots with `sync` come before what is not built.
-        (&[HEAD, FIRST, SLOT, SLOT, QUIET], "list: sync slots 3\n"),
-        (&[HEAD, LOADED, SLOT, SLOT, QUIET], "list: sync slots 3\n"),
-        (
-            &[HEAD, FIRST, SLOT, LOADED, LOADED],
-            "list: not built slot 2 kinds\n",
-        ),
-        (
-            &[
-                HEAD,
-                FIRST,
-                SLOT,
-                SLOT,
-                "[[slot]]\nkinds = \"X\"\ndata = 0\nsync = true\nstart = false\n",
-            ],
-            "list: not built slot 3 kinds\n",
-        ),
-        // No TOML: a key given twice, a number past 64 bits, a text that is cut off.
-        (
-            &["version = 1\n", HEAD, FIRST, SLOT, SLOT, SLOT],
-            "list: not toml\n",
-        ),
-        (&["version = 9223372036854775808\n"], "list: not toml\n"),
-        (&[HEAD, "[[slot]]\nkinds = \""], "list: not toml\n"),
-    ];
-    refuses_each(&rt, &wrong)
-}
-
-// Four slots.
-const FOUR: &str =
-    "[[slot]]\nkinds = \"I\"\ndata = 0\nsync = true\nstart = false\n[[slot]]\nkinds = \"I\"\ndata = 0\nsync = true\nstart = false\n[[slot]]\nkinds = \"I\"\ndata = 0\nsync = true\nstart = false\n[[slot]]\nkinds = \"I\"\ndata = 0\nsync = true\nstart = false\n";
-
-#[test]
-fn keys_for_modes_and_more_nodes(rt: HostRuntime) -> Result<(), Fail> {
-    let wrong: [(&[&str], &str); 10] = [
-        (
-            &[
-                "version = 2\n",
-                REST,
-                FIRST,
-                FOUR,
-                FOUR,
-                FOUR,
-                FOUR,
-                FOUR,
-                FOUR,
-            ],
-            "list: slot count 25\n",
-        ),
-        (
-            &["version = 2\n", REST, FIRST, SLOT, SLOT],
-            "list: slot count 3\n",
-        ),
-        (
-            &[HEAD, "modes = 9\n", FIRST, SLOT, SLOT, SLOT],
-            "list: out of range modes 9\n",
-        ),
-        (
-            &[HEAD, "modes = 0\n", FIRST, SLOT, SLOT, SLOT],
-            "list: out of range modes 0\n",
-        ),
-        (
-            &[HEAD, FIRST, "requests = true\n", SLOT, SLOT, SLOT],
-            "list: no data for requests of slot 0\n",
-        ),
-        (
-            &[HEAD, FIRST, SLOT, "requests = 1\n", SLOT, SLOT],
-            "list: wrong kind slot 1 requests\n",
-        ),
-        (
-            &[HEAD, FIRST, SLOT, "live = \"yy\"\n", SLOT, SLOT],
-            "list: live of slot 1\n",
-        ),
-        (
-            &[
-                HEAD,
-                "modes = 2\n",
-                FIRST,
-                "live = \"yn\"\n",
-                SLOT,
-                "live = \"yx\"\n",
-                SLOT,
-                SLOT,
-            ],
-            "list: live of slot 1\n",
-        ),
-        // Requests without payload come before the letters of `live`, in one slot and in a later one.
-        (
-            &[
-                HEAD,
-                FIRST,
-                SLOT,
-                "live = \"\"\nrequests = true\n",
-                SLOT,
-                SLOT,
-            ],
-            "list: no data for requests of slot 1\n",
-        ),
-        // Modes come before what the slots hold.
-        (
-            &[
+                "FOS",
+                "[[slot]]\nkinds = \"I\"\ndata = 0\nsync = true\n[[slot]]\n",
+                "list: missing slot 1 start\n",
+            ),
+            // The number of slots comes before what is in them, and modes do too.
+            ("", HEAD, "OSS", "[[slot]]\n", "list: slot count 3\n"),
+            (
                 HEAD,
                 "modes = 9\n",
-                FIRST,
-                "requests = true\n",
-                SLOT,
-                SLOT,
-                SLOT,
-            ],
-            "list: out of range modes 9\n",
-        ),
-    ];
-    refuses_each(&rt, &wrong)
+                "OSSS",
+                "[[slot]]\n",
+                "list: out of range modes 9\n",
+            ),
+            // Unknown keys: at the top first, then in the first slot that has one; a key of the other table is unknown.
+            (
+                "speed = 1\n",
+                HEAD,
+                "FUSS",
+                "",
+                "list: unknown key at top\n",
+            ),
+            ("data = 0\n", HEAD, "FSSS", "", "list: unknown key at top\n"),
+            (
+                "",
+                HEAD,
+                "FSSSO",
+                "rounds = 1\n",
+                "list: unknown key in slot 3\n",
+            ),
+            ("", HEAD, "FUSQ", "", "list: unknown key in slot 1\n"),
+            // Too few slots with `sync`.
+            ("", HEAD, "NSSQ", "", "list: sync slots 3\n"),
+            // No TOML: a key given twice, and a number past 64 bits.
+            ("version = 1\n", HEAD, "FSSS", "", "list: not toml\n"),
+            (
+                "version = 9223372036854775808\n",
+                "",
+                "",
+                "",
+                "list: not toml\n",
+            ),
+        ],
+    )
 }

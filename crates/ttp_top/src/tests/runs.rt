@@ -1,9 +1,8 @@
-//! Runs: their traces, and scripts that are refused.
+//! Runs: whole traces, and files that are not taken.
 
 mod traces;
 
 use super::{FIRST, HEAD, SLOT, answer, answer_files, joined};
-use std::process::Abort;
 use std::sync::Wait;
 use std::test::Fail;
 use std::thread::Threads;
@@ -93,71 +92,15 @@ fn files_that_cannot_be_loaded(rt: HostRuntime) -> Result<(), Fail> {
     Ok(())
 }
 
-// Each list that is not run, with the line that says why. The script is missing, and nobody looks.
-fn runs_none<R: Threads + Wait + Sync + AllocGlobal + Abort>(
-    rt: &R,
-    wrong: &[(&[&str], &str)],
-) -> Result<(), Fail> {
-    for (parts, line) in wrong {
-        let list = joined(rt, parts)?;
-        let words = ["run", "cluster.toml", "no.script"];
-        let (status, text) = answer(rt, &words, list.as_bytes(), 0, 0)?;
-        assert_eq!(rt; status, 3, "{list}");
-        assert_eq!(rt; text.as_slice(), line.as_bytes(), "{list}");
-    }
-    Ok(())
-}
-
+// A list that is refused. The script is missing, and nobody looks.
 #[test]
-fn lists_that_are_not_run(rt: HostRuntime) -> Result<(), Fail> {
-    let wrong: [(&[&str], &str); 4] = [
-        (
-            &[HEAD, FIRST, FIRST, SLOT, SLOT],
-            "list: not built slot 1 start\n",
-        ),
-        (
-            &[HEAD, SLOT, FIRST, SLOT, FIRST, FIRST],
-            "list: not built slot 3 start\n",
-        ),
-        (&[HEAD, FIRST, FIRST, FIRST], "list: slot count 3\n"),
-        (&[], "list: missing version\n"),
-    ];
-    runs_none(&rt, &wrong)
-}
-
-// Each script that is refused, with the line that says why.
-fn refuses_each_script<R: Threads + Wait + Sync + AllocGlobal + Abort>(
-    rt: &R,
-    wrong: &[(&str, &str)],
-) -> Result<(), Fail> {
-    for (script, line) in wrong {
-        let (status, text) = ran(rt, script.as_bytes(), 0, 0)?;
-        assert_eq!(rt; status, 4, "{script}");
-        assert_eq!(rt; text.as_slice(), line.as_bytes(), "{script}");
-    }
+fn a_list_that_is_not_run(rt: HostRuntime) -> Result<(), Fail> {
+    let list = joined(&rt, &[HEAD, FIRST, FIRST, FIRST])?;
+    let words = ["run", "cluster.toml", "no.script"];
+    let (status, text) = answer(&rt, &words, list.as_bytes(), 0, 0)?;
+    assert_eq!(rt; status, 3);
+    assert_eq!(rt; text.as_slice(), b"list: slot count 3\n".as_slice());
     Ok(())
-}
-
-#[test]
-fn scripts_that_are_refused(rt: HostRuntime) -> Result<(), Fail> {
-    let wrong: [(&str, &str); 12] = [
-        ("", "script: line 1 no slots\n"),
-        ("on 0 0\n", "script: line 1 no slots\n"),
-        ("# nothing\n\n", "script: line 3 no slots\n"),
-        ("slots 20\nrun 1\n", "script: line 2 word\n"),
-        (
-            "slots 20\nsend 2 AB noise 22 22\n",
-            "script: line 2 not built\n",
-        ),
-        ("slots 20\non 2 0\narm 2 8\n", "script: line 3 not built\n"),
-        ("slots 20\narm 9 x\n", "script: line 2 not built\n"),
-        ("slots 1234567890\n", "script: line 1 number\n"),
-        ("slots 20\non 5 0\n", "script: line 2 no node\n"),
-        ("slots 20001\n", "script: line 1 range\n"),
-        ("slots 20\non 0 20\n", "script: line 2 range\n"),
-        ("slots 20\non 0 0\non 0 1\n", "script: line 3 repeat\n"),
-    ];
-    refuses_each_script(&rt, &wrong)
 }
 
 #[test]
@@ -190,39 +133,6 @@ fn a_starter_alone(rt: HostRuntime) -> Result<(), Fail> {
         "slot 20 node 0 wait peer - msg - mem 0000 acc 0 rej 0 ack none clock 0\n",
     ] {
         assert!(rt; words.contains(line), "{line}");
-    }
-    Ok(())
-}
-
-// A list of version 2 with as many nodes as it can have, all of them switched on.
-#[test]
-fn twenty_four_nodes(rt: HostRuntime) -> Result<(), Fail> {
-    let mut list = joined(
-        &rt,
-        &[
-            "version = 2\nrounds = 1\nschedule = 0\nbuffers = 2\ndrift = 0\nerror = 0\nwindow = 1\n",
-            FIRST,
-        ],
-    )?;
-    for _ in 1..24 {
-        list.push_str(SLOT)?;
-    }
-    let script =
-        "slots 72\non 0 0\non 1 0\non 2 0\non 3 0\non 4 0\non 5 0\non 6 0\non 7 0\non 8 0\non 9 0\non 10 0\non 11 0\non 12 0\non 13 0\non 14 0\non 15 0\non 16 0\non 17 0\non 18 0\non 19 0\non 20 0\non 21 0\non 22 0\non 23 0\n";
-    let words = ["run", "cluster.toml", "five.script"];
-    let (status, text) = answer_files(&rt, &words, list.as_bytes(), Some(script.as_bytes()), 0, 0)?;
-    assert_eq!(rt; status, 0);
-    let trace = str::from_utf8(&text)?;
-    assert_eq!(rt; trace.lines().count(), 1729);
-    for line in [
-        "ttpbench trace 2 nodes 24 rounds 1 slots 72 schedule 000000\n",
-        "slot 47 node 0 wait peer - msg - mem 000000 acc 0 rej 0 ack none clock 0\n",
-        "slot 48 node 0 start peer 0 msg - mem 000001 acc 1 rej 0 ack first clock 0\n",
-        "slot 48 node 23 join peer 0 msg - mem 000001 acc 1 rej 0 ack none clock 0\n",
-        "slot 71 node 0 correct peer 23 msg - mem ffffff acc 24 rej 0 ack none clock 0\n",
-        "slot 71 node 23 send peer 23 msg - mem ffffff acc 1 rej 0 ack first clock 0\n",
-    ] {
-        assert!(rt; trace.contains(line), "{line}");
     }
     Ok(())
 }

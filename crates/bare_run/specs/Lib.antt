@@ -1,4 +1,0 @@
-pub mod Passed
-pub mod Slot
-pub mod Shown
-pub mod Printed

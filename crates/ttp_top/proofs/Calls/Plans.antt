@@ -1,0 +1,97 @@
+-- The endings that a plan may come to.
+use Rattle.std.proofs.Common.{◌≡◌, ◌≢◌, ℕ, ◌+◌, ◌≤◌, List, [], ◌∷◌, take, Option, Some, None, Result, Ok, Err}
+use Rattle.std.proofs.Common.{subst, sym, arith}
+use Rattle.ttp_base.specs.Outside.{Held, untold, absent, holds, Load, Gives}
+use Rattle.ttp_world.specs.declared.medl.Medl.{Medl}
+use Rattle.ttp_world.specs.declared.script.Script.{Script}
+use Rattle.ttp_top.specs.declared.read.FileFault.{FileFault}
+use Rattle.ttp_top.specs.Calls.Forms.{table_ending, schedule_ending, plan_of}
+use Rattle.ttp_top.specs.Calls.Plan.{Ending, Plan, ends, asks, Comes, AsksFirst, told_ending}
+use Rattle.ttp_top.specs.Calls.Promise.{EachName}
+use Rattle.ttp_top.specs.Calls.Words.{Form, schedule, run}
+use Rattle.ttp_top.specs.Files.Read.{list_from, script_from}
+use Rattle.ttp_top.specs.Runs.Plan.{trace_ending, script_ending, plan_with}
+
+-- each ending of a plan is of a kind
+abbrev pub AllEnd : (Ending → Type 0) → Plan → Type 0
+AllEnd P (ends ending) = P ending
+AllEnd P (asks file next) = (bytes : List ℕ) → AllEnd P (next bytes)
+
+-- so the one that it comes to is
+pub all_come : (P : Ending → Type 0) (held : List ℕ → Held) (plan : Plan) (loads : List Load) (ending : Ending)
+    → AllEnd P plan → Comes held plan loads (ends ending) → P ending
+all_come P held plan [] ending all comes = subst (AllEnd P) comes all
+all_come P held (ends e) (load ∷ loads) ending all comes = absurd comes
+all_come P held (asks file next) (load ∷ loads) ending all comes =
+    all_come P held (next comes.1.0) loads ending (all comes.1.0) comes.1.2
+
+-- the endings of a form have the statuses 0, 1, 3 and 4, and all endings one up to 4
+abbrev pub IsOfForm : Ending → Type 0
+IsOfForm ending = (ending.status ≤ 4) × (ending.status ≢ 2)
+
+abbrev pub IsFinal : Ending → Type 0
+IsFinal ending = ending.status ≤ 4
+
+table_status : (read : Result Medl FileFault) → IsOfForm (table_ending read)
+table_status (Ok list) = (omega arith, λ two. omega arith)
+table_status (Err fault) = (omega arith, λ two. omega arith)
+
+trace_status : (list : Medl) (read : Result Script FileFault) → IsOfForm (trace_ending list read)
+trace_status list (Ok script) = (omega arith, λ two. omega arith)
+trace_status list (Err fault) = (omega arith, λ two. omega arith)
+
+run_status : (read : Result Medl FileFault) (script : List ℕ) → AllEnd IsOfForm (plan_with read script)
+unfolding script_ending
+run_status (Ok list) script = λ bytes. trace_status list (script_from list bytes)
+run_status (Err fault) script = (omega arith, λ two. omega arith)
+
+pub forms_end : (form : Form) → AllEnd IsOfForm (plan_of (Some form))
+unfolding schedule_ending
+forms_end (schedule list) = λ bytes. table_status (list_from bytes)
+forms_end (run list script) = λ bytes. run_status (list_from bytes) script
+
+weaker : (plan : Plan) → AllEnd IsOfForm plan → AllEnd IsFinal plan
+weaker (ends ending) all = all.0
+weaker (asks file next) all = λ bytes. weaker (next bytes) (all bytes)
+
+pub plans_end : (form : Option Form) → AllEnd IsFinal (plan_of form)
+plans_end None = omega arith
+plans_end (Some form) = weaker (plan_of (Some form)) (forms_end form)
+
+-- each name that a plan may ask for is of a kind
+abbrev pub AllAsk : (List ℕ → Type 0) → Plan → Type 0
+AllAsk Q (ends ending) = Unit {0}
+AllAsk Q (asks file next) = Q file.name × ((bytes : List ℕ) → AllAsk Q (next bytes))
+
+-- so those that it asked for are
+pub all_asked : (Q : List ℕ → Type 0) (held : List ℕ → Held) (plan : Plan) (loads : List Load)
+    → AllAsk Q plan → AsksFirst held plan loads → EachName Q loads
+all_asked Q held plan [] all asked = tt
+all_asked Q held (ends ending) (load ∷ loads) all asked = absurd asked
+all_asked Q held (asks file next) (load ∷ []) all asked =
+    (subst (λ (l : Load). Q l.name) (sym asked) all.0, tt)
+all_asked Q held (asks file next) (load ∷ (other ∷ loads)) all asked = (
+  subst (λ (l : Load). Q l.name) (sym asked.0) all.0,
+  all_asked Q held (next asked.1.0) (other ∷ loads) (all.1 asked.1.0) asked.1.2,
+)
+
+-- where the files are told, a plan comes to one ending
+told_next : (held : List ℕ → Held) (h : Held) (limit : ℕ) (given : List ℕ) (next : List ℕ → Plan) (ending : Ending)
+    → elim h [ untold ↦ None | absent ↦ None | holds bytes ↦ told_ending held (next (take (limit + 1) bytes)) ] ≡ Some ending
+    → Gives h limit given → told_ending held (next given) ≡ Some ending
+told_next held untold limit given next ending told gives = absurd (cc)
+told_next held absent limit given next ending told gives = absurd gives
+told_next held (holds bytes) limit given next ending told gives =
+    subst (λ (b : List ℕ). told_ending held (next b) ≡ Some ending) (sym gives) told
+
+same_ending : (one other : Ending) → Some one ≡ Some other → one ≡ other
+same_ending one other same = cc
+
+pub told_comes : (held : List ℕ → Held) (plan : Plan) (loads : List Load) (ending told : Ending)
+    → Comes held plan loads (ends ending) → told_ending held plan ≡ Some told → ending ≡ told
+told_comes held plan [] ending told comes is =
+    same_ending ending told (subst (λ (p : Plan). told_ending held p ≡ Some told) comes is)
+told_comes held (ends e) (load ∷ loads) ending told comes is = absurd comes
+told_comes held (asks file next) (load ∷ loads) ending told comes is =
+    told_comes held (next comes.1.0) loads ending told comes.1.2
+    (told_next held (held file.name) file.limit comes.1.0 next told is comes.1.1)

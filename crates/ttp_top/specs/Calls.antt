@@ -1,0 +1,6 @@
+pub mod Plan
+pub mod Outcome
+pub mod Files
+pub mod Words
+pub mod Forms
+pub mod Promise

@@ -1,0 +1,61 @@
+-- How a command goes on: which file it asks for next, and how it ends, by what the files hold.
+use Rattle.std.specs.Prelude.{◌≡◌, ℕ, ◌+◌, List, [], ◌∷◌, take, Option, Some, None}
+use Rattle.ttp_base.specs.Outside.{Held, untold, absent, holds, Load, Files, Gives, Output}
+
+-- what a call sees of the outside, and leaves of it
+pub record Outside : Type 0 where
+  pub files : Files
+  pub output : Output
+
+abbrev pub outside : Files → Output → Outside
+outside files output = record { files = files; output = output }
+
+-- the status, and the text that is due with it
+pub record Ending : Type 0 where
+  pub status : ℕ
+  pub text : List ℕ
+
+-- a file that is asked for: its name, how many bytes it may have, and the line that says that it could not be loaded
+pub record File : Type 0 where
+  pub name : List ℕ
+  pub limit : ℕ
+  pub missing : List ℕ
+
+-- A command ends, or it asks for a file and goes on by the bytes that a load gives.
+pub data Plan : Type 0 where
+  ends : (ending : Ending) → Plan
+  asks : (file : File) (next : List ℕ → Plan) → Plan
+
+-- the load that asks for a file, and the ending where nothing is loaded
+abbrev pub load_of : File → Load
+load_of file = record { name = file.name; limit = file.limit }
+
+abbrev pub unloaded : File → Ending
+unloaded file = record { status = 5; text = file.missing }
+
+-- after these loads, of files that may hold what is told of them, this is left of a plan
+abbrev pub Comes : (List ℕ → Held) → Plan → List Load → Plan → Type 0
+Comes held plan [] rest = plan ≡ rest
+Comes held (ends ending) (load ∷ loads) rest = ⊥
+Comes held (asks file next) (load ∷ loads) rest =
+    (load ≡ load_of file)
+    × ((bytes : List ℕ) × Gives (held file.name) file.limit bytes × Comes held (next bytes) loads rest)
+
+-- these are the first loads of a plan, in its order: the last of them may have given nothing
+abbrev pub AsksFirst : (List ℕ → Held) → Plan → List Load → Type 0
+AsksFirst held plan [] = Unit {0}
+AsksFirst held (ends ending) (load ∷ loads) = ⊥
+AsksFirst held (asks file next) (load ∷ []) = load ≡ load_of file
+AsksFirst held (asks file next) (load ∷ (other ∷ loads)) =
+    (load ≡ load_of file)
+    × ((bytes : List ℕ) × Gives (held file.name) file.limit bytes × AsksFirst held (next bytes) (other ∷ loads))
+
+-- the ending of a plan whose files are all told, and hold something
+abbrev pub told_ending : (List ℕ → Held) → Plan → Option Ending
+told_ending held (ends ending) = Some ending
+told_ending held (asks file next) =
+    elim (held file.name) [
+      | untold ↦ None
+      | absent ↦ None
+      | holds bytes ↦ told_ending held (next (take (file.limit + 1) bytes))
+    ]

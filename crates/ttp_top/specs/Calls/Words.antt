@@ -1,0 +1,29 @@
+-- The forms of a call's words.
+use Rattle.std.specs.Prelude.{List, [], ◌∷◌, ℕ, map, codes, Option, Some, None, String, string_bytes, if◌then◌else◌}
+use Rattle.std.specs.Str.{bytes_eq}
+use Rattle.std.specs.declared.alloc.Global.{Global}
+use Rattle.ttp_top.specs.declared.words.Command.{Command}
+use Rattle.ttp_top.specs.declared.words.Command.TheVariants as commands
+
+-- what a call is asked for
+pub data Form : Type 0 where
+  -- the slot table of the list of this name
+  schedule : (list : List ℕ) → Form
+  -- the trace of the script of this name, for the list of this name
+  run : (list script : List ℕ) → Form
+
+-- the words' bytes
+abbrev pub texts_of : List (String Global) → List (List ℕ)
+texts_of words = map string_bytes words
+
+-- the form that words have, if they have one
+abbrev pub form_of : List (List ℕ) → Option Form
+form_of (verb ∷ list ∷ []) = if bytes_eq verb (codes "schedule") then Some (schedule list) else None
+form_of (verb ∷ list ∷ script ∷ []) = if bytes_eq verb (codes "run") then Some (run list script) else None
+form_of _ = None
+
+-- the form that a command of the code stands for
+abbrev pub form_asked : Command → Option Form
+form_asked (commands.Schedule list) = Some (schedule list.now)
+form_asked (commands.Run list script) = Some (run list.now script.now)
+form_asked commands.NoForm = None
