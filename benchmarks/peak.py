@@ -8,11 +8,18 @@ import time
 F_SETPIPE_SZ = 1031
 
 
+def peak_of(process):
+    """The most memory that a process held so far, in KiB, or 0 where it has ended."""
+    with open(f"/proc/{process}/status", encoding="ascii") as status:
+        return max((int(line.split()[1]) for line in status if line.startswith("VmHWM:")), default=0)
+
+
 def memory_of(command):
     """The most memory that the command held at once, in KiB.
 
-    Its output goes into a small pipe that is almost full, so that it waits in a write, with its files
-    read and all work done but the writing, while the system is asked for its peak.
+    Its output goes into a small pipe that is almost full, so that it waits in its first write, with its files read,
+    while the system is asked for its peak. From then on it waits in each further write, until a piece is taken and the
+    system is asked again.
     """
     reading, writing = os.pipe()
     fcntl.fcntl(writing, F_SETPIPE_SZ, 4096)
@@ -22,12 +29,9 @@ def memory_of(command):
     peak = 0
     for _ in range(100):
         time.sleep(0.01)
-        with open(f"/proc/{running.pid}/status", encoding="ascii") as status:
-            for line in status:
-                if line.startswith("VmHWM:"):
-                    peak = max(peak, int(line.split()[1]))
+        peak = max(peak, peak_of(running.pid))
     while os.read(reading, 65536):
-        pass
+        peak = max(peak, peak_of(running.pid))
     os.close(reading)
     running.wait()
     return peak

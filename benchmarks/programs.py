@@ -8,10 +8,10 @@ import sys
 TOP = os.path.dirname(os.path.dirname(os.path.abspath(__file__)))
 
 INVARIANT = """use Rattle.std.proofs.Common.{{◌≡◌}}
-use Rattle.{name}.proofs.{function}.Given as goal
+{imports}use Rattle.{name}.proofs.{function}.Given as goal
 
-abbrev pub invariant-loop : goal.invariant-loop
-invariant-loop l = {invariant}
+abbrev pub invariant-{loop} : goal.invariant-{loop}
+invariant-{loop} l = {invariant}
 """
 
 
@@ -21,11 +21,12 @@ def write(path, text):
         file.write(text)
 
 
-def rattle_program(folder, name, uses, source, invariants={}):
+def rattle_program(folder, name, uses, source, invariants={}, loop="loop", imports=""):
     """A program of this name and source, over a copy of the crates that it uses and those below them.
 
     `uses` is what stands behind the program's name in crates.txt, and `invariants` has what the loop of a function
-    keeps. Building the program proves it, and what `rt` has not proved before.
+    keeps; `loop` names those loops, and `imports` has the lines by which their invariants import words. Building the
+    program proves it, and what `rt` has not proved before.
     """
     if shutil.which("rt") is None:
         sys.exit("rt is not on the path")
@@ -47,7 +48,7 @@ def rattle_program(folder, name, uses, source, invariants={}):
     program = os.path.join(crates, name)
     write(os.path.join(program, "src", "main.rt"), source)
     for function, invariant in invariants.items():
-        text = INVARIANT.format(name=name, function=function, invariant=invariant)
+        text = INVARIANT.format(name=name, function=function, invariant=invariant, loop=loop, imports=imports)
         write(os.path.join(program, "proofs", function, "Invariants.antt"), text)
     built = os.path.join(program, "out", name)
     told = subprocess.run(["rt", "run"], cwd=program, stdin=subprocess.DEVNULL, capture_output=True, text=True)
@@ -68,7 +69,7 @@ def c_program(folder, source, *options):
     return program
 
 
-def lines_of(program):
-    """The words of each line that a program prints."""
-    output = subprocess.run([program], check=True, capture_output=True, text=True).stdout
+def lines_of(program, *words):
+    """The words of each line that a program prints, which was given these words."""
+    output = subprocess.run([program, *words], check=True, capture_output=True, text=True).stdout
     return [line.split() for line in output.splitlines()]

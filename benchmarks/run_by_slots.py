@@ -1,72 +1,76 @@
 #!/usr/bin/env python3
-"""Times `run` for clusters of 4, 8, 16 and 24 nodes over 1,000, 5,000 and 20,000 slots.
+"""Times `run` through the controllers, for two clusters over 1,000, 5,000 and 20,000 slots.
 
-Prints the time of the whole process (the least of some runs, with the trace to /dev/null), the most
-memory that it held, the nanoseconds for each node and slot, and how that figure grows from the
-shortest run to the longest. It needs the program that `./ttpbench` builds, and prints figures
-alone; nothing passes or fails here.
+The one has 8 nodes whose frames carry 16 bytes, with implicit and with explicit C-state in turn; two clocks drift, two
+receivers err, one frame is lost to all and one to a single node, so that two nodes leave. The other has 24 nodes
+without payload and without a fault. For each it prints how long a processor was at work, in the program and in the
+system, by the least of some runs: with the trace to /dev/null, to a file in memory where there is one, and with no
+writing, by a program that it builds, whose sink takes the bytes away with no call of the system. A figure is the
+nanoseconds for each node and slot, less what a run of one slot takes, which is printed beside them. The last lines of a
+cluster say how the figures grow from the shortest run to the longest, and how much of them is writing. It also prints
+the most memory that the process held. It needs the program that `./ttpbench` builds, and prints figures alone; nothing
+passes or fails here. A path given to it is that of the program that it would build.
 """
 
 import os
-import subprocess
 import sys
 import tempfile
-import time
 
 from peak import memory_of
+from runs import list_text, processor_seconds_of, program, script_text, timing_program, written
 
-NODES = (4, 8, 16, 24)
 SLOTS = (1_000, 5_000, 20_000)
-RUNS = {1_000: 25, 5_000: 15, 20_000: 9}
-TOP = os.path.dirname(os.path.dirname(os.path.abspath(__file__)))
-PROGRAM = os.path.join(TOP, "crates", "ttpbench", "out", "ttpbench")
+RUNS = {1: 50, 1_000: 50, 5_000: 25, 20_000: 15}
+SHARED = "/dev/shm"
 
 
-def list_text(nodes):
-    version = 1 if nodes <= 16 else 2
-    head = f"version = {version}\nrounds = 1\nschedule = 0\nbuffers = 2\ndrift = 0\nerror = 0\nwindow = 1\n"
-    slots = [
-        f'[[slot]]\nkinds = "I"\ndata = 0\nsync = true\nstart = {"true" if k == 0 else "false"}\n'
-        for k in range(nodes)
-    ]
-    return head + "".join(slots)
+def mixed_lines(slots):
+    last = slots - 1
+    clocks = ["drift 1 1", "drift 4 -1", f"error 2 2 0 {last}", f"error 5 -2 0 {last}"]
+    return clocks + ["send 0 AB noise 40 40", "receive 3 AB silence 70 70"]
 
 
-def script_text(nodes, slots):
-    return f"slots {slots}\n" + "".join(f"on {k} 0\n" for k in range(nodes))
+CLUSTERS = {
+    "8 nodes, 16 bytes, drift, two faults": (
+        8,
+        list_text(["NXNX"] * 8, [16] * 8, drift=1, error=2, window=64, schedule=4660, starters=(0, 1)),
+        mixed_lines,
+    ),
+    "24 nodes, no payload": (24, list_text(["I"] * 24, [0] * 24), lambda slots: []),
+}
 
 
-def seconds_of(command):
-    before = time.perf_counter()
-    done = subprocess.run(command, stdout=subprocess.DEVNULL)
-    taken = time.perf_counter() - before
-    if done.returncode != 0:
-        sys.exit(f"status {done.returncode} from {command}")
-    return taken
+def seconds_by_way(timing, medl, script, times):
+    """For each way how long a processor was at work, at least."""
+    command = [program(), "run", medl, script]
+    found = {"to /dev/null": min(processor_seconds_of(command) for _ in range(times))}
+    if os.path.isdir(SHARED):
+        with tempfile.NamedTemporaryFile(dir=SHARED) as file:
+            found["to a file"] = min(processor_seconds_of(command, file.name) for _ in range(times))
+    found["not written"] = min(processor_seconds_of([timing, medl, script, "1"]) for _ in range(times))
+    return found
 
 
 def main():
-    if not os.path.exists(PROGRAM):
-        sys.exit("run ./ttpbench once first, which builds the program")
     with tempfile.TemporaryDirectory() as folder:
-        for nodes in NODES:
-            medl = os.path.join(folder, f"{nodes}.toml")
-            with open(medl, "w", encoding="ascii") as file:
-                file.write(list_text(nodes))
+        timing = sys.argv[1] if len(sys.argv) > 1 else timing_program(folder)
+        for name, (nodes, listed, lines) in CLUSTERS.items():
+            medl = written(folder, "cluster.toml", listed)
+            one = seconds_by_way(timing, medl, written(folder, "one.script", script_text(nodes, 1)), RUNS[1])
+            print(f"{name}; one slot" + "".join(f"   {way} {taken * 1e3:.2f} ms" for way, taken in one.items()))
             figures = {}
             for slots in SLOTS:
-                script = os.path.join(folder, f"{nodes}_{slots}.script")
-                with open(script, "w", encoding="ascii") as file:
-                    file.write(script_text(nodes, slots))
-                command = [PROGRAM, "run", medl, script]
-                least = min(seconds_of(command) for _ in range(RUNS[slots]))
-                memory = memory_of(command)
-                figures[slots] = least * 1e9 / (nodes * slots)
-                print(
-                    f"{nodes:2d} nodes {slots:6d} slots   least {least * 1000:9.1f} ms"
-                    f"   memory {memory:7d} KiB   {figures[slots]:8.0f} ns a node and slot"
-                )
-            print(f"{nodes:2d} nodes, ratio of {SLOTS[-1]} slots to {SLOTS[0]}: {figures[SLOTS[-1]] / figures[SLOTS[0]]:.2f}")
+                script = written(folder, "run.script", script_text(nodes, slots, lines(slots)))
+                taken = seconds_by_way(timing, medl, script, RUNS[slots])
+                figures[slots] = {way: (taken[way] - one[way]) * 1e9 / (nodes * (slots - 1)) for way in taken}
+                told = "".join(f"   {way} {figure:6.1f} ns" for way, figure in figures[slots].items())
+                print(f"  {slots:6d} slots{told}   memory {memory_of([program(), 'run', medl, script])} KiB")
+            short, long = figures[SLOTS[0]], figures[SLOTS[-1]]
+            grows = "".join(f"   {way} {long[way] / short[way]:.2f}" for way in long)
+            print(f"  {SLOTS[-1]} slots to {SLOTS[0]}:{grows}")
+            for way in long:
+                if way != "not written":
+                    print(f"  writing {way} takes {long[way] - long['not written']:.1f} ns of a line")
 
 
 if __name__ == "__main__":

@@ -1,0 +1,136 @@
+"""Clusters and scripts for the benchmarks of `run`, the program, and one that times its parts without writing."""
+
+import os
+import subprocess
+import sys
+
+from programs import TOP, lines_of, rattle_program
+
+PROGRAM = os.path.join(TOP, "crates", "ttpbench", "out", "ttpbench")
+
+# It reads a list and a script, and then runs the script again and again into a sink that takes the bytes away with no
+# call of the system. For each time it prints the nanoseconds that the script's reading took, and those of the run.
+TIMED = """//! Prints how long a script takes to read, and its run without the writing: files of list and script, times.
+#![tactic(auto)]
+ghost use Rattle.std.specs.Prelude.{◌≤◌, length};
+ghost use Rattle.ttp_world.specs.Medl.{IsValid};
+
+use medl_text::read_medl;
+use plant_run::put_run;
+use script_text::read_script;
+use std::io::Write;
+use std::process::ExitCode;
+use std::time::Instant;
+use std::{env, fs, io};
+use ttp_base::StreamSink;
+use ttp_world::Medl;
+
+fn main(rt: HostRuntime) -> ExitCode {
+    match timed(&rt) {
+        Ok(true) => ExitCode::from(0),
+        _ => ExitCode::from(1),
+    }
+}
+
+// Whether the words name a list and a script that are read, and a number of times.
+fn timed(rt: &HostRuntime) -> io::Result<bool> {
+    let words: Vec<String> = env::args(rt)?.skip(1).collect(rt.alloc())?;
+    if words.len() != 3 {
+        return Ok(false);
+    }
+    let Ok(times) = words[2].as_str().parse::<u32>() else {
+        return Ok(false);
+    };
+    let list = fs::read(rt, words[0].as_str())?;
+    let text = fs::read(rt, words[1].as_str())?;
+    let Ok(list) = read_medl(rt.alloc(), &list) else {
+        return Ok(false);
+    };
+    if text.len() > 1_048_576 {
+        return Ok(false);
+    }
+    for _ in 0..times {
+        if !run_once(rt, &list, &text)? {
+            return Ok(false);
+        }
+    }
+    Ok(true)
+}
+
+// Reads the script, runs it and prints what both took; whether they were done.
+fn run_once(rt: &HostRuntime, list: &Medl, text: &[u8]) -> io::Result<bool>
+    requires valid { IsValid list.now }
+    requires size { length text.now ≤ 1048576 }
+{
+    let start = Instant::now(rt)?;
+    let Ok(script) = read_script(rt.alloc(), list, text) else {
+        return Ok(false);
+    };
+    let read = start.elapsed(rt)?.as_nanos();
+    let mut nowhere = io::sink();
+    // Behind this type no compiler sees that the bytes are not used, and so spares their making.
+    let writer: &mut dyn Write = &mut nowhere;
+    let mut out = StreamSink::new(writer);
+    let start = Instant::now(rt)?;
+    let done = put_run(rt.alloc(), list, &script, &mut out).is_ok();
+    let taken = start.elapsed(rt)?.as_nanos();
+    println!(rt; "{} {}", read, taken)?;
+    Ok(done)
+}
+"""
+
+
+def timing_program(folder):
+    """The program above, built over a copy of the crates below it."""
+    return rattle_program(folder, "run_speed", "ttp_base ttp_world medl_text script_text plant_run", TIMED)
+
+
+def list_text(kinds, data, *, drift=0, error=0, window=1, schedule=0, starters=(0,)):
+    """A list with these letters of kinds and bytes of payload for each slot, one of them for each node."""
+    version = 1 if len(kinds) <= 16 else 2
+    head = f"version = {version}\nrounds = {len(kinds[0])}\nschedule = {schedule}\nbuffers = 4\n"
+    clocks = f"drift = {drift}\nerror = {error}\nwindow = {window}\n"
+    slots = (
+        f'[[slot]]\nkinds = "{letters}"\ndata = {size}\nsync = true\nstart = {"true" if k in starters else "false"}\n'
+        for k, (letters, size) in enumerate(zip(kinds, data))
+    )
+    return head + clocks + "".join(slots)
+
+
+def script_text(nodes, slots, lines=()):
+    """A script that switches all nodes on in slot 0, and has these lines."""
+    return f"slots {slots}\n" + "".join(f"on {k} 0\n" for k in range(nodes)) + "".join(f"{line}\n" for line in lines)
+
+
+def written(folder, name, text):
+    """The path of a file of this name in the folder, with this text."""
+    path = os.path.join(folder, name)
+    with open(path, "w", encoding="ascii") as file:
+        file.write(text)
+    return path
+
+
+def program():
+    """The program that `./ttpbench` builds."""
+    if not os.path.exists(PROGRAM):
+        sys.exit("run ./ttpbench once first, which builds the program")
+    return PROGRAM
+
+
+def processor_seconds_of(command, path=os.devnull):
+    """How long a command kept a processor, in the program and in the system, whose output goes to this file."""
+    with open(path, "wb") as out:
+        running = subprocess.Popen(command, stdout=out)
+        _, status, used = os.wait4(running.pid, 0)
+    running.returncode = os.waitstatus_to_exitcode(status)
+    if running.returncode != 0:
+        sys.exit(f"status {running.returncode} from {command}")
+    return used.ru_utime + used.ru_stime
+
+
+def parts_of(timing, medl, script, times):
+    """The least seconds of so many readings of a script, and of as many runs of it without the writing."""
+    rows = [[int(word) for word in line] for line in lines_of(timing, medl, script, str(times))]
+    if len(rows) != times:
+        sys.exit(f"{len(rows)} runs of {script}")
+    return min(read for read, _ in rows) / 1e9, min(taken for _, taken in rows) / 1e9
