@@ -69,7 +69,7 @@ def c_program(folder, source, *options):
     return program
 
 
-def lines_of(program, *words):
-    """The words of each line that a program prints, which was given these words."""
-    output = subprocess.run([program, *words], check=True, capture_output=True, text=True).stdout
+def lines_of(program):
+    """The words of each line that a program prints."""
+    output = subprocess.run([program], check=True, capture_output=True, text=True).stdout
     return [line.split() for line in output.splitlines()]

@@ -3,16 +3,18 @@
 
 In one kind of script each line covers all 20,000 slots, in the other one slot. Two lines each add up to 0, so that the
 trace is that of the run without them, for 4 and for 24 nodes without payload. It builds a program over plant_run, whose
-sink takes the bytes away with no call of the system, and prints the least time of some runs: the milliseconds to read
-the script, and the nanoseconds of a slot. It prints figures alone; nothing passes or fails here.
+sink takes the bytes away with no call of the system, and prints the milliseconds to read the script and the nanoseconds
+of a slot: by how long a processor was at work, the least of some runs. It prints figures alone; nothing passes or fails
+here. A path given to it is that of the program that it would build.
 """
 
 import sys
 import tempfile
 
-from runs import list_text, parts_of, script_text, timing_program, written
+from runs import list_text, processor_seconds_of, script_text, timing_program, unwritten, written
 
-RUNS = 25
+RUNS = 15
+READINGS = 4
 SLOTS = 20_000
 LINES = 50_000
 # The slots that a line of one slot names: their numbers are short enough for the size limit of a script.
@@ -30,6 +32,15 @@ def lines_of_kind(nodes, whole):
     return [line for number in range(LINES // 2) for line in pair(number, nodes, whole)]
 
 
+def seconds_of(timing, medl, script):
+    """The least seconds of one reading of a script, and of one run of it without the writing."""
+    least = {
+        parts: min(processor_seconds_of(unwritten(timing, medl, script, *parts)) for _ in range(RUNS))
+        for parts in ((0, 0), (READINGS, 0), (0, 1))
+    }
+    return (least[READINGS, 0] - least[0, 0]) / READINGS, least[0, 1] - least[0, 0]
+
+
 def main():
     with tempfile.TemporaryDirectory() as folder:
         timing = sys.argv[1] if len(sys.argv) > 1 else timing_program(folder)
@@ -42,9 +53,9 @@ def main():
             }
             for kind, lines in kinds.items():
                 script = written(folder, "run.script", script_text(nodes, SLOTS, lines))
-                read, taken = parts_of(timing, medl, script, RUNS)
+                reading, taken = seconds_of(timing, medl, script)
                 head = f"{nodes:2d} nodes, {len(lines):5d} {kind:18s}" if lines else f"{nodes:2d} nodes, {kind:24s}"
-                print(f"{head}   read in {read * 1e3:7.2f} ms   {taken * 1e9 / SLOTS:7.1f} ns a slot")
+                print(f"{head}   read in {reading * 1e3:7.2f} ms   {taken * 1e9 / SLOTS:7.1f} ns a slot")
 
 
 if __name__ == "__main__":

@@ -17,7 +17,7 @@ import sys
 import tempfile
 
 from peak import memory_of
-from runs import list_text, processor_seconds_of, program, script_text, timing_program, written
+from runs import list_text, processor_seconds_of, program, script_text, timing_program, unwritten, written
 
 SLOTS = (1_000, 5_000, 20_000)
 RUNS = {1: 50, 1_000: 50, 5_000: 25, 20_000: 15}
@@ -47,7 +47,7 @@ def seconds_by_way(timing, medl, script, times):
     if os.path.isdir(SHARED):
         with tempfile.NamedTemporaryFile(dir=SHARED) as file:
             found["to a file"] = min(processor_seconds_of(command, file.name) for _ in range(times))
-    found["not written"] = min(processor_seconds_of([timing, medl, script, "1"]) for _ in range(times))
+    found["not written"] = min(processor_seconds_of(unwritten(timing, medl, script, 0, 1)) for _ in range(times))
     return found
 
 

@@ -1,44 +1,49 @@
-"""Clusters and scripts for the benchmarks of `run`, the program, and one that times its parts without writing."""
+"""Clusters and scripts for the benchmarks of `run`, the program, and one that does its parts without writing."""
 
 import os
 import subprocess
 import sys
 
-from programs import TOP, lines_of, rattle_program
+from programs import TOP, rattle_program
 
 PROGRAM = os.path.join(TOP, "crates", "ttpbench", "out", "ttpbench")
 
-# It reads a list and a script, and then runs the script again and again into a sink that takes the bytes away with no
-# call of the system. For each time it prints the nanoseconds that the script's reading took, and those of the run.
-TIMED = """//! Prints how long a script takes to read, and its run without the writing: files of list and script, times.
+# It reads a list and a script, the script so many times more, and then runs it so many times into a sink that takes the
+# bytes away with no call of the system.
+TIMED = """//! Reads and runs a script without the writing: the words are the files of list and script, readings, runs.
 #![tactic(auto)]
 ghost use Rattle.std.specs.Prelude.{◌≤◌, length};
 ghost use Rattle.ttp_world.specs.Medl.{IsValid};
+ghost use Rattle.ttp_world.specs.Script.{IsValidScript};
+ghost use Rattle.plant_run.specs.FirstNumbers.{IsUnhosted};
 
 use medl_text::read_medl;
 use plant_run::put_run;
 use script_text::read_script;
+use std::alloc::Global;
 use std::io::Write;
 use std::process::ExitCode;
-use std::time::Instant;
 use std::{env, fs, io};
 use ttp_base::StreamSink;
-use ttp_world::Medl;
+use ttp_world::{Medl, Script};
 
 fn main(rt: HostRuntime) -> ExitCode {
-    match timed(&rt) {
+    match work(&rt) {
         Ok(true) => ExitCode::from(0),
         _ => ExitCode::from(1),
     }
 }
 
-// Whether the words name a list and a script that are read, and a number of times.
-fn timed(rt: &HostRuntime) -> io::Result<bool> {
+// Whether the words name a list and a script that are read, and two numbers of times.
+fn work(rt: &HostRuntime) -> io::Result<bool> {
     let words: Vec<String> = env::args(rt)?.skip(1).collect(rt.alloc())?;
-    if words.len() != 3 {
+    if words.len() != 4 {
         return Ok(false);
     }
-    let Ok(times) = words[2].as_str().parse::<u32>() else {
+    let Ok(readings) = words[2].as_str().parse::<u32>() else {
+        return Ok(false);
+    };
+    let Ok(runs) = words[3].as_str().parse::<u32>() else {
         return Ok(false);
     };
     let list = fs::read(rt, words[0].as_str())?;
@@ -49,33 +54,41 @@ fn timed(rt: &HostRuntime) -> io::Result<bool> {
     if text.len() > 1_048_576 {
         return Ok(false);
     }
-    for _ in 0..times {
-        if !run_once(rt, &list, &text)? {
-            return Ok(false);
-        }
-    }
-    Ok(true)
+    Ok(is_done(rt.alloc(), &list, &text, readings, runs))
 }
 
-// Reads the script, runs it and prints what both took; whether they were done.
-fn run_once(rt: &HostRuntime, list: &Medl, text: &[u8]) -> io::Result<bool>
+// Reads the script once and so many times more, and runs it so many times; whether all was done.
+fn is_done(alloc: Global, list: &Medl, text: &[u8], readings: u32, runs: u32) -> bool
     requires valid { IsValid list.now }
     requires size { length text.now ≤ 1048576 }
 {
-    let start = Instant::now(rt)?;
-    let Ok(script) = read_script(rt.alloc(), list, text) else {
-        return Ok(false);
+    for _ in 0..readings {
+        if read_script(alloc, list, text).is_err() {
+            return false;
+        }
+    }
+    let Ok(script) = read_script(alloc, list, text) else {
+        return false;
     };
-    let read = start.elapsed(rt)?.as_nanos();
+    for _ in 0..runs {
+        if !is_run(alloc, list, &script) {
+            return false;
+        }
+    }
+    true
+}
+
+// Whether a script is run to its end. Behind the writer's type no compiler sees that the bytes are
+// not used, and so spares their making.
+fn is_run(alloc: Global, list: &Medl, script: &Script) -> bool
+    requires valid { IsValid list.now }
+    requires script { IsValidScript list.now script.now }
+    requires hosts { IsUnhosted script.now }
+{
     let mut nowhere = io::sink();
-    // Behind this type no compiler sees that the bytes are not used, and so spares their making.
     let writer: &mut dyn Write = &mut nowhere;
     let mut out = StreamSink::new(writer);
-    let start = Instant::now(rt)?;
-    let done = put_run(rt.alloc(), list, &script, &mut out).is_ok();
-    let taken = start.elapsed(rt)?.as_nanos();
-    println!(rt; "{} {}", read, taken)?;
-    Ok(done)
+    put_run(alloc, list, script, &mut out).is_ok()
 }
 """
 
@@ -128,9 +141,6 @@ def processor_seconds_of(command, path=os.devnull):
     return used.ru_utime + used.ru_stime
 
 
-def parts_of(timing, medl, script, times):
-    """The least seconds of so many readings of a script, and of as many runs of it without the writing."""
-    rows = [[int(word) for word in line] for line in lines_of(timing, medl, script, str(times))]
-    if len(rows) != times:
-        sys.exit(f"{len(rows)} runs of {script}")
-    return min(read for read, _ in rows) / 1e9, min(taken for _, taken in rows) / 1e9
+def unwritten(timing, medl, script, readings, runs):
+    """The command that reads a script once and so many times more, and runs it so many times without writing."""
+    return [timing, medl, script, str(readings), str(runs)]
