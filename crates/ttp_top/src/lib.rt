@@ -9,6 +9,8 @@
 #![tactic(auto)]
 
 mod call;
+#[cfg(test)]
+mod former;
 mod lines;
 mod read;
 mod run;
