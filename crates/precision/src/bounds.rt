@@ -1,0 +1,35 @@
+//! The bounds that a list's drift and reading error put on clocks and deviations.
+ghost use Rattle.std.specs.Prelude.{◌≡◌};
+ghost use Rattle.ttp_world.specs.Hypothesis.{drift_share, needed};
+ghost use Rattle.ttp_world.specs.Medl.{IsWithin, IsValid};
+ghost use Rattle.precision.specs.Spread.{spread};
+
+use ttp_world::Medl;
+
+/// How far apart the clocks of two nodes that run together can be at the beginning of a slot, in
+/// microticks: 4 D n + 2 E + 1, where n is the number of slots, D the largest drift of a clock in one
+/// slot and E the largest reading error.
+pub fn spread(list: &Medl) -> i64
+    requires { IsValid list.now }
+    ensures value { result ≡ spread list.now }
+{
+    drift_share(list) + (list.error * 2 + 1)
+}
+
+/// How far from 0 the deviation can lie that one of these nodes measures of a frame of another, in
+/// microticks: the spread of their clocks and one reading error more.
+pub fn needed(list: &Medl) -> i64
+    requires { IsValid list.now }
+    ensures value { result ≡ needed list.now }
+{
+    spread(list) + list.error
+}
+
+// What drifts make of both: 4 D n.
+fn drift_share(list: &Medl) -> i64
+    requires { IsValid list.now }
+    ensures value { result ≡ drift_share list.now }
+    ensures within { IsWithin 0 96000 result }
+{
+    list.drift * (4 * list.nodes()) as i64
+}
