@@ -1,2 +1,3 @@
 pub mod Averages
+pub mod Rounds
 pub mod Sorted
