@@ -1,3 +1,6 @@
 pub mod Averages
+pub mod Begins
+pub mod ClockBounds
 pub mod Rounds
+pub mod Slots
 pub mod Sorted
