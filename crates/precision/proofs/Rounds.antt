@@ -57,9 +57,9 @@ AreWithin group clock bound = (j k : ℕ) → group j → group k → (clock j -
 abbrev pub HaveDrifted : Medl → (ℕ → Type 0) → (ℕ → ℤ) → (ℕ → ℤ) → Type 0
 HaveDrifted list group clock later = (k : ℕ) → group k → IsUpTo list.drift (later k -ℤ clock k)
 
--- each has notes that locate frames, but for a reading error and drifts
-abbrev pub HaveNoted : Medl → (ℕ → Type 0) → ℕ → (ℕ → ℤ) → (ℕ → List ℤ) → List ℤ → Type 0
-HaveNoted list group m clock notes frames = (k : ℕ) → group k → Locate (list.error +ℤ drift_in list m) (clock k) (notes k) frames
+-- the notes of each locate the same frames
+abbrev pub HaveNoted : (ℕ → Type 0) → ℤ → (ℕ → ℤ) → (ℕ → List ℤ) → List ℤ → Type 0
+HaveNoted group width clock notes frames = (k : ℕ) → group k → Locate width (clock k) (notes k) frames
 
 -- after slot m of a round, where that is not its last or the clocks are not corrected yet
 pub record Uncorrected (list : Medl) (group : ℕ → Type 0) (s t m : ℕ) (clock : ℕ → ℤ) (notes : ℕ → List ℤ) : Type 0 where
@@ -68,7 +68,7 @@ pub record Uncorrected (list : Medl) (group : ℕ → Type 0) (s t m : ℕ) (clo
   pub first : t ≤ s + suc m → AreWithin group clock (drifted list (list.error +ℤ list.error) m)
   -- where the frames were that were noted in the round
   pub frames : List ℤ
-  pub located : HaveNoted list group (suc m) clock notes frames
+  pub located : HaveNoted group (list.error +ℤ drift_in list (suc m)) clock notes frames
 
 -- after each slot
 pub data Held (list : Medl) (group : ℕ → Type 0) (s t m : ℕ) (clock : ℕ → ℤ) (notes : ℕ → List ℤ) : Type 0 where
@@ -115,7 +115,7 @@ add_below e p q below = omega (arith, ints, below)
 
 -- within a round the notes of the slot come to those that there are
 pub inside_round : (list : Medl) (group : ℕ → Type 0) (s t m : ℕ) (clock later : ℕ → ℤ) (notes added all : ℕ → List ℤ) (new : List ℤ) → pos 0 ≤ℤ list.drift
-    → Uncorrected list group s t m clock notes → HaveDrifted list group clock later → HaveNoted list group 1 later added new
+    → Uncorrected list group s t m clock notes → HaveDrifted list group clock later → HaveNoted group (list.error +ℤ list.drift) later added new
     → ((k : ℕ) → group k → all k ≡ added k ++ notes k) → Uncorrected list group s (suc t) (suc m) later all
 inside_round list group s t m clock later notes added all new up before moved noted is = record {
   apart = λ j k p q. apart_more (after_average list) list.drift (drift_in list (suc m)) (drift_in list (suc (suc m))) (clock j) (clock k) (later j) (later k)
@@ -125,22 +125,24 @@ inside_round list group s t m clock later notes added all new up before moved no
   frames = new ++ before.frames;
   located = λ k p. subst (λ ns. Locate (list.error +ℤ drift_in list (suc (suc m))) (later k) ns (new ++ before.frames)) (sym (is k p))
     (Locate-append (list.error +ℤ drift_in list (suc (suc m))) (later k) (added k) new (notes k) before.frames
-    (Locate-wider (list.error +ℤ drift_in list 1) (list.error +ℤ drift_in list (suc (suc m))) (later k) (added k) new
-    (add_below list.error (drift_in list 1) (drift_in list (suc (suc m))) (product_upto list.drift 1 (suc (suc m)) up (omega arith))) (noted k p))
+    (Locate-wider (list.error +ℤ list.drift) (list.error +ℤ drift_in list (suc (suc m))) (later k) (added k) new
+    (add_below list.error list.drift (drift_in list (suc (suc m))) (product_once list.drift (suc m) up)) (noted k p))
     (Locate-later (list.error +ℤ drift_in list (suc m)) list.drift (list.error +ℤ drift_in list (suc (suc m))) (clock k) (later k) (notes k) before.frames (moved k p)
     (add_three list.error (drift_in list (suc m)) (drift_in list (suc (suc m))) list.drift (product_more list.drift (suc m) up)) (before.located k p)));
 }
 
 -- after the end of a round they are the first
 pub new_round : (list : Medl) (group : ℕ → Type 0) (s t : ℕ) (clock later : ℕ → ℤ) (added all : ℕ → List ℤ) (new : List ℤ) → pos 0 ≤ℤ list.drift → s < t
-    → AreWithin group clock (after_average list) → HaveDrifted list group clock later → HaveNoted list group 1 later added new
+    → AreWithin group clock (after_average list) → HaveDrifted list group clock later → HaveNoted group (list.error +ℤ list.drift) later added new
     → ((k : ℕ) → group k → all k ≡ added k) → Uncorrected list group s (suc t) 0 later all
 new_round list group s t clock later added all new up began before moved noted is = record {
   apart = λ j k p q. apart_anew (after_average list) list.drift (drift_in list 1) (clock j) (clock k) (later j) (later k)
     (before j k p q) (moved j p) (moved k q) (product_one list.drift up);
   first = λ early. absurd (omega (arith, early, began));
   frames = new;
-  located = λ k p. subst (λ ns. Locate (list.error +ℤ drift_in list 1) (later k) ns new) (sym (is k p)) (noted k p);
+  located = λ k p. subst (λ ns. Locate (list.error +ℤ drift_in list 1) (later k) ns new) (sym (is k p))
+    (Locate-wider (list.error +ℤ list.drift) (list.error +ℤ drift_in list 1) (later k) (added k) new
+    (add_below list.error list.drift (drift_in list 1) (product_once list.drift 0 up)) (noted k p));
 }
 
 begun_apart : (e p q d x y z : ℤ) → IsUpTo (e +ℤ d) (y -ℤ x) → IsUpTo (e +ℤ d) (z -ℤ x) → d ≤ℤ q → (y -ℤ z) ≤ℤ ((e +ℤ e) +ℤ (q +ℤ q))
@@ -153,10 +155,10 @@ average_more : (e n : ℤ) → pos 0 ≤ℤ n → (e +ℤ e) ≤ℤ ((n +ℤ n) 
 average_more e n up = omega (arith, ints, up)
 
 -- after the slot in which the group began, on one frame
-pub begun_round : (list : Medl) (group : ℕ → Type 0) (s m : ℕ) (frame : ℤ) (clock : ℕ → ℤ) (notes : ℕ → List ℤ) (new : List ℤ) → pos 0 ≤ℤ list.drift
-    → ((k : ℕ) → group k → IsUpTo (list.error +ℤ list.drift) (clock k -ℤ frame)) → HaveNoted list group 1 clock notes new
-    → Uncorrected list group s (suc s) m clock notes
-begun_round list group s m frame clock notes new up near noted =
+pub begun_round : (list : Medl) (group : ℕ → Type 0) (s t m : ℕ) (frame : ℤ) (clock : ℕ → ℤ) (notes : ℕ → List ℤ) (new : List ℤ) → pos 0 ≤ℤ list.drift
+    → ((k : ℕ) → group k → IsUpTo (list.error +ℤ list.drift) (clock k -ℤ frame)) → HaveNoted group (list.error +ℤ list.drift) clock notes new
+    → Uncorrected list group s t m clock notes
+begun_round list group s t m frame clock notes new up near noted =
     let wide : list.drift ≤ℤ drift_in list (suc m) = product_once list.drift m up in
     let start : AreWithin group clock (drifted list (list.error +ℤ list.error) m) = λ j k p q. begun_apart list.error list.drift (drift_in list (suc m)) list.drift frame (clock j) (clock k) (near j p) (near k q) wide in
     record {
@@ -164,8 +166,8 @@ begun_round list group s m frame clock notes new up near noted =
         (average_more list.error (drift_in list (length list.slots)) (product_up list.drift (length list.slots) up));
       first = λ early. start;
       frames = new;
-      located = λ k p. Locate-wider (list.error +ℤ drift_in list 1) (list.error +ℤ drift_in list (suc m)) (clock k) (notes k) new
-        (add_below list.error (drift_in list 1) (drift_in list (suc m)) (product_upto list.drift 1 (suc m) up (omega arith))) (noted k p);
+      located = λ k p. Locate-wider (list.error +ℤ list.drift) (list.error +ℤ drift_in list (suc m)) (clock k) (notes k) new
+        (add_below list.error list.drift (drift_in list (suc m)) wide) (noted k p);
     }
 
 -- The correction.
@@ -207,7 +209,7 @@ averaged list group s t m clock notes ends held enough j k p q =
     ]
 
 -- clocks that are these are as far apart
-same_apart : (b c x y : ℤ) (bound : ℤ) → x ≡ b → y ≡ c → (b -ℤ c) ≤ℤ bound → (x -ℤ y) ≤ℤ bound
+pub same_apart : (b c x y : ℤ) (bound : ℤ) → x ≡ b → y ≡ c → (b -ℤ c) ≤ℤ bound → (x -ℤ y) ≤ℤ bound
 same_apart b c x y bound is was h = omega (arith, ints, is, was, h)
 
 AreWithin-same : (group : ℕ → Type 0) (clock same : ℕ → ℤ) (bound : ℤ) → ((k : ℕ) → group k → same k ≡ clock k) → AreWithin group clock bound → AreWithin group same bound
