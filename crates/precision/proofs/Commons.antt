@@ -1,5 +1,5 @@
 -- Nodes that run together: in each slot all are at the same place, and their clocks are held.
-use Rattle.std.proofs.Common.{◌≡◌, ◌≢◌, ℕ, suc, ◌+◌, ◌<◌, ◌≤◌, ℤ, pos, neg_ℤ, ◌+ℤ◌, ◌-ℤ◌, ◌≤ℤ◌, Bool, true, false, cond, ◌⊎◌, inl, inr, List, [], ◌∷◌, ◌++◌, length, None, refl, ap, sym, subst, ◌∙◌, arith}
+use Rattle.std.proofs.Common.{◌≡◌, ◌≢◌, ℕ, suc, ◌+◌, ◌<◌, ◌≤◌, ℤ, pos, neg_ℤ, ◌+ℤ◌, ◌-ℤ◌, ◌*ℤ◌, ◌≤ℤ◌, Bool, true, false, cond, ◌⊎◌, inl, inr, List, [], ◌∷◌, ◌++◌, length, None, refl, ap, sym, subst, ◌∙◌, arith}
 use Rattle.std.specs.Prelude.{◌==◌, IsTrue}
 use Rattle.std.proofs.lemmas.Bool.{cond_both, eqb-true, eqb-false}
 use Rattle.std.proofs.lemmas.Int.{ints}
@@ -9,10 +9,11 @@ use Rattle.ttp_world.specs.declared.node.Entry.{Entry}
 use Rattle.ttp_world.specs.declared.script.Script.{Script}
 use Rattle.ttp_world.specs.Clock.{join_deviation, notes_in, notes_of, stint_notes, offset_of}
 use Rattle.ttp_world.specs.Diary.{History, entry_of, diary_of, continues_stint, begins_stint, Place, next_place, stint_place, place_of, ends_round}
-use Rattle.ttp_world.specs.Hypothesis.{clocks_broken}
+use Rattle.ttp_world.specs.Hypothesis.{drift_share, needed, clocks_broken}
 use Rattle.ttp_world.specs.Medium.{surroundings_in, surroundings_of}
 use Rattle.ttp_world.specs.Medl.{IsValid}
-use Rattle.ttp_world.specs.Script.{drift_of, jump_of}
+use Rattle.ttp_world.specs.Script.{drift_of, jump_of, reading_error}
+use Rattle.ttp_world.specs.World.{ready_nodes, ready_of}
 use Rattle.precision.specs.Spread.{spread}
 use Rattle.precision.specs.Together.{IsIn, BeginsOn, BeganTogether, NotedAlike, Nothing, OneFrame, StayedTogether, RanTogether, NoneJumps, IsCommonRun, clock_at, measured, HoldsClocksWithin, HoldsDeviationsWithin}
 use Rattle.precision.proofs.Averages.{IsUpTo, Locate}
@@ -220,3 +221,15 @@ clocks_within list valid script group s history run j k p q =
     same_apart (clock_after list script history j) (clock_after list script history k) (clock_at list script history j) (clock_at list script history k) (spread list)
     (at_beginning list script group s history j run p) (at_beginning list script group s history k run q)
     (held_within list (IsIn list group) s (length history) ran.place.slot (clock_after list script history) (round_notes list history) valid.drift.0 ran.held j k p q)
+
+measured_of : (x y c d e r share : ℤ) → x ≡ c → y ≡ d → (c -ℤ d) ≤ℤ (share +ℤ (e *ℤ pos 2 +ℤ pos 1)) → (d -ℤ c) ≤ℤ (share +ℤ (e *ℤ pos 2 +ℤ pos 1)) → IsUpTo e r
+    → IsUpTo (share +ℤ (e *ℤ pos 3 +ℤ pos 1)) ((x -ℤ y) +ℤ r)
+measured_of x y c d e r share is was apart back error = (omega (arith, ints, is, was, apart, back, error.0, error.1), omega (arith, ints, is, was, apart, back, error.0, error.1))
+
+pub deviations_within : (list : Medl) → IsValid list → HoldsDeviationsWithin list (needed list)
+deviations_within list valid script group s history run within chosen r p a b =
+    measured_of (ready_of list (ready_nodes list script history chosen) p).clock (ready_of list (ready_nodes list script history chosen) r).clock
+    (clock_at list script history p) (clock_at list script history r) list.error (reading_error script r (length history)) (drift_share list)
+    (clock_ready list script history chosen p b.0) (clock_ready list script history chosen r a.0)
+    (clocks_within list valid script group s history run p r b a) (clocks_within list valid script group s history run r p a b)
+    (error_within list script (length history) r run.bounds within a.0)

@@ -3,6 +3,7 @@ ghost use Rattle.std.specs.Prelude.{◌≡◌};
 ghost use Rattle.ttp_world.specs.Hypothesis.{drift_share, needed};
 ghost use Rattle.ttp_world.specs.Medl.{IsWithin, IsValid};
 ghost use Rattle.precision.specs.Spread.{spread};
+ghost use Rattle.precision.specs.Together.{HoldsClocksWithin, HoldsDeviationsWithin};
 
 use ttp_world::Medl;
 
@@ -12,6 +13,7 @@ use ttp_world::Medl;
 pub fn spread(list: &Medl) -> i64
     requires { IsValid list.now }
     ensures value { result ≡ spread list.now }
+    ensures clocks { HoldsClocksWithin list.now result }
 {
     drift_share(list) + (list.error * 2 + 1)
 }
@@ -21,6 +23,7 @@ pub fn spread(list: &Medl) -> i64
 pub fn needed(list: &Medl) -> i64
     requires { IsValid list.now }
     ensures value { result ≡ needed list.now }
+    ensures deviations { HoldsDeviationsWithin list.now result }
 {
     spread(list) + list.error
 }

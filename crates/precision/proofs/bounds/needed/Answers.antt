@@ -1,0 +1,10 @@
+use Rattle.std.proofs.Common.{sym, subst, rules}
+use Rattle.precision.specs.Together.{HoldsDeviationsWithin}
+use Rattle.precision.proofs.Commons.{deviations_within}
+use Rattle.precision.proofs.bounds.needed.Goals as goal
+
+pub returns-clause-value : goal.returns-clause-value
+returns-clause-value c = search rules
+
+pub returns-clause-deviations : goal.returns-clause-deviations
+returns-clause-deviations c = subst (HoldsDeviationsWithin c.args.list.now) (sym (returns-clause-value c)) (deviations_within c.args.list.now c.requires)
