@@ -1,9 +1,9 @@
 -- A script that keeps the list's bounds of clocks: each drift, and each sum of reading errors in a slot of the run, is
 -- within its bound.
-use Rattle.std.proofs.Common.{◌≡◌, ℕ, zero, suc, ◌+◌, ◌<◌, ◌≤◌, ◌⊎◌, inl, inr, ℤ, neg_ℤ, ◌≤ℤ◌, Bool, true, false, not, ◌&&◌, List, [], ◌∷◌, length, Option, Some, None, refl, cond, ap, subst, ◌∙◌, sym, arith}
-use Rattle.std.specs.Prelude.{find, int_le}
+use Rattle.std.proofs.Common.{◌≡◌, ℕ, zero, suc, ◌+◌, ◌<◌, ◌≤◌, ◌⊎◌, inl, inr, ℤ, Bool, true, false, not, ◌&&◌, List, [], ◌∷◌, length, Option, Some, None, refl, cond, ap, ◌∙◌, sym, arith}
+use Rattle.std.specs.Prelude.{find}
 use Rattle.std.specs.List.{list_all, range_with_len}
-use Rattle.std.proofs.lemmas.Bool.{cond_both, false≢true}
+use Rattle.std.proofs.lemmas.Bool.{false≢true}
 use Rattle.std.proofs.lemmas.Int.{ints}
 use Rattle.ttp_base.specs.NodeSet.{below}
 use Rattle.ttp_world.specs.declared.medl.Medl.{Medl}
@@ -25,9 +25,11 @@ holds_at p a (suc n) k all low high = elim (here_or_later a k low) [
     and_first : (b c : Bool) → (b && c) ≡ true → b ≡ true
     and_first true c h = refl
     and_first false c h = h
+
     and_second : (b c : Bool) → (b && c) ≡ true → c ≡ true
     and_second true c h = h
     and_second false c h = absurd (false≢true h)
+
     here_or_later : (a k : ℕ) → a ≤ k → (a ≡ k) ⊎ (a + 1 ≤ k)
     here_or_later a k low = grind arith
 

@@ -1,7 +1,7 @@
 pub mod Averages
-pub mod Begins
 pub mod ClockBounds
-pub mod Commons
+pub mod Entries
+pub mod Frames
 pub mod Rounds
-pub mod Slots
+pub mod Runs
 pub mod Sorted

@@ -1,7 +1,7 @@
 -- A group of nodes with clocks and notes: what one slot more, and the correction at the end of a round, make of them.
 --
 -- The clocks are those after slot t - 1, which is slot m of its round; the group began in slot s.
-use Rattle.std.proofs.Common.{◌≡◌, ℕ, zero, suc, ◌≢◌, ◌+◌, ◌*◌, ◌<◌, ◌≤◌, ℤ, pos, negsuc, ◌+ℤ◌, ◌-ℤ◌, ◌*ℤ◌, ◌≤ℤ◌, Bool, true, false, cond, ◌⊎◌, inl, inr, List, [], ◌∷◌, ◌++◌, length, refl, ap, sym, subst, ◌∙◌, mul-le-mul_left, arith}
+use Rattle.std.proofs.Common.{◌≡◌, ℕ, suc, ◌≢◌, ◌+◌, ◌*◌, ◌<◌, ◌≤◌, ℤ, pos, negsuc, ◌+ℤ◌, ◌-ℤ◌, ◌*ℤ◌, ◌≤ℤ◌, Bool, true, false, cond, ◌⊎◌, inl, inr, List, [], ◌∷◌, ◌++◌, length, refl, ap, sym, subst, ◌∙◌, mul-le-mul_left, arith}
 use Rattle.std.specs.Prelude.{◌==◌}
 use Rattle.std.proofs.lemmas.Bool.{eqb-true, eqb-false}
 use Rattle.std.proofs.lemmas.Int.{ints}
@@ -119,16 +119,16 @@ pub inside_round : (list : Medl) (group : ℕ → Type 0) (s t m : ℕ) (clock l
     → ((k : ℕ) → group k → all k ≡ added k ++ notes k) → Uncorrected list group s (suc t) (suc m) later all
 inside_round list group s t m clock later notes added all new up before moved noted is = record {
   apart = λ j k p q. apart_more (after_average list) list.drift (drift_in list (suc m)) (drift_in list (suc (suc m))) (clock j) (clock k) (later j) (later k)
-    (before.apart j k p q) (moved j p) (moved k q) (product_more list.drift (suc m) up);
+      (before.apart j k p q) (moved j p) (moved k q) (product_more list.drift (suc m) up);
   first = λ early j k p q. apart_more (list.error +ℤ list.error) list.drift (drift_in list (suc m)) (drift_in list (suc (suc m))) (clock j) (clock k) (later j) (later k)
-    (before.first (omega (arith, early)) j k p q) (moved j p) (moved k q) (product_more list.drift (suc m) up);
+      (before.first (omega (arith, early)) j k p q) (moved j p) (moved k q) (product_more list.drift (suc m) up);
   frames = new ++ before.frames;
   located = λ k p. subst (λ ns. Locate (list.error +ℤ drift_in list (suc (suc m))) (later k) ns (new ++ before.frames)) (sym (is k p))
-    (Locate-append (list.error +ℤ drift_in list (suc (suc m))) (later k) (added k) new (notes k) before.frames
-    (Locate-wider (list.error +ℤ list.drift) (list.error +ℤ drift_in list (suc (suc m))) (later k) (added k) new
-    (add_below list.error list.drift (drift_in list (suc (suc m))) (product_once list.drift (suc m) up)) (noted k p))
-    (Locate-later (list.error +ℤ drift_in list (suc m)) list.drift (list.error +ℤ drift_in list (suc (suc m))) (clock k) (later k) (notes k) before.frames (moved k p)
-    (add_three list.error (drift_in list (suc m)) (drift_in list (suc (suc m))) list.drift (product_more list.drift (suc m) up)) (before.located k p)));
+      (Locate-append (list.error +ℤ drift_in list (suc (suc m))) (later k) (added k) new (notes k) before.frames
+      (Locate-wider (list.error +ℤ list.drift) (list.error +ℤ drift_in list (suc (suc m))) (later k) (added k) new
+      (add_below list.error list.drift (drift_in list (suc (suc m))) (product_once list.drift (suc m) up)) (noted k p))
+      (Locate-later (list.error +ℤ drift_in list (suc m)) list.drift (list.error +ℤ drift_in list (suc (suc m))) (clock k) (later k) (notes k) before.frames (moved k p)
+      (add_three list.error (drift_in list (suc m)) (drift_in list (suc (suc m))) list.drift (product_more list.drift (suc m) up)) (before.located k p)));
 }
 
 -- after the end of a round they are the first
@@ -137,16 +137,16 @@ pub new_round : (list : Medl) (group : ℕ → Type 0) (s t : ℕ) (clock later 
     → ((k : ℕ) → group k → all k ≡ added k) → Uncorrected list group s (suc t) 0 later all
 new_round list group s t clock later added all new up began before moved noted is = record {
   apart = λ j k p q. apart_anew (after_average list) list.drift (drift_in list 1) (clock j) (clock k) (later j) (later k)
-    (before j k p q) (moved j p) (moved k q) (product_one list.drift up);
+      (before j k p q) (moved j p) (moved k q) (product_one list.drift up);
   first = λ early. absurd (omega (arith, early, began));
   frames = new;
   located = λ k p. subst (λ ns. Locate (list.error +ℤ drift_in list 1) (later k) ns new) (sym (is k p))
-    (Locate-wider (list.error +ℤ list.drift) (list.error +ℤ drift_in list 1) (later k) (added k) new
-    (add_below list.error list.drift (drift_in list 1) (product_once list.drift 0 up)) (noted k p));
+      (Locate-wider (list.error +ℤ list.drift) (list.error +ℤ drift_in list 1) (later k) (added k) new
+      (add_below list.error list.drift (drift_in list 1) (product_once list.drift 0 up)) (noted k p));
 }
 
-begun_apart : (e p q d x y z : ℤ) → IsUpTo (e +ℤ d) (y -ℤ x) → IsUpTo (e +ℤ d) (z -ℤ x) → d ≤ℤ q → (y -ℤ z) ≤ℤ ((e +ℤ e) +ℤ (q +ℤ q))
-begun_apart e p q d x y z h g wide = omega (arith, ints, h.0, h.1, g.0, g.1, wide)
+begun_apart : (e q d x y z : ℤ) → IsUpTo (e +ℤ d) (y -ℤ x) → IsUpTo (e +ℤ d) (z -ℤ x) → d ≤ℤ q → (y -ℤ z) ≤ℤ ((e +ℤ e) +ℤ (q +ℤ q))
+begun_apart e q d x y z h g wide = omega (arith, ints, h.0, h.1, g.0, g.1, wide)
 
 more_apart : (a b c z : ℤ) → z ≤ℤ (a +ℤ c) → a ≤ℤ b → z ≤ℤ (b +ℤ c)
 more_apart a b c z h wide = omega (arith, ints, h, wide)
@@ -160,19 +160,19 @@ pub begun_round : (list : Medl) (group : ℕ → Type 0) (s t m : ℕ) (frame : 
     → Uncorrected list group s t m clock notes
 begun_round list group s t m frame clock notes new up near noted =
     let wide : list.drift ≤ℤ drift_in list (suc m) = product_once list.drift m up in
-    let start : AreWithin group clock (drifted list (list.error +ℤ list.error) m) = λ j k p q. begun_apart list.error list.drift (drift_in list (suc m)) list.drift frame (clock j) (clock k) (near j p) (near k q) wide in
+    let start : AreWithin group clock (drifted list (list.error +ℤ list.error) m) = λ j k p q. begun_apart list.error (drift_in list (suc m)) list.drift frame (clock j) (clock k) (near j p) (near k q) wide in
     record {
       apart = λ j k p q. more_apart (list.error +ℤ list.error) (after_average list) (drift_in list (suc m) +ℤ drift_in list (suc m)) (clock j -ℤ clock k) (start j k p q)
-        (average_more list.error (drift_in list (length list.slots)) (product_up list.drift (length list.slots) up));
+          (average_more list.error (drift_in list (length list.slots)) (product_up list.drift (length list.slots) up));
       first = λ early. start;
       frames = new;
       located = λ k p. Locate-wider (list.error +ℤ list.drift) (list.error +ℤ drift_in list (suc m)) (clock k) (notes k) new
-        (add_below list.error list.drift (drift_in list (suc m)) wide) (noted k p);
+          (add_below list.error list.drift (drift_in list (suc m)) wide) (noted k p);
     }
 
 -- The correction.
 
-plus_none : (z : ℤ) → z +ℤ pos 0 ≡ z
+pub plus_none : (z : ℤ) → z +ℤ pos 0 ≡ z
 plus_none z = omega (arith, ints)
 
 both_at : (w v e n b : ℤ) → w ≡ (e +ℤ n) → b ≡ (n +ℤ n) +ℤ ((e +ℤ e) +ℤ pos 1) → v ≤ℤ ((w +ℤ w) +ℤ pos 1) → v ≤ℤ b
@@ -200,12 +200,12 @@ averaged list group s t m clock notes ends held enough j k p q =
     elim (few_or_many (length (notes j))) [
       | inl few ↦ elim (early_or_late t (s + suc m)) [
         | inl early ↦ neither_at list.error (drift_in list (length list.slots)) (drift_in list (suc m)) (clock j) (clock k) (fta (notes j)) (fta (notes k))
-          slots (fta-few (notes j) few) (fta-few (notes k) (omega (arith, few, same))) (held.first early j k p q)
+            slots (fta-few (notes j) few) (fta-few (notes k) (omega (arith, few, same))) (held.first early j k p q)
         | inr late ↦ absurd (omega (arith, few, enough (omega (arith, late, ends)) j p))
       ]
       | inr many ↦ both_at (list.error +ℤ drift_in list (suc m)) ((clock j +ℤ fta (notes j)) -ℤ (clock k +ℤ fta (notes k))) list.error (drift_in list (length list.slots)) (after_average list)
-        (ap (λ z. list.error +ℤ z) slots) refl
-        (corrected_apart (list.error +ℤ drift_in list (suc m)) (clock j) (clock k) (notes j) (notes k) held.frames (held.located j p) (held.located k q) many (omega (arith, same, many)))
+          (ap (λ z. list.error +ℤ z) slots) refl
+          (corrected_apart (list.error +ℤ drift_in list (suc m)) (clock j) (clock k) (notes j) (notes k) held.frames (held.located j p) (held.located k q) many (omega (arith, same, many)))
     ]
 
 -- clocks that are these are as far apart

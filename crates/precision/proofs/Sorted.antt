@@ -1,6 +1,6 @@
 -- Sorting keeps lists near one another: where each number of one list exceeds that of another by no more than c, so it is
 -- with both in ascending order.
-use Rattle.std.proofs.Common.{◌≡◌, ℕ, suc, ℤ, ◌+ℤ◌, ◌≤ℤ◌, Bool, true, false, cond, List, [], ◌∷◌, length, refl, ap, sym, ◌∙◌, arith}
+use Rattle.std.proofs.Common.{◌≡◌, suc, ℤ, ◌+ℤ◌, ◌≤ℤ◌, true, false, cond, List, [], ◌∷◌, length, refl, ap, ◌∙◌, arith}
 use Rattle.std.specs.Prelude.{int_le}
 use Rattle.std.proofs.lemmas.Bool.{cond_both}
 use Rattle.std.proofs.lemmas.Int.{ints}
@@ -79,11 +79,15 @@ AreBelow-insert c x y (u ∷ xs) (v ∷ ys) p q near rest =
     cond_both (int_le x u) (x ∷ u ∷ xs) (u ∷ insert_sorted x xs) (λ zs. AreBelow c zs (cond (int_le y v) (y ∷ v ∷ ys) (v ∷ insert_sorted y ys)))
     (λ xu. cond_both (int_le y v) (y ∷ v ∷ ys) (v ∷ insert_sorted y ys) (AreBelow c (x ∷ u ∷ xs))
     (λ yv. (near, rest))
-    (λ yv. (below_trans c x u v (le_of_test x u xu) rest.0,
-    AreBelow-front c u xs (insert_sorted y ys) p.0 (AreBelow-insert c u y xs ys p.1 q.1 (below_up c u v y rest.0 (ge_of_test y v yv)) rest.1))))
+    (λ yv. (
+      below_trans c x u v (le_of_test x u xu) rest.0,
+      AreBelow-front c u xs (insert_sorted y ys) p.0 (AreBelow-insert c u y xs ys p.1 q.1 (below_up c u v y rest.0 (ge_of_test y v yv)) rest.1),
+    )))
     (λ xu. cond_both (int_le y v) (y ∷ v ∷ ys) (v ∷ insert_sorted y ys) (AreBelow c (u ∷ insert_sorted x xs))
-    (λ yv. (below_trans c u x y (ge_of_test x u xu) near,
-    AreBelow-back c v ys (insert_sorted x xs) q.0 (AreBelow-insert c x v xs ys p.1 q.1 (below_up c x y v near (le_of_test y v yv)) rest.1)))
+    (λ yv. (
+      below_trans c u x y (ge_of_test x u xu) near,
+      AreBelow-back c v ys (insert_sorted x xs) q.0 (AreBelow-insert c x v xs ys p.1 q.1 (below_up c x y v near (le_of_test y v yv)) rest.1),
+    ))
     (λ yv. (rest.0, AreBelow-insert c x y xs ys p.1 q.1 near rest.1)))
 
 pub AreBelow-sorted : (c : ℤ) (xs ys : List ℤ) → AreBelow c xs ys → AreBelow c (sorted xs) (sorted ys)

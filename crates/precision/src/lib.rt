@@ -27,3 +27,5 @@ mod bounds;
 
 pub use bounds::{needed, spread};
 
+#[cfg(test)]
+mod tests;

@@ -1,6 +1,6 @@
 use Rattle.std.proofs.Common.{sym, subst, rules}
 use Rattle.precision.specs.Together.{HoldsDeviationsWithin}
-use Rattle.precision.proofs.Commons.{deviations_within}
+use Rattle.precision.proofs.Runs.{deviations_within}
 use Rattle.precision.proofs.bounds.needed.Goals as goal
 
 pub returns-clause-value : goal.returns-clause-value

@@ -1,6 +1,6 @@
 use Rattle.std.proofs.Common.{sym, subst, rules}
 use Rattle.precision.specs.Together.{HoldsClocksWithin}
-use Rattle.precision.proofs.Commons.{clocks_within}
+use Rattle.precision.proofs.Runs.{clocks_within}
 use Rattle.precision.proofs.bounds.spread.Goals as goal
 
 pub returns-clause-value : goal.returns-clause-value

@@ -1,13 +1,12 @@
 -- Nodes that run together: in each slot all are at the same place, and their clocks are held.
-use Rattle.std.proofs.Common.{◌≡◌, ◌≢◌, ℕ, suc, ◌+◌, ◌<◌, ◌≤◌, ℤ, pos, neg_ℤ, ◌+ℤ◌, ◌-ℤ◌, ◌*ℤ◌, ◌≤ℤ◌, Bool, true, false, cond, ◌⊎◌, inl, inr, List, [], ◌∷◌, ◌++◌, length, None, refl, ap, sym, subst, ◌∙◌, arith}
-use Rattle.std.specs.Prelude.{◌==◌, IsTrue}
+use Rattle.std.proofs.Common.{◌≡◌, ◌≢◌, ℕ, suc, ◌+◌, ◌<◌, ◌≤◌, ℤ, pos, ◌+ℤ◌, ◌-ℤ◌, ◌*ℤ◌, ◌≤ℤ◌, Bool, true, false, inl, inr, List, [], ◌∷◌, length, None, refl, ap, sym, subst, ◌∙◌, arith}
+use Rattle.std.specs.Prelude.{◌==◌}
 use Rattle.std.proofs.lemmas.Bool.{cond_both, eqb-true, eqb-false}
 use Rattle.std.proofs.lemmas.Int.{ints}
 use Rattle.ttp_world.specs.declared.medl.Medl.{Medl}
-use Rattle.ttp_world.specs.declared.node.Chosen.{Chosen}
 use Rattle.ttp_world.specs.declared.node.Entry.{Entry}
 use Rattle.ttp_world.specs.declared.script.Script.{Script}
-use Rattle.ttp_world.specs.Clock.{join_deviation, notes_in, notes_of, stint_notes, offset_of}
+use Rattle.ttp_world.specs.Clock.{join_deviation, notes_in, stint_notes, offset_of}
 use Rattle.ttp_world.specs.Diary.{History, entry_of, diary_of, continues_stint, begins_stint, Place, next_place, stint_place, place_of, ends_round}
 use Rattle.ttp_world.specs.Hypothesis.{drift_share, needed, clocks_broken}
 use Rattle.ttp_world.specs.Medium.{surroundings_in, surroundings_of}
@@ -15,12 +14,12 @@ use Rattle.ttp_world.specs.Medl.{IsValid}
 use Rattle.ttp_world.specs.Script.{drift_of, jump_of, reading_error}
 use Rattle.ttp_world.specs.World.{ready_nodes, ready_of}
 use Rattle.precision.specs.Spread.{spread}
-use Rattle.precision.specs.Together.{IsIn, BeginsOn, BeganTogether, NotedAlike, Nothing, OneFrame, StayedTogether, RanTogether, NoneJumps, IsCommonRun, clock_at, measured, HoldsClocksWithin, HoldsDeviationsWithin}
+use Rattle.precision.specs.Together.{IsIn, BeganTogether, NotedAlike, Nothing, OneFrame, StayedTogether, RanTogether, NoneJumps, IsCommonRun, clock_at, HoldsClocksWithin, HoldsDeviationsWithin}
 use Rattle.precision.proofs.Averages.{IsUpTo, Locate}
-use Rattle.precision.proofs.Begins.{frame_of, RunsFrom, moved, begun_stint, begun_place, begun_near, frames_at, begun_noted, told_noted, joins_nothing}
+use Rattle.precision.proofs.Frames.{frame_of, RunsFrom, moved, begun_stint, begun_place, begun_near, frames_at, begun_noted, told_noted, joins_nothing}
 use Rattle.precision.proofs.ClockBounds.{drift_within, error_within}
-use Rattle.precision.proofs.Rounds.{after_average, AreWithin, HaveDrifted, HaveNoted, Uncorrected, Held, Corrected, Running, inside_round, new_round, begun_round, correction, held_after, same_apart, held_within}
-use Rattle.precision.proofs.Slots.{keeps_active, begun_active, continued_active, place_of-active, notes_of-active, place_continued, notes_anew, notes_more, begun_round_first, first_slot_first, later_slot_later, uncorrected, offset_corrected, clock_at-still, clock_ready}
+use Rattle.precision.proofs.Rounds.{HaveNoted, Uncorrected, Held, Corrected, Running, inside_round, new_round, begun_round, correction, held_after, same_apart, held_within}
+use Rattle.precision.proofs.Entries.{keeps_active, begun_active, continued_active, place_of-active, notes_of-active, place_continued, notes_anew, notes_more, begun_round_first, first_slot_first, later_slot_later, offset_corrected, clock_at-still, clock_ready}
 
 -- node k's clock after a history, and its notes of the newest slot's round
 abbrev clock_after : Medl → Script → History → ℕ → ℤ
@@ -61,25 +60,31 @@ began_kept list script group s row history first on began = record {
   inside = began.inside;
   places = places;
   held = held_after list (IsIn list group) s (suc (length history)) place.slot clock (clock_after list script (row ∷ history)) (round_notes list (row ∷ history)) began.inside
-    (begun_round list (IsIn list group) s (suc (length history)) place.slot frame clock (round_notes list (row ∷ history)) (frames_at list place frame) on.up near
-    (λ k p. subst (λ ns. Locate (list.error +ℤ list.drift) (clock k) ns (frames_at list place frame)) (sym (notes k p))
-    (begun_noted list script history began.sender k place (list.error +ℤ list.drift) (clock k) frame (entry_of row k) (began.begins k p) (near k p))))
-    (λ ends late k p. absurd (omega (arith, late, first, began.inside)))
-    (λ k p. clock_next list script row history k place (on.still k p) (begun_active (entry_of row k) (begins k p)) (places k p));
+      (begun_round list (IsIn list group) s (suc (length history)) place.slot frame clock (round_notes list (row ∷ history)) (frames_at list place frame) on.up near
+      (λ k p. subst (λ ns. Locate (list.error +ℤ list.drift) (clock k) ns (frames_at list place frame)) (sym (notes k p))
+      (begun_noted list script history began.sender k place (list.error +ℤ list.drift) (clock k) frame (entry_of row k) (began.begins k p) (near k p))))
+      (λ ends late k p. absurd (omega (arith, late, first, began.inside)))
+      (λ k p. clock_next list script row history k place (on.still k p) (begun_active (entry_of row k) (begins k p)) (places k p));
 }
   where
     place : Place
     place = began.place
+
     frame : ℤ
     frame = frame_of list script history began.sender
+
     clock : ℕ → ℤ
     clock k = moved script k (clock_after list script history k) (join_deviation (entry_of row k))
+
     begins : (k : ℕ) → IsIn list group k → begins_stint (entry_of row k) ≡ true
     begins k p = begun_stint list script history began.sender k began.place (entry_of row k) (began.begins k p)
+
     places : (k : ℕ) → IsIn list group k → stint_place list k (diary_of (row ∷ history) k) ≡ began.place
     places k p = begun_place list script history began.sender k began.place (diary_of history k) (entry_of row k) (began.begins k p)
+
     notes : (k : ℕ) → IsIn list group k → round_notes list (row ∷ history) k ≡ notes_in list began.place (entry_of row k)
     notes k p = notes_anew list k (diary_of history k) (entry_of row k) began.place (places k p) (begun_round_first began.place (entry_of row k) (begins k p))
+
     near : (k : ℕ) → IsIn list group k → IsUpTo (list.error +ℤ list.drift) (clock k -ℤ frame)
     near k p = begun_near list script history began.sender k began.place (clock_after list script history k) (entry_of row k) (on.runs k p) (began.begins k p)
 
@@ -109,9 +114,11 @@ clock_moved list script history k = moved script k (clock_after list script hist
 noted_alike : (list : Medl) (script : Script) (group : ℕ → Bool) (row : List Entry) (history : History) (place : Place) → RunsOn list script group history
     → ((k : ℕ) → IsIn list group k → place_of list k (diary_of (row ∷ history) k) ≡ place) → NotedAlike list script group row history
     → (new : List ℤ) × HaveNoted (IsIn list group) (list.error +ℤ list.drift) (clock_moved list script history) (λ k. notes_in list place (entry_of row k)) new
-noted_alike list script group row history place on places (Nothing none) =
-    ([], λ k p. subst (λ ns. Locate (list.error +ℤ list.drift) (clock_moved list script history k) ns [])
-    (sym (none k p) ∙ ap (λ there. notes_in list there (entry_of row k)) (places k p)) tt)
+noted_alike list script group row history place on places (Nothing none) = (
+  [],
+  λ k p. subst (λ ns. Locate (list.error +ℤ list.drift) (clock_moved list script history k) ns [])
+      (sym (none k p) ∙ ap (λ there. notes_in list there (entry_of row k)) (places k p)) tt,
+)
 noted_alike list script group row history place on places (OneFrame p tells) =
     (frames_at list place (frame_of list script history p), λ k q. told_noted list script history p k place (clock_after list script history k) (entry_of row k) (on.runs k q) (tells k q))
 
@@ -151,19 +158,22 @@ stayed_kept list script group s row history later on stayed before = record {
   inside = next_inside list before.place before.inside;
   places = places;
   held = held_after list (IsIn list group) s (suc (length history)) (next_place list before.place).slot (clock_moved list script history) (clock_after list script (row ∷ history))
-    (round_notes list (row ∷ history)) (next_inside list before.place before.inside)
-    (stayed_uncorrected list script group s row history before.place told.0 on later stayed.active places told.1 before.held)
-    enough
-    (λ k p. clock_next list script row history k (next_place list before.place) (on.still k p) (continued_active (entry_of row k) (stayed.active k p)) (places k p)
-    ∙ ap (λ z. moved script k (clock_after list script history k) z +ℤ correction list (next_place list before.place).slot (round_notes list (row ∷ history) k)) (joins_nothing (entry_of row k) (stayed.active k p)));
+      (round_notes list (row ∷ history)) (next_inside list before.place before.inside)
+      (stayed_uncorrected list script group s row history before.place told.0 on later stayed.active places told.1 before.held)
+      enough
+      (λ k p. clock_next list script row history k (next_place list before.place) (on.still k p) (continued_active (entry_of row k) (stayed.active k p)) (places k p)
+      ∙ ap (λ z. moved script k (clock_after list script history k) z +ℤ correction list (next_place list before.place).slot (round_notes list (row ∷ history) k)) (joins_nothing (entry_of row k) (stayed.active k p)));
 }
   where
     places : (k : ℕ) → IsIn list group k → stint_place list k (diary_of (row ∷ history) k) ≡ next_place list before.place
     places k p = place_continued list k (diary_of history k) (entry_of row k) (stayed.active k p) ∙ ap (next_place list) (before.places k p)
+
     public_places : (k : ℕ) → IsIn list group k → place_of list k (diary_of (row ∷ history) k) ≡ next_place list before.place
     public_places k p = place_of-active list k (diary_of history k) (entry_of row k) (continued_active (entry_of row k) (stayed.active k p)) ∙ places k p
+
     told : (new : List ℤ) × HaveNoted (IsIn list group) (list.error +ℤ list.drift) (clock_moved list script history) (λ k. notes_in list (next_place list before.place) (entry_of row k)) new
     told = noted_alike list script group row history (next_place list before.place) on public_places stayed.noted
+
     enough : suc (next_place list before.place).slot ≡ length list.slots → s + length list.slots < suc (length history) → (k : ℕ) → IsIn list group k
         → 4 ≤ length (round_notes list (row ∷ history) k)
     enough ends late k p =

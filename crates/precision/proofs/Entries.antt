@@ -1,13 +1,11 @@
 -- What one slot makes of a node that begins a stint in it or goes on: its place, its notes and its clock.
-use Rattle.std.proofs.Common.{◌≡◌, ℕ, suc, ◌<◌, ℤ, pos, ◌+ℤ◌, ◌-ℤ◌, Bool, true, false, cond, ◌||◌, List, [], ◌∷◌, ◌++◌, length, get_or, map, refl, ap, sym, ◌∙◌, arith}
-use Rattle.std.specs.Prelude.{◌==◌, IsTrue}
-use Rattle.std.specs.Option.{option_to_list}
+use Rattle.std.proofs.Common.{◌≡◌, ℕ, suc, ◌<◌, ℤ, pos, ◌+ℤ◌, Bool, true, false, cond, ◌||◌, List, [], ◌∷◌, ◌++◌, length, refl, ap, ◌∙◌, arith}
+use Rattle.std.specs.Prelude.{◌==◌}
 use Rattle.std.proofs.lemmas.Bool.{false≢true}
 use Rattle.std.proofs.Math.Bool.{or-true}
 use Rattle.std.proofs.lemmas.List.{append-nil}
 use Rattle.std.proofs.lemmas.Int.{ints}
 use Rattle.std.proofs.lemmas.List.FromFn.{get_or-map-range_with_len}
-use Rattle.ttp_base.specs.NodeSet.{below}
 use Rattle.ttp_world.specs.declared.medl.Medl.{Medl}
 use Rattle.ttp_world.specs.declared.node.Act.{Act}
 use Rattle.ttp_world.specs.declared.node.Act.TheVariants as act
@@ -15,17 +13,15 @@ use Rattle.ttp_world.specs.declared.node.Chosen.{Chosen}
 use Rattle.ttp_world.specs.declared.node.Entry.{Entry}
 use Rattle.ttp_world.specs.declared.node.Entry.TheVariants as entry
 use Rattle.ttp_world.specs.declared.script.Script.{Script}
-use Rattle.ttp_world.specs.Acknowledgement.{is_correct}
-use Rattle.ttp_world.specs.Clock.{deviation_noted, notes_in, begins_round, stint_notes, notes_of, fta, join_deviation, slot_change, correction_of, offset_of}
-use Rattle.ttp_world.specs.Diary.{Diary, History, SlotSurroundings, Surroundings, is_active, begins_stint, continues_stint, Place, next_place, stint_place, place_of, ends_round, diary_of}
+use Rattle.ttp_world.specs.Clock.{notes_in, begins_round, stint_notes, notes_of, fta, join_deviation, slot_change, correction_of, offset_of}
+use Rattle.ttp_world.specs.Diary.{Diary, History, SlotSurroundings, Surroundings, begins_stint, continues_stint, Place, next_place, stint_place, place_of, ends_round, diary_of}
 use Rattle.ttp_world.specs.Medium.{surroundings_of}
-use Rattle.ttp_world.specs.Medl.{plan_at}
 use Rattle.ttp_world.specs.Outgoing.{nothing_chosen}
-use Rattle.ttp_world.specs.Script.{drift_of, jump_of}
+use Rattle.ttp_world.specs.Script.{jump_of}
 use Rattle.ttp_world.specs.World.{jump_taken, ReadyNode, ready_node, ready_nodes, node_past, ready_of, chosen_of, no_node}
 use Rattle.ttp_world.proofs.Pasts.{elim-cond}
-use Rattle.precision.specs.Together.{clock_at, measured}
-use Rattle.precision.proofs.Rounds.{correction}
+use Rattle.precision.specs.Together.{clock_at}
+use Rattle.precision.proofs.Rounds.{plus_none, correction}
 
 -- Entries of active nodes: those that begin or continue a stint.
 
@@ -128,9 +124,6 @@ offset_corrected list k diary surroundings e s place active is =
     ∙ ap (λ c. uncorrected list k diary surroundings e s +ℤ c) (correction_of-active list k diary e active ∙ ap (λ (p : Place). correction list p.slot (stint_notes list k (e ∷ diary))) is)
 
 -- The beginning of a slot.
-
-plus_none : (z : ℤ) → z +ℤ pos 0 ≡ z
-plus_none z = omega (arith, ints)
 
 no_jump_taken : (a : Act) → jump_taken a (pos 0) ≡ pos 0
 no_jump_taken act.Off = refl

@@ -1,6 +1,5 @@
 -- What a node notes of a frame, by its entry: its clock and the note together tell where the frame was.
-use Rattle.std.proofs.Common.{◌≡◌, ℕ, ◌<◌, ℤ, pos, neg_ℤ, ◌+ℤ◌, ◌-ℤ◌, ◌≤ℤ◌, Bool, true, false, cond, List, [], ◌∷◌, length, Option, Some, None, refl, ap, sym, subst, ◌∙◌, arith}
-use Rattle.std.specs.Prelude.{IsTrue}
+use Rattle.std.proofs.Common.{◌≡◌, ℕ, ◌<◌, ℤ, pos, ◌+ℤ◌, ◌-ℤ◌, ◌≤ℤ◌, Bool, true, false, cond, List, [], ◌∷◌, length, Some, None, refl, ap, sym, subst, ◌∙◌, arith}
 use Rattle.std.specs.Option.{option_to_list}
 use Rattle.std.proofs.lemmas.Bool.{false≢true}
 use Rattle.std.proofs.lemmas.Int.{ints}
@@ -8,16 +7,14 @@ use Rattle.ttp_world.specs.declared.medl.Medl.{Medl}
 use Rattle.ttp_world.specs.declared.node.Entry.{Entry}
 use Rattle.ttp_world.specs.declared.node.Entry.TheVariants as entry
 use Rattle.ttp_world.specs.declared.script.Script.{Script}
-use Rattle.ttp_world.specs.Acknowledgement.{is_correct}
 use Rattle.ttp_world.specs.Clock.{join_deviation, notes_in}
-use Rattle.ttp_world.specs.Diary.{Diary, History, begins_stint, continues_stint, Place, stint_place, diary_of}
-use Rattle.ttp_world.specs.Medium.{surroundings_of}
+use Rattle.ttp_world.specs.Diary.{Diary, History, begins_stint, continues_stint, Place, stint_place}
 use Rattle.ttp_world.specs.Medl.{plan_at}
-use Rattle.ttp_world.specs.Script.{drift_of, jump_of, reading_error}
+use Rattle.ttp_world.specs.Script.{drift_of, reading_error}
 use Rattle.ttp_world.specs.World.{ready_nodes, ready_of}
 use Rattle.precision.specs.Together.{clock_at, measured, BeginsOn, TellsOf}
 use Rattle.precision.proofs.Averages.{IsUpTo, Locate}
-use Rattle.precision.proofs.Slots.{clock_ready, clock_at-still}
+use Rattle.precision.proofs.Entries.{clock_ready}
 
 -- when a frame of node p begins in the slot after a history, by node p's clock
 abbrev pub frame_of : Medl → Script → History → ℕ → ℤ
