@@ -226,6 +226,7 @@ at_beginning list script group s history k run p =
     clock_at-still list script history k (run.jumps k (length history) p (omega (arith, later)) (omega arith))
 
 pub clocks_within : (list : Medl) → IsValid list → HoldsClocksWithin list (spread list)
+unfolding HoldsClocksWithin
 clocks_within list valid script group s history run j k p q =
     let ran : Kept list script group s history = kept list script group s history valid run.bounds run.within run.jumps run.together in
     same_apart (clock_after list script history j) (clock_after list script history k) (clock_at list script history j) (clock_at list script history k) (spread list)
@@ -237,6 +238,7 @@ measured_of : (x y c d e r share : ℤ) → x ≡ c → y ≡ d → (c -ℤ d) �
 measured_of x y c d e r share is was apart back error = (omega (arith, ints, is, was, apart, back, error.0, error.1), omega (arith, ints, is, was, apart, back, error.0, error.1))
 
 pub deviations_within : (list : Medl) → IsValid list → HoldsDeviationsWithin list (needed list)
+unfolding HoldsClocksWithin HoldsDeviationsWithin
 deviations_within list valid script group s history run within chosen r p a b =
     measured_of (ready_of list (ready_nodes list script history chosen) p).clock (ready_of list (ready_nodes list script history chosen) r).clock
     (clock_at list script history p) (clock_at list script history r) list.error (reading_error script r (length history)) (drift_share list)

@@ -98,14 +98,14 @@ pub record IsCommonRun (list : Medl) (script : Script) (group : ℕ → Bool) (s
   pub together : RanTogether list script group s history
 
 -- the clocks of any two nodes that ran together are then no further apart
-abbrev pub HoldsClocksWithin : Medl → ℤ → Type 0
+unfoldable pub HoldsClocksWithin : Medl → ℤ → Type 0
 HoldsClocksWithin list bound =
     (script : Script) (group : ℕ → Bool) (s : ℕ) (history : History) → IsCommonRun list script group s history
     → (j k : ℕ) → IsIn list group j → IsIn list group k
     → (clock_at list script history j -ℤ clock_at list script history k) ≤ℤ bound
 
 -- what one of them measures of another's frame then lies no further from 0, whatever is sent
-abbrev pub HoldsDeviationsWithin : Medl → ℤ → Type 0
+unfoldable pub HoldsDeviationsWithin : Medl → ℤ → Type 0
 HoldsDeviationsWithin list bound =
     (script : Script) (group : ℕ → Bool) (s : ℕ) (history : History) → IsCommonRun list script group s history → length history < script.slots
     → (chosen : List Chosen) (r p : ℕ) → IsIn list group r → IsIn list group p
