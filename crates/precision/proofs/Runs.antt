@@ -62,7 +62,7 @@ began_kept list script group s row history first on began = record {
   held = held_after list (IsIn list group) s (suc (length history)) place.slot clock (clock_after list script (row ∷ history)) (round_notes list (row ∷ history)) began.inside
       (begun_round list (IsIn list group) s (suc (length history)) place.slot frame clock (round_notes list (row ∷ history)) (frames_at list place frame) on.up near
       (λ k p. subst (λ ns. Locate (list.error +ℤ list.drift) (clock k) ns (frames_at list place frame)) (sym (notes k p))
-      (begun_noted list script history began.sender k place (list.error +ℤ list.drift) (clock k) frame (entry_of row k) (began.begins k p) (near k p))))
+      (begun_noted list script history began.chosen began.sender k place (list.error +ℤ list.drift) (clock k) frame (entry_of row k) (began.begins k p) (near k p))))
       (λ ends late k p. absurd (omega (arith, late, first, began.inside)))
       (λ k p. clock_next list script row history k place (on.still k p) (begun_active (entry_of row k) (begins k p)) (places k p));
 }
@@ -71,22 +71,22 @@ began_kept list script group s row history first on began = record {
     place = began.place
 
     frame : ℤ
-    frame = frame_of list script history began.sender
+    frame = frame_of list script history began.chosen began.sender
 
     clock : ℕ → ℤ
     clock k = moved script k (clock_after list script history k) (join_deviation (entry_of row k))
 
     begins : (k : ℕ) → IsIn list group k → begins_stint (entry_of row k) ≡ true
-    begins k p = begun_stint list script history began.sender k began.place (entry_of row k) (began.begins k p)
+    begins k p = begun_stint list script history began.chosen began.sender k began.place (entry_of row k) (began.begins k p)
 
     places : (k : ℕ) → IsIn list group k → stint_place list k (diary_of (row ∷ history) k) ≡ began.place
-    places k p = begun_place list script history began.sender k began.place (diary_of history k) (entry_of row k) (began.begins k p)
+    places k p = begun_place list script history began.chosen began.sender k began.place (diary_of history k) (entry_of row k) (began.begins k p)
 
     notes : (k : ℕ) → IsIn list group k → round_notes list (row ∷ history) k ≡ notes_in list began.place (entry_of row k)
     notes k p = notes_anew list k (diary_of history k) (entry_of row k) began.place (places k p) (begun_round_first began.place (entry_of row k) (begins k p))
 
     near : (k : ℕ) → IsIn list group k → IsUpTo (list.error +ℤ list.drift) (clock k -ℤ frame)
-    near k p = begun_near list script history began.sender k began.place (clock_after list script history k) (entry_of row k) (on.runs k p) (began.begins k p)
+    near k p = begun_near list script history began.chosen began.sender k began.place (clock_after list script history k) (entry_of row k) (on.runs k p) (began.begins k p)
 
 -- Going on.
 
@@ -119,8 +119,8 @@ noted_alike list script group row history place on places (Nothing none) = (
   λ k p. subst (λ ns. Locate (list.error +ℤ list.drift) (clock_moved list script history k) ns [])
       (sym (none k p) ∙ ap (λ there. notes_in list there (entry_of row k)) (places k p)) tt,
 )
-noted_alike list script group row history place on places (OneFrame p tells) =
-    (frames_at list place (frame_of list script history p), λ k q. told_noted list script history p k place (clock_after list script history k) (entry_of row k) (on.runs k q) (tells k q))
+noted_alike list script group row history place on places (OneFrame chosen p tells) =
+    (frames_at list place (frame_of list script history chosen p), λ k q. told_noted list script history chosen p k place (clock_after list script history k) (entry_of row k) (on.runs k q) (tells k q))
 
 -- the clocks and notes after the slot but for the correction
 stayed_uncorrected : (list : Medl) (script : Script) (group : ℕ → Bool) (s : ℕ) (row : List Entry) (history : History) (place : Place) (new : List ℤ)

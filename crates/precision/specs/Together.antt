@@ -22,7 +22,7 @@ use Rattle.ttp_world.specs.World.{node_past, ready_node, ready_nodes, deviation_
 abbrev pub clock_at : Medl → Script → History → ℕ → ℤ
 clock_at list script history k = (ready_node list script (length history) (node_past list script history k) nothing_chosen k).clock
 
--- the deviation that node r measures of a frame of node p in the slot after a history, where hosts chose these messages
+-- the deviation that node r measures of a frame of node p in the slot after a history, for which these messages are chosen
 abbrev pub measured : Medl → Script → History → List Chosen → ℕ → ℕ → ℤ
 measured list script history chosen r p = deviation_in list script (length history) (ready_nodes list script history chosen) r p
 
@@ -33,18 +33,19 @@ abbrev pub IsIn : Medl → (ℕ → Bool) → ℕ → Type 0
 IsIn list group k = (k < length list.slots) × IsTrue (group k)
 
 -- by this entry node k begins a stint at a place, on a frame of node p: its own start, or a join
-abbrev pub BeginsOn : Medl → Script → History → ℕ → Place → ℕ → Entry → Type 0
-BeginsOn list script history p place k entry.Started = (k ≡ p) × (place ≡ start_place k)
-BeginsOn list script history p place k (entry.Joined sender cstate deviation) =
-    (place ≡ joined_place cstate) × (deviation ≡ measured list script history [] k p)
-BeginsOn list script history p place k _ = ⊥
+abbrev pub BeginsOn : Medl → Script → History → List Chosen → ℕ → Place → ℕ → Entry → Type 0
+BeginsOn list script history chosen p place k entry.Started = (k ≡ p) × (place ≡ start_place k)
+BeginsOn list script history chosen p place k (entry.Joined sender cstate deviation) =
+    (place ≡ joined_place cstate) × (deviation ≡ measured list script history chosen k p)
+BeginsOn list script history chosen p place k _ = ⊥
 
 -- in the slot of a row after a history, each node of the group begins on a frame of the same node at the same place
 pub record BeganTogether (list : Medl) (script : Script) (group : ℕ → Bool) (row : List Entry) (history : History) : Type 0 where
+  pub chosen : List Chosen
   pub sender : ℕ
   pub place : Place
   pub inside : place.slot < length list.slots
-  pub begins : (k : ℕ) → IsIn list group k → BeginsOn list script history sender place k (entry_of row k)
+  pub begins : (k : ℕ) → IsIn list group k → BeginsOn list script history chosen sender place k (entry_of row k)
 
 -- Staying together.
 
@@ -54,16 +55,18 @@ newest_notes list k [] = []
 newest_notes list k (e ∷ diary) = notes_in list (place_of list k (e ∷ diary)) e
 
 -- this entry of node k tells of a frame of node p: its own, or one that it found correct and measured
-abbrev pub TellsOf : Medl → Script → History → ℕ → ℕ → Entry → Type 0
-TellsOf list script history p k (entry.Sent message) = k ≡ p
-TellsOf list script history p k (entry.Judged sender v deviation) = IsTrue (is_correct v) × (deviation ≡ measured list script history [] k p)
-TellsOf list script history p k _ = ⊥
+abbrev pub TellsOf : Medl → Script → History → List Chosen → ℕ → ℕ → Entry → Type 0
+TellsOf list script history chosen p k (entry.Sent message) = k ≡ p
+TellsOf list script history chosen p k (entry.Judged sender v deviation) =
+    IsTrue (is_correct v) × (deviation ≡ measured list script history chosen k p)
+TellsOf list script history chosen p k _ = ⊥
 
 -- in the slot of a row after a history, no node of the group notes anything, or the entry of each tells of a frame of
 -- the same node
 pub data NotedAlike (list : Medl) (script : Script) (group : ℕ → Bool) (row : List Entry) (history : History) : Type 0 where
   Nothing : ((k : ℕ) → IsIn list group k → newest_notes list k (diary_of (row ∷ history) k) ≡ []) → NotedAlike list script group row history
-  OneFrame : (p : ℕ) → ((k : ℕ) → IsIn list group k → TellsOf list script history p k (entry_of row k)) → NotedAlike list script group row history
+  OneFrame : (chosen : List Chosen) (p : ℕ) → ((k : ℕ) → IsIn list group k → TellsOf list script history chosen p k (entry_of row k))
+    → NotedAlike list script group row history
 
 -- with this row a round of node k ends that began after slot s
 abbrev pub EndsLaterRound : Medl → ℕ → ℕ → List Entry → History → Type 0
