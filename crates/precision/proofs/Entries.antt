@@ -1,5 +1,5 @@
 -- What one slot makes of a node that begins a stint in it or goes on: its place, its notes and its clock.
-use Rattle.std.proofs.Common.{◌≡◌, ℕ, suc, ◌<◌, ℤ, pos, ◌+ℤ◌, Bool, true, false, cond, ◌||◌, List, [], ◌∷◌, ◌++◌, length, refl, ap, ◌∙◌, arith}
+use Rattle.std.proofs.Common.{◌≡◌, ℕ, suc, ◌<◌, ℤ, pos, ◌+ℤ◌, true, false, cond, ◌||◌, List, [], ◌∷◌, ◌++◌, length, refl, ap, ◌∙◌, arith}
 use Rattle.std.specs.Prelude.{◌==◌}
 use Rattle.std.proofs.lemmas.Bool.{false≢true}
 use Rattle.std.proofs.Math.Bool.{or-true}
@@ -13,6 +13,7 @@ use Rattle.ttp_world.specs.declared.node.Chosen.{Chosen}
 use Rattle.ttp_world.specs.declared.node.Entry.{Entry}
 use Rattle.ttp_world.specs.declared.node.Entry.TheVariants as entry
 use Rattle.ttp_world.specs.declared.script.Script.{Script}
+use Rattle.ttp_world.specs.After.{is_active_entry}
 use Rattle.ttp_world.specs.Clock.{notes_in, begins_round, stint_notes, notes_of, fta, join_deviation, slot_change, correction_of, offset_of}
 use Rattle.ttp_world.specs.Diary.{Diary, History, SlotSurroundings, Surroundings, begins_stint, continues_stint, Place, next_place, stint_place, place_of, ends_round, diary_of}
 use Rattle.ttp_world.specs.Medium.{surroundings_of}
@@ -25,24 +26,24 @@ use Rattle.precision.proofs.Rounds.{plus_none, correction}
 
 -- Entries of active nodes: those that begin or continue a stint.
 
--- an entry after which the node is active
-abbrev pub keeps_active : Entry → Bool
-keeps_active e = begins_stint e || continues_stint e
+pub begun_active : (e : Entry) → begins_stint e ≡ true → is_active_entry e ≡ true
+begun_active entry.Started h = refl
+begun_active (entry.Joined sender cstate deviation) h = refl
+begun_active _ h = absurd (false≢true h)
 
-pub begun_active : (e : Entry) → begins_stint e ≡ true → keeps_active e ≡ true
-begun_active e h = ap (λ b. b || continues_stint e) h
+pub continued_active : (e : Entry) → continues_stint e ≡ true → is_active_entry e ≡ true
+continued_active (entry.Sent message) h = refl
+continued_active (entry.Judged sender v deviation) h = refl
+continued_active _ h = absurd (false≢true h)
 
-pub continued_active : (e : Entry) → continues_stint e ≡ true → keeps_active e ≡ true
-continued_active e h = ap (λ b. begins_stint e || b) h ∙ or-true (begins_stint e)
-
-pub place_of-active : (list : Medl) (k : ℕ) (diary : Diary) (e : Entry) → keeps_active e ≡ true → place_of list k (e ∷ diary) ≡ stint_place list k (e ∷ diary)
+pub place_of-active : (list : Medl) (k : ℕ) (diary : Diary) (e : Entry) → is_active_entry e ≡ true → place_of list k (e ∷ diary) ≡ stint_place list k (e ∷ diary)
 place_of-active list k diary entry.Started h = refl
 place_of-active list k diary (entry.Joined sender cstate deviation) h = refl
 place_of-active list k diary (entry.Sent message) h = refl
 place_of-active list k diary (entry.Judged sender v deviation) h = refl
 place_of-active list k diary _ h = absurd (false≢true h)
 
-pub notes_of-active : (list : Medl) (k : ℕ) (diary : Diary) (e : Entry) → keeps_active e ≡ true → notes_of list k (e ∷ diary) ≡ stint_notes list k (e ∷ diary)
+pub notes_of-active : (list : Medl) (k : ℕ) (diary : Diary) (e : Entry) → is_active_entry e ≡ true → notes_of list k (e ∷ diary) ≡ stint_notes list k (e ∷ diary)
 notes_of-active list k diary entry.Started h = refl
 notes_of-active list k diary (entry.Joined sender cstate deviation) h = refl
 notes_of-active list k diary (entry.Sent message) h = refl
@@ -93,7 +94,7 @@ later_slot_later place e m h goes = (λ i. (h i == 0) || begins_no_stint e goes 
 abbrev pub uncorrected : Medl → ℕ → Diary → Surroundings → Entry → SlotSurroundings → ℤ
 uncorrected list k diary surroundings e s = offset_of list k diary surroundings +ℤ (s.jump +ℤ (s.drift +ℤ join_deviation e))
 
-correction_of-active : (list : Medl) (k : ℕ) (diary : Diary) (e : Entry) → keeps_active e ≡ true
+correction_of-active : (list : Medl) (k : ℕ) (diary : Diary) (e : Entry) → is_active_entry e ≡ true
     → correction_of list k (e ∷ diary) ≡ correction list (stint_place list k (e ∷ diary)).slot (stint_notes list k (e ∷ diary))
 correction_of-active list k diary entry.Started h =
     elim-cond (ends_round list (stint_place list k (entry.Started ∷ diary))) (fta (stint_notes list k (entry.Started ∷ diary))) (pos 0)
@@ -105,7 +106,7 @@ correction_of-active list k diary (entry.Judged sender v deviation) h =
     elim-cond (ends_round list (stint_place list k (entry.Judged sender v deviation ∷ diary))) (fta (stint_notes list k (entry.Judged sender v deviation ∷ diary))) (pos 0)
 correction_of-active list k diary _ h = absurd (false≢true h)
 
-slot_change-active : (e : Entry) (s : SlotSurroundings) (c : ℤ) → keeps_active e ≡ true → slot_change e s c ≡ s.jump +ℤ (s.drift +ℤ (join_deviation e +ℤ c))
+slot_change-active : (e : Entry) (s : SlotSurroundings) (c : ℤ) → is_active_entry e ≡ true → slot_change e s c ≡ s.jump +ℤ (s.drift +ℤ (join_deviation e +ℤ c))
 slot_change-active entry.Started s c h = refl
 slot_change-active (entry.Joined sender cstate deviation) s c h = refl
 slot_change-active (entry.Sent message) s c h = refl
@@ -116,7 +117,7 @@ regroup : (o j d v c : ℤ) → o +ℤ (j +ℤ (d +ℤ (v +ℤ c))) ≡ (o +ℤ 
 regroup o j d v c = omega (arith, ints)
 
 pub offset_corrected : (list : Medl) (k : ℕ) (diary : Diary) (surroundings : Surroundings) (e : Entry) (s : SlotSurroundings) (place : Place)
-    → keeps_active e ≡ true → stint_place list k (e ∷ diary) ≡ place
+    → is_active_entry e ≡ true → stint_place list k (e ∷ diary) ≡ place
     → offset_of list k (e ∷ diary) (s ∷ surroundings) ≡ uncorrected list k diary surroundings e s +ℤ correction list place.slot (stint_notes list k (e ∷ diary))
 offset_corrected list k diary surroundings e s place active is =
     ap (λ z. offset_of list k diary surroundings +ℤ z) (slot_change-active e s (correction_of list k (e ∷ diary)) active)

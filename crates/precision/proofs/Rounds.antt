@@ -23,6 +23,8 @@ after_average list = (drift_in list (length list.slots) +ℤ drift_in list (leng
 abbrev pub drifted : Medl → ℤ → ℕ → ℤ
 drifted list before m = before +ℤ (drift_in list (suc m) +ℤ drift_in list (suc m))
 
+-- Products with a number of slots.
+
 product_more : (d : ℤ) (m : ℕ) → pos 0 ≤ℤ d → d *ℤ pos (suc m) ≡ d *ℤ pos m +ℤ d
 product_more (pos a) m up = omega (arith, ints)
 product_more (negsuc a) m up = absurd (omega (arith, ints, up))
@@ -107,8 +109,8 @@ Locate-append w b [] (x ∷ xs) es ys p q = absurd p
 Locate-append w b (d ∷ ds) [] es ys p q = absurd p
 Locate-append w b (d ∷ ds) (x ∷ xs) es ys p q = (p.0, Locate-append w b ds xs es ys p.1 q)
 
-add_three : (e p q d : ℤ) → q ≡ p +ℤ d → e +ℤ q ≡ (e +ℤ p) +ℤ d
-add_three e p q d is = omega (arith, ints, is)
+add_drift : (e p q d : ℤ) → q ≡ p +ℤ d → e +ℤ q ≡ (e +ℤ p) +ℤ d
+add_drift e p q d is = omega (arith, ints, is)
 
 add_below : (e p q : ℤ) → p ≤ℤ q → (e +ℤ p) ≤ℤ (e +ℤ q)
 add_below e p q below = omega (arith, ints, below)
@@ -128,7 +130,7 @@ inside_round list group s t m clock later notes added all new up before moved no
       (Locate-wider (list.error +ℤ list.drift) (list.error +ℤ drift_in list (suc (suc m))) (later k) (added k) new
       (add_below list.error list.drift (drift_in list (suc (suc m))) (product_once list.drift (suc m) up)) (noted k p))
       (Locate-later (list.error +ℤ drift_in list (suc m)) list.drift (list.error +ℤ drift_in list (suc (suc m))) (clock k) (later k) (notes k) before.frames (moved k p)
-      (add_three list.error (drift_in list (suc m)) (drift_in list (suc (suc m))) list.drift (product_more list.drift (suc m) up)) (before.located k p)));
+      (add_drift list.error (drift_in list (suc m)) (drift_in list (suc (suc m))) list.drift (product_more list.drift (suc m) up)) (before.located k p)));
 }
 
 -- after the end of a round they are the first
@@ -148,8 +150,8 @@ new_round list group s t clock later added all new up began before moved noted i
 begun_apart : (e q d x y z : ℤ) → IsUpTo (e +ℤ d) (y -ℤ x) → IsUpTo (e +ℤ d) (z -ℤ x) → d ≤ℤ q → (y -ℤ z) ≤ℤ ((e +ℤ e) +ℤ (q +ℤ q))
 begun_apart e q d x y z h g wide = omega (arith, ints, h.0, h.1, g.0, g.1, wide)
 
-more_apart : (a b c z : ℤ) → z ≤ℤ (a +ℤ c) → a ≤ℤ b → z ≤ℤ (b +ℤ c)
-more_apart a b c z h wide = omega (arith, ints, h, wide)
+wider_apart : (a b c z : ℤ) → z ≤ℤ (a +ℤ c) → a ≤ℤ b → z ≤ℤ (b +ℤ c)
+wider_apart a b c z h wide = omega (arith, ints, h, wide)
 
 average_more : (e n : ℤ) → pos 0 ≤ℤ n → (e +ℤ e) ≤ℤ ((n +ℤ n) +ℤ ((e +ℤ e) +ℤ pos 1))
 average_more e n up = omega (arith, ints, up)
@@ -162,7 +164,7 @@ begun_round list group s t m frame clock notes new up near noted =
     let wide : list.drift ≤ℤ drift_in list (suc m) = product_once list.drift m up in
     let start : AreWithin group clock (drifted list (list.error +ℤ list.error) m) = λ j k p q. begun_apart list.error (drift_in list (suc m)) list.drift frame (clock j) (clock k) (near j p) (near k q) wide in
     record {
-      apart = λ j k p q. more_apart (list.error +ℤ list.error) (after_average list) (drift_in list (suc m) +ℤ drift_in list (suc m)) (clock j -ℤ clock k) (start j k p q)
+      apart = λ j k p q. wider_apart (list.error +ℤ list.error) (after_average list) (drift_in list (suc m) +ℤ drift_in list (suc m)) (clock j -ℤ clock k) (start j k p q)
           (average_more list.error (drift_in list (length list.slots)) (product_up list.drift (length list.slots) up));
       first = λ early. start;
       frames = new;
@@ -175,12 +177,12 @@ begun_round list group s t m frame clock notes new up near noted =
 pub plus_none : (z : ℤ) → z +ℤ pos 0 ≡ z
 plus_none z = omega (arith, ints)
 
-both_at : (w v e n b : ℤ) → w ≡ (e +ℤ n) → b ≡ (n +ℤ n) +ℤ ((e +ℤ e) +ℤ pos 1) → v ≤ℤ ((w +ℤ w) +ℤ pos 1) → v ≤ℤ b
-both_at w v e n b is was h = omega (arith, ints, is, was, h)
+averaged_bound : (w v e n b : ℤ) → w ≡ (e +ℤ n) → b ≡ (n +ℤ n) +ℤ ((e +ℤ e) +ℤ pos 1) → v ≤ℤ ((w +ℤ w) +ℤ pos 1) → v ≤ℤ b
+averaged_bound w v e n b is was h = omega (arith, ints, is, was, h)
 
-neither_at : (e n o b c p q : ℤ) → o ≡ n → p ≡ pos 0 → q ≡ pos 0 → (b -ℤ c) ≤ℤ ((e +ℤ e) +ℤ (o +ℤ o))
+unaveraged_bound : (e n o b c p q : ℤ) → o ≡ n → p ≡ pos 0 → q ≡ pos 0 → (b -ℤ c) ≤ℤ ((e +ℤ e) +ℤ (o +ℤ o))
     → ((b +ℤ p) -ℤ (c +ℤ q)) ≤ℤ ((n +ℤ n) +ℤ ((e +ℤ e) +ℤ pos 1))
-neither_at e n o b c p q same is was h = omega (arith, ints, same, is, was, h)
+unaveraged_bound e n o b c p q same is was h = omega (arith, ints, same, is, was, h)
 
 few_or_many : (n : ℕ) → (n < 4) ⊎ (4 ≤ n)
 few_or_many n = grind arith
@@ -199,11 +201,11 @@ averaged list group s t m clock notes ends held enough j k p q =
     let slots : drift_in list (suc m) ≡ drift_in list (length list.slots) = ap (drift_in list) ends in
     elim (few_or_many (length (notes j))) [
       | inl few ↦ elim (early_or_late t (s + suc m)) [
-        | inl early ↦ neither_at list.error (drift_in list (length list.slots)) (drift_in list (suc m)) (clock j) (clock k) (fta (notes j)) (fta (notes k))
+        | inl early ↦ unaveraged_bound list.error (drift_in list (length list.slots)) (drift_in list (suc m)) (clock j) (clock k) (fta (notes j)) (fta (notes k))
             slots (fta-few (notes j) few) (fta-few (notes k) (omega (arith, few, same))) (held.first early j k p q)
         | inr late ↦ absurd (omega (arith, few, enough (omega (arith, late, ends)) j p))
       ]
-      | inr many ↦ both_at (list.error +ℤ drift_in list (suc m)) ((clock j +ℤ fta (notes j)) -ℤ (clock k +ℤ fta (notes k))) list.error (drift_in list (length list.slots)) (after_average list)
+      | inr many ↦ averaged_bound (list.error +ℤ drift_in list (suc m)) ((clock j +ℤ fta (notes j)) -ℤ (clock k +ℤ fta (notes k))) list.error (drift_in list (length list.slots)) (after_average list)
           (ap (λ z. list.error +ℤ z) slots) refl
           (corrected_apart (list.error +ℤ drift_in list (suc m)) (clock j) (clock k) (notes j) (notes k) held.frames (held.located j p) (held.located k q) many (omega (arith, same, many)))
     ]
@@ -251,20 +253,20 @@ held_after list group s t m clock after notes inside held enough is = by_test (s
 
 -- The spread.
 
-at_most : (z n o e : ℤ) → z ≤ℤ (((n +ℤ n) +ℤ ((e +ℤ e) +ℤ pos 1)) +ℤ (o +ℤ o)) → o ≤ℤ n → z ≤ℤ (((n +ℤ n) +ℤ (n +ℤ n)) +ℤ (e *ℤ pos 2 +ℤ pos 1))
-at_most z n o e h below = omega (arith, ints, h, below)
+running_bound : (z n o e : ℤ) → z ≤ℤ (((n +ℤ n) +ℤ ((e +ℤ e) +ℤ pos 1)) +ℤ (o +ℤ o)) → o ≤ℤ n → z ≤ℤ (((n +ℤ n) +ℤ (n +ℤ n)) +ℤ (e *ℤ pos 2 +ℤ pos 1))
+running_bound z n o e h below = omega (arith, ints, h, below)
 
-at_most_once : (z n e : ℤ) → z ≤ℤ ((n +ℤ n) +ℤ ((e +ℤ e) +ℤ pos 1)) → pos 0 ≤ℤ n → z ≤ℤ (((n +ℤ n) +ℤ (n +ℤ n)) +ℤ (e *ℤ pos 2 +ℤ pos 1))
-at_most_once z n e h up = omega (arith, ints, h, up)
+corrected_bound : (z n e : ℤ) → z ≤ℤ ((n +ℤ n) +ℤ ((e +ℤ e) +ℤ pos 1)) → pos 0 ≤ℤ n → z ≤ℤ (((n +ℤ n) +ℤ (n +ℤ n)) +ℤ (e *ℤ pos 2 +ℤ pos 1))
+corrected_bound z n e h up = omega (arith, ints, h, up)
 
-share_is : (d : ℤ) (n : ℕ) (e z : ℤ) → pos 0 ≤ℤ d → z ≤ℤ (((d *ℤ pos n +ℤ d *ℤ pos n) +ℤ (d *ℤ pos n +ℤ d *ℤ pos n)) +ℤ (e *ℤ pos 2 +ℤ pos 1))
+share_bound : (d : ℤ) (n : ℕ) (e z : ℤ) → pos 0 ≤ℤ d → z ≤ℤ (((d *ℤ pos n +ℤ d *ℤ pos n) +ℤ (d *ℤ pos n +ℤ d *ℤ pos n)) +ℤ (e *ℤ pos 2 +ℤ pos 1))
     → z ≤ℤ (d *ℤ pos (4 * n) +ℤ (e *ℤ pos 2 +ℤ pos 1))
-share_is d n e z up h = rw (product_four d n up) h
+share_bound d n e z up h = rw (product_four d n up) h
 
 pub held_within : (list : Medl) (group : ℕ → Type 0) (s t m : ℕ) (clock : ℕ → ℤ) (notes : ℕ → List ℤ) → pos 0 ≤ℤ list.drift → Held list group s t m clock notes
     → AreWithin group clock (spread list)
-held_within list group s t m clock notes up (Corrected ends apart) = λ j k p q. share_is list.drift (length list.slots) list.error (clock j -ℤ clock k) up
-    (at_most_once (clock j -ℤ clock k) (drift_in list (length list.slots)) list.error (apart j k p q) (product_up list.drift (length list.slots) up))
-held_within list group s t m clock notes up (Running inside held) = λ j k p q. share_is list.drift (length list.slots) list.error (clock j -ℤ clock k) up
-    (at_most (clock j -ℤ clock k) (drift_in list (length list.slots)) (drift_in list (suc m)) list.error (held.apart j k p q)
+held_within list group s t m clock notes up (Corrected ends apart) = λ j k p q. share_bound list.drift (length list.slots) list.error (clock j -ℤ clock k) up
+    (corrected_bound (clock j -ℤ clock k) (drift_in list (length list.slots)) list.error (apart j k p q) (product_up list.drift (length list.slots) up))
+held_within list group s t m clock notes up (Running inside held) = λ j k p q. share_bound list.drift (length list.slots) list.error (clock j -ℤ clock k) up
+    (running_bound (clock j -ℤ clock k) (drift_in list (length list.slots)) (drift_in list (suc m)) list.error (held.apart j k p q)
     (product_upto list.drift (suc m) (length list.slots) up (omega (arith, inside))))

@@ -6,6 +6,7 @@ use Rattle.std.proofs.lemmas.Int.{ints}
 use Rattle.ttp_world.specs.declared.medl.Medl.{Medl}
 use Rattle.ttp_world.specs.declared.node.Entry.{Entry}
 use Rattle.ttp_world.specs.declared.script.Script.{Script}
+use Rattle.ttp_world.specs.After.{is_active_entry}
 use Rattle.ttp_world.specs.Clock.{join_deviation, notes_in, stint_notes, offset_of}
 use Rattle.ttp_world.specs.Diary.{History, entry_of, diary_of, continues_stint, begins_stint, Place, next_place, stint_place, place_of, ends_round}
 use Rattle.ttp_world.specs.Hypothesis.{drift_share, needed, clocks_broken}
@@ -19,7 +20,7 @@ use Rattle.precision.proofs.Averages.{IsUpTo, Locate}
 use Rattle.precision.proofs.Frames.{frame_of, RunsFrom, moved, begun_stint, begun_place, begun_near, frames_at, begun_noted, told_noted, joins_nothing}
 use Rattle.precision.proofs.ClockBounds.{drift_within, error_within}
 use Rattle.precision.proofs.Rounds.{HaveNoted, Uncorrected, Held, Corrected, Running, inside_round, new_round, begun_round, correction, held_after, same_apart, held_within}
-use Rattle.precision.proofs.Entries.{keeps_active, begun_active, continued_active, place_of-active, notes_of-active, place_continued, notes_anew, notes_more, begun_round_first, first_slot_first, later_slot_later, offset_corrected, clock_at-still, clock_ready}
+use Rattle.precision.proofs.Entries.{begun_active, continued_active, place_of-active, notes_of-active, place_continued, notes_anew, notes_more, begun_round_first, first_slot_first, later_slot_later, offset_corrected, clock_at-still, clock_ready}
 
 -- node k's clock after a history, and its notes of the newest slot's round
 abbrev clock_after : Medl → Script → History → ℕ → ℤ
@@ -44,7 +45,7 @@ record RunsOn (list : Medl) (script : Script) (group : ℕ → Bool) (history : 
 -- The clock after one slot more.
 
 clock_next : (list : Medl) (script : Script) (row : List Entry) (history : History) (k : ℕ) (place : Place) → jump_of script k (length history) ≡ pos 0
-    → keeps_active (entry_of row k) ≡ true → stint_place list k (diary_of (row ∷ history) k) ≡ place
+    → is_active_entry (entry_of row k) ≡ true → stint_place list k (diary_of (row ∷ history) k) ≡ place
     → clock_after list script (row ∷ history) k
     ≡ moved script k (clock_after list script history k) (join_deviation (entry_of row k)) +ℤ correction list place.slot (round_notes list (row ∷ history) k)
 clock_next list script row history k place still active is =

@@ -1,7 +1,8 @@
--- Nodes that run together: they begin in one slot on one frame, and from then on note the deviations of the same frames.
+-- Nodes that run together: they begin in one slot on one frame, and from then on note the deviations of the same
+-- frames.
 --
--- A group of nodes is a test of their numbers. A history has its newest slot first, and the slot after it has its length
--- as number.
+-- A group of nodes is a test of their numbers. A history has its newest slot first, and its length is the number of the
+-- slot after it.
 use Rattle.std.specs.Prelude.{◌≡◌, ℕ, ◌+◌, ◌<◌, ◌≤◌, ℤ, pos, neg_ℤ, ◌-ℤ◌, ◌≤ℤ◌, Bool, ◌⊎◌, List, [], ◌∷◌, length, None, IsTrue}
 use Rattle.ttp_world.specs.declared.medl.Medl.{Medl}
 use Rattle.ttp_world.specs.declared.node.Chosen.{Chosen}
@@ -20,11 +21,13 @@ use Rattle.ttp_world.specs.World.{node_past, ready_node, ready_nodes, deviation_
 
 -- node k's clock at the beginning of the slot after a history
 abbrev pub clock_at : Medl → Script → History → ℕ → ℤ
-clock_at list script history k = (ready_node list script (length history) (node_past list script history k) nothing_chosen k).clock
+clock_at list script history k =
+    (ready_node list script (length history) (node_past list script history k) nothing_chosen k).clock
 
--- the deviation that node r measures of a frame of node p in the slot after a history, for which these messages are chosen
+-- the deviation that node r measures of a frame of node p in the slot after a history, where these messages are chosen
 abbrev pub measured : Medl → Script → History → List Chosen → ℕ → ℕ → ℤ
-measured list script history chosen r p = deviation_in list script (length history) (ready_nodes list script history chosen) r p
+measured list script history chosen r p =
+    deviation_in list script (length history) (ready_nodes list script history chosen) r p
 
 -- Beginning together.
 
@@ -40,7 +43,8 @@ BeginsOn list script history chosen p place k (entry.Joined sender cstate deviat
 BeginsOn list script history chosen p place k _ = ⊥
 
 -- in the slot of a row after a history, each node of the group begins on a frame of the same node at the same place
-pub record BeganTogether (list : Medl) (script : Script) (group : ℕ → Bool) (row : List Entry) (history : History) : Type 0 where
+pub record BeganTogether (list : Medl) (script : Script) (group : ℕ → Bool) (row : List Entry) (history : History)
+    : Type 0 where
   pub chosen : List Chosen
   pub sender : ℕ
   pub place : Place
@@ -63,22 +67,27 @@ TellsOf list script history chosen p k _ = ⊥
 
 -- in the slot of a row after a history, no node of the group notes anything, or the entry of each tells of a frame of
 -- the same node
-pub data NotedAlike (list : Medl) (script : Script) (group : ℕ → Bool) (row : List Entry) (history : History) : Type 0 where
-  Nothing : ((k : ℕ) → IsIn list group k → newest_notes list k (diary_of (row ∷ history) k) ≡ []) → NotedAlike list script group row history
-  OneFrame : (chosen : List Chosen) (p : ℕ) → ((k : ℕ) → IsIn list group k → TellsOf list script history chosen p k (entry_of row k))
-    → NotedAlike list script group row history
+pub data NotedAlike (list : Medl) (script : Script) (group : ℕ → Bool) (row : List Entry) (history : History)
+    : Type 0 where
+  Nothing : ((k : ℕ) → IsIn list group k → newest_notes list k (diary_of (row ∷ history) k) ≡ [])
+      → NotedAlike list script group row history
+  OneFrame : (chosen : List Chosen) (p : ℕ)
+      → ((k : ℕ) → IsIn list group k → TellsOf list script history chosen p k (entry_of row k))
+      → NotedAlike list script group row history
 
 -- with this row a round of node k ends that began after slot s
 abbrev pub EndsLaterRound : Medl → ℕ → ℕ → List Entry → History → Type 0
 EndsLaterRound list s k row history =
     IsTrue (ends_round list (place_of list k (diary_of (row ∷ history) k))) × (s + length list.slots ≤ length history)
 
--- in the slot of a row after a history, each node of the group goes on, all note alike, and those whose round ends there
--- noted enough in it for an average
-pub record StayedTogether (list : Medl) (script : Script) (group : ℕ → Bool) (s : ℕ) (row : List Entry) (history : History) : Type 0 where
+-- in the slot of a row after a history, each node of the group goes on, all note alike, and those whose round ends
+-- there noted enough in it for an average
+pub record StayedTogether (list : Medl) (script : Script) (group : ℕ → Bool) (s : ℕ) (row : List Entry)
+    (history : History) : Type 0 where
   pub active : (k : ℕ) → IsIn list group k → IsTrue (continues_stint (entry_of row k))
   pub noted : NotedAlike list script group row history
-  pub enough : (k : ℕ) → IsIn list group k → EndsLaterRound list s k row history → 4 ≤ length (notes_of list k (diary_of (row ∷ history) k))
+  pub enough : (k : ℕ) → IsIn list group k → EndsLaterRound list s k row history
+      → 4 ≤ length (notes_of list k (diary_of (row ∷ history) k))
 
 -- the group began together in slot s, and stayed together in each slot since
 abbrev pub RanTogether : Medl → Script → (ℕ → Bool) → ℕ → History → Type 0
@@ -110,6 +119,7 @@ HoldsClocksWithin list bound =
 -- what one of them measures of another's frame then lies no further from 0, whatever is sent
 unfoldable pub HoldsDeviationsWithin : Medl → ℤ → Type 0
 HoldsDeviationsWithin list bound =
-    (script : Script) (group : ℕ → Bool) (s : ℕ) (history : History) → IsCommonRun list script group s history → length history < script.slots
+    (script : Script) (group : ℕ → Bool) (s : ℕ) (history : History) → IsCommonRun list script group s history
+    → length history < script.slots
     → (chosen : List Chosen) (r p : ℕ) → IsIn list group r → IsIn list group p
     → (neg_ℤ bound ≤ℤ measured list script history chosen r p) × (measured list script history chosen r p ≤ℤ bound)

@@ -1,26 +1,27 @@
 //! How far apart the clocks of a cluster can drift.
 //!
-//! Every node of a TTP cluster corrects its clock once a round, by the fault-tolerant average of the
-//! deviations that it noted. Between two corrections the clocks drift apart again, and each deviation
-//! is read with an error. From the bounds of a descriptor list the two functions say how much of that
-//! can remain, in microticks:
+//! Each node corrects its clock once a round, by the fault-tolerant average of the deviations that it
+//! noted. In between the clocks drift apart again, and each deviation is read with an error. From the
+//! bounds of a descriptor list the two functions say how much of that can remain, in microticks:
 //!
 //! ```
 //! let apart = spread(&list);     // clocks of two nodes, at the beginning of a slot
 //! let window = needed(&list);    // what one of them measures of a frame of the other
 //! ```
 //!
-//! Both are promises about the world of `ttp_world`, for nodes that ran together since some slot
-//! (`IsCommonRun` of `specs/Together.antt`):
+//! Both are promises about the world of `ttp_world`, for any group of nodes that ran together since
+//! some slot (`IsCommonRun` of `specs/Together.antt`):
 //!
-//! - in that slot they began on one frame, which one of them sent to start the cluster, or on which
-//!   they joined;
-//! - in every later slot each of them stayed active, and those that noted a deviation noted that of
-//!   one frame, or none did; its sender need not be one of them, and its clock may show anything;
-//! - in every round that began after that slot they noted four or more;
-//! - their clocks drift and are read within the list's bounds, and do not jump.
+//! - in that slot they began on one frame: one of them sent it and started, and the others joined on
+//!   it, or all joined on it;
+//! - in every later slot each of them sent or judged and so stayed active, and either none of them
+//!   noted a deviation, or each noted that of a frame of one and the same node, which need not be one
+//!   of them and whose clock may show anything;
+//! - in every round that began after that slot each of them noted four or more;
+//! - clocks drift and are read within the list's bounds, and none of theirs jumps.
 //!
-//! The crate reads no clock and corrects none.
+//! The crate reads no clock and corrects none. That nodes run together in a given run is for others to
+//! say.
 #![tactic(auto)]
 
 mod bounds;
