@@ -1,5 +1,6 @@
 -- The averages that two nodes take of the deviations of the same frames bring their clocks together.
-use Rattle.std.proofs.Common.{◌≡◌, ℕ, zero, suc, ◌<◌, ◌≤◌, ℤ, pos, negsuc, neg_ℤ, ◌+ℤ◌, ◌-ℤ◌, ◌*ℤ◌, ◌≤ℤ◌, true, false, cond, List, [], ◌∷◌, length, take, drop, refl, ap, ◌∙◌, arith}
+use Rattle.std.proofs.Common.{◌≡◌, ℕ, zero, suc, ◌<◌, ◌≤◌, ℤ, pos, negsuc, neg_ℤ, ◌+ℤ◌, ◌-ℤ◌, ◌*ℤ◌, ◌≤ℤ◌, true, false}
+use Rattle.std.proofs.Common.{cond, List, [], ◌∷◌, length, take, drop, refl, ap, ◌∙◌, arith}
 use Rattle.std.specs.Prelude.{nat_lt, int_div, int_rem, unsigned_abs}
 use Rattle.std.proofs.lemmas.Int.{ints, quot-rem, rem_below}
 use Rattle.std.proofs.lemmas.List.{length-take-le}
@@ -23,13 +24,15 @@ Locate w clock (d ∷ ds) (x ∷ xs) = IsUpTo w ((clock +ℤ d) -ℤ x) × Locat
 below_of : (w b c d e x : ℤ) → IsUpTo w ((b +ℤ d) -ℤ x) → IsUpTo w ((c +ℤ e) -ℤ x) → d ≤ℤ (e +ℤ ((c -ℤ b) +ℤ (w +ℤ w)))
 below_of w b c d e x p q = omega (arith, ints, p.0, p.1, q.0, q.1)
 
-AreBelow-located : (w b c : ℤ) (ds es xs : List ℤ) → Locate w b ds xs → Locate w c es xs → AreBelow ((c -ℤ b) +ℤ (w +ℤ w)) ds es
+AreBelow-located : (w b c : ℤ) (ds es xs : List ℤ) → Locate w b ds xs → Locate w c es xs
+    → AreBelow ((c -ℤ b) +ℤ (w +ℤ w)) ds es
 AreBelow-located w b c [] [] [] p q = tt
 AreBelow-located w b c [] (e ∷ es) [] p q = absurd q
 AreBelow-located w b c (d ∷ ds) es [] p q = absurd p
 AreBelow-located w b c [] es (x ∷ xs) p q = absurd p
 AreBelow-located w b c (d ∷ ds) [] (x ∷ xs) p q = absurd q
-AreBelow-located w b c (d ∷ ds) (e ∷ es) (x ∷ xs) p q = (below_of w b c d e x p.0 q.0, AreBelow-located w b c ds es xs p.1 q.1)
+AreBelow-located w b c (d ∷ ds) (e ∷ es) (x ∷ xs) p q =
+    (below_of w b c d e x p.0 q.0, AreBelow-located w b c ds es xs p.1 q.1)
 
 pub length-located : (w b : ℤ) (ds xs : List ℤ) → Locate w b ds xs → length ds ≡ length xs
 length-located w b [] [] p = refl
@@ -46,17 +49,20 @@ AreBelow-take c (suc n) [] (y ∷ ys) h = absurd h
 AreBelow-take c (suc n) (x ∷ xs) [] h = absurd h
 AreBelow-take c (suc n) (x ∷ xs) (y ∷ ys) h = (h.0, AreBelow-take c n xs ys h.1)
 
-sum_of_two : (c x x1 y y1 : ℤ) → x ≤ℤ (y +ℤ c) → x1 ≤ℤ (y1 +ℤ c) → (x +ℤ (x1 +ℤ pos 0)) ≤ℤ ((y +ℤ (y1 +ℤ pos 0)) +ℤ (c +ℤ c))
+sum_of_two : (c x x1 y y1 : ℤ) → x ≤ℤ (y +ℤ c) → x1 ≤ℤ (y1 +ℤ c)
+    → (x +ℤ (x1 +ℤ pos 0)) ≤ℤ ((y +ℤ (y1 +ℤ pos 0)) +ℤ (c +ℤ c))
 sum_of_two c x x1 y y1 p q = omega (arith, ints, p, q)
 
-first_two_below : (c : ℤ) (xs ys : List ℤ) → AreBelow c xs ys → 2 ≤ length xs → sum_ℤ (take 2 xs) ≤ℤ (sum_ℤ (take 2 ys) +ℤ (c +ℤ c))
+first_two_below : (c : ℤ) (xs ys : List ℤ) → AreBelow c xs ys → 2 ≤ length xs
+    → sum_ℤ (take 2 xs) ≤ℤ (sum_ℤ (take 2 ys) +ℤ (c +ℤ c))
 first_two_below c [] ys h two = absurd (omega (arith, two))
 first_two_below c (x ∷ []) ys h two = absurd (omega (arith, two))
 first_two_below c (x ∷ x1 ∷ xs) [] h two = absurd h
 first_two_below c (x ∷ x1 ∷ xs) (y ∷ []) h two = absurd h.1
 first_two_below c (x ∷ x1 ∷ xs) (y ∷ y1 ∷ ys) h two = sum_of_two c x x1 y y1 h.0 h.1.0
 
-middle_below : (c : ℤ) (xs ys : List ℤ) → AreBelow c xs ys → length xs ≡ 4 → sum_ℤ (take 2 (drop 1 xs)) ≤ℤ (sum_ℤ (take 2 (drop 1 ys)) +ℤ (c +ℤ c))
+middle_below : (c : ℤ) (xs ys : List ℤ) → AreBelow c xs ys → length xs ≡ 4
+    → sum_ℤ (take 2 (drop 1 xs)) ≤ℤ (sum_ℤ (take 2 (drop 1 ys)) +ℤ (c +ℤ c))
 middle_below c [] ys h four = absurd (omega (arith, four))
 middle_below c (x ∷ xs) [] h four = absurd h
 middle_below c (x ∷ xs) (y ∷ ys) h four = first_two_below c xs ys h.1 (omega (arith, four))
@@ -67,7 +73,8 @@ small_rem : (r : ℤ) → unsigned_abs r < 2 → IsUpTo (pos 1) r
 small_rem (pos n) small = (omega (arith, ints, small), omega (arith, ints, small))
 small_rem (negsuc n) small = (omega (arith, ints, small), omega (arith, ints, small))
 
-half_of : (c y z q r p s : ℤ) → q *ℤ pos 2 +ℤ r ≡ y → p *ℤ pos 2 +ℤ s ≡ z → IsUpTo (pos 1) r → IsUpTo (pos 1) s → y ≤ℤ (z +ℤ (c +ℤ c)) → q ≤ℤ (p +ℤ (c +ℤ pos 1))
+half_of : (c y z q r p s : ℤ) → q *ℤ pos 2 +ℤ r ≡ y → p *ℤ pos 2 +ℤ s ≡ z → IsUpTo (pos 1) r → IsUpTo (pos 1) s
+    → y ≤ℤ (z +ℤ (c +ℤ c)) → q ≤ℤ (p +ℤ (c +ℤ pos 1))
 half_of c y z q r p s is was small few below = omega (arith, ints, is, was, small.0, small.1, few.0, few.1, below)
 
 half_below : (c y z : ℤ) → y ≤ℤ (z +ℤ (c +ℤ c)) → int_div y (pos 2) ≤ℤ (int_div z (pos 2) +ℤ (c +ℤ pos 1))
@@ -87,18 +94,21 @@ fta-few notes few =
     let short : nat_lt (length notes) 4 ≡ true = grind arith in
     ap (λ b. cond b (pos 0) (middle_half (take 4 notes))) short
 
-middle_half-below : (c : ℤ) (ds es : List ℤ) → AreBelow c ds es → 4 ≤ length ds → middle_half (take 4 ds) ≤ℤ (middle_half (take 4 es) +ℤ (c +ℤ pos 1))
+middle_half-below : (c : ℤ) (ds es : List ℤ) → AreBelow c ds es → 4 ≤ length ds
+    → middle_half (take 4 ds) ≤ℤ (middle_half (take 4 es) +ℤ (c +ℤ pos 1))
 middle_half-below c ds es below enough =
     let sums : sum_ℤ (take 2 (drop 1 (sorted (take 4 ds)))) ≤ℤ (sum_ℤ (take 2 (drop 1 (sorted (take 4 es)))) +ℤ (c +ℤ c)) =
     middle_below c (sorted (take 4 ds)) (sorted (take 4 es)) (AreBelow-sorted c (take 4 ds) (take 4 es) (AreBelow-take c 4 ds es below))
     (length-sorted (take 4 ds) ∙ length-take-le 4 ds enough) in
     half_below c (sum_ℤ (take 2 (drop 1 (sorted (take 4 ds))))) (sum_ℤ (take 2 (drop 1 (sorted (take 4 es))))) sums
 
-apart_of : (w b c p q : ℤ) → p ≤ℤ (q +ℤ (((c -ℤ b) +ℤ (w +ℤ w)) +ℤ pos 1)) → ((b +ℤ p) -ℤ (c +ℤ q)) ≤ℤ ((w +ℤ w) +ℤ pos 1)
+apart_of : (w b c p q : ℤ) → p ≤ℤ (q +ℤ (((c -ℤ b) +ℤ (w +ℤ w)) +ℤ pos 1))
+    → ((b +ℤ p) -ℤ (c +ℤ q)) ≤ℤ ((w +ℤ w) +ℤ pos 1)
 apart_of w b c p q h = omega (arith, ints, h)
 
 -- two clocks that noted four or more of the same frames, each corrected by its average
-pub corrected_apart : (w b c : ℤ) (ds es xs : List ℤ) → Locate w b ds xs → Locate w c es xs → 4 ≤ length ds → 4 ≤ length es
+pub corrected_apart : (w b c : ℤ) (ds es xs : List ℤ) → Locate w b ds xs → Locate w c es xs → 4 ≤ length ds
+    → 4 ≤ length es
     → ((b +ℤ fta ds) -ℤ (c +ℤ fta es)) ≤ℤ ((w +ℤ w) +ℤ pos 1)
 corrected_apart w b c ds es xs p q many enough =
     let below : middle_half (take 4 ds) ≤ℤ (middle_half (take 4 es) +ℤ (((c -ℤ b) +ℤ (w +ℤ w)) +ℤ pos 1)) =

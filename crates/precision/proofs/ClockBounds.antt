@@ -1,6 +1,7 @@
 -- A script that keeps the list's bounds of clocks: each drift, and each sum of reading errors in a slot of the run, is
 -- within its bound.
-use Rattle.std.proofs.Common.{◌≡◌, ℕ, zero, suc, ◌+◌, ◌<◌, ◌≤◌, ◌⊎◌, inl, inr, ℤ, Bool, true, false, not, ◌&&◌, List, [], ◌∷◌, length, Option, Some, None, refl, cond, ap, ◌∙◌, sym, arith}
+use Rattle.std.proofs.Common.{◌≡◌, ℕ, zero, suc, ◌+◌, ◌<◌, ◌≤◌, ◌⊎◌, inl, inr, ℤ, Bool, true, false, not, ◌&&◌, List}
+use Rattle.std.proofs.Common.{[], ◌∷◌, length, Option, Some, None, refl, cond, ap, ◌∙◌, sym, arith}
 use Rattle.std.specs.Prelude.{find}
 use Rattle.std.specs.List.{list_all, range_with_len}
 use Rattle.std.proofs.lemmas.Bool.{false≢true}
@@ -34,7 +35,8 @@ holds_at p a (suc n) k all low high = elim (here_or_later a k low) [
     here_or_later a k low = grind arith
 
 -- where none is found that fails a test, all pass it
-pass_first : (b rest : Bool) (k : ℕ) (found : Option ℕ) → cond (not b) (Some k) found ≡ None → (found ≡ None → rest ≡ true) → (b && rest) ≡ true
+pass_first : (b rest : Bool) (k : ℕ) (found : Option ℕ) → cond (not b) (Some k) found ≡ None
+    → (found ≡ None → rest ≡ true) → (b && rest) ≡ true
 pass_first true rest k found none later = later none
 pass_first false rest k found none later = cc
 
@@ -55,12 +57,14 @@ broken_by_errors : (b : Bool) (errors : Option ℕ) → cond b errors (Some 0) �
 broken_by_errors true errors none = none
 broken_by_errors false errors none = cc
 
-pub drift_within : (list : Medl) (script : Script) (k : ℕ) → clocks_broken list script ≡ None → k < length list.slots → IsUpTo list.drift (drift_of script k)
+pub drift_within : (list : Medl) (script : Script) (k : ℕ) → clocks_broken list script ≡ None → k < length list.slots
+    → IsUpTo list.drift (drift_of script k)
 drift_within list script k none inside =
     within_bound list.drift (drift_of script k)
     (holds_at (λ j. is_within_bound list.drift (drift_of script j)) 0 (length list.slots) k (broken_by_drifts (drifts_hold list script) _ none) (omega arith) (omega (arith, inside)))
 
-pub error_within : (list : Medl) (script : Script) (slot k : ℕ) → clocks_broken list script ≡ None → slot < script.slots → k < length list.slots
+pub error_within : (list : Medl) (script : Script) (slot k : ℕ) → clocks_broken list script ≡ None → slot < script.slots
+    → k < length list.slots
     → IsUpTo list.error (reading_error script k slot)
 error_within list script slot k none early inside =
     let holds : errors_hold_in list script slot ≡ true =

@@ -1,5 +1,6 @@
 -- What one slot makes of a node that begins a stint in it or goes on: its place, its notes and its clock.
-use Rattle.std.proofs.Common.{◌≡◌, ℕ, suc, ◌<◌, ℤ, pos, ◌+ℤ◌, true, false, cond, ◌||◌, List, [], ◌∷◌, ◌++◌, length, refl, ap, ◌∙◌, arith}
+use Rattle.std.proofs.Common.{◌≡◌, ℕ, suc, ◌<◌, ℤ, pos, ◌+ℤ◌, true, false, cond, ◌||◌, List, [], ◌∷◌, ◌++◌, length}
+use Rattle.std.proofs.Common.{refl, ap, ◌∙◌, arith}
 use Rattle.std.specs.Prelude.{◌==◌}
 use Rattle.std.proofs.lemmas.Bool.{false≢true}
 use Rattle.std.proofs.Math.Bool.{or-true}
@@ -14,12 +15,15 @@ use Rattle.ttp_world.specs.declared.node.Entry.{Entry}
 use Rattle.ttp_world.specs.declared.node.Entry.TheVariants as entry
 use Rattle.ttp_world.specs.declared.script.Script.{Script}
 use Rattle.ttp_world.specs.After.{is_active_entry}
-use Rattle.ttp_world.specs.Clock.{notes_in, begins_round, stint_notes, notes_of, fta, join_deviation, slot_change, correction_of, offset_of}
-use Rattle.ttp_world.specs.Diary.{Diary, History, SlotSurroundings, Surroundings, begins_stint, continues_stint, Place, next_place, stint_place, place_of, ends_round, diary_of}
+use Rattle.ttp_world.specs.Clock.{notes_in, begins_round, stint_notes, notes_of, fta, join_deviation, slot_change}
+use Rattle.ttp_world.specs.Clock.{correction_of, offset_of}
+use Rattle.ttp_world.specs.Diary.{Diary, History, SlotSurroundings, Surroundings, begins_stint, continues_stint, Place}
+use Rattle.ttp_world.specs.Diary.{next_place, stint_place, place_of, ends_round, diary_of}
 use Rattle.ttp_world.specs.Medium.{surroundings_of}
 use Rattle.ttp_world.specs.Outgoing.{nothing_chosen}
 use Rattle.ttp_world.specs.Script.{jump_of}
-use Rattle.ttp_world.specs.World.{jump_taken, ReadyNode, ready_node, ready_nodes, node_past, ready_of, chosen_of, no_node}
+use Rattle.ttp_world.specs.World.{jump_taken, ReadyNode, ready_node, ready_nodes, node_past, ready_of, chosen_of}
+use Rattle.ttp_world.specs.World.{no_node}
 use Rattle.ttp_world.proofs.Pasts.{elim-cond}
 use Rattle.precision.specs.Together.{clock_at}
 use Rattle.precision.proofs.Rounds.{plus_none, correction}
@@ -36,14 +40,16 @@ continued_active (entry.Sent message) h = refl
 continued_active (entry.Judged sender v deviation) h = refl
 continued_active _ h = absurd (false≢true h)
 
-pub place_of-active : (list : Medl) (k : ℕ) (diary : Diary) (e : Entry) → is_active_entry e ≡ true → place_of list k (e ∷ diary) ≡ stint_place list k (e ∷ diary)
+pub place_of-active : (list : Medl) (k : ℕ) (diary : Diary) (e : Entry) → is_active_entry e ≡ true
+    → place_of list k (e ∷ diary) ≡ stint_place list k (e ∷ diary)
 place_of-active list k diary entry.Started h = refl
 place_of-active list k diary (entry.Joined sender cstate deviation) h = refl
 place_of-active list k diary (entry.Sent message) h = refl
 place_of-active list k diary (entry.Judged sender v deviation) h = refl
 place_of-active list k diary _ h = absurd (false≢true h)
 
-pub notes_of-active : (list : Medl) (k : ℕ) (diary : Diary) (e : Entry) → is_active_entry e ≡ true → notes_of list k (e ∷ diary) ≡ stint_notes list k (e ∷ diary)
+pub notes_of-active : (list : Medl) (k : ℕ) (diary : Diary) (e : Entry) → is_active_entry e ≡ true
+    → notes_of list k (e ∷ diary) ≡ stint_notes list k (e ∷ diary)
 notes_of-active list k diary entry.Started h = refl
 notes_of-active list k diary (entry.Joined sender cstate deviation) h = refl
 notes_of-active list k diary (entry.Sent message) h = refl
@@ -52,7 +58,8 @@ notes_of-active list k diary _ h = absurd (false≢true h)
 
 -- Places and notes.
 
-pub place_continued : (list : Medl) (k : ℕ) (diary : Diary) (e : Entry) → continues_stint e ≡ true → stint_place list k (e ∷ diary) ≡ next_place list (stint_place list k diary)
+pub place_continued : (list : Medl) (k : ℕ) (diary : Diary) (e : Entry) → continues_stint e ≡ true
+    → stint_place list k (e ∷ diary) ≡ next_place list (stint_place list k diary)
 place_continued list k diary (entry.Sent message) h = refl
 place_continued list k diary (entry.Judged sender v deviation) h = refl
 place_continued list k diary _ h = absurd (false≢true h)
@@ -62,14 +69,16 @@ begins_no_stint (entry.Sent message) h = refl
 begins_no_stint (entry.Judged sender v deviation) h = refl
 begins_no_stint _ h = absurd (false≢true h)
 
-pub notes_anew : (list : Medl) (k : ℕ) (diary : Diary) (e : Entry) (place : Place) → stint_place list k (e ∷ diary) ≡ place → begins_round place e ≡ true
+pub notes_anew : (list : Medl) (k : ℕ) (diary : Diary) (e : Entry) (place : Place)
+    → stint_place list k (e ∷ diary) ≡ place → begins_round place e ≡ true
     → stint_notes list k (e ∷ diary) ≡ notes_in list place e
 notes_anew list k diary e place is begins =
     (λ i. notes_in list (is i) e ++ elim (begins_round (is i) e) [ true ↦ [] | false ↦ stint_notes list k diary ])
     ∙ ap (λ ns. notes_in list place e ++ ns) (elim-cond (begins_round place e) [] (stint_notes list k diary) ∙ ap (λ b. cond b [] (stint_notes list k diary)) begins)
     ∙ append-nil (notes_in list place e)
 
-pub notes_more : (list : Medl) (k : ℕ) (diary : Diary) (e : Entry) (place : Place) → stint_place list k (e ∷ diary) ≡ place → begins_round place e ≡ false
+pub notes_more : (list : Medl) (k : ℕ) (diary : Diary) (e : Entry) (place : Place)
+    → stint_place list k (e ∷ diary) ≡ place → begins_round place e ≡ false
     → stint_notes list k (e ∷ diary) ≡ notes_in list place e ++ stint_notes list k diary
 notes_more list k diary e place is inside =
     (λ i. notes_in list (is i) e ++ elim (begins_round (is i) e) [ true ↦ [] | false ↦ stint_notes list k diary ])
@@ -85,17 +94,21 @@ first_slot_first place e h = ap (λ n. (n == 0) || begins_stint e) h
 suc_not_zero : (m : ℕ) → (suc m == 0) ≡ false
 suc_not_zero m = grind arith
 
-pub later_slot_later : (place : Place) (e : Entry) (m : ℕ) → place.slot ≡ suc m → continues_stint e ≡ true → begins_round place e ≡ false
-later_slot_later place e m h goes = (λ i. (h i == 0) || begins_no_stint e goes i) ∙ ap (λ b. b || false) (suc_not_zero m)
+pub later_slot_later : (place : Place) (e : Entry) (m : ℕ) → place.slot ≡ suc m → continues_stint e ≡ true
+    → begins_round place e ≡ false
+later_slot_later place e m h goes =
+    (λ i. (h i == 0) || begins_no_stint e goes i) ∙ ap (λ b. b || false) (suc_not_zero m)
 
 -- Clocks.
 
 -- the clock after the newest slot but for its correction
 abbrev pub uncorrected : Medl → ℕ → Diary → Surroundings → Entry → SlotSurroundings → ℤ
-uncorrected list k diary surroundings e s = offset_of list k diary surroundings +ℤ (s.jump +ℤ (s.drift +ℤ join_deviation e))
+uncorrected list k diary surroundings e s =
+    offset_of list k diary surroundings +ℤ (s.jump +ℤ (s.drift +ℤ join_deviation e))
 
 correction_of-active : (list : Medl) (k : ℕ) (diary : Diary) (e : Entry) → is_active_entry e ≡ true
-    → correction_of list k (e ∷ diary) ≡ correction list (stint_place list k (e ∷ diary)).slot (stint_notes list k (e ∷ diary))
+    → correction_of list k (e ∷ diary)
+    ≡ correction list (stint_place list k (e ∷ diary)).slot (stint_notes list k (e ∷ diary))
 correction_of-active list k diary entry.Started h =
     elim-cond (ends_round list (stint_place list k (entry.Started ∷ diary))) (fta (stint_notes list k (entry.Started ∷ diary))) (pos 0)
 correction_of-active list k diary (entry.Joined sender cstate deviation) h =
@@ -106,7 +119,8 @@ correction_of-active list k diary (entry.Judged sender v deviation) h =
     elim-cond (ends_round list (stint_place list k (entry.Judged sender v deviation ∷ diary))) (fta (stint_notes list k (entry.Judged sender v deviation ∷ diary))) (pos 0)
 correction_of-active list k diary _ h = absurd (false≢true h)
 
-slot_change-active : (e : Entry) (s : SlotSurroundings) (c : ℤ) → is_active_entry e ≡ true → slot_change e s c ≡ s.jump +ℤ (s.drift +ℤ (join_deviation e +ℤ c))
+slot_change-active : (e : Entry) (s : SlotSurroundings) (c : ℤ) → is_active_entry e ≡ true
+    → slot_change e s c ≡ s.jump +ℤ (s.drift +ℤ (join_deviation e +ℤ c))
 slot_change-active entry.Started s c h = refl
 slot_change-active (entry.Joined sender cstate deviation) s c h = refl
 slot_change-active (entry.Sent message) s c h = refl
@@ -118,7 +132,8 @@ regroup o j d v c = omega (arith, ints)
 
 pub offset_corrected : (list : Medl) (k : ℕ) (diary : Diary) (surroundings : Surroundings) (e : Entry) (s : SlotSurroundings) (place : Place)
     → is_active_entry e ≡ true → stint_place list k (e ∷ diary) ≡ place
-    → offset_of list k (e ∷ diary) (s ∷ surroundings) ≡ uncorrected list k diary surroundings e s +ℤ correction list place.slot (stint_notes list k (e ∷ diary))
+    → offset_of list k (e ∷ diary) (s ∷ surroundings)
+    ≡ uncorrected list k diary surroundings e s +ℤ correction list place.slot (stint_notes list k (e ∷ diary))
 offset_corrected list k diary surroundings e s place active is =
     ap (λ z. offset_of list k diary surroundings +ℤ z) (slot_change-active e s (correction_of list k (e ∷ diary)) active)
     ∙ regroup (offset_of list k diary surroundings) s.jump s.drift (join_deviation e) (correction_of list k (e ∷ diary))
@@ -131,7 +146,8 @@ no_jump_taken act.Off = refl
 no_jump_taken _ = refl
 
 -- a clock that doesn't jump there is as it was after the slot before
-pub clock_at-still : (list : Medl) (script : Script) (history : History) (k : ℕ) → jump_of script k (length history) ≡ pos 0
+pub clock_at-still : (list : Medl) (script : Script) (history : History) (k : ℕ)
+    → jump_of script k (length history) ≡ pos 0
     → clock_at list script history k ≡ offset_of list k (diary_of history k) (surroundings_of script history k)
 clock_at-still list script history k still =
     let node = ready_node list script (length history) (node_past list script history k) nothing_chosen k in
@@ -140,7 +156,8 @@ clock_at-still list script history k still =
     ∙ plus_none (offset_of list k (diary_of history k) (surroundings_of script history k))
 
 -- it is that of the node when it is ready for the slot, whatever messages are chosen
-pub clock_ready : (list : Medl) (script : Script) (history : History) (chosen : List Chosen) (k : ℕ) → k < length list.slots
+pub clock_ready : (list : Medl) (script : Script) (history : History) (chosen : List Chosen) (k : ℕ)
+    → k < length list.slots
     → (ready_of list (ready_nodes list script history chosen) k).clock ≡ clock_at list script history k
 clock_ready list script history chosen k inside =
     ap (λ (node : ReadyNode). node.clock)

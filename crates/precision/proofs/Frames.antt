@@ -1,5 +1,6 @@
 -- What a node notes of a frame, by its entry: its clock and the note together tell where the frame was.
-use Rattle.std.proofs.Common.{◌≡◌, ℕ, ◌<◌, ℤ, pos, ◌+ℤ◌, ◌-ℤ◌, ◌≤ℤ◌, Bool, true, false, cond, List, [], ◌∷◌, length, Some, None, refl, ap, sym, subst, ◌∙◌, arith}
+use Rattle.std.proofs.Common.{◌≡◌, ℕ, ◌<◌, ℤ, pos, ◌+ℤ◌, ◌-ℤ◌, ◌≤ℤ◌, Bool, true, false, cond, List, [], ◌∷◌, length}
+use Rattle.std.proofs.Common.{Some, None, refl, ap, sym, subst, ◌∙◌, arith}
 use Rattle.std.specs.Option.{option_to_list}
 use Rattle.std.proofs.lemmas.Bool.{false≢true}
 use Rattle.std.proofs.lemmas.Int.{ints}
@@ -35,21 +36,28 @@ moved script k o deviation = o +ℤ (pos 0 +ℤ (drift_of script k +ℤ deviatio
 
 -- Its own frame.
 
-own_near : (x o d e q v : ℤ) → x ≡ o → IsUpTo q d → pos 0 ≤ℤ e → v ≡ pos 0 → IsUpTo (e +ℤ q) ((o +ℤ (pos 0 +ℤ (d +ℤ v))) -ℤ x)
-own_near x o d e q v is drift up none = (omega (arith, ints, is, drift.0, drift.1, up, none), omega (arith, ints, is, drift.0, drift.1, up, none))
+own_near : (x o d e q v : ℤ) → x ≡ o → IsUpTo q d → pos 0 ≤ℤ e → v ≡ pos 0
+    → IsUpTo (e +ℤ q) ((o +ℤ (pos 0 +ℤ (d +ℤ v))) -ℤ x)
+own_near x o d e q v is drift up none =
+    (omega (arith, ints, is, drift.0, drift.1, up, none), omega (arith, ints, is, drift.0, drift.1, up, none))
 
-own_frame : (list : Medl) (script : Script) (history : History) (chosen : List Chosen) (k p : ℕ) (o : ℤ) → RunsFrom list script history k o → k ≡ p → frame_of list script history chosen p ≡ o
+own_frame : (list : Medl) (script : Script) (history : History) (chosen : List Chosen) (k p : ℕ) (o : ℤ)
+    → RunsFrom list script history k o → k ≡ p → frame_of list script history chosen p ≡ o
 own_frame list script history chosen k p o runs own =
     sym (ap (frame_of list script history chosen) own) ∙ clock_ready list script history chosen k runs.inside ∙ runs.before
 
 -- Another's frame.
 
-other_near : (x c o d e r q v : ℤ) → c ≡ o → v ≡ (x -ℤ c) +ℤ r → IsUpTo q d → IsUpTo e r → IsUpTo (e +ℤ q) ((o +ℤ (pos 0 +ℤ (d +ℤ v))) -ℤ x)
-other_near x c o d e r q v is was drift error = (omega (arith, ints, is, was, drift.0, drift.1, error.0, error.1), omega (arith, ints, is, was, drift.0, drift.1, error.0, error.1))
+other_near : (x c o d e r q v : ℤ) → c ≡ o → v ≡ (x -ℤ c) +ℤ r → IsUpTo q d → IsUpTo e r
+    → IsUpTo (e +ℤ q) ((o +ℤ (pos 0 +ℤ (d +ℤ v))) -ℤ x)
+other_near x c o d e r q v is was drift error =
+    (omega (arith, ints, is, was, drift.0, drift.1, error.0, error.1), omega (arith, ints, is, was, drift.0, drift.1, error.0, error.1))
 
 -- what node k measured of a frame, added to its clock, tells where the frame was
-other_frame : (list : Medl) (script : Script) (history : History) (chosen : List Chosen) (k p : ℕ) (o deviation : ℤ) → RunsFrom list script history k o
-    → deviation ≡ measured list script history chosen k p → IsUpTo (list.error +ℤ list.drift) (moved script k o deviation -ℤ frame_of list script history chosen p)
+other_frame : (list : Medl) (script : Script) (history : History) (chosen : List Chosen) (k p : ℕ) (o deviation : ℤ)
+    → RunsFrom list script history k o
+    → deviation ≡ measured list script history chosen k p
+    → IsUpTo (list.error +ℤ list.drift) (moved script k o deviation -ℤ frame_of list script history chosen p)
 other_frame list script history chosen k p o deviation runs is =
     other_near (frame_of list script history chosen p) (frame_of list script history chosen k) o (drift_of script k) list.error (reading_error script k (length history)) list.drift deviation
     (clock_ready list script history chosen k runs.inside ∙ runs.before) is runs.drift runs.error
@@ -68,22 +76,26 @@ begun_place list script history chosen p k place diary (entry.Joined sender csta
 begun_place list script history chosen p k place diary _ h = absurd h
 
 pub begun_near : (list : Medl) (script : Script) (history : History) (chosen : List Chosen) (p k : ℕ) (place : Place) (o : ℤ) (e : Entry) → RunsFrom list script history k o
-    → BeginsOn list script history chosen p place k e → IsUpTo (list.error +ℤ list.drift) (moved script k o (join_deviation e) -ℤ frame_of list script history chosen p)
+    → BeginsOn list script history chosen p place k e
+    → IsUpTo (list.error +ℤ list.drift) (moved script k o (join_deviation e) -ℤ frame_of list script history chosen p)
 begun_near list script history chosen p k place o entry.Started runs h =
     own_near (frame_of list script history chosen p) o (drift_of script k) list.error list.drift (pos 0) (own_frame list script history chosen k p o runs h.0) runs.drift runs.error_up refl
-begun_near list script history chosen p k place o (entry.Joined sender cstate deviation) runs h = other_frame list script history chosen k p o deviation runs h.1
+begun_near list script history chosen p k place o (entry.Joined sender cstate deviation) runs h =
+    other_frame list script history chosen k p o deviation runs h.1
 begun_near list script history chosen p k place o _ runs h = absurd h
 
 -- Notes.
 
-with_note : (w z d x : ℤ) (sync : Bool) → IsUpTo w ((z +ℤ d) -ℤ x) → Locate w z (cond sync (d ∷ []) []) (cond sync (x ∷ []) [])
+with_note : (w z d x : ℤ) (sync : Bool) → IsUpTo w ((z +ℤ d) -ℤ x)
+    → Locate w z (cond sync (d ∷ []) []) (cond sync (x ∷ []) [])
 with_note w z d x true near = (near, tt)
 with_note w z d x false near = tt
 
 note_nothing : (w z x : ℤ) → IsUpTo w (z -ℤ x) → IsUpTo w ((z +ℤ pos 0) -ℤ x)
 note_nothing w z x near = (omega (arith, ints, near.0, near.1), omega (arith, ints, near.0, near.1))
 
-note_later : (w o d v x : ℤ) → IsUpTo w ((o +ℤ (pos 0 +ℤ (d +ℤ v))) -ℤ x) → IsUpTo w (((o +ℤ (pos 0 +ℤ (d +ℤ pos 0))) +ℤ v) -ℤ x)
+note_later : (w o d v x : ℤ) → IsUpTo w ((o +ℤ (pos 0 +ℤ (d +ℤ v))) -ℤ x)
+    → IsUpTo w (((o +ℤ (pos 0 +ℤ (d +ℤ pos 0))) +ℤ v) -ℤ x)
 note_later w o d v x near = (omega (arith, ints, near.0, near.1), omega (arith, ints, near.0, near.1))
 
 -- where one of the nodes' frames is noted in a slot, the frames that are located
@@ -93,7 +105,8 @@ frames_at list place frame = cond (plan_at list place.slot).sync (frame ∷ []) 
 -- the first note of a stint is 0
 pub begun_noted : (list : Medl) (script : Script) (history : History) (chosen : List Chosen) (p k : ℕ) (place : Place) (w z x : ℤ) (e : Entry) → BeginsOn list script history chosen p place k e
     → IsUpTo w (z -ℤ x) → Locate w z (notes_in list place e) (frames_at list place x)
-begun_noted list script history chosen p k place w z x entry.Started h near = with_note w z (pos 0) x (plan_at list place.slot).sync (note_nothing w z x near)
+begun_noted list script history chosen p k place w z x entry.Started h near =
+    with_note w z (pos 0) x (plan_at list place.slot).sync (note_nothing w z x near)
 begun_noted list script history chosen p k place w z x (entry.Joined sender cstate deviation) h near = with_note w z (pos 0) x (plan_at list place.slot).sync (note_nothing w z x near)
 begun_noted list script history chosen p k place w z x _ h near = absurd h
 

@@ -1,7 +1,9 @@
 -- A group of nodes with clocks and notes: what one slot more, and the correction at the end of a round, make of them.
 --
 -- The clocks are those after slot t - 1, which is slot m of its round; the group began in slot s.
-use Rattle.std.proofs.Common.{◌≡◌, ℕ, suc, ◌≢◌, ◌+◌, ◌*◌, ◌<◌, ◌≤◌, ℤ, pos, negsuc, ◌+ℤ◌, ◌-ℤ◌, ◌*ℤ◌, ◌≤ℤ◌, Bool, true, false, cond, ◌⊎◌, inl, inr, List, [], ◌∷◌, ◌++◌, length, refl, ap, sym, subst, ◌∙◌, mul-le-mul_left, arith}
+use Rattle.std.proofs.Common.{◌≡◌, ℕ, suc, ◌≢◌, ◌+◌, ◌*◌, ◌<◌, ◌≤◌, ℤ, pos, negsuc, ◌+ℤ◌, ◌-ℤ◌, ◌*ℤ◌, ◌≤ℤ◌, Bool, true}
+use Rattle.std.proofs.Common.{false, cond, ◌⊎◌, inl, inr, List, [], ◌∷◌, ◌++◌, length, refl, ap, sym, subst, ◌∙◌}
+use Rattle.std.proofs.Common.{mul-le-mul_left, arith}
 use Rattle.std.specs.Prelude.{◌==◌}
 use Rattle.std.proofs.lemmas.Bool.{eqb-true, eqb-false}
 use Rattle.std.proofs.lemmas.Int.{ints}
@@ -17,7 +19,8 @@ drift_in list m = list.drift *ℤ pos m
 
 -- how far apart clocks are after a round's average
 abbrev pub after_average : Medl → ℤ
-after_average list = (drift_in list (length list.slots) +ℤ drift_in list (length list.slots)) +ℤ ((list.error +ℤ list.error) +ℤ pos 1)
+after_average list =
+    (drift_in list (length list.slots) +ℤ drift_in list (length list.slots)) +ℤ ((list.error +ℤ list.error) +ℤ pos 1)
 
 -- how far apart a group's clocks have drifted that were so far apart before this round
 abbrev pub drifted : Medl → ℤ → ℕ → ℤ
@@ -33,7 +36,8 @@ product_upto : (d : ℤ) (m n : ℕ) → pos 0 ≤ℤ d → m ≤ n → (d *ℤ 
 product_upto (pos a) m n up few = omega (arith, ints, mul-le-mul_left a few)
 product_upto (negsuc a) m n up few = absurd (omega (arith, ints, up))
 
-product_four : (d : ℤ) (n : ℕ) → pos 0 ≤ℤ d → d *ℤ pos (4 * n) ≡ (d *ℤ pos n +ℤ d *ℤ pos n) +ℤ (d *ℤ pos n +ℤ d *ℤ pos n)
+product_four : (d : ℤ) (n : ℕ) → pos 0 ≤ℤ d
+    → d *ℤ pos (4 * n) ≡ (d *ℤ pos n +ℤ d *ℤ pos n) +ℤ (d *ℤ pos n +ℤ d *ℤ pos n)
 product_four (pos a) n up = omega (arith, ints)
 product_four (negsuc a) n up = absurd (omega (arith, ints, up))
 
@@ -79,20 +83,25 @@ pub data Held (list : Medl) (group : ℕ → Type 0) (s t m : ℕ) (clock : ℕ 
 
 -- One slot more.
 
-apart_more : (b d p q x y u v : ℤ) → (x -ℤ y) ≤ℤ (b +ℤ (p +ℤ p)) → IsUpTo d (u -ℤ x) → IsUpTo d (v -ℤ y) → q ≡ p +ℤ d → (u -ℤ v) ≤ℤ (b +ℤ (q +ℤ q))
+apart_more : (b d p q x y u v : ℤ) → (x -ℤ y) ≤ℤ (b +ℤ (p +ℤ p)) → IsUpTo d (u -ℤ x) → IsUpTo d (v -ℤ y) → q ≡ p +ℤ d
+    → (u -ℤ v) ≤ℤ (b +ℤ (q +ℤ q))
 apart_more b d p q x y u v near h g is = omega (arith, ints, near, h.0, h.1, g.0, g.1, is)
 
-apart_anew : (b d q x y u v : ℤ) → (x -ℤ y) ≤ℤ b → IsUpTo d (u -ℤ x) → IsUpTo d (v -ℤ y) → q ≡ d → (u -ℤ v) ≤ℤ (b +ℤ (q +ℤ q))
+apart_anew : (b d q x y u v : ℤ) → (x -ℤ y) ≤ℤ b → IsUpTo d (u -ℤ x) → IsUpTo d (v -ℤ y) → q ≡ d
+    → (u -ℤ v) ≤ℤ (b +ℤ (q +ℤ q))
 apart_anew b d q x y u v near h g is = omega (arith, ints, near, h.0, h.1, g.0, g.1, is)
 
-located_later : (w d v b c n x : ℤ) → IsUpTo w ((b +ℤ n) -ℤ x) → IsUpTo d (c -ℤ b) → v ≡ w +ℤ d → IsUpTo v ((c +ℤ n) -ℤ x)
-located_later w d v b c n x p h is = (omega (arith, ints, p.0, p.1, h.0, h.1, is), omega (arith, ints, p.0, p.1, h.0, h.1, is))
+located_later : (w d v b c n x : ℤ) → IsUpTo w ((b +ℤ n) -ℤ x) → IsUpTo d (c -ℤ b) → v ≡ w +ℤ d
+    → IsUpTo v ((c +ℤ n) -ℤ x)
+located_later w d v b c n x p h is =
+    (omega (arith, ints, p.0, p.1, h.0, h.1, is), omega (arith, ints, p.0, p.1, h.0, h.1, is))
 
 Locate-later : (w d v b c : ℤ) (ds xs : List ℤ) → IsUpTo d (c -ℤ b) → v ≡ w +ℤ d → Locate w b ds xs → Locate v c ds xs
 Locate-later w d v b c [] [] h is p = tt
 Locate-later w d v b c [] (x ∷ xs) h is p = absurd p
 Locate-later w d v b c (n ∷ ds) [] h is p = absurd p
-Locate-later w d v b c (n ∷ ds) (x ∷ xs) h is p = (located_later w d v b c n x p.0 h is, Locate-later w d v b c ds xs h is p.1)
+Locate-later w d v b c (n ∷ ds) (x ∷ xs) h is p =
+    (located_later w d v b c n x p.0 h is, Locate-later w d v b c ds xs h is p.1)
 
 wider_of : (w v z : ℤ) → w ≤ℤ v → IsUpTo w z → IsUpTo v z
 wider_of w v z wide p = (omega (arith, ints, wide, p.0), omega (arith, ints, wide, p.1))
@@ -103,7 +112,8 @@ Locate-wider w v b [] (x ∷ xs) wide p = absurd p
 Locate-wider w v b (n ∷ ds) [] wide p = absurd p
 Locate-wider w v b (n ∷ ds) (x ∷ xs) wide p = (wider_of w v ((b +ℤ n) -ℤ x) wide p.0, Locate-wider w v b ds xs wide p.1)
 
-Locate-append : (w b : ℤ) (ds xs es ys : List ℤ) → Locate w b ds xs → Locate w b es ys → Locate w b (ds ++ es) (xs ++ ys)
+Locate-append : (w b : ℤ) (ds xs es ys : List ℤ) → Locate w b ds xs → Locate w b es ys
+    → Locate w b (ds ++ es) (xs ++ ys)
 Locate-append w b [] [] es ys p q = q
 Locate-append w b [] (x ∷ xs) es ys p q = absurd p
 Locate-append w b (d ∷ ds) [] es ys p q = absurd p
@@ -117,7 +127,8 @@ add_below e p q below = omega (arith, ints, below)
 
 -- within a round the notes of the slot come to those that there are
 pub inside_round : (list : Medl) (group : ℕ → Type 0) (s t m : ℕ) (clock later : ℕ → ℤ) (notes added all : ℕ → List ℤ) (new : List ℤ) → pos 0 ≤ℤ list.drift
-    → Uncorrected list group s t m clock notes → HaveDrifted list group clock later → HaveNoted group (list.error +ℤ list.drift) later added new
+    → Uncorrected list group s t m clock notes → HaveDrifted list group clock later
+    → HaveNoted group (list.error +ℤ list.drift) later added new
     → ((k : ℕ) → group k → all k ≡ added k ++ notes k) → Uncorrected list group s (suc t) (suc m) later all
 inside_round list group s t m clock later notes added all new up before moved noted is = record {
   apart = λ j k p q. apart_more (after_average list) list.drift (drift_in list (suc m)) (drift_in list (suc (suc m))) (clock j) (clock k) (later j) (later k)
@@ -135,7 +146,8 @@ inside_round list group s t m clock later notes added all new up before moved no
 
 -- after the end of a round they are the first
 pub new_round : (list : Medl) (group : ℕ → Type 0) (s t : ℕ) (clock later : ℕ → ℤ) (added all : ℕ → List ℤ) (new : List ℤ) → pos 0 ≤ℤ list.drift → s < t
-    → AreWithin group clock (after_average list) → HaveDrifted list group clock later → HaveNoted group (list.error +ℤ list.drift) later added new
+    → AreWithin group clock (after_average list) → HaveDrifted list group clock later
+    → HaveNoted group (list.error +ℤ list.drift) later added new
     → ((k : ℕ) → group k → all k ≡ added k) → Uncorrected list group s (suc t) 0 later all
 new_round list group s t clock later added all new up began before moved noted is = record {
   apart = λ j k p q. apart_anew (after_average list) list.drift (drift_in list 1) (clock j) (clock k) (later j) (later k)
@@ -147,7 +159,8 @@ new_round list group s t clock later added all new up began before moved noted i
       (add_below list.error list.drift (drift_in list 1) (product_once list.drift 0 up)) (noted k p));
 }
 
-begun_apart : (e q d x y z : ℤ) → IsUpTo (e +ℤ d) (y -ℤ x) → IsUpTo (e +ℤ d) (z -ℤ x) → d ≤ℤ q → (y -ℤ z) ≤ℤ ((e +ℤ e) +ℤ (q +ℤ q))
+begun_apart : (e q d x y z : ℤ) → IsUpTo (e +ℤ d) (y -ℤ x) → IsUpTo (e +ℤ d) (z -ℤ x) → d ≤ℤ q
+    → (y -ℤ z) ≤ℤ ((e +ℤ e) +ℤ (q +ℤ q))
 begun_apart e q d x y z h g wide = omega (arith, ints, h.0, h.1, g.0, g.1, wide)
 
 wider_apart : (a b c z : ℤ) → z ≤ℤ (a +ℤ c) → a ≤ℤ b → z ≤ℤ (b +ℤ c)
@@ -158,7 +171,8 @@ average_more e n up = omega (arith, ints, up)
 
 -- after the slot in which the group began, on one frame
 pub begun_round : (list : Medl) (group : ℕ → Type 0) (s t m : ℕ) (frame : ℤ) (clock : ℕ → ℤ) (notes : ℕ → List ℤ) (new : List ℤ) → pos 0 ≤ℤ list.drift
-    → ((k : ℕ) → group k → IsUpTo (list.error +ℤ list.drift) (clock k -ℤ frame)) → HaveNoted group (list.error +ℤ list.drift) clock notes new
+    → ((k : ℕ) → group k → IsUpTo (list.error +ℤ list.drift) (clock k -ℤ frame))
+    → HaveNoted group (list.error +ℤ list.drift) clock notes new
     → Uncorrected list group s t m clock notes
 begun_round list group s t m frame clock notes new up near noted =
     let wide : list.drift ≤ℤ drift_in list (suc m) = product_once list.drift m up in
@@ -177,7 +191,8 @@ begun_round list group s t m frame clock notes new up near noted =
 pub plus_none : (z : ℤ) → z +ℤ pos 0 ≡ z
 plus_none z = omega (arith, ints)
 
-averaged_bound : (w v e n b : ℤ) → w ≡ (e +ℤ n) → b ≡ (n +ℤ n) +ℤ ((e +ℤ e) +ℤ pos 1) → v ≤ℤ ((w +ℤ w) +ℤ pos 1) → v ≤ℤ b
+averaged_bound : (w v e n b : ℤ) → w ≡ (e +ℤ n) → b ≡ (n +ℤ n) +ℤ ((e +ℤ e) +ℤ pos 1) → v ≤ℤ ((w +ℤ w) +ℤ pos 1)
+    → v ≤ℤ b
 averaged_bound w v e n b is was h = omega (arith, ints, is, was, h)
 
 unaveraged_bound : (e n o b c p q : ℤ) → o ≡ n → p ≡ pos 0 → q ≡ pos 0 → (b -ℤ c) ≤ℤ ((e +ℤ e) +ℤ (o +ℤ o))
@@ -191,7 +206,8 @@ early_or_late : (t n : ℕ) → (t ≤ n) ⊎ (n < t)
 early_or_late t n = grind arith
 
 -- at the end of a round each takes its average; there are four notes or more, but in the first round
-averaged : (list : Medl) (group : ℕ → Type 0) (s t m : ℕ) (clock : ℕ → ℤ) (notes : ℕ → List ℤ) → suc m ≡ length list.slots
+averaged : (list : Medl) (group : ℕ → Type 0) (s t m : ℕ) (clock : ℕ → ℤ) (notes : ℕ → List ℤ)
+    → suc m ≡ length list.slots
     → Uncorrected list group s t m clock notes → (s + length list.slots < t → (k : ℕ) → group k → 4 ≤ length (notes k))
     → (j k : ℕ) → group j → group k → ((clock j +ℤ fta (notes j)) -ℤ (clock k +ℤ fta (notes k))) ≤ℤ after_average list
 averaged list group s t m clock notes ends held enough j k p q =
@@ -214,10 +230,13 @@ averaged list group s t m clock notes ends held enough j k p q =
 pub same_apart : (b c x y : ℤ) (bound : ℤ) → x ≡ b → y ≡ c → (b -ℤ c) ≤ℤ bound → (x -ℤ y) ≤ℤ bound
 same_apart b c x y bound is was h = omega (arith, ints, is, was, h)
 
-AreWithin-same : (group : ℕ → Type 0) (clock same : ℕ → ℤ) (bound : ℤ) → ((k : ℕ) → group k → same k ≡ clock k) → AreWithin group clock bound → AreWithin group same bound
-AreWithin-same group clock same bound is h = λ j k p q. same_apart (clock j) (clock k) (same j) (same k) bound (is j p) (is k q) (h j k p q)
+AreWithin-same : (group : ℕ → Type 0) (clock same : ℕ → ℤ) (bound : ℤ) → ((k : ℕ) → group k → same k ≡ clock k)
+    → AreWithin group clock bound → AreWithin group same bound
+AreWithin-same group clock same bound is h =
+    λ j k p q. same_apart (clock j) (clock k) (same j) (same k) bound (is j p) (is k q) (h j k p q)
 
-Uncorrected-same : (list : Medl) (group : ℕ → Type 0) (s t m : ℕ) (clock same : ℕ → ℤ) (notes : ℕ → List ℤ) → ((k : ℕ) → group k → same k ≡ clock k)
+Uncorrected-same : (list : Medl) (group : ℕ → Type 0) (s t m : ℕ) (clock same : ℕ → ℤ) (notes : ℕ → List ℤ)
+    → ((k : ℕ) → group k → same k ≡ clock k)
     → Uncorrected list group s t m clock notes → Uncorrected list group s t m same notes
 Uncorrected-same list group s t m clock same notes is held = record {
   apart = AreWithin-same group clock same (drifted list (after_average list) m) is held.apart;
@@ -230,15 +249,19 @@ Uncorrected-same list group s t m clock same notes is held = record {
 abbrev pub correction : Medl → ℕ → List ℤ → ℤ
 correction list m notes = cond (suc m == length list.slots) (fta notes) (pos 0)
 
-corrected_last : (list : Medl) (m : ℕ) (notes : List ℤ) (z c : ℤ) → (suc m == length list.slots) ≡ true → c ≡ z +ℤ correction list m notes → c ≡ z +ℤ fta notes
+corrected_last : (list : Medl) (m : ℕ) (notes : List ℤ) (z c : ℤ) → (suc m == length list.slots) ≡ true
+    → c ≡ z +ℤ correction list m notes → c ≡ z +ℤ fta notes
 corrected_last list m notes z c last is = is ∙ ap (λ b. z +ℤ cond b (fta notes) (pos 0)) last
 
-corrected_inside : (list : Medl) (m : ℕ) (notes : List ℤ) (z c : ℤ) → (suc m == length list.slots) ≡ false → c ≡ z +ℤ correction list m notes → c ≡ z
+corrected_inside : (list : Medl) (m : ℕ) (notes : List ℤ) (z c : ℤ) → (suc m == length list.slots) ≡ false
+    → c ≡ z +ℤ correction list m notes → c ≡ z
 corrected_inside list m notes z c inside is = is ∙ ap (λ b. z +ℤ cond b (fta notes) (pos 0)) inside ∙ plus_none z
 
 -- so the group is held after the slot
-pub held_after : (list : Medl) (group : ℕ → Type 0) (s t m : ℕ) (clock after : ℕ → ℤ) (notes : ℕ → List ℤ) → m < length list.slots
-    → Uncorrected list group s t m clock notes → (suc m ≡ length list.slots → s + length list.slots < t → (k : ℕ) → group k → 4 ≤ length (notes k))
+pub held_after : (list : Medl) (group : ℕ → Type 0) (s t m : ℕ) (clock after : ℕ → ℤ) (notes : ℕ → List ℤ)
+    → m < length list.slots
+    → Uncorrected list group s t m clock notes
+    → (suc m ≡ length list.slots → s + length list.slots < t → (k : ℕ) → group k → 4 ≤ length (notes k))
     → ((k : ℕ) → group k → after k ≡ clock k +ℤ correction list m (notes k)) → Held list group s t m after notes
 held_after list group s t m clock after notes inside held enough is = by_test (suc m == length list.slots) refl
   where
@@ -253,20 +276,26 @@ held_after list group s t m clock after notes inside held enough is = by_test (s
 
 -- The spread.
 
-running_bound : (z n o e : ℤ) → z ≤ℤ (((n +ℤ n) +ℤ ((e +ℤ e) +ℤ pos 1)) +ℤ (o +ℤ o)) → o ≤ℤ n → z ≤ℤ (((n +ℤ n) +ℤ (n +ℤ n)) +ℤ (e *ℤ pos 2 +ℤ pos 1))
+running_bound : (z n o e : ℤ) → z ≤ℤ (((n +ℤ n) +ℤ ((e +ℤ e) +ℤ pos 1)) +ℤ (o +ℤ o)) → o ≤ℤ n
+    → z ≤ℤ (((n +ℤ n) +ℤ (n +ℤ n)) +ℤ (e *ℤ pos 2 +ℤ pos 1))
 running_bound z n o e h below = omega (arith, ints, h, below)
 
-corrected_bound : (z n e : ℤ) → z ≤ℤ ((n +ℤ n) +ℤ ((e +ℤ e) +ℤ pos 1)) → pos 0 ≤ℤ n → z ≤ℤ (((n +ℤ n) +ℤ (n +ℤ n)) +ℤ (e *ℤ pos 2 +ℤ pos 1))
+corrected_bound : (z n e : ℤ) → z ≤ℤ ((n +ℤ n) +ℤ ((e +ℤ e) +ℤ pos 1)) → pos 0 ≤ℤ n
+    → z ≤ℤ (((n +ℤ n) +ℤ (n +ℤ n)) +ℤ (e *ℤ pos 2 +ℤ pos 1))
 corrected_bound z n e h up = omega (arith, ints, h, up)
 
-share_bound : (d : ℤ) (n : ℕ) (e z : ℤ) → pos 0 ≤ℤ d → z ≤ℤ (((d *ℤ pos n +ℤ d *ℤ pos n) +ℤ (d *ℤ pos n +ℤ d *ℤ pos n)) +ℤ (e *ℤ pos 2 +ℤ pos 1))
+share_bound : (d : ℤ) (n : ℕ) (e z : ℤ) → pos 0 ≤ℤ d
+    → z ≤ℤ (((d *ℤ pos n +ℤ d *ℤ pos n) +ℤ (d *ℤ pos n +ℤ d *ℤ pos n)) +ℤ (e *ℤ pos 2 +ℤ pos 1))
     → z ≤ℤ (d *ℤ pos (4 * n) +ℤ (e *ℤ pos 2 +ℤ pos 1))
 share_bound d n e z up h = rw (product_four d n up) h
 
-pub held_within : (list : Medl) (group : ℕ → Type 0) (s t m : ℕ) (clock : ℕ → ℤ) (notes : ℕ → List ℤ) → pos 0 ≤ℤ list.drift → Held list group s t m clock notes
+pub held_within : (list : Medl) (group : ℕ → Type 0) (s t m : ℕ) (clock : ℕ → ℤ) (notes : ℕ → List ℤ)
+    → pos 0 ≤ℤ list.drift → Held list group s t m clock notes
     → AreWithin group clock (spread list)
-held_within list group s t m clock notes up (Corrected ends apart) = λ j k p q. share_bound list.drift (length list.slots) list.error (clock j -ℤ clock k) up
+held_within list group s t m clock notes up (Corrected ends apart) =
+    λ j k p q. share_bound list.drift (length list.slots) list.error (clock j -ℤ clock k) up
     (corrected_bound (clock j -ℤ clock k) (drift_in list (length list.slots)) list.error (apart j k p q) (product_up list.drift (length list.slots) up))
-held_within list group s t m clock notes up (Running inside held) = λ j k p q. share_bound list.drift (length list.slots) list.error (clock j -ℤ clock k) up
+held_within list group s t m clock notes up (Running inside held) =
+    λ j k p q. share_bound list.drift (length list.slots) list.error (clock j -ℤ clock k) up
     (running_bound (clock j -ℤ clock k) (drift_in list (length list.slots)) (drift_in list (suc m)) list.error (held.apart j k p q)
     (product_upto list.drift (suc m) (length list.slots) up (omega (arith, inside))))

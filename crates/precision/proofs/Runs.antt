@@ -1,5 +1,6 @@
 -- Nodes that run together: in each slot all are at the same place, and their clocks are held.
-use Rattle.std.proofs.Common.{◌≡◌, ◌≢◌, ℕ, suc, ◌+◌, ◌<◌, ◌≤◌, ℤ, pos, ◌+ℤ◌, ◌-ℤ◌, ◌*ℤ◌, ◌≤ℤ◌, Bool, true, false, inl, inr, List, [], ◌∷◌, length, None, refl, ap, sym, subst, ◌∙◌, arith}
+use Rattle.std.proofs.Common.{◌≡◌, ◌≢◌, ℕ, suc, ◌+◌, ◌<◌, ◌≤◌, ℤ, pos, ◌+ℤ◌, ◌-ℤ◌, ◌*ℤ◌, ◌≤ℤ◌, Bool, true, false, inl}
+use Rattle.std.proofs.Common.{inr, List, [], ◌∷◌, length, None, refl, ap, sym, subst, ◌∙◌, arith}
 use Rattle.std.specs.Prelude.{◌==◌}
 use Rattle.std.proofs.lemmas.Bool.{cond_both, eqb-true, eqb-false}
 use Rattle.std.proofs.lemmas.Int.{ints}
@@ -8,19 +9,25 @@ use Rattle.ttp_world.specs.declared.node.Entry.{Entry}
 use Rattle.ttp_world.specs.declared.script.Script.{Script}
 use Rattle.ttp_world.specs.After.{is_active_entry}
 use Rattle.ttp_world.specs.Clock.{join_deviation, notes_in, stint_notes, offset_of}
-use Rattle.ttp_world.specs.Diary.{History, entry_of, diary_of, continues_stint, begins_stint, Place, next_place, stint_place, place_of, ends_round}
+use Rattle.ttp_world.specs.Diary.{History, entry_of, diary_of, continues_stint, begins_stint, Place, next_place}
+use Rattle.ttp_world.specs.Diary.{stint_place, place_of, ends_round}
 use Rattle.ttp_world.specs.Hypothesis.{drift_share, needed, clocks_broken}
 use Rattle.ttp_world.specs.Medium.{surroundings_in, surroundings_of}
 use Rattle.ttp_world.specs.Medl.{IsValid}
 use Rattle.ttp_world.specs.Script.{drift_of, jump_of, reading_error}
 use Rattle.ttp_world.specs.World.{ready_nodes, ready_of}
 use Rattle.precision.specs.Spread.{spread}
-use Rattle.precision.specs.Together.{IsIn, BeganTogether, NotedAlike, Nothing, OneFrame, StayedTogether, RanTogether, NoneJumps, IsCommonRun, clock_at, HoldsClocksWithin, HoldsDeviationsWithin}
+use Rattle.precision.specs.Together.{IsIn, BeganTogether, NotedAlike, Nothing, OneFrame, StayedTogether, RanTogether}
+use Rattle.precision.specs.Together.{NoneJumps, IsCommonRun, clock_at, HoldsClocksWithin, HoldsDeviationsWithin}
 use Rattle.precision.proofs.Averages.{IsUpTo, Locate}
-use Rattle.precision.proofs.Frames.{frame_of, RunsFrom, moved, begun_stint, begun_place, begun_near, frames_at, begun_noted, told_noted, joins_nothing}
+use Rattle.precision.proofs.Frames.{frame_of, RunsFrom, moved, begun_stint, begun_place, begun_near, frames_at}
+use Rattle.precision.proofs.Frames.{begun_noted, told_noted, joins_nothing}
 use Rattle.precision.proofs.ClockBounds.{drift_within, error_within}
-use Rattle.precision.proofs.Rounds.{HaveNoted, Uncorrected, Held, Corrected, Running, inside_round, new_round, begun_round, correction, held_after, same_apart, held_within}
-use Rattle.precision.proofs.Entries.{begun_active, continued_active, place_of-active, notes_of-active, place_continued, notes_anew, notes_more, begun_round_first, first_slot_first, later_slot_later, offset_corrected, clock_at-still, clock_ready}
+use Rattle.precision.proofs.Rounds.{HaveNoted, Uncorrected, Held, Corrected, Running, inside_round, new_round}
+use Rattle.precision.proofs.Rounds.{begun_round, correction, held_after, same_apart, held_within}
+use Rattle.precision.proofs.Entries.{begun_active, continued_active, place_of-active, notes_of-active, place_continued}
+use Rattle.precision.proofs.Entries.{notes_anew, notes_more, begun_round_first, first_slot_first, later_slot_later}
+use Rattle.precision.proofs.Entries.{offset_corrected, clock_at-still, clock_ready}
 
 -- node k's clock after a history, and its notes of the newest slot's round
 abbrev clock_after : Medl → Script → History → ℕ → ℤ
@@ -44,7 +51,8 @@ record RunsOn (list : Medl) (script : Script) (group : ℕ → Bool) (history : 
 
 -- The clock after one slot more.
 
-clock_next : (list : Medl) (script : Script) (row : List Entry) (history : History) (k : ℕ) (place : Place) → jump_of script k (length history) ≡ pos 0
+clock_next : (list : Medl) (script : Script) (row : List Entry) (history : History) (k : ℕ) (place : Place)
+    → jump_of script k (length history) ≡ pos 0
     → is_active_entry (entry_of row k) ≡ true → stint_place list k (diary_of (row ∷ history) k) ≡ place
     → clock_after list script (row ∷ history) k
     ≡ moved script k (clock_after list script history k) (join_deviation (entry_of row k)) +ℤ correction list place.slot (round_notes list (row ∷ history) k)
@@ -54,7 +62,8 @@ clock_next list script row history k place still active is =
 
 -- Beginning.
 
-began_kept : (list : Medl) (script : Script) (group : ℕ → Bool) (s : ℕ) (row : List Entry) (history : History) → length history ≡ s → RunsOn list script group history
+began_kept : (list : Medl) (script : Script) (group : ℕ → Bool) (s : ℕ) (row : List Entry) (history : History)
+    → length history ≡ s → RunsOn list script group history
     → BeganTogether list script group row history → Kept list script group s (row ∷ history)
 began_kept list script group s row history first on began = record {
   place = place;
@@ -83,7 +92,8 @@ began_kept list script group s row history first on began = record {
     places : (k : ℕ) → IsIn list group k → stint_place list k (diary_of (row ∷ history) k) ≡ began.place
     places k p = begun_place list script history began.chosen began.sender k began.place (diary_of history k) (entry_of row k) (began.begins k p)
 
-    notes : (k : ℕ) → IsIn list group k → round_notes list (row ∷ history) k ≡ notes_in list began.place (entry_of row k)
+    notes : (k : ℕ) → IsIn list group k → round_notes list (row ∷ history) k
+        ≡ notes_in list began.place (entry_of row k)
     notes k p = notes_anew list k (diary_of history k) (entry_of row k) began.place (places k p) (begun_round_first began.place (entry_of row k) (begins k p))
 
     near : (k : ℕ) → IsIn list group k → IsUpTo (list.error +ℤ list.drift) (clock k -ℤ frame)
@@ -102,7 +112,8 @@ next_first list place ends =
     cond_both (suc place.slot == length list.slots) _ _ (λ (there : Place). there.slot ≡ 0)
     (λ last. refl) (λ other. absurd (eqb-false (suc place.slot) (length list.slots) other ends))
 
-next_later : (list : Medl) (place : Place) → suc place.slot < length list.slots → (next_place list place).slot ≡ suc place.slot
+next_later : (list : Medl) (place : Place) → suc place.slot < length list.slots
+    → (next_place list place).slot ≡ suc place.slot
 next_later list place less =
     cond_both (suc place.slot == length list.slots) _ _ (λ (there : Place). there.slot ≡ suc place.slot)
     (λ last. absurd (omega (arith, less, eqb-true (suc place.slot) (length list.slots) last))) (λ other. omega arith)
@@ -112,9 +123,12 @@ abbrev clock_moved : Medl → Script → History → ℕ → ℤ
 clock_moved list script history k = moved script k (clock_after list script history k) (pos 0)
 
 -- what the group notes in the slot tells of the same frames
-noted_alike : (list : Medl) (script : Script) (group : ℕ → Bool) (row : List Entry) (history : History) (place : Place) → RunsOn list script group history
-    → ((k : ℕ) → IsIn list group k → place_of list k (diary_of (row ∷ history) k) ≡ place) → NotedAlike list script group row history
-    → (new : List ℤ) × HaveNoted (IsIn list group) (list.error +ℤ list.drift) (clock_moved list script history) (λ k. notes_in list place (entry_of row k)) new
+noted_alike : (list : Medl) (script : Script) (group : ℕ → Bool) (row : List Entry) (history : History) (place : Place)
+    → RunsOn list script group history
+    → ((k : ℕ) → IsIn list group k → place_of list k (diary_of (row ∷ history) k) ≡ place)
+    → NotedAlike list script group row history
+    → (new : List ℤ)
+    × HaveNoted (IsIn list group) (list.error +ℤ list.drift) (clock_moved list script history) (λ k. notes_in list place (entry_of row k)) new
 noted_alike list script group row history place on places (Nothing none) = (
   [],
   λ k p. subst (λ ns. Locate (list.error +ℤ list.drift) (clock_moved list script history k) ns [])
@@ -125,7 +139,8 @@ noted_alike list script group row history place on places (OneFrame chosen p tel
 
 -- the clocks and notes after the slot but for the correction
 stayed_uncorrected : (list : Medl) (script : Script) (group : ℕ → Bool) (s : ℕ) (row : List Entry) (history : History) (place : Place) (new : List ℤ)
-    → RunsOn list script group history → s < length history → ((k : ℕ) → IsIn list group k → continues_stint (entry_of row k) ≡ true)
+    → RunsOn list script group history → s < length history
+    → ((k : ℕ) → IsIn list group k → continues_stint (entry_of row k) ≡ true)
     → ((k : ℕ) → IsIn list group k → stint_place list k (diary_of (row ∷ history) k) ≡ next_place list place)
     → HaveNoted (IsIn list group) (list.error +ℤ list.drift) (clock_moved list script history) (λ k. notes_in list (next_place list place) (entry_of row k)) new
     → Held list (IsIn list group) s (length history) place.slot (clock_after list script history) (round_notes list history)
@@ -144,7 +159,8 @@ stayed_uncorrected list script group s row history place new on later goes place
     (λ k p. notes_more list k (diary_of history k) (entry_of row k) (next_place list place) (places k p)
     (later_slot_later (next_place list place) (entry_of row k) place.slot (next_later list place less) (goes k p))))
 
-next_inside : (list : Medl) (place : Place) → place.slot < length list.slots → (next_place list place).slot < length list.slots
+next_inside : (list : Medl) (place : Place) → place.slot < length list.slots
+    → (next_place list place).slot < length list.slots
 next_inside list place inside =
     cond_both (suc place.slot == length list.slots) _ _ (λ (there : Place). there.slot < length list.slots)
     (λ last. omega (arith, inside)) (λ other. less_of other)
@@ -152,8 +168,10 @@ next_inside list place inside =
     less_of : (suc place.slot == length list.slots) ≡ false → place.slot + 1 < length list.slots
     less_of other = let apart : suc place.slot ≢ length list.slots = eqb-false (suc place.slot) (length list.slots) other in omega (arith, inside, apart)
 
-stayed_kept : (list : Medl) (script : Script) (group : ℕ → Bool) (s : ℕ) (row : List Entry) (history : History) → s < length history → RunsOn list script group history
-    → StayedTogether list script group s row history → Kept list script group s history → Kept list script group s (row ∷ history)
+stayed_kept : (list : Medl) (script : Script) (group : ℕ → Bool) (s : ℕ) (row : List Entry) (history : History)
+    → s < length history → RunsOn list script group history
+    → StayedTogether list script group s row history → Kept list script group s history
+    → Kept list script group s (row ∷ history)
 stayed_kept list script group s row history later on stayed before = record {
   place = next_place list before.place;
   inside = next_inside list before.place before.inside;
@@ -166,30 +184,38 @@ stayed_kept list script group s row history later on stayed before = record {
       ∙ ap (λ z. moved script k (clock_after list script history k) z +ℤ correction list (next_place list before.place).slot (round_notes list (row ∷ history) k)) (joins_nothing (entry_of row k) (stayed.active k p)));
 }
   where
-    places : (k : ℕ) → IsIn list group k → stint_place list k (diary_of (row ∷ history) k) ≡ next_place list before.place
+    places : (k : ℕ) → IsIn list group k → stint_place list k (diary_of (row ∷ history) k)
+        ≡ next_place list before.place
     places k p = place_continued list k (diary_of history k) (entry_of row k) (stayed.active k p) ∙ ap (next_place list) (before.places k p)
 
-    public_places : (k : ℕ) → IsIn list group k → place_of list k (diary_of (row ∷ history) k) ≡ next_place list before.place
+    public_places : (k : ℕ) → IsIn list group k
+        → place_of list k (diary_of (row ∷ history) k) ≡ next_place list before.place
     public_places k p = place_of-active list k (diary_of history k) (entry_of row k) (continued_active (entry_of row k) (stayed.active k p)) ∙ places k p
 
-    told : (new : List ℤ) × HaveNoted (IsIn list group) (list.error +ℤ list.drift) (clock_moved list script history) (λ k. notes_in list (next_place list before.place) (entry_of row k)) new
+    told : (new : List ℤ)
+        × HaveNoted (IsIn list group) (list.error +ℤ list.drift) (clock_moved list script history) (λ k. notes_in list (next_place list before.place) (entry_of row k)) new
     told = noted_alike list script group row history (next_place list before.place) on public_places stayed.noted
 
-    enough : suc (next_place list before.place).slot ≡ length list.slots → s + length list.slots < suc (length history) → (k : ℕ) → IsIn list group k
+    enough : suc (next_place list before.place).slot ≡ length list.slots → s + length list.slots < suc (length history)
+        → (k : ℕ) → IsIn list group k
         → 4 ≤ length (round_notes list (row ∷ history) k)
     enough ends late k p =
-        let last : ends_round list (place_of list k (diary_of (row ∷ history) k)) ≡ true = ap (ends_round list) (public_places k p) ∙ same_test (suc (next_place list before.place).slot) (length list.slots) ends in
+        let last : ends_round list (place_of list k (diary_of (row ∷ history) k))
+        ≡ true = ap (ends_round list) (public_places k p) ∙ same_test (suc (next_place list before.place).slot) (length list.slots) ends in
         subst (λ ns. 4 ≤ length ns) (notes_of-active list k (diary_of history k) (entry_of row k) (continued_active (entry_of row k) (stayed.active k p)))
         (stayed.enough k p (last, omega (arith, late)))
 
 -- The whole run.
 
-ran_after : (list : Medl) (script : Script) (group : ℕ → Bool) (s : ℕ) (history : History) → RanTogether list script group s history → s < length history
+ran_after : (list : Medl) (script : Script) (group : ℕ → Bool) (s : ℕ) (history : History)
+    → RanTogether list script group s history → s < length history
 ran_after list script group s [] ran = absurd ran
 ran_after list script group s (row ∷ history) (inl began) = omega (arith, began.0)
-ran_after list script group s (row ∷ history) (inr stayed) = omega (arith, ran_after list script group s history stayed.0)
+ran_after list script group s (row ∷ history) (inr stayed) =
+    omega (arith, ran_after list script group s history stayed.0)
 
-runs_on : (list : Medl) (script : Script) (group : ℕ → Bool) (s : ℕ) (history : History) → IsValid list → clocks_broken list script ≡ None → length history < script.slots
+runs_on : (list : Medl) (script : Script) (group : ℕ → Bool) (s : ℕ) (history : History) → IsValid list
+    → clocks_broken list script ≡ None → length history < script.slots
     → s ≤ length history → NoneJumps list script group s (length history) → RunsOn list script group history
 runs_on list script group s history valid bounds within later jumps = record {
   up = valid.drift.0;
@@ -206,8 +232,10 @@ runs_on list script group s history valid bounds within later jumps = record {
     still : (k : ℕ) → IsIn list group k → jump_of script k (length history) ≡ pos 0
     still k p = jumps k (length history) p later (omega arith)
 
-kept : (list : Medl) (script : Script) (group : ℕ → Bool) (s : ℕ) (history : History) → IsValid list → clocks_broken list script ≡ None → length history ≤ script.slots
-    → NoneJumps list script group s (length history) → RanTogether list script group s history → Kept list script group s history
+kept : (list : Medl) (script : Script) (group : ℕ → Bool) (s : ℕ) (history : History) → IsValid list
+    → clocks_broken list script ≡ None → length history ≤ script.slots
+    → NoneJumps list script group s (length history) → RanTogether list script group s history
+    → Kept list script group s history
 kept list script group s [] valid bounds within jumps ran = absurd ran
 kept list script group s (row ∷ history) valid bounds within jumps (inl began) =
     began_kept list script group s row history began.0
@@ -220,7 +248,8 @@ kept list script group s (row ∷ history) valid bounds within jumps (inr stayed
 
 -- The bounds.
 
-at_beginning : (list : Medl) (script : Script) (group : ℕ → Bool) (s : ℕ) (history : History) (k : ℕ) → IsCommonRun list script group s history → IsIn list group k
+at_beginning : (list : Medl) (script : Script) (group : ℕ → Bool) (s : ℕ) (history : History) (k : ℕ)
+    → IsCommonRun list script group s history → IsIn list group k
     → clock_at list script history k ≡ clock_after list script history k
 at_beginning list script group s history k run p =
     let later : s < length history = ran_after list script group s history run.together in
@@ -234,9 +263,11 @@ clocks_within list valid script group s history run j k p q =
     (at_beginning list script group s history j run p) (at_beginning list script group s history k run q)
     (held_within list (IsIn list group) s (length history) ran.place.slot (clock_after list script history) (round_notes list history) valid.drift.0 ran.held j k p q)
 
-measured_of : (x y c d e r share : ℤ) → x ≡ c → y ≡ d → (c -ℤ d) ≤ℤ (share +ℤ (e *ℤ pos 2 +ℤ pos 1)) → (d -ℤ c) ≤ℤ (share +ℤ (e *ℤ pos 2 +ℤ pos 1)) → IsUpTo e r
+measured_of : (x y c d e r share : ℤ) → x ≡ c → y ≡ d → (c -ℤ d) ≤ℤ (share +ℤ (e *ℤ pos 2 +ℤ pos 1))
+    → (d -ℤ c) ≤ℤ (share +ℤ (e *ℤ pos 2 +ℤ pos 1)) → IsUpTo e r
     → IsUpTo (share +ℤ (e *ℤ pos 3 +ℤ pos 1)) ((x -ℤ y) +ℤ r)
-measured_of x y c d e r share is was apart back error = (omega (arith, ints, is, was, apart, back, error.0, error.1), omega (arith, ints, is, was, apart, back, error.0, error.1))
+measured_of x y c d e r share is was apart back error =
+    (omega (arith, ints, is, was, apart, back, error.0, error.1), omega (arith, ints, is, was, apart, back, error.0, error.1))
 
 pub deviations_within : (list : Medl) → IsValid list → HoldsDeviationsWithin list (needed list)
 unfolding HoldsClocksWithin HoldsDeviationsWithin

@@ -42,7 +42,8 @@ insert-first x (y ∷ ys) first = ap (λ b. cond b (x ∷ y ∷ ys) (y ∷ inser
 
 IsFirst-insert : (x z : ℤ) (xs : List ℤ) → x ≤ℤ z → IsFirst x xs → IsFirst x (insert_sorted z xs)
 IsFirst-insert x z [] below first = below
-IsFirst-insert x z (y ∷ ys) below first = cond_both (int_le z y) (z ∷ y ∷ ys) (y ∷ insert_sorted z ys) (IsFirst x) (λ h. below) (λ h. first)
+IsFirst-insert x z (y ∷ ys) below first =
+    cond_both (int_le z y) (z ∷ y ∷ ys) (y ∷ insert_sorted z ys) (IsFirst x) (λ h. below) (λ h. first)
 
 IsAscending-insert : (z : ℤ) (xs : List ℤ) → IsAscending xs → IsAscending (insert_sorted z xs)
 IsAscending-insert z [] up = (tt, tt)

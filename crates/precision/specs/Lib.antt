@@ -1,2 +1,3 @@
 pub mod Spread
 pub mod Together
+pub mod WorkedRun

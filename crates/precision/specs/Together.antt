@@ -3,7 +3,8 @@
 --
 -- A group of nodes is a test of their numbers. A history has its newest slot first, and its length is the number of the
 -- slot after it.
-use Rattle.std.specs.Prelude.{◌≡◌, ℕ, ◌+◌, ◌<◌, ◌≤◌, ℤ, pos, neg_ℤ, ◌-ℤ◌, ◌≤ℤ◌, Bool, ◌⊎◌, List, [], ◌∷◌, length, None, IsTrue}
+use Rattle.std.specs.Prelude.{◌≡◌, ℕ, ◌+◌, ◌<◌, ◌≤◌, ℤ, pos, neg_ℤ, ◌-ℤ◌, ◌≤ℤ◌, Bool, ◌⊎◌, List, [], ◌∷◌, length, None}
+use Rattle.std.specs.Prelude.{IsTrue}
 use Rattle.ttp_world.specs.declared.medl.Medl.{Medl}
 use Rattle.ttp_world.specs.declared.node.Chosen.{Chosen}
 use Rattle.ttp_world.specs.declared.node.Entry.{Entry}
@@ -11,7 +12,8 @@ use Rattle.ttp_world.specs.declared.node.Entry.TheVariants as entry
 use Rattle.ttp_world.specs.declared.script.Script.{Script}
 use Rattle.ttp_world.specs.Acknowledgement.{is_correct}
 use Rattle.ttp_world.specs.Clock.{notes_in, notes_of}
-use Rattle.ttp_world.specs.Diary.{Diary, History, entry_of, diary_of, continues_stint, Place, start_place, joined_place, place_of, ends_round}
+use Rattle.ttp_world.specs.Diary.{Diary, History, entry_of, diary_of, continues_stint, Place, start_place, joined_place}
+use Rattle.ttp_world.specs.Diary.{place_of, ends_round}
 use Rattle.ttp_world.specs.Hypothesis.{clocks_broken}
 use Rattle.ttp_world.specs.Outgoing.{nothing_chosen}
 use Rattle.ttp_world.specs.Script.{jump_of}

@@ -30,3 +30,5 @@ pub use bounds::{needed, spread};
 
 #[cfg(test)]
 mod tests;
+#[cfg(test)]
+mod worked_run;

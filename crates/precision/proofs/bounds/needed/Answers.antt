@@ -7,4 +7,5 @@ pub returns-clause-value : goal.returns-clause-value
 returns-clause-value c = search rules
 
 pub returns-clause-deviations : goal.returns-clause-deviations
-returns-clause-deviations c = subst (HoldsDeviationsWithin c.args.list.now) (sym (returns-clause-value c)) (deviations_within c.args.list.now c.requires)
+returns-clause-deviations c =
+    subst (HoldsDeviationsWithin c.args.list.now) (sym (returns-clause-value c)) (deviations_within c.args.list.now c.requires)

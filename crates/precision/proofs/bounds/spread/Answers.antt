@@ -7,4 +7,5 @@ pub returns-clause-value : goal.returns-clause-value
 returns-clause-value c = search rules
 
 pub returns-clause-clocks : goal.returns-clause-clocks
-returns-clause-clocks c = subst (HoldsClocksWithin c.args.list.now) (sym (returns-clause-value c)) (clocks_within c.args.list.now c.requires)
+returns-clause-clocks c =
+    subst (HoldsClocksWithin c.args.list.now) (sym (returns-clause-value c)) (clocks_within c.args.list.now c.requires)
