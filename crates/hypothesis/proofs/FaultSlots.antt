@@ -1,0 +1,105 @@
+-- Faults that come too early, slot by slot.
+use Rattle.std.proofs.Common.{◌≡◌, ℕ, zero, suc, ◌+◌, ◌<◌, ◌≤◌, min, List, [], ◌∷◌, ◌++◌, length, map, reverse, replicate, cond, Bool, true, false, Option, Some, None, refl, ap, sym, ◌∙◌, inl, inr, arith}
+use Rattle.std.specs.Prelude.{nat_lt}
+use Rattle.std.proofs.lemmas.Bool.{cases_lt, lt-ltb, le-ltb}
+use Rattle.std.proofs.lemmas.List.{length-map, map-append, reverse-append, replicate_more, append-nil}
+use Rattle.std.proofs.lemmas.Grind.{reverse_onto}
+use Rattle.std.specs.Option.{option_or}
+use Rattle.ttp_world.specs.declared.medl.Medl.{Medl}
+use Rattle.ttp_world.specs.declared.script.Script.{Script}
+use Rattle.ttp_world.specs.Hypothesis.{ClusterStart, FaultyNode, numbers_of, nodes_made, loss_in, jumpers_in, faulty_nodes_before, faulty_nodes_in, first_too_early}
+use Rattle.hypothesis.specs.Walks.{earliest_after, fault_slots_before}
+use Rattle.hypothesis.proofs.Firsts.{or-head}
+
+pub first_too_early-append : (gap earliest : ℕ) (xs ys : List ℕ)
+    → first_too_early gap earliest (xs ++ ys) ≡ option_or (first_too_early gap earliest xs) (first_too_early gap (earliest_after gap earliest xs) ys)
+first_too_early-append gap earliest [] ys = refl
+first_too_early-append gap earliest (x ∷ xs) ys =
+    or-head (nat_lt x earliest) x (first_too_early gap (x + gap) (xs ++ ys)) (first_too_early gap (x + gap) xs) (first_too_early gap (earliest_after gap (x + gap) xs) ys)
+    (first_too_early-append gap (x + gap) xs ys)
+
+pub earliest_after-append : (gap earliest : ℕ) (xs ys : List ℕ) → earliest_after gap earliest (xs ++ ys) ≡ earliest_after gap (earliest_after gap earliest xs) ys
+earliest_after-append gap earliest [] ys = refl
+earliest_after-append gap earliest (x ∷ xs) ys = earliest_after-append gap (x + gap) xs ys
+
+-- Faults of one slot.
+
+earliest-again : (gap slot n : ℕ) → earliest_after gap (slot + gap) (replicate n slot) ≡ slot + gap
+earliest-again gap slot zero = refl
+earliest-again gap slot (suc n) = earliest-again gap slot n
+
+pub earliest-some : (gap earliest slot n : ℕ) → 0 < n → earliest_after gap earliest (replicate n slot) ≡ slot + gap
+earliest-some gap earliest slot zero some = absurd (omega arith)
+earliest-some gap earliest slot (suc n) some = earliest-again gap slot n
+
+pub too_early-soon : (gap earliest slot n : ℕ) → 0 < n → slot < earliest → first_too_early gap earliest (replicate n slot) ≡ Some slot
+too_early-soon gap earliest slot zero some soon = absurd (omega arith)
+too_early-soon gap earliest slot (suc n) some soon =
+    ap (λ b. cond b (Some slot) (first_too_early gap (slot + gap) (replicate n slot))) (lt-ltb slot earliest soon)
+
+either-way : (b : Bool) (slot : ℕ) (rest : Option ℕ) → rest ≡ Some slot → cond b (Some slot) rest ≡ Some slot
+either-way true slot rest is = refl
+either-way false slot rest is = is
+
+pub too_early-many : (gap earliest slot n : ℕ) → 0 < gap → 1 < n → first_too_early gap earliest (replicate n slot) ≡ Some slot
+too_early-many gap earliest slot zero wide many = absurd (omega arith)
+too_early-many gap earliest slot (suc n) wide many =
+    either-way (nat_lt slot earliest) slot (first_too_early gap (slot + gap) (replicate n slot)) (too_early-soon gap (slot + gap) slot n (omega arith) (omega arith))
+
+pub too_early-late : (gap earliest slot n : ℕ) → n ≤ 1 → earliest ≤ slot → first_too_early gap earliest (replicate n slot) ≡ None
+too_early-late gap earliest slot zero few late = refl
+too_early-late gap earliest slot (suc zero) few late = ap (λ b. cond b (Some slot) None) (le-ltb slot earliest late)
+too_early-late gap earliest slot (suc (suc n)) few late = absurd (omega arith)
+
+-- The slots of faults.
+
+abbrev slots_of : List FaultyNode → List ℕ
+slots_of faulty = map (λ f. f.slot) faulty
+
+abbrev all_in : ℕ → List ℕ → List FaultyNode
+all_in slot ks = map (λ k. record { slot = slot; node = k }) ks
+
+slots-all_in : (slot : ℕ) (ks : List ℕ) → slots_of (all_in slot ks) ≡ replicate (length ks) slot
+slots-all_in slot [] = refl
+slots-all_in slot (k ∷ ks) = ap (λ rest. slot ∷ rest) (slots-all_in slot ks)
+
+reverse-replicate : (n slot : ℕ) → reverse (replicate n slot) ≡ replicate n slot
+reverse-replicate zero slot = refl
+reverse-replicate (suc n) slot =
+    let next : n + 1 ≡ suc n = omega arith in
+    reverse_onto (replicate n slot) slot [] ∙ ap (λ rest. rest ++ slot ∷ []) (reverse-replicate n slot) ∙ replicate_more n slot
+    ∙ ap (λ m. replicate m slot) next
+
+slots-later : (slot : ℕ) (ks : List ℕ) (faulty : List FaultyNode) → reverse (slots_of (all_in slot ks ++ faulty)) ≡ reverse (slots_of faulty) ++ replicate (length (all_in slot ks)) slot
+slots-later slot ks faulty =
+    ap reverse (map-append (λ (f : FaultyNode). f.slot) (all_in slot ks) faulty) ∙ reverse-append (slots_of (all_in slot ks)) (slots_of faulty)
+    ∙ ap (λ slots. reverse (slots_of faulty) ++ reverse slots) (slots-all_in slot ks)
+    ∙ ap (λ slots. reverse (slots_of faulty) ++ slots) (reverse-replicate (length ks) slot)
+    ∙ ap (λ n. reverse (slots_of faulty) ++ replicate n slot) (sym (length-map ks (λ (k : ℕ). let f : FaultyNode = record { slot = slot; node = k } in f)))
+
+pub fault_slots-none : (list : Medl) (script : Script) (start : ClusterStart) → fault_slots_before list script start 0 ≡ []
+fault_slots-none list script start =
+    let none : min 0 script.slots ≡ 0 = omega arith in
+    ap (λ t. reverse (slots_of (faulty_nodes_before list script start t))) none
+
+-- the faults of a slot of the run come after those of the slots before it
+pub fault_slots-next : (list : Medl) (script : Script) (start : ClusterStart) (slot count : ℕ)
+    → (slot < script.slots → count ≡ length (faulty_nodes_in list script start slot (faulty_nodes_before list script start slot)))
+    → (script.slots ≤ slot → count ≡ 0)
+    → fault_slots_before list script start (slot + 1) ≡ fault_slots_before list script start slot ++ replicate count slot
+fault_slots-next list script start slot count within past = elim (cases_lt slot script.slots) [
+  | inl less ↦
+      let next : min (slot + 1) script.slots ≡ suc slot = omega arith in
+      let now : slot ≡ min slot script.slots = omega arith in
+      let before = faulty_nodes_before list script start slot in
+      let made = nodes_made (loss_in list script start (numbers_of before) slot) ++ jumpers_in list script (numbers_of before) slot in
+      ap (λ t. reverse (slots_of (faulty_nodes_before list script start t))) next
+      ∙ slots-later slot made before
+      ∙ ap (λ n. reverse (slots_of before) ++ replicate n slot) (sym (within less))
+      ∙ ap (λ t. reverse (slots_of (faulty_nodes_before list script start t)) ++ replicate count slot) now
+  | inr from ↦
+      let same : min (slot + 1) script.slots ≡ min slot script.slots = omega arith in
+      ap (λ t. reverse (slots_of (faulty_nodes_before list script start t))) same
+      ∙ sym (append-nil (fault_slots_before list script start slot))
+      ∙ ap (λ n. fault_slots_before list script start slot ++ replicate n slot) (sym (past from))
+]

@@ -1,0 +1,10 @@
+pub mod Ranges
+pub mod Unions
+pub mod Least
+pub mod FarJumps
+pub mod FirstJumps
+pub mod SlotSteps
+pub mod Firsts
+pub mod FaultSlots
+pub mod Starts
+pub mod Walks

@@ -1,0 +1,19 @@
+use Rattle.std.proofs.Common.{◌≡◌, refl, ℤ, pos, Bool, true, false, not, nat_eq, w64, FitsSigned, to_z, of_z, ap, sym, ◌∙◌, rules}
+use Rattle.std.proofs.lemmas.Int.{to_z-of_z}
+use Rattle.std.proofs.lemmas.Bool.{ne_eqb}
+use Rattle.ttp_world.specs.Script.{has_jump, jump_of}
+use Rattle.hypothesis.proofs.FarJumps.{no_jump-sum, far_jump-sum}
+use Rattle.hypothesis.proofs.losses.has_jump.Goals as goal
+
+tells : (jump : ℤ) (has : Bool) → to_z w64 (of_z w64 jump) ≡ jump → (has ≡ false → jump ≡ pos 0) → (has ≡ true → jump ≡ pos 0 → ⊥)
+    → not (nat_eq (of_z w64 jump) 0) ≡ has
+tells jump true kept none some = ap not (ne_eqb (of_z w64 jump) 0 (λ zero. some refl (sym kept ∙ ap (to_z w64) zero)))
+tells jump false kept none some = ap (λ z. not (nat_eq (of_z w64 z) 0)) (none refl)
+
+pub returns : goal.returns
+returns c =
+    let fits : FitsSigned w64 c.incidents.result.jump = search rules in
+    let is : c.incidents.result.jump ≡ jump_of c.args.script.now c.args.node c.args.slot = search rules in
+    tells c.incidents.result.jump (has_jump c.args.script.now c.args.node c.args.slot) (to_z-of_z w64 c.incidents.result.jump fits)
+    (λ none. is ∙ no_jump-sum c.args.script.now c.args.node c.args.slot none)
+    (λ some nothing. far_jump-sum c.args.list.now c.args.script.now c.args.node c.args.slot c.requires.valid.window.0 c.requires.inside some (sym is ∙ nothing))

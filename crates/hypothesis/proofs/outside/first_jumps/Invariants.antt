@@ -1,0 +1,8 @@
+use Rattle.std.proofs.Common.{◌≡◌, length, take}
+use Rattle.ttp_base.specs.NodeSet.{most_nodes}
+use Rattle.hypothesis.specs.Jumps.{AreFirstJumps}
+use Rattle.hypothesis.proofs.outside.first_jumps.Given as goal
+
+-- the first jumps among the events so far
+abbrev pub invariant-loop-event : goal.invariant-loop-event
+invariant-loop-event l = (length l.slots ≡ most_nodes) × AreFirstJumps (take l.event-index l.script.events) l.slots

@@ -1,0 +1,10 @@
+use Rattle.std.proofs.Common.{◌≡◌, drop}
+use Rattle.std.specs.List.{filter_map}
+use Rattle.ttp_world.specs.Hypothesis.{least_of, outside_slot, outside_broken}
+use Rattle.hypothesis.proofs.Least.{lesser_of}
+use Rattle.hypothesis.proofs.outside.outside_broken.Given as goal
+
+-- the least so far and that of the events that are left is that of all
+abbrev pub invariant-loop-event : goal.invariant-loop-event
+invariant-loop-event l =
+    lesser_of l.least (least_of (filter_map (outside_slot l.list l.script) (drop l.event-index l.script.events))) ≡ outside_broken l.list l.script

@@ -1,0 +1,99 @@
+//! Clocks and the window: each drift and each sum of reading errors is within its bound, and the
+//! window is as wide as a deviation between correct nodes needs.
+ghost use Rattle.std.specs.Prelude.{◌≡◌, ◌<◌, pos, ◌≤ℤ◌, length, All};
+ghost use Rattle.ttp_world.specs.Hypothesis.{is_within_bound, drifts_hold, errors_hold_in, clocks_broken, drift_share, needed, window_broken};
+ghost use Rattle.ttp_world.specs.Medl.{IsValid, IsWithin};
+ghost use Rattle.ttp_world.specs.Script.{drift_of, IsWithinSpan, IsValidScript};
+
+use ttp_world::{DRIFT_LIMIT, Medl, Script};
+
+// Whether a number lies within plus or minus a bound.
+fn is_within_bound(bound: i64, value: i64) -> bool
+    requires { pos 0 ≤ℤ bound }
+    ensures { result ≡ is_within_bound bound value }
+{
+    -bound <= value && value <= bound
+}
+
+// A node's drift, in microticks a slot.
+fn drift_of(script: &Script, node: u8) -> i64
+    requires count { node < length script.now.drift }
+    requires bound { All (IsWithinSpan DRIFT_LIMIT) script.now.drift }
+    ensures { result ≡ drift_of script.now node }
+{
+    *script.drift.get(node as usize)
+}
+
+// Whether each node's drift is within the list's.
+fn drifts_hold(list: &Medl, script: &Script) -> bool
+    requires valid { IsValid list.now }
+    requires script { IsValidScript list.now script.now }
+    ensures { result ≡ drifts_hold list.now script.now }
+{
+    for node in 0..list.nodes() {
+        if !is_within_bound(list.drift, drift_of(script, node)) {
+            return false;
+        }
+    }
+    true
+}
+
+// Whether each node's reading errors of a slot add up to no more than the list's.
+fn errors_hold_in(list: &Medl, script: &Script, slot: u32) -> bool
+    requires { IsValid list.now }
+    ensures { result ≡ errors_hold_in list.now script.now slot }
+{
+    for node in 0..list.nodes() {
+        if !is_within_bound(list.error, script.incidents(node, slot).error) {
+            return false;
+        }
+    }
+    true
+}
+
+/// The slot that is named where a drift or a sum of reading errors is past its bound: 0 for a
+/// drift, else the first with such a sum.
+pub(crate) fn clocks_broken(list: &Medl, script: &Script) -> Option<u32>
+    requires valid { IsValid list.now }
+    requires script { IsValidScript list.now script.now }
+    ensures { result ≡ clocks_broken list.now script.now }
+{
+    if !drifts_hold(list, script) {
+        return Some(0);
+    }
+    for slot in 0..script.slots {
+        if !errors_hold_in(list, script, slot) {
+            return Some(slot);
+        }
+    }
+    None
+}
+
+// The part of a deviation that drifts make, in microticks.
+fn drift_share(list: &Medl) -> i64
+    requires { IsValid list.now }
+    ensures value { result ≡ drift_share list.now }
+    ensures bound { IsWithin 0 96000 result }
+{
+    list.drift * (4 * i64::from(list.nodes()))
+}
+
+// How far a deviation between correct nodes may lie from 0, in microticks.
+fn needed(list: &Medl) -> i64
+    requires { IsValid list.now }
+    ensures { result ≡ needed list.now }
+{
+    drift_share(list) + (list.error * 3 + 1)
+}
+
+/// Slot 0 where the window is too narrow.
+pub(crate) fn window_broken(list: &Medl) -> Option<u32>
+    requires { IsValid list.now }
+    ensures { result ≡ window_broken list.now }
+{
+    if needed(list) <= list.window {
+        None
+    } else {
+        Some(0)
+    }
+}

@@ -1,0 +1,215 @@
+//! What a slot makes of the faulty nodes: clocks that jump, and frames that are lost.
+ghost use Rattle.std.specs.Prelude.{◌≡◌, ◌<◌, ◌≤◌, ◌++◌, nat_lt, if◌then◌else◌, length, filter, All, None};
+ghost use Rattle.ttp_base.specs.NodeSet.{most_nodes};
+ghost use Rattle.ttp_world.specs.Hypothesis.{Harmless, nodes_made, is_breaking, is_other, others_in, jumps_now, loses, loss_among, sender_loss, expected_sender, jumpers_in, outside_broken};
+ghost use Rattle.ttp_world.specs.Medl.{IsValid};
+ghost use Rattle.ttp_world.specs.Script.{incidents_of, has_jump, IsValidScript};
+ghost use Rattle.hypothesis.specs.Standing.{told_start, told_loss, IsOfNodes, HaveSameNodes};
+
+use crate::start::{Start, is_ever_on};
+use ttp_base::NodeSet;
+use ttp_world::{Incidents, Medl, Script};
+
+/// What it means that some of those that are due to hear a frame lost it.
+#[derive(Clone, Copy, Debug, PartialEq, Eq)]
+pub(crate) enum SlotLoss {
+    /// Nobody did.
+    Harmless,
+    /// This node is faulty.
+    Makes { node: u8 },
+    /// Losses of more than one fault.
+    Breaks,
+}
+
+/// Those that are due to hear a frame, and those of them that lost it.
+#[derive(Clone, Copy)]
+struct Hearers {
+    others: NodeSet,
+    lost: NodeSet,
+}
+
+// Whether a receiver loses a sender's frame on both channels, where this happens to the sender.
+fn loses(script: &Script, sending: Incidents, sender: u8, slot: u32, receiver: u8) -> bool
+    requires { sending ≡ incidents_of script.now sender slot }
+    ensures { result ≡ loses script.now sender slot receiver }
+{
+    let _sender = sender;
+    let hearing = script.incidents(receiver, slot);
+    let is_lost_on_a = (sending.send_silence.a || sending.send_noise.a)
+        || (hearing.receive_silence.a || hearing.receive_noise.a);
+    let is_lost_on_b = (sending.send_silence.b || sending.send_noise.b)
+        || (hearing.receive_silence.b || hearing.receive_noise.b);
+    is_lost_on_a && is_lost_on_b
+}
+
+// Whether a node is due to hear a sender's frame in a slot, where these nodes are faulty.
+fn is_other(script: &Script, faulty: NodeSet, sender: u8, slot: u32, node: u8) -> bool
+    requires on { node < length script.now.on }
+    requires node { node < most_nodes }
+    ensures { result ≡ is_other script.now faulty sender slot node }
+{
+    script.is_on(node, slot) && !faulty.has(node) && node != sender
+}
+
+// Those that are due to hear a sender's frame in a slot, where these nodes are faulty, and those of
+// them that lose it.
+fn hearers_in(list: &Medl, script: &Script, faulty: NodeSet, sender: u8, slot: u32) -> Hearers
+    requires valid { IsValid list.now }
+    requires script { IsValidScript list.now script.now }
+    ensures others { result.others ≡ others_in list.now script.now faulty sender slot }
+    ensures nodes { All (λ k. k < most_nodes) result.lost }
+    ensures lost { result.lost ≡ filter (loses script.now sender slot) (others_in list.now script.now faulty sender slot) }
+{
+    let sending = script.incidents(sender, slot);
+    let mut others = NodeSet::empty();
+    let mut lost = NodeSet::empty();
+    for node in 0..list.nodes() {
+        if is_other(script, faulty, sender, slot, node) {
+            others = others.with(node);
+            if loses(script, sending, sender, slot, node) {
+                lost = lost.with(node);
+            }
+        }
+    }
+    Hearers { others, lost }
+}
+
+// What it means that these of the others lost a sender's frame.
+fn loss_among(sender: u8, others: NodeSet, lost: NodeSet) -> SlotLoss
+    requires sender { sender < most_nodes }
+    requires lost { All (λ k. k < most_nodes) lost }
+    ensures value { told_loss result ≡ loss_among sender others lost }
+    ensures node { IsOfNodes result }
+{
+    match lost.first() {
+        None => SlotLoss::Harmless,
+        Some(_) if lost.count() == others.count() => SlotLoss::Makes { node: sender },
+        Some(node) if lost.count() == 1 => SlotLoss::Makes { node },
+        Some(_) => SlotLoss::Breaks,
+    }
+}
+
+// The loss of a sender's frame, where these nodes are faulty.
+fn sender_loss(list: &Medl, script: &Script, faulty: NodeSet, slot: u32, sender: u8) -> SlotLoss
+    requires valid { IsValid list.now }
+    requires script { IsValidScript list.now script.now }
+    requires sender { sender < length list.now.slots }
+    ensures value { told_loss result ≡ sender_loss list.now script.now faulty slot sender }
+    ensures node { IsOfNodes result }
+{
+    if !is_ever_on(script, sender) || faulty.has(sender) {
+        return SlotLoss::Harmless;
+    }
+    let hearers = hearers_in(list, script, faulty, sender, slot);
+    loss_among(sender, hearers.others, hearers.lost)
+}
+
+// Whether a node's clock jumps in a slot. Each jump goes far, so that the sum of a slot's is not 0.
+fn has_jump(list: &Medl, script: &Script, node: u8, slot: u32) -> bool
+    requires valid { IsValid list.now }
+    requires inside { outside_broken list.now script.now ≡ None }
+    ensures { result ≡ has_jump script.now node slot }
+{
+    let _list = list;
+    script.incidents(node, slot).jump != 0
+}
+
+// Whether a node becomes faulty in a slot since its clock jumps, where these are faulty before it.
+fn jumps_now(list: &Medl, script: &Script, faulty: NodeSet, slot: u32, node: u8) -> bool
+    requires valid { IsValid list.now }
+    requires on { node < length script.now.on }
+    requires node { node < most_nodes }
+    requires inside { outside_broken list.now script.now ≡ None }
+    ensures { result ≡ jumps_now script.now faulty slot node }
+{
+    script.is_on(node, slot) && !faulty.has(node) && has_jump(list, script, node, slot)
+}
+
+/// The nodes that become faulty in a slot since their clocks jump, where these are faulty before it.
+pub(crate) fn jumpers_in(list: &Medl, script: &Script, faulty: NodeSet, slot: u32) -> NodeSet
+    requires valid { IsValid list.now }
+    requires script { IsValidScript list.now script.now }
+    requires inside { outside_broken list.now script.now ≡ None }
+    ensures { result ≡ jumpers_in list.now script.now faulty slot }
+{
+    let mut jumpers = NodeSet::empty();
+    for node in 0..list.nodes() {
+        if jumps_now(list, script, faulty, slot, node) {
+            jumpers = jumpers.with(node);
+        }
+    }
+    jumpers
+}
+
+/// The nodes of both sets.
+pub(crate) fn united(first: NodeSet, second: NodeSet) -> NodeSet
+    ensures { HaveSameNodes result (first ++ second) }
+{
+    let mut all = second;
+    for node in 0..24u8 {
+        if first.has(node) {
+            all = all.with(node);
+        }
+    }
+    all
+}
+
+// The node that is due to send in a slot from the start on.
+fn expected_sender(list: &Medl, start: Start, slot: u32) -> u8
+    requires valid { IsValid list.now }
+    requires order { start.slot ≤ slot }
+    ensures value { result ≡ expected_sender list.now (told_start start) slot }
+    ensures bound { result < length list.now.slots }
+{
+    let count = u64::from(list.nodes());
+    ((u64::from(start.node) + u64::from(slot - start.slot)) % count) as u8
+}
+
+/// The loss in a slot, where these nodes are faulty once their clocks have jumped. Before the start
+/// nothing is asked.
+pub(crate) fn loss_in(
+    list: &Medl,
+    script: &Script,
+    start: Start,
+    fallen: NodeSet,
+    slot: u32,
+) -> SlotLoss
+    requires valid { IsValid list.now }
+    requires script { IsValidScript list.now script.now }
+    ensures node { IsOfNodes result }
+    ensures value { told_loss result ≡ (if nat_lt slot start.slot then Harmless
+        else sender_loss list.now script.now fallen slot (expected_sender list.now (told_start start) slot)) }
+{
+    if slot < start.slot {
+        SlotLoss::Harmless
+    } else {
+        sender_loss(
+            list,
+            script,
+            fallen,
+            slot,
+            expected_sender(list, start, slot),
+        )
+    }
+}
+
+/// The nodes that a loss makes faulty: one or none.
+pub(crate) fn nodes_made(loss: SlotLoss) -> NodeSet
+    requires { IsOfNodes loss }
+    ensures { result ≡ nodes_made (told_loss loss) }
+{
+    match loss {
+        SlotLoss::Makes { node } => NodeSet::empty().with(node),
+        SlotLoss::Harmless | SlotLoss::Breaks => NodeSet::empty(),
+    }
+}
+
+/// Whether the losses are those of more than one fault.
+pub(crate) fn is_breaking(loss: SlotLoss) -> bool
+    ensures { result ≡ is_breaking (told_loss loss) }
+{
+    match loss {
+        SlotLoss::Breaks => true,
+        SlotLoss::Harmless | SlotLoss::Makes { .. } => false,
+    }
+}

@@ -1,0 +1,137 @@
+//! The walk over the slots of a run, in which nodes become faulty.
+ghost use Rattle.std.specs.Prelude.{◌≡◌, ◌+◌, ◌*◌, ◌<◌, Some, None, true, length, MatchOption};
+ghost use Rattle.ttp_base.specs.NodeSet.{most_nodes};
+ghost use Rattle.ttp_world.specs.Hypothesis.{faulty_nodes_before, faulty_nodes_in, breaks_in, start_of, started_keep, unless, outside_broken};
+ghost use Rattle.ttp_world.specs.declared.keep.Keep.TheVariants as keep;
+ghost use Rattle.ttp_world.specs.Medl.{IsValid};
+ghost use Rattle.ttp_world.specs.Script.{IsValidScript};
+ghost use Rattle.hypothesis.specs.Standing.{told_start, AreFaultyBefore};
+ghost use Rattle.hypothesis.specs.Walks.{HasWalked};
+
+use crate::distances::{earliest_with, early_with};
+use crate::losses::{is_breaking, jumpers_in, loss_in, nodes_made, united};
+use crate::start::Start;
+use crate::steady::unsteady_with;
+use ttp_base::NodeSet;
+use ttp_world::{Keep, Medl, SLOT_LIMIT, Script};
+
+/// What a slot makes of the faulty nodes.
+#[derive(Clone, Copy)]
+struct SlotFaults {
+    /// The faulty nodes after the slot.
+    faulty: NodeSet,
+    /// How many became faulty in it.
+    count: u8,
+    /// Whether its losses are those of more than one fault.
+    breaks: bool,
+}
+
+/// What the slots so far have shown.
+#[derive(Clone, Copy)]
+struct Walk {
+    /// The faulty nodes.
+    faulty: NodeSet,
+    /// The first slot in which a fault may come.
+    earliest: u32,
+    /// The first slot with a fault that came too early.
+    early: Option<u32>,
+    /// The first slot, from that of the start on, after which fewer than four nodes to measure are
+    /// left.
+    unsteady: Option<u32>,
+}
+
+// What a slot makes of the nodes that were faulty before it.
+fn faults_in(list: &Medl, script: &Script, start: Start, slot: u32, faulty: NodeSet) -> SlotFaults
+    requires valid { IsValid list.now }
+    requires script { IsValidScript list.now script.now }
+    requires inside { outside_broken list.now script.now ≡ None }
+    requires faulty { AreFaultyBefore list.now script.now (told_start start) slot faulty }
+    ensures faulty { AreFaultyBefore list.now script.now (told_start start) (slot + 1) result.faulty }
+    ensures count { result.count ≡ length (faulty_nodes_in list.now script.now (told_start start) slot
+        (faulty_nodes_before list.now script.now (told_start start) slot)) }
+    ensures breaks { result.breaks ≡ breaks_in list.now script.now (told_start start) slot }
+{
+    let jumpers = jumpers_in(list, script, faulty, slot);
+    let fallen = united(jumpers, faulty);
+    let loss = loss_in(list, script, start, fallen, slot);
+    let made = nodes_made(loss);
+    SlotFaults {
+        faulty: united(made, fallen),
+        count: made.count() + jumpers.count(),
+        breaks: is_breaking(loss),
+    }
+}
+
+// A walk before the first slot.
+fn first_walk(list: &Medl, script: &Script, start: Start) -> Walk
+    requires valid { IsValid list.now }
+    requires starts { start_of list.now script.now ≡ Some (told_start start) }
+    requires bound { start.slot < SLOT_LIMIT + 3 * most_nodes }
+    ensures { HasWalked list.now script.now (told_start start) 0 result }
+{
+    let _script = script;
+    Walk {
+        faulty: NodeSet::empty(),
+        earliest: start.slot + 2 * u32::from(list.nodes()),
+        early: None,
+        unsteady: None,
+    }
+}
+
+// The walk over one slot more, unless the slot's losses are those of more than one fault.
+fn walk_over(list: &Medl, script: &Script, start: Start, slot: u32, walk: Walk) -> Option<Walk>
+    requires valid { IsValid list.now }
+    requires script { IsValidScript list.now script.now }
+    requires inside { outside_broken list.now script.now ≡ None }
+    requires bound { slot < SLOT_LIMIT + 3 * most_nodes }
+    requires walked { HasWalked list.now script.now (told_start start) slot walk }
+    ensures { MatchOption result
+        ((slot < script.now.slots) × (breaks_in list.now script.now (told_start start) slot ≡ true))
+        (λ walk. HasWalked list.now script.now (told_start start) (slot + 1) walk) }
+{
+    let faults = faults_in(list, script, start, slot, walk.faulty);
+    let is_within_run = slot < script.slots;
+    if is_within_run && faults.breaks {
+        return None;
+    }
+    let count = if is_within_run { faults.count } else { 0 };
+    let gap = 2 * u32::from(list.nodes());
+    Some(Walk {
+        faulty: faults.faulty,
+        earliest: earliest_with(gap, walk.earliest, count, slot),
+        early: early_with(walk.early, walk.earliest, count, slot),
+        unsteady: unsteady_with(list, script, start, slot, faults.faulty, walk.unsteady),
+    })
+}
+
+// What a walk over the whole run says of the rules on the distances of faults and on nodes to
+// measure.
+fn walk_keep(start: Start, walk: Walk) -> Keep
+    ensures { result ≡ unless 6 walk.early (unless 7 walk.unsteady (keep.Yes start.slot)) }
+{
+    match (walk.early, walk.unsteady) {
+        (Some(slot), _) => Keep::No { rule: 6, slot },
+        (None, Some(slot)) => Keep::No { rule: 7, slot },
+        (None, None) => Keep::Yes { start: start.slot },
+    }
+}
+
+/// Whether a script keeps the rules on faults, where its cluster starts. The walk goes to the slot of
+/// the start also where the run ends before it.
+pub(crate) fn started_keep(list: &Medl, script: &Script, start: Start) -> Keep
+    requires valid { IsValid list.now }
+    requires script { IsValidScript list.now script.now }
+    requires inside { outside_broken list.now script.now ≡ None }
+    requires starts { start_of list.now script.now ≡ Some (told_start start) }
+    requires bound { start.slot < SLOT_LIMIT + 3 * most_nodes }
+    ensures { result ≡ started_keep list.now script.now (Some (told_start start)) }
+{
+    let mut walk = first_walk(list, script, start);
+    for slot in 0..script.slots.max(start.slot) {
+        match walk_over(list, script, start, slot, walk) {
+            Some(next) => walk = next,
+            None => return Keep::No { rule: 5, slot },
+        }
+    }
+    walk_keep(start, walk)
+}
