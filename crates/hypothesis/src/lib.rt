@@ -2,18 +2,18 @@
 //!
 //! [`keeps`] says whether a script keeps the hypothesis for a list, under which the promise of safety
 //! stands: with the slot of the start, or with the first of the seven rules that is broken and the
-//! slot that is named for it. What the rules say is `keeps` of ttp_world's `specs/Hypothesis.antt`.
+//! slot that is named for it.
 //!
 //! ```text
 //! match keeps(&list, &script) {
-//!     Keep::Yes { start } => ..,
-//!     Keep::No { rule, slot } => ..,
+//!     Keep::Yes { start } => ..
+//!     Keep::No { rule, slot } => ..
 //! }
 //! ```
 //!
-//! The crate stands on ttp_world, which has the list, the script and the rules. Its promise is that
-//! the answer is that of the definition, for each valid list and script. It runs no cluster, and says
-//! nothing of what becomes of one whose script breaks a rule.
+//! It stands on ttp_world, which has the list, the script and, in `specs/Hypothesis.antt`, the rules.
+//! It promises the answer that `keeps` defines there, for each valid list and script. It runs no
+//! cluster, and says nothing of what becomes of one whose script breaks a rule.
 #![tactic(auto, using(ttp_world::proofs::Lists::nodes))]
 
 ghost use Rattle.std.specs.Prelude.{◌≡◌};
@@ -37,21 +37,24 @@ use crate::walk::started_keep;
 use ttp_world::{Keep, Medl, Script};
 
 /// Whether a script keeps the single-fault hypothesis for a list: the slot of the start, or the
-/// first rule that is broken with the slot that is named for it. Slots are counted from 0, as in the
-/// script.
+/// first rule that is broken with the slot that is named for it.
 ///
-/// | Rule | Broken where | Slot |
-/// |---|---|---|
-/// | 1 | a drift or a sum of reading errors is past the list's bound | 0 for a drift, else the first with such a sum |
-/// | 2 | the window is narrower than correct clocks need | 0 |
-/// | 3 | a bit is flipped, a node is armed, or a clock jumps again or by less than four windows | the first of such an event |
-/// | 4 | two nodes start together, a node comes on after the start, or nobody starts | 0 |
-/// | 5 | some but not all lose a frame, and more than one | the first such |
-/// | 6 | a fault lies within two rounds of the start or of the fault before it | that of the first such fault |
-/// | 7 | fewer than four nodes with `sync` are left | that of the start, or the first after which they are so few |
+/// 1. Clocks: slot 0 where a drift is past the list's bound, else the first slot in which a node's
+///    reading errors add up to more than theirs.
+/// 2. The window: slot 0 where it is narrower than correct clocks need.
+/// 3. What stands outside: the first slot with a flipped bit, an armed node, or a clock that jumps
+///    by less than four windows or not for the first time.
+/// 4. The start: slot 0 where no node would start, two would in the first slot of a start, or a node
+///    comes on after it.
+/// 5. Losses: the first slot in which two or more lose the frame, but not all.
+/// 6. Distances: the slot of the first fault that comes less than two rounds after the start or the
+///    fault before it. Two in one slot do.
+/// 7. Nodes to measure: the first slot, from that of the start on, after which fewer than four nodes
+///    with `sync` are ever on and not faulty; that of the start also where they are too few at it.
 ///
-/// Takes no memory. Each slot costs for each node a few binary searches in the script's index, and
-/// the events are walked over twice.
+/// Slots are counted from 0, as in the script. The start may lie past the run's last slot, and is the
+/// answer all the same. Takes no memory. Each slot costs a few binary searches in the script's index
+/// for each node, and the events themselves are gone over twice.
 pub fn keeps(list: &Medl, script: &Script) -> Keep
     requires valid { IsValid list.now }
     requires script { IsValidScript list.now script.now }
@@ -71,3 +74,6 @@ pub fn keeps(list: &Medl, script: &Script) -> Keep
         None => Keep::No { rule: 4, slot: 0 },
     }
 }
+
+#[cfg(test)]
+mod tests;
