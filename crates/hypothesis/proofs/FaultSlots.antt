@@ -1,7 +1,7 @@
 -- Faults that come too early, slot by slot.
-use Rattle.std.proofs.Common.{◌≡◌, ℕ, zero, suc, ◌+◌, ◌<◌, ◌≤◌, min, List, [], ◌∷◌, ◌++◌, length, map, reverse, replicate, cond, Bool, true, false, Option, Some, None, refl, ap, sym, ◌∙◌, inl, inr, arith}
+use Rattle.std.proofs.Common.{◌≡◌, ℕ, zero, suc, ◌+◌, ◌<◌, ◌≤◌, min, List, [], ◌∷◌, ◌++◌, length, map, reverse, replicate, cond, Bool, true, false, Option, Some, refl, ap, sym, ◌∙◌, inl, inr, arith}
 use Rattle.std.specs.Prelude.{nat_lt}
-use Rattle.std.proofs.lemmas.Bool.{cases_lt, lt-ltb, le-ltb}
+use Rattle.std.proofs.lemmas.Bool.{cases_lt, lt-ltb}
 use Rattle.std.proofs.lemmas.List.{length-map, map-append, reverse-append, replicate_more, append-nil}
 use Rattle.std.proofs.lemmas.Grind.{reverse_onto}
 use Rattle.std.specs.Option.{option_or}
@@ -45,11 +45,6 @@ pub too_early-many : (gap earliest slot n : ℕ) → 0 < gap → 1 < n → first
 too_early-many gap earliest slot zero wide many = absurd (omega arith)
 too_early-many gap earliest slot (suc n) wide many =
     either-way (nat_lt slot earliest) slot (first_too_early gap (slot + gap) (replicate n slot)) (too_early-soon gap (slot + gap) slot n (omega arith) (omega arith))
-
-pub too_early-late : (gap earliest slot n : ℕ) → n ≤ 1 → earliest ≤ slot → first_too_early gap earliest (replicate n slot) ≡ None
-too_early-late gap earliest slot zero few late = refl
-too_early-late gap earliest slot (suc zero) few late = ap (λ b. cond b (Some slot) None) (le-ltb slot earliest late)
-too_early-late gap earliest slot (suc (suc n)) few late = absurd (omega arith)
 
 -- The slots of faults.
 

@@ -31,7 +31,3 @@ pub range-next : (k n : ℕ) → k < n → range_with_len k (n - k) ≡ k ∷ ra
 range-next k n less =
     let size : n - k ≡ suc (n - (k + 1)) = omega arith in
     ap (range_with_len k) size
-
-pub lesser_of-none : (least : Option ℕ) → lesser_of least None ≡ least
-lesser_of-none None = refl
-lesser_of-none (Some n) = refl

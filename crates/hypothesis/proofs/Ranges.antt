@@ -1,5 +1,5 @@
 -- Tests of the numbers below a number, and the first that passes.
-use Rattle.std.proofs.Common.{◌≡◌, ◌≢◌, ℕ, zero, suc, ◌+◌, ◌-◌, ◌<◌, ◌≤◌, Bool, true, false, cond, ◌&&◌, Option, Some, None, get_or, refl, ap, sym, subst, ◌∙◌, arith}
+use Rattle.std.proofs.Common.{◌≡◌, ◌≢◌, ℕ, zero, suc, ◌+◌, ◌<◌, ◌≤◌, Bool, true, false, cond, ◌&&◌, Option, Some, None, get_or, refl, ap, sym, subst, ◌∙◌, arith}
 use Rattle.std.specs.Prelude.{◌==◌}
 use Rattle.std.proofs.lemmas.Bool.{eqb-true, eqb-false}
 use Rattle.std.proofs.lemmas.List.Elements.{All-filter}
@@ -66,13 +66,6 @@ first-range p a (suc n) k from to before passes =
 
 pub first-below : (p : ℕ → Bool) (n k : ℕ) → k < n → ((j : ℕ) → j < k → p j ≡ false) → p k ≡ true → find p (below n) ≡ Some k
 first-below p n k less before passes = first-range p 0 n k (omega arith) (omega arith) (λ j from to. before j to) passes
-
-pub none-since : (p : ℕ → Bool) (a n : ℕ) → ((k : ℕ) → a ≤ k → k < n → p k ≡ false) → find p (range_with_len a (n - a)) ≡ None
-none-since p a n each = none-range p a (n - a) (λ k from to. each k from (omega arith))
-
-pub first-since : (p : ℕ → Bool) (a n k : ℕ) → a ≤ k → k < n → ((j : ℕ) → a ≤ j → j < k → p j ≡ false) → p k ≡ true
-    → find p (range_with_len a (n - a)) ≡ Some k
-first-since p a n k from less before passes = first-range p a (n - a) k from (omega arith) before passes
 
 -- Those that pass are below the number.
 

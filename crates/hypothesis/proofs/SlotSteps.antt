@@ -26,17 +26,17 @@ same_others list script s t sender slot few same =
     same_sieve (is_other script s sender slot) (is_other script t sender slot) (length list.slots)
     (λ j less. ap (λ b. is_on script j slot && (not b && not (j == sender))) (same j (omega arith)))
 
-pub same_sender_loss : (list : Medl) (script : Script) (s t : List ℕ) (slot sender : ℕ) → length list.slots ≤ most_nodes → sender < most_nodes → HaveSameNodes s t
+same_sender_loss : (list : Medl) (script : Script) (s t : List ℕ) (slot sender : ℕ) → length list.slots ≤ most_nodes → sender < most_nodes → HaveSameNodes s t
     → sender_loss list script s slot sender ≡ sender_loss list script t slot sender
 same_sender_loss list script s t slot sender few small same =
     ap (λ b. if not (is_ever_on script sender) || b then Harmless else receivers_loss script sender slot (others_in list script s sender slot)) (same sender small)
     ∙ ap (λ others. if not (is_ever_on script sender) || has_node t sender then Harmless else receivers_loss script sender slot others)
     (same_others list script s t sender slot few same)
 
-pub has_node-append : (xs ys : List ℕ) (k : ℕ) → has_node (xs ++ ys) k ≡ (has_node xs k || has_node ys k)
+has_node-append : (xs ys : List ℕ) (k : ℕ) → has_node (xs ++ ys) k ≡ (has_node xs k || has_node ys k)
 has_node-append xs ys k = list_any-append (λ j. j == k) xs ys
 
-pub same-append : (s t xs ys : List ℕ) → s ≡ t → HaveSameNodes xs ys → HaveSameNodes (s ++ xs) (t ++ ys)
+same-append : (s t xs ys : List ℕ) → s ≡ t → HaveSameNodes xs ys → HaveSameNodes (s ++ xs) (t ++ ys)
 same-append s t xs ys is same k small =
     has_node-append s xs k ∙ ap (λ members. has_node members k || has_node xs k) is ∙ ap (λ b. has_node t k || b) (same k small) ∙ sym (has_node-append t ys k)
 
@@ -45,7 +45,7 @@ numbers-of_slot slot [] faulty = refl
 numbers-of_slot slot (k ∷ ks) faulty = ap (λ rest. k ∷ rest) (numbers-of_slot slot ks faulty)
 
 -- those of a slot come before the others
-pub numbers-next : (list : Medl) (script : Script) (start : ClusterStart) (slot : ℕ) (faulty : List FaultyNode)
+numbers-next : (list : Medl) (script : Script) (start : ClusterStart) (slot : ℕ) (faulty : List FaultyNode)
     → numbers_of (faulty_nodes_in list script start slot faulty ++ faulty)
     ≡ (nodes_made (loss_in list script start (numbers_of faulty) slot) ++ jumpers_in list script (numbers_of faulty) slot) ++ numbers_of faulty
 numbers-next list script start slot faulty =
