@@ -1,3 +1,4 @@
 pub mod Standing
 pub mod Jumps
 pub mod Walks
+pub mod SlotIncidents

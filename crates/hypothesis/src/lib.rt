@@ -23,6 +23,7 @@ ghost use Rattle.ttp_world.specs.Script.{IsValidScript};
 
 mod clocks;
 mod distances;
+mod incidents;
 mod losses;
 mod nodes;
 mod outside;
@@ -53,8 +54,8 @@ use ttp_world::{Keep, Medl, Script};
 ///    with `sync` are ever on and not faulty; that of the start also where they are too few at it.
 ///
 /// Slots are counted from 0, as in the script. The start may lie past the run's last slot, and is the
-/// answer all the same. Takes no memory. Each slot costs a few binary searches in the script's index
-/// for each node, and the events themselves are gone over twice.
+/// answer all the same. Takes no memory. Each slot costs two binary searches in the script's index for
+/// each node, and the events are gone over twice, with one more search for each jump.
 pub fn keeps(list: &Medl, script: &Script) -> Keep
     requires valid { IsValid list.now }
     requires script { IsValidScript list.now script.now }

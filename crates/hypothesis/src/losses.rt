@@ -1,11 +1,15 @@
 //! What a slot makes of the faulty nodes: clocks that jump, and frames that are lost.
-ghost use Rattle.std.specs.Prelude.{◌≡◌, ◌<◌, ◌≤◌, ◌++◌, nat_lt, if◌then◌else◌, length, filter, All, None};
+ghost use Rattle.std.specs.Prelude.{◌≡◌, ℕ, ◌<◌, ◌≤◌, ◌++◌, nat_lt, if◌then◌else◌, length, filter, All, None};
 ghost use Rattle.ttp_base.specs.NodeSet.{most_nodes};
 ghost use Rattle.ttp_world.specs.Hypothesis.{Harmless, nodes_made, is_breaking, is_other, others_in, jumps_now, loses, loss_among, sender_loss, expected_sender, jumpers_in, outside_broken};
 ghost use Rattle.ttp_world.specs.Medl.{IsValid};
 ghost use Rattle.ttp_world.specs.Script.{incidents_of, has_jump, IsValidScript};
+ghost use Rattle.ttp_world.specs.declared.medl.Medl.{Medl};
+ghost use Rattle.ttp_world.specs.declared.script.Script.{Script};
+ghost use Rattle.hypothesis.specs.SlotIncidents.{AreIncidentsIn};
 ghost use Rattle.hypothesis.specs.Standing.{told_start, told_loss, IsOfNodes, HaveSameNodes};
 
+use crate::incidents::SlotIncidents;
 use crate::start::{Start, is_ever_on};
 use ttp_base::NodeSet;
 use ttp_world::{Incidents, Medl, Script};
@@ -28,18 +32,38 @@ struct Hearers {
     lost: NodeSet,
 }
 
-// Whether a receiver loses a sender's frame on both channels, where this happens to the sender.
-fn loses(script: &Script, sending: Incidents, sender: u8, slot: u32, receiver: u8) -> bool
-    requires { sending ≡ incidents_of script.now sender slot }
-    ensures { result ≡ loses script.now sender slot receiver }
+// Whether a frame is lost on both channels, where this happens to its sender and that to its receiver.
+fn is_lost(sending: Incidents, hearing: Incidents) -> bool
+    ensures { (script : Script) (sender slot receiver : ℕ) → sending ≡ incidents_of script sender slot
+        → hearing ≡ incidents_of script receiver slot → result ≡ loses script sender slot receiver }
 {
-    let _sender = sender;
-    let hearing = script.incidents(receiver, slot);
     let is_lost_on_a = (sending.send_silence.a || sending.send_noise.a)
         || (hearing.receive_silence.a || hearing.receive_noise.a);
     let is_lost_on_b = (sending.send_silence.b || sending.send_noise.b)
         || (hearing.receive_silence.b || hearing.receive_noise.b);
     is_lost_on_a && is_lost_on_b
+}
+
+// Whether a receiver loses a sender's frame.
+fn loses(
+    list: &Medl,
+    script: &Script,
+    incidents: &SlotIncidents,
+    sender: u8,
+    slot: u32,
+    receiver: u8,
+) -> bool
+    requires valid { IsValid list.now }
+    requires sender { sender < length list.now.slots }
+    requires receiver { receiver < length list.now.slots }
+    requires incidents { AreIncidentsIn list.now script.now slot incidents.now }
+    ensures { result ≡ loses script.now sender slot receiver }
+{
+    let (_list, _script, _slot) = (list, script, slot);
+    is_lost(
+        incidents.nodes[sender as usize],
+        incidents.nodes[receiver as usize],
+    )
 }
 
 // Whether a node is due to hear a sender's frame in a slot, where these nodes are faulty.
@@ -53,20 +77,28 @@ fn is_other(script: &Script, faulty: NodeSet, sender: u8, slot: u32, node: u8) -
 
 // Those that are due to hear a sender's frame in a slot, where these nodes are faulty, and those of
 // them that lose it.
-fn hearers_in(list: &Medl, script: &Script, faulty: NodeSet, sender: u8, slot: u32) -> Hearers
+fn hearers_in(
+    list: &Medl,
+    script: &Script,
+    incidents: &SlotIncidents,
+    faulty: NodeSet,
+    sender: u8,
+    slot: u32,
+) -> Hearers
     requires valid { IsValid list.now }
     requires script { IsValidScript list.now script.now }
+    requires sender { sender < length list.now.slots }
+    requires incidents { AreIncidentsIn list.now script.now slot incidents.now }
     ensures others { result.others ≡ others_in list.now script.now faulty sender slot }
     ensures nodes { All (λ k. k < most_nodes) result.lost }
     ensures lost { result.lost ≡ filter (loses script.now sender slot) (others_in list.now script.now faulty sender slot) }
 {
-    let sending = script.incidents(sender, slot);
     let mut others = NodeSet::empty();
     let mut lost = NodeSet::empty();
     for node in 0..list.nodes() {
         if is_other(script, faulty, sender, slot, node) {
             others = others.with(node);
-            if loses(script, sending, sender, slot, node) {
+            if loses(list, script, incidents, sender, slot, node) {
                 lost = lost.with(node);
             }
         }
@@ -90,51 +122,74 @@ fn loss_among(sender: u8, others: NodeSet, lost: NodeSet) -> SlotLoss
 }
 
 // The loss of a sender's frame, where these nodes are faulty.
-fn sender_loss(list: &Medl, script: &Script, faulty: NodeSet, slot: u32, sender: u8) -> SlotLoss
+fn sender_loss(
+    list: &Medl,
+    script: &Script,
+    incidents: &SlotIncidents,
+    faulty: NodeSet,
+    slot: u32,
+    sender: u8,
+) -> SlotLoss
     requires valid { IsValid list.now }
     requires script { IsValidScript list.now script.now }
     requires sender { sender < length list.now.slots }
+    requires incidents { AreIncidentsIn list.now script.now slot incidents.now }
     ensures value { told_loss result ≡ sender_loss list.now script.now faulty slot sender }
     ensures node { IsOfNodes result }
 {
     if !is_ever_on(script, sender) || faulty.has(sender) {
         return SlotLoss::Harmless;
     }
-    let hearers = hearers_in(list, script, faulty, sender, slot);
+    let hearers = hearers_in(list, script, incidents, faulty, sender, slot);
     loss_among(sender, hearers.others, hearers.lost)
 }
 
-// Whether a node's clock jumps in a slot. Each jump goes far, so that the sum of a slot's is not 0.
-fn has_jump(list: &Medl, script: &Script, node: u8, slot: u32) -> bool
-    requires valid { IsValid list.now }
-    requires inside { outside_broken list.now script.now ≡ None }
-    ensures { result ≡ has_jump script.now node slot }
+// Whether the clock of a node to which this happens jumps. Each jump goes far, so that the sum of a
+// slot's is not 0.
+fn has_jump(incidents: Incidents) -> bool
+    ensures { (list : Medl) (script : Script) (k slot : ℕ) → IsValid list → outside_broken list script ≡ None
+        → incidents ≡ incidents_of script k slot → result ≡ has_jump script k slot }
 {
-    let _list = list;
-    script.incidents(node, slot).jump != 0
+    incidents.jump != 0
 }
 
 // Whether a node becomes faulty in a slot since its clock jumps, where these are faulty before it.
-fn jumps_now(list: &Medl, script: &Script, faulty: NodeSet, slot: u32, node: u8) -> bool
+fn jumps_now(
+    list: &Medl,
+    script: &Script,
+    incidents: &SlotIncidents,
+    faulty: NodeSet,
+    slot: u32,
+    node: u8,
+) -> bool
     requires valid { IsValid list.now }
-    requires on { node < length script.now.on }
-    requires node { node < most_nodes }
+    requires script { IsValidScript list.now script.now }
+    requires node { node < length list.now.slots }
     requires inside { outside_broken list.now script.now ≡ None }
+    requires incidents { AreIncidentsIn list.now script.now slot incidents.now }
     ensures { result ≡ jumps_now script.now faulty slot node }
 {
-    script.is_on(node, slot) && !faulty.has(node) && has_jump(list, script, node, slot)
+    let _list = list;
+    script.is_on(node, slot) && !faulty.has(node) && has_jump(incidents.nodes[node as usize])
 }
 
 /// The nodes that become faulty in a slot since their clocks jump, where these are faulty before it.
-pub(crate) fn jumpers_in(list: &Medl, script: &Script, faulty: NodeSet, slot: u32) -> NodeSet
+pub(crate) fn jumpers_in(
+    list: &Medl,
+    script: &Script,
+    incidents: &SlotIncidents,
+    faulty: NodeSet,
+    slot: u32,
+) -> NodeSet
     requires valid { IsValid list.now }
     requires script { IsValidScript list.now script.now }
     requires inside { outside_broken list.now script.now ≡ None }
+    requires incidents { AreIncidentsIn list.now script.now slot incidents.now }
     ensures { result ≡ jumpers_in list.now script.now faulty slot }
 {
     let mut jumpers = NodeSet::empty();
     for node in 0..list.nodes() {
-        if jumps_now(list, script, faulty, slot, node) {
+        if jumps_now(list, script, incidents, faulty, slot, node) {
             jumpers = jumpers.with(node);
         }
     }
@@ -171,11 +226,13 @@ pub(crate) fn loss_in(
     list: &Medl,
     script: &Script,
     start: Start,
+    incidents: &SlotIncidents,
     fallen: NodeSet,
     slot: u32,
 ) -> SlotLoss
     requires valid { IsValid list.now }
     requires script { IsValidScript list.now script.now }
+    requires incidents { AreIncidentsIn list.now script.now slot incidents.now }
     ensures node { IsOfNodes result }
     ensures value { told_loss result ≡ (if nat_lt slot start.slot then Harmless
         else sender_loss list.now script.now fallen slot (expected_sender list.now (told_start start) slot)) }
@@ -186,6 +243,7 @@ pub(crate) fn loss_in(
         sender_loss(
             list,
             script,
+            incidents,
             fallen,
             slot,
             expected_sender(list, start, slot),

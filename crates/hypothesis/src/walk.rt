@@ -9,6 +9,7 @@ ghost use Rattle.hypothesis.specs.Standing.{told_start, AreFaultyBefore};
 ghost use Rattle.hypothesis.specs.Walks.{HasWalked};
 
 use crate::distances::{earliest_with, early_with};
+use crate::incidents::incidents_in;
 use crate::losses::{is_breaking, jumpers_in, loss_in, nodes_made, united};
 use crate::start::Start;
 use crate::steady::unsteady_with;
@@ -51,9 +52,10 @@ fn faults_in(list: &Medl, script: &Script, start: Start, slot: u32, faulty: Node
         (faulty_nodes_before list.now script.now (told_start start) slot)) }
     ensures breaks { result.breaks ≡ breaks_in list.now script.now (told_start start) slot }
 {
-    let jumpers = jumpers_in(list, script, faulty, slot);
+    let incidents = incidents_in(list, script, slot);
+    let jumpers = jumpers_in(list, script, &incidents, faulty, slot);
     let fallen = united(jumpers, faulty);
-    let loss = loss_in(list, script, start, fallen, slot);
+    let loss = loss_in(list, script, start, &incidents, fallen, slot);
     let made = nodes_made(loss);
     SlotFaults {
         faulty: united(made, fallen),

@@ -11,9 +11,9 @@ tells jump true kept none some = ap not (ne_eqb (of_z w64 jump) 0 (λ zero. some
 tells jump false kept none some = ap (λ z. not (nat_eq (of_z w64 z) 0)) (none refl)
 
 pub returns : goal.returns
-returns c =
-    let fits : FitsSigned w64 c.incidents.result.jump = search rules in
-    let is : c.incidents.result.jump ≡ jump_of c.args.script.now c.args.node c.args.slot = search rules in
-    tells c.incidents.result.jump (has_jump c.args.script.now c.args.node c.args.slot) (to_z-of_z w64 c.incidents.result.jump fits)
-    (λ none. is ∙ no_jump-sum c.args.script.now c.args.node c.args.slot none)
-    (λ some nothing. far_jump-sum c.args.list.now c.args.script.now c.args.node c.args.slot c.requires.valid.window.0 c.requires.inside some (sym is ∙ nothing))
+returns c = λ list script k slot valid inside told.
+    let fits : FitsSigned w64 c.args.incidents.jump = search rules in
+    let is : c.args.incidents.jump ≡ jump_of script k slot = ap (λ incidents. incidents.jump) told in
+    tells c.args.incidents.jump (has_jump script k slot) (to_z-of_z w64 c.args.incidents.jump fits)
+    (λ none. is ∙ no_jump-sum script k slot none)
+    (λ some nothing. far_jump-sum list script k slot valid.window.0 inside some (sym is ∙ nothing))

@@ -17,19 +17,16 @@ loop-node-preserved c =
     let kept = c.loop-node.invariant in
     elim c.if-is_other.branch [
       | then-is_other+then-loses w ↦ (
-        kept.0,
-        w.others-is ∙ w.with-others.ensures ∙ ap (λ s. with_node s node) kept.1 ∙ with_node-next hears node small (search rules),
-        w.lost-is ∙ w.with-lost.ensures ∙ ap (λ s. with_node s node) kept.2 ∙ with_node-next misses node small (search rules),
+        w.others-is ∙ w.with-others.ensures ∙ ap (λ s. with_node s node) kept.0 ∙ with_node-next hears node small (search rules),
+        w.lost-is ∙ w.with-lost.ensures ∙ ap (λ s. with_node s node) kept.1 ∙ with_node-next misses node small (search rules),
       )
       | then-is_other+else-loses w ↦ (
-        kept.0,
-        w.others-is ∙ w.with-others.ensures ∙ ap (λ s. with_node s node) kept.1 ∙ with_node-next hears node small (search rules),
-        w.lost-is ∙ kept.2 ∙ filter-next misses node small (search rules),
+        w.others-is ∙ w.with-others.ensures ∙ ap (λ s. with_node s node) kept.0 ∙ with_node-next hears node small (search rules),
+        w.lost-is ∙ kept.1 ∙ filter-next misses node small (search rules),
       )
       | else-is_other w ↦ (
-        kept.0,
-        w.others-is ∙ kept.1 ∙ filter-next hears node small (search rules),
-        w.lost-is ∙ kept.2 ∙ filter-next misses node small (search rules),
+        w.others-is ∙ kept.0 ∙ filter-next hears node small (search rules),
+        w.lost-is ∙ kept.1 ∙ filter-next misses node small (search rules),
       )
     ]
 
@@ -38,7 +35,7 @@ returns-clause-lost c =
     let hears : ℕ → Bool = is_other c.args.script.now c.args.faulty c.args.sender c.args.slot in
     let misses : ℕ → Bool = loses c.args.script.now c.args.sender c.args.slot in
     let all : c.loop-node.node ≡ length c.args.list.now.slots = omega arith in
-    c.loop-node.invariant.2 ∙ ap (λ n. filter (λ k. hears k && misses k) (below n)) all
+    c.loop-node.invariant.1 ∙ ap (λ n. filter (λ k. hears k && misses k) (below n)) all
     ∙ sym (filter-filter hears misses (below (length c.args.list.now.slots)))
 
 pub returns-clause-nodes : goal.returns-clause-nodes
@@ -46,4 +43,4 @@ returns-clause-nodes c =
     let hears : ℕ → Bool = is_other c.args.script.now c.args.faulty c.args.sender c.args.slot in
     let misses : ℕ → Bool = λ k. hears k && loses c.args.script.now c.args.sender c.args.slot k in
     let few : c.loop-node.node ≤ most_nodes = search rules in
-    subst (All (λ k. k < most_nodes)) (sym c.loop-node.invariant.2) (small-sieve misses c.loop-node.node most_nodes few)
+    subst (All (λ k. k < most_nodes)) (sym c.loop-node.invariant.1) (small-sieve misses c.loop-node.node most_nodes few)

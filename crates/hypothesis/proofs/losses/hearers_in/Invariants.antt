@@ -2,11 +2,9 @@ use Rattle.std.proofs.Common.{◌≡◌, ◌&&◌}
 use Rattle.std.specs.Prelude.{filter}
 use Rattle.ttp_base.specs.NodeSet.{below}
 use Rattle.ttp_world.specs.Hypothesis.{is_other, loses}
-use Rattle.ttp_world.specs.Script.{incidents_of}
 use Rattle.hypothesis.proofs.losses.hearers_in.Given as goal
 
 -- those of the nodes so far
 abbrev pub invariant-loop-node : goal.invariant-loop-node
-invariant-loop-node l = (l.sending ≡ incidents_of l.script l.sender l.slot)
-    × (l.others ≡ filter (is_other l.script l.faulty l.sender l.slot) (below l.node))
+invariant-loop-node l = (l.others ≡ filter (is_other l.script l.faulty l.sender l.slot) (below l.node))
     × (l.lost ≡ filter (λ k. is_other l.script l.faulty l.sender l.slot k && loses l.script l.sender l.slot k) (below l.node))
