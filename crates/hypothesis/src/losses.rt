@@ -44,28 +44,6 @@ fn is_lost(sending: Incidents, hearing: Incidents) -> bool
     is_lost_on_a && is_lost_on_b
 }
 
-// Whether a receiver loses a sender's frame.
-fn loses(
-    list: &Medl,
-    script: &Script,
-    incidents: &SlotIncidents,
-    sender: u8,
-    slot: u32,
-    receiver: u8,
-) -> bool
-    requires valid { IsValid list.now }
-    requires sender { sender < length list.now.slots }
-    requires receiver { receiver < length list.now.slots }
-    requires incidents { AreIncidentsIn list.now script.now slot incidents.now }
-    ensures { result ≡ loses script.now sender slot receiver }
-{
-    let (_list, _script, _slot) = (list, script, slot);
-    is_lost(
-        incidents.nodes[sender as usize],
-        incidents.nodes[receiver as usize],
-    )
-}
-
 // Whether a node is due to hear a sender's frame in a slot, where these nodes are faulty.
 fn is_other(script: &Script, faulty: NodeSet, sender: u8, slot: u32, node: u8) -> bool
     requires on { node < length script.now.on }
@@ -91,14 +69,16 @@ fn hearers_in(
     requires incidents { AreIncidentsIn list.now script.now slot incidents.now }
     ensures others { result.others ≡ others_in list.now script.now faulty sender slot }
     ensures nodes { All (λ k. k < most_nodes) result.lost }
-    ensures lost { result.lost ≡ filter (loses script.now sender slot) (others_in list.now script.now faulty sender slot) }
+    ensures lost { result.lost
+        ≡ filter (loses script.now sender slot) (others_in list.now script.now faulty sender slot) }
 {
     let mut others = NodeSet::empty();
     let mut lost = NodeSet::empty();
     for node in 0..list.nodes() {
         if is_other(script, faulty, sender, slot, node) {
             others = others.with(node);
-            if loses(list, script, incidents, sender, slot, node) {
+            let hearing = incidents.nodes[node as usize];
+            if is_lost(incidents.nodes[sender as usize], hearing) {
                 lost = lost.with(node);
             }
         }
