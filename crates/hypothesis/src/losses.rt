@@ -134,23 +134,13 @@ fn has_jump(incidents: Incidents) -> bool
 }
 
 // Whether a node becomes faulty in a slot since its clock jumps, where these are faulty before it.
-fn jumps_now(
-    list: &Medl,
-    script: &Script,
-    incidents: &SlotIncidents,
-    faulty: NodeSet,
-    slot: u32,
-    node: u8,
-) -> bool
-    requires valid { IsValid list.now }
-    requires script { IsValidScript list.now script.now }
-    requires node { node < length list.now.slots }
-    requires inside { outside_broken list.now script.now ≡ None }
-    requires incidents { AreIncidentsIn list.now script.now slot incidents.now }
-    ensures { result ≡ jumps_now script.now faulty slot node }
+fn jumps_now(script: &Script, incidents: Incidents, faulty: NodeSet, slot: u32, node: u8) -> bool
+    requires on { node < length script.now.on }
+    requires node { node < most_nodes }
+    ensures { (list : Medl) → IsValid list → outside_broken list script.now ≡ None
+        → incidents ≡ incidents_of script.now node slot → result ≡ jumps_now script.now faulty slot node }
 {
-    let _list = list;
-    script.is_on(node, slot) && !faulty.has(node) && has_jump(incidents.nodes[node as usize])
+    script.is_on(node, slot) && !faulty.has(node) && has_jump(incidents)
 }
 
 /// The nodes that become faulty in a slot since their clocks jump, where these are faulty before it.
@@ -169,7 +159,7 @@ pub(crate) fn jumpers_in(
 {
     let mut jumpers = NodeSet::empty();
     for node in 0..list.nodes() {
-        if jumps_now(list, script, incidents, faulty, slot, node) {
+        if jumps_now(script, incidents.nodes[node as usize], faulty, slot, node) {
             jumpers = jumpers.with(node);
         }
     }

@@ -31,7 +31,6 @@ fn first_jumps(list: &Medl, script: &Script) -> FirstJumps
             }
         }
     }
-    let _nodes = list.nodes();
     FirstJumps { slots }
 }
 

@@ -62,7 +62,6 @@ fn script_of(alloc: Global, list: &Medl, armed: Option<u32>) -> Result<Script, M
     requires armed { IfSome armed (λ slot. slot < 20) }
     ensures { IfOk result (IsValidScript list.now) }
 {
-    let _list = list;
     let mut on = List::new(alloc);
     on.push(Some(0))?;
     on.push(Some(0))?;

@@ -3,6 +3,7 @@ ghost use Rattle.std.specs.Prelude.{◌≡◌, ◌+◌, ◌*◌, ◌<◌, Some, 
 ghost use Rattle.ttp_base.specs.NodeSet.{most_nodes};
 ghost use Rattle.ttp_world.specs.Hypothesis.{faulty_nodes_before, faulty_nodes_in, breaks_in, start_of, started_keep, unless, outside_broken};
 ghost use Rattle.ttp_world.specs.declared.keep.Keep.TheVariants as keep;
+ghost use Rattle.ttp_world.specs.declared.script.Script.{Script};
 ghost use Rattle.ttp_world.specs.Medl.{IsValid};
 ghost use Rattle.ttp_world.specs.Script.{IsValidScript};
 ghost use Rattle.hypothesis.specs.Standing.{told_start, AreFaultyBefore};
@@ -65,13 +66,12 @@ fn faults_in(list: &Medl, script: &Script, start: Start, slot: u32, faulty: Node
 }
 
 // A walk before the first slot.
-fn first_walk(list: &Medl, script: &Script, start: Start) -> Walk
+fn first_walk(list: &Medl, start: Start) -> Walk
     requires valid { IsValid list.now }
-    requires starts { start_of list.now script.now ≡ Some (told_start start) }
     requires bound { start.slot < SLOT_LIMIT + 3 * most_nodes }
-    ensures { HasWalked list.now script.now (told_start start) 0 result }
+    ensures { (script : Script) → start_of list.now script ≡ Some (told_start start)
+        → HasWalked list.now script (told_start start) 0 result }
 {
-    let _script = script;
     Walk {
         faulty: NodeSet::empty(),
         earliest: start.slot + 2 * u32::from(list.nodes()),
@@ -128,7 +128,7 @@ pub(crate) fn started_keep(list: &Medl, script: &Script, start: Start) -> Keep
     requires bound { start.slot < SLOT_LIMIT + 3 * most_nodes }
     ensures { result ≡ started_keep list.now script.now (Some (told_start start)) }
 {
-    let mut walk = first_walk(list, script, start);
+    let mut walk = first_walk(list, start);
     for slot in 0..script.slots.max(start.slot) {
         match walk_over(list, script, start, slot, walk) {
             Some(next) => walk = next,

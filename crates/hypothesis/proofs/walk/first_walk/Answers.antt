@@ -10,13 +10,12 @@ use Rattle.hypothesis.proofs.Starts.{start_of-later}
 use Rattle.hypothesis.proofs.walk.first_walk.Goals as goal
 
 pub returns : goal.returns
-returns c =
+returns c = λ script starts.
     let list = c.args.list.now in
-    let script = c.args.script.now in
     let start = told_start c.args.start in
     let gap = two_rounds list in
     let none = fault_slots-none list script start in
-    let later : 0 < start.slot = subst (λ found. IfSome found (λ start. 0 < start.slot)) c.requires.starts (start_of-later list script c.requires.valid) in
+    let later : 0 < start.slot = subst (λ found. IfSome found (λ start. 0 < start.slot)) starts (start_of-later list script c.requires.valid) in
     let size : c.args.start.slot + 2 * c.from.result ≡ start.slot + gap = search rules in
     record {
       whole = λ k less within. absurd (omega arith);
