@@ -15,7 +15,7 @@ use ttp_base::NodeSet;
 use ttp_world::{Incidents, Medl, Script};
 
 /// What it means that some of those that are due to hear a frame lost it.
-#[derive(Clone, Copy, Debug, PartialEq, Eq)]
+#[derive(Clone, Copy)]
 pub(crate) enum SlotLoss {
     /// Nobody did.
     Harmless,

@@ -13,13 +13,13 @@ use ttp_base::NodeSet;
 use ttp_world::{Medl, SLOT_LIMIT, Script};
 
 /// The slot of the start, and the node that starts.
-#[derive(Clone, Copy, Debug, PartialEq, Eq)]
+#[derive(Clone, Copy)]
 pub(crate) struct Start {
     pub(crate) slot: u32,
     pub(crate) node: u8,
 }
 
-// Whether a node is ever on.
+/// Whether a node is ever on.
 pub(crate) fn is_ever_on(script: &Script, node: u8) -> bool
     requires { node < length script.now.on }
     ensures { result ≡ is_ever_on script.now node }
