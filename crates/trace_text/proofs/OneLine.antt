@@ -5,6 +5,8 @@ use Rattle.std.specs.Fmt.{signed_decimal}
 use Rattle.ttp_base.specs.NodeSet.{set_bits}
 use Rattle.ttp_base.specs.Text.{line_count, hex, newline}
 use Rattle.ttp_base.proofs.Lines.{lines, line_count-append, line_count-decimal, line_count-signed, line_count-hex}
+use Rattle.ttp_world.specs.declared.keep.Keep.{Keep}
+use Rattle.ttp_world.specs.declared.keep.Keep.TheVariants as keep
 use Rattle.ttp_world.specs.declared.medl.Medl.{Medl}
 use Rattle.ttp_world.specs.declared.node.Ack.{Ack}
 use Rattle.ttp_world.specs.declared.node.Ack.TheVariants as ack
@@ -17,7 +19,7 @@ use Rattle.ttp_world.specs.declared.node.Verdict.{Verdict}
 use Rattle.ttp_world.specs.declared.node.Verdict.TheVariants as verdict
 use Rattle.ttp_world.specs.declared.script.Script.{Script}
 use Rattle.ttp_world.specs.Trace.{verdict_word, reason_word, entry_word, peer_of, number_or_dash, ack_word}
-use Rattle.ttp_world.specs.Trace.{trace_head, node_line}
+use Rattle.ttp_world.specs.Trace.{trace_head, node_line, keep_line}
 
 -- words have no line feed
 
@@ -92,3 +94,15 @@ line_count-node_line width slot k state message =
     (line_count-number (peer_of k state.entry)) (line_count-number message)
     (line_count-hex width (set_bits state.members)) (line_count-decimal state.accepted)
     (line_count-decimal state.rejected) (line_count-ack state.ack) (line_count-signed state.offset)
+
+yes_is_line : (start : List ℕ) → line_count start ≡ 0 → line_count (codes "keeps yes start " ++ start ++ newline) ≡ 1
+yes_is_line start p = simp (line_count-append, p)
+
+no_is_line : (rule slot : List ℕ) → line_count rule ≡ 0 → line_count slot ≡ 0
+    → line_count (codes "keeps no H" ++ rule ++ codes " " ++ slot ++ newline) ≡ 1
+no_is_line rule slot p q = simp (line_count-append, p, q)
+
+pub line_count-keep_line : (k : Keep) → line_count (keep_line k) ≡ 1
+line_count-keep_line (keep.Yes start) = yes_is_line (decimal start) (line_count-decimal start)
+line_count-keep_line (keep.No rule slot) =
+    no_is_line (decimal rule) (decimal slot) (line_count-decimal rule) (line_count-decimal slot)

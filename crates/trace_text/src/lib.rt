@@ -1,18 +1,20 @@
-//! The lines of a trace: its first line, and the line of a node after a slot.
+//! The lines of a trace: its first line, the line of a node after a slot, and the line of the
+//! hypothesis test, which is the last.
 //!
 //! Each line is formed in a buffer of fixed size and written as one piece, so no call takes memory.
-//! What a line says is `trace_head` and `node_line` of `ttp_world`; which state and which message a
-//! node's line shows is the caller's.
+//! What a line says is `trace_head`, `node_line` and `keep_line` of `ttp_world`; which state and which
+//! message a node's line shows, and which answer the last line does, is the caller's.
 //!
-//! The crate runs nothing, and knows nothing of histories.
+//! The crate runs and tests nothing, and knows nothing of histories.
 #![tactic(auto)]
 
 mod head_line;
+mod keep_line;
 mod node_line;
 mod put;
 mod words;
 
-pub use put::{put_header, put_node_line};
+pub use put::{put_header, put_keep, put_node_line};
 
 #[cfg(test)]
 mod tests;

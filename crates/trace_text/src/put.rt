@@ -2,13 +2,14 @@
 ghost use Rattle.std.specs.Prelude.{OnOk, OnErr};
 ghost use Rattle.ttp_base.specs.Outside.{WroteLines, CutShort};
 ghost use Rattle.ttp_world.specs.Medl.{IsValid};
-ghost use Rattle.ttp_world.specs.Trace.{trace_head};
+ghost use Rattle.ttp_world.specs.Trace.{trace_head, keep_line};
 ghost use Rattle.trace_text.specs.LineParts.{HasDigits, listed_line};
 
 use crate::head_line::head_line;
+use crate::keep_line::keep_line;
 use crate::node_line::node_line;
 use ttp_base::{Failed, Sink};
-use ttp_world::{Medl, NodeState, Script};
+use ttp_world::{Keep, Medl, NodeState, Script};
 
 /// Writes the first line of a trace, as one piece. `Failed` is the sink's: some first bytes of the
 /// line were written, or none. Takes no memory.
@@ -38,4 +39,13 @@ pub fn put_node_line<K: Sink>(
         (listed_line list.now slot node state.now message)) }
 {
     out.write(node_line(list, slot, node, state, message).bytes())
+}
+
+/// Writes the line of the hypothesis test, `keeps yes start S` or `keeps no HR T`, as one piece.
+/// `Failed` is the sink's: some first bytes of the line were written, or none. Takes no memory.
+pub fn put_keep<K: Sink>(keep: &Keep, out: &mut K) -> Result<(), Failed>
+    ensures ok { OnOk result (WroteLines (K.output out.old) (K.output out.new) (keep_line keep.now)) }
+    ensures failed { OnErr result (CutShort (K.output out.old) (K.output out.new) (keep_line keep.now)) }
+{
+    out.write(keep_line(keep).bytes())
 }

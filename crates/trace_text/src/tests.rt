@@ -2,10 +2,10 @@
 ghost use Rattle.std.specs.Prelude.{◌≡◌};
 
 use crate::node_line::node_line;
-use crate::put_node_line;
+use crate::{put_keep, put_node_line};
 use std::test::Fail;
 use ttp_base::{List, MemorySink, NodeSet};
-use ttp_world::{Ack, CState, Entry, Medl, NodeState, Phase, Reason, Verdict};
+use ttp_world::{Ack, CState, Entry, Keep, Medl, NodeState, Phase, Reason, Verdict};
 
 // A list without slots: of it a line needs the version alone.
 fn list(rt: &HostRuntime, version: u8) -> Medl
@@ -196,6 +196,25 @@ fn a_wide_line_is_one_piece(rt: HostRuntime) -> Result<(), Fail> {
     assert!(rt; put_node_line(&wide, 19_999, 23, &state, Some(20_000), &mut whole).is_ok());
     assert!(rt; whole.bytes() == text.as_bytes());
     assert!(rt; put_node_line(&wide, 19_999, 23, &state, Some(20_000), &mut narrow).is_err());
+    assert!(rt; narrow.bytes().is_empty(), "a part of a line was written");
+    Ok(())
+}
+
+#[test]
+fn answers_of_the_hypothesis_test(rt: HostRuntime) -> Result<(), Fail> {
+    let rows = [
+        (Keep::Yes { start: 10 }, "keeps yes start 10\n"),
+        (Keep::Yes { start: 20_070 }, "keeps yes start 20070\n"),
+        (Keep::No { rule: 4, slot: 0 }, "keeps no H4 0\n"),
+        (Keep::No { rule: 6, slot: 41 }, "keeps no H6 41\n"),
+    ];
+    for (keep, text) in rows {
+        let mut out = MemorySink::new(rt.alloc(), 22, List::new(rt.alloc()))?;
+        assert!(rt; put_keep(&keep, &mut out).is_ok());
+        assert!(rt; out.bytes() == text.as_bytes(), "{text}");
+    }
+    let mut narrow = MemorySink::new(rt.alloc(), 13, List::new(rt.alloc()))?;
+    assert!(rt; put_keep(&Keep::No { rule: 4, slot: 0 }, &mut narrow).is_err());
     assert!(rt; narrow.bytes().is_empty(), "a part of a line was written");
     Ok(())
 }
