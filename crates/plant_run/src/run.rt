@@ -19,7 +19,7 @@ use crate::deliveries::Deliveries;
 use controller::Plant;
 use std::alloc::Global;
 use trace_text::{put_header, put_node_line};
-use ttp_base::{Failed, List, Memory, Sink};
+use ttp_base::{Failed, Line, List, Memory, Sink};
 use ttp_world::{Chosen, Delivered, Entry, Medl, PAYLOAD_LIMIT, Payload, Script};
 
 /// Why a run was not written to its end.
@@ -143,12 +143,13 @@ impl Run {
         count_deliveries(&self.plant, list.nodes(), &mut self.deliveries);
     }
 
-    // One slot, and its lines.
+    // One slot, and its lines, each formed in the same buffer.
     fn take_slot<K: Sink>(
         &mut self,
         list: &Medl,
         script: &Script,
         slot: u32,
+        line: &mut Line,
         out: &mut K,
     ) -> Result<(), Failed>
         requires list { IsValid list.now }
@@ -166,7 +167,7 @@ impl Run {
             let state = self.plant.node(node);
             let delivered = number_delivered(&self.plant, &self.deliveries, node);
             let message = message_named(&state.entry, delivered);
-            put_node_line(list, slot, node, &state, message, out)?;
+            put_node_line(list, slot, node, &state, message, line, out)?;
         }
         Ok(())
     }
@@ -183,8 +184,9 @@ impl Run {
             (run_text list.now script.now (first_numbers list.now script.now script.now.slots))) }
     {
         put_header(list, script, out)?;
+        let mut line = Line::new();
         for slot in 0..script.slots {
-            self.take_slot(list, script, slot, out)?;
+            self.take_slot(list, script, slot, &mut line, out)?;
         }
         Ok(())
     }

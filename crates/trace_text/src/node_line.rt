@@ -95,28 +95,28 @@ fn put_ack(line: &mut Line, ack: Ack)
     }
 }
 
-/// The line of a node after a slot.
+/// Makes a line the line of a node after a slot, whatever it held.
 #[tactic(auto, using(ttp_base::proofs::Room::room))]
-pub(crate) fn node_line(
+pub(crate) fn make_node_line(
     list: &Medl,
     slot: u32,
     node: u8,
     state: &NodeState,
     message: Option<u64>,
-) -> Line
+    line: &mut Line,
+)
     requires { HasDigits list.now state.now }
-    ensures { result ≡ listed_line list.now slot node state.now message }
+    ensures { line.new ≡ listed_line list.now slot node state.now message }
 {
-    let mut line = Line::new();
-    put_node(&mut line, slot, node);
-    put_entry(&mut line, node, &state.entry);
-    put_message(&mut line, message);
-    put_members(&mut line, list, state);
-    put_counts(&mut line, state);
+    line.clear();
+    put_node(line, slot, node);
+    put_entry(line, node, &state.entry);
+    put_message(line, message);
+    put_members(line, list, state);
+    put_counts(line, state);
     line.put_text(" ack ");
-    put_ack(&mut line, state.ack);
+    put_ack(line, state.ack);
     line.put_text(" clock ");
     line.put_signed(state.offset);
     line.put_text("\n");
-    line
 }

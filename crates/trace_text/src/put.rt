@@ -7,8 +7,8 @@ ghost use Rattle.trace_text.specs.LineParts.{HasDigits, listed_line};
 
 use crate::head_line::head_line;
 use crate::keep_line::keep_line;
-use crate::node_line::node_line;
-use ttp_base::{Failed, Sink};
+use crate::node_line::make_node_line;
+use ttp_base::{Failed, Line, Sink};
 use ttp_world::{Keep, Medl, NodeState, Script};
 
 /// Writes the first line of a trace, as one piece. `Failed` is the sink's: some first bytes of the
@@ -22,14 +22,18 @@ pub fn put_header<K: Sink>(list: &Medl, script: &Script, out: &mut K) -> Result<
 }
 
 /// Writes the line of a node after a slot, as one piece. The message is the one that the node's
-/// frame carried, or the number of the one that the node delivered in its ring. `Failed` is the
-/// sink's: some first bytes of the line were written, or none. Takes no memory.
+/// frame carried, or the number of the one that the node delivered in its ring.
+///
+/// The line is formed in `line`, which is emptied first, whatever it holds: a caller that writes
+/// many lines makes one for all of them. `Failed` is the sink's: some first bytes of the line were
+/// written, or none. Takes no memory.
 pub fn put_node_line<K: Sink>(
     list: &Medl,
     slot: u32,
     node: u8,
     state: &NodeState,
     message: Option<u64>,
+    line: &mut Line,
     out: &mut K,
 ) -> Result<(), Failed>
     requires { HasDigits list.now state.now }
@@ -38,7 +42,8 @@ pub fn put_node_line<K: Sink>(
     ensures failed { OnErr result (CutShort (K.output out.old) (K.output out.new)
         (listed_line list.now slot node state.now message)) }
 {
-    out.write(node_line(list, slot, node, state, message).bytes())
+    make_node_line(list, slot, node, state, message, line);
+    out.write(line.bytes())
 }
 
 /// Writes the line of the hypothesis test, `keeps yes start S` or `keeps no HR T`, as one piece.

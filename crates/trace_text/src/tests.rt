@@ -1,10 +1,10 @@
 //! Lines of nodes, as the format of the trace gives them.
 ghost use Rattle.std.specs.Prelude.{◌≡◌};
 
-use crate::node_line::node_line;
+use crate::node_line::make_node_line;
 use crate::{put_keep, put_node_line};
 use std::test::Fail;
-use ttp_base::{List, MemorySink, NodeSet};
+use ttp_base::{Line, List, MemorySink, NodeSet};
 use ttp_world::{Ack, CState, Entry, Keep, Medl, NodeState, Phase, Reason, Verdict};
 
 // A list without slots: of it a line needs the version alone.
@@ -136,10 +136,11 @@ fn active_nodes(rt: HostRuntime) {
         "slot 24 node 1 null peer 2 msg - mem 001b acc 2 rej 0 ack none clock 0\n",
         "slot 24 node 3 incorrect peer 2 msg - mem 001b acc 2 rej 1 ack first clock 0\n",
     ];
+    let mut line = Line::new();
     for (row, text) in rows.iter().zip(lines.iter()) {
         let (slot, node, state, message) = *row;
         assert!(rt; state.members.bits() < 65_536);
-        let line = node_line(&narrow, slot, node, &state, message);
+        make_node_line(&narrow, slot, node, &state, message, &mut line);
         assert!(rt; line.bytes() == text.as_bytes(), "{text}");
     }
 }
@@ -168,10 +169,11 @@ fn other_nodes(rt: HostRuntime) {
         "slot 31 node 1 clique peer 1 msg - mem 0000 acc 0 rej 0 ack none clock 0\n",
         "slot 32 node 1 gone peer - msg - mem 0000 acc 0 rej 0 ack none clock 0\n",
     ];
+    let mut line = Line::new();
     for (row, text) in rows.iter().zip(lines.iter()) {
         let (slot, node, state) = *row;
         assert!(rt; state.members.bits() < 65_536);
-        let line = node_line(&narrow, slot, node, &state, None);
+        make_node_line(&narrow, slot, node, &state, None, &mut line);
         assert!(rt; line.bytes() == text.as_bytes(), "{text}");
     }
 }
@@ -179,6 +181,7 @@ fn other_nodes(rt: HostRuntime) {
 // The widest line there can be: the members of a list of version 2 have six digits.
 #[test]
 fn a_wide_line_is_one_piece(rt: HostRuntime) -> Result<(), Fail> {
+    let mut line = Line::new();
     let wide = list(&rt, 2);
     let mut state = active(
         judged(23, Verdict::Correct),
@@ -188,14 +191,32 @@ fn a_wide_line_is_one_piece(rt: HostRuntime) -> Result<(), Fail> {
         Ack::Doubt(22),
     );
     state.offset = -576_460_752_303_423_488;
-    assert!(rt; state.members.bits() < 16_777_216);
     let text =
         "slot 19999 node 23 correct peer 23 msg 20000 mem 80001b acc 255 rej 255 ack doubt:22 clock -576460752303423488\n";
     let mut whole = MemorySink::new(rt.alloc(), 111, List::new(rt.alloc()))?;
     let mut narrow = MemorySink::new(rt.alloc(), 110, List::new(rt.alloc()))?;
-    assert!(rt; put_node_line(&wide, 19_999, 23, &state, Some(20_000), &mut whole).is_ok());
+    assert!(rt; state.members.bits() < 16_777_216);
+    let written = put_node_line(
+        &wide,
+        19_999,
+        23,
+        &state,
+        Some(20_000),
+        &mut line,
+        &mut whole,
+    );
+    assert!(rt; written.is_ok());
     assert!(rt; whole.bytes() == text.as_bytes());
-    assert!(rt; put_node_line(&wide, 19_999, 23, &state, Some(20_000), &mut narrow).is_err());
+    let written = put_node_line(
+        &wide,
+        19_999,
+        23,
+        &state,
+        Some(20_000),
+        &mut line,
+        &mut narrow,
+    );
+    assert!(rt; written.is_err());
     assert!(rt; narrow.bytes().is_empty(), "a part of a line was written");
     Ok(())
 }

@@ -59,6 +59,13 @@ impl Line {
         }
     }
 
+    /// Takes all of the text away.
+    pub fn clear(&mut self)
+        ensures { self.new ≡ [] }
+    {
+        self.len = 0;
+    }
+
     /// How many bytes still fit.
     pub fn room(&self) -> usize
         ensures { result + length self.now ≡ 640 }

@@ -13,7 +13,7 @@ returns-clause-ok g c =
     let node = c.args.node in
     let state = c.args.state.now in
     let message = c.args.message in
-    let text = c.bytes.ensures ∙ c.node_line.ensures in
+    let text = c.bytes.ensures ∙ c.make_node_line.ensures in
     on_ok_weaker c.write.result
     (WroteLines-line _ _ (listed_line list slot node state message)
     (line_count-node_line (member_digits list) slot node state message))
