@@ -1,4 +1,5 @@
 pub mod Below
+mod Decimal
 mod Hex
 mod Known
 pub mod Lines

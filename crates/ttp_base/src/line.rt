@@ -89,13 +89,20 @@ impl Line {
     }
 
     /// Adds a number in decimal digits, with no leading zeros.
+    #[tactic(auto, using(std::proofs::lemmas::Fmt::decimal_digit, crate::proofs::Decimal::decimal_two_digits))]
     pub fn put_number(&mut self, v: u64)
         requires { length self.old + length (decimal v) ≤ 640 }
         ensures { self.new ≡ self.old ++ decimal v }
     {
-        let mut buffer = itoa::Buffer::new();
-        let digits = buffer.format(v);
-        self.put_bytes(digits.as_bytes());
+        if v < 10 {
+            self.put_bytes(&[b'0' + v as u8]);
+        } else if v < 100 {
+            self.put_bytes(&[b'0' + (v / 10) as u8, b'0' + (v % 10) as u8]);
+        } else {
+            let mut buffer = itoa::Buffer::new();
+            let digits = buffer.format(v);
+            self.put_bytes(digits.as_bytes());
+        }
     }
 
     /// Adds a number in decimal digits, with a `-` before a negative one.
