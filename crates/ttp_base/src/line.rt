@@ -110,9 +110,10 @@ impl Line {
         requires { length self.old + length (signed_decimal v) ≤ 640 }
         ensures { self.new ≡ self.old ++ signed_decimal v }
     {
-        let mut buffer = itoa::Buffer::new();
-        let text = buffer.format(v);
-        self.put_bytes(text.as_bytes());
+        if v < 0 {
+            self.put_text("-");
+        }
+        self.put_number(v.unsigned_abs());
     }
 
     /// Adds exactly `digits` lower-case hexadecimal digits, with leading zeros where they are due.
