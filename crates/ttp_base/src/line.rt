@@ -143,8 +143,9 @@ impl Line {
         requires { length self.old + length piece.now ≤ 640 }
         ensures { self.new ≡ self.old ++ piece.now }
     {
-        put_at(&mut self.bytes, self.len, piece);
-        self.len += piece.len();
+        let start = self.len;
+        put_at(&mut self.bytes, start, piece);
+        self.len = start + piece.len();
     }
 }
 
