@@ -143,6 +143,7 @@ impl Line {
         requires { length self.old + length piece.now ≤ 640 }
         ensures { self.new ≡ self.old ++ piece.now }
     {
+        // Read once, since for all that a compiler sees the bytes written may change it.
         let start = self.len;
         put_at(&mut self.bytes, start, piece);
         self.len = start + piece.len();
