@@ -1,10 +1,11 @@
 //! Clocks and the window: each drift and each sum of reading errors is within its bound, and the
 //! window is as wide as a deviation between correct nodes needs.
 ghost use Rattle.std.specs.Prelude.{◌≡◌, ◌<◌, pos, ◌≤ℤ◌, length, All};
-ghost use Rattle.ttp_world.specs.Hypothesis.{is_within_bound, drifts_hold, errors_hold_in, clocks_broken, drift_share, needed, window_broken};
-ghost use Rattle.ttp_world.specs.Medl.{IsValid, IsWithin};
+ghost use Rattle.ttp_world.specs.Hypothesis.{is_within_bound, drifts_hold, errors_hold_in, clocks_broken, window_broken};
+ghost use Rattle.ttp_world.specs.Medl.{IsValid};
 ghost use Rattle.ttp_world.specs.Script.{drift_of, IsWithinSpan, IsValidScript};
 
+use precision::needed;
 use ttp_world::{DRIFT_LIMIT, Medl, Script};
 
 // Whether a number lies within plus or minus a bound.
@@ -67,23 +68,6 @@ pub(crate) fn clocks_broken(list: &Medl, script: &Script) -> Option<u32>
         }
     }
     None
-}
-
-// The part of a deviation that drifts make, in microticks.
-fn drift_share(list: &Medl) -> i64
-    requires { IsValid list.now }
-    ensures value { result ≡ drift_share list.now }
-    ensures bound { IsWithin 0 96000 result }
-{
-    list.drift * (4 * i64::from(list.nodes()))
-}
-
-// How far a deviation between correct nodes may lie from 0, in microticks.
-fn needed(list: &Medl) -> i64
-    requires { IsValid list.now }
-    ensures { result ≡ needed list.now }
-{
-    drift_share(list) + (list.error * 3 + 1)
 }
 
 /// Slot 0 where the window is too narrow.

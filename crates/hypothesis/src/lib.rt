@@ -11,7 +11,8 @@
 //! }
 //! ```
 //!
-//! It stands on ttp_world, which has the list, the script and, in `specs/Hypothesis.antt`, the rules.
+//! It stands on ttp_world, which has the list, the script and, in `specs/Hypothesis.antt`, the rules,
+//! and on precision, which says how wide a window has to be.
 //! It promises the answer that `keeps` defines there, for each valid list and script. It runs no
 //! cluster, and says nothing of what becomes of one whose script breaks a rule.
 #![tactic(auto, using(ttp_world::proofs::Lists::nodes))]
@@ -75,6 +76,3 @@ pub fn keeps(list: &Medl, script: &Script) -> Keep
         None => Keep::No { rule: 4, slot: 0 },
     }
 }
-
-#[cfg(test)]
-mod tests;
