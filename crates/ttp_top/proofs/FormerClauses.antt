@@ -14,14 +14,17 @@ use Rattle.ttp_top.specs.Calls.Forms.{usage_line, usage_ending, table_ending, sc
 use Rattle.ttp_top.specs.Calls.Outcome.{Showed}
 use Rattle.ttp_top.specs.Calls.Plan.{Outside, Ending, File, Plan, ends, asks, Comes, AsksFirst, told_ending}
 use Rattle.ttp_top.specs.Calls.Promise.{Promise, Unloaded, EachName}
-use Rattle.ttp_top.specs.Calls.Words.{Form, schedule, run}
+use Rattle.ttp_top.specs.Calls.Words.{Form, schedule, run, keeps}
 use Rattle.ttp_top.specs.Files.Read.{list_limit, list_from, script_limit, script_from}
-use Rattle.ttp_top.specs.FormerClauses.{bytes_told, run_with, run_ending, IsEnding, IsRunnable, IsLoadLine, Ends, IsDue, SaysEnding, WroteTraceOf}
-use Rattle.ttp_top.specs.Runs.Promise.{RunPromise}
-use Rattle.ttp_top.specs.Runs.Plan.{trace_ending, script_ending, plan_with, run_plan}
+use Rattle.ttp_top.specs.FormerClauses.{bytes_told, shown_with, run_ending, IsShownEnding, IsEnding, IsRunnable, IsScriptLoadLine, IsLoadLine}
+use Rattle.ttp_top.specs.FormerClauses.{Ends, IsDue, SaysEnding, WroteTraceOf}
+use Rattle.ttp_top.specs.Scripts.Promise.{RunPromise}
+use Rattle.ttp_top.specs.declared.shown.Shown.{Shown}
+use Rattle.ttp_top.specs.declared.shown.Shown.TheVariants as shown
+use Rattle.ttp_top.specs.Scripts.Plan.{shown_ending, script_ending, plan_with, shown_plan}
 use Rattle.ttp_top.proofs.Calls.Plans.{AllAsk, all_asked}
 use Rattle.ttp_top.proofs.Files.Fronts.{list_from-front, script_from-front}
-use Rattle.ttp_top.proofs.Runs.Promises.{list_from-right, run_told}
+use Rattle.ttp_top.proofs.Scripts.Promises.{list_from-right, run_told}
 
 -- all the bytes behind those that a load gave
 abbrev whole : Held → List ℕ → List ℕ
@@ -46,34 +49,41 @@ schedule_whole : (h : Held) (given : List ℕ) → Gives h list_limit given → 
 unfolding schedule_ending
 schedule_whole h given gives = ap table_ending (read_whole list_limit list_from list_from-front h given gives)
 
-script_whole : (list : Medl) (h : Held) (given : List ℕ) → Gives h script_limit given → script_ending list given ≡ script_ending list (whole h given)
+script_whole : (what : Shown) (list : Medl) (h : Held) (given : List ℕ) → Gives h script_limit given
+    → script_ending what list given ≡ script_ending what list (whole h given)
 unfolding script_ending
-script_whole list h given gives = ap (trace_ending list) (read_whole script_limit (script_from list) (script_from-front list) h given gives)
+script_whole what list h given gives = ap (shown_ending what list) (read_whole script_limit (script_from list) (script_from-front list) h given gives)
 
-run_ends : (before : Files) (list script given : List ℕ) (read : Result Medl FileFault) (loads : List Load) (ending : Ending)
-    → list_from (whole (before.held list) given) ≡ read → Comes before.held (plan_with read script) loads (ends ending)
-    → IsEnding (Some (run list script)) before ending
-unfolding run_ending
-run_ends before list script given (Ok medl) [] ending is comes = absurd (cc)
-run_ends before list script given (Ok medl) (load ∷ []) ending is comes =
+shown_ends : (what : Shown) (before : Files) (list script given : List ℕ) (read : Result Medl FileFault) (loads : List Load) (ending : Ending)
+    → list_from (whole (before.held list) given) ≡ read → Comes before.held (plan_with what read script) loads (ends ending)
+    → IsShownEnding what list script before ending
+shown_ends what before list script given (Ok medl) [] ending is comes = absurd (cc)
+shown_ends what before list script given (Ok medl) (load ∷ []) ending is comes =
     let h = before.held script in (
       whole (before.held list) given,
       whole h comes.1.0,
       agrees (before.held list) given,
       agrees h comes.1.0,
-      sym (same_end (script_ending medl comes.1.0) ending comes.1.2) ∙ script_whole medl h comes.1.0 comes.1.1
-          ∙ sym (ap (λ r. run_with r (whole h comes.1.0)) is),
+      sym (same_end (script_ending what medl comes.1.0) ending comes.1.2) ∙ script_whole what medl h comes.1.0 comes.1.1
+          ∙ sym (ap (λ r. shown_with what r (whole h comes.1.0)) is),
     )
-run_ends before list script given (Ok medl) (load ∷ (other ∷ loads)) ending is comes = absurd comes.1.2
-run_ends before list script given (Err fault) [] ending is comes =
+shown_ends what before list script given (Ok medl) (load ∷ (other ∷ loads)) ending is comes = absurd comes.1.2
+shown_ends what before list script given (Err fault) [] ending is comes =
     let h = before.held script in (
       whole (before.held list) given,
       whole h [],
       agrees (before.held list) given,
       agrees h [],
-      sym (same_end (refused_list fault) ending comes) ∙ sym (ap (λ r. run_with r (whole h [])) is),
+      sym (same_end (refused_list fault) ending comes) ∙ sym (ap (λ r. shown_with what r (whole h [])) is),
     )
-run_ends before list script given (Err fault) (load ∷ loads) ending is comes = absurd comes
+shown_ends what before list script given (Err fault) (load ∷ loads) ending is comes = absurd comes
+
+is_shown : (what : Shown) (before : Files) (list script : List ℕ) (loads : List Load) (ending : Ending)
+    → Comes before.held (shown_plan what list script) loads (ends ending) → IsShownEnding what list script before ending
+is_shown what before list script [] ending comes = absurd (cc)
+is_shown what before list script (load ∷ loads) ending comes =
+    let same = read_whole list_limit list_from list_from-front (before.held list) comes.1.0 comes.1.1 in
+    shown_ends what before list script comes.1.0 (list_from comes.1.0) loads ending (sym same) comes.1.2
 
 is_ending : (form : Option Form) (before : Files) (loads : List Load) (ending : Ending) → Comes before.held (plan_of form) loads (ends ending) → IsEnding form before ending
 is_ending None before [] ending comes = sym (same_end usage_ending ending comes)
@@ -83,34 +93,41 @@ is_ending (Some (schedule list)) before (load ∷ []) ending comes =
     let h = before.held list in
     (whole h comes.1.0, agrees h comes.1.0, sym (same_end (schedule_ending comes.1.0) ending comes.1.2) ∙ schedule_whole h comes.1.0 comes.1.1)
 is_ending (Some (schedule list)) before (load ∷ (other ∷ loads)) ending comes = absurd comes.1.2
-is_ending (Some (run list script)) before [] ending comes = absurd (cc)
-is_ending (Some (run list script)) before (load ∷ loads) ending comes =
-    let same = read_whole list_limit list_from list_from-front (before.held list) comes.1.0 comes.1.1 in
-    run_ends before list script comes.1.0 (list_from comes.1.0) loads ending (sym same) comes.1.2
+is_ending (Some (run list script)) before loads ending comes = is_shown shown.Trace before list script loads ending comes
+is_ending (Some (keeps list script)) before loads ending comes = is_shown shown.Keep before list script loads ending comes
 
 same_file : (one other : File) (n m : List ℕ → Plan) → asks one n ≡ asks other m → one ≡ other
 same_file one other n m same = cc
 
-script_line : (before now : Files) (list script given : List ℕ) (read : Result Medl FileFault) (earlier : List Load) (file : File) (next : List ℕ → Plan)
-    → list_from (whole (before.held list) given) ≡ read → Comes before.held (plan_with read script) earlier (asks file next)
+script_line : (what : Shown) (before now : Files) (list script given : List ℕ) (read : Result Medl FileFault) (earlier : List Load) (file : File) (next : List ℕ → Plan)
+    → list_from (whole (before.held list) given) ≡ read → Comes before.held (plan_with what read script) earlier (asks file next)
     → HasRisen (before.faults file.name) (now.faults file.name)
     → HasRisen (before.faults script) (now.faults script) × (file.missing ≡ codes "load: script\n") × IsRunnable before list
-script_line before now list script given (Ok medl) [] file next is comes risen =
-    let same = same_file (script_file script) file (λ bytes. ends (script_ending medl bytes)) next comes in (
+script_line what before now list script given (Ok medl) [] file next is comes risen =
+    let same = same_file (script_file script) file (λ bytes. ends (script_ending what medl bytes)) next comes in (
       subst (λ (f : File). HasRisen (before.faults f.name) (now.faults f.name)) (sym same) risen,
       sym (ap (λ (f : File). f.missing) same),
       (whole (before.held list) given, medl, agrees (before.held list) given, is),
     )
-script_line before now list script given (Ok medl) (load ∷ []) file next is comes risen = absurd (cc)
-script_line before now list script given (Ok medl) (load ∷ (other ∷ loads)) file next is comes risen = absurd comes.1.2
-script_line before now list script given (Err fault) [] file next is comes risen = absurd (cc)
-script_line before now list script given (Err fault) (load ∷ loads) file next is comes risen = absurd comes
+script_line what before now list script given (Ok medl) (load ∷ []) file next is comes risen = absurd (cc)
+script_line what before now list script given (Ok medl) (load ∷ (other ∷ loads)) file next is comes risen = absurd comes.1.2
+script_line what before now list script given (Err fault) [] file next is comes risen = absurd (cc)
+script_line what before now list script given (Err fault) (load ∷ loads) file next is comes risen = absurd comes
 
 list_line : (before now : Files) (list : List ℕ) (file : File) (next other : List ℕ → Plan) → asks (list_file list) next ≡ asks file other
     → HasRisen (before.faults file.name) (now.faults file.name) → HasRisen (before.faults list) (now.faults list) × (file.missing ≡ codes "load: list\n")
 list_line before now list file next other is risen =
     let same = same_file (list_file list) file next other is in
     (subst (λ (f : File). HasRisen (before.faults f.name) (now.faults f.name)) (sym same) risen, sym (ap (λ (f : File). f.missing) same))
+
+is_script_line : (what : Shown) (before now : Files) (list script : List ℕ) (earlier : List Load) (file : File) (next : List ℕ → Plan)
+    → Comes before.held (shown_plan what list script) earlier (asks file next)
+    → HasRisen (before.faults file.name) (now.faults file.name) → IsScriptLoadLine list script before now file.missing
+is_script_line what before now list script [] file next comes risen =
+    inl (list_line before now list file (λ bytes. plan_with what (list_from bytes) script) next comes risen)
+is_script_line what before now list script (load ∷ loads) file next comes risen =
+    let same = read_whole list_limit list_from list_from-front (before.held list) comes.1.0 comes.1.1 in
+    inr (script_line what before now list script comes.1.0 (list_from comes.1.0) loads file next (sym same) comes.1.2 risen)
 
 is_load_line : (form : Option Form) (before now : Files) (earlier : List Load) (file : File) (next : List ℕ → Plan)
     → Comes before.held (plan_of form) earlier (asks file next) → HasRisen (before.faults file.name) (now.faults file.name) → IsLoadLine form before now file.missing
@@ -119,10 +136,10 @@ is_load_line None before now (load ∷ loads) file next comes risen = absurd com
 is_load_line (Some (schedule list)) before now [] file next comes risen = list_line before now list file (λ bytes. ends (schedule_ending bytes)) next comes risen
 is_load_line (Some (schedule list)) before now (load ∷ []) file next comes risen = absurd (cc)
 is_load_line (Some (schedule list)) before now (load ∷ (other ∷ loads)) file next comes risen = absurd comes.1.2
-is_load_line (Some (run list script)) before now [] file next comes risen = inl (list_line before now list file (λ bytes. plan_with (list_from bytes) script) next comes risen)
-is_load_line (Some (run list script)) before now (load ∷ loads) file next comes risen =
-    let same = read_whole list_limit list_from list_from-front (before.held list) comes.1.0 comes.1.1 in
-    inr (script_line before now list script comes.1.0 (list_from comes.1.0) loads file next (sym same) comes.1.2 risen)
+is_load_line (Some (run list script)) before now loads file next comes risen =
+    is_script_line shown.Trace before now list script loads file next comes risen
+is_load_line (Some (keeps list script)) before now loads file next comes risen =
+    is_script_line shown.Keep before now list script loads file next comes risen
 
 unloaded_line : (form : Option Form) (before now : Outside) (loads : List Load) (ending : Ending) → Unloaded (plan_of form) before now loads ending → IsLoadLine form before.files now.files ending.text
 unloaded_line form before now loads ending u =
@@ -167,13 +184,13 @@ told list bytes before after answer p is quiet sink =
     says (schedule_ending bytes) before after answer (p.told (schedule_ending bytes) ending asked sink)
 
 -- the names that a run asks for: the script's only where the list is run
-run_asks : (Q : List ℕ → Type 0) (script : List ℕ) (read : Result Medl FileFault) → Q script → AllAsk Q (plan_with read script)
+run_asks : (Q : List ℕ → Type 0) (script : List ℕ) (read : Result Medl FileFault) → Q script → AllAsk Q (plan_with shown.Trace read script)
 run_asks Q script (Ok medl) q = (q, λ bytes. tt)
 run_asks Q script (Err fault) q = tt
 
 -- the ending of a run of files that are told
 run_is_told : (held : List ℕ → Held) (list script bytes script_bytes : List ℕ) (read : Result Medl FileFault) → held list ≡ holds bytes → held script ≡ holds script_bytes
-    → list_from bytes ≡ read → told_ending held (run_plan list script) ≡ Some (run_with read script_bytes)
+    → list_from bytes ≡ read → told_ending held (shown_plan shown.Trace list script) ≡ Some (shown_with shown.Trace read script_bytes)
 run_is_told held list script bytes script_bytes (Ok medl) is script_is read = run_told held list script bytes script_bytes medl is script_is read
 run_is_told held list script bytes script_bytes (Err fault) is script_is read = rw (is, list_from-front bytes, read) refl
 
@@ -184,13 +201,13 @@ pub told_run : (list script bytes script_bytes : List ℕ) (before after : Outsi
 unfolding run_ending
 told_run list script bytes script_bytes before after answer p is script_is quiet script_quiet sink =
     let Q : List ℕ → Type 0 = λ name. ¬ HasRisen (before.files.faults name) (after.files.faults name) in
-    let asked = all_asked Q before.files.held (run_plan list script) p.loads (quiet, λ b. run_asks Q script (list_from b) script_quiet) p.in_order in
+    let asked = all_asked Q before.files.held (shown_plan shown.Trace list script) p.loads (quiet, λ b. run_asks Q script (list_from b) script_quiet) p.in_order in
     let ending = run_is_told before.files.held list script bytes script_bytes (list_from bytes) is script_is refl in
-    says (run_ending bytes script_bytes) before after answer (p.told (run_with (list_from bytes) script_bytes) ending asked sink)
+    says (run_ending bytes script_bytes) before after answer (p.told (shown_with shown.Trace (list_from bytes) script_bytes) ending asked sink)
 
 -- where the list is refused, the script is not asked for
 refused_asks : (held : List ℕ → Held) (Q : List ℕ → Type 0) (list script bytes : List ℕ) (fault : FileFault) (loads : List Load) → held list ≡ holds bytes → list_from bytes ≡ Err fault
-    → AsksFirst held (run_plan list script) loads → Q list → EachName Q loads
+    → AsksFirst held (shown_plan shown.Trace list script) loads → Q list → EachName Q loads
 refused_asks held Q list script bytes fault [] is refused asked q = tt
 refused_asks held Q list script bytes fault (load ∷ []) is refused asked q = (subst (λ (l : Load). Q l.name) (sym asked) q, tt)
 refused_asks held Q list script bytes fault (load ∷ (other ∷ loads)) is refused asked q =
@@ -205,7 +222,7 @@ pub refused_run : (list script bytes : List ℕ) (fault : FileFault) (before aft
 refused_run list script bytes fault before after answer p is refused quiet sink =
     let Q : List ℕ → Type 0 = λ name. ¬ HasRisen (before.files.faults name) (after.files.faults name) in
     let asked = refused_asks before.files.held Q list script bytes fault p.loads is refused p.in_order quiet in
-    let ending : told_ending before.files.held (run_plan list script) ≡ Some (refused_list fault) = rw (is, list_from-front bytes, refused) refl in
+    let ending : told_ending before.files.held (shown_plan shown.Trace list script) ≡ Some (refused_list fault) = rw (is, list_from-front bytes, refused) refl in
     says (refused_list fault) before after answer (p.told (refused_list fault) ending asked sink)
 
 pub complete : (list bytes : List ℕ) (medl : Medl) (before after : Outside) (answer : ℕ) → Promise (Some (schedule list)) before after answer

@@ -1,5 +1,5 @@
 mod Parts
 pub mod Files
 pub mod Calls
-pub mod Runs
+pub mod Scripts
 mod FormerClauses

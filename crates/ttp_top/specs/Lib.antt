@@ -1,4 +1,4 @@
 pub mod Files
 pub mod Calls
-pub mod Runs
+pub mod Scripts
 pub mod FormerClauses

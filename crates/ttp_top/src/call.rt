@@ -5,11 +5,11 @@ ghost use Rattle.ttp_top.specs.Calls.Outcome.{Follows};
 ghost use Rattle.ttp_top.specs.Calls.Plan.{outside};
 ghost use Rattle.ttp_top.specs.Calls.Promise.{Promise};
 ghost use Rattle.ttp_top.specs.Calls.Words.{run, texts_of, form_of, form_asked};
-ghost use Rattle.ttp_top.specs.Runs.Promise.{RunPromise};
+ghost use Rattle.ttp_top.specs.Scripts.Promise.{RunPromise};
 
 use crate::lines::say;
-use crate::run::run;
 use crate::schedule::schedule;
+use crate::shown::{Shown, show_files};
 use crate::words::{Command, command_of};
 use std::alloc::Global;
 use std::sync::Wait;
@@ -32,7 +32,12 @@ fn obey<L: Library, K: Sink>(
 {
     match command {
         Command::Schedule { list } => schedule(alloc, list, library, out),
-        Command::Run { list, script } => run(alloc, list, script, library, out),
+        Command::Run { list, script } => {
+            show_files(alloc, Shown::Trace, list, script, library, out)
+        }
+        Command::Keeps { list, script } => {
+            show_files(alloc, Shown::Keep, list, script, library, out)
+        }
         Command::NoForm => say(out, USAGE.as_bytes(), 2),
     }
 }
@@ -40,10 +45,11 @@ fn obey<L: Library, K: Sink>(
 /// Runs the command that the words spell, and answers its status. The words are those after the
 /// program's name.
 ///
-/// There are two forms so far: `schedule MEDL` writes the slot table of one cluster cycle, and
-/// `run MEDL SCRIPT` the trace of a script: any valid list, and any valid script without `write` and
-/// `read` lines, which are not built yet. So each frame with payload carries message 0, the zeros. The
-/// trace lacks its last line, that of the hypothesis test.
+/// There are three forms so far: `schedule MEDL` writes the slot table of one cluster cycle,
+/// `run MEDL SCRIPT` the trace of a script, and `keeps MEDL SCRIPT` its last line alone, the answer of
+/// the test of the single-fault hypothesis. They take any valid list, and any valid script without
+/// `write` and `read` lines, which are not built yet. So each frame with payload carries message 0, the
+/// zeros.
 ///
 /// | status | comes | what is written |
 /// |---|---|---|
@@ -58,9 +64,10 @@ fn obey<L: Library, K: Sink>(
 /// The library is asked for the files of the form, each once, in the order of the words, and for a
 /// script only where the list is not refused. Each line is one piece, so the cost is one write for each
 /// line. `run` takes all memory before it writes the first line, and then writes slot by slot; a slot
-/// costs its nodes, with a few searches in the script's index for each, whatever its number. For words
-/// of no form the library is left alone and no memory is taken. The runtime and the gate are for
-/// commands that run hosts beside a cluster; neither form uses them yet.
+/// costs its nodes, with a few searches in the script's index for each, whatever its number. The
+/// hypothesis test takes no memory, and its slots cost the same way. For words of no form the library is
+/// left alone and no memory is taken. The runtime and the gate are for commands that run hosts beside a
+/// cluster; no form uses them yet.
 pub fn bench<R: Threads + Wait + Sync, L: Library, K: Sink, G: Gate>(
     rt: &R,
     alloc: Global,

@@ -14,7 +14,7 @@ ghost use Rattle.ttp_top.specs.Calls.Plan.{outside};
 ghost use Rattle.ttp_top.specs.Calls.Words.{schedule, run, texts_of, form_of};
 ghost use Rattle.ttp_top.specs.Files.Read.{list_limit, script_limit, list_from};
 ghost use Rattle.ttp_top.specs.FormerClauses.{run_ending, Ends, IsLoadLine, IsDue, SaysEnding, WroteTraceOf};
-ghost use Rattle.ttp_top.specs.Runs.Plan.{trace_of};
+ghost use Rattle.ttp_top.specs.Scripts.Plan.{trace_of};
 
 use crate::bench;
 use std::alloc::Global;

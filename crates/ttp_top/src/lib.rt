@@ -13,8 +13,8 @@ mod call;
 mod former;
 mod lines;
 mod read;
-mod run;
 mod schedule;
+mod shown;
 mod words;
 
 pub use call::bench;

@@ -1,9 +1,11 @@
 //! Commands over a library and a sink in memory. The expected lines come from the format's own
 //! text and from TOML's, never from a run.
 
+mod keeps;
 mod refusals;
 mod rows;
 mod runs;
+mod texts;
 
 use crate::bench;
 use crate::former::former;

@@ -9,6 +9,8 @@ pub(crate) enum Command<'a> {
     Schedule { list: &'a str },
     /// The trace of a script for a list, each under its name.
     Run { list: &'a str, script: &'a str },
+    /// The line of the hypothesis test for a list and a script, each under its name.
+    Keeps { list: &'a str, script: &'a str },
     /// Nothing: the words have no form.
     NoForm,
 }
@@ -22,6 +24,10 @@ pub(crate) fn command_of(words: &[String]) -> Command<'_>
             list: list.as_str(),
         },
         [verb, list, script] if verb.as_str() == "run" => Command::Run {
+            list: list.as_str(),
+            script: script.as_str(),
+        },
+        [verb, list, script] if verb.as_str() == "keeps" => Command::Keeps {
             list: list.as_str(),
             script: script.as_str(),
         },

@@ -8,9 +8,11 @@ use Rattle.ttp_top.specs.declared.read.FileFault.{FileFault}
 use Rattle.ttp_top.specs.Calls.Forms.{table_ending, schedule_ending, plan_of}
 use Rattle.ttp_top.specs.Calls.Plan.{Ending, Plan, ends, asks, Comes, AsksFirst, told_ending}
 use Rattle.ttp_top.specs.Calls.Promise.{EachName}
-use Rattle.ttp_top.specs.Calls.Words.{Form, schedule, run}
+use Rattle.ttp_top.specs.Calls.Words.{Form, schedule, run, keeps}
 use Rattle.ttp_top.specs.Files.Read.{list_from, script_from}
-use Rattle.ttp_top.specs.Runs.Plan.{trace_ending, script_ending, plan_with}
+use Rattle.ttp_top.specs.declared.shown.Shown.{Shown}
+use Rattle.ttp_top.specs.declared.shown.Shown.TheVariants as shown
+use Rattle.ttp_top.specs.Scripts.Plan.{shown_ending, script_ending, plan_with}
 
 -- each ending of a plan is of a kind
 abbrev pub AllEnd : (Ending → Type 0) → Plan → Type 0
@@ -36,19 +38,20 @@ table_status : (read : Result Medl FileFault) → IsOfForm (table_ending read)
 table_status (Ok list) = (omega arith, λ two. omega arith)
 table_status (Err fault) = (omega arith, λ two. omega arith)
 
-trace_status : (list : Medl) (read : Result Script FileFault) → IsOfForm (trace_ending list read)
-trace_status list (Ok script) = (omega arith, λ two. omega arith)
-trace_status list (Err fault) = (omega arith, λ two. omega arith)
+shown_status : (what : Shown) (list : Medl) (read : Result Script FileFault) → IsOfForm (shown_ending what list read)
+shown_status what list (Ok script) = (omega arith, λ two. omega arith)
+shown_status what list (Err fault) = (omega arith, λ two. omega arith)
 
-run_status : (read : Result Medl FileFault) (script : List ℕ) → AllEnd IsOfForm (plan_with read script)
+script_status : (what : Shown) (read : Result Medl FileFault) (script : List ℕ) → AllEnd IsOfForm (plan_with what read script)
 unfolding script_ending
-run_status (Ok list) script = λ bytes. trace_status list (script_from list bytes)
-run_status (Err fault) script = (omega arith, λ two. omega arith)
+script_status what (Ok list) script = λ bytes. shown_status what list (script_from list bytes)
+script_status what (Err fault) script = (omega arith, λ two. omega arith)
 
 pub forms_end : (form : Form) → AllEnd IsOfForm (plan_of (Some form))
 unfolding schedule_ending
 forms_end (schedule list) = λ bytes. table_status (list_from bytes)
-forms_end (run list script) = λ bytes. run_status (list_from bytes) script
+forms_end (run list script) = λ bytes. script_status shown.Trace (list_from bytes) script
+forms_end (keeps list script) = λ bytes. script_status shown.Keep (list_from bytes) script
 
 weaker : (plan : Plan) → AllEnd IsOfForm plan → AllEnd IsFinal plan
 weaker (ends ending) all = all.0

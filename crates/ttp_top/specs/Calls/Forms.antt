@@ -5,9 +5,10 @@ use Rattle.medl_text.specs.Schedule.{slot_table}
 use Rattle.ttp_top.specs.declared.read.FileFault.{FileFault}
 use Rattle.ttp_top.specs.Calls.Files.{list_file, refused_list}
 use Rattle.ttp_top.specs.Calls.Plan.{Ending, Plan, ends, asks}
-use Rattle.ttp_top.specs.Calls.Words.{Form, schedule, run}
+use Rattle.ttp_top.specs.Calls.Words.{Form, schedule, run, keeps}
 use Rattle.ttp_top.specs.Files.Read.{list_from}
-use Rattle.ttp_top.specs.Runs.Plan.{run_plan}
+use Rattle.ttp_top.specs.declared.shown.Shown.TheVariants as shown
+use Rattle.ttp_top.specs.Scripts.Plan.{shown_plan}
 
 abbrev pub usage_line : List ℕ
 usage_line = codes "usage: schedule MEDL | run MEDL SCRIPT | keeps MEDL SCRIPT | verify MEDL SCRIPT TRACE | sample MEDL SLOTS NUMBER\n"
@@ -31,4 +32,5 @@ schedule_plan list = asks (list_file list) (λ bytes. ends (schedule_ending byte
 abbrev pub plan_of : Option Form → Plan
 plan_of None = ends usage_ending
 plan_of (Some (schedule list)) = schedule_plan list
-plan_of (Some (run list script)) = run_plan list script
+plan_of (Some (run list script)) = shown_plan shown.Trace list script
+plan_of (Some (keeps list script)) = shown_plan shown.Keep list script

@@ -11,6 +11,8 @@ pub data Form : Type 0 where
   schedule : (list : List ℕ) → Form
   -- the trace of the script of this name, for the list of this name
   run : (list script : List ℕ) → Form
+  -- the line of the hypothesis test, for the script and the list of these names
+  keeps : (list script : List ℕ) → Form
 
 -- the words' bytes
 abbrev pub texts_of : List (String Global) → List (List ℕ)
@@ -19,11 +21,14 @@ texts_of words = map string_bytes words
 -- the form that words have, if they have one
 abbrev pub form_of : List (List ℕ) → Option Form
 form_of (verb ∷ list ∷ []) = if bytes_eq verb (codes "schedule") then Some (schedule list) else None
-form_of (verb ∷ list ∷ script ∷ []) = if bytes_eq verb (codes "run") then Some (run list script) else None
+form_of (verb ∷ list ∷ script ∷ []) =
+    if bytes_eq verb (codes "run") then Some (run list script)
+    else (if bytes_eq verb (codes "keeps") then Some (keeps list script) else None)
 form_of _ = None
 
 -- the form that a command of the code stands for
 abbrev pub form_asked : Command → Option Form
 form_asked (commands.Schedule list) = Some (schedule list.now)
 form_asked (commands.Run list script) = Some (run list.now script.now)
+form_asked (commands.Keeps list script) = Some (keeps list.now script.now)
 form_asked commands.NoForm = None

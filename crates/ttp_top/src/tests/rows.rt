@@ -1,65 +1,18 @@
 //! Runs whose lines were worked out by hand from the protocol's rules: for each a list, a script and
 //! lines that its trace must have. Then scripts of which each has one fault.
 
-use super::{FIRST, HEAD, SLOT, answer_files, joined};
+use super::HEAD;
+use super::texts::{DRIFT_HEAD, LOADED_HEAD, WIDE_HEAD, WINDOW_HEAD, answered, script_of};
 use std::process::Abort;
 use std::sync::Wait;
 use std::test::Fail;
 use std::thread::Threads;
 
-const WIDE_HEAD: &str =
-    "version = 2\nrounds = 1\nschedule = 0\nbuffers = 2\ndrift = 0\nerror = 0\nwindow = 1\n";
-
-const DRIFT_HEAD: &str =
-    "version = 1\nrounds = 1\nschedule = 0\nbuffers = 2\ndrift = 1\nerror = 0\nwindow = 64\n";
-
-const WINDOW_HEAD: &str =
-    "version = 1\nrounds = 1\nschedule = 0\nbuffers = 2\ndrift = 0\nerror = 0\nwindow = 2\n";
-
-const LOADED_HEAD: &str =
-    "version = 1\nrounds = 4\nschedule = 4660\nbuffers = 4\ndrift = 1\nerror = 2\nwindow = 64\n";
-
-const LOADED_FIRST: &str = "[[slot]]\nkinds = \"NXNX\"\ndata = 16\nsync = true\nstart = true\n";
-
-const LOADED_SLOT: &str = "[[slot]]\nkinds = \"NXNX\"\ndata = 16\nsync = true\nstart = false\n";
-
-const EIGHT_BYTES: &str = "[[slot]]\nkinds = \"N\"\ndata = 8\nsync = true\nstart = false\n";
-
-const TWO_BYTES: &str = "[[slot]]\nkinds = \"N\"\ndata = 2\nsync = true\nstart = false\n";
-
 const EIGHT_SCRIPT: &str =
     "drift 1 1\ndrift 4 -1\nerror 2 2 0 399\nerror 5 -2 0 399\nsend 0 AB noise 40 40\nreceive 3 AB silence 70 70\n";
 
-// The nodes that are on from slot 0: the first so many of these.
-const ON: [&str; 24] = [
-    "on 0 0\n",
-    "on 1 0\n",
-    "on 2 0\n",
-    "on 3 0\n",
-    "on 4 0\n",
-    "on 5 0\n",
-    "on 6 0\n",
-    "on 7 0\n",
-    "on 8 0\n",
-    "on 9 0\n",
-    "on 10 0\n",
-    "on 11 0\n",
-    "on 12 0\n",
-    "on 13 0\n",
-    "on 14 0\n",
-    "on 15 0\n",
-    "on 16 0\n",
-    "on 17 0\n",
-    "on 18 0\n",
-    "on 19 0\n",
-    "on 20 0\n",
-    "on 21 0\n",
-    "on 22 0\n",
-    "on 23 0\n",
-];
-
 // A run: the top of its list and a letter for each slot, the first line of its script, how many nodes
-// are on from slot 0, the script's other lines, and lines of the trace.
+// are on from slot 0, the script's other lines, lines of the trace, and its last line.
 #[derive(Clone, Copy)]
 struct Run<'a> {
     top: &'a str,
@@ -68,6 +21,7 @@ struct Run<'a> {
     on: usize,
     script: &'a str,
     lines: &'a [&'a str],
+    keep: &'a str,
 }
 
 // Two starters send in one slot, hear nothing of each other and retry. The one whose limit is lower
@@ -96,6 +50,7 @@ const COLLIDING: Run<'static> = Run {
         "slot 22 node 1 join peer 0 msg - mem 0001 acc 1 rej 0 ack none clock 0\n",
         "slot 23 node 1 send peer 1 msg - mem 0003 acc 1 rej 0 ack first clock 0\n",
     ],
+    keep: "keeps no H4 0\n",
 };
 
 // A sender whose frame is noise to all is denied by the two nodes that send after it.
@@ -116,6 +71,7 @@ const NOISY: Run<'static> = Run {
         "slot 39 node 0 correct peer 4 msg - mem 001b acc 4 rej 0 ack none clock 0\n",
         "slot 39 node 2 gone peer - msg - mem 0000 acc 0 rej 0 ack none clock 0\n",
     ],
+    keep: "keeps yes start 10\n",
 };
 
 // The same with a sender that nobody hears at all: the others reject nothing.
@@ -132,6 +88,7 @@ const SILENCED: Run<'static> = Run {
         "slot 24 node 0 correct peer 4 msg - mem 001b acc 4 rej 0 ack none clock 0\n",
         "slot 39 node 4 send peer 4 msg - mem 001b acc 1 rej 0 ack first clock 0\n",
     ],
+    keep: "keeps yes start 10\n",
 };
 
 // A receiver misses the frame before its own slot, so that its frame opens a doubt, which the next
@@ -151,6 +108,7 @@ const DEAF_BEFORE_IT_SENDS: Run<'static> = Run {
         "slot 47 node 2 correct peer 5 msg - mem 0037 acc 3 rej 0 ack none clock 0\n",
         "slot 47 node 3 gone peer - msg - mem 0000 acc 0 rej 0 ack none clock 0\n",
     ],
+    keep: "keeps yes start 12\n",
 };
 
 // The same receiver, where the frame is noise on channel A for all and on channel B for it alone.
@@ -174,6 +132,7 @@ const DEAF_IN_MID_ROUND: Run<'static> = Run {
         "slot 31 node 0 null peer 1 msg - mem 003d acc 1 rej 0 ack first clock 0\n",
         "slot 47 node 0 correct peer 5 msg - mem 003d acc 5 rej 0 ack none clock 0\n",
     ],
+    keep: "keeps yes start 12\n",
 };
 
 // A receiver misses a frame when it has accepted enough to send once more. Nobody takes its frame, and
@@ -193,6 +152,7 @@ const DEAF_AND_SENDING: Run<'static> = Run {
         "slot 69 node 1 correct peer 6 msg - mem 0076 acc 5 rej 0 ack none clock 0\n",
         "slot 69 node 6 send peer 6 msg - mem 0076 acc 1 rej 0 ack first clock 0\n",
     ],
+    keep: "keeps yes start 14\n",
 };
 
 // A receiver that hears nothing more takes nothing for rejected.
@@ -209,6 +169,7 @@ const DEAF_FOR_GOOD: Run<'static> = Run {
         "slot 31 node 1 unacknowledged peer 1 msg - mem 0000 acc 0 rej 0 ack none clock 0\n",
         "slot 47 node 0 correct peer 5 msg - mem 003d acc 5 rej 0 ack none clock 0\n",
     ],
+    keep: "keeps yes start 12\n",
 };
 
 // One channel is noise whenever a node sends: the other is enough.
@@ -224,6 +185,7 @@ const ONE_CHANNEL_NOISY: Run<'static> = Run {
         "slot 15 node 4 correct peer 0 msg - mem 001f acc 2 rej 0 ack none clock 0\n",
         "slot 39 node 4 send peer 4 msg - mem 001f acc 1 rej 0 ack first clock 0\n",
     ],
+    keep: "keeps yes start 10\n",
 };
 
 const NO_FAULT: Run<'static> = Run {
@@ -248,6 +210,7 @@ const FOUR_NODES: Run<'static> = Run {
         "slot 29 node 2 correct peer 1 msg - mem 000e acc 3 rej 0 ack none clock 0\n",
         "slot 29 node 3 correct peer 1 msg - mem 000e acc 2 rej 0 ack none clock 0\n",
     ],
+    keep: "keeps no H7 16\n",
 };
 
 // One node sends a payload in each round, and each receiver counts what it was delivered.
@@ -264,6 +227,7 @@ const PAYLOAD: Run<'static> = Run {
         "slot 17 node 2 send peer 2 msg 0 mem 001f acc 1 rej 0 ack first clock 0\n",
         "slot 17 node 0 correct peer 2 msg 2 mem 001f acc 3 rej 0 ack none clock 0\n",
     ],
+    keep: "keeps yes start 10\n",
 };
 
 // Eight nodes with payload in four rounds, of frames that carry the C-state and frames that don't,
@@ -291,6 +255,7 @@ const EIGHT_NODES: Run<'static> = Run {
         "slot 399 node 6 correct peer 7 msg 48 mem 00f6 acc 2 rej 0 ack none clock -24\n",
         "slot 399 node 7 send peer 7 msg 0 mem 00f6 acc 1 rej 0 ack first clock -24\n",
     ],
+    keep: "keeps yes start 16\n",
 };
 
 // A node that is switched on late joins and is a member once it has sent.
@@ -309,6 +274,7 @@ const LATE: Run<'static> = Run {
         "slot 34 node 3 correct peer 4 msg - mem 001f acc 2 rej 0 ack none clock 0\n",
         "slot 34 node 4 send peer 4 msg - mem 001f acc 1 rej 0 ack first clock 0\n",
     ],
+    keep: "keeps no H4 0\n",
 };
 
 // A clock that is one microtick a slot too fast: its node corrects it in the last slot of each round.
@@ -329,6 +295,7 @@ const DRIFTING: Run<'static> = Run {
         "slot 15 node 0 correct peer 3 msg - mem 000f acc 4 rej 0 ack none clock 11\n",
         "slot 15 node 3 send peer 3 msg - mem 000f acc 1 rej 0 ack first clock 8\n",
     ],
+    keep: "keeps yes start 8\n",
 };
 
 // A clock that jumps past the window: its node takes all others for invalid, and they take it so.
@@ -349,6 +316,7 @@ const JUMPING: Run<'static> = Run {
         "slot 47 node 4 correct peer 5 msg - mem 0037 acc 2 rej 0 ack none clock 0\n",
         "slot 47 node 5 send peer 5 msg - mem 0037 acc 1 rej 0 ack first clock 0\n",
     ],
+    keep: "keeps yes start 12\n",
 };
 
 // A node that left listens again once it is armed, joins and sends.
@@ -365,6 +333,7 @@ const ARMED: Run<'static> = Run {
         "slot 44 node 2 send peer 2 msg - mem 003f acc 1 rej 0 ack first clock 0\n",
         "slot 44 node 3 correct peer 2 msg - mem 003f acc 6 rej 0 ack none clock 0\n",
     ],
+    keep: "keeps no H3 40\n",
 };
 
 // As many nodes as a list can have.
@@ -382,33 +351,20 @@ const TWENTY_FOUR: Run<'static> = Run {
         "slot 71 node 0 correct peer 23 msg - mem ffffff acc 24 rej 0 ack none clock 0\n",
         "slot 71 node 23 send peer 23 msg - mem ffffff acc 1 rej 0 ack first clock 0\n",
     ],
+    keep: "keeps yes start 48\n",
 };
 
-// The slot that a letter stands for.
-fn slot_of(letter: u8) -> &'static str {
-    match letter {
-        b'F' => FIRST,
-        b'G' => LOADED_FIRST,
-        b'L' => LOADED_SLOT,
-        b'N' => EIGHT_BYTES,
-        b'T' => TWO_BYTES,
-        _ => SLOT,
-    }
-}
-
-// What `run` answers and writes for a list, given by its top and letters for its slots, and a script.
-fn ran<R: Threads + Wait + Sync + AllocGlobal>(
+// The trace of a run, and what `keeps` writes of it.
+fn outputs_of<R: Threads + Wait + Sync + AllocGlobal + Abort>(
     rt: &R,
-    top: &str,
-    slots: &str,
-    script: &str,
-) -> Result<(u8, Vec<u8>), Fail> {
-    let mut list = joined(rt, &[top])?;
-    for letter in slots.as_bytes() {
-        list.push_str(slot_of(*letter))?;
-    }
-    let words = ["run", "cluster.toml", "five.script"];
-    answer_files(rt, &words, list.as_bytes(), Some(script.as_bytes()), 0, 0)
+    run: &Run<'_>,
+) -> Result<(Vec<u8>, Vec<u8>), Fail> {
+    let script = script_of(rt, run.length, run.on, run.script)?;
+    let (status, trace) = answered(rt, "run", run.top, run.slots, script.as_str())?;
+    assert_eq!(rt; status, 0, "{script}");
+    let (status, keep) = answered(rt, "keeps", run.top, run.slots, script.as_str())?;
+    assert_eq!(rt; status, 0, "{script}");
+    Ok((trace, keep))
 }
 
 // The trace of a run.
@@ -416,14 +372,8 @@ fn trace_of<R: Threads + Wait + Sync + AllocGlobal + Abort>(
     rt: &R,
     run: &Run<'_>,
 ) -> Result<Vec<u8>, Fail> {
-    let mut script = joined(rt, &[run.length])?;
-    for line in ON.get(..run.on).ok_or("too many nodes")? {
-        script.push_str(line)?;
-    }
-    script.push_str(run.script)?;
-    let (status, text) = ran(rt, run.top, run.slots, script.as_str())?;
-    assert_eq!(rt; status, 0, "{script}");
-    Ok(text)
+    let (trace, _keep) = outputs_of(rt, run)?;
+    Ok(trace)
 }
 
 #[test]
@@ -448,11 +398,13 @@ fn runs_have_the_lines_that_were_worked_out(rt: HostRuntime) -> Result<(), Fail>
         TWENTY_FOUR,
     ];
     for run in &runs {
-        let text = trace_of(&rt, run)?;
+        let (text, keep) = outputs_of(&rt, run)?;
         let trace = str::from_utf8(&text)?;
         for line in run.lines {
             assert!(rt; trace.contains(line), "{line}");
         }
+        assert!(rt; trace.ends_with(run.keep), "{trace}");
+        assert_eq!(rt; keep.as_slice(), run.keep.as_bytes());
     }
     Ok(())
 }
@@ -515,7 +467,7 @@ fn scripts_that_are_refused(rt: HostRuntime) -> Result<(), Fail> {
         ("slots 20\nwrite 1 3\n", "script: line 2 word\n"),
     ];
     for (script, line) in wrong {
-        let (status, text) = ran(&rt, HEAD, "FTSS", script)?;
+        let (status, text) = answered(&rt, "run", HEAD, "FTSS", script)?;
         assert_eq!(rt; status, 4, "{script}");
         assert_eq!(rt; text.as_slice(), line.as_bytes(), "{script}");
     }

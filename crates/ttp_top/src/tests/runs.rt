@@ -55,7 +55,7 @@ fn a_node_that_comes_late(rt: HostRuntime) -> Result<(), Fail> {
 
 #[test]
 fn a_sink_that_fails_at_each_line_of_a_trace(rt: HostRuntime) -> Result<(), Fail> {
-    for bad_write in 1..77u32 {
+    for bad_write in 1..78u32 {
         let (status, text) = ran(&rt, ON.as_bytes(), 0, bad_write)?;
         let whole = joined(
             &rt,

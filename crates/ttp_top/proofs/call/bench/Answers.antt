@@ -1,7 +1,7 @@
 use Rattle.std.proofs.Common.{Some}
 use Rattle.ttp_top.specs.Calls.Words.{run}
 use Rattle.ttp_top.proofs.Calls.Promises.{promise}
-use Rattle.ttp_top.proofs.Runs.Promises.{run_promise}
+use Rattle.ttp_top.proofs.Scripts.Promises.{run_promise}
 use Rattle.ttp_top.proofs.call.bench.Goals as goal
 
 pub returns-clause-promise : goal.returns-clause-promise

@@ -1,7 +1,7 @@
-//! Traces that were worked out from the protocol's rules, less the line of the hypothesis test.
+//! Traces that were worked out from the protocol's rules.
 
 // Five nodes that are all on from slot 0, for 15 slots.
-pub(super) const FAULT_FREE: [&str; 76] = [
+pub(super) const FAULT_FREE: [&str; 77] = [
     "ttpbench trace 1 nodes 5 rounds 1 slots 15 schedule 000000\n",
     "slot 0 node 0 wait peer - msg - mem 0000 acc 0 rej 0 ack none clock 0\n",
     "slot 0 node 1 wait peer - msg - mem 0000 acc 0 rej 0 ack none clock 0\n",
@@ -78,10 +78,11 @@ pub(super) const FAULT_FREE: [&str; 76] = [
     "slot 14 node 2 correct peer 4 msg - mem 001f acc 3 rej 0 ack none clock 0\n",
     "slot 14 node 3 correct peer 4 msg - mem 001f acc 2 rej 0 ack none clock 0\n",
     "slot 14 node 4 send peer 4 msg - mem 001f acc 1 rej 0 ack first clock 0\n",
+    "keeps yes start 10\n",
 ];
 
 // Five nodes, of which node 4 is switched on in slot 30, for 40 slots.
-pub(super) const LATE_NODE: [&str; 201] = [
+pub(super) const LATE_NODE: [&str; 202] = [
     "ttpbench trace 1 nodes 5 rounds 1 slots 40 schedule 000000\n",
     "slot 0 node 0 wait peer - msg - mem 0000 acc 0 rej 0 ack none clock 0\n",
     "slot 0 node 1 wait peer - msg - mem 0000 acc 0 rej 0 ack none clock 0\n",
@@ -283,4 +284,5 @@ pub(super) const LATE_NODE: [&str; 201] = [
     "slot 39 node 2 correct peer 4 msg - mem 001f acc 3 rej 0 ack none clock 0\n",
     "slot 39 node 3 correct peer 4 msg - mem 001f acc 2 rej 0 ack none clock 0\n",
     "slot 39 node 4 send peer 4 msg - mem 001f acc 1 rej 0 ack first clock 0\n",
+    "keeps no H4 0\n",
 ];

@@ -4,7 +4,7 @@ use Rattle.ttp_base.specs.Text.{line_count}
 use Rattle.ttp_top.proofs.Files.Lines.{fault_line_is_a_line}
 use Rattle.ttp_top.specs.Files.Lines.{fault_line}
 use Rattle.ttp_top.proofs.Calls.Promises.{said_as}
-use Rattle.ttp_top.proofs.run.run.Goals as goal
+use Rattle.ttp_top.proofs.shown.show_files.Goals as goal
 
 pub say-requires : goal.say-requires
 say-requires g c =
@@ -21,7 +21,7 @@ returns-in-Ok-list_from g c =
         (
           record { load = c.load.ensures.asks; quiet = search rules; keeps = c.load.ensures.keeps },
           c.in-Ok.ensures.bytes,
-          rw read c.run_script.ensures,
+          rw read c.show_script.ensures,
         ),
       ),
     )

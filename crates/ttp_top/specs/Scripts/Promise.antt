@@ -7,7 +7,7 @@ use Rattle.medl_text.specs.ListFile.{medl_of}
 use Rattle.script_text.specs.ScriptFile.{script_of}
 use Rattle.ttp_top.specs.Calls.Plan.{Outside}
 use Rattle.ttp_top.specs.Files.Read.{list_limit, script_limit}
-use Rattle.ttp_top.specs.Runs.Plan.{trace_of}
+use Rattle.ttp_top.specs.Scripts.Plan.{trace_of}
 
 -- these may be the bytes that are held
 abbrev pub MayBe : Held → List ℕ → Type 0

@@ -18,8 +18,9 @@ use Rattle.ttp_top.specs.Calls.Plan.{Outside, Ending, ends, Comes, told_ending}
 use Rattle.ttp_top.specs.Calls.Promise.{Promise}
 use Rattle.ttp_top.specs.Calls.Words.{run}
 use Rattle.ttp_top.specs.Files.Read.{list_limit, list_read, list_from, script_limit, script_read, script_from}
-use Rattle.ttp_top.specs.Runs.Plan.{trace_of, trace_ending, script_ending, plan_with, run_plan}
-use Rattle.ttp_top.specs.Runs.Promise.{MayBe, AreRight, WroteTrace, RunPromise}
+use Rattle.ttp_top.specs.declared.shown.Shown.TheVariants as shown
+use Rattle.ttp_top.specs.Scripts.Plan.{trace_of, shown_ending, script_ending, plan_with, shown_plan}
+use Rattle.ttp_top.specs.Scripts.Promise.{MayBe, AreRight, WroteTrace, RunPromise}
 use Rattle.ttp_top.proofs.Calls.Plans.{AllAsk, all_asked}
 use Rattle.ttp_top.proofs.Files.Fronts.{list_from-front, script_from-front}
 
@@ -83,7 +84,7 @@ pub record Traced (list script : Held) (ending : Ending) : Type 0 where
   pub text : ending.text ≡ trace_of medl right
 
 from_script : (list script : Held) (bytes script_bytes : List ℕ) (medl : Medl) (read : Result Script FileFault) (ending : Ending)
-    → script_from medl script_bytes ≡ read → trace_ending medl read ≡ ending → ending.status ≡ 0
+    → script_from medl script_bytes ≡ read → shown_ending shown.Trace medl read ≡ ending → ending.status ≡ 0
     → IsRun bytes medl → MayBe list bytes → Gives script script_limit script_bytes → Traced list script ending
 from_script list script bytes script_bytes medl (Ok right) ending is comes zero taken may gives =
     let are = right_script bytes script_bytes medl right taken is in
@@ -104,21 +105,21 @@ same_end : (one other : Ending) → ends one ≡ ends other → one ≡ other
 same_end one other same = cc
 
 from_list : (held : List ℕ → Held) (list script bytes : List ℕ) (read : Result Medl FileFault) (loads : List Load) (ending : Ending)
-    → list_from bytes ≡ read → Comes held (plan_with read script) loads (ends ending) → ending.status ≡ 0
+    → list_from bytes ≡ read → Comes held (plan_with shown.Trace read script) loads (ends ending) → ending.status ≡ 0
     → Gives (held list) list_limit bytes → Traced (held list) (held script) ending
 unfolding script_ending
 from_list held list script bytes (Ok medl) [] ending is comes zero gives = absurd (cc)
 from_list held list script bytes (Ok medl) (load ∷ []) ending is comes zero gives =
     let taken = is_run bytes medl is in
     from_script (held list) (held script) bytes comes.1.0 medl (script_from medl comes.1.0) ending refl
-    (same_end (script_ending medl comes.1.0) ending comes.1.2) zero taken (may_be (held list) list_limit bytes gives taken.size) comes.1.1
+    (same_end (script_ending shown.Trace medl comes.1.0) ending comes.1.2) zero taken (may_be (held list) list_limit bytes gives taken.size) comes.1.1
 from_list held list script bytes (Ok medl) (load ∷ (other ∷ loads)) ending is comes zero gives = absurd comes.1.2
 from_list held list script bytes (Err fault) [] ending is comes zero gives =
     absurd (omega (arith, zero, ap (λ (e : Ending). e.status) (same_end (refused_list fault) ending comes)))
 from_list held list script bytes (Err fault) (load ∷ loads) ending is comes zero gives = absurd comes
 
 traced : (held : List ℕ → Held) (list script : List ℕ) (loads : List Load) (ending : Ending)
-    → Comes held (run_plan list script) loads (ends ending) → ending.status ≡ 0 → Traced (held list) (held script) ending
+    → Comes held (shown_plan shown.Trace list script) loads (ends ending) → ending.status ≡ 0 → Traced (held list) (held script) ending
 traced held list script [] ending comes zero = absurd (cc)
 traced held list script (load ∷ loads) ending comes zero =
     from_list held list script comes.1.0 (list_from comes.1.0) loads ending refl comes.1.2 zero comes.1.1
@@ -149,13 +150,13 @@ unfolding script_from
 script_from-right medl bytes script short right = rw (le-ltb script_limit (length bytes) short, right) refl
 
 pub run_told : (held : List ℕ → Held) (list script bytes script_bytes : List ℕ) (medl : Medl) → held list ≡ holds bytes → held script ≡ holds script_bytes
-    → list_from bytes ≡ Ok medl → told_ending held (run_plan list script) ≡ Some (script_ending medl script_bytes)
+    → list_from bytes ≡ Ok medl → told_ending held (shown_plan shown.Trace list script) ≡ Some (script_ending shown.Trace medl script_bytes)
 unfolding script_ending
 run_told held list script bytes script_bytes medl told script_told taken =
-    rw (told, list_from-front bytes, taken, script_told) (ap (λ r. Some (trace_ending medl r)) (script_from-front medl script_bytes))
+    rw (told, list_from-front bytes, taken, script_told) (ap (λ r. Some (shown_ending shown.Trace medl r)) (script_from-front medl script_bytes))
 
 -- the names that a run asks for
-run_asks : (Q : List ℕ → Type 0) (list script : List ℕ) (read : Result Medl FileFault) → Q script → AllAsk Q (plan_with read script)
+run_asks : (Q : List ℕ → Type 0) (list script : List ℕ) (read : Result Medl FileFault) → Q script → AllAsk Q (plan_with shown.Trace read script)
 run_asks Q list script (Ok medl) q = (q, λ bytes. tt)
 run_asks Q list script (Err fault) q = tt
 
@@ -165,13 +166,13 @@ run_promise list script before now answer p = record {
   trace = wrote_trace list script before now answer p;
   complete = λ bytes script_bytes medl right told script_told are quiet.
       let Q : List ℕ → Type 0 = λ name. ¬ HasRisen (before.files.faults name) (now.files.faults name) in
-      let asked = all_asked Q before.files.held (run_plan list script) p.loads (quiet.list_file, λ b. run_asks Q list script (list_from b) quiet.script_file) p.in_order in
+      let asked = all_asked Q before.files.held (shown_plan shown.Trace list script) p.loads (quiet.list_file, λ b. run_asks Q list script (list_from b) quiet.script_file) p.in_order in
       let taken = list_from-right bytes medl are.size are.list in
       let is = run_told before.files.held list script bytes script_bytes medl told script_told taken in
       let script_is = script_from-right medl script_bytes right are.script_size are.script in
-      let ending : trace_ending medl (script_from medl script_bytes) ≡ trace_ending medl (Ok right) = ap (trace_ending medl) script_is in
-      let shown = p.told (trace_ending medl (Ok right)) (is ∙ ap Some ending) asked quiet.sink in
-      elim shown [
+      let ending : shown_ending shown.Trace medl (script_from medl script_bytes) ≡ shown_ending shown.Trace medl (Ok right) = ap (shown_ending shown.Trace medl) script_is in
+      let outcome = p.told (shown_ending shown.Trace medl (Ok right)) (is ∙ ap Some ending) asked quiet.sink in
+      elim outcome [
         | inl showed ↦ inl (showed.status, showed.text)
         | inr seven ↦ inr seven
       ];

@@ -1,5 +1,5 @@
 use Rattle.std.proofs.Common.{inl, inr, rules}
-use Rattle.ttp_top.proofs.run.run_script.Goals as goal
+use Rattle.ttp_top.proofs.shown.show_script.Goals as goal
 
 pub returns-in-Err-Failed : goal.returns-in-Err-Failed
 returns-in-Err-Failed g c =
