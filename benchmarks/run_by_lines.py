@@ -34,11 +34,11 @@ def lines_of_kind(nodes, whole):
 
 def seconds_of(timing, medl, script):
     """The least seconds of one reading of a script, and of one run of it without the writing."""
-    least = {
-        parts: min(processor_seconds_of(unwritten(timing, medl, script, *parts)) for _ in range(RUNS))
-        for parts in ((0, 0), (READINGS, 0), (0, 1))
-    }
-    return (least[READINGS, 0] - least[0, 0]) / READINGS, least[0, 1] - least[0, 0]
+    def least(**times):
+        return min(processor_seconds_of(unwritten(timing, medl, script, **times)) for _ in range(RUNS))
+
+    start = least()
+    return (least(readings=READINGS) - start) / READINGS, least(runs=1) - start
 
 
 def main():

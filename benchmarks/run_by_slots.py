@@ -47,7 +47,7 @@ def seconds_by_way(timing, medl, script, times):
     if os.path.isdir(SHARED):
         with tempfile.NamedTemporaryFile(dir=SHARED) as file:
             found["to a file"] = min(processor_seconds_of(command, file.name) for _ in range(times))
-    found["not written"] = min(processor_seconds_of(unwritten(timing, medl, script, 0, 1)) for _ in range(times))
+    found["not written"] = min(processor_seconds_of(unwritten(timing, medl, script, runs=1)) for _ in range(times))
     return found
 
 

@@ -8,15 +8,16 @@ from programs import TOP, rattle_program
 
 PROGRAM = os.path.join(TOP, "crates", "ttpbench", "out", "ttpbench")
 
-# It reads a list and a script, the script so many times more, and then runs it so many times into a sink that takes the
-# bytes away with no call of the system.
-TIMED = """//! Reads and runs a script without the writing: the words are the files of list and script, readings, runs.
+# It reads a list and a script, the script so many times more, then tests the hypothesis so many times, and then runs the
+# script so many times into a sink that takes the bytes away with no call of the system.
+TIMED = """//! Reads, tests and runs a script without the writing: the words are the files of list and script, readings, tests, runs.
 #![tactic(auto)]
 ghost use Rattle.std.specs.Prelude.{◌≤◌, length};
 ghost use Rattle.ttp_world.specs.Medl.{IsValid};
 ghost use Rattle.ttp_world.specs.Script.{IsValidScript};
 ghost use Rattle.plant_run.specs.FirstNumbers.{IsUnhosted};
 
+use hypothesis::keeps;
 use medl_text::read_medl;
 use plant_run::put_run;
 use script_text::read_script;
@@ -25,7 +26,15 @@ use std::io::Write;
 use std::process::ExitCode;
 use std::{env, fs, io};
 use ttp_base::StreamSink;
-use ttp_world::{Medl, Script};
+use ttp_world::{Keep, Medl, Script};
+
+// How many times each part is done.
+#[derive(Clone, Copy)]
+struct Times {
+    readings: u32,
+    tests: u32,
+    runs: u32,
+}
 
 fn main(rt: HostRuntime) -> ExitCode {
     match work(&rt) {
@@ -34,18 +43,22 @@ fn main(rt: HostRuntime) -> ExitCode {
     }
 }
 
-// Whether the words name a list and a script that are read, and two numbers of times.
+// Whether the words name a list and a script that are read, and three numbers of times.
 fn work(rt: &HostRuntime) -> io::Result<bool> {
     let words: Vec<String> = env::args(rt)?.skip(1).collect(rt.alloc())?;
-    if words.len() != 4 {
+    if words.len() != 5 {
         return Ok(false);
     }
     let Ok(readings) = words[2].as_str().parse::<u32>() else {
         return Ok(false);
     };
-    let Ok(runs) = words[3].as_str().parse::<u32>() else {
+    let Ok(tests) = words[3].as_str().parse::<u32>() else {
         return Ok(false);
     };
+    let Ok(runs) = words[4].as_str().parse::<u32>() else {
+        return Ok(false);
+    };
+    let times = Times { readings, tests, runs };
     let list = fs::read(rt, words[0].as_str())?;
     let text = fs::read(rt, words[1].as_str())?;
     let Ok(list) = read_medl(rt.alloc(), &list) else {
@@ -54,15 +67,16 @@ fn work(rt: &HostRuntime) -> io::Result<bool> {
     if text.len() > 1_048_576 {
         return Ok(false);
     }
-    Ok(is_done(rt.alloc(), &list, &text, readings, runs))
+    Ok(is_done(rt.alloc(), &list, &text, times))
 }
 
-// Reads the script once and so many times more, and runs it so many times; whether all was done.
-fn is_done(alloc: Global, list: &Medl, text: &[u8], readings: u32, runs: u32) -> bool
+// Reads the script once and so many times more, tests it and runs it so many times; whether all was
+// done, and the script keeps the hypothesis if it was tested.
+fn is_done(alloc: Global, list: &Medl, text: &[u8], times: Times) -> bool
     requires valid { IsValid list.now }
     requires size { length text.now ≤ 1048576 }
 {
-    for _ in 0..readings {
+    for _ in 0..times.readings {
         if read_script(alloc, list, text).is_err() {
             return false;
         }
@@ -70,7 +84,12 @@ fn is_done(alloc: Global, list: &Medl, text: &[u8], readings: u32, runs: u32) ->
     let Ok(script) = read_script(alloc, list, text) else {
         return false;
     };
-    for _ in 0..runs {
+    for _ in 0..times.tests {
+        if let Keep::No { .. } = keeps(list, &script) {
+            return false;
+        }
+    }
+    for _ in 0..times.runs {
         if !is_run(alloc, list, &script) {
             return false;
         }
@@ -95,7 +114,7 @@ fn is_run(alloc: Global, list: &Medl, script: &Script) -> bool
 
 def timing_program(folder):
     """The program above, built over a copy of the crates below it."""
-    return rattle_program(folder, "run_speed", "ttp_base ttp_world medl_text script_text plant_run", TIMED)
+    return rattle_program(folder, "run_speed", "ttp_base ttp_world medl_text script_text hypothesis plant_run", TIMED)
 
 
 def list_text(kinds, data, *, drift=0, error=0, window=1, schedule=0, starters=(0,)):
@@ -141,6 +160,6 @@ def processor_seconds_of(command, path=os.devnull):
     return used.ru_utime + used.ru_stime
 
 
-def unwritten(timing, medl, script, readings, runs):
-    """The command that reads a script once and so many times more, and runs it so many times without writing."""
-    return [timing, medl, script, str(readings), str(runs)]
+def unwritten(timing, medl, script, *, readings=0, tests=0, runs=0):
+    """The command that reads a script once, and so many times more; then tests it and runs it without writing."""
+    return [timing, medl, script, str(readings), str(tests), str(runs)]
