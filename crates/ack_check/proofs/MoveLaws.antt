@@ -19,7 +19,8 @@ use Rattle.ttp_world.proofs.Pasts.{ack_of-cons}
 use Rattle.ack_check.specs.declared.moves.AckMove.{AckMove}
 use Rattle.ack_check.specs.declared.moves.AckMove.TheVariants.{Accept, Reject, Hold, Resolve, Leave}
 use Rattle.ack_check.specs.StandsFor.{StandsAfterJudged}
-use Rattle.ack_check.specs.Moves.{moved_members, adds_accepted, adds_rejected, taken_verdict, move_of, IsDoubtElsewhere, IsMoveOf}
+use Rattle.ack_check.specs.Moves.{moved_members, adds_accepted, adds_rejected, taken_verdict, move_of, IsDoubtElsewhere}
+use Rattle.ack_check.specs.Moves.{IsMoveOf}
 
 -- The acknowledgement.
 

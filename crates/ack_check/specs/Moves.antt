@@ -79,4 +79,5 @@ pub record IsMoveOf (move : AckMove) (a : Ack) (v : Verdict) (sender : ℕ) : Ty
   pub leaves : (move ≡ Leave) ↔ (v ≡ verdict.Denied)
   pub accepts : adds_accepted move ≡ is_correct v
   pub rejects : adds_rejected move ≡ is_rejection a v
-  pub members : (members : List ℕ) → v ≢ verdict.Denied → IsDoubtElsewhere a sender → moved_members move members sender ≡ judged_members members a v sender
+  pub members : (members : List ℕ) → v ≢ verdict.Denied → IsDoubtElsewhere a sender
+      → moved_members move members sender ≡ judged_members members a v sender

@@ -27,12 +27,15 @@ StandsAfterStarted state = (diary : Diary) → StandsFor state (entry.Started �
 
 abbrev pub StandsAfterJoined : Ack → Type 0
 StandsAfterJoined state =
-    (diary : Diary) (sender : ℕ) (cstate : CState) (deviation : ℤ) → StandsFor state (entry.Joined sender cstate deviation ∷ diary)
+    (diary : Diary) (sender : ℕ) (cstate : CState) (deviation : ℤ)
+    → StandsFor state (entry.Joined sender cstate deviation ∷ diary)
 
 abbrev pub StandsAfterSent : Ack → Ack → Type 0
 StandsAfterSent old new =
-    (diary : Diary) (message : Option ℕ) → IsTrue (is_active diary) → StandsFor old diary → StandsFor new (entry.Sent message ∷ diary)
+    (diary : Diary) (message : Option ℕ) → IsTrue (is_active diary) → StandsFor old diary
+    → StandsFor new (entry.Sent message ∷ diary)
 
 abbrev pub StandsAfterJudged : Ack → Ack → ℕ → Verdict → Type 0
 StandsAfterJudged old new sender v =
-    (diary : Diary) (deviation : ℤ) → IsTrue (is_active diary) → StandsFor old diary → StandsFor new (entry.Judged sender v deviation ∷ diary)
+    (diary : Diary) (deviation : ℤ) → IsTrue (is_active diary) → StandsFor old diary
+    → StandsFor new (entry.Judged sender v deviation ∷ diary)

@@ -5,7 +5,8 @@ ghost use Rattle.ttp_world.specs.Acknowledgement.{is_open};
 ghost use Rattle.ttp_world.specs.After.{ack_answered};
 ghost use Rattle.ttp_world.specs.Diary.{Diary, is_active};
 ghost use Rattle.ttp_world.specs.Reception.{candidates};
-ghost use Rattle.ack_check.specs.StandsFor.{IsAboutNode, StandsFor, StandsAfterSent, StandsAfterStarted, StandsAfterJoined, StandsAfterJudged};
+ghost use Rattle.ack_check.specs.StandsFor.{IsAboutNode, StandsFor, StandsAfterSent, StandsAfterStarted};
+ghost use Rattle.ack_check.specs.StandsFor.{StandsAfterJoined, StandsAfterJudged};
 ghost use Rattle.ack_check.specs.Moves.{taken_verdict, move_of, IsMoveOf, IsNodeMove};
 
 use crate::moves::AckMove;

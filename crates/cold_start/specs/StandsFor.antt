@@ -36,7 +36,8 @@ StandsAfterHeard old new heard =
 abbrev pub StandsAfterWaited : Listening → Listening → Heard → Type 0
 StandsAfterWaited old new heard =
     (diary : Diary) (surroundings : Surroundings) (s : SlotSurroundings) → s.is_silent ≡ is_silent heard
-    → StandsFor old (silent_slots_of diary surroundings) → StandsFor new (silent_slots_of (entry.Waited ∷ diary) (s ∷ surroundings))
+    → StandsFor old (silent_slots_of diary surroundings)
+    → StandsFor new (silent_slots_of (entry.Waited ∷ diary) (s ∷ surroundings))
 
 -- what a listening node does then
 abbrev pub listen_move : Heard → ListenMove

@@ -1,5 +1,6 @@
 -- A plant's controllers in the course of a slot, and what is so of them after each pass.
-use Rattle.std.proofs.Common.{◌≡◌, ℕ, ◌+◌, ◌<◌, ◌≤◌, ℤ, pos, List, [], length, Option, Some, None, unsigned_abs, refl, ap, sym, ◌∙◌, subst, arith}
+use Rattle.std.proofs.Common.{◌≡◌, ℕ, ◌+◌, ◌<◌, ◌≤◌, ℤ, pos, List, [], length, Option, Some, None, unsigned_abs, refl}
+use Rattle.std.proofs.Common.{ap, sym, ◌∙◌, subst, arith}
 use Rattle.std.specs.Prelude.{slice_get}
 use Rattle.std.proofs.lemmas.Int.{ints}
 use Rattle.std.proofs.lemmas.Option.{slice_get_within}
@@ -13,7 +14,8 @@ use Rattle.medium.specs.Carried.{Carried}
 use Rattle.medium.specs.StandsFor as medium
 use Rattle.controller.specs.declared.controller.Outcome.{Outcome}
 use Rattle.controller.specs.Limits.{seat_clock}
-use Rattle.controller.specs.Passes.{HasBegun, HaveBegun, HasPlanned, HavePlanned, AllMayPlan, frames_sent, AreClocks, IsFromWithin, HaveEnded, AllMayEnd}
+use Rattle.controller.specs.Passes.{HasBegun, HaveBegun, HasPlanned, HavePlanned, AllMayPlan, frames_sent, AreClocks}
+use Rattle.controller.specs.Passes.{IsFromWithin, HaveEnded, AllMayEnd}
 use Rattle.controller.specs.PlantStands.{AreChosen}
 use Rattle.controller.specs.PlantWithin.{most_ahead, most_ahead_in, IsSeatOf, AreSeats}
 use Rattle.controller.specs.Turn.{Seat}

@@ -9,7 +9,8 @@ use Rattle.ttp_world.specs.Act.{coming_place}
 use Rattle.ttp_world.specs.Conduct.{carries_payload, delivery, judging_entry, payload_taken, verdict_entry}
 use Rattle.ttp_world.specs.Diary.{Place}
 use Rattle.ttp_world.specs.Past.{NodePast}
-use Rattle.ttp_world.specs.Reception.{Expected, Hearing, entry_deviation, expected_length, expected_of, heard_deviation, is_first_view, is_taken_from_a, payload_heard, view_of}
+use Rattle.ttp_world.specs.Reception.{Expected, Hearing, entry_deviation, expected_length, expected_of, heard_deviation}
+use Rattle.ttp_world.specs.Reception.{is_first_view, is_taken_from_a, payload_heard, view_of}
 use Rattle.controller.specs.declared.hearing.Judgement.{Judgement}
 use Rattle.controller.specs.Hearing.{IsJudgement}
 

@@ -1,5 +1,6 @@
 -- Judgements: where channel A is seen as the first candidate, channel B changes nothing.
-use Rattle.std.proofs.Common.{◌≡◌, ℕ, ◌<◌, ℤ, pos, Bool, true, length, Option, Some, None, unwrap_or, refl, ap, sym, subst, ◌∙◌}
+use Rattle.std.proofs.Common.{◌≡◌, ℕ, ◌<◌, ℤ, pos, Bool, true, length, Option, Some, None, unwrap_or, refl, ap, sym}
+use Rattle.std.proofs.Common.{subst, ◌∙◌}
 use Rattle.ttp_world.specs.declared.medl.Medl.{Medl}
 use Rattle.ttp_world.specs.declared.node.Ack.{Ack}
 use Rattle.ttp_world.specs.declared.node.ChannelView.{ChannelView}
@@ -8,7 +9,8 @@ use Rattle.ttp_world.specs.declared.node.Verdict.TheVariants.{Correct}
 use Rattle.ttp_world.specs.Medium.{Signal, Silence, Noise, Bits}
 use Rattle.ttp_world.specs.Membership.{AreNodes}
 use Rattle.ttp_world.specs.Past.{NodePast}
-use Rattle.ttp_world.specs.Reception.{Expected, Hearing, candidates, entry_deviation, expected_of, heard_deviation, is_first_view, is_taken_from_a, verdict_of, view_of}
+use Rattle.ttp_world.specs.Reception.{Expected, Hearing, candidates, entry_deviation, expected_of, heard_deviation}
+use Rattle.ttp_world.specs.Reception.{is_first_view, is_taken_from_a, verdict_of, view_of}
 use Rattle.controller.specs.declared.hearing.Judgement.{Judgement}
 use Rattle.controller.specs.declared.hearing.Receiver.{Receiver}
 use Rattle.controller.specs.declared.hearing.Seen.{Seen}

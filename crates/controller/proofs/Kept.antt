@@ -1,5 +1,6 @@
 -- What a node keeps is all that the rules ask of its past.
-use Rattle.std.proofs.Common.{◌≡◌, ℕ, ◌+◌, ◌≤◌, min, ℤ, pos, ◌+ℤ◌, Bool, true, false, cond, ◌&&◌, List, [], ◌∷◌, ◌++◌, length, take, refl, ap, sym, ◌∙◌, inl, inr, arith}
+use Rattle.std.proofs.Common.{◌≡◌, ℕ, ◌+◌, ◌≤◌, min, ℤ, pos, ◌+ℤ◌, Bool, true, false, cond, ◌&&◌, List, [], ◌∷◌, ◌++◌}
+use Rattle.std.proofs.Common.{length, take, refl, ap, sym, ◌∙◌, inl, inr, arith}
 use Rattle.std.specs.Prelude.{nat_le}
 use Rattle.std.proofs.lemmas.Bool.{cases_lt, le-leb, lt-leb}
 use Rattle.ttp_world.specs.declared.medl.Medl.{Medl}
@@ -9,7 +10,8 @@ use Rattle.ttp_world.specs.declared.node.Entry.TheVariants as entry
 use Rattle.ttp_world.specs.declared.node.Phase.{Phase}
 use Rattle.ttp_world.specs.declared.node.Phase.TheVariants as phase
 use Rattle.ttp_world.specs.Act.{act, phase_act}
-use Rattle.ttp_world.specs.After.{past_after, silent_slots_after, notes_after, is_active_entry, correction_after, place_after}
+use Rattle.ttp_world.specs.After.{past_after, silent_slots_after, notes_after, is_active_entry, correction_after}
+use Rattle.ttp_world.specs.After.{place_after}
 use Rattle.ttp_world.specs.Clock.{notes_in, begins_round, is_corrected, slot_change}
 use Rattle.ttp_world.specs.Diary.{Place, SlotSurroundings, phase_after}
 use Rattle.ttp_world.specs.Medl.{may_start}

@@ -1,5 +1,6 @@
 -- The entry that a node makes by what it does in a slot is within the numbers of the list.
-use Rattle.std.proofs.Common.{◌≡◌, ◌≢◌, ℕ, ◌+◌, ◌≤◌, ℤ, ◌+ℤ◌, ◌-ℤ◌, ◌≤ℤ◌, neg_ℤ, Bool, true, false, ◌&&◌, cond, Option, Some, None, IfSome, IsTrue, unwrap_or, refl, sym, subst, arith}
+use Rattle.std.proofs.Common.{◌≡◌, ◌≢◌, ℕ, ◌+◌, ◌≤◌, ℤ, ◌+ℤ◌, ◌-ℤ◌, ◌≤ℤ◌, neg_ℤ, Bool, true, false, ◌&&◌, cond, Option}
+use Rattle.std.proofs.Common.{Some, None, IfSome, IsTrue, unwrap_or, refl, sym, subst, arith}
 use Rattle.std.specs.Option.{option_or}
 use Rattle.std.specs.Prelude.{◌==◌, int_le, nat_le, unsigned_abs}
 use Rattle.std.proofs.lemmas.Bool.{and_parts, cond_both, eqb-false}
@@ -28,7 +29,9 @@ use Rattle.ttp_world.specs.Fitting.{carried, is_joinable_state}
 use Rattle.ttp_world.specs.Medium.{Signal, Silence, Noise, Bits}
 use Rattle.ttp_world.specs.Medl.{member_width, IsValid}
 use Rattle.ttp_world.specs.Past.{NodePast}
-use Rattle.ttp_world.specs.Reception.{Expected, Hearing, better_view, entry_deviation, expected_of, heard_deviation, is_expected_form, is_taken_from_a, is_within_window, verdict_of, verdict_of_view, view_of, view_of_frame}
+use Rattle.ttp_world.specs.Reception.{Expected, Hearing, better_view, entry_deviation, expected_of, heard_deviation}
+use Rattle.ttp_world.specs.Reception.{is_expected_form, is_taken_from_a, is_within_window, verdict_of, verdict_of_view}
+use Rattle.ttp_world.specs.Reception.{view_of, view_of_frame}
 use Rattle.ack_check.specs.Moves.{taken_verdict}
 use Rattle.ack_check.proofs.MoveLaws.{taken-verdict_of}
 use Rattle.fta_sync.specs.StandsFor.{IsDeviation}

@@ -1,5 +1,6 @@
 -- One node in a slot: what its controller stands for after it.
-use Rattle.std.proofs.Common.{◌≡◌, ℕ, ◌<◌, ◌≤◌, ℤ, ◌+ℤ◌, List, ◌∷◌, length, Option, is_some, refl, ap, sym, ◌∙◌, subst, arith}
+use Rattle.std.proofs.Common.{◌≡◌, ℕ, ◌<◌, ◌≤◌, ℤ, ◌+ℤ◌, List, ◌∷◌, length, Option, is_some, refl, ap, sym, ◌∙◌, subst}
+use Rattle.std.proofs.Common.{arith}
 use Rattle.std.proofs.lemmas.List.{length-map}
 use Rattle.std.proofs.lemmas.List.FromFn.{get_or-map-range_with_len}
 use Rattle.ttp_world.specs.declared.medl.Medl.{Medl}
@@ -17,7 +18,8 @@ use Rattle.ttp_world.specs.Messages.{status_words}
 use Rattle.ttp_world.specs.Past.{NodePast, past_of}
 use Rattle.ttp_world.specs.Reception.{Hearing}
 use Rattle.ttp_world.specs.Script.{is_on, is_armed, jump_of, drift_of, reading_error}
-use Rattle.ttp_world.specs.World.{jump_taken, ReadyNode, ready_node, node_past, chosen_of, ready_nodes, no_node, ready_of, frames_of, frames_in}
+use Rattle.ttp_world.specs.World.{jump_taken, ReadyNode, ready_node, node_past, chosen_of, ready_nodes, no_node}
+use Rattle.ttp_world.specs.World.{ready_of, frames_of, frames_in}
 use Rattle.medium.specs.Carried.{Carried}
 use Rattle.medium.specs.StandsFor as medium
 use Rattle.controller.specs.declared.controller.Outcome.{Outcome}

@@ -1,5 +1,6 @@
 -- Silence does not depend on what frames hold, so a slot was silent to a node by the entries of those that sent.
-use Rattle.std.proofs.Common.{◌≡◌, ℕ, ◌<◌, ℤ, Bool, true, false, cond, ◌&&◌, List, [], ◌∷◌, ◌++◌, length, Option, Some, None, IfSome, unwrap_or, refl, ap, sym, ◌∙◌, arith}
+use Rattle.std.proofs.Common.{◌≡◌, ℕ, ◌<◌, ℤ, Bool, true, false, cond, ◌&&◌, List, [], ◌∷◌, ◌++◌, length, Option, Some}
+use Rattle.std.proofs.Common.{None, IfSome, unwrap_or, refl, ap, sym, ◌∙◌, arith}
 use Rattle.std.specs.Prelude.{map}
 use Rattle.std.specs.List.{filter, flat_map}
 use Rattle.std.specs.Option.{option_or}
@@ -23,7 +24,9 @@ use Rattle.ttp_world.specs.declared.script.Script.{Script}
 use Rattle.ttp_world.specs.Conduct.{node_frames, join_entry, channel_join, verdict_entry, new_entry}
 use Rattle.ttp_world.specs.Diary.{entry_of}
 use Rattle.ttp_world.specs.Fitting.{joinable}
-use Rattle.ttp_world.specs.Medium.{SentFrame, Signal, Silence, Noise, Bits, is_silence, remains, remaining_frames, combined_signal, with_noise, heard, is_silent_to, is_sending, sender_only, senders_in}
+use Rattle.ttp_world.specs.Medium.{SentFrame, Signal, Silence, Noise, Bits, is_silence, remains, remaining_frames}
+use Rattle.ttp_world.specs.Medium.{combined_signal, with_noise, heard, is_silent_to, is_sending, sender_only}
+use Rattle.ttp_world.specs.Medium.{senders_in}
 use Rattle.ttp_world.specs.Past.{NodePast}
 use Rattle.ttp_world.specs.Reception.{Hearing}
 use Rattle.ttp_world.specs.Script.{has_send_fault, has_receive_fault}

@@ -1,5 +1,6 @@
 -- The second pass: what is put on the medium, node by node.
-use Rattle.std.proofs.Common.{◌≡◌, ℕ, ◌+◌, ◌<◌, ℤ, List, ◌++◌, length, get_or, set, replicate, Option, Some, None, ap, sym, ◌∙◌, subst, append_assoc, arith}
+use Rattle.std.proofs.Common.{◌≡◌, ℕ, ◌+◌, ◌<◌, ℤ, List, ◌++◌, length, get_or, set, replicate, Option, Some, None, ap}
+use Rattle.std.proofs.Common.{sym, ◌∙◌, subst, append_assoc, arith}
 use Rattle.std.specs.Prelude.{slice_get}
 use Rattle.std.proofs.lemmas.List.{append-nil, length-set, length-replicate, get_or-set_same, get_or-set_other}
 use Rattle.ttp_base.proofs.Below.{flat_map_agree-below, flat_map-next}

@@ -1,12 +1,15 @@
 -- What a controller stands for after a slot: the diary with the slot's entry.
-use Rattle.std.proofs.Common.{◌≡◌, ℕ, suc, ◌+◌, ◌<◌, ◌≤◌, min, ℤ, pos, ◌+ℤ◌, true, ◌&&◌, ◌∷◌, length, Option, is_some, refl, sym, ap, subst, ◌∙◌, arith}
+use Rattle.std.proofs.Common.{◌≡◌, ℕ, suc, ◌+◌, ◌<◌, ◌≤◌, min, ℤ, pos, ◌+ℤ◌, true, ◌&&◌, ◌∷◌, length, Option, is_some}
+use Rattle.std.proofs.Common.{refl, sym, ap, subst, ◌∙◌, arith}
 use Rattle.ttp_world.specs.declared.medl.Medl.{Medl}
 use Rattle.ttp_world.specs.declared.node.Act.{Act}
 use Rattle.ttp_world.specs.declared.node.Act.TheVariants.{Off, Gone, Listen, Start, Retry, Leave, Send, Judge}
 use Rattle.ttp_world.specs.declared.node.Chosen.{Chosen}
 use Rattle.ttp_world.specs.declared.node.Entry.{Entry}
 use Rattle.ttp_world.specs.declared.node.Entry.TheVariants as entry
-use Rattle.ttp_world.specs.After.{place_after, members_after, accepted_after, rejected_after, ack_after, cold_start_after, limit_after, silent_slots_after, notes_after, correction_after, past_after}
+use Rattle.ttp_world.specs.After.{place_after, members_after, accepted_after, rejected_after, ack_after}
+use Rattle.ttp_world.specs.After.{cold_start_after, limit_after, silent_slots_after, notes_after, correction_after}
+use Rattle.ttp_world.specs.After.{past_after}
 use Rattle.ttp_world.specs.Clock.{slot_change}
 use Rattle.ttp_world.specs.Conduct.{new_entry, delivery}
 use Rattle.ttp_world.specs.Diary.{Diary, Surroundings, SlotSurroundings, phase_after, may_follow}

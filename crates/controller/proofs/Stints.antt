@@ -1,5 +1,6 @@
 -- A stint after one more entry, field by field.
-use Rattle.std.proofs.Common.{◌≡◌, ◌≢◌, ℕ, ◌<◌, min, ℤ, ◌+ℤ◌, Bool, true, false, cond, ◌||◌, ◌++◌, List, [], length, take, Option, Some, None, refl, ap, sym, subst, ◌∙◌, arith}
+use Rattle.std.proofs.Common.{◌≡◌, ◌≢◌, ℕ, ◌<◌, min, ℤ, ◌+ℤ◌, Bool, true, false, cond, ◌||◌, ◌++◌, List, [], length}
+use Rattle.std.proofs.Common.{take, Option, Some, None, refl, ap, sym, subst, ◌∙◌, arith}
 use Rattle.std.specs.Prelude.{◌==◌}
 use Rattle.std.specs.Option.{option_to_list}
 use Rattle.std.proofs.Math.Bool.{or-true, or-false}
@@ -12,7 +13,9 @@ use Rattle.ttp_world.specs.declared.node.Entry.TheVariants as entry
 use Rattle.ttp_world.specs.declared.node.Verdict.{Verdict}
 use Rattle.ttp_world.specs.declared.node.Verdict.TheVariants as verdict
 use Rattle.ttp_world.specs.Acknowledgement.{is_correct}
-use Rattle.ttp_world.specs.After.{place_after, members_after, accepted_after, rejected_after, ack_after, cold_start_after, limit_after, silent_slots_after, notes_after, correction_after, past_after}
+use Rattle.ttp_world.specs.After.{place_after, members_after, accepted_after, rejected_after, ack_after}
+use Rattle.ttp_world.specs.After.{cold_start_after, limit_after, silent_slots_after, notes_after, correction_after}
+use Rattle.ttp_world.specs.After.{past_after}
 use Rattle.ttp_world.specs.Clock.{slot_change}
 use Rattle.ttp_world.specs.Diary.{Place, SlotSurroundings, next_place, phase_after}
 use Rattle.ttp_world.specs.Medl.{IsValid, plan_at}

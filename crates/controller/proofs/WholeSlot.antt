@@ -1,5 +1,6 @@
 -- The three passes of a slot together: the plant then stands for the history with the world's row.
-use Rattle.std.proofs.Common.{◌≡◌, ℕ, suc, ◌+◌, ◌<◌, ◌≤◌, ℤ, List, length, get_or, Some, None, ap, sym, ◌∙◌, subst, add-one, arith}
+use Rattle.std.proofs.Common.{◌≡◌, ℕ, suc, ◌+◌, ◌<◌, ◌≤◌, ℤ, List, length, get_or, Some, None, ap, sym, ◌∙◌, subst}
+use Rattle.std.proofs.Common.{add-one, arith}
 use Rattle.std.specs.Prelude.{slice_get}
 use Rattle.std.proofs.lemmas.Option.{slice_get_within, get_or_from_slice_get, same_Some}
 use Rattle.ttp_base.proofs.Below.{flat_map_agree-below}
@@ -15,7 +16,8 @@ use Rattle.controller.specs.PlantStands.{plant_of, no_outcome, IsLeft, Steps}
 use Rattle.controller.specs.StandsFor.{StandsFor, frames_planned, most_slots}
 use Rattle.controller.specs.Turn.{Seat}
 use Rattle.controller.proofs.Course.{Course, IsCourse, AtNode, at_node, count_begun, count_planned, course-stands}
-use Rattle.controller.proofs.OneNode.{WorldSlot, nodes_of, clocks_of, frames_sent_in, CarriesSlot, EndsSlot, IsSlotOf, slot-clock, slot-frames, slot-ends}
+use Rattle.controller.proofs.OneNode.{WorldSlot, nodes_of, clocks_of, frames_sent_in, CarriesSlot, EndsSlot, IsSlotOf}
+use Rattle.controller.proofs.OneNode.{slot-clock, slot-frames, slot-ends}
 use Rattle.controller.proofs.Passed.{there}
 
 -- the slot of the world after a history

@@ -1,5 +1,7 @@
 -- What a node keeps of its past stays within the numbers of the list.
-use Rattle.std.proofs.Common.{◌≡◌, ◌≢◌, ℕ, suc, ◌+◌, ◌-◌, ◌*◌, ◌%◌, ◌<◌, ◌≤◌, ℤ, pos, Bool, true, false, cond, List, [], ◌++◌, length, take, Option, Some, None, mod-lt, refl, sym, subst, ◌∙◌, ap, inl, inr, arith}
+use Rattle.std.proofs.Common.{◌≡◌, ◌≢◌, ℕ, suc, ◌+◌, ◌-◌, ◌*◌, ◌%◌, ◌<◌, ◌≤◌, ℤ, pos, Bool, true, false, cond, List, []}
+use Rattle.std.proofs.Common.{◌++◌, length, take, Option, Some, None, mod-lt, refl, sym, subst, ◌∙◌, ap, inl, inr}
+use Rattle.std.proofs.Common.{arith}
 use Rattle.std.specs.Prelude.{◌==◌, nat_lt, All, IfSome}
 use Rattle.std.specs.Option.{option_to_list}
 use Rattle.std.proofs.lemmas.Bool.{cond_both, cases_lt, cond-true, cond-false, lt-ltb, le-ltb, eqb-false, eqb-true}

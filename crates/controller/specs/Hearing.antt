@@ -9,7 +9,8 @@ use Rattle.ttp_world.specs.Medium.{Signal}
 use Rattle.ttp_world.specs.Medl.{is_wide}
 use Rattle.ttp_world.specs.Membership.{AreNodes}
 use Rattle.ttp_world.specs.Past.{NodePast}
-use Rattle.ttp_world.specs.Reception.{Hearing, candidates, verdict_of, view_of, heard_deviation, entry_deviation, is_first_view, is_taken_from_a}
+use Rattle.ttp_world.specs.Reception.{Hearing, candidates, verdict_of, view_of, heard_deviation, entry_deviation}
+use Rattle.ttp_world.specs.Reception.{is_first_view, is_taken_from_a}
 use Rattle.ttp_world.specs.Reception.{Expected as Awaited}
 use Rattle.medium.specs.declared.arrival.Arrival.{Arrival}
 use Rattle.medium.specs.declared.arrival.Arrival.TheVariants as arrival

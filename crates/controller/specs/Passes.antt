@@ -1,5 +1,6 @@
 -- What each of the three passes over a plant's controllers makes of them in a slot, node by node.
-use Rattle.std.specs.Prelude.{◌≡◌, ℕ, ◌+◌, ◌<◌, ◌≤◌, ℤ, unsigned_abs, List, [], ◌++◌, length, get_or, slice_get, Option, Some, None}
+use Rattle.std.specs.Prelude.{◌≡◌, ℕ, ◌+◌, ◌<◌, ◌≤◌, ℤ, unsigned_abs, List, [], ◌++◌, length, get_or, slice_get, Option}
+use Rattle.std.specs.Prelude.{Some, None}
 use Rattle.std.specs.List.{flat_map}
 use Rattle.ttp_base.specs.NodeSet.{below}
 use Rattle.ttp_world.specs.declared.node.Act.{Act}
@@ -20,7 +21,8 @@ use Rattle.controller.specs.declared.controller.Outcome.{Outcome}
 use Rattle.controller.specs.Hearing.{hearing_of}
 use Rattle.controller.specs.Limits.{IsBegun, IsPlanned, seat_clock}
 use Rattle.controller.specs.PlantWithin.{most_ahead, most_ahead_in, most_error}
-use Rattle.controller.specs.StandsFor.{Stands, IsSameSeat, Begins, seat_past, frames_planned, message_planned, IsPlan, clock_begun, AreSurroundings, IsEnd}
+use Rattle.controller.specs.StandsFor.{Stands, IsSameSeat, Begins, seat_past, frames_planned, message_planned, IsPlan}
+use Rattle.controller.specs.StandsFor.{clock_begun, AreSurroundings, IsEnd}
 use Rattle.controller.specs.Turn.{Begun, Planned, Seat, Ended}
 
 -- The first: each controller begins the slot.

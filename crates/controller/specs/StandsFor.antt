@@ -1,5 +1,6 @@
 -- What a controller stands for: a diary of its node, and the surroundings beside it.
-use Rattle.std.specs.Prelude.{◌≡◌, ℕ, ◌-◌, ◌^◌, ◌≤◌, ℤ, ◌+ℤ◌, Bool, ◌&&◌, List, [], ◌∷◌, length, min, Option, Some, None, is_some}
+use Rattle.std.specs.Prelude.{◌≡◌, ℕ, ◌-◌, ◌^◌, ◌≤◌, ℤ, ◌+ℤ◌, Bool, ◌&&◌, List, [], ◌∷◌, length, min, Option, Some}
+use Rattle.std.specs.Prelude.{None, is_some}
 use Rattle.ttp_world.specs.declared.medl.Medl.{Medl}
 use Rattle.ttp_world.specs.declared.node.Act.{Act}
 use Rattle.ttp_world.specs.declared.node.Act.TheVariants.{Send}
@@ -71,13 +72,15 @@ payload_planned list past chosen Send = payload_sent list (coming_place list pas
 payload_planned list past chosen _ = []
 
 pub record IsPlan (old new : Seat) (planned : Option (List ℕ)) (diary : Diary) (surroundings : Surroundings) (a : Act) (jump : ℤ) (chosen : Chosen) : Type 0 where
-  pub frames : frames_planned old.node planned ≡ node_frames old.list old.node (seat_past old diary surroundings) chosen a
+  pub frames : frames_planned old.node planned
+      ≡ node_frames old.list old.node (seat_past old diary surroundings) chosen a
   pub stands : Stands new diary surroundings (Planned a jump (message_planned old.list (seat_past old diary surroundings) chosen a))
 
 -- whatever diary it stood for, and whatever was chosen, if it has this number and, where the frame carries payload, this one
 abbrev pub Plans : Seat → Seat → ℕ → List ℕ → Option (List ℕ) → Type 0
 Plans old new number payload planned =
-    (diary : Diary) (surroundings : Surroundings) (a : Act) (jump : ℤ) (chosen : Chosen) → Stands old diary surroundings (Begun a jump)
+    (diary : Diary) (surroundings : Surroundings) (a : Act) (jump : ℤ) (chosen : Chosen)
+    → Stands old diary surroundings (Begun a jump)
     → chosen.number ≡ number → payload_planned old.list (seat_past old diary surroundings) chosen a ≡ payload
     → IsPlan old new planned diary surroundings a jump chosen
 
@@ -100,7 +103,8 @@ pub record IsEnd (old new : Seat) (outcome : Outcome) (diary : Diary) (surroundi
   pub stands : StandsFor new (e ∷ diary) (s ∷ surroundings)
   pub delivered : outcome.delivered ≡ handed
   pub status : length diary ≤ most_slots
-      → outcome.status.words ≡ status_words old.list (length diary) (seat_past old (e ∷ diary) (s ∷ surroundings)) (is_some handed)
+      → outcome.status.words
+      ≡ status_words old.list (length diary) (seat_past old (e ∷ diary) (s ∷ surroundings)) (is_some handed)
 
 -- whatever diary the one stood for in a slot, and whatever signals the arrivals show, the other stands for the diary
 -- with the slot's entry

@@ -2,7 +2,8 @@
 use Rattle.std.specs.Prelude.{ℕ, take}
 use Rattle.ttp_world.specs.declared.medl.Medl.{Medl}
 use Rattle.ttp_world.specs.declared.node.Entry.{Entry}
-use Rattle.ttp_world.specs.After.{place_after, members_after, accepted_after, rejected_after, ack_after, cold_start_after, notes_after}
+use Rattle.ttp_world.specs.After.{place_after, members_after, accepted_after, rejected_after, ack_after}
+use Rattle.ttp_world.specs.After.{cold_start_after, notes_after}
 use Rattle.ttp_world.specs.Past.{NodePast}
 use Rattle.fta_sync.specs.StandsFor.{kept_notes}
 

@@ -1,5 +1,6 @@
 -- What the numbers of the list bound of a node's past, and of its next entry.
-use Rattle.std.specs.Prelude.{◌≡◌, ◌≢◌, ℕ, ◌+◌, ◌-◌, ◌*◌, ◌<◌, ◌≤◌, nat_lt, ◌^◌, ℤ, pos, neg_ℤ, ◌≤ℤ◌, All, IsTrue, length, if◌then◌else◌}
+use Rattle.std.specs.Prelude.{◌≡◌, ◌≢◌, ℕ, ◌+◌, ◌-◌, ◌*◌, ◌<◌, ◌≤◌, nat_lt, ◌^◌, ℤ, pos, neg_ℤ, ◌≤ℤ◌, All, IsTrue}
+use Rattle.std.specs.Prelude.{length, if◌then◌else◌}
 use Rattle.ttp_world.specs.declared.medl.Medl.{Medl}
 use Rattle.ttp_world.specs.declared.node.Ack.{Ack}
 use Rattle.ttp_world.specs.declared.node.Ack.TheVariants as ack

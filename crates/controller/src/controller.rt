@@ -3,7 +3,8 @@ ghost use Rattle.std.specs.Prelude.{◌≡◌, ◌&&◌, ◌<◌, ◌≤◌, ◌
 ghost use Rattle.ttp_world.specs.Medl.{IsValid};
 ghost use Rattle.ttp_world.specs.World.{jump_taken};
 ghost use Rattle.controller.specs.Hearing.{is_silent_arrival};
-ghost use Rattle.controller.specs.Limits.{JumpFits, ArrivalFits, StaysNear, IsBegun, IsPlanned, seat_clock, seat_intent, payload_wanted};
+ghost use Rattle.controller.specs.Limits.{JumpFits, ArrivalFits, StaysNear, IsBegun, IsPlanned, seat_clock};
+ghost use Rattle.controller.specs.Limits.{seat_intent, payload_wanted};
 ghost use Rattle.controller.specs.StandsFor.{StandsFor, IsSameSeat, Begins, Plans, Ends, ShowsState};
 ghost use Rattle.controller.specs.Turn.{Ended};
 

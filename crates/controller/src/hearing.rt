@@ -1,14 +1,19 @@
 //! What a node makes of what comes to it in a slot: its entry, and what it hands to its host.
-ghost use Rattle.std.specs.Prelude.{◌≡◌, ◌↔◌, ◌+◌, ◌≤◌, ◌<◌, ℕ, ℤ, ◌-ℤ◌, ◌+ℤ◌, Bool, not, IsTrue, ◌++◌, drop, length, unsigned_abs, if◌then◌else◌};
+ghost use Rattle.std.specs.Prelude.{◌≡◌, ◌↔◌, ◌+◌, ◌≤◌, ◌<◌, ℕ, ℤ, ◌-ℤ◌, ◌+ℤ◌, Bool, not, IsTrue, ◌++◌, drop, length};
+ghost use Rattle.std.specs.Prelude.{unsigned_abs, if◌then◌else◌};
 ghost use Rattle.ttp_frame.specs.Shape.{HaveRoom};
 ghost use Rattle.ttp_world.specs.Act.{coming_place};
-ghost use Rattle.ttp_world.specs.Conduct.{channel_join, delivery, join_entry, judging_entry, listening_entry, verdict_entry};
+ghost use Rattle.ttp_world.specs.Conduct.{channel_join, delivery, join_entry, judging_entry, listening_entry};
+ghost use Rattle.ttp_world.specs.Conduct.{verdict_entry};
 ghost use Rattle.ttp_world.specs.Fitting.{carried_length, payload_in};
 ghost use Rattle.ttp_world.specs.Medl.{IsValid, is_wide, member_bytes};
 ghost use Rattle.ttp_world.specs.Past.{NodePast};
-ghost use Rattle.ttp_world.specs.Reception.{Hearing, entry_deviation, expected_of, fits_members, fits_second, is_expected_form, is_first_view, is_within_window, payload_heard, view_of_bits, view_of_frame};
+ghost use Rattle.ttp_world.specs.Reception.{Hearing, entry_deviation, expected_of, fits_members, fits_second};
+ghost use Rattle.ttp_world.specs.Reception.{is_expected_form, is_first_view, is_within_window, payload_heard};
+ghost use Rattle.ttp_world.specs.Reception.{view_of_bits, view_of_frame};
 ghost use Rattle.slot_clock.specs.StandsFor.{StandsFor};
-ghost use Rattle.controller.specs.Hearing.{ForSignals, ForHearings, ReadingFits, IsReceiver, Receives, awaited_by, awaited_meant, IsExpected, IsSeen, IsJudgement};
+ghost use Rattle.controller.specs.Hearing.{ForSignals, ForHearings, ReadingFits, IsReceiver, Receives, awaited_by};
+ghost use Rattle.controller.specs.Hearing.{awaited_meant, IsExpected, IsSeen, IsJudgement};
 ghost use Rattle.controller.specs.Limits.{most_clock};
 ghost use Rattle.controller.specs.Within.{IsWithin};
 

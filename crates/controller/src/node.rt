@@ -119,7 +119,8 @@ fn first_limit(list: &Medl, k: u8) -> u16
 // The listener with one more slot.
 fn heard_after(listener: Listener, heard: Heard) -> Listener
     ensures limit { result.limit ≡ listener.limit }
-    ensures silent { result.silent_slots ≡ min (silent_slots_after listener.silent_slots Entry.Waited (is_silent heard)) most_silent }
+    ensures silent { result.silent_slots
+        ≡ min (silent_slots_after listener.silent_slots Entry.Waited (is_silent heard)) most_silent }
 {
     let mut after = listener;
     after.hear(heard);
@@ -280,7 +281,9 @@ impl Node {
         requires valid { IsValid list.now }
         requires changes { AreChangesWithin outside.now }
         requires joined { IsDeviation (join_deviation self.now.entry) }
-        ensures value { result ≡ slot_change self.now.entry outside.now (correction_after list.now self.now.place self.now.notes self.now.entry) }
+        ensures value { result
+            ≡ slot_change self.now.entry outside.now
+            (correction_after list.now self.now.place self.now.notes self.now.entry) }
         ensures within { IsChange result }
     {
         match self.entry {

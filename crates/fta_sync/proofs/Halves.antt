@@ -1,5 +1,6 @@
 -- Where three of four numbers lie between two bounds, half the sum of the middle two does too.
-use Rattle.std.proofs.Common.{◌≡◌, ◌+◌, ◌<◌, ◌≤◌, ℤ, pos, negsuc, neg_ℤ, ◌*ℤ◌, ◌+ℤ◌, FitsSigned, w64, ◌≤ℤ◌, Bool, true, false, cond, ◌&&◌, [], ◌∷◌, refl, sym, subst, arith}
+use Rattle.std.proofs.Common.{◌≡◌, ◌+◌, ◌<◌, ◌≤◌, ℤ, pos, negsuc, neg_ℤ, ◌*ℤ◌, ◌+ℤ◌, FitsSigned, w64, ◌≤ℤ◌, Bool, true}
+use Rattle.std.proofs.Common.{false, cond, ◌&&◌, [], ◌∷◌, refl, sym, subst, arith}
 use Rattle.std.specs.Prelude.{int_le, int_div, int_rem, unsigned_abs, count_by}
 use Rattle.std.specs.Int.{int_min, int_max}
 use Rattle.std.proofs.lemmas.Int.{ints, clamps, quot-rem, rem_below}

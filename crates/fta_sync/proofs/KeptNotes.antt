@@ -1,5 +1,6 @@
 -- The last four of some notes, the newest first, in four places.
-use Rattle.std.proofs.Common.{◌≡◌, ℕ, zero, suc, ◌+◌, ◌<◌, ◌≤◌, min, ℤ, pos, false, cond, List, [], ◌∷◌, length, take, refl, ap, sym, arith}
+use Rattle.std.proofs.Common.{◌≡◌, ℕ, zero, suc, ◌+◌, ◌<◌, ◌≤◌, min, ℤ, pos, false, cond, List, [], ◌∷◌, length, take}
+use Rattle.std.proofs.Common.{refl, ap, sym, arith}
 use Rattle.std.specs.Prelude.{◌↔◌, nat_lt}
 use Rattle.ttp_world.specs.Clock.{fta, middle_half}
 

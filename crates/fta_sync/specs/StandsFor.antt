@@ -1,5 +1,6 @@
 -- What measures stand for. Contracts see them as the list of the last four notes, the newest first.
-use Rattle.std.specs.Prelude.{◌≡◌, ℕ, ◌≤◌, ◌^◌, ℤ, pos, neg_ℤ, ◌≤ℤ◌, int_le, Bool, ◌&&◌, List, ◌∷◌, length, take, count_by, IsTrue, ◌↔◌}
+use Rattle.std.specs.Prelude.{◌≡◌, ℕ, ◌≤◌, ◌^◌, ℤ, pos, neg_ℤ, ◌≤ℤ◌, int_le, Bool, ◌&&◌, List, ◌∷◌, length, take}
+use Rattle.std.specs.Prelude.{count_by, IsTrue, ◌↔◌}
 use Rattle.ttp_world.specs.Clock.{fta}
 
 -- so many notes make an average
@@ -31,7 +32,8 @@ StandsWith old new deviation = (notes : List ℤ) → StandsFor old notes → St
 
 -- this tells whether there are four notes or more
 abbrev pub IsReadyExactly : List ℤ → Bool → Type 0
-IsReadyExactly measures ready = (notes : List ℤ) → StandsFor measures notes → (IsTrue ready ↔ (kept_notes ≤ length notes))
+IsReadyExactly measures ready =
+    (notes : List ℤ) → StandsFor measures notes → (IsTrue ready ↔ (kept_notes ≤ length notes))
 
 -- this is the average of all notes
 abbrev pub IsAverage : List ℤ → ℤ → Type 0
@@ -44,4 +46,5 @@ is_between low high z = int_le low z && int_le z high
 -- where there are four and three of them lie between two numbers, so does this
 abbrev pub LiesBetween : List ℤ → ℤ → Type 0
 LiesBetween measures average =
-    (low high : ℤ) → kept_notes ≤ length measures → 3 ≤ count_by (is_between low high) measures → (low ≤ℤ average) × (average ≤ℤ high)
+    (low high : ℤ) → kept_notes ≤ length measures → 3 ≤ count_by (is_between low high) measures
+    → (low ≤ℤ average) × (average ≤ℤ high)

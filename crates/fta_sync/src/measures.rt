@@ -1,7 +1,8 @@
 //! The deviations that were noted.
 ghost use Rattle.std.specs.Prelude.{◌≡◌, ◌≤◌, ◌↔◌, ℤ, List, [], ◌∷◌, IsTrue, length, take};
 ghost use Rattle.ttp_world.specs.Clock.{fta};
-ghost use Rattle.fta_sync.specs.StandsFor.{kept_notes, IsDeviation, StandsFor, StandsWith, IsReadyExactly, IsAverage, LiesBetween};
+ghost use Rattle.fta_sync.specs.StandsFor.{kept_notes, IsDeviation, StandsFor, StandsWith, IsReadyExactly, IsAverage};
+ghost use Rattle.fta_sync.specs.StandsFor.{LiesBetween};
 
 use crate::middle::middle_half;
 use std::marker::Model;

@@ -1,5 +1,6 @@
 -- Faults that come too early, slot by slot.
-use Rattle.std.proofs.Common.{◌≡◌, ℕ, zero, suc, ◌+◌, ◌<◌, ◌≤◌, min, List, [], ◌∷◌, ◌++◌, length, map, reverse, replicate, cond, Bool, true, false, Option, Some, refl, ap, sym, ◌∙◌, inl, inr, arith}
+use Rattle.std.proofs.Common.{◌≡◌, ℕ, zero, suc, ◌+◌, ◌<◌, ◌≤◌, min, List, [], ◌∷◌, ◌++◌, length, map, reverse}
+use Rattle.std.proofs.Common.{replicate, cond, Bool, true, false, Option, Some, refl, ap, sym, ◌∙◌, inl, inr, arith}
 use Rattle.std.specs.Prelude.{nat_lt}
 use Rattle.std.proofs.lemmas.Bool.{cases_lt, lt-ltb}
 use Rattle.std.proofs.lemmas.List.{length-map, map-append, reverse-append, replicate_more, append-nil}
@@ -7,7 +8,8 @@ use Rattle.std.proofs.lemmas.Grind.{reverse_onto}
 use Rattle.std.specs.Option.{option_or}
 use Rattle.ttp_world.specs.declared.medl.Medl.{Medl}
 use Rattle.ttp_world.specs.declared.script.Script.{Script}
-use Rattle.ttp_world.specs.Hypothesis.{ClusterStart, FaultyNode, numbers_of, nodes_made, loss_in, jumpers_in, faulty_nodes_before, faulty_nodes_in, first_too_early}
+use Rattle.ttp_world.specs.Hypothesis.{ClusterStart, FaultyNode, numbers_of, nodes_made, loss_in, jumpers_in}
+use Rattle.ttp_world.specs.Hypothesis.{faulty_nodes_before, faulty_nodes_in, first_too_early}
 use Rattle.hypothesis.specs.Walks.{earliest_after, fault_slots_before}
 use Rattle.hypothesis.proofs.Firsts.{or-head}
 

@@ -1,5 +1,6 @@
 -- What a slot makes of the faulty nodes is told by any set that has the same nodes.
-use Rattle.std.proofs.Common.{◌≡◌, ℕ, suc, ◌+◌, ◌<◌, ◌≤◌, Bool, true, false, cond, subst, not, ◌&&◌, ◌||◌, List, [], ◌∷◌, ◌++◌, length, refl, ap, sym, ◌∙◌, arith}
+use Rattle.std.proofs.Common.{◌≡◌, ℕ, suc, ◌+◌, ◌<◌, ◌≤◌, Bool, true, false, cond, subst, not, ◌&&◌, ◌||◌, List, []}
+use Rattle.std.proofs.Common.{◌∷◌, ◌++◌, length, refl, ap, sym, ◌∙◌, arith}
 use Rattle.std.specs.Prelude.{◌==◌, map, nat_lt, if◌then◌else◌}
 use Rattle.std.specs.List.{filter}
 use Rattle.std.proofs.lemmas.List.{append_assoc, length-append, length-map}
@@ -9,7 +10,9 @@ use Rattle.ttp_base.specs.NodeSet.{most_nodes, has_node, below}
 use Rattle.ttp_base.proofs.NodeSets.{same_sieve}
 use Rattle.ttp_world.specs.declared.medl.Medl.{Medl}
 use Rattle.ttp_world.specs.declared.script.Script.{Script}
-use Rattle.ttp_world.specs.Hypothesis.{ClusterStart, FaultyNode, Loss, Harmless, Makes, Breaks, numbers_of, nodes_made, faulty_nodes_in, is_other, others_in, receivers_loss, sender_loss, loss_in, expected_sender, jumps_now, jumpers_in, is_steady}
+use Rattle.ttp_world.specs.Hypothesis.{ClusterStart, FaultyNode, Loss, Harmless, Makes, Breaks, numbers_of, nodes_made}
+use Rattle.ttp_world.specs.Hypothesis.{faulty_nodes_in, is_other, others_in, receivers_loss, sender_loss, loss_in}
+use Rattle.ttp_world.specs.Hypothesis.{expected_sender, jumps_now, jumpers_in, is_steady}
 use Rattle.ttp_world.specs.Medl.{plan_at}
 use Rattle.ttp_world.specs.Script.{is_on, is_ever_on, has_jump}
 use Rattle.hypothesis.specs.Standing.{HaveSameNodes}

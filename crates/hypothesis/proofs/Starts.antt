@@ -1,10 +1,12 @@
 -- A start lies after the first slot.
-use Rattle.std.proofs.Common.{◌≡◌, ℕ, ◌+◌, ◌*◌, ◌<◌, Bool, true, false, List, [], ◌∷◌, length, Option, Some, None, option_map, refl, arith}
+use Rattle.std.proofs.Common.{◌≡◌, ℕ, ◌+◌, ◌*◌, ◌<◌, Bool, true, false, List, [], ◌∷◌, length, Option, Some, None}
+use Rattle.std.proofs.Common.{option_map, refl, arith}
 use Rattle.std.specs.Prelude.{IfSome, if◌then◌else◌}
 use Rattle.std.specs.List.{filter, filter_map}
 use Rattle.ttp_world.specs.declared.medl.Medl.{Medl}
 use Rattle.ttp_world.specs.declared.script.Script.{Script}
-use Rattle.ttp_world.specs.Hypothesis.{lesser, least_of, nodes_of, start_slot, only_starter, starts_in, are_all_on, start_in, start_of}
+use Rattle.ttp_world.specs.Hypothesis.{lesser, least_of, nodes_of, start_slot, only_starter, starts_in, are_all_on}
+use Rattle.ttp_world.specs.Hypothesis.{start_in, start_of}
 use Rattle.ttp_world.specs.Medl.{may_start, IsValid}
 use Rattle.ttp_world.specs.Script.{on_slot}
 

@@ -3,7 +3,9 @@ use Rattle.std.proofs.Common.{◌≡◌, ℕ, ◌+◌, ◌-◌, ◌<◌, max, mi
 use Rattle.ttp_world.specs.declared.keep.Keep.TheVariants as keep
 use Rattle.ttp_world.specs.declared.medl.Medl.{Medl}
 use Rattle.ttp_world.specs.declared.script.Script.{Script}
-use Rattle.ttp_world.specs.Hypothesis.{ClusterStart, breaks_in, loss_broken, distance_broken, sync_broken, first_too_early, faulty_nodes_before, has_four_steady, lacks_steady_after, unless, started_keep}
+use Rattle.ttp_world.specs.Hypothesis.{ClusterStart, breaks_in, loss_broken, distance_broken, sync_broken}
+use Rattle.ttp_world.specs.Hypothesis.{first_too_early, faulty_nodes_before, has_four_steady, lacks_steady_after}
+use Rattle.ttp_world.specs.Hypothesis.{unless, started_keep}
 use Rattle.hypothesis.specs.declared.walk.Walk.{Walk}
 use Rattle.hypothesis.specs.Walks.{HasWalked, two_rounds}
 use Rattle.hypothesis.proofs.Firsts.{lack-since}

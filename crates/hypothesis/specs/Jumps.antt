@@ -8,4 +8,5 @@ use Rattle.ttp_world.specs.Hypothesis.{is_jump_before}
 -- for each node the slot of its first jump among these events: it has jumped before just the slots after that one
 abbrev pub AreFirstJumps : List Event → List ℕ → Type 0
 AreFirstJumps events first =
-    (k slot : ℕ) → k < most_nodes → slot < 2 ^ 32 → list_any (is_jump_before k slot) events ≡ nat_lt (get_or first k 0) slot
+    (k slot : ℕ) → k < most_nodes → slot < 2 ^ 32
+    → list_any (is_jump_before k slot) events ≡ nat_lt (get_or first k 0) slot

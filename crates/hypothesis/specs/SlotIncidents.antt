@@ -9,4 +9,5 @@ use Rattle.hypothesis.specs.declared.incidents.SlotIncidents.{SlotIncidents}
 -- what happens to each node of a list in a slot
 abbrev pub AreIncidentsIn : Medl → Script → ℕ → SlotIncidents → Type 0
 AreIncidentsIn list script slot incidents =
-    (k : ℕ) (nothing : Incidents) → k < length list.slots → get_or incidents.nodes k nothing ≡ incidents_of script k slot
+    (k : ℕ) (nothing : Incidents) → k < length list.slots
+    → get_or incidents.nodes k nothing ≡ incidents_of script k slot

@@ -35,4 +35,5 @@ HaveSameNodes first second = (k : ℕ) → k < most_nodes → has_node first k �
 
 -- a set of the nodes that became faulty before a slot
 abbrev pub AreFaultyBefore : Medl → Script → ClusterStart → ℕ → List ℕ → Type 0
-AreFaultyBefore list script start slot faulty = HaveSameNodes faulty (numbers_of (faulty_nodes_before list script start slot))
+AreFaultyBefore list script start slot faulty =
+    HaveSameNodes faulty (numbers_of (faulty_nodes_before list script start slot))

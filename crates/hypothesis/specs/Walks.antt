@@ -1,9 +1,11 @@
 -- What a walk over the slots of a run finds of the rules on faults.
-use Rattle.std.specs.Prelude.{◌≡◌, ℕ, ◌+◌, ◌-◌, ◌*◌, ◌<◌, min, nat_lt, Bool, false, List, [], ◌∷◌, map, length, reverse, find, Option, Some, None, if◌then◌else◌}
+use Rattle.std.specs.Prelude.{◌≡◌, ℕ, ◌+◌, ◌-◌, ◌*◌, ◌<◌, min, nat_lt, Bool, false, List, [], ◌∷◌, map, length, reverse}
+use Rattle.std.specs.Prelude.{find, Option, Some, None, if◌then◌else◌}
 use Rattle.std.specs.List.{range_with_len}
 use Rattle.ttp_world.specs.declared.medl.Medl.{Medl}
 use Rattle.ttp_world.specs.declared.script.Script.{Script}
-use Rattle.ttp_world.specs.Hypothesis.{ClusterStart, faulty_nodes_before, breaks_in, first_too_early, has_four_steady, lacks_steady_after}
+use Rattle.ttp_world.specs.Hypothesis.{ClusterStart, faulty_nodes_before, breaks_in, first_too_early, has_four_steady}
+use Rattle.ttp_world.specs.Hypothesis.{lacks_steady_after}
 use Rattle.hypothesis.specs.Standing.{AreFaultyBefore}
 use Rattle.hypothesis.specs.declared.walk.Walk.{Walk}
 
@@ -14,7 +16,8 @@ earliest_after gap earliest (slot ∷ slots) = earliest_after gap (slot + gap) s
 
 -- the slots of the faults of the first slots of a run, in order
 abbrev pub fault_slots_before : Medl → Script → ClusterStart → ℕ → List ℕ
-fault_slots_before list script start slot = reverse (map (λ f. f.slot) (faulty_nodes_before list script start (min slot script.slots)))
+fault_slots_before list script start slot =
+    reverse (map (λ f. f.slot) (faulty_nodes_before list script start (min slot script.slots)))
 
 abbrev pub two_rounds : Medl → ℕ
 two_rounds list = 2 * length list.slots
@@ -33,6 +36,8 @@ first_unsteady list script start slot =
 pub record HasWalked (list : Medl) (script : Script) (start : ClusterStart) (slot : ℕ) (walk : Walk) : Type 0 where
   pub whole : (k : ℕ) → k < slot → k < script.slots → breaks_in list script start k ≡ false
   pub faulty : AreFaultyBefore list script start slot walk.faulty
-  pub earliest : walk.earliest ≡ earliest_after (two_rounds list) (start.slot + two_rounds list) (fault_slots_before list script start slot)
-  pub early : walk.early ≡ first_too_early (two_rounds list) (start.slot + two_rounds list) (fault_slots_before list script start slot)
+  pub earliest : walk.earliest
+      ≡ earliest_after (two_rounds list) (start.slot + two_rounds list) (fault_slots_before list script start slot)
+  pub early : walk.early
+      ≡ first_too_early (two_rounds list) (start.slot + two_rounds list) (fault_slots_before list script start slot)
   pub unsteady : walk.unsteady ≡ first_unsteady list script start slot

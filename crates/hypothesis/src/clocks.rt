@@ -1,7 +1,8 @@
 //! Clocks and the window: each drift and each sum of reading errors is within its bound, and the
 //! window is as wide as a deviation between correct nodes needs.
 ghost use Rattle.std.specs.Prelude.{◌≡◌, ◌<◌, pos, ◌≤ℤ◌, length, All};
-ghost use Rattle.ttp_world.specs.Hypothesis.{is_within_bound, drifts_hold, errors_hold_in, clocks_broken, window_broken};
+ghost use Rattle.ttp_world.specs.Hypothesis.{is_within_bound, drifts_hold, errors_hold_in, clocks_broken};
+ghost use Rattle.ttp_world.specs.Hypothesis.{window_broken};
 ghost use Rattle.ttp_world.specs.Medl.{IsValid};
 ghost use Rattle.ttp_world.specs.Script.{drift_of, IsWithinSpan, IsValidScript};
 

@@ -1,7 +1,8 @@
 //! What a slot makes of the faulty nodes: clocks that jump, and frames that are lost.
 ghost use Rattle.std.specs.Prelude.{◌≡◌, ℕ, ◌<◌, ◌≤◌, ◌++◌, nat_lt, if◌then◌else◌, length, filter, All, None};
 ghost use Rattle.ttp_base.specs.NodeSet.{most_nodes};
-ghost use Rattle.ttp_world.specs.Hypothesis.{Harmless, nodes_made, is_breaking, is_other, others_in, jumps_now, loses, loss_among, sender_loss, expected_sender, jumpers_in, outside_broken};
+ghost use Rattle.ttp_world.specs.Hypothesis.{Harmless, nodes_made, is_breaking, is_other, others_in, jumps_now, loses};
+ghost use Rattle.ttp_world.specs.Hypothesis.{loss_among, sender_loss, expected_sender, jumpers_in, outside_broken};
 ghost use Rattle.ttp_world.specs.Medl.{IsValid};
 ghost use Rattle.ttp_world.specs.Script.{incidents_of, has_jump, IsValidScript};
 ghost use Rattle.ttp_world.specs.declared.medl.Medl.{Medl};

@@ -3,7 +3,8 @@
 ghost use Rattle.std.specs.Prelude.{◌≡◌, ◌+◌, ◌*◌, ◌<◌, ◌≤◌, length, filter, IfSome};
 ghost use Rattle.std.specs.List.{filter_map};
 ghost use Rattle.ttp_base.specs.NodeSet.{most_nodes};
-ghost use Rattle.ttp_world.specs.Hypothesis.{nodes_of, least_of, start_slot, starts_in, are_all_on, only_starter, start_of};
+ghost use Rattle.ttp_world.specs.Hypothesis.{nodes_of, least_of, start_slot, starts_in, are_all_on, only_starter};
+ghost use Rattle.ttp_world.specs.Hypothesis.{start_of};
 ghost use Rattle.ttp_world.specs.Medl.{IsValid};
 ghost use Rattle.ttp_world.specs.Script.{is_ever_on, IsValidScript};
 ghost use Rattle.hypothesis.specs.Standing.{told_start_if};

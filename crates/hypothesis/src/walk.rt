@@ -1,7 +1,8 @@
 //! The walk over the slots of a run, in which nodes become faulty.
 ghost use Rattle.std.specs.Prelude.{◌≡◌, ◌+◌, ◌*◌, ◌<◌, Some, None, true, length, MatchOption};
 ghost use Rattle.ttp_base.specs.NodeSet.{most_nodes};
-ghost use Rattle.ttp_world.specs.Hypothesis.{faulty_nodes_before, faulty_nodes_in, breaks_in, start_of, started_keep, unless, outside_broken};
+ghost use Rattle.ttp_world.specs.Hypothesis.{faulty_nodes_before, faulty_nodes_in, breaks_in, start_of, started_keep};
+ghost use Rattle.ttp_world.specs.Hypothesis.{unless, outside_broken};
 ghost use Rattle.ttp_world.specs.declared.keep.Keep.TheVariants as keep;
 ghost use Rattle.ttp_world.specs.declared.script.Script.{Script};
 ghost use Rattle.ttp_world.specs.Medl.{IsValid};

@@ -80,7 +80,8 @@ pub fn slots_of_a_version()
 /// Keys for modes that are right, or absent: a slot is then live in all modes, and asks for none.
 pub fn right_modes()
     ensures all_of_eight { modes_mean (integer (pos 8)) (two_slots other_slot other_slot)
-        ≡ Ok (short_list 1 8 (live_slot false 255 ∷ live_slot false 255 ∷ live_slot false 255 ∷ live_slot false 255 ∷ [])) }
+        ≡ Ok (short_list 1 8
+        (live_slot false 255 ∷ live_slot false 255 ∷ live_slot false 255 ∷ live_slot false 255 ∷ [])) }
     ensures none_of_one { slots_mean (two_slots other_slot (answers (codes "n")))
         ≡ Ok (short_list 1 1 (bare_slot false ∷ live_slot false 0 ∷ bare_slot false ∷ bare_slot false ∷ [])) }
     ensures asking_for_none { slots_mean (four_slots (asking (boolean false)) other_slot other_slot) ≡ Ok four_nodes }

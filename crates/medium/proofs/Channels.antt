@@ -6,7 +6,8 @@ use Rattle.ttp_world.specs.declared.script.Channel.{Channel}
 use Rattle.ttp_world.specs.declared.script.Channel.TheVariants as channel
 use Rattle.ttp_world.specs.declared.script.Fault.TheVariants as fault
 use Rattle.ttp_world.specs.declared.script.Script.{Script}
-use Rattle.ttp_world.specs.Medium.{SentFrame, Signal, Silence, Noise, Bits, flip_bits, remains, remaining_frames, combined_signal, channel_signal, heard}
+use Rattle.ttp_world.specs.Medium.{SentFrame, Signal, Silence, Noise, Bits, flip_bits, remains, remaining_frames}
+use Rattle.ttp_world.specs.Medium.{combined_signal, channel_signal, heard}
 use Rattle.ttp_world.specs.Events.{channels_where, has_bits, is_among}
 use Rattle.ttp_world.specs.Script.{has_send_fault, has_receive_fault, flipped_bits, incidents_of}
 use Rattle.medium.specs.declared.arrival.Arrival.{Arrival}

@@ -73,7 +73,8 @@ key_faults field seen_as faults None = errors.Missing field ∷ []
 key_faults field seen_as faults (Some d) = kind_faults field faults (seen_as d)
 
 -- the same of a key that may be absent
-abbrev pub optional_faults : {X : Type 0} → Field → (Data → Option X) → (X → List MedlError) → Option Data → List MedlError
+abbrev pub optional_faults : {X : Type 0} → Field → (Data → Option X) → (X → List MedlError) → Option Data
+    → List MedlError
 optional_faults field seen_as faults None = []
 optional_faults field seen_as faults (Some d) = kind_faults field faults (seen_as d)
 
@@ -126,7 +127,8 @@ abbrev pub kind_of : ℕ → Kind
 kind_of letter = if letter == 78 then kind.N else (if letter == 88 then kind.X else kind.I)
 
 abbrev pub letters_faults : ℕ → ℕ → List ℕ → List MedlError
-letters_faults rounds k letters = if length letters == rounds && list_all is_kind letters then [] else errors.Kinds k ∷ []
+letters_faults rounds k letters =
+    if length letters == rounds && list_all is_kind letters then [] else errors.Kinds k ∷ []
 
 unfoldable pub kinds_faults : ℕ → ℕ → Members → List MedlError
 kinds_faults rounds k table =
@@ -153,7 +155,8 @@ abbrev pub is_answer : ℕ → Bool
 is_answer letter = letter == 121 || letter == 110
 
 abbrev pub answers_faults : ℕ → ℕ → List ℕ → List MedlError
-answers_faults modes k letters = if length letters == modes && list_all is_answer letters then [] else errors.Live k ∷ []
+answers_faults modes k letters =
+    if length letters == modes && list_all is_answer letters then [] else errors.Live k ∷ []
 
 unfoldable pub live_faults : ℕ → ℕ → Members → List MedlError
 live_faults modes k table =

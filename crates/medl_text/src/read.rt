@@ -191,7 +191,8 @@ fn list_in(alloc: Global, file: &Table) -> Result<Medl, MedlError>
 #[tactic(auto, unfolding(crate::specs::ListFile::document_of))]
 fn document_of(alloc: Global, text: &[u8]) -> Result<Table, MedlError>
     ensures ok { IfOk result (λ file. document_of text.now ≡ Some (table_view file)) }
-    ensures err { IfErr result (λ e. (e ≡ MedlError.Memory) ⊎ ((e ≡ MedlError.NotToml) × (document_of text.now ≡ None))) }
+    ensures err { IfErr result (λ e. (e ≡ MedlError.Memory)
+        ⊎ ((e ≡ MedlError.NotToml) × (document_of text.now ≡ None))) }
 {
     let Ok(text) = str::from_utf8(text) else {
         return Err(MedlError::NotToml);

@@ -20,16 +20,19 @@ Holds list k members diary = members ≡ members_of list k diary
 
 abbrev pub HoldAfterJoined : List ℕ → List ℕ → Type 0
 HoldAfterJoined members new =
-    (list : Medl) (k : ℕ) (diary : Diary) (sender : ℕ) (cstate : CState) (deviation : ℤ) → AreNodes list members → cstate.members ≡ members
+    (list : Medl) (k : ℕ) (diary : Diary) (sender : ℕ) (cstate : CState) (deviation : ℤ) → AreNodes list members
+    → cstate.members ≡ members
     → Holds list k new (entry.Joined sender cstate deviation ∷ diary)
 
 abbrev pub HoldAfterSent : List ℕ → List ℕ → ℕ → Type 0
 HoldAfterSent old new k =
-    (list : Medl) (diary : Diary) (message : Option ℕ) → IsNodeOf list k → IsTrue (is_active diary) → Holds list k old diary
+    (list : Medl) (diary : Diary) (message : Option ℕ) → IsNodeOf list k → IsTrue (is_active diary)
+    → Holds list k old diary
     → Holds list k new (entry.Sent message ∷ diary)
 
 abbrev pub HoldAfterJudged : List ℕ → List ℕ → AckMove → ℕ → Type 0
 HoldAfterJudged old new move sender =
-    (list : Medl) (k : ℕ) (diary : Diary) (v : Verdict) (deviation : ℤ) → IsNodeOf list sender → IsMoveAfter diary move v sender
+    (list : Medl) (k : ℕ) (diary : Diary) (v : Verdict) (deviation : ℤ) → IsNodeOf list sender
+    → IsMoveAfter diary move v sender
     → IsDoubtElsewhere (ack_of diary) sender → Holds list k old diary
     → Holds list k new (entry.Judged sender v deviation ∷ diary)

@@ -1,5 +1,7 @@
 -- The steps as the calls of a ring make them.
-use Rattle.std.proofs.Common.{◌≡◌, ℕ, ◌+◌, ◌*◌, ◌/◌, ◌%◌, ◌<◌, ◌≤◌, Bool, true, false, cond, List, [], ◌∷◌, ◌++◌, length, get_or, take, All, refl, sym, ap, ◌∙◌, subst, arith, length-append, length-take-le}
+use Rattle.std.proofs.Common.{◌≡◌, ℕ, ◌+◌, ◌*◌, ◌/◌, ◌%◌, ◌<◌, ◌≤◌, Bool, true, false, cond, List, [], ◌∷◌, ◌++◌}
+use Rattle.std.proofs.Common.{length, get_or, take, All, refl, sym, ap, ◌∙◌, subst, arith, length-append}
+use Rattle.std.proofs.Common.{length-take-le}
 use mathlib.Core.Option.{none}
 use Rattle.std.proofs.lemmas.Bool.{lt-ltb}
 use Rattle.std.proofs.lemmas.List.{get_or_push}
@@ -14,7 +16,8 @@ use Rattle.nbw_ring.specs.Numbers.{newest_number, limit, place, IsMessageOf, odd
 use Rattle.nbw_ring.specs.Rule.{IsSettled, Kept}
 use Rattle.nbw_ring.specs.Seats.{writing_of, reading_of, RingSeat, IsTableOf, ring_of, writer_state, reader_state}
 use Rattle.nbw_ring.specs.States.{RingState, WriterState, ReaderState}
-use Rattle.nbw_ring.specs.Steps.{Sat, with_open, as_writer, as_reader, with_first, attempt_of, with_last, reading_settlement, with_settled, joined_view, Confirms, tells_put, tells_word_load}
+use Rattle.nbw_ring.specs.Steps.{Sat, with_open, as_writer, as_reader, with_first, attempt_of, with_last}
+use Rattle.nbw_ring.specs.Steps.{reading_settlement, with_settled, joined_view, Confirms, tells_put, tells_word_load}
 use Rattle.nbw_ring.proofs.Places.{place_inside}
 use Rattle.nbw_ring.proofs.Keeps.{puts, word_loads}
 

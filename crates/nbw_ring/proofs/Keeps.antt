@@ -1,5 +1,7 @@
 -- Each step on the words of a ring keeps its rule.
-use Rattle.std.proofs.Common.{◌≡◌, ℕ, zero, suc, ◌+◌, ◌*◌, ◌/◌, ◌<◌, ◌≤◌, ◌≢◌, Bool, true, false, cond, List, [], ◌∷◌, ◌++◌, length, get_or, set, take, replicate, All, refl, sym, ap, ◌∙◌, subst, ⊎_elim, arith, le_refl, length-append, length-set, get_or-set_other, get_or-set_same, nat_lt, Some}
+use Rattle.std.proofs.Common.{◌≡◌, ℕ, zero, suc, ◌+◌, ◌*◌, ◌/◌, ◌<◌, ◌≤◌, ◌≢◌, Bool, true, false, cond, List, [], ◌∷◌}
+use Rattle.std.proofs.Common.{◌++◌, length, get_or, set, take, replicate, All, refl, sym, ap, ◌∙◌, subst, ⊎_elim, arith}
+use Rattle.std.proofs.Common.{le_refl, length-append, length-set, get_or-set_other, get_or-set_same, nat_lt, Some}
 use mathlib.Core.Logic.{dite}
 use mathlib.Core.Option.{some, some-injective, some-ne-none, none}
 use native.Mathlib.Decide.{ℕ_discrete}
@@ -20,8 +22,12 @@ use Rattle.nbw_ring.specs.declared.view.View.{View}
 use Rattle.nbw_ring.specs.declared.view.View.TheVariants.{Writer, Reader, Spent}
 use Rattle.nbw_ring.specs.Numbers.{most_number, newest_number, limit, place, message_at, IsMessageOf, odd_part}
 use Rattle.nbw_ring.specs.Rule.{IsSettled, ReaderKnows, Knows, Kept, first_writing, first_view}
-use Rattle.nbw_ring.specs.Steps.{Sat, with_open, with_word, with_new_message, with_first, with_loaded, attempt_of, with_last, new_reading, reading_settlement, with_settled, as_writer, as_reader, lent_view, joined_view, Follows, Confirms, tells_begin, tells_put, tells_end, tells_first_load, tells_word_load, tells_last_load, tells_settle_load}
-use Rattle.nbw_ring.proofs.Places.{odd_part_small, place_inside, places_apart, words_apart, message-before, message-newest, still_message, attempt_more, attempt_whole, half_inside}
+use Rattle.nbw_ring.specs.Steps.{Sat, with_open, with_word, with_new_message, with_first, with_loaded, attempt_of}
+use Rattle.nbw_ring.specs.Steps.{with_last, new_reading, reading_settlement, with_settled, as_writer, as_reader}
+use Rattle.nbw_ring.specs.Steps.{lent_view, joined_view, Follows, Confirms, tells_begin, tells_put, tells_end}
+use Rattle.nbw_ring.specs.Steps.{tells_first_load, tells_word_load, tells_last_load, tells_settle_load}
+use Rattle.nbw_ring.proofs.Places.{odd_part_small, place_inside, places_apart, words_apart, message-before}
+use Rattle.nbw_ring.proofs.Places.{message-newest, still_message, attempt_more, attempt_whole, half_inside}
 
 abbrev St : Type 0
 St = State (Unit {0}) View

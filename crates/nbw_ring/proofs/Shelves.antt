@@ -1,7 +1,10 @@
 -- The pairs that a reader got, as numbers and words that lie one pair after another.
-use Rattle.std.proofs.Common.{◌≡◌, ℕ, zero, suc, ◌+◌, ◌-◌, ◌*◌, ◌<◌, ◌≤◌, List, [], ◌∷◌, ◌++◌, length, get_or, take, drop, All, refl, sym, ap, ◌∙◌, subst, arith, Some, Option, IsSomeAnd, slice_get, length-append, vec_len, vec_capacity, Vec, Global}
+use Rattle.std.proofs.Common.{◌≡◌, ℕ, zero, suc, ◌+◌, ◌-◌, ◌*◌, ◌<◌, ◌≤◌, List, [], ◌∷◌, ◌++◌, length, get_or, take}
+use Rattle.std.proofs.Common.{drop, All, refl, sym, ap, ◌∙◌, subst, arith, Some, Option, IsSomeAnd, slice_get}
+use Rattle.std.proofs.Common.{length-append, vec_len, vec_capacity, Vec, Global}
 use Rattle.std.proofs.Math.Nat.{suc-mul}
-use Rattle.std.proofs.lemmas.List.{append-nil, append_assoc, drop_more, take_rest, take_at, drop_at, map_push, flat_map_more}
+use Rattle.std.proofs.lemmas.List.{append-nil, append_assoc, drop_more, take_rest, take_at, drop_at, map_push}
+use Rattle.std.proofs.lemmas.List.{flat_map_more}
 use Rattle.std.proofs.lemmas.List.Elements.{All-push}
 use Rattle.nbw_ring.specs.declared.view.Message.{Message}
 use Rattle.nbw_ring.specs.declared.view.Reading.{Reading}

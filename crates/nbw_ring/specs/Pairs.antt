@@ -13,4 +13,5 @@ words_in pairs = flat_map (λ p. p.words) pairs
 -- the pairs of these numbers, where each takes the next `width` words
 abbrev pub pairs_of : List ℕ → List ℕ → ℕ → List Message
 pairs_of [] words width = []
-pairs_of (number ∷ numbers) words width = record { number = number; words = take width words } ∷ pairs_of numbers (drop width words) width
+pairs_of (number ∷ numbers) words width =
+    record { number = number; words = take width words } ∷ pairs_of numbers (drop width words) width

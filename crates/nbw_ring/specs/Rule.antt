@@ -1,5 +1,6 @@
 -- What holds between any two steps on the words of a ring, of the words and of what each thread knows.
-use Rattle.std.specs.Prelude.{◌≡◌, ℕ, ◌+◌, ◌*◌, ◌/◌, ◌<◌, ◌≤◌, true, false, List, [], ◌∷◌, All, length, take, replicate, slice_index}
+use Rattle.std.specs.Prelude.{◌≡◌, ℕ, ◌+◌, ◌*◌, ◌/◌, ◌<◌, ◌≤◌, true, false, List, [], ◌∷◌, All, length, take, replicate}
+use Rattle.std.specs.Prelude.{slice_index}
 use mathlib.Core.Option.{some}
 use lib.ListN.{get_elem?}
 use Rattle.atomic_table.specs.Table.{State}
@@ -22,7 +23,8 @@ pub record ReaderKnows (shape : Shape) (counter : ℕ) (messages : List (List �
   pub begun : v.first ≤ v.seen
   pub loaded : v.seen ≤ counter
   -- while the message of the newest attempt is intact, the words loaded are its first words
-  pub attempt : counter < limit shape (v.first / 2) → v.words ≡ take (length v.words) (message_at messages (v.first / 2))
+  pub attempt : counter < limit shape (v.first / 2)
+      → v.words ≡ take (length v.words) (message_at messages (v.first / 2))
   pub got : All (λ p. IsMessageOf messages p × (p.number ≤ v.floor)) v.got
 
 -- what the thread at a seat knows is true, where `writing` is what the writer's seat knows
@@ -57,7 +59,8 @@ pub record Kept (shape : Shape) (s : State (Unit {0}) View) : Type 0 where
 
 -- what the writer of a new ring knows: the message of zeros is there
 abbrev pub first_writing : Shape → Writing
-first_writing shape = record { shape = shape; messages = replicate shape.width 0 ∷ []; is_open = false; put = []; joined = [] }
+first_writing shape =
+    record { shape = shape; messages = replicate shape.width 0 ∷ []; is_open = false; put = []; joined = [] }
 
 abbrev pub first_view : Shape → View
 first_view shape = Writer (first_writing shape)

@@ -1,6 +1,7 @@
 //! The rule of a ring, and what each step on its words tells.
 ghost use Rattle.nbw_ring.specs.Rule.{Kept, first_view};
-ghost use Rattle.nbw_ring.specs.Steps.{tells_begin, tells_put, tells_end, tells_first_load, tells_word_load, tells_last_load, tells_settle_load, lent_view, joined_view};
+ghost use Rattle.nbw_ring.specs.Steps.{tells_begin, tells_put, tells_end, tells_first_load, tells_word_load};
+ghost use Rattle.nbw_ring.specs.Steps.{tells_last_load, tells_settle_load, lent_view, joined_view};
 ghost use Rattle.nbw_ring.specs.declared.view.View.TheVariants.{Spent};
 
 use crate::view::{Shape, View};

@@ -2,7 +2,8 @@
 ghost use Rattle.std.specs.Prelude.{◌≡◌, ◌+◌, ◌≤◌, [], ◌++◌, length, vec_len, vec_capacity};
 ghost use Rattle.nbw_ring.specs.declared.view.View.TheVariants.{Writer, Reader};
 ghost use Rattle.nbw_ring.specs.Numbers.{place};
-ghost use Rattle.nbw_ring.specs.Seats.{writing_of, reading_of, IsWriterSeat, IsReaderSeat, IsShape, IsTableOf, IsWriting, IsAttempting};
+ghost use Rattle.nbw_ring.specs.Seats.{writing_of, reading_of, IsWriterSeat, IsReaderSeat, IsShape, IsTableOf};
+ghost use Rattle.nbw_ring.specs.Seats.{IsWriting, IsAttempting};
 
 use crate::plays::{Put, RingRule, WordLoad};
 use crate::view::{Shape, View};

@@ -1,6 +1,7 @@
 -- What lines without a fault state is a valid script, in which no host writes or reads.
 use Rattle.std.proofs.Common.{◌≡◌, ◌⊎◌, ℕ, ◌+◌, ◌*◌, ◌<◌, ◌≤◌, ◌==◌, ℤ, pos, nat_abs, Bool, true, false, cond}
-use Rattle.std.proofs.Common.{List, [], ◌∷◌, ◌++◌, length, length-append, get_or, nat_le, Option, Some, None, is_some, unwrap_or}
+use Rattle.std.proofs.Common.{List, [], ◌∷◌, ◌++◌, length, length-append, get_or, nat_le, Option, Some, None, is_some}
+use Rattle.std.proofs.Common.{unwrap_or}
 use Rattle.std.proofs.Common.{option_to_list, Result, Ok, Err, arith, refl, ap, sym, ◌∙◌, suc, lit≤, inl, inr}
 use Rattle.std.specs.Prelude.{if◌then◌else◌, All, IfSome, IfOk, count_by}
 use Rattle.std.specs.List.{filter_map}
@@ -32,7 +33,8 @@ use Rattle.script_text.specs.declared.keyword.Keyword.TheVariants as keyword
 use Rattle.script_text.specs.Lines.{lines_of, words_of, word_at, says_nothing}
 use Rattle.script_text.specs.Numbers.{value_in}
 use Rattle.script_text.specs.Statement.{Statement, says_slots, keyword_of, is_spelled, statement_of, number_at}
-use Rattle.script_text.specs.Faults.{slots_of, run_slots, on_of, drift_of, events_of, event_said, has_nodes, is_in_range}
+use Rattle.script_text.specs.Faults.{slots_of, run_slots, on_of, drift_of, events_of, event_said, has_nodes}
+use Rattle.script_text.specs.Faults.{is_in_range}
 use Rattle.script_text.specs.Faults.{event_has_nodes, event_is_in_range, is_slot, is_span, is_within}
 use Rattle.script_text.specs.Faults.{is_flipped_bit, is_after_slots}
 use Rattle.script_text.specs.Faults.{statement_faults, stated_faults, form_faults, keyword_faults, line_faults}

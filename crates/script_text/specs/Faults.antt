@@ -136,7 +136,8 @@ abbrev pub event_is_in_range : Medl → ℕ → List (List ℕ) → Event → Bo
 event_is_in_range list slots words (event.Send node channels kind from to) = is_span slots from to
 event_is_in_range list slots words (event.Receive node channels kind from to) = is_span slots from to
 event_is_in_range list slots words (event.Flip node channels bit slot) = is_flipped_bit bit && is_slot slots slot
-event_is_in_range list slots words (event.Error node value from to) = is_within ERROR_LIMIT value && is_span slots from to
+event_is_in_range list slots words (event.Error node value from to) =
+    is_within ERROR_LIMIT value && is_span slots from to
 event_is_in_range list slots words (event.Jump node value slot) = is_within JUMP_LIMIT value && is_slot slots slot
 event_is_in_range list slots words (event.Arm node slot) = is_slot slots slot
 event_is_in_range list slots words (event.Write node slot payload) =

@@ -16,11 +16,13 @@ pub record StandsFor (clock : PlaceInCycle) (list : Medl) (there : Place) : Type
 -- it is where a node's stint begins that joins by this C-state
 abbrev pub StandsAtJoin : PlaceInCycle → Medl → CState → Type 0
 StandsAtJoin clock list cstate =
-    (k : ℕ) (diary : Diary) (sender : ℕ) (deviation : ℤ) → StandsFor clock list (place_of list k (entry.Joined sender cstate deviation ∷ diary))
+    (k : ℕ) (diary : Diary) (sender : ℕ) (deviation : ℤ)
+    → StandsFor clock list (place_of list k (entry.Joined sender cstate deviation ∷ diary))
 
 -- whatever place the one was at, the other is at the next one
 abbrev pub StandsAtNext : PlaceInCycle → PlaceInCycle → Type 0
-StandsAtNext old new = (list : Medl) (place : Place) → StandsFor old list place → StandsFor new list (next_place list place)
+StandsAtNext old new =
+    (list : Medl) (place : Place) → StandsFor old list place → StandsFor new list (next_place list place)
 
 -- whatever diary of an active node the one was at the place of, the other is at that of the diary with one more entry,
 -- in which the node sent or judged

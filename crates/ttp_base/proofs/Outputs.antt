@@ -1,5 +1,6 @@
 -- What a sink was given, from one write to the next.
-use Rattle.std.proofs.Common.{◌≡◌, ℕ, ◌+◌, ◌<◌, ◌≤◌, List, [], ◌++◌, subst, sym, ◌∙◌, refl, append_assoc, add-one, arith}
+use Rattle.std.proofs.Common.{◌≡◌, ℕ, ◌+◌, ◌<◌, ◌≤◌, List, [], ◌++◌, subst, sym, ◌∙◌, refl, append_assoc, add-one}
+use Rattle.std.proofs.Common.{arith}
 use Rattle.std.proofs.lemmas.List.{append-nil}
 use Rattle.ttp_base.specs.Outside.{HasRisen, GrewBy, Output, Wrote, WroteLines, CutShort}
 use Rattle.ttp_base.specs.Text.{line_count, texts_below}

@@ -1,5 +1,6 @@
 -- Rows of bits under exclusive or.
-use Rattle.std.proofs.Common.{◌≡◌, ℕ, zero, suc, ◌<◌, ◌≤◌, Bool, true, false, List, [], ◌∷◌, ◌++◌, length, get_or, replicate, refl, ap, sym, ◌∙◌, arith}
+use Rattle.std.proofs.Common.{◌≡◌, ℕ, zero, suc, ◌<◌, ◌≤◌, Bool, true, false, List, [], ◌∷◌, ◌++◌, length, get_or}
+use Rattle.std.proofs.Common.{replicate, refl, ap, sym, ◌∙◌, arith}
 use Rattle.ttp_world.specs.CheckWord.{xor, xor_bits}
 
 -- ---- one bit

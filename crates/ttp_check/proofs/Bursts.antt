@@ -1,5 +1,6 @@
 -- What shows that bytes differ only in a short run of bits.
-use Rattle.std.proofs.Common.{◌≡◌, ◌≢◌, ℕ, zero, suc, ◌+◌, ◌*◌, ◌<◌, ◌≤◌, ◌^◌, Bool, List, [], ◌∷◌, ◌++◌, length, take, drop, refl, ap, sym, ◌∙◌, arith, append_assoc, length-append}
+use Rattle.std.proofs.Common.{◌≡◌, ◌≢◌, ℕ, zero, suc, ◌+◌, ◌*◌, ◌<◌, ◌≤◌, ◌^◌, Bool, List, [], ◌∷◌, ◌++◌, length, take}
+use Rattle.std.proofs.Common.{drop, refl, ap, sym, ◌∙◌, arith, append_assoc, length-append}
 use Rattle.std.proofs.Math.Nat.{mod-eq_of_lt}
 use Rattle.std.proofs.Math.ListN.{drop_of_length-le}
 use Rattle.std.proofs.Math.Seq.{take-append-add, drop-append-add}
@@ -8,7 +9,8 @@ use Rattle.ttp_world.specs.CheckWord.{bits_of_bytes, number_of, check_word}
 use Rattle.ttp_world.specs.Frame.{big_endian, word_bytes}
 use Rattle.ttp_check.specs.Bytes.{DifferWithin}
 use Rattle.ttp_check.proofs.Numbers.{number_of-bits_of}
-use Rattle.ttp_check.proofs.Words.{length-bits_of_bytes, length-big_endian, bits_of_bytes-append, bits_of_bytes-big_endian}
+use Rattle.ttp_check.proofs.Words.{length-bits_of_bytes, length-big_endian, bits_of_bytes-append}
+use Rattle.ttp_check.proofs.Words.{bits_of_bytes-big_endian}
 use Rattle.ttp_check.proofs.WordLaws.{own_word_gives_zero, bursts_change_the_word}
 
 -- rows that agree in their first bits do with anything behind them

@@ -1,9 +1,13 @@
 -- The register: what it makes of sums of rows, and that nothing which it holds is lost.
-use Rattle.std.proofs.Common.{◌≡◌, ℕ, zero, suc, ◌+◌, ◌-◌, ◌≤◌, Bool, true, false, cond, List, [], ◌∷◌, ◌++◌, length, get_or, take, drop, replicate, refl, ap, sym, ◌∙◌, arith, append_assoc, length-append}
+use Rattle.std.proofs.Common.{◌≡◌, ℕ, zero, suc, ◌+◌, ◌-◌, ◌≤◌, Bool, true, false, cond, List, [], ◌∷◌, ◌++◌, length}
+use Rattle.std.proofs.Common.{get_or, take, drop, replicate, refl, ap, sym, ◌∙◌, arith, append_assoc, length-append}
 use Rattle.std.proofs.lemmas.Bool.{false≢true}
-use Rattle.std.proofs.lemmas.List.{append_cancel_right, append-nil, drop-drop, get_or-append_right, length-drop, length-take, length-replicate, take-append-drop}
+use Rattle.std.proofs.lemmas.List.{append_cancel_right, append-nil, drop-drop, get_or-append_right, length-drop}
+use Rattle.std.proofs.lemmas.List.{length-take, length-replicate, take-append-drop}
 use Rattle.ttp_world.specs.CheckWord.{xor, xor_bits, generator, next_register, remainder}
-use Rattle.ttp_check.proofs.Bits.{xor-assoc, xor-four, xor-cancel, length-xor_bits, xor_bits-nil, xor_bits-right_comm, xor_bits-assoc, xor_bits-twice, xor_bits-both, xor_bits-append, xor_bits-front, xor_bits-zeros, xor_bits-self, xor_bits-cancel, get_or-xor_bits, zeros-xor_bits}
+use Rattle.ttp_check.proofs.Bits.{xor-assoc, xor-four, xor-cancel, length-xor_bits, xor_bits-nil, xor_bits-right_comm}
+use Rattle.ttp_check.proofs.Bits.{xor_bits-assoc, xor_bits-twice, xor_bits-both, xor_bits-append, xor_bits-front}
+use Rattle.ttp_check.proofs.Bits.{xor_bits-zeros, xor_bits-self, xor_bits-cancel, get_or-xor_bits, zeros-xor_bits}
 
 -- the rest of a register moves one place, and a row is added to it where this is asked for
 abbrev moved : List Bool → List Bool → Bool → List Bool

@@ -8,7 +8,8 @@ use Rattle.ttp_world.specs.Frame.{big_endian, word_bytes}
 use Rattle.ttp_check.specs.Bytes.{xor_bytes, DifferWithin}
 use Rattle.ttp_check.proofs.Numbers.{length-bits_of}
 use Rattle.ttp_check.proofs.Registers.{remainder-self, remainder-tells, remainder-burst}
-use Rattle.ttp_check.proofs.Words.{length-bits_of_bytes, bits_of_bytes-injective, length-big_endian, All-big_endian, bits_of_bytes-big_endian, bits_of-check_word, check_word-append, check_word-xor}
+use Rattle.ttp_check.proofs.Words.{length-bits_of_bytes, bits_of_bytes-injective, length-big_endian, All-big_endian}
+use Rattle.ttp_check.proofs.Words.{bits_of_bytes-big_endian, bits_of-check_word, check_word-append, check_word-xor}
 
 -- ---- sums
 

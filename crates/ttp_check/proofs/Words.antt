@@ -1,5 +1,6 @@
 -- Check words of bytes in pieces, of sums, and of one byte more.
-use Rattle.std.proofs.Common.{◌≡◌, ℕ, zero, suc, ◌+◌, ◌*◌, ◌/◌, ◌%◌, ◌^◌, ◌<◌, false, List, [], ◌∷◌, ◌++◌, length, get_or, take, drop, replicate, refl, ap, sym, subst, ◌∙◌, arith, length-append}
+use Rattle.std.proofs.Common.{◌≡◌, ℕ, zero, suc, ◌+◌, ◌*◌, ◌/◌, ◌%◌, ◌^◌, ◌<◌, false, List, [], ◌∷◌, ◌++◌, length}
+use Rattle.std.proofs.Common.{get_or, take, drop, replicate, refl, ap, sym, subst, ◌∙◌, arith, length-append}
 use Rattle.std.specs.List.{All}
 use Rattle.std.specs.Int.RustNames.{bit_and, bit_xor}
 use Rattle.std.proofs.Math.Nat.{mod-eq_of_lt}
@@ -7,11 +8,13 @@ use Rattle.std.proofs.lemmas.List.{append-nil, take_more}
 use Rattle.std.proofs.lemmas.List.Concat.{flat_map-append}
 use Rattle.std.proofs.lemmas.List.Elements.{All-push}
 use Rattle.std.proofs.lemmas.Nat.{and_mask, shl-shr, xor_comm}
-use Rattle.ttp_world.specs.CheckWord.{bits_of, bits_of_byte, bits_of_bytes, number_of, xor_bits, remainder, word_bits, check_word}
+use Rattle.ttp_world.specs.CheckWord.{bits_of, bits_of_byte, bits_of_bytes, number_of, xor_bits, remainder, word_bits}
+use Rattle.ttp_world.specs.CheckWord.{check_word}
 use Rattle.ttp_world.specs.Frame.{big_endian}
 use Rattle.ttp_check.specs.Bytes.{xor_bytes}
 use Rattle.ttp_check.proofs.Bits.{xor_bits-append}
-use Rattle.ttp_check.proofs.Numbers.{length-bits_of, bits_of-add, bits_of-mod, number_of-lt, number_of-bits_of, bits_of-number_of, bits_of-xor, number_of-xor}
+use Rattle.ttp_check.proofs.Numbers.{length-bits_of, bits_of-add, bits_of-mod, number_of-lt, number_of-bits_of}
+use Rattle.ttp_check.proofs.Numbers.{bits_of-number_of, bits_of-xor, number_of-xor}
 use Rattle.ttp_check.proofs.Registers.{length-remainder, remainder-append, remainder-xor, remainder-split}
 
 -- ---- the bits of bytes

@@ -1,5 +1,7 @@
 -- Frames with flipped bits: how they are judged does not depend on their payload.
-use Rattle.std.proofs.Common.{◌≡◌, ◌≢◌, ℕ, ◌+◌, ◌-◌, ◌<◌, ◌≤◌, ◌^◌, Bool, true, false, ◌&&◌, ◌||◌, List, [], ◌∷◌, ◌++◌, length, take, drop, Some, None, if◌then◌else◌, refl, ap, sym, subst, ◌∙◌, inl, inr, arith, append_assoc, length-append}
+use Rattle.std.proofs.Common.{◌≡◌, ◌≢◌, ℕ, ◌+◌, ◌-◌, ◌<◌, ◌≤◌, ◌^◌, Bool, true, false, ◌&&◌, ◌||◌, List, [], ◌∷◌, ◌++◌}
+use Rattle.std.proofs.Common.{length, take, drop, Some, None, if◌then◌else◌, refl, ap, sym, subst, ◌∙◌, inl, inr, arith}
+use Rattle.std.proofs.Common.{append_assoc, length-append}
 use Rattle.std.specs.Prelude.{◌==◌, not, slice_index}
 use Rattle.std.specs.Str.{bytes_eq}
 use Rattle.std.specs.List.{All}
@@ -9,7 +11,8 @@ use Rattle.ttp_base.specs.NodeSet.{members_in}
 use Rattle.ttp_world.specs.declared.medl.Medl.{Medl}
 use Rattle.ttp_world.specs.declared.node.CState.{CState}
 use Rattle.ttp_world.specs.CheckWord.{check_word}
-use Rattle.ttp_world.specs.Fitting.{header_in, carried_length, number_in, carried, is_formed, is_joinable_state, is_cold_start, is_listed_explicit, joinable_cstate, joinable}
+use Rattle.ttp_world.specs.Fitting.{header_in, carried_length, number_in, carried, is_formed, is_joinable_state}
+use Rattle.ttp_world.specs.Fitting.{is_cold_start, is_listed_explicit, joinable_cstate, joinable}
 use Rattle.ttp_world.specs.Frame.{is_explicit, cold_start_header, header_of, word_bytes, frame}
 use Rattle.ttp_world.specs.Medl.{is_wide, member_bytes, member_width, kind_at, payload_length, may_start}
 use Rattle.ttp_check.specs.Bytes.{xor_bytes}
@@ -18,8 +21,10 @@ use Rattle.ttp_check.proofs.Words.{All-big_endian}
 use Rattle.ttp_frame.specs.declared.judging.FrameMatch.TheVariants.{Match, Differs, Invalid}
 use Rattle.ttp_frame.specs.Match.{match_of}
 use Rattle.ttp_frame.specs.Shape.{sent, unsent, has_shape, has_word, carries}
-use Rattle.ttp_frame.proofs.Flips.{AreBytes, length-xor_bytes, take-xor_bytes, drop-xor_bytes, first-xor_bytes, All-xor_bytes, check_word-flipped, has_word-zero}
-use Rattle.ttp_frame.proofs.Frames.{front, frame-pieces, length-frame, length-sent, length-unsent, match_of-parts, is_formed-parts}
+use Rattle.ttp_frame.proofs.Flips.{AreBytes, length-xor_bytes, take-xor_bytes, drop-xor_bytes, first-xor_bytes}
+use Rattle.ttp_frame.proofs.Flips.{All-xor_bytes, check_word-flipped, has_word-zero}
+use Rattle.ttp_frame.proofs.Frames.{front, frame-pieces, length-frame, length-sent, length-unsent, match_of-parts}
+use Rattle.ttp_frame.proofs.Frames.{is_formed-parts}
 
 -- Bytes that receivers take alike.
 

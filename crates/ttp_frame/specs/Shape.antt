@@ -1,5 +1,6 @@
 -- What a frame may be, and the parts of which its bytes are made.
-use Rattle.std.specs.Prelude.{◌≡◌, ℕ, ◌+◌, ◌-◌, ◌*◌, ◌^◌, ◌<◌, ◌≤◌, Bool, ◌&&◌, ◌||◌, ◌==◌, List, [], ◌++◌, length, take, drop, IsTrue, if◌then◌else◌}
+use Rattle.std.specs.Prelude.{◌≡◌, ℕ, ◌+◌, ◌-◌, ◌*◌, ◌^◌, ◌<◌, ◌≤◌, Bool, ◌&&◌, ◌||◌, ◌==◌, List, [], ◌++◌, length}
+use Rattle.std.specs.Prelude.{take, drop, IsTrue, if◌then◌else◌}
 use Rattle.std.specs.Str.{bytes_eq}
 use Rattle.ttp_base.specs.NodeSet.{set_bits, members_in}
 use Rattle.ttp_world.specs.declared.node.CState.{CState}
@@ -39,7 +40,8 @@ unsent width header c = if is_explicit header then [] else cstate_bytes width c
 
 -- header and length of the bytes are right
 abbrev pub has_shape : ℕ → List ℕ → ℕ → ℕ → Bool
-has_shape width bytes header size = (length bytes == 1 + carried_length width header + size + 3) && (header_in bytes == header)
+has_shape width bytes header size =
+    (length bytes == 1 + carried_length width header + size + 3) && (header_in bytes == header)
 
 -- these bytes stand behind the header
 abbrev pub carries : List ℕ → List ℕ → Bool

@@ -16,7 +16,8 @@
 //!
 //! [`encode`] makes the bytes of a frame. [`judge`] tells whether bytes are the frame that a receiver
 //! expects from its own C-state, and [`read_explicit`] gives the C-state on which a listening node
-//! joins; [`is_joinable_state`] is the part of that which looks at the C-state alone. Each is exactly what `ttp_world`'s definitions say. [`laws`] has what later proofs rest on.
+//! joins; [`is_joinable_state`] is the part of that which looks at the C-state alone. Each is exactly
+//! what `ttp_world`'s definitions say. [`laws`] has what later proofs rest on.
 //!
 //! The crate keeps no state, takes no memory and copies no payload but into a sender's buffer, and
 //! none of its calls can fail. It knows no slots, channels or windows: when a frame is looked at is

@@ -16,7 +16,8 @@ use Rattle.ttp_top.specs.Calls.Plan.{Outside, Ending, File, Plan, ends, asks, Co
 use Rattle.ttp_top.specs.Calls.Promise.{Promise, Unloaded, EachName}
 use Rattle.ttp_top.specs.Calls.Words.{Form, schedule, run, keeps}
 use Rattle.ttp_top.specs.Files.Read.{list_limit, list_from, script_limit, script_from}
-use Rattle.ttp_top.specs.FormerClauses.{bytes_told, shown_with, run_ending, IsShownEnding, IsEnding, IsRunnable, IsScriptLoadLine, IsLoadLine}
+use Rattle.ttp_top.specs.FormerClauses.{bytes_told, shown_with, run_ending, IsShownEnding, IsEnding, IsRunnable}
+use Rattle.ttp_top.specs.FormerClauses.{IsScriptLoadLine, IsLoadLine}
 use Rattle.ttp_top.specs.FormerClauses.{Ends, IsDue, SaysEnding, WroteTraceOf}
 use Rattle.ttp_top.specs.Scripts.Promise.{RunPromise}
 use Rattle.ttp_top.specs.declared.shown.Shown.{Shown}

@@ -37,13 +37,15 @@ AgreesWith files name bytes = IfSome (bytes_told (files.held name)) (λ told. by
 -- a command that shows something of a list and a script may end so
 abbrev pub IsShownEnding : Shown → List ℕ → List ℕ → Files → Ending → Type 0
 IsShownEnding what list script files ending =
-    (list_bytes : List ℕ) × (script_bytes : List ℕ) × AgreesWith files list list_bytes × AgreesWith files script script_bytes
+    (list_bytes : List ℕ) × (script_bytes : List ℕ) × AgreesWith files list list_bytes
+    × AgreesWith files script script_bytes
     × (ending ≡ shown_with what (list_from list_bytes) script_bytes)
 
 -- a call of this form may end so
 abbrev pub IsEnding : Option Form → Files → Ending → Type 0
 IsEnding None files ending = ending ≡ usage_ending
-IsEnding (Some (schedule list)) files ending = (bytes : List ℕ) × AgreesWith files list bytes × (ending ≡ schedule_ending bytes)
+IsEnding (Some (schedule list)) files ending =
+    (bytes : List ℕ) × AgreesWith files list bytes × (ending ≡ schedule_ending bytes)
 IsEnding (Some (run list script)) files ending = IsShownEnding shown.Trace list script files ending
 IsEnding (Some (keeps list script)) files ending = IsShownEnding shown.Keep list script files ending
 
@@ -60,23 +62,27 @@ IsScriptLoadLine list script before now line =
 -- the same of the files of this form
 abbrev pub IsLoadLine : Option Form → Files → Files → List ℕ → Type 0
 IsLoadLine None before now line = ⊥
-IsLoadLine (Some (schedule list)) before now line = HasRisen (before.faults list) (now.faults list) × (line ≡ codes "load: list\n")
+IsLoadLine (Some (schedule list)) before now line =
+    HasRisen (before.faults list) (now.faults list) × (line ≡ codes "load: list\n")
 IsLoadLine (Some (run list script)) before now line = IsScriptLoadLine list script before now line
 IsLoadLine (Some (keeps list script)) before now line = IsScriptLoadLine list script before now line
 
 -- it ended so, with that status and with that text written
 abbrev pub Ends : Option Form → Outside → Outside → ℕ → Type 0
 Ends form before now answer =
-    (ending : Ending) × IsEnding form before.files ending × (answer ≡ ending.status) × WroteLines before.output now.output ending.text
+    (ending : Ending) × IsEnding form before.files ending × (answer ≡ ending.status)
+    × WroteLines before.output now.output ending.text
 
 -- the text that is due
 abbrev pub IsDue : Option Form → Outside → Outside → List ℕ → Type 0
 IsDue form before now text =
-    ((ending : Ending) × IsEnding form before.files ending × (text ≡ ending.text)) ⊎ IsLoadLine form before.files now.files text
+    ((ending : Ending) × IsEnding form before.files ending × (text ≡ ending.text))
+    ⊎ IsLoadLine form before.files now.files text
 
 -- it ended in this ending, or for want of memory
 abbrev pub SaysEnding : Ending → Outside → Outside → ℕ → Type 0
-SaysEnding ending before now answer = ((answer ≡ ending.status) × WroteLines before.output now.output ending.text) ⊎ (answer ≡ 7)
+SaysEnding ending before now answer =
+    ((answer ≡ ending.status) × WroteLines before.output now.output ending.text) ⊎ (answer ≡ 7)
 
 -- a trace was written: the list and the script are right, and this is the run of the world for them
 abbrev pub WroteTraceOf : List ℕ → List ℕ → Output → Output → Type 0

@@ -65,7 +65,8 @@ pub(crate) fn former<R: Threads + Wait + Sync, L: Library, K: Sink, G: Gate>(
         → ((result ≡ 0) × WroteLines (K.output out.old) (K.output out.new) (slot_table medl)) ⊎ (result ≡ 7) }
     ensures usage { result ≡ 2 → form_of (texts_of words.now) ≡ None }
     ensures sink { result ≡ 6 → HasRisen (K.output out.old).faults (K.output out.new).faults }
-    ensures memory { result ≡ 7 → (form_of (texts_of words.now) ≢ None) × Wrote (K.output out.old) (K.output out.new) 0 [] }
+    ensures memory { result ≡ 7 → (form_of (texts_of words.now) ≢ None)
+        × Wrote (K.output out.old) (K.output out.new) 0 [] }
     ensures statuses { result ≤ 7 }
     ensures complete_run { (list script bytes script_bytes : List ℕ) (medl : Medl) (right : Script)
         → form_of (texts_of words.now) ≡ Some (run list script)
@@ -79,7 +80,8 @@ pub(crate) fn former<R: Threads + Wait + Sync, L: Library, K: Sink, G: Gate>(
     ensures trace { (list script bytes script_bytes : List ℕ) → form_of (texts_of words.now) ≡ Some (run list script)
         → (L.files library.old).held list ≡ holds bytes → (L.files library.old).held script ≡ holds script_bytes
         → result ≡ 0 → WroteTraceOf bytes script_bytes (K.output out.old) (K.output out.new) }
-    ensures no_form { form_of (texts_of words.now) ≡ None → ¬ HasRisen (K.output out.old).faults (K.output out.new).faults
+    ensures no_form { form_of (texts_of words.now) ≡ None
+        → ¬ HasRisen (K.output out.old).faults (K.output out.new).faults
         → (result ≡ 2) × WroteLines (K.output out.old) (K.output out.new) usage_line }
     ensures counts { NoneFell (L.files library.old) (L.files library.new)
         × ((K.output out.old).faults ≤ (K.output out.new).faults) }

@@ -30,7 +30,8 @@ pub(crate) enum Shown {
 fn show_keep<K: Sink>(list: &Medl, script: &Script, out: &mut K) -> u8
     requires valid { IsValid list.now }
     requires script { IsValidScript list.now script.now }
-    ensures { Says (record { status = 0; text = keep_line (keeps list.now script.now) }) (K.output out.old) (K.output out.new) result }
+    ensures { Says (record { status = 0; text = keep_line (keeps list.now script.now) }) (K.output out.old)
+        (K.output out.new) result }
 {
     match put_keep(&keeps(list, script), out) {
         Ok(()) => 0,
@@ -44,7 +45,8 @@ fn show_trace<K: Sink>(alloc: Global, list: &Medl, script: &Script, out: &mut K)
     requires valid { IsValid list.now }
     requires script { IsValidScript list.now script.now }
     requires hosts { IsUnhosted script.now }
-    ensures { Shows (record { status = 0; text = trace_of list.now script.now }) (K.output out.old) (K.output out.new) result }
+    ensures { Shows (record { status = 0; text = trace_of list.now script.now }) (K.output out.old)
+        (K.output out.new) result }
 {
     match put_run(alloc, list, script, out) {
         Ok(()) => show_keep(list, script, out),
@@ -58,7 +60,8 @@ fn show<K: Sink>(alloc: Global, what: Shown, list: &Medl, script: &Script, out: 
     requires valid { IsValid list.now }
     requires script { IsValidScript list.now script.now }
     requires hosts { IsUnhosted script.now }
-    ensures { Shows (record { status = 0; text = text_shown what list.now script.now }) (K.output out.old) (K.output out.new) result }
+    ensures { Shows (record { status = 0; text = text_shown what list.now script.now }) (K.output out.old)
+        (K.output out.new) result }
 {
     match what {
         Shown::Trace => show_trace(alloc, list, script, out),

@@ -1,5 +1,6 @@
 -- How large the sums of events are.
-use Rattle.std.proofs.Common.{ℕ, ◌+◌, ◌*◌, ℤ, Bool, true, false, cond, ◌&&◌, List, [], ◌∷◌, length, Option, Some, None, IfSome, arith}
+use Rattle.std.proofs.Common.{ℕ, ◌+◌, ◌*◌, ℤ, Bool, true, false, cond, ◌&&◌, List, [], ◌∷◌, length, Option, Some, None}
+use Rattle.std.proofs.Common.{IfSome, arith}
 use Rattle.std.specs.Prelude.{◌==◌}
 use Rattle.std.specs.List.{All, filter_map, cons_option}
 use Rattle.std.proofs.lemmas.List.Elements.{All-head, All-tail}

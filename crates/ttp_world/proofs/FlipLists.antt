@@ -1,5 +1,6 @@
 -- Sorted flips: those of one key lie together, in the order of the script.
-use Rattle.std.proofs.Common.{◌≡◌, ℕ, zero, suc, ◌-◌, ◌<◌, ◌≤◌, Bool, true, false, cond, nat_cmp, not, ◌&&◌, List, [], ◌∷◌, length, take, drop, Some, None, refl, ap, sym, ◌∙◌, arith}
+use Rattle.std.proofs.Common.{◌≡◌, ℕ, zero, suc, ◌-◌, ◌<◌, ◌≤◌, Bool, true, false, cond, nat_cmp, not, ◌&&◌, List, []}
+use Rattle.std.proofs.Common.{◌∷◌, length, take, drop, Some, None, refl, ap, sym, ◌∙◌, arith}
 use Rattle.std.specs.Prelude.{nat_le, nat_lt, ◌==◌, map, slice_range}
 use Rattle.std.specs.List.{All, filter, filter_map, cons_option}
 use Rattle.std.specs.List.Sorted.{IsNonDecreasingBy, IsStableByKey, ties}

@@ -1,5 +1,6 @@
 -- Valid lists: how many nodes they have, and their frames' members.
-use Rattle.std.proofs.Common.{◌≡◌, ℕ, zero, suc, ◌+◌, ◌*◌, ◌%◌, ◌≢◌, ◌<◌, ◌≤◌, Bool, true, false, IsTrue, List, [], ◌∷◌, length, cond, mod-lt, zero-lt-suc, refl, ap, arith}
+use Rattle.std.proofs.Common.{◌≡◌, ℕ, zero, suc, ◌+◌, ◌*◌, ◌%◌, ◌≢◌, ◌<◌, ◌≤◌, Bool, true, false, IsTrue, List, [], ◌∷◌}
+use Rattle.std.proofs.Common.{length, cond, mod-lt, zero-lt-suc, refl, ap, arith}
 use Rattle.std.specs.Prelude.{◌==◌, unwrap_or}
 use Rattle.std.specs.List.{AllByRecursion, list_all, slice_get}
 use Rattle.std.proofs.lemmas.Bool.{cond_both, eqb-false, false≢true}
@@ -9,7 +10,8 @@ use Rattle.ttp_world.specs.declared.medl.Kind.TheVariants as kind
 use Rattle.ttp_world.specs.declared.medl.Medl.{Medl}
 use Rattle.ttp_world.specs.declared.medl.SlotPlan.{SlotPlan}
 use Rattle.ttp_world.specs.Diary.{Place, next_place, time_limit}
-use Rattle.ttp_world.specs.Medl.{is_wide, member_bytes, node_limit, is_bare, IsBareList, no_plan, plan_at, kind_at, payload_length, IsValid}
+use Rattle.ttp_world.specs.Medl.{is_wide, member_bytes, node_limit, is_bare, IsBareList, no_plan, plan_at, kind_at}
+use Rattle.ttp_world.specs.Medl.{payload_length, IsValid}
 
 -- How many nodes.
 

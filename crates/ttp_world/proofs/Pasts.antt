@@ -1,5 +1,6 @@
 -- The laws of one more entry: what is read of a longer diary, from what is read of it without its newest entry.
-use Rattle.std.proofs.Common.{◌≡◌, ℕ, ◌+◌, ◌<◌, ℤ, pos, ◌+ℤ◌, Bool, true, false, cond, ◌||◌, List, [], ◌∷◌, ◌++◌, length, Option, Some, None, refl, ap, sym, ◌∙◌, arith}
+use Rattle.std.proofs.Common.{◌≡◌, ℕ, ◌+◌, ◌<◌, ℤ, pos, ◌+ℤ◌, Bool, true, false, cond, ◌||◌, List, [], ◌∷◌, ◌++◌}
+use Rattle.std.proofs.Common.{length, Option, Some, None, refl, ap, sym, ◌∙◌, arith}
 use Rattle.std.specs.Prelude.{◌==◌, unwrap_or, count_by}
 use Rattle.std.specs.List.{filter, list_any}
 use Rattle.std.proofs.Math.Bool.{or-true}
@@ -14,11 +15,16 @@ use Rattle.ttp_world.specs.declared.node.Entry.{Entry}
 use Rattle.ttp_world.specs.declared.node.Entry.TheVariants as entry
 use Rattle.ttp_world.specs.declared.node.Verdict.{Verdict}
 use Rattle.ttp_world.specs.declared.node.Verdict.TheVariants as verdict
-use Rattle.ttp_world.specs.Acknowledgement.{is_correct, is_judged_correct, newest_sent_or_joined, since_sent_or_joined, newest_doubted, first_or_doubt, ack_since, ack_of}
-use Rattle.ttp_world.specs.After.{place_after, opined_members, members_after, accepted_after, rejected_after, ack_answered, ack_after, cold_start_after, limit_after, silent_slots_after, notes_after, offset_after, past_after}
-use Rattle.ttp_world.specs.Clock.{notes_in, begins_round, notes_of, stint_notes, fta, is_corrected, slot_change, offset_of}
+use Rattle.ttp_world.specs.Acknowledgement.{is_correct, is_judged_correct, newest_sent_or_joined, since_sent_or_joined}
+use Rattle.ttp_world.specs.Acknowledgement.{newest_doubted, first_or_doubt, ack_since, ack_of}
+use Rattle.ttp_world.specs.After.{place_after, opined_members, members_after, accepted_after, rejected_after}
+use Rattle.ttp_world.specs.After.{ack_answered, ack_after, cold_start_after, limit_after, silent_slots_after}
+use Rattle.ttp_world.specs.After.{notes_after, offset_after, past_after}
+use Rattle.ttp_world.specs.Clock.{notes_in, begins_round, notes_of, stint_notes, fta, is_corrected, slot_change}
+use Rattle.ttp_world.specs.Clock.{offset_of}
 use Rattle.ttp_world.specs.Counts.{is_rejection, rejected_since, accepted_of, rejected_of}
-use Rattle.ttp_world.specs.Diary.{Diary, Surroundings, SlotSurroundings, phase_after, is_active, begins_stint, Place, may_follow, no_place, next_place, stint_place, place_of}
+use Rattle.ttp_world.specs.Diary.{Diary, Surroundings, SlotSurroundings, phase_after, is_active, begins_stint, Place}
+use Rattle.ttp_world.specs.Diary.{may_follow, no_place, next_place, stint_place, place_of}
 use Rattle.ttp_world.specs.Membership.{opinion, is_good, members_of}
 use Rattle.ttp_world.specs.Past.{is_start, cold_start_of, limit_of, silent_slots_of, past_of}
 

@@ -9,7 +9,8 @@ use Rattle.ttp_world.specs.declared.script.TheConstants.{ERROR_LIMIT, JUMP_LIMIT
 use Rattle.ttp_world.specs.declared.weights.Counts.{Counts}
 use Rattle.ttp_world.specs.declared.weights.Weights.{Weights}
 use Rattle.ttp_world.specs.Events.{is_same_fault, IsWithinSpan, IsBounded}
-use Rattle.ttp_world.specs.Weights.{one_if, no_counts, chosen_counts, added_counts, negated_counts, no_sums, no_weights, weights_of, added, negated, AreWithinCounts, AreWithinSums, AreWithin}
+use Rattle.ttp_world.specs.Weights.{one_if, no_counts, chosen_counts, added_counts, negated_counts, no_sums, no_weights}
+use Rattle.ttp_world.specs.Weights.{weights_of, added, negated, AreWithinCounts, AreWithinSums, AreWithin}
 
 -- One number.
 

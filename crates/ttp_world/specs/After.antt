@@ -1,7 +1,8 @@
 -- What one more entry changes of what is read of node k's past, field by field, from the fields before it.
 --
 -- `proofs/` has the laws: where an entry may follow a diary, each field that is read of both together is this one.
-use Rattle.std.specs.Prelude.{ℕ, ◌+◌, ◌*◌, ℤ, pos, ◌+ℤ◌, Bool, true, false, List, [], ◌++◌, length, filter, unwrap_or, if◌then◌else◌}
+use Rattle.std.specs.Prelude.{ℕ, ◌+◌, ◌*◌, ℤ, pos, ◌+ℤ◌, Bool, true, false, List, [], ◌++◌, length, filter, unwrap_or}
+use Rattle.std.specs.Prelude.{if◌then◌else◌}
 use Rattle.ttp_base.specs.NodeSet.{below, has_node, with_node, without_node}
 use Rattle.ttp_world.specs.declared.medl.Medl.{Medl}
 use Rattle.ttp_world.specs.declared.node.Ack.{Ack}
@@ -13,7 +14,8 @@ use Rattle.ttp_world.specs.declared.node.Verdict.TheVariants as verdict
 use Rattle.ttp_world.specs.Acknowledgement.{is_correct}
 use Rattle.ttp_world.specs.Clock.{notes_in, begins_round, fta, is_corrected, slot_change}
 use Rattle.ttp_world.specs.Counts.{is_rejection}
-use Rattle.ttp_world.specs.Diary.{SlotSurroundings, phase_after, is_active_phase, Place, no_place, start_place, joined_place, next_place}
+use Rattle.ttp_world.specs.Diary.{SlotSurroundings, phase_after, is_active_phase, Place, no_place, start_place}
+use Rattle.ttp_world.specs.Diary.{joined_place, next_place}
 use Rattle.ttp_world.specs.Membership.{opinion}
 use Rattle.ttp_world.specs.Past.{NodePast}
 
@@ -30,7 +32,8 @@ place_after list k place _ = no_place
 
 -- a set of members, by what an entry says of each node
 abbrev pub opined_members : Medl → ℕ → List ℕ → Ack → Entry → List ℕ
-opined_members list k members a e = filter (λ j. unwrap_or (opinion k j e a) (has_node members j)) (below (length list.slots))
+opined_members list k members a e =
+    filter (λ j. unwrap_or (opinion k j e a) (has_node members j)) (below (length list.slots))
 
 abbrev pub members_after : Medl → ℕ → List ℕ → Ack → Entry → List ℕ
 members_after list k members a e = if is_active_entry e then opined_members list k members a e else []

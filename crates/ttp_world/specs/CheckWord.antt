@@ -1,5 +1,6 @@
 -- The check word: the remainder of 24 bits that a frame ends with.
-use Rattle.std.specs.Prelude.{ℕ, zero, suc, ◌+◌, ◌*◌, ◌/◌, ◌%◌, Bool, true, false, not, ◌==◌, List, [], ◌∷◌, ◌++◌, fold, flat_map, if◌then◌else◌}
+use Rattle.std.specs.Prelude.{ℕ, zero, suc, ◌+◌, ◌*◌, ◌/◌, ◌%◌, Bool, true, false, not, ◌==◌, List, [], ◌∷◌, ◌++◌, fold}
+use Rattle.std.specs.Prelude.{flat_map, if◌then◌else◌}
 
 -- Numbers and bytes as bits, the most significant first.
 

@@ -1,12 +1,14 @@
 -- Clocks: how far each node's clock is ahead, in microticks, read from its diary and its surroundings.
-use Rattle.std.specs.Prelude.{ℕ, nat_lt, ℤ, pos, ◌+ℤ◌, Bool, true, false, ◌&&◌, ◌||◌, ◌==◌, List, [], ◌∷◌, ◌++◌, length, take, drop, Option, Some, None, int_div, int_le, if◌then◌else◌}
+use Rattle.std.specs.Prelude.{ℕ, nat_lt, ℤ, pos, ◌+ℤ◌, Bool, true, false, ◌&&◌, ◌||◌, ◌==◌, List, [], ◌∷◌, ◌++◌, length}
+use Rattle.std.specs.Prelude.{take, drop, Option, Some, None, int_div, int_le, if◌then◌else◌}
 use Rattle.std.specs.Option.{option_to_list}
 use Rattle.ttp_world.specs.declared.medl.Medl.{Medl}
 use Rattle.ttp_world.specs.declared.node.Entry.{Entry}
 use Rattle.ttp_world.specs.declared.node.Entry.TheVariants as entry
 use Rattle.ttp_world.specs.declared.node.Phase.{Phase}
 use Rattle.ttp_world.specs.Acknowledgement.{is_correct}
-use Rattle.ttp_world.specs.Diary.{Diary, SlotSurroundings, Surroundings, phase_of, is_active_phase, is_active, begins_stint, Place, ends_round, stint_place, place_of}
+use Rattle.ttp_world.specs.Diary.{Diary, SlotSurroundings, Surroundings, phase_of, is_active_phase, is_active}
+use Rattle.ttp_world.specs.Diary.{begins_stint, Place, ends_round, stint_place, place_of}
 use Rattle.ttp_world.specs.Medl.{plan_at}
 use Rattle.ttp_world.specs.Script.{sum_ℤ}
 

@@ -21,7 +21,8 @@ use Rattle.ttp_world.specs.Frame.{cold_start_header, header_of, frame}
 use Rattle.ttp_world.specs.Medium.{Signal, Silence, Noise, Bits, SentFrame}
 use Rattle.ttp_world.specs.Medl.{member_width, kind_at, payload_length}
 use Rattle.ttp_world.specs.Past.{NodePast}
-use Rattle.ttp_world.specs.Reception.{Hearing, Expected, expected_of, view_of, verdict_of, is_taken_from_a, heard_deviation, entry_deviation, payload_heard, is_first_view}
+use Rattle.ttp_world.specs.Reception.{Hearing, Expected, expected_of, view_of, verdict_of, is_taken_from_a}
+use Rattle.ttp_world.specs.Reception.{heard_deviation, entry_deviation, payload_heard, is_first_view}
 
 -- The frame.
 
@@ -69,7 +70,8 @@ channel_join list deviation Noise = None
 channel_join list deviation (Bits sender bytes) = join_entry (deviation sender) (joinable list bytes)
 
 abbrev pub listening_entry : Medl → Hearing → Entry
-listening_entry list h = unwrap_or (option_or (channel_join list h.deviation h.a) (channel_join list h.deviation h.b)) entry.Waited
+listening_entry list h =
+    unwrap_or (option_or (channel_join list h.deviation h.a) (channel_join list h.deviation h.b)) entry.Waited
 
 -- Judging: the entry of a verdict on a sender. A node that is denied leaves.
 

@@ -5,12 +5,14 @@ use Rattle.ttp_world.specs.declared.node.Entry.{Entry}
 use Rattle.ttp_world.specs.declared.node.Entry.TheVariants as entry
 use Rattle.ttp_world.specs.declared.node.Verdict.{Verdict}
 use Rattle.ttp_world.specs.declared.node.Verdict.TheVariants as verdict
-use Rattle.ttp_world.specs.Acknowledgement.{is_sent_or_joined, is_judged_correct, since_sent_or_joined, ack_of, is_doubt}
+use Rattle.ttp_world.specs.Acknowledgement.{is_sent_or_joined, is_judged_correct, since_sent_or_joined, ack_of}
+use Rattle.ttp_world.specs.Acknowledgement.{is_doubt}
 use Rattle.ttp_world.specs.Diary.{Diary, is_active}
 
 -- one, and each correct frame since the node sent or joined
 abbrev pub accepted_of : Diary → ℕ
-accepted_of diary = elim (is_active diary) [ true ↦ 1 + count_by is_judged_correct (since_sent_or_joined diary) | false ↦ 0 ]
+accepted_of diary =
+    elim (is_active diary) [ true ↦ 1 + count_by is_judged_correct (since_sent_or_joined diary) | false ↦ 0 ]
 
 -- whether a verdict rejects a frame, by the acknowledgement before it: an incorrect or invalid frame, and the frame of
 -- the doubted successor once a correct one settles the doubt

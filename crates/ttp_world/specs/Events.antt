@@ -1,5 +1,6 @@
 -- What a list of events says of a node in a slot.
-use Rattle.std.specs.Prelude.{ℕ, ◌*◌, nat_le, ℤ, pos, neg_ℤ, ◌+ℤ◌, ◌≤ℤ◌, if◌then◌else◌, Bool, true, false, ◌&&◌, ◌||◌, ◌==◌, List, [], ◌∷◌, Option, Some, None}
+use Rattle.std.specs.Prelude.{ℕ, ◌*◌, nat_le, ℤ, pos, neg_ℤ, ◌+ℤ◌, ◌≤ℤ◌, if◌then◌else◌, Bool, true, false, ◌&&◌, ◌||◌}
+use Rattle.std.specs.Prelude.{◌==◌, List, [], ◌∷◌, Option, Some, None}
 use Rattle.std.specs.List.{list_any, filter_map}
 use Rattle.ttp_world.specs.declared.events.FlippedBit.{FlippedBit}
 use Rattle.ttp_world.specs.declared.events.Incidents.{Incidents}
@@ -45,7 +46,8 @@ is_receive_fault kind k c slot _ = false
 
 -- the bit that an event flips in the frame that a node sends on a channel in a slot
 abbrev pub flipped_bit : ℕ → Channel → ℕ → Event → Option ℕ
-flipped_bit k c slot (event.Flip node channels bit at) = if (node == k) && (is_among c channels && (at == slot)) then Some bit else None
+flipped_bit k c slot (event.Flip node channels bit at) =
+    if (node == k) && (is_among c channels && (at == slot)) then Some bit else None
 flipped_bit k c slot _ = None
 
 -- Flipped bits that are told with the channels on which they are flipped.
@@ -89,7 +91,8 @@ incidents_in events k slot = record {
   send_noise = channels_where (λ c. list_any (is_send_fault fault.Noise k c slot) events);
   receive_silence = channels_where (λ c. list_any (is_receive_fault fault.Silence k c slot) events);
   receive_noise = channels_where (λ c. list_any (is_receive_fault fault.Noise k c slot) events);
-  has_flip = has_bits (filter_map (flipped_bit k channel.A slot) events) || has_bits (filter_map (flipped_bit k channel.B slot) events);
+  has_flip = has_bits (filter_map (flipped_bit k channel.A slot) events)
+      || has_bits (filter_map (flipped_bit k channel.B slot) events);
   armed = list_any (arms k slot) events;
   error = sum_ℤ (filter_map (error_in k slot) events);
   jump = sum_ℤ (filter_map (jump_in k slot) events);

@@ -1,5 +1,6 @@
 -- When bytes are a frame, and of which C-state.
-use Rattle.std.specs.Prelude.{ℕ, ◌+◌, ◌-◌, ◌*◌, Bool, true, ◌&&◌, ◌||◌, ◌==◌, nat_lt, List, length, take, drop, slice_index, fold, Option, Some, None, if◌then◌else◌}
+use Rattle.std.specs.Prelude.{ℕ, ◌+◌, ◌-◌, ◌*◌, Bool, true, ◌&&◌, ◌||◌, ◌==◌, nat_lt, List, length, take, drop}
+use Rattle.std.specs.Prelude.{slice_index, fold, Option, Some, None, if◌then◌else◌}
 use Rattle.std.specs.List.{list_all}
 use Rattle.std.specs.Str.{bytes_eq}
 use Rattle.ttp_base.specs.NodeSet.{has_node, members_in}

@@ -16,7 +16,8 @@ big_endian (suc count) v = big_endian count (v / 256) ++ v % 256 ∷ []
 
 -- time, round, slot, membership
 abbrev pub cstate_bytes : ℕ → CState → List ℕ
-cstate_bytes width c = big_endian 2 c.time ++ big_endian 1 c.round ++ big_endian 1 c.slot ++ big_endian width (set_bits c.members)
+cstate_bytes width c =
+    big_endian 2 c.time ++ big_endian 1 c.round ++ big_endian 1 c.slot ++ big_endian width (set_bits c.members)
 
 abbrev pub cstate_length : ℕ → ℕ
 cstate_length width = 4 + width
@@ -50,7 +51,8 @@ abbrev pub body : ℕ → ℕ → CState → List ℕ → List ℕ
 body width header c payload = header ∷ ((if is_explicit header then cstate_bytes width c else []) ++ payload)
 
 abbrev pub checked : ℕ → ℕ → CState → List ℕ → List ℕ
-checked width header c payload = if is_explicit header then body width header c payload else cstate_bytes width c ++ body width header c payload
+checked width header c payload =
+    if is_explicit header then body width header c payload else cstate_bytes width c ++ body width header c payload
 
 abbrev pub word_bytes : ℕ → List ℕ → List ℕ
 word_bytes start bytes = big_endian 3 (check_word start bytes)

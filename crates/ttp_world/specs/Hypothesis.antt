@@ -1,6 +1,8 @@
 -- The single-fault hypothesis: seven rules, of which the first that is broken is named with a slot, and the nodes
 -- that are faulty by it.
-use Rattle.std.specs.Prelude.{ℕ, zero, suc, ◌+◌, ◌-◌, ◌*◌, ◌%◌, min, nat_le, nat_lt, ℤ, pos, neg_ℤ, ◌+ℤ◌, ◌*ℤ◌, Bool, true, false, ◌&&◌, ◌||◌, not, ◌==◌, List, [], ◌∷◌, ◌++◌, map, length, reverse, filter, find, Option, Some, None, option_map, int_le, if◌then◌else◌}
+use Rattle.std.specs.Prelude.{ℕ, zero, suc, ◌+◌, ◌-◌, ◌*◌, ◌%◌, min, nat_le, nat_lt, ℤ, pos, neg_ℤ, ◌+ℤ◌, ◌*ℤ◌, Bool}
+use Rattle.std.specs.Prelude.{true, false, ◌&&◌, ◌||◌, not, ◌==◌, List, [], ◌∷◌, ◌++◌, map, length, reverse, filter}
+use Rattle.std.specs.Prelude.{find, Option, Some, None, option_map, int_le, if◌then◌else◌}
 use Rattle.std.specs.List.{list_all, list_any, filter_map, range_with_len}
 use Rattle.ttp_base.specs.NodeSet.{below, has_node}
 use Rattle.ttp_world.specs.declared.keep.Keep.{Keep}
@@ -13,7 +15,8 @@ use Rattle.ttp_world.specs.declared.script.Event.TheVariants as event
 use Rattle.ttp_world.specs.declared.script.Fault.TheVariants as fault
 use Rattle.ttp_world.specs.declared.script.Script.{Script}
 use Rattle.ttp_world.specs.Medl.{plan_at, may_start}
-use Rattle.ttp_world.specs.Script.{on_slot, is_ever_on, is_on, drift_of, reading_error, jump_of, has_jump, has_send_fault, has_receive_fault}
+use Rattle.ttp_world.specs.Script.{on_slot, is_ever_on, is_on, drift_of, reading_error, jump_of, has_jump}
+use Rattle.ttp_world.specs.Script.{has_send_fault, has_receive_fault}
 
 abbrev pub nodes_of : Medl → List ℕ
 nodes_of list = below (length list.slots)
@@ -29,7 +32,8 @@ abbrev pub drifts_hold : Medl → Script → Bool
 drifts_hold list script = list_all (λ k. is_within_bound list.drift (drift_of script k)) (nodes_of list)
 
 abbrev pub errors_hold_in : Medl → Script → ℕ → Bool
-errors_hold_in list script slot = list_all (λ k. is_within_bound list.error (reading_error script k slot)) (nodes_of list)
+errors_hold_in list script slot =
+    list_all (λ k. is_within_bound list.error (reading_error script k slot)) (nodes_of list)
 
 abbrev pub clocks_broken : Medl → Script → Option ℕ
 clocks_broken list script =
@@ -71,7 +75,8 @@ is_allowed_jump list script k slot = is_far_jump list (jump_of script k slot) &&
 abbrev pub outside_slot : Medl → Script → Event → Option ℕ
 outside_slot list script (event.Flip node channels bit slot) = Some slot
 outside_slot list script (event.Arm node slot) = Some slot
-outside_slot list script (event.Jump node value slot) = if is_allowed_jump list script node slot then None else Some slot
+outside_slot list script (event.Jump node value slot) =
+    if is_allowed_jump list script node slot then None else Some slot
 outside_slot list script _ = None
 
 abbrev pub lesser : ℕ → Option ℕ → Option ℕ
@@ -95,7 +100,8 @@ pub record ClusterStart : Type 0 where
 
 -- when a node would start on a silent bus, where it may
 abbrev pub start_slot : Medl → Script → ℕ → Option ℕ
-start_slot list script k = if may_start list k then option_map (λ on. on + 2 * length list.slots + k) (on_slot script k) else None
+start_slot list script k =
+    if may_start list k then option_map (λ on. on + 2 * length list.slots + k) (on_slot script k) else None
 
 abbrev pub is_exactly : ℕ → Option ℕ → Bool
 is_exactly n None = false
@@ -208,7 +214,8 @@ is_breaking (Makes node) = false
 is_breaking Breaks = true
 
 abbrev pub breaks_in : Medl → Script → ClusterStart → ℕ → Bool
-breaks_in list script start slot = is_breaking (loss_in list script start (numbers_of (faulty_nodes_before list script start slot)) slot)
+breaks_in list script start slot =
+    is_breaking (loss_in list script start (numbers_of (faulty_nodes_before list script start slot)) slot)
 
 abbrev pub loss_broken : Medl → Script → ClusterStart → Option ℕ
 loss_broken list script start = find (breaks_in list script start) (below script.slots)
@@ -217,7 +224,8 @@ loss_broken list script start = find (breaks_in list script start) (below script
 
 abbrev pub first_too_early : ℕ → ℕ → List ℕ → Option ℕ
 first_too_early gap earliest [] = None
-first_too_early gap earliest (slot ∷ slots) = if nat_lt slot earliest then Some slot else first_too_early gap (slot + gap) slots
+first_too_early gap earliest (slot ∷ slots) =
+    if nat_lt slot earliest then Some slot else first_too_early gap (slot + gap) slots
 
 -- the slots of all faults of the run, in order
 abbrev pub fault_slots : Medl → Script → ClusterStart → List ℕ
@@ -233,10 +241,12 @@ abbrev pub is_steady : Medl → Script → List ℕ → ℕ → Bool
 is_steady list script faulty k = (plan_at list k).sync && (is_ever_on script k && not (has_node faulty k))
 
 abbrev pub has_four_steady : Medl → Script → List FaultyNode → Bool
-has_four_steady list script faulty = nat_le 4 (length (filter (is_steady list script (numbers_of faulty)) (nodes_of list)))
+has_four_steady list script faulty =
+    nat_le 4 (length (filter (is_steady list script (numbers_of faulty)) (nodes_of list)))
 
 abbrev pub lacks_steady_after : Medl → Script → ClusterStart → ℕ → Bool
-lacks_steady_after list script start slot = not (has_four_steady list script (faulty_nodes_before list script start (suc slot)))
+lacks_steady_after list script start slot =
+    not (has_four_steady list script (faulty_nodes_before list script start (suc slot)))
 
 -- the slots of the run from the start on
 abbrev pub slots_since_start : Script → ClusterStart → List ℕ

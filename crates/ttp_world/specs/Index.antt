@@ -1,5 +1,6 @@
 -- The index of a list of events, by the keys of nodes and slots.
-use Rattle.std.specs.Prelude.{◌≡◌, ℕ, zero, suc, ◌+◌, ◌*◌, ◌<◌, ◌≤◌, nat_le, nat_lt, pos, Bool, true, false, List, length, get_or, slice_range, All}
+use Rattle.std.specs.Prelude.{◌≡◌, ℕ, zero, suc, ◌+◌, ◌*◌, ◌<◌, ◌≤◌, nat_le, nat_lt, pos, Bool, true, false, List}
+use Rattle.std.specs.Prelude.{length, get_or, slice_range, All}
 use Rattle.std.specs.List.{filter_map}
 use Rattle.std.specs.List.Sorted.{IsNonDecreasingBy, IsPartitionPoint}
 use Rattle.ttp_world.specs.declared.events.FlippedBit.{FlippedBit}
@@ -50,7 +51,8 @@ step_is_by key step = nat_le step.key key
 -- Steps in the order of their keys tell what happens to a node in a slot: what the newest of them up to the key says.
 pub record AreStepsOf (events : List Event) (steps : List Step) : Type 0 where
   pub ascend : IsNonDecreasingBy (λ step. step.key) steps
-  pub incidents : (k slot place : ℕ) → slot < NODE_KEYS → place ≤ length steps → SplitsAt (step_is_by (key_of k slot)) steps place
+  pub incidents : (k slot place : ℕ) → slot < NODE_KEYS → place ≤ length steps
+      → SplitsAt (step_is_by (key_of k slot)) steps place
       → incidents_before steps place ≡ incidents_in events k slot
 
 -- Flipped bits in the order of their keys, and of the script where these are the same, tell those of a node and slot:

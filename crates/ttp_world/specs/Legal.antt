@@ -1,5 +1,6 @@
 -- Legal message numbers: which message a frame may carry, and which one a host may read.
-use Rattle.std.specs.Prelude.{ℕ, nat_le, Bool, true, false, ◌&&◌, ◌||◌, not, ◌==◌, List, [], ◌∷◌, ◌++◌, length, map, reverse, Option, Some, None, IsTrue}
+use Rattle.std.specs.Prelude.{ℕ, nat_le, Bool, true, false, ◌&&◌, ◌||◌, not, ◌==◌, List, [], ◌∷◌, ◌++◌, length, map}
+use Rattle.std.specs.Prelude.{reverse, Option, Some, None, IsTrue}
 use Rattle.std.specs.List.{list_all}
 use Rattle.ttp_base.specs.NodeSet.{below}
 use Rattle.ttp_world.specs.declared.medl.Medl.{Medl}
@@ -86,7 +87,8 @@ is_same_ring a b = (a.host == b.host) && is_same_source a.source b.source
 -- all reads, the newest first
 abbrev pub all_reads : Script → Numbers → List ReadMessage
 all_reads script [] = []
-all_reads script (new ∷ numbers) = reverse (read_messages (reads_in script (length numbers)) new.read) ++ all_reads script numbers
+all_reads script (new ∷ numbers) =
+    reverse (read_messages (reads_in script (length numbers)) new.read) ++ all_reads script numbers
 
 abbrev pub is_not_older : ReadMessage → ReadMessage → Bool
 is_not_older r earlier = not (is_same_ring r.read earlier.read) || nat_le earlier.number r.number
@@ -96,7 +98,8 @@ never_fall [] = true
 never_fall (r ∷ earlier) = list_all (is_not_older r) earlier && never_fall earlier
 
 abbrev pub is_legal : Medl → Script → Numbers → Bool
-is_legal list script numbers = are_legal_slots list script (world list script numbers) numbers && never_fall (all_reads script numbers)
+is_legal list script numbers =
+    are_legal_slots list script (world list script numbers) numbers && never_fall (all_reads script numbers)
 
 abbrev pub IsLegal : Medl → Script → Numbers → Type 0
 IsLegal list script numbers = IsTrue (is_legal list script numbers)

@@ -1,5 +1,6 @@
 -- What a receiver hears on a channel, by what was sent in the slot and the script's faults.
-use Rattle.std.specs.Prelude.{ℕ, ◌+◌, ◌-◌, ◌/◌, ◌%◌, ◌^◌, nat_lt, Bool, true, false, ◌&&◌, not, ◌==◌, List, [], ◌∷◌, filter, fold, map, length, if◌then◌else◌}
+use Rattle.std.specs.Prelude.{ℕ, ◌+◌, ◌-◌, ◌/◌, ◌%◌, ◌^◌, nat_lt, Bool, true, false, ◌&&◌, not, ◌==◌, List, [], ◌∷◌}
+use Rattle.std.specs.Prelude.{filter, fold, map, length, if◌then◌else◌}
 use Rattle.ttp_base.specs.NodeSet.{below}
 use Rattle.ttp_world.specs.declared.node.Entry.{Entry}
 use Rattle.ttp_world.specs.declared.node.Entry.TheVariants as entry
@@ -33,7 +34,8 @@ flip_in_byte place byte = if byte / 2 ^ place % 2 == 1 then byte - 2 ^ place els
 
 abbrev pub flip_bit : List ℕ → ℕ → List ℕ
 flip_bit [] bit = []
-flip_bit (byte ∷ bytes) bit = if nat_lt bit 8 then flip_in_byte (7 - bit) byte ∷ bytes else byte ∷ flip_bit bytes (bit - 8)
+flip_bit (byte ∷ bytes) bit =
+    if nat_lt bit 8 then flip_in_byte (7 - bit) byte ∷ bytes else byte ∷ flip_bit bytes (bit - 8)
 
 abbrev pub flip_bits : List ℕ → List ℕ → List ℕ
 flip_bits bytes bits = fold flip_bit bytes bits
@@ -76,7 +78,8 @@ heard script slot r c frames =
     else with_noise (has_receive_fault script fault.Noise r c slot) (channel_signal script slot c frames)
 
 abbrev pub is_silent_to : Script → ℕ → ℕ → List SentFrame → Bool
-is_silent_to script slot r frames = is_silence (heard script slot r channel.A frames) && is_silence (heard script slot r channel.B frames)
+is_silent_to script slot r frames =
+    is_silence (heard script slot r channel.A frames) && is_silence (heard script slot r channel.B frames)
 
 -- What the history tells of the medium: silence does not depend on what the frames held.
 
@@ -103,4 +106,5 @@ surroundings_in script slot row k = record {
 
 abbrev pub surroundings_of : Script → History → ℕ → Surroundings
 surroundings_of script [] k = []
-surroundings_of script (row ∷ history) k = surroundings_in script (length history) row k ∷ surroundings_of script history k
+surroundings_of script (row ∷ history) k =
+    surroundings_in script (length history) row k ∷ surroundings_of script history k

@@ -1,5 +1,6 @@
 -- The members that an active node holds, read from its diary.
-use Rattle.std.specs.Prelude.{◌≡◌, ℕ, Bool, true, false, ◌&&◌, ◌==◌, List, [], ◌∷◌, length, filter, Option, Some, None, if◌then◌else◌}
+use Rattle.std.specs.Prelude.{◌≡◌, ℕ, Bool, true, false, ◌&&◌, ◌==◌, List, [], ◌∷◌, length, filter, Option, Some, None}
+use Rattle.std.specs.Prelude.{if◌then◌else◌}
 use Rattle.ttp_base.specs.NodeSet.{below, has_node}
 use Rattle.ttp_world.specs.declared.medl.Medl.{Medl}
 use Rattle.ttp_world.specs.declared.node.Ack.{Ack}
@@ -32,7 +33,8 @@ is_good k (e ∷ diary) j = elim (opinion k j e (ack_of diary)) [ Some good ↦ 
 
 -- the members after node k's diary
 abbrev pub members_of : Medl → ℕ → Diary → List ℕ
-members_of list k diary = elim (is_active diary) [ true ↦ filter (is_good k diary) (below (length list.slots)) | false ↦ [] ]
+members_of list k diary =
+    elim (is_active diary) [ true ↦ filter (is_good k diary) (below (length list.slots)) | false ↦ [] ]
 
 -- these are nodes of the list, in ascending order
 abbrev pub AreNodes : Medl → List ℕ → Type 0

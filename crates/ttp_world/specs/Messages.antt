@@ -1,6 +1,7 @@
 -- What comes to the hosts: the payloads that a node delivers, and the status messages that it publishes. Each ring's
 -- messages begin with the zeros as number 0.
-use Rattle.std.specs.Prelude.{ℕ, ◌+◌, ◌*◌, ◌-◌, nat_le, Bool, true, false, ◌&&◌, ◌==◌, List, [], ◌∷◌, ◌++◌, map, length, replicate, Option, Some, None, is_some, if◌then◌else◌}
+use Rattle.std.specs.Prelude.{ℕ, ◌+◌, ◌*◌, ◌-◌, nat_le, Bool, true, false, ◌&&◌, ◌==◌, List, [], ◌∷◌, ◌++◌, map, length}
+use Rattle.std.specs.Prelude.{replicate, Option, Some, None, is_some, if◌then◌else◌}
 use Rattle.ttp_base.specs.NodeSet.{below}
 use Rattle.ttp_world.specs.declared.medl.Medl.{Medl}
 use Rattle.ttp_world.specs.declared.node.Chosen.{Chosen}
@@ -32,7 +33,8 @@ message_of (entry.Sent message) = message
 message_of _ = None
 
 abbrev pub messages_of : Medl → Script → ℕ → List Entry → List Chosen
-messages_of list script slot row = map (λ k. message_chosen list script slot k (message_of (entry_of row k))) (below (length list.slots))
+messages_of list script slot row =
+    map (λ k. message_chosen list script slot k (message_of (entry_of row k))) (below (length list.slots))
 
 -- what node r delivers in a slot for which these nodes are ready, by the entry that it makes
 abbrev pub delivered_in : Medl → Script → ℕ → List ReadyNode → ℕ → Entry → Option Delivered

@@ -26,4 +26,5 @@ nothing_chosen = record { number = 0; payload = [] }
 
 abbrev pub message_chosen : Medl → Script → ℕ → ℕ → Option ℕ → Chosen
 message_chosen list script slot k None = nothing_chosen
-message_chosen list script slot k (Some i) = record { number = i; payload = get_or (out_messages list script k slot) i [] }
+message_chosen list script slot k (Some i) =
+    record { number = i; payload = get_or (out_messages list script k slot) i [] }

@@ -39,7 +39,8 @@ limit_of list k diary = if retried_of diary then length list.slots + k else 2 * 
 
 -- how many of the last slots, one after the other, were slots in which the node listened and both channels were silent
 abbrev pub silent_slots_of : Diary → Surroundings → ℕ
-silent_slots_of (entry.Waited ∷ diary) (s ∷ surroundings) = elim s.is_silent [ true ↦ 1 + silent_slots_of diary surroundings | false ↦ 0 ]
+silent_slots_of (entry.Waited ∷ diary) (s ∷ surroundings) =
+    elim s.is_silent [ true ↦ 1 + silent_slots_of diary surroundings | false ↦ 0 ]
 silent_slots_of _ _ = 0
 
 -- The record.

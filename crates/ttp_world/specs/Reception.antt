@@ -1,5 +1,6 @@
 -- What an active node makes of another node's slot: the view of each channel, and the verdict.
-use Rattle.std.specs.Prelude.{ℕ, nat_le, ℤ, pos, neg_ℤ, Bool, true, false, ◌&&◌, List, [], int_le, Option, Some, None, unwrap_or, option_map, if◌then◌else◌}
+use Rattle.std.specs.Prelude.{ℕ, nat_le, ℤ, pos, neg_ℤ, Bool, true, false, ◌&&◌, List, [], int_le, Option, Some, None}
+use Rattle.std.specs.Prelude.{unwrap_or, option_map, if◌then◌else◌}
 use Rattle.ttp_base.specs.NodeSet.{with_node, without_node}
 use Rattle.ttp_world.specs.declared.medl.Medl.{Medl}
 use Rattle.ttp_world.specs.declared.node.Ack.{Ack}
@@ -24,7 +25,8 @@ pub record Candidates : Type 0 where
 
 abbrev pub candidate_sets : Ack → ℕ → List ℕ → Candidates
 candidate_sets ack.Closed own members = record { first = members; second = None }
-candidate_sets ack.First own members = record { first = with_node members own; second = Some (without_node members own) }
+candidate_sets ack.First own members =
+    record { first = with_node members own; second = Some (without_node members own) }
 candidate_sets (ack.Doubt x) own members =
     record { first = without_node (with_node members own) x; second = Some (with_node (without_node members own) x) }
 
@@ -70,7 +72,8 @@ fits_members list expected bytes members =
     (cstate_at expected.place members)
 
 abbrev pub fits_second : Medl → Expected → List ℕ → Bool
-fits_second list expected bytes = unwrap_or (option_map (fits_members list expected bytes) expected.candidates.second) false
+fits_second list expected bytes =
+    unwrap_or (option_map (fits_members list expected bytes) expected.candidates.second) false
 
 abbrev pub view_of_frame : Medl → Expected → List ℕ → ChannelView
 view_of_frame list expected bytes =
@@ -81,7 +84,8 @@ view_of_frame list expected bytes =
 
 abbrev pub view_of_bits : Medl → Expected → List ℕ → ℤ → ChannelView
 view_of_bits list expected bytes deviation =
-    if is_within_window list deviation && is_expected_form list expected bytes then view_of_frame list expected bytes else view.Bad
+    if is_within_window list deviation
+    && is_expected_form list expected bytes then view_of_frame list expected bytes else view.Bad
 
 -- the view of what is heard on a channel, where a frame of each node comes so late
 abbrev pub view_of : Medl → Expected → (ℕ → ℤ) → Signal → ChannelView
@@ -140,7 +144,8 @@ entry_deviation from_a (Some a) (Some b) = if from_a then a else b
 abbrev pub payload_heard : Medl → Place → Signal → List ℕ
 payload_heard list place Silence = []
 payload_heard list place Noise = []
-payload_heard list place (Bits sender bytes) = payload_in (member_width list) (expected_header list place) (expected_length list place) bytes
+payload_heard list place (Bits sender bytes) =
+    payload_in (member_width list) (expected_header list place) (expected_length list place) bytes
 
 abbrev pub is_first_view : ChannelView → Bool
 is_first_view view.First = true

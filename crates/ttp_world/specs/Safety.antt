@@ -40,11 +40,13 @@ has_left history k = is_left_phase (phase_of (diary_of history k))
 
 -- no correct node holds node j for a member
 abbrev pub is_out : Medl → Script → History → ℕ → Bool
-is_out list script history j = list_all (λ k. not (has_node (members_of_node list history k) j)) (correct_nodes list script history)
+is_out list script history j =
+    list_all (λ k. not (has_node (members_of_node list history k) j)) (correct_nodes list script history)
 
 -- the correct nodes that have started or sent
 abbrev pub correct_senders : Medl → Script → History → List ℕ
-correct_senders list script history = filter (λ k. has_ever_sent (diary_of history k)) (correct_nodes list script history)
+correct_senders list script history =
+    filter (λ k. has_ever_sent (diary_of history k)) (correct_nodes list script history)
 
 -- a node that became faulty two rounds ago has left and is no member
 abbrev pub is_gone : Medl → Script → History → FaultyNode → Bool
@@ -65,7 +67,8 @@ abbrev pub none_has_left : Medl → Script → History → Bool
 none_has_left list script history = list_all (λ k. not (has_left history k)) (correct_nodes list script history)
 
 abbrev pub faulty_are_gone : Medl → Script → History → Bool
-faulty_are_gone list script history = list_all (is_gone list script history) (faulty_nodes_after list script (newest_slot history))
+faulty_are_gone list script history =
+    list_all (is_gone list script history) (faulty_nodes_after list script (newest_slot history))
 
 -- what holds after the newest slot of a history
 pub record IsSafe (list : Medl) (script : Script) (history : History) : Type 0 where

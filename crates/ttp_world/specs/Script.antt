@@ -1,7 +1,8 @@
 -- What a script says of a slot, and when it is valid for a list.
 --
 -- A script is asked by its events: which of them speak of a node in a slot, and what they add up to.
-use Rattle.std.specs.Prelude.{◌≡◌, ◌≢◌, ℕ, ◌<◌, ◌≤◌, nat_le, ℤ, pos, is_some, if◌then◌else◌, Bool, true, false, ◌==◌, List, length, get_or, count_by, slice_get, All, Option, Some, None, unwrap_or, IfSome}
+use Rattle.std.specs.Prelude.{◌≡◌, ◌≢◌, ℕ, ◌<◌, ◌≤◌, nat_le, ℤ, pos, is_some, if◌then◌else◌, Bool, true, false, ◌==◌}
+use Rattle.std.specs.Prelude.{List, length, get_or, count_by, slice_get, All, Option, Some, None, unwrap_or, IfSome}
 use Rattle.std.specs.List.{list_any, filter_map}
 use Rattle.ttp_world.specs.declared.events.Incidents.{Incidents}
 use Rattle.ttp_world.specs.declared.medl.Medl.{Medl}
@@ -12,8 +13,11 @@ use Rattle.ttp_world.specs.declared.script.Fault.{Fault}
 use Rattle.ttp_world.specs.declared.script.Script.{Script}
 use Rattle.ttp_world.specs.declared.script.Source.{Source}
 use Rattle.ttp_world.specs.declared.script.Source.TheVariants as source
-use Rattle.ttp_world.specs.declared.script.TheConstants.{SLOT_LIMIT, EVENT_LIMIT, HOST_EVENT_LIMIT, DRIFT_LIMIT, ERROR_LIMIT, JUMP_LIMIT, FIRST_FLIPPED_BIT, LAST_FLIPPED_BIT}
-pub use Rattle.ttp_world.specs.Events.{arms, covers, is_among, is_same_fault, is_send_fault, is_receive_fault, flipped_bit, bit_on, bits_on, sum_ℤ, error_in, jump_in, incidents_in, IsWithinSpan, IsBounded, AreBounded}
+use Rattle.ttp_world.specs.declared.script.TheConstants.{SLOT_LIMIT, EVENT_LIMIT, HOST_EVENT_LIMIT, DRIFT_LIMIT}
+use Rattle.ttp_world.specs.declared.script.TheConstants.{ERROR_LIMIT, JUMP_LIMIT, FIRST_FLIPPED_BIT, LAST_FLIPPED_BIT}
+pub use Rattle.ttp_world.specs.Events.{arms, covers, is_among, is_same_fault, is_send_fault, is_receive_fault}
+pub use Rattle.ttp_world.specs.Events.{flipped_bit, bit_on, bits_on, sum_ℤ, error_in, jump_in, incidents_in}
+pub use Rattle.ttp_world.specs.Events.{IsWithinSpan, IsBounded, AreBounded}
 use Rattle.ttp_world.specs.Medl.{plan_at}
 
 -- When nodes are switched on.
@@ -84,7 +88,8 @@ pub record HostRead : Type 0 where
   pub source : Source
 
 abbrev pub write_in : ℕ → Event → Option HostWrite
-write_in slot (event.Write node at payload) = if at == slot then Some (record { host = node; payload = payload }) else None
+write_in slot (event.Write node at payload) =
+    if at == slot then Some (record { host = node; payload = payload }) else None
 write_in slot _ = None
 
 abbrev pub read_in : ℕ → Event → Option HostRead
@@ -119,13 +124,18 @@ IsSource list host (source.Node k) = (k < length list.slots) × (1 ≤ (plan_at 
 abbrev pub IsValidEvent : Medl → Script → Event → Type 0
 IsValidEvent list script (event.Send node channels f from to) = (node < length list.slots) × IsSpan script from to
 IsValidEvent list script (event.Receive node channels f from to) = (node < length list.slots) × IsSpan script from to
-IsValidEvent list script (event.Flip node channels bit slot) = (node < length list.slots) × (FIRST_FLIPPED_BIT ≤ bit) × (bit ≤ LAST_FLIPPED_BIT) × (slot < script.slots)
-IsValidEvent list script (event.Error node value from to) = (node < length list.slots) × IsWithinSpan ERROR_LIMIT value × IsSpan script from to
-IsValidEvent list script (event.Jump node value slot) = (node < length list.slots) × IsWithinSpan JUMP_LIMIT value × (slot < script.slots)
+IsValidEvent list script (event.Flip node channels bit slot) =
+    (node < length list.slots) × (FIRST_FLIPPED_BIT ≤ bit) × (bit ≤ LAST_FLIPPED_BIT) × (slot < script.slots)
+IsValidEvent list script (event.Error node value from to) =
+    (node < length list.slots) × IsWithinSpan ERROR_LIMIT value × IsSpan script from to
+IsValidEvent list script (event.Jump node value slot) =
+    (node < length list.slots) × IsWithinSpan JUMP_LIMIT value × (slot < script.slots)
 IsValidEvent list script (event.Arm node slot) = (node < length list.slots) × (slot < script.slots)
 IsValidEvent list script (event.Write node slot payload) =
-    (node < length list.slots) × (slot < script.slots) × (1 ≤ (plan_at list node).payload) × (length payload ≡ (plan_at list node).payload)
-IsValidEvent list script (event.Read node slot from) = (node < length list.slots) × (slot < script.slots) × IsSource list node from
+    (node < length list.slots) × (slot < script.slots) × (1 ≤ (plan_at list node).payload)
+    × (length payload ≡ (plan_at list node).payload)
+IsValidEvent list script (event.Read node slot from) =
+    (node < length list.slots) × (slot < script.slots) × IsSource list node from
 
 abbrev pub is_host_event : Event → Bool
 is_host_event (event.Write node slot payload) = true

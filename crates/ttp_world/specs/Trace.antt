@@ -1,5 +1,6 @@
 -- The text of a trace.
-use Rattle.std.specs.Prelude.{ℕ, ◌+◌, ◌*◌, ◌==◌, List, [], ◌∷◌, ◌++◌, length, get_or, count_by, flat_map, Option, Some, None, option_map, codes, decimal}
+use Rattle.std.specs.Prelude.{ℕ, ◌+◌, ◌*◌, ◌==◌, List, [], ◌∷◌, ◌++◌, length, get_or, count_by, flat_map, Option, Some}
+use Rattle.std.specs.Prelude.{None, option_map, codes, decimal}
 use Rattle.std.specs.Fmt.{signed_decimal}
 -- a row of a crate above computes a text where it unfolds `ttp_world::specs::Trace::digits`
 pub use Rattle.std.specs.Fmt.{digits}
@@ -151,11 +152,14 @@ message_hex (source.Node p) message = hex_bytes message
 
 abbrev pub read_line : Medl → Script → ℕ → History → ReadMessage → List ℕ
 read_line list script slot after r =
-    host_head slot r.read.host ++ codes " read " ++ source_word r.read.source ++ codes " " ++ decimal r.number ++ codes " "
-    ++ message_hex r.read.source (get_or (ring_messages list script after r.read.host r.read.source) r.number []) ++ newline
+    host_head slot r.read.host ++ codes " read " ++ source_word r.read.source ++ codes " " ++ decimal r.number
+    ++ codes " "
+    ++ message_hex r.read.source (get_or (ring_messages list script after r.read.host r.read.source) r.number [])
+    ++ newline
 
 abbrev pub read_lines : Medl → Script → ℕ → History → List ℕ → List ℕ
-read_lines list script slot after numbers = flat_map (read_line list script slot after) (read_messages (reads_in script slot) numbers)
+read_lines list script slot after numbers =
+    flat_map (read_line list script slot after) (read_messages (reads_in script slot) numbers)
 
 -- A slot: the nodes, what hosts wrote, and what they read.
 

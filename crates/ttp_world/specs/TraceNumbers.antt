@@ -1,5 +1,6 @@
 -- The message numbers that the text of a trace names: those of its `send` lines and of its `read` lines, slot by slot.
-use Rattle.std.specs.Prelude.{ℕ, zero, suc, ◌+◌, ◌-◌, ◌*◌, Bool, ◌&&◌, not, ◌==◌, List, [], ◌∷◌, map, length, get_or, find, fold, Option, Some, None, option_and_then, codes, decimal, nat_le, if◌then◌else◌}
+use Rattle.std.specs.Prelude.{ℕ, zero, suc, ◌+◌, ◌-◌, ◌*◌, Bool, ◌&&◌, not, ◌==◌, List, [], ◌∷◌, map, length, get_or}
+use Rattle.std.specs.Prelude.{find, fold, Option, Some, None, option_and_then, codes, decimal, nat_le, if◌then◌else◌}
 use Rattle.std.specs.List.{filter_map, list_all, slice_split}
 use Rattle.std.specs.Str.{bytes_eq}
 use Rattle.ttp_base.specs.NodeSet.{below}
@@ -30,11 +31,13 @@ is_sending_line slot k words =
     && (bytes_eq (word_in words 3) (decimal k) && bytes_eq (word_in words 4) (codes "send")))
 
 abbrev pub number_sent : List (List (List ℕ)) → ℕ → ℕ → Option ℕ
-number_sent lines slot k = option_and_then (λ words. number_named (word_in words 8)) (find (is_sending_line slot k) lines)
+number_sent lines slot k =
+    option_and_then (λ words. number_named (word_in words 8)) (find (is_sending_line slot k) lines)
 
 abbrev pub number_read : ℕ → List (List ℕ) → Option ℕ
 number_read slot words =
-    if bytes_eq (word_in words 1) (decimal slot) && (bytes_eq (word_in words 2) (codes "host") && bytes_eq (word_in words 4) (codes "read"))
+    if bytes_eq (word_in words 1) (decimal slot)
+    && (bytes_eq (word_in words 2) (codes "host") && bytes_eq (word_in words 4) (codes "read"))
     then number_named (word_in words 6) else None
 
 abbrev pub slot_numbers : Medl → List (List (List ℕ)) → ℕ → SlotNumbers

@@ -92,7 +92,8 @@ abbrev pub ready_row : Medl → Script → ℕ → List ReadyNode → List Entry
 ready_row list script slot nodes = row_in list script slot nodes (frames_in list nodes)
 
 abbrev pub step : Medl → Script → History → List Chosen → History
-step list script history chosen = ready_row list script (length history) (ready_nodes list script history chosen) ∷ history
+step list script history chosen =
+    ready_row list script (length history) (ready_nodes list script history chosen) ∷ history
 
 -- The run.
 
@@ -107,7 +108,8 @@ abbrev pub Numbers : Type 0
 Numbers = List SlotNumbers
 
 abbrev pub messages_chosen : Medl → Script → ℕ → List (Option ℕ) → List Chosen
-messages_chosen list script slot sent = map (λ k. message_chosen list script slot k (get_or sent k None)) (below (length list.slots))
+messages_chosen list script slot sent =
+    map (λ k. message_chosen list script slot k (get_or sent k None)) (below (length list.slots))
 
 -- the world after as many slots as there are numbers
 abbrev pub world : Medl → Script → Numbers → History

@@ -2,7 +2,8 @@
 ghost use Rattle.std.specs.Prelude.{◌≡◌, ◌≤◌, ◌<◌, [], length, All, IfOk};
 ghost use Rattle.std.specs.Prelude.{nat_lt, nat_le, slice_range};
 ghost use Rattle.std.specs.List.Sorted.{IsNonDecreasingBy};
-ghost use Rattle.ttp_world.specs.Index.{key_of, no_incidents, incidents_before, step_is_by, SplitsAt, AreFew, IsIndexOf};
+ghost use Rattle.ttp_world.specs.Index.{key_of, no_incidents, incidents_before, step_is_by, SplitsAt, AreFew};
+ghost use Rattle.ttp_world.specs.Index.{IsIndexOf};
 
 use crate::events::{FlippedBit, Incidents};
 use crate::flips::{SortedFlips, sorted_flips};

@@ -1,7 +1,10 @@
 //! What events weigh: how many of each kind there are, and what their numbers add up to.
 ghost use Rattle.std.specs.Prelude.{◌≡◌, ◌+ℤ◌, neg_ℤ, ◌||◌};
 ghost use Rattle.ttp_world.specs.Events.{IsWithinSpan};
-ghost use Rattle.ttp_world.specs.Weights.{summable_limit, is_positive, one_if, chosen_counts, added_counts, negated_counts, added_sums, negated_sums, counted, no_weights, added, negated, weights_of, incidents_from, AreSummableCounts, AreSummableSums, AreSummable};
+ghost use Rattle.ttp_world.specs.Weights.{summable_limit, is_positive, one_if, chosen_counts, added_counts};
+ghost use Rattle.ttp_world.specs.Weights.{negated_counts, added_sums, negated_sums, counted, no_weights, added};
+ghost use Rattle.ttp_world.specs.Weights.{negated, weights_of, incidents_from, AreSummableCounts, AreSummableSums};
+ghost use Rattle.ttp_world.specs.Weights.{AreSummable};
 
 use crate::events::Incidents;
 use crate::script::{Channels, Event, Fault};

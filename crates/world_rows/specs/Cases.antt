@@ -1,5 +1,6 @@
 -- The lists and scripts of the rows, and what the rows look at in a run.
-use Rattle.std.specs.Prelude.{ℕ, suc, ◌-◌, nat_lt, ℤ, pos, Bool, true, false, ◌&&◌, ◌||◌, ◌==◌, List, [], ◌∷◌, ◌++◌, map, replicate, length, drop, get_or, flat_map, Option, Some, None}
+use Rattle.std.specs.Prelude.{ℕ, suc, ◌-◌, nat_lt, ℤ, pos, Bool, true, false, ◌&&◌, ◌||◌, ◌==◌, List, [], ◌∷◌, ◌++◌}
+use Rattle.std.specs.Prelude.{map, replicate, length, drop, get_or, flat_map, Option, Some, None}
 use Rattle.std.specs.List.{list_all, slice_split}
 use Rattle.std.specs.Str.{bytes_eq}
 use Rattle.ttp_base.specs.NodeSet.{below, has_node}
@@ -20,7 +21,8 @@ use Rattle.ttp_world.specs.World.{SlotNumbers, Numbers, node_past, world}
 -- Lists: n slots of bare frames in one round, of which these may start.
 
 abbrev pub bare_slot : List ℕ → ℕ → SlotPlan
-bare_slot starters k = record { kinds = kind.I ∷ []; payload = 0; sync = true; start = has_node starters k; requests = false; live = 1 }
+bare_slot starters k =
+    record { kinds = kind.I ∷ []; payload = 0; sync = true; start = has_node starters k; requests = false; live = 1 }
 
 -- drift, error, window
 abbrev pub list_with : ℤ → ℤ → ℤ → List SlotPlan → Medl
@@ -132,7 +134,8 @@ hold_now list history nodes members = list_all (λ k. bytes_eq (members_of list 
 abbrev pub hold_from : ℕ → Medl → History → List ℕ → List ℕ → Bool
 hold_from slot list [] nodes members = true
 hold_from slot list (row ∷ history) nodes members =
-    (nat_lt (length history) slot || hold_now list (row ∷ history) nodes members) && hold_from slot list history nodes members
+    (nat_lt (length history) slot || hold_now list (row ∷ history) nodes members)
+    && hold_from slot list history nodes members
 
 -- from a slot on every slot is safe
 abbrev pub is_safe_now : Medl → Script → History → Bool
@@ -153,7 +156,8 @@ sending_slot i read = record { sent = None ∷ None ∷ Some i ∷ None ∷ None
 
 -- node 2 sends in slots 12 and 17, and one read is made in slot 17
 abbrev pub loaded_numbers : ℕ → ℕ → Numbers
-loaded_numbers i j = sending_slot i (j ∷ []) ∷ replicate 4 (no_numbers 5) ++ sending_slot 0 [] ∷ replicate 12 (no_numbers 5)
+loaded_numbers i j =
+    sending_slot i (j ∷ []) ∷ replicate 4 (no_numbers 5) ++ sending_slot 0 [] ∷ replicate 12 (no_numbers 5)
 
 -- twelve slots of five nodes, with one read in the last
 abbrev pub reading_numbers : ℕ → Numbers

@@ -15,7 +15,8 @@ far_jump = script_of 6 48 (event.Jump 3 (pos 4) 26 ∷ [])
 
 -- it jumps, and so does that of node 1, and nobody receives the frame of node 2
 abbrev pub jumps_and_a_loss : Script
-jumps_and_a_loss = script_of 6 27 (event.Jump 3 (pos 4) 26 ∷ event.Jump 1 (pos 4) 26 ∷ event.Send 2 both fault.Noise 26 26 ∷ [])
+jumps_and_a_loss =
+    script_of 6 27 (event.Jump 3 (pos 4) 26 ∷ event.Jump 1 (pos 4) 26 ∷ event.Send 2 both fault.Noise 26 26 ∷ [])
 
 -- node 3 of six is never on, or is switched on in slot 8
 abbrev pub without_node_3 : List (Option ℕ)
@@ -34,4 +35,5 @@ late_nodes_keep slots on events = keeps (bare_list 6) (script_on slots on events
 
 -- the same where the window is five microticks, and node 3 jumps so far in slot 26
 abbrev pub wide_window_keeps : ℤ → Keep
-wide_window_keeps value = keeps (list_with (pos 0) (pos 0) (pos 5) (map (bare_slot (0 ∷ [])) (below 6))) (script_of 6 27 (event.Jump 3 value 26 ∷ []))
+wide_window_keeps value =
+    keeps (list_with (pos 0) (pos 0) (pos 5) (map (bare_slot (0 ∷ [])) (below 6))) (script_of 6 27 (event.Jump 3 value 26 ∷ []))

@@ -23,7 +23,8 @@ pub record Held : Type 0 where
   pub ack : Ack
 
 abbrev pub holding : Phase → List ℕ → ℕ → ℕ → Ack → Held
-holding phase members accepted rejected ack = record { phase = phase; members = members; accepted = accepted; rejected = rejected; ack = ack }
+holding phase members accepted rejected ack =
+    record { phase = phase; members = members; accepted = accepted; rejected = rejected; ack = ack }
 
 abbrev pub held_after : Diary → Held
 held_after diary = record {
@@ -36,7 +37,8 @@ held_after diary = record {
 
 -- after these members of its join its own frame, and node 2's, which it judged so
 abbrev pub sent_and_judged : Verdict → List ℕ → Diary
-sent_and_judged v members = entry.Judged 2 v (pos 0) ∷ entry.Sent None ∷ entry.Joined 0 (cstate 12 0 0 members) (pos 0) ∷ []
+sent_and_judged v members =
+    entry.Judged 2 v (pos 0) ∷ entry.Sent None ∷ entry.Joined 0 (cstate 12 0 0 members) (pos 0) ∷ []
 
 -- its acknowledgement is closed, First, or a doubt about node 2
 abbrev pub closed : List ℕ → Diary

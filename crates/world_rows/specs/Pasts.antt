@@ -122,7 +122,8 @@ judged_late sender deviation = entry.Judged sender verdict.Correct deviation
 abbrev pub active_diary : Diary
 active_diary =
     entry.Judged 4 verdict.Invalid (pos 0) ∷ judged_late 3 (pos 2) ∷ judged_late 2 (negsuc 0) ∷ entry.Sent None
-    ∷ judged_late 0 (pos 3) ∷ judged_late 5 (pos 1) ∷ entry.Joined 4 (cstate 10 0 4 (0 ∷ 2 ∷ 3 ∷ 4 ∷ 5 ∷ [])) (pos 5) ∷ []
+    ∷ judged_late 0 (pos 3) ∷ judged_late 5 (pos 1) ∷ entry.Joined 4 (cstate 10 0 4 (0 ∷ 2 ∷ 3 ∷ 4 ∷ 5 ∷ [])) (pos 5)
+    ∷ []
 
 abbrev pub surroundings_of_active : Surroundings
 surroundings_of_active = map (λ e. busy) active_diary
@@ -181,7 +182,8 @@ next_round_past = record {
 
 abbrev pub left_diary : Diary
 left_diary =
-    entry.Gone ∷ entry.Left reason.Clique 1 ∷ entry.Judged 0 verdict.Incorrect (pos 0) ∷ entry.Judged 5 verdict.Incorrect (pos 0) ∷ active_diary
+    entry.Gone ∷ entry.Left reason.Clique 1 ∷ entry.Judged 0 verdict.Incorrect (pos 0)
+    ∷ entry.Judged 5 verdict.Incorrect (pos 0) ∷ active_diary
 
 abbrev pub surroundings_of_left : Surroundings
 surroundings_of_left = map (λ e. busy) left_diary

@@ -32,7 +32,8 @@ armed_too_early = script_of 5 26 (event.Send 2 both fault.Noise 22 22 ∷ event.
 
 -- and is armed twice in slot 26 and once in slot 27
 abbrev pub armed_twice : Script
-armed_twice = script_of 5 28 (event.Send 2 both fault.Noise 22 22 ∷ event.Arm 2 26 ∷ event.Arm 2 26 ∷ event.Arm 2 27 ∷ [])
+armed_twice =
+    script_of 5 28 (event.Send 2 both fault.Noise 22 22 ∷ event.Arm 2 26 ∷ event.Arm 2 26 ∷ event.Arm 2 27 ∷ [])
 
 -- the starter is armed as it listens
 abbrev pub armed_listener : Script
@@ -48,7 +49,8 @@ armed_after_a_retry = script_on 40 (Some 1 ∷ replicate 4 (Some 0)) (event.Arm 
 
 -- two of four nodes are on; node 0 is deaf after its second frame, so that both leave, and is armed on the silent bus
 abbrev pub armed_on_a_silent_bus : Script
-armed_on_a_silent_bus = script_on 30 (Some 0 ∷ Some 0 ∷ None ∷ None ∷ []) (event.Receive 0 both fault.Silence 13 16 ∷ event.Arm 0 18 ∷ [])
+armed_on_a_silent_bus =
+    script_on 30 (Some 0 ∷ Some 0 ∷ None ∷ None ∷ []) (event.Receive 0 both fault.Silence 13 16 ∷ event.Arm 0 18 ∷ [])
 
 -- Diaries of node 2 of six, the newest entry first.
 
@@ -60,7 +62,8 @@ joined time slot = entry.Joined slot (cstate time 0 slot (0 ∷ 1 ∷ 3 ∷ 4 �
 
 -- it withdrew a cold start, joined, and sent
 abbrev pub sent_after_a_retry : Diary
-sent_after_a_retry = entry.Sent None ∷ joined 10 4 ∷ entry.Waited ∷ entry.Retried ∷ entry.Started ∷ replicate 14 entry.Waited
+sent_after_a_retry =
+    entry.Sent None ∷ joined 10 4 ∷ entry.Waited ∷ entry.Retried ∷ entry.Started ∷ replicate 14 entry.Waited
 
 -- then it left
 abbrev pub left_after_a_retry : Diary
@@ -69,7 +72,8 @@ left_after_a_retry = entry.Left reason.Denied 4 ∷ sent_after_a_retry
 -- it sent, judged for a round, and left in its next slot; armed for the slot after that, it joined on node 3's frame
 abbrev pub left_in_a_round : Diary
 left_in_a_round =
-    entry.Left reason.Clique 2 ∷ judged 1 ∷ judged 0 ∷ judged 5 ∷ judged 4 ∷ judged 3 ∷ entry.Sent None ∷ judged 1 ∷ judged 0 ∷ joined 5 5 ∷ []
+    entry.Left reason.Clique 2 ∷ judged 1 ∷ judged 0 ∷ judged 5 ∷ judged 4 ∷ judged 3 ∷ entry.Sent None ∷ judged 1
+    ∷ judged 0 ∷ joined 5 5 ∷ []
 
 abbrev pub joined_again : Diary
 joined_again = joined 15 3 ∷ left_in_a_round

@@ -34,7 +34,8 @@ abbrev pub silent_sender : Script
 silent_sender = script_of 5 25 (event.Send 2 both fault.Silence 22 22 ∷ [])
 
 abbrev pub silent_and_noisy_sender : Script
-silent_and_noisy_sender = script_of 5 23 (event.Send 2 both fault.Noise 22 22 ∷ event.Send 2 both fault.Silence 22 22 ∷ [])
+silent_and_noisy_sender =
+    script_of 5 23 (event.Send 2 both fault.Noise 22 22 ∷ event.Send 2 both fault.Silence 22 22 ∷ [])
 
 abbrev pub noisy_sender_of_four : Script
 noisy_sender_of_four = script_of 4 30 (event.Send 0 both fault.Noise 16 16 ∷ [])
@@ -57,7 +58,8 @@ abbrev pub deaf_by_both : Script
 deaf_by_both = script_of 6 48 (event.Send 2 only_a fault.Noise 26 26 ∷ event.Receive 3 only_b fault.Noise 26 26 ∷ [])
 
 abbrev pub silence_over_noise : Script
-silence_over_noise = script_of 5 23 (event.Receive 0 both fault.Noise 22 22 ∷ event.Receive 0 both fault.Silence 22 22 ∷ [])
+silence_over_noise =
+    script_of 5 23 (event.Receive 0 both fault.Noise 22 22 ∷ event.Receive 0 both fault.Silence 22 22 ∷ [])
 
 -- node 0 hears another C-state on channel A and noise on channel B
 abbrev pub other_and_bad : Script
@@ -89,7 +91,8 @@ drifting_with_a_loss = drifting_script 16 (event.Send 2 both fault.Silence 14 14
 -- Hosts.
 
 abbrev pub written_and_read : Script
-written_and_read = script_of 5 20 (event.Write 2 17 (1 ∷ 2 ∷ 3 ∷ 4 ∷ 5 ∷ 6 ∷ 7 ∷ 8 ∷ []) ∷ event.Read 0 17 (source.Node 2) ∷ [])
+written_and_read =
+    script_of 5 20 (event.Write 2 17 (1 ∷ 2 ∷ 3 ∷ 4 ∷ 5 ∷ 6 ∷ 7 ∷ 8 ∷ []) ∷ event.Read 0 17 (source.Node 2) ∷ [])
 
 abbrev pub reading_status : Script
 reading_status = script_of 5 15 (event.Read 1 11 source.Status ∷ [])

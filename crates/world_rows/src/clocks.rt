@@ -19,10 +19,13 @@ pub fn averages()
 /// round node 0 notes how far they are behind and goes back by the average.
 pub fn clocks_that_drift()
     ensures at_the_start { clocks_after (drifting_list (pos 64)) drifting 8 ≡ pos 9 ∷ pos 8 ∷ pos 8 ∷ pos 8 ∷ [] }
-    ensures first_notes { notes_at (drifting_list (pos 64)) drifting 11 0 ≡ negsuc 2 ∷ negsuc 1 ∷ negsuc 0 ∷ pos 0 ∷ [] }
+    ensures first_notes { notes_at (drifting_list (pos 64)) drifting 11 0
+        ≡ negsuc 2 ∷ negsuc 1 ∷ negsuc 0 ∷ pos 0 ∷ [] }
     ensures first_correction { clocks_after (drifting_list (pos 64)) drifting 11 ≡ pos 11 ∷ pos 8 ∷ pos 8 ∷ pos 8 ∷ [] }
-    ensures second_notes { notes_at (drifting_list (pos 64)) drifting 15 0 ≡ negsuc 5 ∷ negsuc 4 ∷ negsuc 3 ∷ pos 0 ∷ [] }
-    ensures second_correction { clocks_after (drifting_list (pos 64)) drifting 15 ≡ pos 11 ∷ pos 8 ∷ pos 8 ∷ pos 8 ∷ [] }
+    ensures second_notes { notes_at (drifting_list (pos 64)) drifting 15 0
+        ≡ negsuc 5 ∷ negsuc 4 ∷ negsuc 3 ∷ pos 0 ∷ [] }
+    ensures second_correction { clocks_after (drifting_list (pos 64)) drifting 15
+        ≡ pos 11 ∷ pos 8 ∷ pos 8 ∷ pos 8 ∷ [] }
     ensures keeps { keeps (drifting_list (pos 64)) drifting ≡ keep.Yes 8 }
     ensures narrow_window { keeps (drifting_list (pos 16)) drifting ≡ keep.No 2 0 }
 {}
@@ -30,5 +33,6 @@ pub fn clocks_that_drift()
 /// A round in which one frame is lost leaves three notes, and no correction.
 pub fn three_notes_in_a_round()
     ensures notes { notes_at (drifting_list (pos 64)) drifting_with_a_loss 15 0 ≡ negsuc 5 ∷ negsuc 3 ∷ pos 0 ∷ [] }
-    ensures no_correction { clocks_after (drifting_list (pos 64)) drifting_with_a_loss 15 ≡ pos 15 ∷ pos 8 ∷ pos 8 ∷ pos 8 ∷ [] }
+    ensures no_correction { clocks_after (drifting_list (pos 64)) drifting_with_a_loss 15
+        ≡ pos 15 ∷ pos 8 ∷ pos 8 ∷ pos 8 ∷ [] }
 {}

@@ -10,7 +10,11 @@ ghost use Rattle.ttp_world.specs.Medium.{Silence, Noise, Bits, channel_signal};
 ghost use Rattle.ttp_world.specs.Reception.{verdict_of};
 ghost use Rattle.world_rows.specs.Cases.{bare_list, bare_run, bare_lines, hold_from, is_safe_from};
 ghost use Rattle.world_rows.specs.Frames.{two_frames};
-ghost use Rattle.world_rows.specs.Scripts.{noisy_sender, silent_sender, silent_and_noisy_sender, noisy_sender_of_four, noisy_channel, deaf_before_its_slot, deaf_in_between, deaf_for_good, deaf_by_both, silence_over_noise, other_and_bad, flipped_inside, flipped_on_a, flipped_past_the_end, at_the_window, outside_the_window, collided_noise, one_silenced};
+ghost use Rattle.world_rows.specs.Scripts.{noisy_sender, silent_sender, silent_and_noisy_sender, noisy_sender_of_four};
+ghost use Rattle.world_rows.specs.Scripts.{noisy_channel, deaf_before_its_slot, deaf_in_between, deaf_for_good};
+ghost use Rattle.world_rows.specs.Scripts.{deaf_by_both, silence_over_noise, other_and_bad, flipped_inside};
+ghost use Rattle.world_rows.specs.Scripts.{flipped_on_a, flipped_past_the_end, at_the_window, outside_the_window};
+ghost use Rattle.world_rows.specs.Scripts.{collided_noise, one_silenced};
 
 /// Node 2 sends noise in slot 22. All others reject it; its first successor's frame puts it in doubt
 /// and its second successor's frame denies it.
@@ -19,7 +23,8 @@ pub fn noisy_sender_leaves()
         ≡ codes "slot 22 node 0 invalid peer 2 msg - mem 001b acc 2 rej 1 ack none clock 0\n"
         ++ codes "slot 23 node 2 tentative peer 3 msg - mem 001f acc 1 rej 0 ack doubt:3 clock 0\n"
         ++ codes "slot 24 node 2 denied peer 4 msg - mem 0000 acc 0 rej 0 ack none clock 0\n" }
-    ensures members { hold_from 24 (bare_list 5) (bare_run (bare_list 5) noisy_sender 40) (0 ∷ 1 ∷ 3 ∷ 4 ∷ []) (0 ∷ 1 ∷ 3 ∷ 4 ∷ []) ≡ true }
+    ensures members { hold_from 24 (bare_list 5) (bare_run (bare_list 5) noisy_sender 40) (0 ∷ 1 ∷ 3 ∷ 4 ∷ [])
+        (0 ∷ 1 ∷ 3 ∷ 4 ∷ []) ≡ true }
     ensures safe { is_safe_from 10 (bare_list 5) noisy_sender (bare_run (bare_list 5) noisy_sender 40) ≡ true }
     ensures keeps { keeps (bare_list 5) noisy_sender ≡ keep.Yes 10 }
 {}
@@ -45,13 +50,15 @@ pub fn silence_holds_over_noise()
 pub fn four_left_with_three()
     ensures line { bare_lines (bare_list 4) noisy_sender_of_four 19 ((18, 0) ∷ [])
         ≡ codes "slot 18 node 0 denied peer 2 msg - mem 0000 acc 0 rej 0 ack none clock 0\n" }
-    ensures members { hold_from 18 (bare_list 4) (bare_run (bare_list 4) noisy_sender_of_four 30) (1 ∷ 2 ∷ 3 ∷ []) (1 ∷ 2 ∷ 3 ∷ []) ≡ true }
+    ensures members { hold_from 18 (bare_list 4) (bare_run (bare_list 4) noisy_sender_of_four 30) (1 ∷ 2 ∷ 3 ∷ [])
+        (1 ∷ 2 ∷ 3 ∷ []) ≡ true }
     ensures keeps { keeps (bare_list 4) noisy_sender_of_four ≡ keep.No 7 16 }
 {}
 
 /// One channel that is always noisy takes nothing from a cluster that has two.
 pub fn one_noisy_channel()
-    ensures members { hold_from 14 (bare_list 5) (bare_run (bare_list 5) noisy_channel 40) (0 ∷ 1 ∷ 2 ∷ 3 ∷ 4 ∷ []) (0 ∷ 1 ∷ 2 ∷ 3 ∷ 4 ∷ []) ≡ true }
+    ensures members { hold_from 14 (bare_list 5) (bare_run (bare_list 5) noisy_channel 40) (0 ∷ 1 ∷ 2 ∷ 3 ∷ 4 ∷ [])
+        (0 ∷ 1 ∷ 2 ∷ 3 ∷ 4 ∷ []) ≡ true }
     ensures keeps { keeps (bare_list 5) noisy_channel ≡ keep.Yes 10 }
 {}
 
@@ -63,7 +70,8 @@ pub fn deaf_receiver_is_doubted()
         ++ codes "slot 27 node 2 tentative peer 3 msg - mem 003f acc 1 rej 0 ack doubt:3 clock 0\n"
         ++ codes "slot 28 node 2 correct peer 4 msg - mem 0037 acc 2 rej 1 ack none clock 0\n"
         ++ codes "slot 33 node 3 unacknowledged peer 3 msg - mem 0000 acc 0 rej 0 ack none clock 0\n" }
-    ensures safe { is_safe_from 12 (bare_list 6) deaf_before_its_slot (bare_run (bare_list 6) deaf_before_its_slot 48) ≡ true }
+    ensures safe { is_safe_from 12 (bare_list 6) deaf_before_its_slot (bare_run (bare_list 6) deaf_before_its_slot 48)
+        ≡ true }
     ensures keeps { keeps (bare_list 6) deaf_before_its_slot ≡ keep.Yes 12 }
 {}
 

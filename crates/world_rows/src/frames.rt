@@ -42,28 +42,38 @@ pub fn implicit_frames_tell_their_members()
 /// Frames on which a node joins, in a list whose four slots send an X frame with two bytes, an I
 /// frame, an N frame with two bytes, and an I frame, and of which slot 0 may start.
 pub fn joinable_frames()
-    ensures explicit { joinable mixed_list (frame (member_bytes false) 2 (cstate 5 0 0 (0 ∷ [])) (1 ∷ 2 ∷ []) 0) ≡ Some (cstate 5 0 0 (0 ∷ [])) }
-    ensures bare { joinable mixed_list (frame (member_bytes false) 1 (cstate 7 0 1 (0 ∷ 1 ∷ [])) [] 0) ≡ Some (cstate 7 0 1 (0 ∷ 1 ∷ [])) }
+    ensures explicit { joinable mixed_list (frame (member_bytes false) 2 (cstate 5 0 0 (0 ∷ [])) (1 ∷ 2 ∷ []) 0)
+        ≡ Some (cstate 5 0 0 (0 ∷ [])) }
+    ensures bare { joinable mixed_list (frame (member_bytes false) 1 (cstate 7 0 1 (0 ∷ 1 ∷ [])) [] 0)
+        ≡ Some (cstate 7 0 1 (0 ∷ 1 ∷ [])) }
     ensures cold_start { joinable mixed_list cold_start ≡ Some (cstate 0 0 0 (0 ∷ [])) }
-    ensures cold_start_of_another_time { joinable mixed_list (frame (member_bytes false) 3 (cstate 9 0 0 (0 ∷ [])) [] 0) ≡ Some (cstate 9 0 0 (0 ∷ [])) }
+    ensures cold_start_of_another_time { joinable mixed_list (frame (member_bytes false) 3 (cstate 9 0 0 (0 ∷ [])) [] 0)
+        ≡ Some (cstate 9 0 0 (0 ∷ [])) }
 {}
 
 /// Explicit frames of that list on which no node joins, each for one reason, and one that is not
 /// explicit.
 pub fn frames_that_cannot_be_joined()
     ensures other_kind { joinable mixed_list (frame (member_bytes false) 1 (cstate 5 0 0 (0 ∷ [])) [] 0) ≡ None }
-    ensures kind_of_an_implicit_slot { joinable mixed_list (frame (member_bytes false) 2 (cstate 6 0 2 (2 ∷ [])) (1 ∷ 2 ∷ []) 0) ≡ None }
+    ensures kind_of_an_implicit_slot { joinable mixed_list
+        (frame (member_bytes false) 2 (cstate 6 0 2 (2 ∷ [])) (1 ∷ 2 ∷ []) 0) ≡ None }
     ensures no_kind { joinable mixed_list (frame (member_bytes false) 4 (cstate 5 0 0 (0 ∷ [])) (1 ∷ 2 ∷ []) 0) ≡ None }
     ensures too_short { joinable mixed_list (frame (member_bytes false) 2 (cstate 5 0 0 (0 ∷ [])) (1 ∷ []) 0) ≡ None }
     ensures too_long { joinable mixed_list (frame (member_bytes false) 1 (cstate 7 0 1 (1 ∷ [])) (1 ∷ []) 0) ≡ None }
-    ensures cold_start_with_payload { joinable mixed_list (frame (member_bytes false) 3 (cstate 0 0 0 (0 ∷ [])) (1 ∷ 2 ∷ []) 0) ≡ None }
-    ensures wrong_word { joinable mixed_list (frame (member_bytes false) 2 (cstate 5 0 0 (0 ∷ [])) (1 ∷ 2 ∷ []) 1) ≡ None }
+    ensures cold_start_with_payload { joinable mixed_list
+        (frame (member_bytes false) 3 (cstate 0 0 0 (0 ∷ [])) (1 ∷ 2 ∷ []) 0) ≡ None }
+    ensures wrong_word { joinable mixed_list (frame (member_bytes false) 2 (cstate 5 0 0 (0 ∷ [])) (1 ∷ 2 ∷ []) 1)
+        ≡ None }
     ensures no_such_round { joinable mixed_list (frame (member_bytes false) 1 (cstate 7 1 1 (1 ∷ [])) [] 0) ≡ None }
     ensures no_such_slot { joinable mixed_list (frame (member_bytes false) 1 (cstate 7 0 4 (4 ∷ [])) [] 0) ≡ None }
-    ensures no_such_member { joinable mixed_list (frame (member_bytes false) 1 (cstate 7 0 1 (1 ∷ 5 ∷ [])) [] 0) ≡ None }
-    ensures owner_is_no_member { joinable mixed_list (frame (member_bytes false) 1 (cstate 7 0 1 (0 ∷ [])) [] 0) ≡ None }
-    ensures slot_may_not_start { joinable mixed_list (frame (member_bytes false) 3 (cstate 0 0 1 (1 ∷ [])) [] 0) ≡ None }
-    ensures implicit { joinable mixed_list (frame (member_bytes false) 0 (cstate 6 0 2 (2 ∷ [])) (1 ∷ 2 ∷ []) 0) ≡ None }
+    ensures no_such_member { joinable mixed_list (frame (member_bytes false) 1 (cstate 7 0 1 (1 ∷ 5 ∷ [])) [] 0)
+        ≡ None }
+    ensures owner_is_no_member { joinable mixed_list (frame (member_bytes false) 1 (cstate 7 0 1 (0 ∷ [])) [] 0)
+        ≡ None }
+    ensures slot_may_not_start { joinable mixed_list (frame (member_bytes false) 3 (cstate 0 0 1 (1 ∷ [])) [] 0)
+        ≡ None }
+    ensures implicit { joinable mixed_list (frame (member_bytes false) 0 (cstate 6 0 2 (2 ∷ [])) (1 ∷ 2 ∷ []) 0)
+        ≡ None }
     ensures nothing { joinable mixed_list [] ≡ None }
 {}
 

@@ -5,8 +5,10 @@ ghost use Rattle.ttp_world.specs.declared.keep.Keep.TheVariants as keep;
 ghost use Rattle.ttp_world.specs.declared.script.Event.TheVariants as event;
 ghost use Rattle.ttp_world.specs.declared.script.Fault.TheVariants as fault;
 ghost use Rattle.ttp_world.specs.Hypothesis.{keeps, faulty_after, faulty_nodes_after, is_correct_after};
-ghost use Rattle.world_rows.specs.Cases.{bare_list, script_of, script_on, bare_run, bare_lines, hold_from, is_safe_from, both};
-ghost use Rattle.world_rows.specs.Jumps.{far_jump, jumps_and_a_loss, without_node_3, late_node_3, six_nodes_keep, late_nodes_keep, wide_window_keeps};
+ghost use Rattle.world_rows.specs.Cases.{bare_list, script_of, script_on, bare_run, bare_lines, hold_from};
+ghost use Rattle.world_rows.specs.Cases.{is_safe_from, both};
+ghost use Rattle.world_rows.specs.Jumps.{far_jump, jumps_and_a_loss, without_node_3, late_node_3, six_nodes_keep};
+ghost use Rattle.world_rows.specs.Jumps.{late_nodes_keep, wide_window_keeps};
 
 /// Node 3's clock jumps by four windows in slot 26. From then on it takes no frame for one, nobody
 /// takes its own, and it leaves in its second next slot; the others go on without it.
@@ -16,7 +18,8 @@ pub fn far_jump_of_a_clock()
         ++ codes "slot 27 node 3 send peer 3 msg - mem 003b acc 1 rej 0 ack first clock 4\n"
         ++ codes "slot 27 node 2 invalid peer 3 msg - mem 0037 acc 1 rej 1 ack first clock 0\n"
         ++ codes "slot 33 node 3 unacknowledged peer 3 msg - mem 0000 acc 0 rej 0 ack none clock 4\n" }
-    ensures members { hold_from 33 (bare_list 6) (bare_run (bare_list 6) far_jump 36) (0 ∷ 1 ∷ 2 ∷ 4 ∷ 5 ∷ []) (0 ∷ 1 ∷ 2 ∷ 4 ∷ 5 ∷ []) ≡ true }
+    ensures members { hold_from 33 (bare_list 6) (bare_run (bare_list 6) far_jump 36) (0 ∷ 1 ∷ 2 ∷ 4 ∷ 5 ∷ [])
+        (0 ∷ 1 ∷ 2 ∷ 4 ∷ 5 ∷ []) ≡ true }
     ensures safe { is_safe_from 26 (bare_list 6) far_jump (bare_run (bare_list 6) far_jump 36) ≡ true }
     ensures keeps { keeps (bare_list 6) far_jump ≡ keep.Yes 12 }
 {}
@@ -25,7 +28,8 @@ pub fn far_jump_of_a_clock()
 pub fn jumps_that_break_a_rule()
     ensures near { six_nodes_keep 48 (event.Jump 3 (pos 3) 26 ∷ []) ≡ keep.No 3 26 }
     ensures second { six_nodes_keep 48 (event.Jump 3 (pos 4) 26 ∷ event.Jump 3 (negsuc 3) 40 ∷ []) ≡ keep.No 3 40 }
-    ensures second_by_nothing { six_nodes_keep 41 (event.Jump 3 (pos 4) 26 ∷ event.Jump 3 (pos 0) 40 ∷ []) ≡ keep.No 3 40 }
+    ensures second_by_nothing { six_nodes_keep 41 (event.Jump 3 (pos 4) 26 ∷ event.Jump 3 (pos 0) 40 ∷ [])
+        ≡ keep.No 3 40 }
     ensures early { six_nodes_keep 48 (event.Jump 3 (pos 4) 20 ∷ []) ≡ keep.No 6 20 }
 {}
 
@@ -33,8 +37,10 @@ pub fn jumps_that_break_a_rule()
 pub fn jumps_that_add_up()
     ensures too_little { six_nodes_keep 27 (event.Jump 3 (pos 2) 26 ∷ event.Jump 3 (pos 1) 26 ∷ []) ≡ keep.No 3 26 }
     ensures enough { six_nodes_keep 27 (event.Jump 3 (pos 2) 26 ∷ event.Jump 3 (pos 2) 26 ∷ []) ≡ keep.Yes 12 }
-    ensures enough_back { six_nodes_keep 27 (event.Jump 3 (negsuc 0) 26 ∷ event.Jump 3 (negsuc 2) 26 ∷ []) ≡ keep.Yes 12 }
-    ensures against_each_other { six_nodes_keep 27 (event.Jump 3 (pos 5) 26 ∷ event.Jump 3 (negsuc 1) 26 ∷ []) ≡ keep.No 3 26 }
+    ensures enough_back { six_nodes_keep 27 (event.Jump 3 (negsuc 0) 26 ∷ event.Jump 3 (negsuc 2) 26 ∷ [])
+        ≡ keep.Yes 12 }
+    ensures against_each_other { six_nodes_keep 27 (event.Jump 3 (pos 5) 26 ∷ event.Jump 3 (negsuc 1) 26 ∷ [])
+        ≡ keep.No 3 26 }
     ensures that_cancel { six_nodes_keep 27 (event.Jump 3 (pos 4) 26 ∷ event.Jump 3 (negsuc 3) 26 ∷ []) ≡ keep.No 3 26 }
 {}
 
@@ -56,11 +62,14 @@ pub fn jumps_of_nodes_that_are_off()
     ensures near { late_nodes_keep 27 without_node_3 (event.Jump 3 (pos 3) 26 ∷ []) ≡ keep.No 3 26 }
     ensures far { late_nodes_keep 27 without_node_3 (event.Jump 3 (pos 4) 26 ∷ []) ≡ keep.Yes 12 }
     ensures early { late_nodes_keep 13 without_node_3 (event.Jump 3 (pos 4) 5 ∷ []) ≡ keep.Yes 12 }
-    ensures second { late_nodes_keep 27 without_node_3 (event.Jump 3 (pos 4) 5 ∷ event.Jump 3 (pos 4) 26 ∷ []) ≡ keep.No 3 26 }
+    ensures second { late_nodes_keep 27 without_node_3 (event.Jump 3 (pos 4) 5 ∷ event.Jump 3 (pos 4) 26 ∷ [])
+        ≡ keep.No 3 26 }
     ensures before_it_is_on { late_nodes_keep 13 late_node_3 (event.Jump 3 (pos 4) 7 ∷ []) ≡ keep.Yes 12 }
     ensures as_it_is_switched_on { late_nodes_keep 13 late_node_3 (event.Jump 3 (pos 4) 8 ∷ []) ≡ keep.No 6 8 }
-    ensures before_it_is_on_and_later { late_nodes_keep 27 late_node_3 (event.Jump 3 (pos 4) 7 ∷ event.Jump 3 (pos 4) 26 ∷ []) ≡ keep.No 3 26 }
-    ensures nobody_faulty { faulty_after (bare_list 6) (script_on 27 without_node_3 (event.Jump 3 (pos 4) 26 ∷ [])) 26 ≡ [] }
+    ensures before_it_is_on_and_later { late_nodes_keep 27 late_node_3
+        (event.Jump 3 (pos 4) 7 ∷ event.Jump 3 (pos 4) 26 ∷ []) ≡ keep.No 3 26 }
+    ensures nobody_faulty { faulty_after (bare_list 6) (script_on 27 without_node_3 (event.Jump 3 (pos 4) 26 ∷ [])) 26
+        ≡ [] }
 {}
 
 /// The start is in slot 12, and the first fault may come in slot 24. A jump before the start is a
@@ -79,11 +88,17 @@ pub fn jumps_beside_other_faults()
     ensures two_at_once { six_nodes_keep 27 (event.Jump 3 (pos 4) 26 ∷ event.Jump 1 (pos 4) 26 ∷ []) ≡ keep.No 6 26 }
     ensures too_close { six_nodes_keep 38 (event.Jump 3 (pos 4) 26 ∷ event.Jump 1 (pos 4) 37 ∷ []) ≡ keep.No 6 37 }
     ensures far_apart { six_nodes_keep 39 (event.Jump 3 (pos 4) 26 ∷ event.Jump 1 (pos 4) 38 ∷ []) ≡ keep.Yes 12 }
-    ensures with_a_loss { six_nodes_keep 27 (event.Jump 3 (pos 4) 26 ∷ event.Send 2 both fault.Noise 26 26 ∷ []) ≡ keep.No 6 26 }
-    ensures of_the_sender { six_nodes_keep 27 (event.Jump 2 (pos 4) 26 ∷ event.Send 2 both fault.Noise 26 26 ∷ []) ≡ keep.Yes 12 }
-    ensures of_the_receiver { six_nodes_keep 27 (event.Jump 3 (pos 4) 26 ∷ event.Receive 3 both fault.Noise 26 26 ∷ []) ≡ keep.Yes 12 }
-    ensures of_one_of_two_receivers { six_nodes_keep 27 (event.Jump 3 (pos 4) 26 ∷ event.Receive 3 both fault.Noise 26 26 ∷ event.Receive 1 both fault.Noise 26 26 ∷ []) ≡ keep.No 6 26 }
-    ensures then_deaf { six_nodes_keep 31 (event.Jump 3 (pos 4) 26 ∷ event.Receive 3 both fault.Noise 30 30 ∷ []) ≡ keep.Yes 12 }
+    ensures with_a_loss { six_nodes_keep 27 (event.Jump 3 (pos 4) 26 ∷ event.Send 2 both fault.Noise 26 26 ∷ [])
+        ≡ keep.No 6 26 }
+    ensures of_the_sender { six_nodes_keep 27 (event.Jump 2 (pos 4) 26 ∷ event.Send 2 both fault.Noise 26 26 ∷ [])
+        ≡ keep.Yes 12 }
+    ensures of_the_receiver { six_nodes_keep 27 (event.Jump 3 (pos 4) 26 ∷ event.Receive 3 both fault.Noise 26 26 ∷ [])
+        ≡ keep.Yes 12 }
+    ensures of_one_of_two_receivers { six_nodes_keep 27
+        (event.Jump 3 (pos 4) 26 ∷ event.Receive 3 both fault.Noise 26 26 ∷ event.Receive 1 both fault.Noise 26 26 ∷ [])
+        ≡ keep.No 6 26 }
+    ensures then_deaf { six_nodes_keep 31 (event.Jump 3 (pos 4) 26 ∷ event.Receive 3 both fault.Noise 30 30 ∷ [])
+        ≡ keep.Yes 12 }
     ensures one_of_four { keeps (bare_list 4) (script_of 4 17 (event.Jump 0 (pos 4) 16 ∷ [])) ≡ keep.No 7 16 }
     ensures one_of_five { keeps (bare_list 5) (script_of 5 21 (event.Jump 0 (pos 4) 20 ∷ [])) ≡ keep.Yes 10 }
 {}

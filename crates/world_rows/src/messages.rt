@@ -4,22 +4,27 @@ ghost use Rattle.ttp_world.specs.Legal.{is_legal, IsLegal};
 ghost use Rattle.ttp_world.specs.Trace.{write_lines, read_lines};
 ghost use Rattle.ttp_world.specs.TraceNumbers.{numbers_in};
 ghost use Rattle.ttp_world.specs.World.{world};
-ghost use Rattle.world_rows.specs.Cases.{bare_list, script_of, loaded_list, loaded_numbers, reading_numbers, sending_slot, no_numbers, lines_in};
+ghost use Rattle.world_rows.specs.Cases.{bare_list, script_of, loaded_list, loaded_numbers, reading_numbers};
+ghost use Rattle.world_rows.specs.Cases.{sending_slot, no_numbers, lines_in};
 ghost use Rattle.world_rows.specs.Scripts.{written_and_read, reading_status};
 
 /// Node 2's host writes its message 1 in the slot in which node 2 sends, so the frame carries message
 /// 0 or 1. It is message 2 of the ring at node 0, after the zeros and the frame of slot 12, and
 /// node 0's host reads it or the message before it.
 pub fn message_written_while_it_is_sent()
-    ensures frame { lines_in loaded_list written_and_read (world loaded_list written_and_read (loaded_numbers 1 2)) ((17, 2) ∷ (17, 0) ∷ [])
+    ensures frame { lines_in loaded_list written_and_read (world loaded_list written_and_read (loaded_numbers 1 2))
+        ((17, 2) ∷ (17, 0) ∷ [])
         ≡ codes "slot 17 node 2 send peer 2 msg 1 mem 001f acc 1 rej 0 ack first clock 0\n"
         ++ codes "slot 17 node 0 correct peer 2 msg 2 mem 001f acc 3 rej 0 ack none clock 0\n" }
     ensures write { write_lines loaded_list written_and_read 17 ≡ codes "slot 17 host 2 write 1\n" }
-    ensures new_read { read_lines loaded_list written_and_read 17 (world loaded_list written_and_read (loaded_numbers 1 2)) (2 ∷ [])
+    ensures new_read { read_lines loaded_list written_and_read 17
+        (world loaded_list written_and_read (loaded_numbers 1 2)) (2 ∷ [])
         ≡ codes "slot 17 host 0 read 2 2 0102030405060708\n" }
-    ensures zeros_sent { read_lines loaded_list written_and_read 17 (world loaded_list written_and_read (loaded_numbers 0 2)) (2 ∷ [])
+    ensures zeros_sent { read_lines loaded_list written_and_read 17
+        (world loaded_list written_and_read (loaded_numbers 0 2)) (2 ∷ [])
         ≡ codes "slot 17 host 0 read 2 2 0000000000000000\n" }
-    ensures old_read { read_lines loaded_list written_and_read 17 (world loaded_list written_and_read (loaded_numbers 1 1)) (1 ∷ [])
+    ensures old_read { read_lines loaded_list written_and_read 17
+        (world loaded_list written_and_read (loaded_numbers 1 1)) (1 ∷ [])
         ≡ codes "slot 17 host 0 read 2 1 0000000000000000\n" }
 {}
 
@@ -38,9 +43,11 @@ pub fn legal_numbers()
 /// A status message's four words, for both of its legal readings: of slot 10, in which node 1 joined,
 /// and of slot 11, in which it sent. Another number is not legal.
 pub fn status_messages()
-    ensures slot_before { read_lines (bare_list 5) reading_status 11 (world (bare_list 5) reading_status (reading_numbers 11)) (11 ∷ [])
+    ensures slot_before { read_lines (bare_list 5) reading_status 11
+        (world (bare_list 5) reading_status (reading_numbers 11)) (11 ∷ [])
         ≡ codes "slot 11 host 1 read status 11 000000000000000a000000000000000100000000000000010000000000000100\n" }
-    ensures slot_itself { read_lines (bare_list 5) reading_status 11 (world (bare_list 5) reading_status (reading_numbers 12)) (12 ∷ [])
+    ensures slot_itself { read_lines (bare_list 5) reading_status 11
+        (world (bare_list 5) reading_status (reading_numbers 12)) (12 ∷ [])
         ≡ codes "slot 11 host 1 read status 12 000000000000000b000000000000002900000001000100030000000000000100\n" }
     ensures legal_before { is_legal (bare_list 5) reading_status (reading_numbers 11) ≡ true }
     ensures legal_itself { is_legal (bare_list 5) reading_status (reading_numbers 12) ≡ true }

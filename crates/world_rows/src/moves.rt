@@ -20,18 +20,29 @@ pub fn before_a_move()
 /// was out, or goes out that was in. In doubt about node 2, a correct frame puts node 2 out and counts
 /// it as rejected, and a denial makes node 1 leave.
 pub fn moves()
-    ensures closed_correct { moved (closed without_3) verdict.Correct ≡ holding phase.Active (0 ∷ 1 ∷ 2 ∷ 3 ∷ 5 ∷ []) 3 0 ack.Closed }
-    ensures first_correct { moved (first without_3) verdict.Correct ≡ holding phase.Active (0 ∷ 1 ∷ 3 ∷ 5 ∷ []) 2 0 ack.Closed }
-    ensures first_tentative { moved (first without_3) verdict.Tentative ≡ holding phase.Active (0 ∷ 1 ∷ 3 ∷ 5 ∷ []) 1 0 (ack.Doubt 3) }
-    ensures doubt_correct { moved (doubt without_3) verdict.Correct ≡ holding phase.Active (0 ∷ 1 ∷ 3 ∷ 5 ∷ []) 2 1 ack.Closed }
+    ensures closed_correct { moved (closed without_3) verdict.Correct
+        ≡ holding phase.Active (0 ∷ 1 ∷ 2 ∷ 3 ∷ 5 ∷ []) 3 0 ack.Closed }
+    ensures first_correct { moved (first without_3) verdict.Correct
+        ≡ holding phase.Active (0 ∷ 1 ∷ 3 ∷ 5 ∷ []) 2 0 ack.Closed }
+    ensures first_tentative { moved (first without_3) verdict.Tentative
+        ≡ holding phase.Active (0 ∷ 1 ∷ 3 ∷ 5 ∷ []) 1 0 (ack.Doubt 3) }
+    ensures doubt_correct { moved (doubt without_3) verdict.Correct
+        ≡ holding phase.Active (0 ∷ 1 ∷ 3 ∷ 5 ∷ []) 2 1 ack.Closed }
     ensures doubt_denied { moved (doubt without_3) verdict.Denied ≡ holding phase.Left [] 0 0 ack.Closed }
-    ensures closed_incorrect { moved (closed with_3) verdict.Incorrect ≡ holding phase.Active (0 ∷ 1 ∷ 2 ∷ 5 ∷ []) 2 1 ack.Closed }
-    ensures first_incorrect { moved (first with_3) verdict.Incorrect ≡ holding phase.Active (0 ∷ 1 ∷ 5 ∷ []) 1 1 ack.First }
-    ensures doubt_incorrect { moved (doubt with_3) verdict.Incorrect ≡ holding phase.Active (0 ∷ 1 ∷ 2 ∷ 5 ∷ []) 1 1 (ack.Doubt 2) }
-    ensures closed_invalid { moved (closed with_3) verdict.Invalid ≡ holding phase.Active (0 ∷ 1 ∷ 2 ∷ 5 ∷ []) 2 1 ack.Closed }
+    ensures closed_incorrect { moved (closed with_3) verdict.Incorrect
+        ≡ holding phase.Active (0 ∷ 1 ∷ 2 ∷ 5 ∷ []) 2 1 ack.Closed }
+    ensures first_incorrect { moved (first with_3) verdict.Incorrect
+        ≡ holding phase.Active (0 ∷ 1 ∷ 5 ∷ []) 1 1 ack.First }
+    ensures doubt_incorrect { moved (doubt with_3) verdict.Incorrect
+        ≡ holding phase.Active (0 ∷ 1 ∷ 2 ∷ 5 ∷ []) 1 1 (ack.Doubt 2) }
+    ensures closed_invalid { moved (closed with_3) verdict.Invalid
+        ≡ holding phase.Active (0 ∷ 1 ∷ 2 ∷ 5 ∷ []) 2 1 ack.Closed }
     ensures first_invalid { moved (first with_3) verdict.Invalid ≡ holding phase.Active (0 ∷ 1 ∷ 5 ∷ []) 1 1 ack.First }
-    ensures doubt_invalid { moved (doubt with_3) verdict.Invalid ≡ holding phase.Active (0 ∷ 1 ∷ 2 ∷ 5 ∷ []) 1 1 (ack.Doubt 2) }
-    ensures closed_null { moved (closed with_3) verdict.Null ≡ holding phase.Active (0 ∷ 1 ∷ 2 ∷ 5 ∷ []) 2 0 ack.Closed }
+    ensures doubt_invalid { moved (doubt with_3) verdict.Invalid
+        ≡ holding phase.Active (0 ∷ 1 ∷ 2 ∷ 5 ∷ []) 1 1 (ack.Doubt 2) }
+    ensures closed_null { moved (closed with_3) verdict.Null
+        ≡ holding phase.Active (0 ∷ 1 ∷ 2 ∷ 5 ∷ []) 2 0 ack.Closed }
     ensures first_null { moved (first with_3) verdict.Null ≡ holding phase.Active (0 ∷ 1 ∷ 5 ∷ []) 1 0 ack.First }
-    ensures doubt_null { moved (doubt with_3) verdict.Null ≡ holding phase.Active (0 ∷ 1 ∷ 2 ∷ 5 ∷ []) 1 0 (ack.Doubt 2) }
+    ensures doubt_null { moved (doubt with_3) verdict.Null
+        ≡ holding phase.Active (0 ∷ 1 ∷ 2 ∷ 5 ∷ []) 1 0 (ack.Doubt 2) }
 {}

@@ -8,7 +8,10 @@ ghost use Rattle.ttp_world.specs.Clock.{notes_of, correction_of};
 ghost use Rattle.ttp_world.specs.Hypothesis.{keeps};
 ghost use Rattle.ttp_world.specs.Past.{past_of, limit_of};
 ghost use Rattle.world_rows.specs.Cases.{bare_list, bare_lines};
-ghost use Rattle.world_rows.specs.Rejoining.{window_of_two, armed_in, armed_too_early, armed_twice, armed_listener, armed_while_off, armed_after_a_retry, armed_on_a_silent_bus, judged, joined, sent_after_a_retry, left_after_a_retry, left_in_a_round, joined_again, act_after};
+ghost use Rattle.world_rows.specs.Rejoining.{window_of_two, armed_in, armed_too_early, armed_twice, armed_listener};
+ghost use Rattle.world_rows.specs.Rejoining.{armed_while_off, armed_after_a_retry, armed_on_a_silent_bus, judged};
+ghost use Rattle.world_rows.specs.Rejoining.{joined, sent_after_a_retry, left_after_a_retry, left_in_a_round};
+ghost use Rattle.world_rows.specs.Rejoining.{joined_again, act_after};
 ghost use Rattle.world_rows.specs.Scripts.{two_starters};
 
 /// Node 2 leaves in slot 28, is armed in slot 40 and joins in that very slot. It sends in its next
@@ -68,7 +71,8 @@ pub fn armed_after_its_retry()
 /// A starter that left in slot 16 is armed in slot 18 on a bus that is silent since slot 17. The slot
 /// of the arm line is its first silent one and slot 25 its eighth, so it starts in slot 26.
 pub fn starter_armed_on_a_silent_bus()
-    ensures lines { bare_lines (bare_list 4) armed_on_a_silent_bus 27 ((16, 0) ∷ (17, 1) ∷ (17, 0) ∷ (18, 0) ∷ (25, 0) ∷ (26, 0) ∷ (26, 1) ∷ [])
+    ensures lines { bare_lines (bare_list 4) armed_on_a_silent_bus 27
+        ((16, 0) ∷ (17, 1) ∷ (17, 0) ∷ (18, 0) ∷ (25, 0) ∷ (26, 0) ∷ (26, 1) ∷ [])
         ≡ codes "slot 16 node 0 unacknowledged peer 0 msg - mem 0000 acc 0 rej 0 ack none clock 0\n"
         ++ codes "slot 17 node 1 unacknowledged peer 1 msg - mem 0000 acc 0 rej 0 ack none clock 0\n"
         ++ codes "slot 17 node 0 gone peer - msg - mem 0000 acc 0 rej 0 ack none clock 0\n"
@@ -98,15 +102,19 @@ pub fn limits_of_a_starter()
     ensures left_since { limit_of (bare_list 6) 2 left_after_a_retry ≡ 14 }
     ensures gone_since { limit_of (bare_list 6) 2 (entry.Gone ∷ entry.Gone ∷ left_after_a_retry) ≡ 14 }
     ensures listens_again { limit_of (bare_list 6) 2 (entry.Waited ∷ entry.Gone ∷ left_after_a_retry) ≡ 14 }
-    ensures retried_again { limit_of (bare_list 6) 2 (entry.Waited ∷ entry.Retried ∷ entry.Started ∷ entry.Waited ∷ entry.Gone ∷ left_after_a_retry) ≡ 8 }
+    ensures retried_again { limit_of (bare_list 6) 2
+        (entry.Waited ∷ entry.Retried ∷ entry.Started ∷ entry.Waited ∷ entry.Gone ∷ left_after_a_retry) ≡ 8 }
 {}
 
 /// A node that joins again has no notes from before it left, though the round is the same: after its
 /// join it has one, and at the end of the round three, too few for a correction.
 pub fn notes_of_a_node_that_rejoins()
-    ensures active { notes_of (bare_list 6) 2 (judged 5 ∷ judged 4 ∷ judged 3 ∷ entry.Sent None ∷ judged 1 ∷ judged 0 ∷ joined 5 5 ∷ []) ≡ pos 1 ∷ pos 1 ∷ pos 1 ∷ pos 0 ∷ pos 1 ∷ pos 1 ∷ [] }
+    ensures active { notes_of (bare_list 6) 2
+        (judged 5 ∷ judged 4 ∷ judged 3 ∷ entry.Sent None ∷ judged 1 ∷ judged 0 ∷ joined 5 5 ∷ [])
+        ≡ pos 1 ∷ pos 1 ∷ pos 1 ∷ pos 0 ∷ pos 1 ∷ pos 1 ∷ [] }
     ensures left { notes_of (bare_list 6) 2 left_in_a_round ≡ [] }
     ensures joined { notes_of (bare_list 6) 2 joined_again ≡ pos 0 ∷ [] }
-    ensures end_of_the_round { notes_of (bare_list 6) 2 (judged 5 ∷ judged 4 ∷ joined_again) ≡ pos 1 ∷ pos 1 ∷ pos 0 ∷ [] }
+    ensures end_of_the_round { notes_of (bare_list 6) 2 (judged 5 ∷ judged 4 ∷ joined_again)
+        ≡ pos 1 ∷ pos 1 ∷ pos 0 ∷ [] }
     ensures no_correction { correction_of (bare_list 6) 2 (judged 5 ∷ judged 4 ∷ joined_again) ≡ pos 0 }
 {}

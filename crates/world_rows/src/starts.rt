@@ -7,23 +7,27 @@ ghost use Rattle.ttp_world.specs.Hypothesis.{keeps};
 ghost use Rattle.ttp_world.specs.Medium.{Noise, heard, senders_in};
 ghost use Rattle.ttp_world.specs.Safety.{IsSafe};
 ghost use Rattle.ttp_world.specs.Trace.{trace_text};
-ghost use Rattle.world_rows.specs.Cases.{bare_list, bare_list_of, script_of, bare_numbers, bare_run, newest_row, entry_at, bare_lines, lines_of_text, hold_from, is_safe_from};
+ghost use Rattle.world_rows.specs.Cases.{bare_list, bare_list_of, script_of, bare_numbers, bare_run, newest_row};
+ghost use Rattle.world_rows.specs.Cases.{entry_at, bare_lines, lines_of_text, hold_from, is_safe_from};
 ghost use Rattle.world_rows.specs.Frames.{cstate};
 ghost use Rattle.world_rows.specs.Scripts.{two_starters, colliding, noisy_start, deaf_on_a, late};
 
 /// Five nodes that are on from slot 0: node 0 starts in slot 10, the others join and send one after
 /// the other. The lines are those of the whole trace with these numbers.
 pub fn fault_free_start()
-    ensures lines { lines_of_text (trace_text (bare_list 5) (script_of 5 15 []) (bare_numbers (bare_list 5) 15)) (52 ∷ 53 ∷ 57 ∷ 58 ∷ 77 ∷ [])
+    ensures lines { lines_of_text (trace_text (bare_list 5) (script_of 5 15 []) (bare_numbers (bare_list 5) 15))
+        (52 ∷ 53 ∷ 57 ∷ 58 ∷ 77 ∷ [])
         ≡ codes "slot 10 node 0 start peer 0 msg - mem 0001 acc 1 rej 0 ack first clock 0\n"
         ++ codes "slot 10 node 1 join peer 0 msg - mem 0001 acc 1 rej 0 ack none clock 0\n"
         ++ codes "slot 11 node 0 correct peer 1 msg - mem 0003 acc 2 rej 0 ack none clock 0\n"
         ++ codes "slot 11 node 1 send peer 1 msg - mem 0003 acc 1 rej 0 ack first clock 0\n"
         ++ codes "keeps yes start 10\n" }
-    ensures joins { entry_at (bare_run (bare_list 5) (script_of 5 15 []) 15) 10 4 ≡ entry.Joined 0 (cstate 0 0 0 (0 ∷ [])) (pos 0) }
+    ensures joins { entry_at (bare_run (bare_list 5) (script_of 5 15 []) 15) 10 4
+        ≡ entry.Joined 0 (cstate 0 0 0 (0 ∷ [])) (pos 0) }
     ensures last_sends { entry_at (bare_run (bare_list 5) (script_of 5 15 []) 15) 14 4 ≡ entry.Sent None }
     ensures safe_at_the_end { IsSafe (bare_list 5) (script_of 5 15 []) (bare_run (bare_list 5) (script_of 5 15 []) 15) }
-    ensures safe { is_safe_from 10 (bare_list 5) (script_of 5 15 []) (bare_run (bare_list 5) (script_of 5 15 []) 15) ≡ true }
+    ensures safe { is_safe_from 10 (bare_list 5) (script_of 5 15 []) (bare_run (bare_list 5) (script_of 5 15 []) 15)
+        ≡ true }
 {}
 
 /// Two starters that reach the same slot: both send, the others hear noise, and both retry a round
@@ -37,7 +41,8 @@ pub fn colliding_starters()
         ≡ entry.Retried ∷ entry.Retried ∷ entry.Waited ∷ entry.Waited ∷ entry.Waited ∷ [] }
     ensures still_waits { entry_at (bare_run two_starters colliding 24) 21 0 ≡ entry.Waited }
     ensures one_starts { entry_at (bare_run two_starters colliding 24) 22 0 ≡ entry.Started }
-    ensures other_joins { entry_at (bare_run two_starters colliding 24) 22 1 ≡ entry.Joined 0 (cstate 0 0 0 (0 ∷ [])) (pos 0) }
+    ensures other_joins { entry_at (bare_run two_starters colliding 24) 22 1
+        ≡ entry.Joined 0 (cstate 0 0 0 (0 ∷ [])) (pos 0) }
     ensures then_sends { entry_at (bare_run two_starters colliding 24) 23 1 ≡ entry.Sent None }
     ensures keeps { keeps two_starters colliding ≡ keep.No 4 0 }
 {}
@@ -49,7 +54,8 @@ pub fn noise_before_a_start()
     ensures noisy_start { entry_at (bare_run two_starters noisy_start 22) 10 0 ≡ entry.Started }
     ensures waits { entry_at (bare_run two_starters noisy_start 22) 11 1 ≡ entry.Waited }
     ensures retries { entry_at (bare_run two_starters noisy_start 22) 15 0 ≡ entry.Retried }
-    ensures starts_again { newest_row (bare_run two_starters noisy_start 22) ≡ entry.Started ∷ replicate 4 (entry.Joined 0 (cstate 0 0 0 (0 ∷ [])) (pos 0)) }
+    ensures starts_again { newest_row (bare_run two_starters noisy_start 22)
+        ≡ entry.Started ∷ replicate 4 (entry.Joined 0 (cstate 0 0 0 (0 ∷ [])) (pos 0)) }
 {}
 
 /// Where the list lets no node start, all listen for good.
@@ -60,7 +66,8 @@ pub fn nobody_may_start()
 /// A node whose channel A is disturbed joins on channel B.
 pub fn join_on_channel_b()
     ensures disturbed { heard deaf_on_a 10 4 channel.A (senders_in (entry.Started ∷ [])) ≡ Noise }
-    ensures joins { entry_at (bare_run (bare_list 5) deaf_on_a 11) 10 4 ≡ entry.Joined 0 (cstate 0 0 0 (0 ∷ [])) (pos 0) }
+    ensures joins { entry_at (bare_run (bare_list 5) deaf_on_a 11) 10 4
+        ≡ entry.Joined 0 (cstate 0 0 0 (0 ∷ [])) (pos 0) }
 {}
 
 /// A fifth node that is switched on in slot 30 joins in that very slot on the frame of node 0, and
@@ -70,6 +77,7 @@ pub fn late_node()
         ≡ codes "slot 29 node 4 off peer - msg - mem 0000 acc 0 rej 0 ack none clock 0\n"
         ++ codes "slot 30 node 4 join peer 0 msg - mem 000f acc 1 rej 0 ack none clock 0\n"
         ++ codes "slot 34 node 4 send peer 4 msg - mem 001f acc 1 rej 0 ack first clock 0\n" }
-    ensures members { hold_from 34 (bare_list 5) (bare_run (bare_list 5) late 40) (0 ∷ 1 ∷ 2 ∷ 3 ∷ 4 ∷ []) (0 ∷ 1 ∷ 2 ∷ 3 ∷ 4 ∷ []) ≡ true }
+    ensures members { hold_from 34 (bare_list 5) (bare_run (bare_list 5) late 40) (0 ∷ 1 ∷ 2 ∷ 3 ∷ 4 ∷ [])
+        (0 ∷ 1 ∷ 2 ∷ 3 ∷ 4 ∷ []) ≡ true }
     ensures keeps { keeps (bare_list 5) late ≡ keep.No 4 0 }
 {}

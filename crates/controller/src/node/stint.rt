@@ -1,5 +1,6 @@
 //! What one more entry makes of an active node's place, members, counts, acknowledgement and notes.
-ghost use Rattle.std.specs.Prelude.{◌≡◌, ℕ, ℤ, Option, ◌<◌, ◌≤◌, ◌++◌, ◌==◌, false, [], take, length, IfSome, if◌then◌else◌};
+ghost use Rattle.std.specs.Prelude.{◌≡◌, ℕ, ℤ, Option, ◌<◌, ◌≤◌, ◌++◌, ◌==◌, false, [], take, length, IfSome};
+ghost use Rattle.std.specs.Prelude.{if◌then◌else◌};
 ghost use Rattle.std.specs.Option.{option_to_list};
 ghost use Rattle.ttp_world.specs.declared.node.Ack.TheVariants as ack;
 ghost use Rattle.ttp_world.specs.Diary.{no_place, joined_place, next_place};
@@ -104,7 +105,8 @@ impl Node {
     // A stint begins with a C-state that it adopts.
     fn join(&mut self, list: &Medl, cstate: &CState)
         requires { IsCStateWithin list.now cstate.now }
-        ensures { (k sender : ℕ) (deviation : ℤ) → self.new ≡ stint_after list.now k self.old (Entry.Joined sender cstate.now deviation) }
+        ensures { (k sender : ℕ) (deviation : ℤ)
+            → self.new ≡ stint_after list.now k self.old (Entry.Joined sender cstate.now deviation) }
     {
         self.cstate = *cstate;
         self.counts = Clique::fresh();

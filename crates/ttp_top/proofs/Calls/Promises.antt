@@ -1,9 +1,11 @@
 -- The promise of a call, from the plan that it followed.
-use Rattle.std.proofs.Common.{◌≡◌, ◌≢◌, ◌⊎◌, ℕ, ◌≤◌, List, [], ◌∷◌, ◌++◌, Option, Some, None, refl, ap, sym, subst, ◌∙◌, inl, inr, append_assoc, append-nil, arith}
+use Rattle.std.proofs.Common.{◌≡◌, ◌≢◌, ◌⊎◌, ℕ, ◌≤◌, List, [], ◌∷◌, ◌++◌, Option, Some, None, refl, ap, sym, subst, ◌∙◌}
+use Rattle.std.proofs.Common.{inl, inr, append_assoc, append-nil, arith}
 use Rattle.ttp_base.specs.Outside.{Held, Load, Files, Gives, HasRisen, NoneRose, NoneFell, HoldsTheSame}
 use Rattle.ttp_base.specs.Outside.{Output, Wrote, CutShort}
 use Rattle.ttp_top.specs.Calls.Outcome.{Showed, Refused, Says, Shows, Asked, Follows}
-use Rattle.ttp_top.specs.Calls.Plan.{Outside, outside, Ending, File, Plan, ends, asks, load_of, unloaded, Comes, AsksFirst, told_ending}
+use Rattle.ttp_top.specs.Calls.Plan.{Outside, outside, Ending, File, Plan, ends, asks, load_of, unloaded, Comes}
+use Rattle.ttp_top.specs.Calls.Plan.{AsksFirst, told_ending}
 use Rattle.ttp_top.specs.Calls.Promise.{Reached, Unloaded, IsDue, EachName, NoneAskedRose, Promise}
 use Rattle.ttp_top.specs.Calls.Forms.{plan_of}
 use Rattle.ttp_top.specs.Calls.Words.{Form}

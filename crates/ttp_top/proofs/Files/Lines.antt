@@ -16,7 +16,8 @@ use Rattle.script_text.specs.declared.error.ScriptError.{ScriptError}
 use Rattle.script_text.specs.declared.error.ScriptError.TheVariants as script_errors
 use Rattle.ttp_top.specs.declared.read.FileFault.{FileFault}
 use Rattle.ttp_top.specs.declared.read.FileFault.TheVariants as wrong
-use Rattle.ttp_top.specs.Files.Lines.{place_text, field_text, unknown_text, list_fault_text, line_fault_text, script_fault_text, fault_text, fault_line}
+use Rattle.ttp_top.specs.Files.Lines.{place_text, field_text, unknown_text, list_fault_text, line_fault_text}
+use Rattle.ttp_top.specs.Files.Lines.{script_fault_text, fault_text, fault_line}
 
 -- two texts without a line are one
 both : (x y : List ℕ) → line_count x ≡ 0 → line_count y ≡ 0 → line_count (x ++ y) ≡ 0

@@ -11,7 +11,8 @@ use Rattle.ttp_top.specs.declared.shown.Shown.TheVariants as shown
 use Rattle.ttp_top.specs.Scripts.Plan.{shown_plan}
 
 abbrev pub usage_line : List ℕ
-usage_line = codes "usage: schedule MEDL | run MEDL SCRIPT | keeps MEDL SCRIPT | verify MEDL SCRIPT TRACE | sample MEDL SLOTS NUMBER\n"
+usage_line =
+    codes "usage: schedule MEDL | run MEDL SCRIPT | keeps MEDL SCRIPT | verify MEDL SCRIPT TRACE | sample MEDL SLOTS NUMBER\n"
 
 abbrev pub usage_ending : Ending
 usage_ending = record { status = 2; text = usage_line }

@@ -3,7 +3,8 @@ use Rattle.std.specs.Prelude.{◌≡◌, ◌≢◌, ◌⊎◌, ◌≤◌, ℕ, L
 use Rattle.ttp_base.specs.Outside.{Load, HasRisen, NoneRose, NoneFell, HoldsTheSame, Wrote, CutShort}
 use Rattle.ttp_top.specs.Calls.Forms.{plan_of}
 use Rattle.ttp_top.specs.Calls.Outcome.{Showed}
-use Rattle.ttp_top.specs.Calls.Plan.{Outside, Ending, File, Plan, ends, asks, load_of, unloaded, Comes, AsksFirst, told_ending}
+use Rattle.ttp_top.specs.Calls.Plan.{Outside, Ending, File, Plan, ends, asks, load_of, unloaded, Comes, AsksFirst}
+use Rattle.ttp_top.specs.Calls.Plan.{told_ending}
 use Rattle.ttp_top.specs.Calls.Words.{Form}
 
 -- an ending is due after these loads: each gave its bytes, and no count rose
@@ -40,10 +41,12 @@ pub record Promise (form : Option Form) (before now : Outside) (answer : ℕ) : 
   pub in_order : AsksFirst before.files.held (plan_of form) loads
   -- With a status up to 4 it ended as its form says, and no count rose.
   pub ended : answer ≤ 4
-      → (ending : Ending) × Reached (plan_of form) before now loads ending × Showed ending before.output now.output answer
+      → (ending : Ending) × Reached (plan_of form) before now loads ending
+      × Showed ending before.output now.output answer
   -- Status 5 comes only where the count of a file's name rose, with the line of that file.
   pub failed : answer ≡ 5
-      → (ending : Ending) × Unloaded (plan_of form) before now loads ending × Showed ending before.output now.output answer
+      → (ending : Ending) × Unloaded (plan_of form) before now loads ending
+      × Showed ending before.output now.output answer
   -- Status 6 comes only where the sink's count rose, and a prefix of what was due is written.
   pub stopped : answer ≡ 6
       → (ending : Ending) × IsDue (plan_of form) before now loads ending × CutShort before.output now.output ending.text

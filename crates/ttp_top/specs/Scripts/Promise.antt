@@ -44,5 +44,6 @@ pub record RunPromise (list script : List ℕ) (before now : Outside) (answer : 
   pub trace : answer ≡ 0 → WroteTrace list script before now
   -- A right list and a right script give that trace and status 0, unless a count rose or memory was refused.
   pub complete : (bytes script_bytes : List ℕ) (medl : Medl) (right : Script) → before.files.held list ≡ holds bytes
-      → before.files.held script ≡ holds script_bytes → AreRight bytes script_bytes medl right → IsQuiet list script before now
+      → before.files.held script ≡ holds script_bytes → AreRight bytes script_bytes medl right
+      → IsQuiet list script before now
       → ((answer ≡ 0) × WroteLines before.output now.output (trace_of medl right)) ⊎ (answer ≡ 7)

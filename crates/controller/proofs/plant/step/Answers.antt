@@ -3,7 +3,8 @@ use Rattle.ttp_world.specs.declared.medl.Medl.{Medl}
 use Rattle.ttp_world.specs.Medl.{IsValid}
 use Rattle.ttp_world.proofs.Lists.{nodes-most}
 use Rattle.controller.specs.Passes.{AreReadingErrors}
-use Rattle.controller.proofs.Course.{Course, IsCourse, begun-may_plan, count_planned, course-slot, course-within, course-may_end, course-seats}
+use Rattle.controller.proofs.Course.{Course, IsCourse, begun-may_plan, count_planned, course-slot, course-within}
+use Rattle.controller.proofs.Course.{course-may_end, course-seats}
 use Rattle.controller.proofs.WholeSlot.{slot-steps}
 use Rattle.controller.proofs.plant.step.Goals as goal
 

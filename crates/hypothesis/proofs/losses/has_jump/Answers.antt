@@ -1,4 +1,5 @@
-use Rattle.std.proofs.Common.{◌≡◌, refl, ℤ, pos, Bool, true, false, not, nat_eq, w64, FitsSigned, to_z, of_z, ap, sym, ◌∙◌, rules}
+use Rattle.std.proofs.Common.{◌≡◌, refl, ℤ, pos, Bool, true, false, not, nat_eq, w64, FitsSigned, to_z, of_z, ap, sym}
+use Rattle.std.proofs.Common.{◌∙◌, rules}
 use Rattle.std.proofs.lemmas.Int.{to_z-of_z}
 use Rattle.std.proofs.lemmas.Bool.{ne_eqb}
 use Rattle.ttp_world.specs.Script.{has_jump, jump_of}

@@ -6,7 +6,8 @@ use Rattle.ttp_base.proofs.NodeLists.{with_node-next, filter-next}
 use Rattle.ttp_base.proofs.NodeSets.{filter-filter}
 use Rattle.ttp_world.specs.Hypothesis.{is_other, loses}
 use Rattle.hypothesis.proofs.losses.hearers_in.Goals as goal
-use Rattle.hypothesis.proofs.losses.hearers_in.Goals.{then-is_other+then-is_lost, then-is_other+else-is_lost, else-is_other}
+use Rattle.hypothesis.proofs.losses.hearers_in.Goals.{then-is_other+then-is_lost, then-is_other+else-is_lost}
+use Rattle.hypothesis.proofs.losses.hearers_in.Goals.{else-is_other}
 
 pub loop-node-preserved : goal.loop-node-preserved
 loop-node-preserved c =

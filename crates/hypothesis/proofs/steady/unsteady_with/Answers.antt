@@ -1,8 +1,10 @@
-use Rattle.std.proofs.Common.{◌≡◌, ℕ, suc, ◌+◌, ◌≤◌, max, Bool, true, false, not, cond, is_some, nat_le, List, length, filter, Some, None, ap, sym, ◌∙◌, rules, arith}
+use Rattle.std.proofs.Common.{◌≡◌, ℕ, suc, ◌+◌, ◌≤◌, max, Bool, true, false, not, cond, is_some, nat_le, List, length}
+use Rattle.std.proofs.Common.{filter, Some, None, ap, sym, ◌∙◌, rules, arith}
 use Rattle.ttp_base.specs.NodeSet.{most_nodes}
 use Rattle.ttp_world.specs.declared.medl.Medl.{Medl}
 use Rattle.ttp_world.specs.declared.script.Script.{Script}
-use Rattle.ttp_world.specs.Hypothesis.{ClusterStart, numbers_of, nodes_of, is_steady, faulty_nodes_before, has_four_steady, lacks_steady_after}
+use Rattle.ttp_world.specs.Hypothesis.{ClusterStart, numbers_of, nodes_of, is_steady, faulty_nodes_before}
+use Rattle.ttp_world.specs.Hypothesis.{has_four_steady, lacks_steady_after}
 use Rattle.ttp_world.specs.Medl.{IsValid}
 use Rattle.ttp_world.proofs.Lists.{nodes-most}
 use Rattle.hypothesis.specs.Standing.{told_start, AreFaultyBefore}
@@ -10,7 +12,8 @@ use Rattle.hypothesis.specs.Walks.{first_unsteady}
 use Rattle.hypothesis.proofs.Firsts.{lack-found, lack-early, lack-next}
 use Rattle.hypothesis.proofs.SlotSteps.{same_steady}
 use Rattle.hypothesis.proofs.steady.unsteady_with.Goals as goal
-use Rattle.hypothesis.proofs.steady.unsteady_with.Goals.{then-is_some-via-then-is_some, then-is_some-via-else-is_some+then-slot-start}
+use Rattle.hypothesis.proofs.steady.unsteady_with.Goals.{then-is_some-via-then-is_some}
+use Rattle.hypothesis.proofs.steady.unsteady_with.Goals.{then-is_some-via-else-is_some+then-slot-start}
 
 unsteady-next : (list : Medl) (script : Script) (start : ClusterStart) (slot : ℕ) (faulty : List ℕ) (fine : Bool) → IsValid list
     → AreFaultyBefore list script start (slot + 1) faulty → fine ≡ nat_le 4 (length (filter (is_steady list script faulty) (nodes_of list)))

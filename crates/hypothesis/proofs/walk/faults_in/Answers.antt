@@ -2,7 +2,8 @@ use Rattle.std.proofs.Common.{◌≡◌, ℕ, ◌+◌, ◌-◌, ◌%◌, ◌<◌
 use Rattle.ttp_base.specs.NodeSet.{most_nodes}
 use Rattle.ttp_world.specs.declared.medl.Medl.{Medl}
 use Rattle.ttp_world.specs.Medl.{IsValid}
-use Rattle.ttp_world.specs.Hypothesis.{ClusterStart, numbers_of, nodes_made, is_breaking, faulty_nodes_before, loss_in, expected_sender}
+use Rattle.ttp_world.specs.Hypothesis.{ClusterStart, numbers_of, nodes_made, is_breaking, faulty_nodes_before, loss_in}
+use Rattle.ttp_world.specs.Hypothesis.{expected_sender}
 use Rattle.ttp_world.proofs.Lists.{nodes-most}
 use Rattle.hypothesis.specs.Standing.{told_start, told_loss, HaveSameNodes}
 use Rattle.hypothesis.proofs.SlotSteps.{fallen-same, same_jumpers, same_loss, faulty-next, count-next, count-fits}

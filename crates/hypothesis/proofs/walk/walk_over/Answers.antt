@@ -5,7 +5,9 @@ use Rattle.hypothesis.specs.Standing.{told_start}
 use Rattle.hypothesis.specs.Walks.{earliest_after, fault_slots_before, two_rounds}
 use Rattle.hypothesis.proofs.FaultSlots.{fault_slots-next, earliest_after-append, first_too_early-append}
 use Rattle.hypothesis.proofs.walk.walk_over.Goals as goal
-use Rattle.hypothesis.proofs.walk.walk_over.Goals.{then-is_within_run-2, else-is_within_run-2, else-is_within_run-via-then-is_within_run+else-faults, else-is_within_run-via-else-is_within_run}
+use Rattle.hypothesis.proofs.walk.walk_over.Goals.{then-is_within_run-2, else-is_within_run-2}
+use Rattle.hypothesis.proofs.walk.walk_over.Goals.{else-is_within_run-via-then-is_within_run+else-faults}
+use Rattle.hypothesis.proofs.walk.walk_over.Goals.{else-is_within_run-via-else-is_within_run}
 
 pub returns : goal.returns
 returns c =

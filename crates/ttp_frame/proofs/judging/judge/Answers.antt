@@ -1,4 +1,5 @@
-use Rattle.ttp_frame.proofs.FrameLaws.{Match-fits, Differs-formed, Invalid-formed, other_members_never_fit, bursts_never_match}
+use Rattle.ttp_frame.proofs.FrameLaws.{Match-fits, Differs-formed, Invalid-formed, other_members_never_fit}
+use Rattle.ttp_frame.proofs.FrameLaws.{bursts_never_match}
 use Rattle.ttp_frame.proofs.judging.judge.Goals as goal
 
 pub returns : goal.returns

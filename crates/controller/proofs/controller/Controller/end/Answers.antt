@@ -2,7 +2,8 @@ use Rattle.std.proofs.Common.{false, w64, FitsSigned, rules, ◌+◌, ◌≤◌,
 use Rattle.std.proofs.lemmas.Int.{to_z-of_z}
 use Rattle.ttp_world.specs.Messages.{status_words}
 use Rattle.controller.specs.Limits.{offset_of_arrival}
-use Rattle.controller.proofs.SlotEnd.{ending-within, ending-near, reading-of, near-fits, near-at, turn-of, planned-of, reading-at, sum-fits}
+use Rattle.controller.proofs.SlotEnd.{ending-within, ending-near, reading-of, near-fits, near-at, turn-of, planned-of}
+use Rattle.controller.proofs.SlotEnd.{reading-at, sum-fits}
 use Rattle.controller.proofs.SlotStands.{Ends-seat}
 use Rattle.controller.proofs.controller.Controller.end.Goals as goal
 
