@@ -1,11 +1,11 @@
--- The text of a trace.
-use Rattle.std.specs.Prelude.{ℕ, ◌+◌, ◌*◌, ◌==◌, List, [], ◌∷◌, ◌++◌, length, get_or, count_by, flat_map, Option, Some}
-use Rattle.std.specs.Prelude.{None, option_map, codes, decimal}
+-- The text of a trace: its lines, each as its bytes with the line feed at its end.
+use Rattle.std.specs.Prelude.{ℕ, ◌+◌, ◌*◌, ◌==◌, List, [], ◌∷◌, ◌++◌, map, length, get_or, count_by, flat_map}
+use Rattle.std.specs.Prelude.{Option, Some, None, option_map, codes, decimal}
 use Rattle.std.specs.Fmt.{signed_decimal}
 -- a row of a crate above computes a text where it unfolds `ttp_world::specs::Trace::digits`
 pub use Rattle.std.specs.Fmt.{digits}
-use Rattle.ttp_base.specs.NodeSet.{set_bits}
-use Rattle.ttp_base.specs.Text.{newline, hex, hex_bytes, texts_below}
+use Rattle.ttp_base.specs.NodeSet.{below, set_bits}
+use Rattle.ttp_base.specs.Text.{newline, hex, hex_bytes}
 use Rattle.ttp_world.specs.declared.keep.Keep.{Keep}
 use Rattle.ttp_world.specs.declared.keep.Keep.TheVariants as keep
 use Rattle.ttp_world.specs.declared.medl.Medl.{Medl}
@@ -129,13 +129,13 @@ abbrev pub write_line : Medl → Script → ℕ → ℕ → ℕ → List ℕ
 write_line list script slot k earlier =
     host_head slot k ++ codes " write " ++ decimal (length (messages_before list script k slot) + earlier) ++ newline
 
-abbrev pub more_write_lines : Medl → Script → ℕ → List HostWrite → List HostWrite → List ℕ
+abbrev pub more_write_lines : Medl → Script → ℕ → List HostWrite → List HostWrite → List (List ℕ)
 more_write_lines list script slot earlier [] = []
 more_write_lines list script slot earlier (w ∷ ws) =
     write_line list script slot w.host (count_by (λ e. e.host == w.host) earlier)
-    ++ more_write_lines list script slot (w ∷ earlier) ws
+    ∷ more_write_lines list script slot (w ∷ earlier) ws
 
-abbrev pub write_lines : Medl → Script → ℕ → List ℕ
+abbrev pub write_lines : Medl → Script → ℕ → List (List ℕ)
 write_lines list script slot = more_write_lines list script slot [] (writes_in script slot)
 
 abbrev pub word_hex : ℕ → List ℕ
@@ -157,23 +157,24 @@ read_line list script slot after r =
     ++ message_hex r.read.source (get_or (ring_messages list script after r.read.host r.read.source) r.number [])
     ++ newline
 
-abbrev pub read_lines : Medl → Script → ℕ → History → List ℕ → List ℕ
+abbrev pub read_lines : Medl → Script → ℕ → History → List ℕ → List (List ℕ)
 read_lines list script slot after numbers =
-    flat_map (read_line list script slot after) (read_messages (reads_in script slot) numbers)
+    map (read_line list script slot after) (read_messages (reads_in script slot) numbers)
 
 -- A slot: the nodes, what hosts wrote, and what they read.
 
-abbrev pub slot_text : Medl → Script → List Entry → History → SlotNumbers → List ℕ
-slot_text list script row before new =
-    texts_below (node_line_of list script row before) (length list.slots)
+abbrev pub slot_lines : Medl → Script → List Entry → History → SlotNumbers → List (List ℕ)
+slot_lines list script row before new =
+    map (node_line_of list script row before) (below (length list.slots))
     ++ write_lines list script (length before)
     ++ read_lines list script (length before) (row ∷ before) new.read
 
-abbrev pub history_text : Medl → Script → History → Numbers → List ℕ
-history_text list script [] numbers = []
-history_text list script (row ∷ history) [] = []
-history_text list script (row ∷ history) (new ∷ numbers) =
-    history_text list script history numbers ++ slot_text list script row history new
+-- the oldest slot first
+abbrev pub history_lines : Medl → Script → History → Numbers → List (List ℕ)
+history_lines list script [] numbers = []
+history_lines list script (row ∷ history) [] = []
+history_lines list script (row ∷ history) (new ∷ numbers) =
+    history_lines list script history numbers ++ slot_lines list script row history new
 
 -- The line of the hypothesis test.
 
@@ -182,8 +183,9 @@ keep_line (keep.Yes start) = codes "keeps yes start " ++ decimal start ++ newlin
 keep_line (keep.No rule slot) = codes "keeps no H" ++ decimal rule ++ codes " " ++ decimal slot ++ newline
 
 -- the trace before its last line, and the whole
-abbrev pub run_text : Medl → Script → Numbers → List ℕ
-run_text list script numbers = trace_head list script ++ history_text list script (world list script numbers) numbers
+abbrev pub run_lines : Medl → Script → Numbers → List (List ℕ)
+run_lines list script numbers =
+    trace_head list script ∷ history_lines list script (world list script numbers) numbers
 
-abbrev pub trace_text : Medl → Script → Numbers → List ℕ
-trace_text list script numbers = run_text list script numbers ++ keep_line (keeps list script)
+abbrev pub trace_lines : Medl → Script → Numbers → List (List ℕ)
+trace_lines list script numbers = run_lines list script numbers ++ keep_line (keeps list script) ∷ []

@@ -1,10 +1,9 @@
 -- The lists and scripts of the rows, and what the rows look at in a run.
 use Rattle.std.specs.Prelude.{ℕ, suc, ◌-◌, nat_lt, ℤ, pos, Bool, true, false, ◌&&◌, ◌||◌, ◌==◌, List, [], ◌∷◌, ◌++◌}
 use Rattle.std.specs.Prelude.{map, replicate, length, drop, get_or, flat_map, Option, Some, None}
-use Rattle.std.specs.List.{list_all, slice_split}
+use Rattle.std.specs.List.{list_all}
 use Rattle.std.specs.Str.{bytes_eq}
 use Rattle.ttp_base.specs.NodeSet.{below, has_node}
-use Rattle.ttp_base.specs.Text.{newline}
 use Rattle.ttp_world.specs.declared.medl.Kind.TheVariants as kind
 use Rattle.ttp_world.specs.declared.medl.SlotPlan.{SlotPlan}
 use Rattle.ttp_world.specs.declared.medl.Medl.{Medl}
@@ -110,22 +109,16 @@ abbrev pub newest_line : Medl → Script → History → ℕ → List ℕ
 newest_line list script [] k = []
 newest_line list script (row ∷ history) k = node_line_of list script row history k
 
--- the lines of nodes after slots, each given as the slot and the node
+-- the lines of nodes after slots, each given as the slot and the node, one after another
 abbrev pub lines_in : Medl → Script → History → List (ℕ × ℕ) → List ℕ
 lines_in list script history places = flat_map (λ p. newest_line list script (after_slot history p.0) p.1) places
 
 abbrev pub bare_lines : Medl → Script → ℕ → List (ℕ × ℕ) → List ℕ
 bare_lines list script slots places = lines_in list script (bare_run list script slots) places
 
--- the lines of a text with these numbers, counted from 1
-abbrev pub line_of : List (List ℕ) → ℕ → List ℕ
-line_of lines number = get_or lines (number - 1) [] ++ newline
-
-abbrev pub picked_lines : List (List ℕ) → List ℕ → List ℕ
-picked_lines lines numbers = flat_map (line_of lines) numbers
-
-abbrev pub lines_of_text : List ℕ → List ℕ → List ℕ
-lines_of_text text numbers = picked_lines (slice_split (λ c. c == 10) text) numbers
+-- the lines with these numbers, counted from 1
+abbrev pub picked_lines : List (List ℕ) → List ℕ → List (List ℕ)
+picked_lines lines numbers = map (λ n. get_or lines (n - 1) []) numbers
 
 -- from a slot on these nodes hold these members
 abbrev pub hold_now : Medl → History → List ℕ → List ℕ → Bool
@@ -141,7 +134,8 @@ hold_from slot list (row ∷ history) nodes members =
 abbrev pub is_safe_now : Medl → Script → History → Bool
 is_safe_now list script history =
     members_agree list script history
-    && (senders_are_members list script history && (none_has_left list script history && faulty_are_gone list script history))
+    && (senders_are_members list script history
+    && (none_has_left list script history && faulty_are_gone list script history))
 
 abbrev pub is_safe_from : ℕ → Medl → Script → History → Bool
 is_safe_from slot list script [] = true

@@ -16,16 +16,16 @@ pub fn message_written_while_it_is_sent()
         ((17, 2) ∷ (17, 0) ∷ [])
         ≡ codes "slot 17 node 2 send peer 2 msg 1 mem 001f acc 1 rej 0 ack first clock 0\n"
         ++ codes "slot 17 node 0 correct peer 2 msg 2 mem 001f acc 3 rej 0 ack none clock 0\n" }
-    ensures write { write_lines loaded_list written_and_read 17 ≡ codes "slot 17 host 2 write 1\n" }
+    ensures write { write_lines loaded_list written_and_read 17 ≡ codes "slot 17 host 2 write 1\n" ∷ [] }
     ensures new_read { read_lines loaded_list written_and_read 17
         (world loaded_list written_and_read (loaded_numbers 1 2)) (2 ∷ [])
-        ≡ codes "slot 17 host 0 read 2 2 0102030405060708\n" }
+        ≡ codes "slot 17 host 0 read 2 2 0102030405060708\n" ∷ [] }
     ensures zeros_sent { read_lines loaded_list written_and_read 17
         (world loaded_list written_and_read (loaded_numbers 0 2)) (2 ∷ [])
-        ≡ codes "slot 17 host 0 read 2 2 0000000000000000\n" }
+        ≡ codes "slot 17 host 0 read 2 2 0000000000000000\n" ∷ [] }
     ensures old_read { read_lines loaded_list written_and_read 17
         (world loaded_list written_and_read (loaded_numbers 1 1)) (1 ∷ [])
-        ≡ codes "slot 17 host 0 read 2 1 0000000000000000\n" }
+        ≡ codes "slot 17 host 0 read 2 1 0000000000000000\n" ∷ [] }
 {}
 
 /// Of the frame's numbers 0 and 1 are legal, and of the read's 1 and 2.
@@ -45,24 +45,27 @@ pub fn legal_numbers()
 pub fn status_messages()
     ensures slot_before { read_lines (bare_list 5) reading_status 11
         (world (bare_list 5) reading_status (reading_numbers 11)) (11 ∷ [])
-        ≡ codes "slot 11 host 1 read status 11 000000000000000a000000000000000100000000000000010000000000000100\n" }
+        ≡ codes "slot 11 host 1 read status 11 000000000000000a000000000000000100000000000000010000000000000100\n"
+        ∷ [] }
     ensures slot_itself { read_lines (bare_list 5) reading_status 11
         (world (bare_list 5) reading_status (reading_numbers 12)) (12 ∷ [])
-        ≡ codes "slot 11 host 1 read status 12 000000000000000b000000000000002900000001000100030000000000000100\n" }
+        ≡ codes "slot 11 host 1 read status 12 000000000000000b000000000000002900000001000100030000000000000100\n"
+        ∷ [] }
     ensures legal_before { is_legal (bare_list 5) reading_status (reading_numbers 11) ≡ true }
     ensures legal_itself { is_legal (bare_list 5) reading_status (reading_numbers 12) ≡ true }
     ensures too_old { is_legal (bare_list 5) reading_status (reading_numbers 10) ≡ false }
     ensures too_new { is_legal (bare_list 5) reading_status (reading_numbers 13) ≡ false }
 {}
 
-/// The numbers that a text names are those of its `send` lines that have one and of its `read` lines,
+/// The numbers that lines name are those of the `send` lines that have one and of the `read` lines,
 /// slot by slot; those of `write` and `correct` lines are counts.
-pub fn numbers_that_a_text_names()
+pub fn numbers_that_lines_name()
     ensures slots { numbers_in loaded_list (script_of 5 2 [])
         (codes "slot 0 node 1 send peer 1 msg - mem 001f acc 1 rej 0 ack first clock 0\n"
-        ++ codes "slot 1 node 0 correct peer 2 msg 7 mem 001f acc 3 rej 0 ack none clock 0\n"
-        ++ codes "slot 1 node 2 send peer 2 msg 4 mem 001f acc 1 rej 0 ack first clock 0\n"
-        ++ codes "slot 1 host 2 write 5\n"
-        ++ codes "slot 1 host 0 read 2 3 0000000000000000\n")
+        ∷ codes "slot 1 node 0 correct peer 2 msg 7 mem 001f acc 3 rej 0 ack none clock 0\n"
+        ∷ codes "slot 1 node 2 send peer 2 msg 4 mem 001f acc 1 rej 0 ack first clock 0\n"
+        ∷ codes "slot 1 host 2 write 5\n"
+        ∷ codes "slot 1 host 0 read 2 3 0000000000000000\n"
+        ∷ [])
         ≡ sending_slot 4 (3 ∷ []) ∷ no_numbers 5 ∷ [] }
 {}

@@ -6,22 +6,23 @@ ghost use Rattle.ttp_world.specs.declared.script.Channel.TheVariants as channel;
 ghost use Rattle.ttp_world.specs.Hypothesis.{keeps};
 ghost use Rattle.ttp_world.specs.Medium.{Noise, heard, senders_in};
 ghost use Rattle.ttp_world.specs.Safety.{IsSafe};
-ghost use Rattle.ttp_world.specs.Trace.{trace_text};
+ghost use Rattle.ttp_world.specs.Trace.{trace_lines};
 ghost use Rattle.world_rows.specs.Cases.{bare_list, bare_list_of, script_of, bare_numbers, bare_run, newest_row};
-ghost use Rattle.world_rows.specs.Cases.{entry_at, bare_lines, lines_of_text, hold_from, is_safe_from};
+ghost use Rattle.world_rows.specs.Cases.{entry_at, bare_lines, picked_lines, hold_from, is_safe_from};
 ghost use Rattle.world_rows.specs.Frames.{cstate};
 ghost use Rattle.world_rows.specs.Scripts.{two_starters, colliding, noisy_start, deaf_on_a, late};
 
 /// Five nodes that are on from slot 0: node 0 starts in slot 10, the others join and send one after
 /// the other. The lines are those of the whole trace with these numbers.
 pub fn fault_free_start()
-    ensures lines { lines_of_text (trace_text (bare_list 5) (script_of 5 15 []) (bare_numbers (bare_list 5) 15))
+    ensures lines { picked_lines (trace_lines (bare_list 5) (script_of 5 15 []) (bare_numbers (bare_list 5) 15))
         (52 ∷ 53 ∷ 57 ∷ 58 ∷ 77 ∷ [])
         ≡ codes "slot 10 node 0 start peer 0 msg - mem 0001 acc 1 rej 0 ack first clock 0\n"
-        ++ codes "slot 10 node 1 join peer 0 msg - mem 0001 acc 1 rej 0 ack none clock 0\n"
-        ++ codes "slot 11 node 0 correct peer 1 msg - mem 0003 acc 2 rej 0 ack none clock 0\n"
-        ++ codes "slot 11 node 1 send peer 1 msg - mem 0003 acc 1 rej 0 ack first clock 0\n"
-        ++ codes "keeps yes start 10\n" }
+        ∷ codes "slot 10 node 1 join peer 0 msg - mem 0001 acc 1 rej 0 ack none clock 0\n"
+        ∷ codes "slot 11 node 0 correct peer 1 msg - mem 0003 acc 2 rej 0 ack none clock 0\n"
+        ∷ codes "slot 11 node 1 send peer 1 msg - mem 0003 acc 1 rej 0 ack first clock 0\n"
+        ∷ codes "keeps yes start 10\n"
+        ∷ [] }
     ensures joins { entry_at (bare_run (bare_list 5) (script_of 5 15 []) 15) 10 4
         ≡ entry.Joined 0 (cstate 0 0 0 (0 ∷ [])) (pos 0) }
     ensures last_sends { entry_at (bare_run (bare_list 5) (script_of 5 15 []) 15) 14 4 ≡ entry.Sent None }

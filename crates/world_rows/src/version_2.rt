@@ -82,6 +82,7 @@ pub fn lines_of_24_nodes()
 pub fn wide_status()
     ensures read { read_lines (wide_list 5) reading_status 11 (world (wide_list 5) reading_status (reading_numbers 12))
         (12 ∷ [])
-        ≡ codes "slot 11 host 1 read status 12 000000000000000b000000000000002900000100010000030000000000000100\n" }
+        ≡ codes "slot 11 host 1 read status 12 000000000000000b000000000000002900000100010000030000000000000100\n"
+        ∷ [] }
     ensures legal { is_legal (wide_list 5) reading_status (reading_numbers 12) ≡ true }
 {}
