@@ -2,8 +2,11 @@ pub mod Entries
 pub mod EventBounds
 pub mod FlipLists
 pub mod Fronts
+pub mod LineNumbers
+pub mod LineWords
 pub mod Lists
 pub mod MemberSets
+pub mod NumberWords
 pub mod Pasts
 pub mod Covering
 pub mod PointBounds
