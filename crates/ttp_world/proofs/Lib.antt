@@ -5,6 +5,8 @@ pub mod EntriesMade
 pub mod EventBounds
 pub mod FlipLists
 pub mod Fronts
+pub mod LegalRuns
+pub mod LegalShapes
 pub mod LineNumbers
 pub mod LineWords
 pub mod Lists
@@ -14,11 +16,13 @@ pub mod NumberWords
 pub mod Pasts
 pub mod Places
 pub mod PointBounds
+pub mod Rings
 pub mod Silences
 pub mod Slots
 pub mod Splits
 pub mod Sweep
 pub mod Told
 pub mod Totals
+pub mod Unhosted
 pub mod WeightBounds
 pub mod Worlds
