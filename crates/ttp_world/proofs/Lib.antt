@@ -2,6 +2,7 @@ pub mod Entries
 pub mod EventBounds
 pub mod FlipLists
 pub mod Fronts
+pub mod LineLists
 pub mod LineNumbers
 pub mod LineWords
 pub mod Lists
@@ -10,8 +11,10 @@ pub mod NumberWords
 pub mod Pasts
 pub mod Covering
 pub mod PointBounds
+pub mod SlotNumbers
 pub mod Splits
 pub mod Sweep
 pub mod Told
 pub mod Totals
+pub mod TraceNumbers
 pub mod WeightBounds
