@@ -2,6 +2,7 @@ pub mod Entries
 pub mod EventBounds
 pub mod FlipLists
 pub mod Fronts
+pub mod LegalNumbers
 pub mod LineLists
 pub mod LineNumbers
 pub mod LineWords
@@ -11,6 +12,7 @@ pub mod NumberWords
 pub mod Pasts
 pub mod Covering
 pub mod PointBounds
+pub mod RunNumbers
 pub mod SlotNumbers
 pub mod Splits
 pub mod Sweep

@@ -28,15 +28,8 @@ use Rattle.ttp_world.proofs.LineLists.{each-append, map_of_map, find-none, find-
 use Rattle.ttp_world.proofs.LineLists.{filter_map-between}
 use Rattle.ttp_world.proofs.LineNumbers.{IsOther, sending-other, read-other, other_by_slot, sending-host, read-node}
 use Rattle.ttp_world.proofs.LineNumbers.{read-write, read-read, sending-other_node, is_own_frame, sending-own, named-node}
+use Rattle.ttp_world.proofs.RunNumbers.{AreNumbersOf}
 use Rattle.ttp_world.proofs.LineWords.{IsNodeLine, node_line-words, IsHostLine, write_line-words, read_line-words}
-
--- the numbers of a slot are those of its row: what the nodes sent, and one for each read
-pub record AreNumbersOf (list : Medl) (script : Script) (row : List Entry) (slot : ℕ) (new : SlotNumbers) : Type 0 where
-  pub nodes : length row ≡ length list.slots
-  pub sent : new.sent ≡ map message_of row
-  pub small_sent : (k : ℕ) → IfSome (message_of (entry_of row k)) (λ i. i < 2 ^ 64)
-  pub read : length (reads_in script slot) ≡ length new.read
-  pub small_read : AllByRecursion (λ i. i < 2 ^ 64) new.read
 
 -- The lines of the nodes.
 
@@ -225,7 +218,7 @@ slot_numbers-between list script row before new first last few are others others
     each : (k : ℕ) → k < length list.slots → number_sent (first ++ (lines ++ last)) s k ≡ message_of (entry_of row k)
     each k within =
         ap number_of (find-between (is_sending_line s k) first lines last (others-none_sent s k first others) (others-none_sent s k last others_last))
-        ∙ slot-sent list script row before new k few within (are.small_sent k)
+        ∙ slot-sent list script row before new k few within (are.small_sent k within)
     sent : map (number_sent (first ++ (lines ++ last)) s) (below (length list.slots)) ≡ new.sent
     sent = map_agree-below _ (λ k. message_of (entry_of row k)) (length list.slots) each
         ∙ sym (row-messages row (length list.slots) are.nodes) ∙ sym are.sent

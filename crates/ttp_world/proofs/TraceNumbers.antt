@@ -9,29 +9,20 @@ use Rattle.ttp_world.specs.declared.medl.Medl.{Medl}
 use Rattle.ttp_world.specs.declared.node.Entry.{Entry}
 use Rattle.ttp_world.specs.declared.script.Script.{Script}
 use Rattle.ttp_world.specs.Diary.{History}
-use Rattle.ttp_world.specs.Trace.{slot_lines, history_lines, trace_head, keep_line}
-use Rattle.ttp_world.specs.TraceNumbers.{words_of, slot_numbers, numbers_below}
-use Rattle.ttp_world.specs.World.{SlotNumbers, Numbers}
+use Rattle.ttp_world.specs.Hypothesis.{keeps}
+use Rattle.ttp_world.specs.Legal.{IsLegal}
+use Rattle.ttp_world.specs.Medl.{IsValid}
+use Rattle.ttp_world.specs.Script.{IsValidScript}
+use Rattle.ttp_world.specs.Trace.{slot_lines, history_lines, trace_head, keep_line, trace_lines}
+use Rattle.ttp_world.specs.TraceNumbers.{words_of, slot_numbers, numbers_below, numbers_in}
+use Rattle.ttp_world.specs.World.{SlotNumbers, Numbers, world}
 use Rattle.ttp_world.proofs.LineLists.{each-append}
 use Rattle.ttp_world.proofs.LineNumbers.{IsOther}
 use Rattle.ttp_world.proofs.NumberWords.{word-no_number}
-use Rattle.ttp_world.proofs.SlotNumbers.{AreNumbersOf, slot-IsOther, slot_numbers-between}
-
--- slot by slot, the numbers are those of a history
-abbrev pub AreNumbersOfAll : Medl → Script → History → Numbers → Type 0
-AreNumbersOfAll list script [] [] = Unit {0}
-AreNumbersOfAll list script [] (new ∷ numbers) = ⊥
-AreNumbersOfAll list script (row ∷ history) [] = ⊥
-AreNumbersOfAll list script (row ∷ history) (new ∷ numbers) =
-    AreNumbersOf list script row (length history) new × AreNumbersOfAll list script history numbers
-
-numbers-slots : (list : Medl) (script : Script) (history : History) (numbers : Numbers)
-    → AreNumbersOfAll list script history numbers → length history ≡ length numbers
-numbers-slots list script [] [] are = refl
-numbers-slots list script [] (new ∷ numbers) are = absurd are
-numbers-slots list script (row ∷ history) [] are = absurd are
-numbers-slots list script (row ∷ history) (new ∷ numbers) are =
-    omega (arith, numbers-slots list script history numbers are.1)
+use Rattle.ttp_world.proofs.LegalNumbers.{legal-AreNumbersOfAll}
+use Rattle.ttp_world.proofs.Lists.{nodes-most}
+use Rattle.ttp_world.proofs.RunNumbers.{AreNumbersOfAll, numbers-slots}
+use Rattle.ttp_world.proofs.SlotNumbers.{slot-IsOther, slot_numbers-between}
 
 -- The lines of the slots below one are of other slots.
 
@@ -88,3 +79,26 @@ head-IsOther list script t = word-no_number (codes "trace") t refl
 keep-IsOther : (k : Keep) (t : ℕ) → IsOther t (words_of (keep_line k))
 keep-IsOther (keep.Yes start) t = word-no_number (codes "yes") t refl
 keep-IsOther (keep.No rule slot) t = word-no_number (codes "no") t refl
+
+-- So the lines of a run with legal numbers name them.
+
+trace-words : (list : Medl) (script : Script) (numbers : Numbers)
+    → map words_of (trace_lines list script numbers)
+    ≡ (words_of (trace_head list script) ∷ [])
+    ++ (map words_of (history_lines list script (world list script numbers) numbers) ++ words_of (keep_line (keeps list script)) ∷ [])
+trace-words list script numbers =
+    ap (λ ws. words_of (trace_head list script) ∷ ws)
+    (map-append words_of (history_lines list script (world list script numbers) numbers) (keep_line (keeps list script) ∷ []))
+
+pub numbers_in-trace : (list : Medl) (script : Script) (numbers : Numbers) → IsValid list → IsValidScript list script
+    → length numbers ≡ script.slots → IsLegal list script numbers
+    → numbers_in list script (trace_lines list script numbers) ≡ numbers
+numbers_in-trace list script numbers valid valid_script slots legal =
+    let history = world list script numbers in
+    ap (λ ws. numbers_below list ws script.slots) (trace-words list script numbers)
+    ∙ ap (numbers_below list ((words_of (trace_head list script) ∷ [])
+    ++ (map words_of (history_lines list script history numbers) ++ words_of (keep_line (keeps list script)) ∷ []))) (sym slots)
+    ∙ numbers_below-between list script history numbers (words_of (trace_head list script) ∷ [])
+    (words_of (keep_line (keeps list script)) ∷ []) (omega (arith, nodes-most list valid)) (omega (arith, slots, valid_script.slots.1))
+    (legal-AreNumbersOfAll list script numbers valid valid_script (omega (arith, slots)) legal)
+    (λ t less. (head-IsOther list script t, tt)) (λ t less. (keep-IsOther (keeps list script) t, tt))
