@@ -1,5 +1,5 @@
 -- Message numbers that are those of a run: each that was sent, and one for each read.
-use Rattle.std.proofs.Common.{◌≡◌, ℕ, ◌<◌, ◌^◌, List, [], ◌∷◌, length, IfSome, map, refl, arith, Option}
+use Rattle.std.proofs.Common.{◌≡◌, ℕ, ◌<◌, ◌^◌, List, [], ◌∷◌, length, IfSome, map, refl, arith}
 use Rattle.std.specs.List.{AllByRecursion}
 use Rattle.ttp_world.specs.declared.medl.Medl.{Medl}
 use Rattle.ttp_world.specs.declared.node.Entry.{Entry}

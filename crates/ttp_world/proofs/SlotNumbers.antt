@@ -1,7 +1,7 @@
 -- The numbers that the lines of a slot name.
-use Rattle.std.proofs.Common.{◌≡◌, ◌≢◌, ℕ, zero, suc, ◌<◌, ◌≤◌, ◌^◌, Bool, true, false, cond, List, [], ◌∷◌, ◌++◌}
-use Rattle.std.proofs.Common.{length, get_or, Option, Some, None, IfSome, refl, sym, ap, ◌∙◌, arith, map, find, filter_map}
-use Rattle.std.proofs.Common.{option_and_then, count_by, codes, append_assoc, append-nil}
+use Rattle.std.proofs.Common.{◌≡◌, ◌≢◌, ℕ, ◌<◌, ◌^◌, Bool, false, cond, List, [], ◌∷◌, ◌++◌}
+use Rattle.std.proofs.Common.{length, Option, Some, None, IfSome, refl, sym, ap, ◌∙◌, arith, map, find, filter_map}
+use Rattle.std.proofs.Common.{option_and_then, count_by, codes, append_assoc}
 use Rattle.std.specs.Prelude.{◌==◌}
 use Rattle.std.specs.List.{AllByRecursion, cons_option}
 use Rattle.std.proofs.lemmas.List.{map-append, length-map}
@@ -24,7 +24,7 @@ use Rattle.ttp_world.specs.Trace.{read_line, read_lines, slot_lines}
 use Rattle.ttp_world.specs.TraceNumbers.{words_of, word_in, number_named, is_sending_line, number_sent, number_read}
 use Rattle.ttp_world.specs.TraceNumbers.{slot_numbers}
 use Rattle.ttp_world.specs.World.{SlotNumbers, node_past}
-use Rattle.ttp_world.proofs.LineLists.{each-append, map_of_map, find-none, find-between, find-below, filter_map-none}
+use Rattle.ttp_world.proofs.LineLists.{each-append, map_of_map, find-between, find-below, filter_map-none}
 use Rattle.ttp_world.proofs.LineLists.{filter_map-between}
 use Rattle.ttp_world.proofs.LineNumbers.{IsOther, sending-other, read-other, other_by_slot, sending-host, read-node}
 use Rattle.ttp_world.proofs.LineNumbers.{read-write, read-read, sending-other_node, is_own_frame, sending-own, named-node}

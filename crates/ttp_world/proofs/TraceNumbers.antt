@@ -1,12 +1,11 @@
 -- The numbers that the lines of a trace name are those of its run.
-use Rattle.std.proofs.Common.{◌≡◌, ◌≢◌, ℕ, suc, ◌<◌, ◌≤◌, ◌^◌, false, List, [], ◌∷◌, ◌++◌, length, refl, sym, ap, ◌∙◌, arith}
-use Rattle.std.proofs.Common.{subst, append_assoc, map, codes, decimal, bytes_eq}
+use Rattle.std.proofs.Common.{◌≡◌, ℕ, suc, ◌<◌, ◌≤◌, ◌^◌, List, [], ◌∷◌, ◌++◌, length, refl, sym, ap, ◌∙◌, arith}
+use Rattle.std.proofs.Common.{append_assoc, map, codes}
 use Rattle.std.specs.List.{AllByRecursion}
 use Rattle.std.proofs.lemmas.List.{map-append}
 use Rattle.ttp_world.specs.declared.keep.Keep.{Keep}
 use Rattle.ttp_world.specs.declared.keep.Keep.TheVariants as keep
 use Rattle.ttp_world.specs.declared.medl.Medl.{Medl}
-use Rattle.ttp_world.specs.declared.node.Entry.{Entry}
 use Rattle.ttp_world.specs.declared.script.Script.{Script}
 use Rattle.ttp_world.specs.Diary.{History}
 use Rattle.ttp_world.specs.Hypothesis.{keeps}
@@ -15,7 +14,7 @@ use Rattle.ttp_world.specs.Medl.{IsValid}
 use Rattle.ttp_world.specs.Script.{IsValidScript}
 use Rattle.ttp_world.specs.Trace.{slot_lines, history_lines, trace_head, keep_line, trace_lines}
 use Rattle.ttp_world.specs.TraceNumbers.{words_of, slot_numbers, numbers_below, numbers_in}
-use Rattle.ttp_world.specs.World.{SlotNumbers, Numbers, world}
+use Rattle.ttp_world.specs.World.{Numbers, world}
 use Rattle.ttp_world.proofs.LineLists.{each-append}
 use Rattle.ttp_world.proofs.LineNumbers.{IsOther}
 use Rattle.ttp_world.proofs.NumberWords.{word-no_number}
