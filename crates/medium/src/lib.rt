@@ -1,12 +1,14 @@
 //! The medium: the two channels of the bus in one slot.
 //!
-//! Nodes put their frames on a [`Medium`], and then each node asks what it hears on each channel, by the
-//! faults of a script:
+//! Nodes put their frames on a [`Medium`], and then each node asks what it hears on each channel, each by
+//! what the script says of the node in the slot, which is looked up once:
 //!
 //! ```
 //! medium.begin(slot);
-//! medium.put(&script, 0, &frame, offset);            // node 0 sends, its clock is `offset` ahead
-//! let arrival = medium.heard(&script, 2, Channel::A); // Arrival::Bits { .. }, if nothing disturbs it
+//! let incidents = script.incidents(0, slot);
+//! medium.put(&script, &incidents, 0, &frame, offset);   // node 0 sends, its clock is `offset` ahead
+//! let incidents = script.incidents(2, slot);
+//! let arrival = medium.heard(&incidents, Channel::A);   // Arrival::Bits { .. }, if nothing disturbs it
 //! ```
 //!
 //! A medium stands for the frames that were put in the slot, in their order: whatever frames it stood

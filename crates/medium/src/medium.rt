@@ -1,6 +1,7 @@
 //! The two channels in one slot.
-ghost use Rattle.std.specs.Prelude.{◌≡◌, IsOk, IfOk};
+ghost use Rattle.std.specs.Prelude.{◌≡◌, ℕ, IsOk, IfOk};
 ghost use Rattle.ttp_world.specs.declared.script.Channel.{Channel};
+ghost use Rattle.ttp_world.specs.declared.script.Script.{Script};
 ghost use Rattle.ttp_world.specs.Script.{incidents_of, flipped_bits, bits_on};
 ghost use Rattle.medium.specs.StandsFor.{StandsAtBeginning, StandsAfterPut, ShowsHeard, sent_by};
 
@@ -70,37 +71,46 @@ impl Medium {
     }
 
     /// Puts the frame that a node sends in this slot on both channels, as the script's faults and
-    /// flips of the node leave it there. `offset` is how far the node's clock is ahead, in
-    /// microticks. Each node is to be put once in a slot: a second frame of it counts as another
-    /// node's, and of a second offset nothing is promised.
+    /// flips of the node leave it there. `incidents` are what the script says of the node in this
+    /// slot, and `offset` is how far the node's clock is ahead, in microticks. Each node is to be put
+    /// once in a slot: a second frame of it counts as another node's, and of a second offset nothing
+    /// is promised.
     ///
     /// A flip of a bit past the frame's end has no effect. One of the first byte would have its
     /// effect, but no valid script has any.
     ///
-    /// It costs one look-up in the script, a second one where bits are flipped, and for each channel
-    /// that was silent a copy of the frame.
-    pub fn put(&mut self, script: &Script, node: u8, frame: &Outgoing, offset: i64)
+    /// It costs for each channel that was silent a copy of the frame, and a look-up in the script
+    /// only where bits are flipped.
+    pub fn put(
+        &mut self,
+        script: &Script,
+        incidents: &Incidents,
+        node: u8,
+        frame: &Outgoing,
+        offset: i64,
+    )
+        requires { incidents.now ≡ incidents_of script.now node self.old.slot }
         ensures { StandsAfterPut self.old self.new script.now (sent_by node frame.now) offset }
     {
-        let incidents = script.incidents(node, self.slot);
         let sent = Sent {
             sender: node,
             frame,
             offset,
-            incidents,
-            flips: flips_of(script, &incidents, node, self.slot),
+            incidents: *incidents,
+            flips: flips_of(script, incidents, node, self.slot),
         };
         self.a.put(&sent, Channel::A);
         self.b.put(&sent, Channel::B);
     }
 
-    /// What a node hears on a channel in this slot, by the script with which all frames were put: of
-    /// another one nothing is promised. Bits are lent as they lie in the medium, with the offset that
-    /// was put with them. It costs one look-up in the script.
-    pub fn heard(&self, script: &Script, node: u8, channel: Channel) -> Arrival<'_>
-        ensures { ShowsHeard self.now script.now node channel result }
+    /// What a node hears on a channel in this slot, if `incidents` are what the script says of it in
+    /// the slot, and if all frames were put with that script: of other ones nothing is promised. Bits
+    /// are lent as they lie in the medium, with the offset that was put with them. It costs the same
+    /// few steps always.
+    pub fn heard(&self, incidents: &Incidents, channel: Channel) -> Arrival<'_>
+        ensures { (script : Script) (node : ℕ) → incidents.now ≡ incidents_of script node self.now.slot
+            → ShowsHeard self.now script node channel result }
     {
-        let incidents = script.incidents(node, self.slot);
         let there = match channel {
             Channel::A => self.a.arrival(),
             Channel::B => self.b.arrival(),

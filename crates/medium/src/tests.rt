@@ -228,12 +228,14 @@ fn a_third_node_hears_what_is_left(rt: HostRuntime) -> Result<(), Fail> {
         for node in 0..2u8 {
             if sends[node as usize] {
                 let (bytes, offset) = SENT[node as usize];
-                medium.put(&script, node, &outgoing(bytes), offset);
+                let incidents = script.incidents(node, 3);
+                medium.put(&script, &incidents, node, &outgoing(bytes), offset);
             }
         }
-        let on_a = medium.heard(&script, 2, Channel::A);
+        let incidents = script.incidents(2, 3);
+        let on_a = medium.heard(&incidents, Channel::A);
         assert!(rt; is_heard(on_a, *a), "channel A of row {i}");
-        let on_b = medium.heard(&script, 2, Channel::B);
+        let on_b = medium.heard(&incidents, Channel::B);
         assert!(rt; is_heard(on_b, *b), "channel B of row {i}");
     }
     Ok(())

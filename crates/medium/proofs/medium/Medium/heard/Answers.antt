@@ -11,15 +11,12 @@ use Rattle.medium.proofs.medium.Medium.heard.Goals as goal
 use Rattle.medium.proofs.medium.Medium.heard.Goals.{in-A, in-B}
 
 pub returns : goal.returns
-returns c = λ slot frames clock stands.
-    let script = c.args.script.now in
-    let node = c.args.node in
+returns c = λ script node of_node slot frames clock stands.
     let there = c.args.channel in
     let inside = c.self.inside in
-    let incidents = c.incidents-incidents.result in
     let old : StandsFor (record { slot = inside.slot; a = inside.a; b = inside.b }) script slot frames clock =
     subst (λ (m : Carried). StandsFor m script slot frames clock) (sym c.self.view_is) stands in
-    let told : incidents ≡ incidents_of script node slot = c.incidents-incidents.ensures.value ∙ ap (incidents_of script node) old.slot in
+    let told : c.args.incidents.now ≡ incidents_of script node slot = of_node ∙ ap (incidents_of script node) stands.slot in
     let shown : Shows c.match-channel.there (channel_signal script slot there frames) clock =
     elim c.match-channel.branch [
       | in-A w ↦ rw (w.there-is, w.in-A.is) (Shows-carried _ inside.a _ clock old.a w.arrival-there.ensures)

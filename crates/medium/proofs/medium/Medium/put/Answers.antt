@@ -7,16 +7,20 @@ use Rattle.medium.specs.StandsFor.{StandsFor, sent_by}
 use Rattle.medium.proofs.Channels.{Carries-put}
 use Rattle.medium.proofs.medium.Medium.put.Goals as goal
 
+pub flips_of-requires : goal.flips_of-requires
+flips_of-requires c =
+    c.requires ∙ ap (λ (m : Carried). incidents_of c.args.script.now c.args.node m.slot) (sym c.self.view_is)
+
 pub returns : goal.returns
 returns c = λ slot frames clock is stands.
     let script = c.args.script.now in
     let node = c.args.node in
     let inside = c.self.inside in
-    let incidents = c.incidents-incidents.result in
+    let incidents = c.args.incidents.now in
     let sent = sent_by node c.args.frame.now in
     let old : StandsFor (record { slot = inside.slot; a = inside.a; b = inside.b }) script slot frames clock =
     subst (λ (m : Carried). StandsFor m script slot frames clock) (sym c.self.view_is) stands in
-    let told : incidents ≡ incidents_of script node slot = c.incidents-incidents.ensures.value ∙ ap (incidents_of script node) old.slot in
+    let told : incidents ≡ incidents_of script node slot = c.requires ∙ ap (incidents_of script node) stands.slot in
     let kept : to_z w64 (of_z w64 c.args.offset) ≡ c.args.offset = to_z-of_z w64 c.args.offset c.ranges.offset in
     record {
       slot = old.slot;
