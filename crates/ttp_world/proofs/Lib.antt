@@ -6,6 +6,8 @@ pub mod EventBounds
 pub mod FlipLists
 pub mod Fronts
 pub mod LegalNumbers
+pub mod LegalRuns
+pub mod LegalShapes
 pub mod LineLists
 pub mod LineNumbers
 pub mod LineWords
@@ -16,6 +18,7 @@ pub mod NumberWords
 pub mod Pasts
 pub mod Places
 pub mod PointBounds
+pub mod Rings
 pub mod RunNumbers
 pub mod Silences
 pub mod SlotNumbers
@@ -25,5 +28,6 @@ pub mod Sweep
 pub mod Told
 pub mod Totals
 pub mod TraceNumbers
+pub mod Unhosted
 pub mod WeightBounds
 pub mod Worlds
