@@ -9,7 +9,7 @@ use Rattle.std.proofs.lemmas.Grind.{reverse_onto}
 use Rattle.std.proofs.lemmas.List.{length-map}
 use Rattle.std.proofs.lemmas.List.FromFn.{get_or-map-range_with_len}
 use Rattle.ttp_base.specs.NodeSet.{below}
-use Rattle.ttp_base.proofs.Below.{below-lt}
+use Rattle.ttp_base.proofs.Below.{all-below}
 use Rattle.ttp_world.specs.declared.medl.Medl.{Medl}
 use Rattle.ttp_world.specs.declared.node.Chosen.{Chosen}
 use Rattle.ttp_world.specs.declared.node.Entry.{Entry}
@@ -88,7 +88,7 @@ messages-legal s chosen newest =
     (λ loaded. ap (λ (c : Chosen). c.number) (newest.message k node loaded)) in
     let all : list_all legal (below (length row)) ≡ true =
     ap (λ m. list_all legal (below m)) (length-row_in s chosen)
-    ∙ list_all-each legal (λ k. k < n) (below n) each (below-lt n) in
+    ∙ all-below legal n each in
     λ i. are_same_numbers-refl (map message_of row) i && all i
 
 -- Reads.
