@@ -2,11 +2,13 @@ pub mod Entries
 pub mod EventBounds
 pub mod FlipLists
 pub mod Fronts
+pub mod HostLists
 pub mod Lists
 pub mod MemberSets
 pub mod Pasts
 pub mod Covering
 pub mod PointBounds
+pub mod SortedLists
 pub mod Splits
 pub mod Sweep
 pub mod Told
