@@ -15,7 +15,6 @@ use Rattle.ttp_world.specs.declared.script.Source.{Source}
 use Rattle.ttp_world.specs.declared.script.Source.TheVariants as source
 use Rattle.ttp_world.specs.Acknowledgement.{is_open, is_doubt}
 use Rattle.ttp_world.specs.Clock.{is_corrected}
-use Rattle.ttp_world.specs.Conduct.{delivery}
 use Rattle.ttp_world.specs.Diary.{History, entry_of, is_active_phase, cstate_at}
 use Rattle.ttp_world.specs.Fitting.{number_in}
 use Rattle.ttp_world.specs.Frame.{cstate_bytes}
@@ -23,7 +22,7 @@ use Rattle.ttp_world.specs.Medium.{is_sending}
 use Rattle.ttp_world.specs.Medl.{member_width}
 use Rattle.ttp_world.specs.Outgoing.{zeros_of, message_chosen}
 use Rattle.ttp_world.specs.Past.{NodePast}
-use Rattle.ttp_world.specs.World.{ReadyNode, ready_of, ready_nodes, frames_in, hearing_in, node_past}
+use Rattle.ttp_world.specs.World.{node_past, slot_after, frames_in, delivered_in}
 
 -- Payloads.
 
@@ -36,15 +35,11 @@ abbrev pub messages_of : Medl → Script → ℕ → List Entry → List Chosen
 messages_of list script slot row =
     map (λ k. message_chosen list script slot k (message_of (entry_of row k))) (below (length list.slots))
 
--- what node r delivers in a slot for which these nodes are ready, by the entry that it makes
-abbrev pub delivered_in : Medl → Script → ℕ → List ReadyNode → ℕ → Entry → Option Delivered
-delivered_in list script slot nodes r e =
-    delivery list r (ready_of list nodes r).past (hearing_in list script slot nodes (frames_in list nodes) r) e
-
 -- what node r delivered in the slot of a row, after the history before it
 abbrev pub delivered_of : Medl → Script → History → List Entry → ℕ → Option Delivered
 delivered_of list script history row r =
-    delivered_in list script (length history) (ready_nodes list script history (messages_of list script (length history) row)) r (entry_of row r)
+    let s = slot_after list script history in
+    delivered_in s (frames_in s (messages_of list script (length history) row)) r (entry_of row r)
 
 -- the payload of node p, as one message or none
 abbrev pub payload_of_sender : ℕ → Delivered → List (List ℕ)

@@ -1,18 +1,21 @@
 -- The world: what a cluster does, slot by slot.
 --
--- A history is all that there is. From it, the list, the script and the messages that the nodes are to send, each
--- slot adds one entry to each node's diary.
-use Rattle.std.specs.Prelude.{ℕ, ℤ, pos, ◌+ℤ◌, ◌-ℤ◌, List, [], ◌∷◌, map, length, get_or, flat_map, Option, None}
+-- A history is all that there is. From it, the list and the script a slot begins: what each node does, its past and its
+-- clock, in which there is no choice. By the messages that the nodes are to send, frames are sent and heard, and the slot
+-- ends with one more entry in each node's diary.
+use Rattle.std.specs.Prelude.{ℕ, ℤ, pos, ◌+ℤ◌, ◌-ℤ◌, Bool, false, List, [], ◌∷◌, map, length, get_or, flat_map}
+use Rattle.std.specs.Prelude.{Option, None}
 use Rattle.ttp_base.specs.NodeSet.{below}
 use Rattle.ttp_world.specs.declared.medl.Medl.{Medl}
 use Rattle.ttp_world.specs.declared.node.Chosen.{Chosen}
+use Rattle.ttp_world.specs.declared.node.Delivered.{Delivered}
 use Rattle.ttp_world.specs.declared.node.Entry.{Entry}
 use Rattle.ttp_world.specs.declared.script.Channel.TheVariants as channel
 use Rattle.ttp_world.specs.declared.script.Script.{Script}
 use Rattle.ttp_world.specs.declared.node.Act.{Act}
-use Rattle.ttp_world.specs.declared.node.Act.TheVariants.{Off}
-use Rattle.ttp_world.specs.Act.{act}
-use Rattle.ttp_world.specs.Conduct.{node_frames, new_entry}
+use Rattle.ttp_world.specs.declared.node.Act.TheVariants.{Off, Send}
+use Rattle.ttp_world.specs.Act.{act, coming_place}
+use Rattle.ttp_world.specs.Conduct.{carries_payload, node_frames, new_entry, delivery}
 use Rattle.ttp_world.specs.Diary.{History, diary_of}
 use Rattle.ttp_world.specs.Medium.{SentFrame, heard, surroundings_of}
 use Rattle.ttp_world.specs.Outgoing.{nothing_chosen, message_chosen}
@@ -20,80 +23,107 @@ use Rattle.ttp_world.specs.Past.{NodePast, past_of, no_past}
 use Rattle.ttp_world.specs.Reception.{Hearing}
 use Rattle.ttp_world.specs.Script.{is_on, is_armed, jump_of, reading_error}
 
+-- The slot begins.
+
 -- The jumps of a slot move the clock of a node that isn't off.
 abbrev pub jump_taken : Act → ℤ → ℤ
 jump_taken Off jump = pos 0
 jump_taken _ jump = jump
 
--- A node that is ready for a slot: its past, what it does, the message that it is to send, and its clock at the slot's
--- beginning, with the slot's jumps.
-
-pub record ReadyNode : Type 0 where
+-- A node in a slot that has begun: its past, what it does, and its clock at the beginning, with the slot's jumps.
+pub record BegunNode : Type 0 where
   pub past : NodePast
   pub act : Act
-  pub chosen : Chosen
   pub clock : ℤ
 
-abbrev pub ready_node : Medl → Script → ℕ → NodePast → Chosen → ℕ → ReadyNode
-ready_node list script slot past chosen k =
-    let does = act list k (is_on script k slot) (is_armed script k slot) past in
-    record { past = past; act = does; chosen = chosen; clock = past.offset +ℤ jump_taken does (jump_of script k slot) }
+-- A slot that has begun: its list and script, its number, which is how many slots were before it, and its nodes.
+pub record BegunSlot : Type 0 where
+  pub list : Medl
+  pub script : Script
+  pub number : ℕ
+  pub nodes : List BegunNode
+
+-- node k in a slot of this number, by its past
+abbrev pub begun_node : Medl → Script → ℕ → NodePast → ℕ → BegunNode
+begun_node list script number past k =
+    let does = act list k (is_on script k number) (is_armed script k number) past in
+    record { past = past; act = does; clock = past.offset +ℤ jump_taken does (jump_of script k number) }
 
 -- what is read of node k's past in a history
 abbrev pub node_past : Medl → Script → History → ℕ → NodePast
 node_past list script history k = past_of list k (diary_of history k) (surroundings_of script history k)
 
+-- node k in the slot after a history, and the slot
+abbrev pub node_after : Medl → Script → History → ℕ → BegunNode
+node_after list script history k = begun_node list script (length history) (node_past list script history k) k
+
+abbrev pub slot_after : Medl → Script → History → BegunSlot
+slot_after list script history = record {
+  list = list;
+  script = script;
+  number = length history;
+  nodes = map (node_after list script history) (below (length list.slots));
+}
+
+abbrev pub no_node : Medl → BegunNode
+no_node list = record { past = no_past list 0; act = Off; clock = pos 0 }
+
+abbrev pub node_of : BegunSlot → ℕ → BegunNode
+node_of s k = get_or s.nodes k (no_node s.list)
+
+-- a node of this past that does this sends a frame with payload
+abbrev pub sends_payload : Medl → NodePast → Act → Bool
+sends_payload list past Send = carries_payload list (coming_place list past)
+sends_payload list past _ = false
+
+-- so node k does in the slot: its frame carries a message
+abbrev pub is_loaded : BegunSlot → ℕ → Bool
+is_loaded s k = sends_payload s.list (node_of s k).past (node_of s k).act
+
+-- Frames are sent, by the messages that are chosen, and heard.
+
 abbrev pub chosen_of : List Chosen → ℕ → Chosen
 chosen_of chosen k = get_or chosen k nothing_chosen
 
--- all nodes, for the slot after a history
-abbrev pub ready_nodes : Medl → Script → History → List Chosen → List ReadyNode
-ready_nodes list script history chosen =
-    map (λ k. ready_node list script (length history) (node_past list script history k) (chosen_of chosen k) k) (below (length list.slots))
+abbrev pub frames_of : BegunSlot → List Chosen → ℕ → List SentFrame
+frames_of s chosen k = node_frames s.list k (node_of s k).past (chosen_of chosen k) (node_of s k).act
 
-abbrev pub no_node : Medl → ReadyNode
-no_node list = record { past = no_past list 0; act = Off; chosen = nothing_chosen; clock = pos 0 }
+abbrev pub frames_in : BegunSlot → List Chosen → List SentFrame
+frames_in s chosen = flat_map (frames_of s chosen) (below (length s.list.slots))
 
-abbrev pub ready_of : Medl → List ReadyNode → ℕ → ReadyNode
-ready_of list nodes k = get_or nodes k (no_node list)
+-- the deviation that node r measures of a frame of node p, by both clocks and its reading errors
+abbrev pub deviation_in : BegunSlot → ℕ → ℕ → ℤ
+deviation_in s r p = ((node_of s p).clock -ℤ (node_of s r).clock) +ℤ reading_error s.script r s.number
 
--- The frames of a slot.
-
-abbrev pub frames_of : Medl → ℕ → ReadyNode → List SentFrame
-frames_of list k node = node_frames list k node.past node.chosen node.act
-
-abbrev pub frames_in : Medl → List ReadyNode → List SentFrame
-frames_in list nodes = flat_map (λ k. frames_of list k (ready_of list nodes k)) (below (length list.slots))
-
--- What node r hears, measured by its own clock and with its reading errors.
-
-abbrev pub deviation_in : Medl → Script → ℕ → List ReadyNode → ℕ → ℕ → ℤ
-deviation_in list script slot nodes r p =
-    ((ready_of list nodes p).clock -ℤ (ready_of list nodes r).clock) +ℤ reading_error script r slot
-
-abbrev pub hearing_in : Medl → Script → ℕ → List ReadyNode → List SentFrame → ℕ → Hearing
-hearing_in list script slot nodes frames r = record {
-  a = heard script slot r channel.A frames;
-  b = heard script slot r channel.B frames;
-  deviation = deviation_in list script slot nodes r;
+-- what node r hears where these frames are sent
+abbrev pub hearing_in : BegunSlot → List SentFrame → ℕ → Hearing
+hearing_in s frames r = record {
+  a = heard s.script s.number r channel.A frames;
+  b = heard s.script s.number r channel.B frames;
+  deviation = deviation_in s r;
 }
 
--- One slot of the whole cluster.
+-- The slot ends.
 
-abbrev pub entry_in : Medl → Script → ℕ → List ReadyNode → List SentFrame → ℕ → Entry
-entry_in list script slot nodes frames k =
-    let node = ready_of list nodes k in
-    new_entry list k node.past node.chosen (hearing_in list script slot nodes frames k) node.act
+-- the entry of node k where these frames are sent
+abbrev pub entry_in : BegunSlot → List Chosen → List SentFrame → ℕ → Entry
+entry_in s chosen frames k =
+    let node = node_of s k in
+    new_entry s.list k node.past (chosen_of chosen k) (hearing_in s frames k) node.act
 
-abbrev pub row_in : Medl → Script → ℕ → List ReadyNode → List SentFrame → List Entry
-row_in list script slot nodes frames = map (entry_in list script slot nodes frames) (below (length list.slots))
+abbrev pub entries_in : BegunSlot → List Chosen → List SentFrame → List Entry
+entries_in s chosen frames = map (entry_in s chosen frames) (below (length s.list.slots))
 
-abbrev pub ready_row : Medl → Script → ℕ → List ReadyNode → List Entry
-ready_row list script slot nodes = row_in list script slot nodes (frames_in list nodes)
+-- the row of the slot's entries, by the messages that are chosen
+abbrev pub row_in : BegunSlot → List Chosen → List Entry
+row_in s chosen = entries_in s chosen (frames_in s chosen)
+
+-- what node r delivers where these frames are sent, by the entry that it makes
+abbrev pub delivered_in : BegunSlot → List SentFrame → ℕ → Entry → Option Delivered
+delivered_in s frames r e = delivery s.list r (node_of s r).past (hearing_in s frames r) e
 
 abbrev pub step : Medl → Script → History → List Chosen → History
-step list script history chosen =
-    ready_row list script (length history) (ready_nodes list script history chosen) ∷ history
+step list script history chosen = row_in (slot_after list script history) chosen ∷ history
 
 -- The run.
 
