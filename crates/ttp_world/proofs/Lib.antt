@@ -1,12 +1,17 @@
 pub mod Entries
+pub mod EntriesMade
 pub mod EventBounds
 pub mod FlipLists
 pub mod Fronts
 pub mod Lists
 pub mod MemberSets
+pub mod NextPasts
 pub mod Pasts
+pub mod Carried
 pub mod Covering
 pub mod PointBounds
+pub mod Silences
+pub mod Slots
 pub mod Splits
 pub mod Sweep
 pub mod Told

@@ -86,7 +86,8 @@ flags_of list past delivers =
 
 abbrev pub cstate_word : Medl → NodePast → ℕ
 cstate_word list past =
-    if is_active_phase past.phase then number_in (cstate_bytes (member_width list) (cstate_at past.place past.members)) else 0
+    if is_active_phase past.phase then number_in (cstate_bytes (member_width list) (cstate_at past.place past.members))
+    else 0
 
 abbrev pub status_words : Medl → ℕ → NodePast → Bool → List ℕ
 status_words list slot past delivers =
@@ -97,7 +98,8 @@ abbrev pub status_messages : Medl → Script → History → ℕ → List (List 
 status_messages list script [] k = replicate 4 0 ∷ []
 status_messages list script (row ∷ history) k =
     status_messages list script history k
-    ++ status_words list (length history) (node_past list script (row ∷ history) k) (is_some (delivered_of list script history row k)) ∷ []
+    ++ status_words list (length history) (node_past list script (row ∷ history) k)
+    (is_some (delivered_of list script history row k)) ∷ []
 
 -- the ring from which host k reads
 abbrev pub ring_messages : Medl → Script → History → ℕ → Source → List (List ℕ)

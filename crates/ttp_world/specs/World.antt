@@ -1,8 +1,8 @@
 -- The world: what a cluster does, slot by slot.
 --
 -- A history is all that there is. From it, the list and the script a slot begins: what each node does, its past and its
--- clock, in which there is no choice. By the messages that the nodes are to send, frames are sent and heard, and the slot
--- ends with one more entry in each node's diary.
+-- clock, in which there is no choice. By the messages that the nodes are to send, frames are sent and heard, and the
+-- slot ends with one more entry in each node's diary.
 use Rattle.std.specs.Prelude.{ℕ, ℤ, pos, ◌+ℤ◌, ◌-ℤ◌, Bool, false, List, [], ◌∷◌, map, length, get_or, flat_map}
 use Rattle.std.specs.Prelude.{Option, None}
 use Rattle.ttp_base.specs.NodeSet.{below}
