@@ -15,7 +15,7 @@ use Rattle.ttp_world.specs.Medl.{IsValid}
 use Rattle.ttp_world.specs.Past.{NodePast}
 use Rattle.ttp_world.specs.World.{jump_taken}
 use Rattle.medium.specs.declared.arrival.Arrival.{Arrival}
-use Rattle.controller.specs.declared.ending.Ending.{Ending}
+use Rattle.ttp_world.specs.declared.node.Delivered.{Delivered}
 use Rattle.controller.specs.Ending.{EndsAs, IsEndingOf}
 use Rattle.controller.specs.Hearing.{ReadingFits}
 use Rattle.controller.specs.Limits.{ArrivalFits, most_ahead_of, most_clock, offset_of_arrival, seat_clock, turn_jump}
@@ -29,17 +29,17 @@ use Rattle.controller.proofs.Turns.{seat_at}
 use Rattle.controller.proofs.NextEntry.{new_entry-next, readings-fit}
 
 -- the entry is that of what came, whoever sent it
-ending-from : (ending : Ending) (list : Medl) (k : ℕ) (past : NodePast) (does : Act) (jump : ℤ) (message : Option ℕ) (a b : Arrival) (own error : ℤ)
-    → (planned : IsPlannedWithin list k past does jump message) → EndsAs ending list k past does message a b own error
-    → IsEndingOf ending list k past planned.chosen does (hearing_from a b own error)
-ending-from ending list k past does jump message a b own error planned ends =
+ending-from : (made : Entry) (handed : Option Delivered) (list : Medl) (k : ℕ) (past : NodePast) (does : Act) (jump : ℤ) (message : Option ℕ) (a b : Arrival) (own error : ℤ)
+    → (planned : IsPlannedWithin list k past does jump message) → EndsAs made handed list k past does message a b own error
+    → IsEndingOf made handed list k past planned.chosen does (hearing_from a b own error)
+ending-from made handed list k past does jump message a b own error planned ends =
     ends planned.chosen planned.carries (signal_from 0 a) (signal_from 1 b) (clock_from a b) (shows_a a b) (shows_b a b)
 
-pub ending-within : (ending : Ending) (list : Medl) (k : ℕ) (past : NodePast) (does : Act) (jump : ℤ) (message : Option ℕ) (a b : Arrival) (own error : ℤ) → IsValid list
-    → IsPlannedWithin list k past does jump message → ReadingFits own a error → ReadingFits own b error → EndsAs ending list k past does message a b own error
-    → IsEntryWithin list k past ending.entry
-ending-within ending list k past does jump message a b own error valid planned fits_a fits_b ends =
-    let is = ending-from ending list k past does jump message a b own error planned ends in
+pub ending-within : (made : Entry) (handed : Option Delivered) (list : Medl) (k : ℕ) (past : NodePast) (does : Act) (jump : ℤ) (message : Option ℕ) (a b : Arrival) (own error : ℤ) → IsValid list
+    → IsPlannedWithin list k past does jump message → ReadingFits own a error → ReadingFits own b error → EndsAs made handed list k past does message a b own error
+    → IsEntryWithin list k past made
+ending-within made handed list k past does jump message a b own error valid planned fits_a fits_b ends =
+    let is = ending-from made handed list k past does jump message a b own error planned ends in
     let late = readings-fit a b own error fits_a fits_b (signal_from 0 a) (signal_from 1 b) (clock_from a b) (shows_a a b) (shows_b a b) in
     let possible = planned.begun.possible in
     subst (IsEntryWithin list k past) (sym is.entry)
@@ -105,14 +105,14 @@ more x own a b e d w less = omega (arith, less)
 sums : (x y f e d w : ℕ) → x ≤ y + d + w → y ≤ f + e → x ≤ f + e + d + w
 sums x y f e d w first second = omega (arith, first, second)
 
-pub ending-near : (ending : Ending) (list : Medl) (k : ℕ) (past : NodePast) (does : Act) (jump : ℤ) (message : Option ℕ) (a b : Arrival) (error : ℤ) (s : SlotSurroundings) → IsValid list → k < length list.slots
-    → IsWithin list k past → IsPlannedWithin list k past does jump message → EndsAs ending list k past does message a b (past.offset +ℤ jump) error
-    → IsEntryWithin list k past ending.entry → s.jump ≡ jump
-    → unsigned_abs (past_after list k past ending.entry s).offset
+pub ending-near : (made : Entry) (handed : Option Delivered) (list : Medl) (k : ℕ) (past : NodePast) (does : Act) (jump : ℤ) (message : Option ℕ) (a b : Arrival) (error : ℤ) (s : SlotSurroundings) → IsValid list → k < length list.slots
+    → IsWithin list k past → IsPlannedWithin list k past does jump message → EndsAs made handed list k past does message a b (past.offset +ℤ jump) error
+    → IsEntryWithin list k past made → s.jump ≡ jump
+    → unsigned_abs (past_after list k past made s).offset
     ≤ max (unsigned_abs (past.offset +ℤ jump)) (max (unsigned_abs (offset_of_arrival a)) (unsigned_abs (offset_of_arrival b))) + unsigned_abs error + unsigned_abs s.drift + unsigned_abs list.window
-ending-near ending list k past does jump message a b error s valid node within planned ends next jumps =
+ending-near made handed list k past does jump message a b error s valid node within planned ends next jumps =
     let own = past.offset +ℤ jump in
-    let is = ending-from ending list k past does jump message a b own error planned ends in
+    let is = ending-from made handed list k past does jump message a b own error planned ends in
     elim (off_or_on does) [
       | inl off ↦
           let entry_off = is.entry ∙ ap (new_entry list k past planned.chosen (hearing_from a b own error)) off in
@@ -122,10 +122,10 @@ ending-near ending list k past does jump message a b error s valid node within p
           (off_stays past.offset jump _ still))
       | inr on ↦
           let lands = subst (Lands a b own error) (sym is.entry) (entry-lands list k past planned.chosen a b own error does on) in
-          let near = past_after-near list k past ending.entry s valid node within next (lands-on a b own error ending.entry lands) in
+          let near = past_after-near list k past made s valid node within next (lands-on a b own error made lands) in
           sums _ _ (furthest own (offset_of_arrival a) (offset_of_arrival b)) (unsigned_abs error) (unsigned_abs s.drift) (unsigned_abs list.window)
-          (subst (λ z. unsigned_abs (past_after list k past ending.entry s).offset ≤ unsigned_abs ((past.offset +ℤ z) +ℤ join_deviation ending.entry) + unsigned_abs s.drift + unsigned_abs list.window) jumps near)
-          (landed a b own error ending.entry lands)
+          (subst (λ z. unsigned_abs (past_after list k past made s).offset ≤ unsigned_abs ((past.offset +ℤ z) +ℤ join_deviation made) + unsigned_abs s.drift + unsigned_abs list.window) jumps near)
+          (landed a b own error made lands)
     ]
 
 -- what is asked of an arrival gives what hearing asks of it

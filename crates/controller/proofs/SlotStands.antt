@@ -5,6 +5,7 @@ use Rattle.ttp_world.specs.declared.medl.Medl.{Medl}
 use Rattle.ttp_world.specs.declared.node.Act.{Act}
 use Rattle.ttp_world.specs.declared.node.Act.TheVariants.{Off, Gone, Listen, Start, Retry, Leave, Send, Judge}
 use Rattle.ttp_world.specs.declared.node.Chosen.{Chosen}
+use Rattle.ttp_world.specs.declared.node.Delivered.{Delivered}
 use Rattle.ttp_world.specs.declared.node.Entry.{Entry}
 use Rattle.ttp_world.specs.declared.node.Entry.TheVariants as entry
 use Rattle.ttp_world.specs.After.{place_after, members_after, accepted_after, rejected_after, ack_after}
@@ -22,7 +23,6 @@ use Rattle.ttp_world.proofs.Entries.{new_entry-follows}
 use Rattle.ttp_world.proofs.Pasts.{past_of-cons}
 use Rattle.medium.specs.declared.arrival.Arrival.{Arrival}
 use Rattle.controller.specs.declared.controller.Outcome.{Outcome}
-use Rattle.controller.specs.declared.ending.Ending.{Ending}
 use Rattle.controller.specs.Ending.{EndsAs}
 use Rattle.controller.specs.Hearing.{hearing_of, is_silent_arrival}
 use Rattle.controller.specs.Kept.{kept}
@@ -121,14 +121,14 @@ read_next list k past diary surroundings does chosen h s valid node is possible 
     let follows = subst (λ a. may_follow diary (new_entry list k read chosen h a) ≡ true) (sym done) (new_entry-follows list k possible.on possible.armed diary surroundings chosen h) in
     past_of-cons list k diary surroundings (new_entry list k read chosen h does) s follows
 
-pub Ends-seat : (list : Medl) (k : ℕ) (past : NodePast) (slots : ℕ) (t : Turn) (new : NodePast) (ended : ℕ) (outcome : Outcome) (ending : Ending) (does : Act) (jump : ℤ) (message : Option ℕ)
+pub Ends-seat : (list : Medl) (k : ℕ) (past : NodePast) (slots : ℕ) (t : Turn) (new : NodePast) (ended : ℕ) (outcome : Outcome) (made : Entry) (handed : Option Delivered) (does : Act) (jump : ℤ) (message : Option ℕ)
     (a b : Arrival) (error drift : ℤ) (x : SlotSurroundings) → IsValid list → k < length list.slots → t ≡ Planned does jump message → IsPlannedWithin list k past does jump message
-    → EndsAs ending list k past does message a b (past.offset +ℤ jump) error
+    → EndsAs made handed list k past does message a b (past.offset +ℤ jump) error
     → x.jump ≡ jump → x.drift ≡ drift → x.is_silent ≡ (is_silent_arrival a && is_silent_arrival b)
-    → new ≡ kept (past_after list k past ending.entry x) → ended ≡ min (slots + 1) most_slots
-    → outcome.delivered ≡ ending.delivered → outcome.status.words ≡ status_words list slots new (is_some ending.delivered)
+    → new ≡ kept (past_after list k past made x) → ended ≡ min (slots + 1) most_slots
+    → outcome.delivered ≡ handed → outcome.status.words ≡ status_words list slots new (is_some handed)
     → Ends (seat_at list k past slots t) (seat_at list k new ended Ended) outcome a b error drift
-Ends-seat list k past slots t new ended outcome ending does jump message a b error drift x valid node turn planned ends jumps drifts silent entered counted delivered status =
+Ends-seat list k past slots t new ended outcome made handed does jump message a b error drift x valid node turn planned ends jumps drifts silent entered counted delivered status =
     λ diary surroundings there jumped chosen sent_a sent_b clock s stands shown_a shown_b around.
     let read = past_of list k diary surroundings in
     let turns = sym turn ∙ stands.turn in
@@ -140,9 +140,9 @@ Ends-seat list k past slots t new ended outcome ending does jump message a b err
     let h = hearing_of sent_a sent_b clock (read.offset +ℤ jumped) error in
     let carries = same_message now then turns ∙ sym (message_planned-kept list read chosen there) ∙ (λ i. message_planned list (sym stands.past i) chosen (sym acts i)) in
     let is = ends chosen carries sent_a sent_b clock shown_a shown_b in
-    let made = (λ i. new_entry list k (stands.past i) chosen (hearing_of sent_a sent_b clock (own i) error) (acts i)) ∙ new_entry-kept list k read chosen h there in
+    let from_kept = (λ i. new_entry list k (stands.past i) chosen (hearing_of sent_a sent_b clock (own i) error) (acts i)) ∙ new_entry-kept list k read chosen h there in
     let e = new_entry list k read chosen h there in
-    let makes = is.entry ∙ made in
+    let makes = is.entry ∙ from_kept in
     let possible = subst (IsPossible list k past) acts planned.begun.possible in
     let quiet = silent ∙ (λ i. silence-shown a sent_a clock shown_a i && silence-shown b sent_b clock shown_b i) ∙ sym around.silent in
     let changes : (corrected : ℤ) → slot_change e x corrected ≡ slot_change e s corrected = λ corrected. taken_change list k read chosen h there x s corrected (jumps ∙ same ∙ around.jump) (drifts ∙ sym around.drift) in

@@ -1,18 +1,22 @@
 -- What a controller stands for at each turn of a slot.
-use Rattle.std.proofs.Common.{◌≡◌, ◌<◌, None, ℕ, ◌≤◌, ℤ, pos, Bool, List, length, Option, refl, sym, ap, ◌∙◌, arith}
+use Rattle.std.proofs.Common.{◌≡◌, ◌<◌, Some, None, ℕ, ◌≤◌, ℤ, pos, Bool, true, false, cond, List, length, Option, refl, sym, ap, subst, ◌∙◌, arith}
 use Rattle.ttp_world.specs.declared.medl.Medl.{Medl}
 use Rattle.ttp_world.specs.declared.node.Act.{Act}
 use Rattle.ttp_world.specs.declared.node.Act.TheVariants.{Off, Gone, Listen, Start, Retry, Leave, Send, Judge}
 use Rattle.ttp_world.specs.declared.node.Chosen.{Chosen}
-use Rattle.ttp_world.specs.Act.{act}
-use Rattle.ttp_world.specs.Conduct.{node_frames}
+use Rattle.ttp_world.specs.Act.{act, coming_place}
+use Rattle.ttp_world.specs.Conduct.{carries_payload, node_frames}
 use Rattle.ttp_world.specs.Diary.{Diary, Surroundings}
 use Rattle.ttp_world.specs.Medl.{IsValid}
 use Rattle.ttp_world.specs.Past.{NodePast, past_of}
 use Rattle.ttp_world.specs.World.{jump_taken}
 use Rattle.ttp_world.proofs.Lists.{nodes-most}
 use Rattle.cold_start.specs.StandsFor.{most_silent}
+use Rattle.controller.specs.declared.controller.Intent.{Intent}
+use Rattle.controller.specs.declared.controller.Intent.TheVariants as intent
 use Rattle.controller.specs.Kept.{kept}
+use Rattle.controller.specs.Limits.{intent_by, message_carried}
+use Rattle.controller.specs.SeatWithin.{IsSeatWithin}
 use Rattle.controller.specs.StandsFor.{Begins, Plans, frames_planned, message_planned, payload_planned}
 use Rattle.controller.specs.Turn.{Turn, Ended, Begun, Planned, Seat}
 use Rattle.controller.proofs.Kept.{act-kept}
@@ -47,6 +51,18 @@ same_jump now there same = ap jump_in same
 pub same_message : (now there : Turn) → now ≡ there → message_in now ≡ message_in there
 same_message now there same = ap message_in same
 
+-- The list that is handed to a call is the one that the controller was made with.
+
+pub given-list : (given handed : Medl) (k : ℕ) (past : NodePast) (slots : ℕ) (now : Turn) (seen : Seat)
+    → seat_at given k past slots now ≡ seen → handed ≡ seen.list → handed ≡ given
+given-list given handed k past slots now seen is same = same ∙ ap (λ (s : Seat). s.list) (sym is)
+
+pub within-given : (given handed : Medl) (k : ℕ) (past : NodePast) (slots : ℕ) (now : Turn) (sends : Intent) (seen : Seat)
+    → seat_at given k past slots now ≡ seen → handed ≡ seen.list → IsSeatWithin given k past now sends
+    → IsSeatWithin handed k past now sends
+within-given given handed k past slots now sends seen is same =
+    subst (λ (l : Medl). IsSeatWithin l k past now sends) (sym (given-list given handed k past slots now seen is same))
+
 -- The beginning.
 
 limit-small : (list : Medl) (k : ℕ) (diary : Diary) (surroundings : Surroundings) → IsValid list → k < length list.slots → (past_of list k diary surroundings).limit ≤ most_silent
@@ -70,6 +86,24 @@ Begins-turn list k past slots now on armed jump does jumped valid node is taken 
     }
 
 -- The plan.
+
+message_carried-cond : (loads : Bool) (number : ℕ)
+    → message_carried (cond loads intent.Loaded intent.Bare) number ≡ cond loads (Some number) None
+message_carried-cond true number = refl
+message_carried-cond false number = refl
+
+-- what a node sends tells the message in its frame
+pub message_carried-planned : (list : Medl) (past : NodePast) (chosen : Chosen) (does : Act)
+    → message_carried (intent_by list past does) chosen.number ≡ message_planned list past chosen does
+message_carried-planned list past chosen Off = refl
+message_carried-planned list past chosen Gone = refl
+message_carried-planned list past chosen Listen = refl
+message_carried-planned list past chosen Start = refl
+message_carried-planned list past chosen Retry = refl
+message_carried-planned list past chosen (Leave why) = refl
+message_carried-planned list past chosen Send =
+    message_carried-cond (carries_payload list (coming_place list past)) chosen.number
+message_carried-planned list past chosen Judge = refl
 
 pub message_planned-kept : (list : Medl) (past : NodePast) (chosen : Chosen) (does : Act) → message_planned list (kept past) chosen does ≡ message_planned list past chosen does
 message_planned-kept list past chosen Off = refl
@@ -101,17 +135,25 @@ node_frames-kept list k past chosen (Leave why) = refl
 node_frames-kept list k past chosen Send = refl
 node_frames-kept list k past chosen Judge = refl
 
+-- the frame of node k, of whatever was chosen with this payload
+abbrev pub IsFrameOf : Medl → ℕ → NodePast → Act → List ℕ → Option (List ℕ) → Type 0
+IsFrameOf list k past does payload planned =
+    (chosen : Chosen) → payload_planned list past chosen does ≡ payload
+    → frames_planned k planned ≡ node_frames list k past chosen does
+
 pub Plans-turn : (list : Medl) (k : ℕ) (past : NodePast) (slots : ℕ) (now : Turn) (does : Act) (jumped again : ℤ) (number : ℕ) (payload : List ℕ) (message : Option ℕ) (planned : Option (List ℕ))
     → now ≡ Begun does jumped → again ≡ jumped
-    → ((chosen : Chosen) → chosen.number ≡ number → message ≡ message_planned list past chosen does)
-    → ((chosen : Chosen) → payload_planned list past chosen does ≡ payload → frames_planned k planned ≡ node_frames list k past chosen does)
+    → message ≡ message_carried (intent_by list past does) number
+    → IsFrameOf list k past does payload planned
     → Plans (seat_at list k past slots now) (seat_at list k past slots (Planned does again message)) number payload planned
-Plans-turn list k past slots now does jumped again number payload message planned begun same messages frames = λ diary surroundings a jump chosen stands numbered paid.
+Plans-turn list k past slots now does jumped again number payload message planned begun same carries frames = λ diary surroundings a jump chosen stands numbered paid.
     let read = past_of list k diary surroundings in
     let turns = sym begun ∙ stands.turn in
     let acts = same_act (Begun does jumped) (Begun a jump) turns in
     let carried =
-    messages chosen numbered
+    carries
+    ∙ (λ i. message_carried (intent_by list past does) (sym numbered i))
+    ∙ message_carried-planned list past chosen does
     ∙ (λ i. message_planned list (stands.past i) chosen (acts i))
     ∙ message_planned-kept list read chosen a in
     let asked =

@@ -7,8 +7,8 @@ pub mod Sending
 pub mod Limits
 pub mod Hearing
 pub mod StandsFor
-pub mod Ending
 pub mod PlantView
 pub mod PlantWithin
 pub mod Passes
 pub mod PlantStands
+pub mod Ending

@@ -1,5 +1,5 @@
 -- What a controller is asked for at each turn of a slot, so that its clock fits its number and its frame its list.
-use Rattle.std.specs.Prelude.{ℕ, ◌+◌, ◌^◌, ◌≤◌, max, ℤ, pos, ◌+ℤ◌, unsigned_abs, if◌then◌else◌}
+use Rattle.std.specs.Prelude.{ℕ, ◌+◌, ◌^◌, ◌≤◌, max, ℤ, pos, ◌+ℤ◌, unsigned_abs, Option, Some, None, if◌then◌else◌}
 use Rattle.ttp_world.specs.declared.medl.Medl.{Medl}
 use Rattle.ttp_world.specs.declared.node.Act.{Act}
 use Rattle.ttp_world.specs.declared.node.Act.TheVariants.{Start, Send}
@@ -69,6 +69,12 @@ turn_intent list past (Planned act jump message) = intent.Quiet
 -- what the node will send in a slot that was begun
 abbrev pub seat_intent : Seat → Intent
 seat_intent seat = turn_intent seat.list seat.past seat.turn
+
+-- the message of this number goes into a frame with payload
+abbrev pub message_carried : Intent → ℕ → Option ℕ
+message_carried intent.Quiet number = None
+message_carried intent.Bare number = None
+message_carried intent.Loaded number = Some number
 
 -- how many bytes of payload node k's frame carries
 abbrev pub loaded_length : Medl → ℕ → Intent → ℕ

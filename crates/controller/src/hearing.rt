@@ -395,33 +395,35 @@ fn payload_heard(list: &Medl, place: &SlotClock, came: &Arrival) -> Payload
 }
 
 /// What a receiver hands to its host: the payload of a correct frame, if it carries payload, from
-/// channel A where A's frame was of the first candidate, and else from B.
-pub(crate) fn delivered(
+/// channel A where A's frame was of the first candidate, and else from B. It is written in place.
+pub(crate) fn deliver(
     list: &Medl,
     coming: &SlotClock,
     judgement: &Judgement,
     a: &Arrival,
     b: &Arrival,
-) -> Option<Delivered>
+    delivered: &mut Option<Delivered>,
+)
     requires valid { IsValid list.now }
     requires coming { StandsFor coming.now list.now coming.now.place }
     ensures { (k : ℕ) (past : NodePast) (own error : ℤ) → StandsFor coming.now list.now (coming_place list.now past)
         → ForHearings a.now b.now own error (λ h.
         IsJudgement judgement.now list.now (expected_of list.now k past) past.ack h
-        → result ≡ delivery list.now k past h (judging_entry list.now k past h)) }
+        → delivered.new ≡ delivery list.now k past h (judging_entry list.now k past h)) }
 {
     if judgement.verdict != Verdict::Correct || form_of(list, coming).payload == 0 {
-        return None;
+        *delivered = None;
+        return;
     }
     let payload = if judgement.from_a {
         payload_heard(list, coming, a)
     } else {
         payload_heard(list, coming, b)
     };
-    Some(Delivered {
+    *delivered = Some(Delivered {
         sender: coming.sender(),
         payload,
-    })
+    });
 }
 
 #[cfg(test)]

@@ -34,8 +34,6 @@ pub(crate) struct Outside {
     /// How far its clock jumps, and how far it drifts, in microticks.
     pub(crate) jump: i64,
     pub(crate) drift: i64,
-    /// Whether it is armed to listen again.
-    pub(crate) armed: bool,
     /// Whether both channels are silent to it.
     pub(crate) silent: bool,
 }
@@ -45,9 +43,9 @@ impl Model for Outside {
 
     ghost Value = { SlotSurroundings };
 
-    ghost view = { λ s. record { jump = s.jump; drift = s.drift; is_armed = s.armed; is_silent = s.silent } };
+    ghost view = { λ s. record { jump = s.jump; drift = s.drift; is_silent = s.silent } };
 
-    ghost inverse = { λ s. record { jump = s.jump; drift = s.drift; armed = s.is_armed; silent = s.is_silent } };
+    ghost inverse = { λ s. record { jump = s.jump; drift = s.drift; silent = s.is_silent } };
 }
 
 /// What a node keeps of its past.

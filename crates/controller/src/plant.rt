@@ -59,7 +59,8 @@ impl Model for Plant {
 }
 
 // A controller begins the slot. Its node's reading error in it is the answer.
-fn begin_one(controller: &mut Controller, script: &Script, k: u8, slot: u32) -> i64
+fn begin_one(controller: &mut Controller, list: &Medl, script: &Script, k: u8, slot: u32) -> i64
+    requires list { list.now ≡ controller.old.list }
     requires on { k < length script.now.on }
     requires slot { slot ≤ SLOT_LIMIT }
     requires turn { controller.old.turn ≡ Ended }
@@ -68,7 +69,7 @@ fn begin_one(controller: &mut Controller, script: &Script, k: u8, slot: u32) -> 
     ensures error { IsReadingError script.now slot k result }
 {
     let incidents = script.incidents(k, slot);
-    controller.begin(script.is_on(k, slot), incidents.armed, incidents.jump);
+    controller.begin(list, script.is_on(k, slot), incidents.armed, incidents.jump);
     incidents.error
 }
 
@@ -88,7 +89,7 @@ fn begin_all(
 {
     let mut errors = [0; NODE_LIMIT];
     for k in 0..list.nodes() {
-        errors[k as usize] = begin_one(&mut controllers[k as usize], script, k, slot);
+        errors[k as usize] = begin_one(&mut controllers[k as usize], list, script, k, slot);
     }
     errors
 }
@@ -112,62 +113,83 @@ fn payload_for(intent: Intent, chosen: &Chosen) -> &[u8]
 }
 
 // A controller plans its frame, by the message that is chosen for its node.
-fn plan_one(controller: &mut Controller, chosen: &Chosen) -> Option<Outgoing>
+fn plan_one(controller: &mut Controller, list: &Medl, chosen: &Chosen) -> Option<Outgoing>
+    requires list { list.now ≡ controller.old.list }
     requires turn { IsBegun controller.old.turn }
     requires payload { length chosen.now.payload ≡ (plan_at controller.old.list controller.old.node).payload }
     ensures { HasPlanned chosen.now controller.old controller.new result }
 {
     let payload = payload_for(controller.intent(), chosen);
-    controller.plan(chosen.number, payload)
+    controller.plan(list, chosen.number, payload)
 }
 
 // A controller plans, and its frame is put on the medium, if it sends one.
 fn send_one(
     controller: &mut Controller,
     medium: &mut Medium,
+    list: &Medl,
     script: &Script,
     k: u8,
     chosen: &Chosen,
 )
-    requires { MayPlan k chosen.now controller.old }
+    requires list { list.now ≡ controller.old.list }
+    requires may { MayPlan k chosen.now controller.old }
     ensures { HasSent script.now k chosen.now controller.old controller.new medium.old medium.new }
 {
-    if let Some(frame) = plan_one(controller, chosen) {
+    if let Some(frame) = plan_one(controller, list, chosen) {
         medium.put(script, k, &frame, controller.clock());
     }
 }
 
 // The second pass: each controller plans, and what it sends is put on the medium.
-fn send_all(controllers: &mut [Controller], medium: &mut Medium, script: &Script, chosen: &[Chosen])
+fn send_all(
+    controllers: &mut [Controller],
+    medium: &mut Medium,
+    list: &Medl,
+    script: &Script,
+    chosen: &[Chosen],
+)
+    requires lists { AllHave list.now controllers.old }
     requires nodes { length controllers.old ≤ 24 }
     requires count { length chosen.now ≡ length controllers.old }
     requires may { AllMayPlan chosen.now controllers.old }
     ensures { HavePlanned script.now chosen.now controllers.old controllers.new medium.old medium.new }
 {
     for k in 0..controllers.len() {
-        send_one(&mut controllers[k], medium, script, k as u8, &chosen[k]);
+        send_one(
+            &mut controllers[k],
+            medium,
+            list,
+            script,
+            k as u8,
+            &chosen[k],
+        );
     }
 }
 
 // A controller takes what its node hears.
 fn take_one(
     controller: &mut Controller,
+    outcome: &mut Outcome,
     medium: &Medium,
+    list: &Medl,
     script: &Script,
     k: u8,
     error: i64,
-) -> Outcome
+)
+    requires list { list.now ≡ controller.old.list }
     requires may { MayEnd medium.now.slot controller.old }
     requires drift { All (IsWithinSpan DRIFT_LIMIT) script.now.drift }
     requires node { k < length script.now.drift }
     requires error { unsigned_abs error ≤ most_error }
     requires slot { medium.now.slot < SLOT_LIMIT }
     requires medium { IsFromWithin medium.now script.now (most_ahead_in medium.now.slot) }
-    ensures { HasEnded medium.now script.now k error controller.old controller.new result }
+    ensures { HasEnded medium.now script.now k error controller.old controller.new outcome.new }
 {
     let a = medium.heard(script, k, Channel::A);
     let b = medium.heard(script, k, Channel::B);
-    controller.take(&a, &b, error, *script.drift.get(k as usize))
+    let drift = *script.drift.get(k as usize);
+    controller.take(list, &a, &b, error, drift, outcome);
 }
 
 // The third pass: each controller takes what its node hears.
@@ -175,9 +197,11 @@ fn take_all(
     controllers: &mut [Controller],
     outcomes: &mut [Outcome],
     medium: &Medium,
+    list: &Medl,
     script: &Script,
     errors: &[i64; NODE_LIMIT],
 )
+    requires lists { AllHave list.now controllers.old }
     requires nodes { length controllers.old ≤ 24 }
     requires may { AllMayEnd medium.now.slot controllers.old }
     requires outcomes { length outcomes.old ≡ length controllers.old }
@@ -189,7 +213,15 @@ fn take_all(
     ensures { HaveEnded medium.now script.now errors.now controllers.old controllers.new outcomes.new }
 {
     for k in 0..controllers.len() {
-        outcomes[k] = take_one(&mut controllers[k], medium, script, k as u8, errors[k]);
+        take_one(
+            &mut controllers[k],
+            &mut outcomes[k],
+            medium,
+            list,
+            script,
+            k as u8,
+            errors[k],
+        );
     }
 }
 
@@ -217,8 +249,8 @@ fn step(
 {
     let errors = begin_all(controllers, script, list, slot);
     medium.begin(slot);
-    send_all(controllers, medium, script, chosen);
-    take_all(controllers, outcomes, medium, script, &errors);
+    send_all(controllers, medium, list, script, chosen);
+    take_all(controllers, outcomes, medium, list, script, &errors);
 }
 
 // The controllers of a list's nodes.

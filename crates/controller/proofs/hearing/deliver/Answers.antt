@@ -7,8 +7,8 @@ use Rattle.ttp_world.specs.Diary.{Place}
 use Rattle.ttp_world.specs.Reception.{expected_of}
 use Rattle.controller.specs.Hearing.{hearing_of}
 use Rattle.controller.proofs.Deliveries.{payload_from_a, payload_from_b, carries_some, delivered_correct}
-use Rattle.controller.proofs.hearing.delivered.Goals as goal
-use Rattle.controller.proofs.hearing.delivered.Goals.{then-judgement, else-judgement}
+use Rattle.controller.proofs.hearing.deliver.Goals as goal
+use Rattle.controller.proofs.hearing.deliver.Goals.{then-judgement, else-judgement}
 
 pub returns : goal.returns
 returns c k past own error coming sent_a sent_b clock shows_a shows_b is =
