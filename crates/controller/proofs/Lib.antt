@@ -18,12 +18,10 @@ pub mod Stints
 pub mod Turns
 pub mod Within
 mod Walks
-pub mod Course
+pub mod InSlot
 pub mod Near
-pub mod OneNode
+pub mod Parts
 pub mod Passed
 pub mod Payloads
-pub mod Silence
-pub mod SlotEnds
-pub mod SlotSends
+pub mod Sends
 pub mod WholeSlot

@@ -7,6 +7,7 @@ pub mod Sending
 pub mod Limits
 pub mod Hearing
 pub mod StandsFor
+pub mod Parts
 pub mod PlantView
 pub mod PlantWithin
 pub mod Passes

@@ -22,11 +22,13 @@ mod form;
 mod given_list;
 mod hearing;
 mod node;
+mod passes;
 mod plant;
 mod sending;
 mod status;
 mod turn;
 
 pub use controller::{Controller, Intent, Outcome};
+pub use passes::{begin_all, is_loaded, plan_all, take_all};
 pub use plant::Plant;
 pub use status::StatusFlags;
