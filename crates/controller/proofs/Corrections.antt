@@ -13,8 +13,7 @@ use Rattle.ttp_world.specs.Clock.{fta, middle_half, is_corrected, join_deviation
 use Rattle.ttp_world.specs.Diary.{Place, SlotSurroundings, phase_after}
 use Rattle.ttp_world.specs.Medl.{IsValid}
 use Rattle.ttp_world.specs.Past.{NodePast}
-use Rattle.fta_sync.specs.StandsFor.{is_between}
-use Rattle.fta_sync.proofs.Halves.{middle_half-between}
+use Rattle.ttp_world.proofs.Averages.{fta-between}
 use Rattle.controller.specs.Kept.{kept}
 use Rattle.controller.specs.Within.{IsNearEnough, IsWithin, IsEntryWithin}
 use Rattle.controller.proofs.Kept.{correction_after-take}
@@ -32,35 +31,12 @@ slot_change-on (entry.Joined sender cstate deviation) s corrected on = refl
 slot_change-on (entry.Judged sender v deviation) s corrected on = refl
 slot_change-on (entry.Left why peer) s corrected on = refl
 
--- The average of deviations within the window lies within it.
-
-between_test : (low high z : ℤ) → low ≤ℤ z → z ≤ℤ high → is_between low high z ≡ true
-between_test low high z from upto = grind (arith, ints)
-
-four_counted : (w x y z : Bool) → w ≡ true → x ≡ true → y ≡ true → z ≡ true → 3 ≤ (((0 + cond w 1 0) + cond x 1 0) + cond y 1 0) + cond z 1 0
-four_counted w x y z p q r s = rw (p, q, r, s) (omega arith)
-
-middle_half-near : (list : Medl) (a b c d : ℤ) → IsNearEnough list a → IsNearEnough list b → IsNearEnough list c → IsNearEnough list d
-    → IsNearEnough list (middle_half (a ∷ b ∷ c ∷ d ∷ []))
-middle_half-near list a b c d p q r s =
-    let low = neg_ℤ list.window in
-    let high = list.window in
-    middle_half-between low high a b c d
-    (four_counted (is_between low high a) (is_between low high b) (is_between low high c) (is_between low high d)
-    (between_test low high a p.0 p.1) (between_test low high b q.0 q.1) (between_test low high c r.0 r.1) (between_test low high d s.0 s.1))
+-- A correction lies within the window.
 
 fta-near : (list : Medl) (notes : List ℤ) → IsValid list → All (IsNearEnough list) notes → IsNearEnough list (fta notes)
-fta-near list [] valid near = zero_near list valid
-fta-near list (a ∷ []) valid near = zero_near list valid
-fta-near list (a ∷ b ∷ []) valid near = zero_near list valid
-fta-near list (a ∷ b ∷ c ∷ []) valid near = zero_near list valid
-fta-near list (a ∷ b ∷ c ∷ d ∷ notes) valid near =
-    let P = IsNearEnough list in
-    let second = All-tail P a (b ∷ c ∷ d ∷ notes) near in
-    let third = All-tail P b (c ∷ d ∷ notes) second in
-    let fourth = All-tail P c (d ∷ notes) third in
-    cond_both (nat_lt (length (a ∷ b ∷ c ∷ d ∷ notes)) 4) (pos 0) (middle_half (a ∷ b ∷ c ∷ d ∷ [])) P (λ few. zero_near list valid)
-    (λ many. middle_half-near list a b c d (All-head P a (b ∷ c ∷ d ∷ notes) near) (All-head P b (c ∷ d ∷ notes) second) (All-head P c (d ∷ notes) third) (All-head P d notes fourth))
+fta-near list notes valid near =
+    let zero = zero_near list valid in
+    fta-between (neg_ℤ list.window) list.window notes zero.0 zero.1 near
 
 correction_after-near : (list : Medl) (place : Place) (notes : List ℤ) (e : Entry) → IsValid list → All (IsNearEnough list) notes
     → IsNearEnough list (correction_after list place notes e)

@@ -17,9 +17,9 @@ use Rattle.ttp_world.specs.Diary.{Place, SlotSurroundings, phase_after}
 use Rattle.ttp_world.specs.Medl.{may_start}
 use Rattle.ttp_world.specs.Messages.{has_averaged, status_words}
 use Rattle.ttp_world.specs.Past.{NodePast, state_of}
-use Rattle.cold_start.specs.StandsFor.{most_silent}
+use Rattle.ttp_world.proofs.Averages.{fta-take}
+use Rattle.cold_start.specs.Listening.{most_silent}
 use Rattle.fta_sync.specs.StandsFor.{kept_notes}
-use Rattle.fta_sync.proofs.KeptNotes.{fta-take}
 use Rattle.controller.specs.Kept.{kept}
 
 -- Silent slots.

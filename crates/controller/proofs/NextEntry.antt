@@ -33,7 +33,6 @@ use Rattle.ttp_world.specs.Reception.{Expected, Hearing, better_view, entry_devi
 use Rattle.ttp_world.specs.Reception.{is_expected_form, is_taken_from_a, is_within_window, verdict_of, verdict_of_view}
 use Rattle.ttp_world.specs.Reception.{view_of, view_of_frame}
 use Rattle.ack_check.specs.Moves.{taken_verdict}
-use Rattle.ack_check.proofs.MoveLaws.{taken-verdict_of}
 use Rattle.fta_sync.specs.StandsFor.{IsDeviation}
 use Rattle.medium.specs.declared.arrival.Arrival.{Arrival}
 use Rattle.medium.specs.declared.arrival.Arrival.TheVariants as arrival
@@ -109,6 +108,24 @@ listening_entry-next list k past h valid late =
     (channel_join-next list k past h.deviation h.a valid late.a) (channel_join-next list k past h.deviation h.b valid late.b)
 
 -- Judging.
+
+-- a verdict is one that the acknowledgement can have
+taken-view : (v : ChannelView) (a : Ack) → taken_verdict a (verdict_of_view v a) ≡ verdict_of_view v a
+taken-view view.First ack.Closed = refl
+taken-view view.First ack.First = refl
+taken-view view.First (ack.Doubt x) = refl
+taken-view view.Second ack.Closed = refl
+taken-view view.Second ack.First = refl
+taken-view view.Second (ack.Doubt x) = refl
+taken-view view.Other ack.Closed = refl
+taken-view view.Other ack.First = refl
+taken-view view.Other (ack.Doubt x) = refl
+taken-view view.Bad ack.Closed = refl
+taken-view view.Bad ack.First = refl
+taken-view view.Bad (ack.Doubt x) = refl
+taken-view view.Silent ack.Closed = refl
+taken-view view.Silent ack.First = refl
+taken-view view.Silent (ack.Doubt x) = refl
 
 -- only the first candidate is correct
 first_of_correct : (v : ChannelView) (a : Ack) → is_correct (verdict_of_view v a) ≡ true → v ≡ view.First
@@ -192,7 +209,7 @@ judging_entry-next list k past h is other =
     let e = expected_of list k past in
     let va = view_of list e h.deviation h.a in
     let vb = view_of list e h.deviation h.b in
-    verdict_entry-next list k past (verdict_of va vb past.ack) _ is other (taken-verdict_of va vb past.ack)
+    verdict_entry-next list k past (verdict_of va vb past.ack) _ is other (taken-view (better_view va vb) past.ack)
     (λ correct. taken_is_near list (is_taken_from_a va vb) va vb (heard_deviation h.deviation h.a) (heard_deviation h.deviation h.b)
     (first_of_correct (better_view va vb) past.ack correct) (first_is_near list e h.deviation h.a) (first_is_near list e h.deviation h.b))
 

@@ -24,7 +24,7 @@ use Rattle.ttp_world.proofs.Lists.{nodes-most}
 use Rattle.ttp_world.proofs.MemberSets.{members_after-Judged}
 use Rattle.ack_check.specs.declared.moves.AckMove.{AckMove}
 use Rattle.ack_check.specs.Moves.{moved_members, IsDoubtElsewhere, IsMoveOf}
-use Rattle.cold_start.specs.StandsFor.{most_silent}
+use Rattle.cold_start.specs.Listening.{most_silent}
 use Rattle.fta_sync.specs.StandsFor.{kept_notes}
 use Rattle.controller.specs.Kept.{kept}
 use Rattle.controller.specs.Stint.{stint_after}

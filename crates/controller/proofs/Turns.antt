@@ -11,7 +11,7 @@ use Rattle.ttp_world.specs.Medl.{IsValid}
 use Rattle.ttp_world.specs.Past.{NodePast, past_of}
 use Rattle.ttp_world.specs.World.{jump_taken}
 use Rattle.ttp_world.proofs.Lists.{nodes-most}
-use Rattle.cold_start.specs.StandsFor.{most_silent}
+use Rattle.cold_start.specs.Listening.{most_silent}
 use Rattle.controller.specs.declared.controller.Intent.{Intent}
 use Rattle.controller.specs.declared.controller.Intent.TheVariants as intent
 use Rattle.controller.specs.Kept.{kept}

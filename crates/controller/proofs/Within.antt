@@ -3,13 +3,15 @@ use Rattle.std.proofs.Common.{◌≡◌, ◌≢◌, ℕ, suc, ◌+◌, ◌-◌, 
 use Rattle.std.proofs.Common.{◌++◌, length, take, Option, Some, None, mod-lt, refl, sym, subst, ◌∙◌, ap, inl, inr}
 use Rattle.std.proofs.Common.{arith}
 use Rattle.std.specs.Prelude.{◌==◌, nat_lt, All, IfSome}
+use Rattle.std.specs.List.{filter}
 use Rattle.std.specs.Option.{option_to_list}
 use Rattle.std.proofs.lemmas.Bool.{cond_both, cases_lt, cond-true, cond-false, lt-ltb, le-ltb, eqb-false, eqb-true}
 use Rattle.std.proofs.lemmas.Int.{ints}
 use Rattle.std.proofs.lemmas.List.{length-take}
 use Rattle.std.proofs.lemmas.List.Elements.{All-nil, All-cons, All-take}
-use Rattle.ttp_base.specs.NodeSet.{has_node}
+use Rattle.ttp_base.specs.NodeSet.{below, has_node}
 use Rattle.ttp_base.proofs.NodeLists.{filter-none}
+use Rattle.ttp_base.proofs.NodeSets.{same_sieve, has_node-sieve}
 use Rattle.ttp_world.specs.declared.medl.Medl.{Medl}
 use Rattle.ttp_world.specs.declared.node.Ack.{Ack}
 use Rattle.ttp_world.specs.declared.node.Ack.TheVariants as ack
@@ -24,7 +26,6 @@ use Rattle.ttp_world.specs.Diary.{Place, start_place, joined_place, next_place, 
 use Rattle.ttp_world.specs.Medl.{IsValid, plan_at}
 use Rattle.ttp_world.specs.Membership.{AreNodes}
 use Rattle.ttp_world.specs.Past.{NodePast, retried_of, limit_of, no_past}
-use Rattle.member_clique.proofs.Laws.{AreNodes-filter}
 use Rattle.fta_sync.specs.StandsFor.{kept_notes}
 use Rattle.controller.specs.Kept.{kept}
 use Rattle.controller.specs.Within.{slots_to_own, IsAckWithin, IsNearEnough, IsWithin, IsEntryWithin}
@@ -98,6 +99,11 @@ IsPlaceOf-next list place valid round slot =
     (λ inside. record { round = round; slot = lt_of_ne (place.slot + 1) (length list.slots) (omega (arith, slot)) (λ same. eqb-false (suc place.slot) (length list.slots) inside (omega arith)) })
 
 -- Sets.
+
+AreNodes-filter : (list : Medl) (p : ℕ → Bool) → AreNodes list (filter p (below (length list.slots)))
+AreNodes-filter list p =
+    let n = length list.slots in
+    same_sieve p (has_node (filter p (below n))) n (λ j within. sym (has_node-sieve p n j within))
 
 AreNodes-nil : (list : Medl) → AreNodes list []
 AreNodes-nil list = sym (filter-none (has_node []) 0 (length list.slots) (λ j _. refl))

@@ -1,5 +1,5 @@
 //! What a node makes of what comes to it in a slot: its entry, and what it hands to its host.
-ghost use Rattle.std.specs.Prelude.{◌≡◌, ◌↔◌, ◌+◌, ◌≤◌, ◌<◌, ℕ, ℤ, ◌-ℤ◌, ◌+ℤ◌, Bool, not, IsTrue, ◌++◌, drop, length};
+ghost use Rattle.std.specs.Prelude.{◌≡◌, ◌↔◌, ◌+◌, ◌≤◌, ◌<◌, ℕ, ℤ, ◌-ℤ◌, ◌+ℤ◌, Bool, not, IsTrue, length};
 ghost use Rattle.std.specs.Prelude.{unsigned_abs, if◌then◌else◌};
 ghost use Rattle.ttp_frame.specs.Shape.{HaveRoom};
 ghost use Rattle.ttp_world.specs.Act.{coming_place};
@@ -26,7 +26,7 @@ use slot_clock::SlotClock;
 use ttp_base::NodeSet;
 use ttp_frame::{Expect, FrameMatch, judge, read_explicit};
 use ttp_world::{
-    Ack, CState, ChannelView, Delivered, Entry, Medl, PAYLOAD_LIMIT, Payload, Reason, Verdict,
+    Ack, CState, ChannelView, Delivered, Entry, Medl, Payload, Reason, Verdict,
 };
 
 /// What an active node judges the slot of another node by.
@@ -360,27 +360,6 @@ fn payload_in<'a>(form: &Expect, bytes: &'a [u8]) -> &'a [u8]
     &behind[..behind.len().min(form.payload as usize)]
 }
 
-// Writes bytes to the front of others.
-fn put_front(out: &mut [u8; PAYLOAD_LIMIT], bytes: &[u8])
-    requires { length bytes.now ≤ 240 }
-    ensures { out.new ≡ bytes.now ++ drop (length bytes.now) out.old }
-{
-    out[..bytes.len()].copy_from_slice(bytes);
-}
-
-// The payload of these bytes.
-fn payload_of(bytes: &[u8]) -> Payload
-    requires { length bytes.now ≤ 240 }
-    ensures { result ≡ bytes.now }
-{
-    let mut copied = [0; PAYLOAD_LIMIT];
-    put_front(&mut copied, bytes);
-    Payload {
-        len: bytes.len() as u8,
-        bytes: copied,
-    }
-}
-
 // The payload that came on a channel, in a frame of this place.
 fn payload_heard(list: &Medl, place: &SlotClock, came: &Arrival) -> Payload
     requires valid { IsValid list.now }
@@ -389,8 +368,8 @@ fn payload_heard(list: &Medl, place: &SlotClock, came: &Arrival) -> Payload
         result ≡ payload_heard list.now place.now.place sent) }
 {
     match came {
-        Arrival::Silence | Arrival::Noise => payload_of(&[]),
-        Arrival::Bits { bytes, .. } => payload_of(payload_in(&form_of(list, place), bytes)),
+        Arrival::Silence | Arrival::Noise => Payload::of(&[]),
+        Arrival::Bits { bytes, .. } => Payload::of(payload_in(&form_of(list, place), bytes)),
     }
 }
 

@@ -7,7 +7,7 @@ ghost use Rattle.ttp_world.specs.Diary.{phase_after, cstate_at};
 ghost use Rattle.ttp_world.specs.Medl.{IsValid};
 ghost use Rattle.ttp_world.specs.Messages.{has_averaged};
 ghost use Rattle.ttp_world.specs.Past.{state_of, no_past};
-ghost use Rattle.cold_start.specs.StandsFor.{most_silent, is_silent};
+ghost use Rattle.cold_start.specs.Listening.{most_silent, is_silent};
 ghost use Rattle.fta_sync.specs.StandsFor.{IsDeviation};
 ghost use Rattle.slot_clock.specs.StandsFor.{StandsFor};
 ghost use Rattle.controller.specs.Kept.{kept};

@@ -5,29 +5,13 @@ use Rattle.std.specs.Prelude.{int_le, int_div, int_rem, unsigned_abs, count_by}
 use Rattle.std.specs.Int.{int_min, int_max}
 use Rattle.std.proofs.lemmas.Int.{ints, clamps, quot-rem, rem_below}
 use Rattle.ttp_world.specs.Clock.{middle_half}
+use Rattle.ttp_world.proofs.Averages.{Between, half_between}
 use Rattle.fta_sync.specs.StandsFor.{most_deviation, IsDeviation, is_between}
 use Rattle.fta_sync.proofs.MiddleTwo.{paired_sum, middle_half-paired}
 
--- Halves.
-
-rem_small : (r : ℤ) → unsigned_abs r < 2 → (negsuc 0 ≤ℤ r) × (r ≤ℤ pos 1)
-rem_small (pos n) small = (omega (arith, ints, small), omega (arith, ints, small))
-rem_small (negsuc n) small = (omega (arith, ints, small), omega (arith, ints, small))
-
-half_between_of : (low high z q r : ℤ) → q *ℤ pos 2 +ℤ r ≡ z → (negsuc 0 ≤ℤ r) × (r ≤ℤ pos 1) → (low +ℤ low) ≤ℤ z → z ≤ℤ (high +ℤ high) → (low ≤ℤ q) × (q ≤ℤ high)
-half_between_of low high z q r is small from upto = (omega (arith, ints, is, small.0, small.1, from), omega (arith, ints, is, small.0, small.1, upto))
-
-half_between : (low high z : ℤ) → (low +ℤ low) ≤ℤ z → z ≤ℤ (high +ℤ high) → (low ≤ℤ int_div z (pos 2)) × (int_div z (pos 2) ≤ℤ high)
-half_between low high z from upto =
-    half_between_of low high z (int_div z (pos 2)) (int_rem z (pos 2)) (quot-rem z (pos 2)) (rem_small (int_rem z (pos 2)) (rem_below z (pos 2) (omega arith))) from upto
-
 -- The sum of the middle two, where one of the four may be anything.
 
--- a number lies between two bounds
-abbrev pub Between : ℤ → ℤ → ℤ → Type 0
-Between low high z = (low ≤ℤ z) × (z ≤ℤ high)
-
--- and half a number does
+-- half a number lies between two bounds
 abbrev pub HalfBetween : ℤ → ℤ → ℤ → Type 0
 HalfBetween low high z = ((low +ℤ low) ≤ℤ z) × (z ≤ℤ (high +ℤ high))
 

@@ -1,3 +1,4 @@
+pub mod Averages
 pub mod Entries
 pub mod EntriesMade
 pub mod EventBounds

@@ -37,10 +37,10 @@ returns c =
       entry = refl;
       place = place;
       members = ap (λ cstate. cstate.members) c.cstate-self-inside.ensures
-          ∙ c.set.ensures ∙ c.apply.ensures.value ∙ ap (λ s. moved_members c.step-asked.result s a.sender) c.of-members.ensures.value
+          ∙ c.set.ensures ∙ c.apply.ensures ∙ ap (λ s. moved_members c.step-asked.result s a.sender) c.of-members.ensures
           ∙ moved_members-after a.list.now a.k _ a.sender a.verdict a.deviation c.step-asked.result c.requires.valid c.requires.node within judged moves;
-      accepted = ap (λ counts. counts.accepted) c.count.ensures.value ∙ ap (λ more. counted more before.counts.accepted) moves.accepts;
-      rejected = ap (λ counts. counts.rejected) c.count.ensures.value ∙ ap (λ more. counted more before.counts.rejected) moves.rejects;
+      accepted = ap (λ counts. counts.accepted) c.count.ensures ∙ ap (λ more. counted more before.counts.accepted) moves.accepts;
+      rejected = ap (λ counts. counts.rejected) c.count.ensures ∙ ap (λ more. counted more before.counts.rejected) moves.rejects;
       ack = c.step-asked.ensures.value ∙ ap (λ v. ack_answered before.ack v a.sender) judged.possible;
       cold_start = refl;
       limit = refl;
