@@ -20,25 +20,16 @@ use Rattle.controller.specs.Within.{IsAckWithin, IsWithin}
 -- The first candidate on channel A.
 
 first_is_correct : (b : ChannelView) (a : Ack) → Correct ≡ verdict_of First b a
-first_is_correct Silent a = refl
-first_is_correct Bad a = refl
-first_is_correct Other a = refl
 first_is_correct First a = refl
-first_is_correct Second a = refl
+first_is_correct _ a = refl
 
 first_is_taken : (b : ChannelView) → true ≡ is_taken_from_a First b
-first_is_taken Silent = refl
-first_is_taken Bad = refl
-first_is_taken Other = refl
 first_is_taken First = refl
-first_is_taken Second = refl
+first_is_taken _ = refl
 
-pub first_of_test : (v : ChannelView) → is_first_view v ≡ true → v ≡ First
-first_of_test Silent is = cc
-first_of_test Bad is = cc
-first_of_test Other is = cc
+first_of_test : (v : ChannelView) → is_first_view v ≡ true → v ≡ First
 first_of_test First is = refl
-first_of_test Second is = cc
+first_of_test _ is = cc
 
 -- of both deviations, that of channel A
 taken_deviation : (d : ℤ) (b : Option ℤ) → d ≡ entry_deviation true (Some d) b

@@ -4,7 +4,9 @@ use Rattle.std.proofs.Common.{length, take, refl, ap, sym, ◌∙◌, inl, inr, 
 use Rattle.std.specs.Prelude.{nat_le}
 use Rattle.std.proofs.lemmas.Bool.{cases_lt, le-leb, lt-leb}
 use Rattle.ttp_world.specs.declared.medl.Medl.{Medl}
-use Rattle.ttp_world.specs.declared.node.Act.TheVariants.{Start, Listen}
+use Rattle.ttp_world.specs.declared.node.Act.{Act}
+use Rattle.ttp_world.specs.declared.node.Act.TheVariants.{Start, Listen, Send}
+use Rattle.ttp_world.specs.declared.node.Chosen.{Chosen}
 use Rattle.ttp_world.specs.declared.node.Entry.{Entry}
 use Rattle.ttp_world.specs.declared.node.Entry.TheVariants as entry
 use Rattle.ttp_world.specs.declared.node.Phase.{Phase}
@@ -13,14 +15,17 @@ use Rattle.ttp_world.specs.Act.{act, phase_act}
 use Rattle.ttp_world.specs.After.{past_after, silent_slots_after, notes_after, is_active_entry, correction_after}
 use Rattle.ttp_world.specs.After.{place_after}
 use Rattle.ttp_world.specs.Clock.{notes_in, begins_round, is_corrected, slot_change}
+use Rattle.ttp_world.specs.Conduct.{node_frames, new_entry, delivery}
 use Rattle.ttp_world.specs.Diary.{Place, SlotSurroundings, phase_after}
 use Rattle.ttp_world.specs.Medl.{may_start}
 use Rattle.ttp_world.specs.Messages.{has_averaged, status_words}
 use Rattle.ttp_world.specs.Past.{NodePast, state_of}
+use Rattle.ttp_world.specs.Reception.{Hearing}
 use Rattle.ttp_world.proofs.Averages.{fta-take}
 use Rattle.cold_start.specs.Listening.{most_silent}
 use Rattle.fta_sync.specs.StandsFor.{kept_notes}
 use Rattle.controller.specs.Kept.{kept}
+use Rattle.controller.specs.StandsFor.{message_planned, payload_planned}
 
 -- Silent slots.
 
@@ -31,14 +36,7 @@ silent-kept false count = refl
 silent_slots_after-kept : (count : ℕ) (e : Entry) (silent : Bool)
     → min (silent_slots_after (min count most_silent) e silent) most_silent ≡ min (silent_slots_after count e silent) most_silent
 silent_slots_after-kept count entry.Waited silent = silent-kept silent count
-silent_slots_after-kept count entry.Off silent = refl
-silent_slots_after-kept count entry.Retried silent = refl
-silent_slots_after-kept count entry.Gone silent = refl
-silent_slots_after-kept count entry.Started silent = refl
-silent_slots_after-kept count (entry.Sent message) silent = refl
-silent_slots_after-kept count (entry.Joined sender cstate deviation) silent = refl
-silent_slots_after-kept count (entry.Judged sender v deviation) silent = refl
-silent_slots_after-kept count (entry.Left why peer) silent = refl
+silent_slots_after-kept count _ silent = refl
 
 -- Notes.
 
@@ -115,6 +113,24 @@ phase_act-kept phase.Active list k on armed past few = refl
 
 pub act-kept : (list : Medl) (k : ℕ) (on armed : Bool) (past : NodePast) → past.limit ≤ most_silent → act list k on armed (kept past) ≡ act list k on armed past
 act-kept list k on armed past few = phase_act-kept past.phase list k on armed past few
+
+-- What it sends, and what it makes of what it hears.
+
+pub record DecidesAlike (list : Medl) (k : ℕ) (past : NodePast) (chosen : Chosen) (does : Act) : Type 0 where
+  pub message : message_planned list (kept past) chosen does ≡ message_planned list past chosen does
+  pub payload : payload_planned list (kept past) chosen does ≡ payload_planned list past chosen does
+  pub frames : node_frames list k (kept past) chosen does ≡ node_frames list k past chosen does
+  pub entry : (h : Hearing) → new_entry list k (kept past) chosen h does ≡ new_entry list k past chosen h does
+
+pub decides-alike : (list : Medl) (k : ℕ) (past : NodePast) (chosen : Chosen) (does : Act)
+    → DecidesAlike list k past chosen does
+decides-alike list k past chosen Send = record { message = refl; payload = refl; frames = refl; entry = λ h. refl }
+decides-alike list k past chosen _ = record { message = refl; payload = refl; frames = refl; entry = λ h. refl }
+
+pub delivery-kept : (list : Medl) (k : ℕ) (past : NodePast) (h : Hearing) (e : Entry)
+    → delivery list k (kept past) h e ≡ delivery list k past h e
+delivery-kept list k past h (entry.Judged sender v deviation) = refl
+delivery-kept list k past h _ = refl
 
 -- What is shown and published.
 

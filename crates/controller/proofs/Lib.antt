@@ -1,27 +1,25 @@
 mod Arrivals
 mod Candidates
-pub mod Corrections
+pub mod Clocks
 mod Deliveries
+mod Endings
+mod Heard
+pub mod InSlot
 mod Joinable
 mod Judgements
 pub mod Kept
-mod NextEntry
-mod Endings
-mod Heard
-mod Landing
-pub mod SlotEnd
-pub mod SlotStands
-pub mod Rooms
-pub mod SendingLaws
-pub mod StatusLaws
-pub mod Stints
-pub mod Turns
-pub mod Within
-mod Walks
-pub mod InSlot
+pub mod MadeEntries
 pub mod Near
 pub mod Parts
 pub mod Passed
 pub mod Payloads
+pub mod Rooms
+pub mod SendingLaws
 pub mod Sends
+pub mod SlotStands
+pub mod StatusLaws
+pub mod Stints
+pub mod Turns
+mod Walks
 pub mod WholeSlot
+pub mod Within

@@ -11,7 +11,7 @@ use Rattle.ttp_world.specs.declared.node.Entry.TheVariants as entry
 use Rattle.ttp_world.specs.After.{place_after, members_after, accepted_after, rejected_after, ack_after}
 use Rattle.ttp_world.specs.After.{cold_start_after, limit_after, silent_slots_after, notes_after, correction_after}
 use Rattle.ttp_world.specs.After.{past_after}
-use Rattle.ttp_world.specs.Clock.{slot_change}
+use Rattle.ttp_world.specs.Clock.{join_deviation, slot_change}
 use Rattle.ttp_world.specs.Conduct.{new_entry, delivery}
 use Rattle.ttp_world.specs.Diary.{Diary, Surroundings, SlotSurroundings, phase_after, may_follow}
 use Rattle.ttp_world.specs.Medl.{IsValid}
@@ -30,76 +30,34 @@ use Rattle.controller.specs.SeatWithin.{IsPossible, IsPlannedWithin}
 use Rattle.controller.specs.StandsFor.{most_slots, Ends, message_planned}
 use Rattle.controller.specs.Turn.{Turn, Ended, Planned}
 use Rattle.controller.proofs.Heard.{silence-shown}
-use Rattle.controller.proofs.Kept.{kept_after-kept, status_words-kept}
-use Rattle.controller.proofs.Turns.{seat_at, same_act, same_jump, same_message, message_planned-kept, act_kept-of}
-
--- What is kept decides what a node makes of a slot.
-
-new_entry-kept : (list : Medl) (k : ℕ) (past : NodePast) (chosen : Chosen) (h : Hearing) (does : Act) → new_entry list k (kept past) chosen h does ≡ new_entry list k past chosen h does
-new_entry-kept list k past chosen h Off = refl
-new_entry-kept list k past chosen h Gone = refl
-new_entry-kept list k past chosen h Listen = refl
-new_entry-kept list k past chosen h Start = refl
-new_entry-kept list k past chosen h Retry = refl
-new_entry-kept list k past chosen h (Leave why) = refl
-new_entry-kept list k past chosen h Send = refl
-new_entry-kept list k past chosen h Judge = refl
-
-delivery-kept : (list : Medl) (k : ℕ) (past : NodePast) (h : Hearing) (e : Entry) → delivery list k (kept past) h e ≡ delivery list k past h e
-delivery-kept list k past h entry.Off = refl
-delivery-kept list k past h entry.Waited = refl
-delivery-kept list k past h entry.Retried = refl
-delivery-kept list k past h entry.Gone = refl
-delivery-kept list k past h entry.Started = refl
-delivery-kept list k past h (entry.Sent message) = refl
-delivery-kept list k past h (entry.Joined sender cstate deviation) = refl
-delivery-kept list k past h (entry.Judged sender v deviation) = refl
-delivery-kept list k past h (entry.Left why peer) = refl
+use Rattle.controller.proofs.Kept.{decides-alike, delivery-kept, kept_after-kept, status_words-kept}
+use Rattle.controller.proofs.Turns.{seat_at, same_act, same_jump, same_message, act_kept-of}
 
 -- What comes from outside matters by its silence, and by how it changes the clock.
 
-past_after-outside : (list : Medl) (k : ℕ) (past : NodePast) (e : Entry) (x y : SlotSurroundings) → x.is_silent ≡ y.is_silent
-    → ((corrected : ℤ) → slot_change e x corrected ≡ slot_change e y corrected) → past_after list k past e x ≡ past_after list k past e y
+past_after-outside : (list : Medl) (k : ℕ) (past : NodePast) (e : Entry) (x y : SlotSurroundings)
+    → x.is_silent ≡ y.is_silent → ((corrected : ℤ) → slot_change e x corrected ≡ slot_change e y corrected)
+    → past_after list k past e x ≡ past_after list k past e y
 past_after-outside list k past e x y silent changes =
-    let place = place_after list k past.place e in
-    let notes = notes_after list past.notes place e in
-    λ i. record {
-      phase = phase_after e;
-      entry = e;
-      place = place;
-      members = members_after list k past.members past.ack e;
-      accepted = accepted_after past.accepted e;
-      rejected = rejected_after past.rejected past.ack e;
-      ack = ack_after past.ack e;
-      cold_start = cold_start_after past.cold_start e;
-      limit = limit_after list k past.limit e;
+    let after = past_after list k past e x in
+    λ i. record after {
       silent_slots = silent_slots_after past.silent_slots e (silent i);
-      offset = past.offset +ℤ changes (correction_after list place notes e) i;
-      notes = notes;
+      offset = past.offset +ℤ changes (correction_after list after.place after.notes e) i;
     }
 
-same_change : (e : Entry) (x y : SlotSurroundings) (corrected : ℤ) → x.jump ≡ y.jump → x.drift ≡ y.drift → slot_change e x corrected ≡ slot_change e y corrected
+same_change : (e : Entry) (x y : SlotSurroundings) (corrected : ℤ) → x.jump ≡ y.jump → x.drift ≡ y.drift
+    → slot_change e x corrected ≡ slot_change e y corrected
 same_change entry.Off x y corrected jump drift = refl
-same_change entry.Waited x y corrected jump drift = λ i. jump i +ℤ (drift i +ℤ (pos 0 +ℤ corrected))
-same_change entry.Retried x y corrected jump drift = λ i. jump i +ℤ (drift i +ℤ (pos 0 +ℤ corrected))
-same_change entry.Gone x y corrected jump drift = λ i. jump i +ℤ (drift i +ℤ (pos 0 +ℤ corrected))
-same_change entry.Started x y corrected jump drift = λ i. jump i +ℤ (drift i +ℤ (pos 0 +ℤ corrected))
-same_change (entry.Sent message) x y corrected jump drift = λ i. jump i +ℤ (drift i +ℤ (pos 0 +ℤ corrected))
-same_change (entry.Joined sender cstate deviation) x y corrected jump drift = λ i. jump i +ℤ (drift i +ℤ (deviation +ℤ corrected))
-same_change (entry.Judged sender v deviation) x y corrected jump drift = λ i. jump i +ℤ (drift i +ℤ (pos 0 +ℤ corrected))
-same_change (entry.Left why peer) x y corrected jump drift = λ i. jump i +ℤ (drift i +ℤ (pos 0 +ℤ corrected))
+same_change e x y corrected jump drift = λ i. jump i +ℤ (drift i +ℤ (join_deviation e +ℤ corrected))
 
 -- the jump that a node takes is the slot's, or it is off and makes that entry
-taken_change : (list : Medl) (k : ℕ) (past : NodePast) (chosen : Chosen) (h : Hearing) (does : Act) (x s : SlotSurroundings) (corrected : ℤ) → x.jump ≡ jump_taken does s.jump → x.drift ≡ s.drift
-    → slot_change (new_entry list k past chosen h does) x corrected ≡ slot_change (new_entry list k past chosen h does) s corrected
+taken_change : (list : Medl) (k : ℕ) (past : NodePast) (chosen : Chosen) (h : Hearing) (does : Act)
+    (x s : SlotSurroundings) (corrected : ℤ) → x.jump ≡ jump_taken does s.jump → x.drift ≡ s.drift
+    → slot_change (new_entry list k past chosen h does) x corrected
+    ≡ slot_change (new_entry list k past chosen h does) s corrected
 taken_change list k past chosen h Off x s corrected jump drift = refl
-taken_change list k past chosen h Gone x s corrected jump drift = same_change entry.Gone x s corrected jump drift
-taken_change list k past chosen h Listen x s corrected jump drift = same_change (new_entry list k past chosen h Listen) x s corrected jump drift
-taken_change list k past chosen h Start x s corrected jump drift = same_change entry.Started x s corrected jump drift
-taken_change list k past chosen h Retry x s corrected jump drift = same_change entry.Retried x s corrected jump drift
-taken_change list k past chosen h (Leave why) x s corrected jump drift = same_change (entry.Left why k) x s corrected jump drift
-taken_change list k past chosen h Send x s corrected jump drift = same_change (new_entry list k past chosen h Send) x s corrected jump drift
-taken_change list k past chosen h Judge x s corrected jump drift = same_change (new_entry list k past chosen h Judge) x s corrected jump drift
+taken_change list k past chosen h does x s corrected jump drift =
+    same_change (new_entry list k past chosen h does) x s corrected jump drift
 
 -- Counting slots.
 
@@ -135,12 +93,13 @@ Ends-seat list k past slots t new ended outcome made handed does jump message a 
     let now = Planned does jump message in
     let then = Planned there jumped (message_planned list read chosen there) in
     let acts = same_act now then turns in
+    let alike = decides-alike list k read chosen there in
     let same = same_jump now then turns in
     let own : (past.offset +ℤ jump) ≡ (read.offset +ℤ jumped) = λ i. (stands.past i).offset +ℤ same i in
     let h = hearing_of sent_a sent_b clock (read.offset +ℤ jumped) error in
-    let carries = same_message now then turns ∙ sym (message_planned-kept list read chosen there) ∙ (λ i. message_planned list (sym stands.past i) chosen (sym acts i)) in
+    let carries = same_message now then turns ∙ sym (alike.message) ∙ (λ i. message_planned list (sym stands.past i) chosen (sym acts i)) in
     let is = ends chosen carries sent_a sent_b clock shown_a shown_b in
-    let from_kept = (λ i. new_entry list k (stands.past i) chosen (hearing_of sent_a sent_b clock (own i) error) (acts i)) ∙ new_entry-kept list k read chosen h there in
+    let from_kept = (λ i. new_entry list k (stands.past i) chosen (hearing_of sent_a sent_b clock (own i) error) (acts i)) ∙ alike.entry h in
     let e = new_entry list k read chosen h there in
     let makes = is.entry ∙ from_kept in
     let possible = subst (IsPossible list k past) acts planned.begun.possible in
@@ -156,7 +115,7 @@ Ends-seat list k past slots t new ended outcome made handed does jump message a 
     let hands =
     is.delivered
     ∙ (λ i. delivery list k (stands.past i) (hearing_of sent_a sent_b clock (own i) error) (new_entry list k (stands.past i) chosen (hearing_of sent_a sent_b clock (own i) error) (acts i)))
-    ∙ (λ i. delivery list k (kept read) h (new_entry-kept list k read chosen h there i))
+    ∙ (λ i. delivery list k (kept read) h (alike.entry h i))
     ∙ delivery-kept list k read h e in
     record {
       stands = record {

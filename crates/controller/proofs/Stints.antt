@@ -101,11 +101,7 @@ noted list slot there told said notes new same says is =
 -- a verdict that is not correct
 is_correct-other : (v : Verdict) → v ≢ verdict.Correct → is_correct v ≡ false
 is_correct-other verdict.Correct other = absurd (other refl)
-is_correct-other verdict.Null other = refl
-is_correct-other verdict.Invalid other = refl
-is_correct-other verdict.Incorrect other = refl
-is_correct-other verdict.Tentative other = refl
-is_correct-other verdict.Denied other = refl
+is_correct-other _ other = refl
 
 pub not_noted : (v : Verdict) (deviation : ℤ) → v ≢ verdict.Correct → None ≡ cond (is_correct v) (Some deviation) None
 not_noted v deviation other = sym (cond-false (is_correct v) (Some deviation) None (is_correct-other v other))

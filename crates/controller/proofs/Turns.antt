@@ -19,7 +19,7 @@ use Rattle.controller.specs.Limits.{intent_by, message_carried}
 use Rattle.controller.specs.SeatWithin.{IsSeatWithin}
 use Rattle.controller.specs.StandsFor.{Begins, Plans, frames_planned, message_planned, payload_planned}
 use Rattle.controller.specs.Turn.{Turn, Ended, Begun, Planned, Seat}
-use Rattle.controller.proofs.Kept.{act-kept}
+use Rattle.controller.proofs.Kept.{act-kept, decides-alike}
 use Rattle.controller.proofs.Within.{limit_of-within}
 
 -- a controller at a turn
@@ -50,18 +50,6 @@ same_jump now there same = ap jump_in same
 
 pub same_message : (now there : Turn) → now ≡ there → message_in now ≡ message_in there
 same_message now there same = ap message_in same
-
--- The list that is handed to a call is the one that the controller was made with.
-
-pub given-list : (given handed : Medl) (k : ℕ) (past : NodePast) (slots : ℕ) (now : Turn) (seen : Seat)
-    → seat_at given k past slots now ≡ seen → handed ≡ seen.list → handed ≡ given
-given-list given handed k past slots now seen is same = same ∙ ap (λ (s : Seat). s.list) (sym is)
-
-pub within-given : (given handed : Medl) (k : ℕ) (past : NodePast) (slots : ℕ) (now : Turn) (sends : Intent) (seen : Seat)
-    → seat_at given k past slots now ≡ seen → handed ≡ seen.list → IsSeatWithin given k past now sends
-    → IsSeatWithin handed k past now sends
-within-given given handed k past slots now sends seen is same =
-    subst (λ (l : Medl). IsSeatWithin l k past now sends) (sym (given-list given handed k past slots now seen is same))
 
 -- The beginning.
 
@@ -95,45 +83,9 @@ message_carried-cond false number = refl
 -- what a node sends tells the message in its frame
 pub message_carried-planned : (list : Medl) (past : NodePast) (chosen : Chosen) (does : Act)
     → message_carried (intent_by list past does) chosen.number ≡ message_planned list past chosen does
-message_carried-planned list past chosen Off = refl
-message_carried-planned list past chosen Gone = refl
-message_carried-planned list past chosen Listen = refl
-message_carried-planned list past chosen Start = refl
-message_carried-planned list past chosen Retry = refl
-message_carried-planned list past chosen (Leave why) = refl
 message_carried-planned list past chosen Send =
     message_carried-cond (carries_payload list (coming_place list past)) chosen.number
-message_carried-planned list past chosen Judge = refl
-
-pub message_planned-kept : (list : Medl) (past : NodePast) (chosen : Chosen) (does : Act) → message_planned list (kept past) chosen does ≡ message_planned list past chosen does
-message_planned-kept list past chosen Off = refl
-message_planned-kept list past chosen Gone = refl
-message_planned-kept list past chosen Listen = refl
-message_planned-kept list past chosen Start = refl
-message_planned-kept list past chosen Retry = refl
-message_planned-kept list past chosen (Leave why) = refl
-message_planned-kept list past chosen Send = refl
-message_planned-kept list past chosen Judge = refl
-
-payload_planned-kept : (list : Medl) (past : NodePast) (chosen : Chosen) (does : Act) → payload_planned list (kept past) chosen does ≡ payload_planned list past chosen does
-payload_planned-kept list past chosen Off = refl
-payload_planned-kept list past chosen Gone = refl
-payload_planned-kept list past chosen Listen = refl
-payload_planned-kept list past chosen Start = refl
-payload_planned-kept list past chosen Retry = refl
-payload_planned-kept list past chosen (Leave why) = refl
-payload_planned-kept list past chosen Send = refl
-payload_planned-kept list past chosen Judge = refl
-
-node_frames-kept : (list : Medl) (k : ℕ) (past : NodePast) (chosen : Chosen) (does : Act) → node_frames list k (kept past) chosen does ≡ node_frames list k past chosen does
-node_frames-kept list k past chosen Off = refl
-node_frames-kept list k past chosen Gone = refl
-node_frames-kept list k past chosen Listen = refl
-node_frames-kept list k past chosen Start = refl
-node_frames-kept list k past chosen Retry = refl
-node_frames-kept list k past chosen (Leave why) = refl
-node_frames-kept list k past chosen Send = refl
-node_frames-kept list k past chosen Judge = refl
+message_carried-planned list past chosen _ = refl
 
 -- the frame of node k, of whatever was chosen with this payload
 abbrev pub IsFrameOf : Medl → ℕ → NodePast → Act → List ℕ → Option (List ℕ) → Type 0
@@ -150,20 +102,21 @@ Plans-turn list k past slots now does jumped again number payload message planne
     let read = past_of list k diary surroundings in
     let turns = sym begun ∙ stands.turn in
     let acts = same_act (Begun does jumped) (Begun a jump) turns in
+    let alike = decides-alike list k read chosen a in
     let carried =
     carries
     ∙ (λ i. message_carried (intent_by list past does) (sym numbered i))
     ∙ message_carried-planned list past chosen does
     ∙ (λ i. message_planned list (stands.past i) chosen (acts i))
-    ∙ message_planned-kept list read chosen a in
+    ∙ alike.message in
     let asked =
     (λ i. payload_planned list (stands.past i) chosen (acts i))
-    ∙ payload_planned-kept list read chosen a
+    ∙ alike.payload
     ∙ paid in
     record {
       frames = frames chosen asked
           ∙ (λ i. node_frames list k (stands.past i) chosen (acts i))
-          ∙ node_frames-kept list k read chosen a;
+          ∙ alike.frames;
       stands = record {
         past = stands.past;
         slots = stands.slots;

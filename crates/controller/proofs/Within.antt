@@ -121,16 +121,10 @@ ack_answered-within : (list : Medl) (k slot : ℕ) (a : Ack) (v : Verdict) → s
 ack_answered-within list k slot ack.Closed v exists within = tt
 ack_answered-within list k slot ack.First verdict.Correct exists within = tt
 ack_answered-within list k slot ack.First verdict.Tentative exists within = (exists, omega arith)
-ack_answered-within list k slot ack.First verdict.Null exists within = tt
-ack_answered-within list k slot ack.First verdict.Invalid exists within = tt
-ack_answered-within list k slot ack.First verdict.Incorrect exists within = tt
-ack_answered-within list k slot ack.First verdict.Denied exists within = tt
+ack_answered-within list k slot ack.First _ exists within = tt
 ack_answered-within list k slot (ack.Doubt x) verdict.Correct exists within = tt
 ack_answered-within list k slot (ack.Doubt x) verdict.Tentative exists within = (exists, omega arith)
-ack_answered-within list k slot (ack.Doubt x) verdict.Null exists within = within
-ack_answered-within list k slot (ack.Doubt x) verdict.Invalid exists within = within
-ack_answered-within list k slot (ack.Doubt x) verdict.Incorrect exists within = within
-ack_answered-within list k slot (ack.Doubt x) verdict.Denied exists within = within
+ack_answered-within list k slot (ack.Doubt x) _ exists within = within
 
 -- Notes.
 

@@ -1,22 +1,24 @@
-use Rattle.std.proofs.Common.{w64, FitsSigned, rules, ap, ◌∙◌}
+use Rattle.std.proofs.Common.{w64, FitsSigned, rules, sym, ap, subst, ◌∙◌}
 use Rattle.std.proofs.lemmas.Int.{to_z-of_z}
+use Rattle.ttp_world.specs.declared.medl.Medl.{Medl}
 use Rattle.ttp_world.specs.Act.{act}
 use Rattle.ttp_world.specs.World.{jump_taken}
-use Rattle.controller.proofs.Turns.{given-list, within-given, Begins-turn}
+use Rattle.controller.specs.SeatWithin.{IsSeatWithin}
+use Rattle.controller.specs.Turn.{Seat}
+use Rattle.controller.proofs.Turns.{Begins-turn}
 use Rattle.controller.proofs.controller.Controller.begin.Goals as goal
 
 pub act-act-requires : goal.act-act-requires
 act-act-requires c =
     let n = c.self.inside in
-    let w = within-given n.given.list c.args.list.now n.number n.node n.slots n.turn n.intent c.args.self.now
-    c.self.view_is c.requires.list c.self.invariant in
+    let same = c.requires.list ∙ ap (λ (seat : Seat). seat.list) (sym c.self.view_is) in
+    let w = subst (λ (l : Medl). IsSeatWithin l n.number n.node n.turn n.intent) (sym same) c.self.invariant in
     record { valid = w.valid; node = w.node; within = w.within }
 
 pub returns-clause-begins : goal.returns-clause-begins
 returns-clause-begins c =
     let n = c.self.inside in
-    let same = given-list n.given.list c.args.list.now n.number n.node n.slots n.turn c.args.self.now c.self.view_is
-    c.requires.list in
+    let same = c.requires.list ∙ ap (λ (seat : Seat). seat.list) (sym c.self.view_is) in
     let fits : FitsSigned w64 c.jump_taken.result = search rules in
     let given : FitsSigned w64 c.args.jump = search rules in
     rw (← c.self.view_is)

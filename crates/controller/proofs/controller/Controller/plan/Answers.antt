@@ -1,9 +1,10 @@
-use Rattle.std.proofs.Common.{[], w64, FitsSigned, rules, refl, ap, ◌∙◌, subst}
+use Rattle.std.proofs.Common.{[], w64, FitsSigned, rules, refl, sym, ap, ◌∙◌, subst}
 use Rattle.std.proofs.lemmas.Int.{to_z-of_z}
 use Rattle.ttp_world.specs.declared.medl.Medl.{Medl}
 use Rattle.controller.specs.Limits.{message_carried, turn_intent}
 use Rattle.controller.specs.SeatWithin.{IsBegunWithin, IsTurnWithin}
-use Rattle.controller.proofs.Turns.{IsFrameOf, given-list, Plans-turn, message_carried-planned}
+use Rattle.controller.specs.Turn.{Seat}
+use Rattle.controller.proofs.Turns.{IsFrameOf, Plans-turn, message_carried-planned}
 use Rattle.controller.proofs.controller.Controller.plan.Goals as goal
 
 pub invariant_of-self : goal.invariant_of-self
@@ -30,8 +31,7 @@ pub returns-in-Begun-clause-plans : goal.returns-in-Begun-clause-plans
 returns-in-Begun-clause-plans c =
     let n = c.self.inside in
     let fits : FitsSigned w64 c.in-Begun.jump = search rules in
-    let same = given-list n.given.list c.args.list.now n.number n.node n.slots n.turn c.args.self.now c.self.view_is
-    c.requires.list in
+    let same = c.requires.list ∙ ap (λ (seat : Seat). seat.list) (sym c.self.view_is) in
     let sends = c.self.invariant.intent ∙ ap (turn_intent n.given.list n.node) c.in-Begun.is in
     rw (← c.self.view_is)
     (Plans-turn n.given.list n.number n.node n.slots n.turn c.in-Begun.act c.in-Begun.jump _ c.args.message
