@@ -18,9 +18,9 @@ use Rattle.controller.specs.Hearing.{ReadingFits}
 use Rattle.controller.specs.Kept.{kept}
 use Rattle.controller.specs.Limits.{ArrivalFits, most_clock, offset_of_arrival}
 use Rattle.controller.specs.Within.{IsNearEnough, IsWithin, IsEntryWithin}
-use Rattle.controller.proofs.Kept.{correction_after-take}
+use Rattle.controller.proofs.Stints.{correction_after-take}
 use Rattle.controller.proofs.MadeEntries.{IsMade, Lands}
-use Rattle.controller.proofs.Within.{kept_after-within, zero_near}
+use Rattle.controller.proofs.Stints.{kept_after-within, zero_near}
 
 -- what a slot changes of the clock of a node that is on
 pub slot_change-on : (e : Entry) (s : SlotSurroundings) (corrected : ℤ) → e ≢ entry.Off
@@ -86,8 +86,11 @@ change_near : (e : Entry) (offset : ℤ) (s : SlotSurroundings) (corrected w : �
     + unsigned_abs s.drift + unsigned_abs w
 change_near entry.Off offset s corrected w a b error near lands =
     let three = furthest (offset +ℤ s.jump) (offset_of_arrival a) (offset_of_arrival b) in
-    omega (arith, off_near offset s.jump (offset_of_arrival a) (offset_of_arrival b)
-    (unsigned_abs error + unsigned_abs s.drift + unsigned_abs w) lands)
+    omega (
+      arith,
+      off_near offset s.jump (offset_of_arrival a) (offset_of_arrival b)
+          (unsigned_abs error + unsigned_abs s.drift + unsigned_abs w) lands,
+    )
 change_near (entry.Joined sender cstate deviation) offset s corrected w a b error near (inl is) =
     moved_near offset s.jump s.drift deviation corrected w _ near
     (landed-a (offset +ℤ s.jump) (offset_of_arrival a) (offset_of_arrival b) error deviation is)
@@ -105,7 +108,8 @@ pub past_after-near : (list : Medl) (k : ℕ) (past : NodePast) (e : Entry) (s :
     ≤ furthest (past.offset +ℤ s.jump) (offset_of_arrival a) (offset_of_arrival b) + unsigned_abs error
     + unsigned_abs s.drift + unsigned_abs list.window
 past_after-near list k past e s a b error valid node within made =
-    change_near e past.offset s _ list.window a b error (past_after-corrected list k past e s valid node within made.within)
+    change_near e past.offset s _ list.window a b error
+    (past_after-corrected list k past e s valid node within made.within)
     made.lands
 
 -- Clocks fit their numbers.

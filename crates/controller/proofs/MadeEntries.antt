@@ -10,7 +10,7 @@ use Rattle.ttp_world.specs.declared.medl.Medl.{Medl}
 use Rattle.ttp_world.specs.declared.node.Ack.{Ack}
 use Rattle.ttp_world.specs.declared.node.Ack.TheVariants as ack
 use Rattle.ttp_world.specs.declared.node.Act.{Act}
-use Rattle.ttp_world.specs.declared.node.Act.TheVariants.{Off, Gone, Listen, Start, Retry, Leave, Send, Judge}
+use Rattle.ttp_world.specs.declared.node.Act.TheVariants.{Off, Listen, Judge}
 use Rattle.ttp_world.specs.declared.node.ChannelView.{ChannelView}
 use Rattle.ttp_world.specs.declared.node.ChannelView.TheVariants as view
 use Rattle.ttp_world.specs.declared.node.Chosen.{Chosen}
@@ -18,7 +18,6 @@ use Rattle.ttp_world.specs.declared.node.CState.{CState}
 use Rattle.ttp_world.specs.declared.node.Delivered.{Delivered}
 use Rattle.ttp_world.specs.declared.node.Entry.{Entry}
 use Rattle.ttp_world.specs.declared.node.Entry.TheVariants as entry
-use Rattle.ttp_world.specs.declared.node.Reason.{Reason}
 use Rattle.ttp_world.specs.declared.node.Reason.TheVariants as reason
 use Rattle.ttp_world.specs.declared.node.Verdict.{Verdict}
 use Rattle.ttp_world.specs.declared.node.Verdict.TheVariants as verdict
@@ -41,9 +40,9 @@ use Rattle.controller.specs.Ending.{EndsAs}
 use Rattle.controller.specs.Hearing.{ReadingFits, hearing_of}
 use Rattle.controller.specs.Limits.{most_clock, offset_of_arrival}
 use Rattle.controller.specs.SeatWithin.{IsPlannedWithin}
-use Rattle.controller.specs.Within.{IsCStateWithin, IsEntryWithin, IsNearEnough}
+use Rattle.controller.specs.Within.{IsEntryWithin, IsNearEnough}
 use Rattle.controller.proofs.Heard.{signal_from, clock_from, shows_a, shows_b}
-use Rattle.controller.proofs.Joinable.{joinable-within}
+use Rattle.controller.proofs.Sets.{joinable-within}
 use Rattle.controller.proofs.SendingLaws.{IsAtSlot, possible-at}
 
 -- what is heard of what came
@@ -88,9 +87,12 @@ made_on-a : (list : Medl) (k : ℕ) (past : NodePast) (a b : Arrival) (error jum
     (IsMade list k past a b error jump)
 made_on-a list k past (arrival.Bits bytes offset) b error jump valid fits =
     let c = carried (member_width list) bytes.now in
-    if_joins (IsMade list k past (arrival.Bits bytes offset) b error jump) (is_joinable_state list c && _) c _ (λ joins. record {
-      within = (joinable-within list bytes.now valid (and_parts _ _ joins).0,
-          measured-fits (past.offset +ℤ jump) offset error fits);
+    if_joins (IsMade list k past (arrival.Bits bytes offset) b error jump) (is_joinable_state list c && _) c _
+    (λ joins. record {
+      within = (
+        joinable-within list bytes.now valid (and_parts _ _ joins).0,
+        measured-fits (past.offset +ℤ jump) offset error fits,
+      );
       lands = inl refl;
     })
 made_on-a list k past _ b error jump valid fits = tt
@@ -101,9 +103,12 @@ made_on-b : (list : Medl) (k : ℕ) (past : NodePast) (a b : Arrival) (error jum
     (IsMade list k past a b error jump)
 made_on-b list k past a (arrival.Bits bytes offset) error jump valid fits =
     let c = carried (member_width list) bytes.now in
-    if_joins (IsMade list k past a (arrival.Bits bytes offset) error jump) (is_joinable_state list c && _) c _ (λ joins. record {
-      within = (joinable-within list bytes.now valid (and_parts _ _ joins).0,
-          measured-fits (past.offset +ℤ jump) offset error fits);
+    if_joins (IsMade list k past a (arrival.Bits bytes offset) error jump) (is_joinable_state list c && _) c _
+    (λ joins. record {
+      within = (
+        joinable-within list bytes.now valid (and_parts _ _ joins).0,
+        measured-fits (past.offset +ℤ jump) offset error fits,
+      );
       lands = inr refl;
     })
 made_on-b list k past a _ error jump valid fits = tt
@@ -148,7 +153,8 @@ first_is_near list e late Silence is = cc
 first_is_near list e late Noise is = cc
 first_is_near list e late (Bits sender bytes) is =
     near_of_test list.window (late sender)
-    (and_parts (is_within_window list (late sender)) _ (not_bad (is_within_window list (late sender) && is_expected_form list e bytes) (view_of_frame list e bytes) is)).0
+    (and_parts (is_within_window list (late sender)) _
+    (not_bad (is_within_window list (late sender) && is_expected_form list e bytes) (view_of_frame list e bytes) is)).0
 
 -- the deviation of the entry is that of the channel that is taken
 near_on_a : (list : Medl) (a b : Option ℤ) → IsHeardNear list a → IsNearEnough list (entry_deviation true a b)

@@ -30,7 +30,8 @@ offset_of_arrival (arrival.Bits bytes offset) = offset
 -- what is measured of what came stays within them, and so does a clock that joins by it
 abbrev pub ArrivalFits : Medl → ℤ → Arrival → ℤ → ℤ → Type 0
 ArrivalFits list own came error drift =
-    unsigned_abs own + unsigned_abs (offset_of_arrival came) + unsigned_abs error + unsigned_abs drift + unsigned_abs list.window ≤ most_clock
+    unsigned_abs own + unsigned_abs (offset_of_arrival came) + unsigned_abs error + unsigned_abs drift
+    + unsigned_abs list.window ≤ most_clock
 
 -- Turns.
 
@@ -90,10 +91,12 @@ payload_wanted seat = loaded_length seat.list seat.node (seat_intent seat)
 -- within these many microticks of 0 are a node's clock and those of the senders of what came
 abbrev pub most_ahead_of : Seat → Arrival → Arrival → ℕ
 most_ahead_of seat came_a came_b =
-    max (unsigned_abs (seat_clock seat)) (max (unsigned_abs (offset_of_arrival came_a)) (unsigned_abs (offset_of_arrival came_b)))
+    max (unsigned_abs (seat_clock seat))
+    (max (unsigned_abs (offset_of_arrival came_a)) (unsigned_abs (offset_of_arrival came_b)))
 
 -- A slot takes a clock no further from 0 than one of them is, but for a reading error, the drift and a correction,
 -- which is within the window.
 abbrev pub StaysNear : ℤ → Seat → Arrival → Arrival → ℤ → ℤ → Type 0
 StaysNear offset seat came_a came_b error drift =
-    unsigned_abs offset ≤ most_ahead_of seat came_a came_b + unsigned_abs error + unsigned_abs drift + unsigned_abs seat.list.window
+    unsigned_abs offset
+    ≤ most_ahead_of seat came_a came_b + unsigned_abs error + unsigned_abs drift + unsigned_abs seat.list.window

@@ -25,9 +25,7 @@ use reception::{is_taken_from_a, slot_verdict};
 use slot_clock::SlotClock;
 use ttp_base::NodeSet;
 use ttp_frame::{Expect, FrameMatch, judge, read_explicit};
-use ttp_world::{
-    Ack, CState, ChannelView, Delivered, Entry, Medl, Payload, Reason, Verdict,
-};
+use ttp_world::{Ack, CState, ChannelView, Delivered, Entry, Medl, Payload, Reason, Verdict};
 
 /// What an active node judges the slot of another node by.
 #[derive(Clone, Copy, Debug)]

@@ -1,6 +1,6 @@
 use Rattle.std.proofs.Common.{w64, FitsSigned, rules, refl, sym}
 use Rattle.std.proofs.lemmas.Int.{to_z-of_z}
-use Rattle.controller.proofs.Endings.{listening-none}
+use Rattle.controller.proofs.Heard.{listening-none}
 use Rattle.controller.proofs.ending.ending_of.Goals as goal
 
 pub returns-in-Listen : goal.returns-in-Listen

@@ -5,7 +5,7 @@ use Rattle.ttp_world.specs.Act.{act}
 use Rattle.ttp_world.specs.World.{jump_taken}
 use Rattle.controller.specs.SeatWithin.{IsSeatWithin}
 use Rattle.controller.specs.Turn.{Seat}
-use Rattle.controller.proofs.Turns.{Begins-turn}
+use Rattle.controller.proofs.Standing.{Begins-turn}
 use Rattle.controller.proofs.controller.Controller.begin.Goals as goal
 
 pub act-act-requires : goal.act-act-requires

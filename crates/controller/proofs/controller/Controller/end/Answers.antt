@@ -12,7 +12,7 @@ use Rattle.controller.specs.Turn.{Seat}
 use Rattle.controller.specs.Within.{IsWithin, IsEntryWithin}
 use Rattle.controller.proofs.Clocks.{furthest, past_after-near, reading-of, near-fits, sum-fits}
 use Rattle.controller.proofs.MadeEntries.{ending-made}
-use Rattle.controller.proofs.SlotStands.{Ends-seat}
+use Rattle.controller.proofs.Standing.{Ends-seat}
 use Rattle.controller.proofs.controller.Controller.end.Goals as goal
 
 pub enter-requires-clause-entry : goal.enter-requires-clause-entry
@@ -32,10 +32,16 @@ enter-requires-clause-entry c =
     let made = c.ending_of-entry.result in
     let handed = c.ending_of-entry.new.delivered in
     let ends = subst
-    (λ (l : Medl). EndsAs made handed l n.number n.node a.act a.message a.a.now a.b.now (n.node.offset +ℤ a.jump) a.error)
+    (λ (l : Medl). EndsAs made handed l n.number n.node a.act a.message a.a.now a.b.now (n.node.offset +ℤ a.jump)
+    a.error)
     same
-    (rw (to_z-of_z w64 c.offset.result offset, to_z-of_z w64 a.jump jump, to_z-of_z w64 a.error error, c.offset.ensures,
-    to_z-of_z w64 (n.node.offset +ℤ a.jump) own) at c.ending_of-entry.ensures) in
+    (rw (
+      to_z-of_z w64 c.offset.result offset,
+      to_z-of_z w64 a.jump jump,
+      to_z-of_z w64 a.error error,
+      c.offset.ensures,
+      to_z-of_z w64 (n.node.offset +ℤ a.jump) own,
+    ) at c.ending_of-entry.ensures) in
     let is_made = ending-made made handed list n.number n.node a.act a.jump a.message a.a.now a.b.now a.error
     c.self.invariant.valid planned
     (reading-of list (n.node.offset +ℤ a.jump) a.a.now a.error a.drift fits_a)
@@ -44,7 +50,8 @@ enter-requires-clause-entry c =
 
 -- how far from 0 the clock is after the slot
 near : (c : goal.After-self-2-1) → unsigned_abs c.enter.new.self.offset
-    ≤ furthest (c.self.inside.node.offset +ℤ c.args.jump) (offset_of_arrival c.args.a.now) (offset_of_arrival c.args.b.now)
+    ≤ furthest (c.self.inside.node.offset +ℤ c.args.jump) (offset_of_arrival c.args.a.now)
+    (offset_of_arrival c.args.b.now)
     + unsigned_abs c.args.error + unsigned_abs c.args.drift + unsigned_abs c.self.inside.given.list.window
 near c =
     let n = c.self.inside in
@@ -62,10 +69,16 @@ near c =
     let made = c.ending_of-entry.result in
     let handed = c.ending_of-entry.new.delivered in
     let ends = subst
-    (λ (l : Medl). EndsAs made handed l n.number n.node a.act a.message a.a.now a.b.now (n.node.offset +ℤ a.jump) a.error)
+    (λ (l : Medl). EndsAs made handed l n.number n.node a.act a.message a.a.now a.b.now (n.node.offset +ℤ a.jump)
+    a.error)
     same
-    (rw (to_z-of_z w64 c.offset.result offset, to_z-of_z w64 a.jump jump, to_z-of_z w64 a.error error, c.offset.ensures,
-    to_z-of_z w64 (n.node.offset +ℤ a.jump) own) at c.ending_of-entry.ensures) in
+    (rw (
+      to_z-of_z w64 c.offset.result offset,
+      to_z-of_z w64 a.jump jump,
+      to_z-of_z w64 a.error error,
+      c.offset.ensures,
+      to_z-of_z w64 (n.node.offset +ℤ a.jump) own,
+    ) at c.ending_of-entry.ensures) in
     let is_made = ending-made made handed list n.number n.node a.act a.jump a.message a.a.now a.b.now a.error
     c.self.invariant.valid planned
     (reading-of list (n.node.offset +ℤ a.jump) a.a.now a.error a.drift fits_a)
@@ -75,7 +88,8 @@ near c =
     let entered = (rw (to_z-of_z w64 a.jump jump, to_z-of_z w64 a.drift drift) at c.enter.ensures.value)
     ∙ (λ i. kept (past_after (same i) n.number n.node made around)) in
     rw entered
-    (past_after-near list n.number n.node made around a.a.now a.b.now a.error c.self.invariant.valid c.self.invariant.node
+    (past_after-near list n.number n.node made around a.a.now a.b.now a.error c.self.invariant.valid
+    c.self.invariant.node
     c.self.invariant.within is_made)
 
 pub invariant_of-self : goal.invariant_of-self
@@ -113,16 +127,23 @@ returns-clause-ends c =
     let made = c.ending_of-entry.result in
     let handed = c.ending_of-entry.new.delivered in
     let ends = subst
-    (λ (l : Medl). EndsAs made handed l n.number n.node a.act a.message a.a.now a.b.now (n.node.offset +ℤ a.jump) a.error)
+    (λ (l : Medl). EndsAs made handed l n.number n.node a.act a.message a.a.now a.b.now (n.node.offset +ℤ a.jump)
+    a.error)
     same
-    (rw (to_z-of_z w64 c.offset.result offset, to_z-of_z w64 a.jump jump, to_z-of_z w64 a.error error, c.offset.ensures,
-    to_z-of_z w64 (n.node.offset +ℤ a.jump) own) at c.ending_of-entry.ensures) in
+    (rw (
+      to_z-of_z w64 c.offset.result offset,
+      to_z-of_z w64 a.jump jump,
+      to_z-of_z w64 a.error error,
+      c.offset.ensures,
+      to_z-of_z w64 (n.node.offset +ℤ a.jump) own,
+    ) at c.ending_of-entry.ensures) in
     let drift : FitsSigned w64 a.drift = search rules in
     let around : SlotSurroundings = record { jump = a.jump; drift = a.drift; is_silent = c.are_silent.result } in
     let entered = (rw (to_z-of_z w64 a.jump jump, to_z-of_z w64 a.drift drift) at c.enter.ensures.value)
     ∙ (λ i. kept (past_after (same i) n.number n.node made around)) in
     rw (← c.self.view_is)
-    (Ends-seat list n.number n.node n.slots n.turn c.enter.new.self c.saturating_add-self-inside.result _ made handed a.act
+    (Ends-seat list n.number n.node n.slots n.turn c.enter.new.self c.saturating_add-self-inside.result _ made handed
+    a.act
     a.jump a.message a.a.now a.b.now a.error a.drift around
     c.self.invariant.valid c.self.invariant.node turn planned ends refl refl c.are_silent.ensures entered
     c.saturating_add-self-inside.ensures refl

@@ -4,14 +4,15 @@ use Rattle.ttp_world.specs.declared.medl.Medl.{Medl}
 use Rattle.controller.specs.Limits.{message_carried, turn_intent}
 use Rattle.controller.specs.SeatWithin.{IsBegunWithin, IsTurnWithin}
 use Rattle.controller.specs.Turn.{Seat}
-use Rattle.controller.proofs.Turns.{IsFrameOf, Plans-turn, message_carried-planned}
+use Rattle.controller.proofs.Standing.{IsFrameOf, Plans-turn, message_carried-planned}
 use Rattle.controller.proofs.controller.Controller.plan.Goals as goal
 
 pub invariant_of-self : goal.invariant_of-self
 invariant_of-self c =
     let n = c.self.inside in
     let fits : FitsSigned w64 c.in-Begun.jump = search rules in
-    let begun : IsBegunWithin n.given.list n.number n.node c.in-Begun.act c.in-Begun.jump = subst (IsTurnWithin n.given.list n.number n.node) c.in-Begun.is c.self.invariant.turn in
+    let begun : IsBegunWithin n.given.list n.number n.node c.in-Begun.act c.in-Begun.jump =
+    subst (IsTurnWithin n.given.list n.number n.node) c.in-Begun.is c.self.invariant.turn in
     let sends = c.self.invariant.intent ∙ ap (turn_intent n.given.list n.node) c.in-Begun.is in
     rw (to_z-of_z w64 c.in-Begun.jump fits) (record {
       valid = c.self.invariant.valid;
@@ -22,7 +23,8 @@ invariant_of-self c =
         begun = begun;
         chosen = record { number = c.args.message; payload = [] };
         carries = c.message_of-message.ensures ∙ (λ i. message_carried (sends i) c.args.message)
-            ∙ message_carried-planned n.given.list n.node (record { number = c.args.message; payload = [] }) c.in-Begun.act;
+            ∙ message_carried-planned n.given.list n.node (record { number = c.args.message; payload = [] })
+            c.in-Begun.act;
       };
       intent = refl;
     })

@@ -1,5 +1,5 @@
 use Rattle.std.proofs.Common.{refl, ap, arith}
-use Rattle.controller.proofs.Within.{idle}
+use Rattle.controller.proofs.Stints.{idle}
 use Rattle.controller.proofs.node.Node.new.Goals as goal
 
 pub returns-clause-within : goal.returns-clause-within
