@@ -94,7 +94,8 @@ without_node-with members sender x other =
     apart j sent = ne_eqb j x (λ doubted. other (sym doubted ∙ eqb-true j sender sent))
 
     each : (j : ℕ) → j < most_nodes
-        → (((j == sender) || has_node members j) && not (j == x)) ≡ ((j == sender) || has_node (without_node members x) j)
+        → (((j == sender) || has_node members j) && not (j == x))
+        ≡ ((j == sender) || has_node (without_node members x) j)
     each j within =
         settled_test (j == sender) (j == x) (has_node members j) (apart j)
         ∙ ap (λ b. (j == sender) || b) (sym (has_node-without members x j))

@@ -43,7 +43,8 @@ pub returns-else-self-lt4-clause-value : goal.returns-else-self-lt4-clause-value
 returns-else-self-lt4-clause-value c = average_is c ∙ ap fta (sym (four_noted c))
 
 pub returns-else-self-lt4-clause-average : goal.returns-else-self-lt4-clause-average
-returns-else-self-lt4-clause-average c notes stands = average_is c ∙ ap fta (sym (four_noted c) ∙ stands) ∙ fta-take notes
+returns-else-self-lt4-clause-average c notes stands =
+    average_is c ∙ ap fta (sym (four_noted c) ∙ stands) ∙ fta-take notes
 
 pub returns-else-self-lt4-clause-between : goal.returns-else-self-lt4-clause-between
 returns-else-self-lt4-clause-between c low high full three =
