@@ -9,6 +9,7 @@ pub mod NextPasts
 pub mod Pasts
 pub mod Carried
 pub mod Covering
+pub mod Places
 pub mod PointBounds
 pub mod Silences
 pub mod Slots
@@ -17,3 +18,4 @@ pub mod Sweep
 pub mod Told
 pub mod Totals
 pub mod WeightBounds
+pub mod Worlds

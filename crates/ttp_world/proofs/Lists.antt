@@ -1,6 +1,6 @@
 -- Valid lists: how many nodes they have, and their frames' members.
 use Rattle.std.proofs.Common.{◌≡◌, ℕ, zero, suc, ◌+◌, ◌*◌, ◌%◌, ◌≢◌, ◌<◌, ◌≤◌, Bool, true, false, IsTrue, List, [], ◌∷◌}
-use Rattle.std.proofs.Common.{length, cond, mod-lt, zero-lt-suc, refl, ap, arith}
+use Rattle.std.proofs.Common.{length, cond, mod-lt, refl, ap, arith}
 use Rattle.std.specs.Prelude.{◌==◌, unwrap_or}
 use Rattle.std.specs.List.{AllByRecursion, list_all, slice_get}
 use Rattle.std.proofs.lemmas.Bool.{cond_both, eqb-false, false≢true}
@@ -9,7 +9,7 @@ use Rattle.ttp_world.specs.declared.medl.Kind.{Kind}
 use Rattle.ttp_world.specs.declared.medl.Kind.TheVariants as kind
 use Rattle.ttp_world.specs.declared.medl.Medl.{Medl}
 use Rattle.ttp_world.specs.declared.medl.SlotPlan.{SlotPlan}
-use Rattle.ttp_world.specs.Diary.{Place, next_place, time_limit}
+use Rattle.ttp_world.specs.Diary.{Place, no_place, next_place}
 use Rattle.ttp_world.specs.Medl.{is_wide, member_bytes, node_limit, is_bare, IsBareList, no_plan, plan_at, kind_at}
 use Rattle.ttp_world.specs.Medl.{payload_length, IsValid}
 
@@ -31,7 +31,8 @@ pub ruleset nodes = nodes-most
 
 -- Bare lists.
 
-kinds_are_bare : (kinds : List Kind) (round : ℕ) → IsTrue (list_all is_bare kinds) → unwrap_or (slice_get kinds round) kind.I ≡ kind.I
+kinds_are_bare : (kinds : List Kind) (round : ℕ) → IsTrue (list_all is_bare kinds)
+    → unwrap_or (slice_get kinds round) kind.I ≡ kind.I
 kinds_are_bare [] round bare = refl
 kinds_are_bare (kind.I ∷ kinds) zero bare = refl
 kinds_are_bare (kind.I ∷ kinds) (suc round) bare = kinds_are_bare kinds round bare
@@ -39,7 +40,8 @@ kinds_are_bare (kind.N ∷ kinds) round bare = absurd (false≢true bare)
 kinds_are_bare (kind.X ∷ kinds) round bare = absurd (false≢true bare)
 
 -- the kinds of each of a bare list's slots are bare, also past the last slot
-plans_are_bare : (plans : List SlotPlan) (slot : ℕ) → AllByRecursion (λ plan. IsTrue (list_all is_bare plan.kinds)) plans
+plans_are_bare : (plans : List SlotPlan) (slot : ℕ)
+    → AllByRecursion (λ plan. IsTrue (list_all is_bare plan.kinds)) plans
     → IsTrue (list_all is_bare (unwrap_or (slice_get plans slot) no_plan).kinds)
 plans_are_bare [] slot bare = refl
 plans_are_bare (plan ∷ plans) zero bare = bare.0
@@ -51,24 +53,33 @@ kind_at-bare list bare round slot = kinds_are_bare (plan_at list slot).kinds rou
 
 -- and has no payload
 pub payload_length-bare : (list : Medl) → IsBareList list → (round slot : ℕ) → payload_length list round slot ≡ 0
-payload_length-bare list bare round slot = ap (λ (k : Kind). cond (is_bare k) 0 (plan_at list slot).payload) (kind_at-bare list bare round slot)
+payload_length-bare list bare round slot =
+    ap (λ (k : Kind). cond (is_bare k) 0 (plan_at list slot).payload) (kind_at-bare list bare round slot)
 
 -- Places of a list's cycle.
 
-pub record IsPlace (list : Medl) (place : Place) : Type 0 where
-  pub time : place.time < time_limit
+pub record IsPlaceOf (list : Medl) (place : Place) : Type 0 where
   pub round : place.round < list.rounds
   pub slot : place.slot < length list.slots
+
+pub IsPlaceOf-none : (list : Medl) → IsValid list → IsPlaceOf list no_place
+IsPlaceOf-none list valid = record { round = omega (arith, valid.rounds); slot = omega (arith, valid.count) }
 
 -- a number up to another and not that number is below it
 lt_of_ne : (m n : ℕ) → m ≤ n → m ≢ n → m < n
 lt_of_ne m n few other = omega arith
 
 -- the place one slot later is one
-pub IsPlace-next : (list : Medl) (place : Place) → IsValid list → IsPlace list place → IsPlace list (next_place list place)
-IsPlace-next list place valid at =
-    let time : (place.time + 1) % time_limit < time_limit = mod-lt (place.time + 1) (zero-lt-suc 65535) in
-    let round : (place.round + 1) % list.rounds < list.rounds = mod-lt (place.round + 1) (omega (arith, valid.rounds)) in
-    cond_both (suc place.slot == length list.slots) _ _ (IsPlace list)
-    (λ last. record { time = time; round = round; slot = omega (arith, valid.count) })
-    (λ inside. record { time = time; round = at.round; slot = lt_of_ne (place.slot + 1) (length list.slots) (omega (arith, at.slot)) (λ same. eqb-false (suc place.slot) (length list.slots) inside (omega arith)) })
+pub IsPlaceOf-next : (list : Medl) (place : Place) → IsValid list → place.round < list.rounds
+    → place.slot < length list.slots
+    → IsPlaceOf list (next_place list place)
+IsPlaceOf-next list place valid round slot =
+    let next : (place.round + 1) % list.rounds < list.rounds =
+    mod-lt (place.round + 1) (omega (arith, valid.rounds)) in
+    cond_both (suc place.slot == length list.slots) _ _ (IsPlaceOf list)
+    (λ last. record { round = next; slot = omega (arith, valid.count) })
+    (λ inside. record {
+      round = round;
+      slot = lt_of_ne (place.slot + 1) (length list.slots) (omega (arith, slot))
+          (λ same. eqb-false (suc place.slot) (length list.slots) inside (omega arith));
+    })

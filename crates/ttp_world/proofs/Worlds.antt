@@ -1,0 +1,58 @@
+-- The world that numbers make: how long it is, how wide its rows are, and that its entries speak of the list.
+use Rattle.std.proofs.Common.{◌≡◌, ℕ, ◌<◌, suc, [], ◌∷◌, length, refl, ap}
+use Rattle.std.specs.List.{AllByRecursion}
+use Rattle.ttp_world.specs.declared.medl.Medl.{Medl}
+use Rattle.ttp_world.specs.declared.script.Script.{Script}
+use Rattle.ttp_world.specs.Act.{coming_place}
+use Rattle.ttp_world.specs.Medl.{IsValid}
+use Rattle.ttp_world.specs.Messages.{delivered_of}
+use Rattle.ttp_world.specs.World.{SlotNumbers, Numbers, node_past, slot_after, messages_chosen, row_in, world}
+use Rattle.ttp_world.proofs.Lists.{IsPlaceOf}
+use Rattle.ttp_world.proofs.Places.{AreOfList, coming_place-of_list, row_after-of_list, entry_of-of_list}
+use Rattle.ttp_world.proofs.Places.{IsSentInList, delivered_of-sender}
+use Rattle.ttp_world.proofs.Slots.{length-row_in}
+
+pub length-world : (list : Medl) (script : Script) (numbers : Numbers)
+    → length (world list script numbers) ≡ length numbers
+length-world list script [] = refl
+length-world list script (new ∷ numbers) = ap suc (length-world list script numbers)
+
+-- each row has one entry for each node of the list
+pub rows-world : (list : Medl) (script : Script) (numbers : Numbers)
+    → AllByRecursion (λ row. length row ≡ length list.slots) (world list script numbers)
+rows-world list script [] = tt
+rows-world list script (new ∷ numbers) = (
+  length-row_in (slot_after list script (world list script numbers))
+      (messages_chosen list script (length numbers) new.sent),
+  rows-world list script numbers,
+)
+
+-- Where the list is valid, each entry speaks of a slot of the list.
+
+pub world-of_list : (list : Medl) (script : Script) (numbers : Numbers) → IsValid list
+    → AreOfList list (world list script numbers)
+world-of_list list script [] valid = tt
+world-of_list list script (new ∷ numbers) valid =
+    let before = world-of_list list script numbers valid in (
+      row_after-of_list list script (world list script numbers)
+          (messages_chosen list script (length numbers) new.sent) valid before,
+      before,
+    )
+
+-- so the slot that comes is one of the list's, by each node's own C-state
+pub coming_place-world : (list : Medl) (script : Script) (numbers : Numbers) (k : ℕ) → IsValid list
+    → k < length list.slots
+    → IsPlaceOf list (coming_place list (node_past list script (world list script numbers) k))
+coming_place-world list script numbers k valid node =
+    coming_place-of_list list script (world list script numbers) k valid node (world-of_list list script numbers valid)
+
+-- and what a node delivers came from a node of the list
+pub delivered_of-world : (list : Medl) (script : Script) (new : SlotNumbers) (numbers : Numbers) (r : ℕ) → IsValid list
+    → IsSentInList list (delivered_of list script (world list script numbers)
+    (row_in (slot_after list script (world list script numbers))
+    (messages_chosen list script (length numbers) new.sent)) r)
+delivered_of-world list script new numbers r valid =
+    let row = row_in (slot_after list script (world list script numbers))
+    (messages_chosen list script (length numbers) new.sent) in
+    delivered_of-sender list script (world list script numbers) row r
+    (entry_of-of_list list row r (world-of_list list script (new ∷ numbers) valid).0)
