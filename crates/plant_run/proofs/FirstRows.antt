@@ -1,5 +1,5 @@
 -- The rows of a run in which every frame with payload carries message 0 are those of the world by its numbers.
-use Rattle.std.proofs.Common.{◌≡◌, ℕ, zero, suc, ◌+◌, ◌<◌, Bool, true, false, List, ◌∷◌, length, Option, Some, None}
+use Rattle.std.proofs.Common.{◌≡◌, ℕ, zero, suc, ◌+◌, ◌<◌, List, ◌∷◌, length, Some}
 use Rattle.std.proofs.Common.{refl, ap, sym, ◌∙◌, add-one, arith}
 use Rattle.std.proofs.lemmas.List.{length-replicate}
 use Rattle.std.proofs.lemmas.List.FromFn.{get_or-map-range_with_len, length-map-range_with_len}
@@ -9,11 +9,12 @@ use Rattle.ttp_world.specs.declared.node.Entry.{Entry}
 use Rattle.ttp_world.specs.declared.script.Script.{Script}
 use Rattle.ttp_world.specs.Diary.{History, entry_of}
 use Rattle.ttp_world.specs.Medl.{plan_at, IsValid}
-use Rattle.ttp_world.specs.Messages.{message_of, delivered_of}
+use Rattle.ttp_world.specs.Messages.{delivered_of}
 use Rattle.ttp_world.specs.Outgoing.{nothing_chosen, message_chosen}
-use Rattle.ttp_world.specs.World.{slot_after, node_of, chosen_of, frames_in, row_in, delivered_in, messages_chosen, step}
-use Rattle.ttp_world.proofs.Carried.{AreOfHosts, row_in-told, delivered_of-row_in, message_of-row_in}
-use Rattle.ttp_world.proofs.Places.{AreOfList, IsSentInList, row_after-of_list, entry_of-of_list, delivered_of-sender}
+use Rattle.ttp_world.specs.World.{slot_after, chosen_of, frames_in, delivered_in, messages_chosen, step}
+use Rattle.ttp_world.proofs.Carried.{AreOfHosts, row_in-told, delivered_of-row_in}
+use Rattle.ttp_world.proofs.Places.{IsSentInList, row_after-of_list, entry_of-of_list, delivered_of-sender}
+use Rattle.ttp_world.proofs.Worlds.{length-world, world-of_list}
 use Rattle.controller.specs.PlantStands.{AreChosen}
 use Rattle.plant_run.specs.FirstNumbers.{zeros_chosen, all_zeros, zeros_row, numbers_told, first_numbers, first_world}
 use Rattle.plant_run.proofs.Unhosted.{out_messages-first}
@@ -58,8 +59,8 @@ length-first_numbers list script zero = refl
 length-first_numbers list script (suc slots) = ap suc (length-first_numbers list script slots)
 
 pub length-first_world : (list : Medl) (script : Script) (slots : ℕ) → length (first_world list script slots) ≡ slots
-length-first_world list script zero = refl
-length-first_world list script (suc slots) = ap suc (length-first_world list script slots)
+length-first_world list script slots =
+    length-world list script (first_numbers list script slots) ∙ length-first_numbers list script slots
 
 -- one slot more
 pub first_world-next : (list : Medl) (script : Script) (slots : ℕ)
@@ -89,14 +90,6 @@ delivered_of-zeros_row list script history k =
     sym (delivered_of-row_in list script history (all_zeros list) k (all_zeros-of_hosts list script history))
 
 -- from nodes of the list
-pub first_world-of_list : (list : Medl) (script : Script) (slots : ℕ) → IsValid list
-    → AreOfList list (first_world list script slots)
-first_world-of_list list script zero valid = tt
-first_world-of_list list script (suc slots) valid =
-    let before = first_world-of_list list script slots valid in
-    subst (AreOfList list) (sym (first_world-next list script slots))
-    (row_after-of_list list script (first_world list script slots) (all_zeros list) valid before, before)
-
 pub zeros_row-senders : (list : Medl) (script : Script) (slots k : ℕ) → IsValid list
     → IsSentInList list (delivered_of list script (first_world list script slots)
     (zeros_row list script (first_world list script slots)) k)
@@ -105,4 +98,5 @@ zeros_row-senders list script slots k valid =
     let row = zeros_row list script history in
     delivered_of-sender list script history row k
     (entry_of-of_list list row k
-    (row_after-of_list list script history (all_zeros list) valid (first_world-of_list list script slots valid)))
+    (row_after-of_list list script history (all_zeros list) valid
+    (world-of_list list script (first_numbers list script slots) valid)))

@@ -18,12 +18,6 @@ use Rattle.plant_run.proofs.FirstRows.{delivered_of-zeros_row}
 use Rattle.plant_run.proofs.Places.{IsSentInList, delivered_of-sender}
 use Rattle.plant_run.proofs.Received.{received-next, received-few}
 
--- one slot more, as code counts it
-pub first_world-more : (list : Medl) (script : Script) (slot : ℕ)
-    → first_world list script (slot + 1)
-    ≡ zeros_row list script (first_world list script slot) ∷ first_world list script slot
-first_world-more list script slot = ap (first_world list script) (add-one slot) ∙ first_world-next list script slot
-
 -- The plant.
 
 pub plant_next : (list : Medl) (script : Script) (slot : ℕ) (old new : PlantView) (chosen : List Chosen)
@@ -70,21 +64,13 @@ tally_next list script slot before now plant nodes counted holds tells =
 
 -- What the calls of a slot ask.
 
-pub length-all_zeros : (list : Medl) → length (all_zeros list) ≡ length list.slots
-length-all_zeros list = length-map-range_with_len (zeros_chosen list) 0 (length list.slots)
-
-pub AreChosen-all_zeros : (list : Medl) → AreChosen list (all_zeros list)
-AreChosen-all_zeros list k node =
-    ap (λ (c : Chosen). length c.payload) (chosen_of-all_zeros list k node)
-    ∙ length-replicate (plan_at list k).payload 0
-
 pub senders-of_list : (list : Medl) (script : Script) (slot : ℕ) (plant : PlantView) (n : ℕ) → IsValid list
     → n ≡ length list.slots → HoldsDelivered plant list script slot
     → (k : ℕ) → k < n → IfSome (outcome_at plant k).delivered (λ d. d.sender < n)
 senders-of_list list script slot plant n valid nodes holds k node =
     let within : k < length list.slots = omega arith in
     subst (λ (m : ℕ). IfSome (outcome_at plant k).delivered (λ d. d.sender < m)) (sym nodes)
-    (subst (IsSentInList list) (sym (holds k within)) (delivered_of-sender list script slot k valid within))
+    (subst (IsSentInList list) (sym (holds k within)) (zeros_row-senders list script slot k valid))
 
 -- the counts stay far below what their numbers hold
 pub count_at-few : (list : Medl) (script : Script) (slot : ℕ) (tally : Tally) (k p : ℕ) → IsValidScript list script

@@ -1,8 +1,8 @@
 -- A script in which no host writes or reads: no host line, and message 0 is the only one.
 use Rattle.std.proofs.Common.{◌≡◌, ℕ, zero, suc, ◌+◌, Bool, true, false, cond, Option, None, List, [], ◌∷◌, ◌++◌}
 use Rattle.std.proofs.Common.{length, get_or, refl, ap, sym, ◌∙◌, append-nil, arith}
-use Rattle.std.specs.Prelude.{count_by}
-use Rattle.std.specs.List.{cons_option, filter_map, flat_map}
+use Rattle.std.specs.Prelude.{count_by, map}
+use Rattle.std.specs.List.{cons_option, filter_map}
 use Rattle.std.proofs.lemmas.Bool.{false≢true}
 use Rattle.std.proofs.lemmas.List.Sums.{sum_by-cons}
 use Rattle.ttp_world.specs.declared.medl.Medl.{Medl}
@@ -15,9 +15,9 @@ use Rattle.ttp_world.specs.Legal.{read_messages}
 use Rattle.ttp_world.specs.Outgoing.{zeros_of, messages_before, out_messages}
 use Rattle.ttp_world.specs.Script.{is_host_event, write_in, read_in, writes_in, reads_in, payload_of_host}
 use Rattle.ttp_world.specs.Script.{messages_written}
-use Rattle.ttp_world.specs.Trace.{more_write_lines, read_line, node_line_of, slot_text}
+use Rattle.ttp_world.specs.Trace.{more_write_lines, read_line, node_line_of, slot_lines}
 use Rattle.ttp_world.specs.World.{SlotNumbers}
-use Rattle.ttp_base.specs.Text.{texts_below}
+use Rattle.ttp_base.specs.NodeSet.{below}
 use Rattle.plant_run.specs.FirstNumbers.{IsUnhosted}
 
 -- Events that are none of hosts.
@@ -60,16 +60,16 @@ writes_in-none script slot none = filter_map-none is_host_event (write_in slot) 
 pub reads_in-none : (script : Script) (slot : ℕ) → IsUnhosted script → reads_in script slot ≡ []
 reads_in-none script slot none = filter_map-none is_host_event (read_in slot) script.events (read_in-none slot) none
 
--- A slot's text is that of its nodes.
+-- The lines of a slot are those of its nodes.
 
-pub slot_text-nodes : (list : Medl) (script : Script) (row : List Entry) (before : History) (new : SlotNumbers)
+pub slot_lines-nodes : (list : Medl) (script : Script) (row : List Entry) (before : History) (new : SlotNumbers)
     → IsUnhosted script
-    → slot_text list script row before new ≡ texts_below (node_line_of list script row before) (length list.slots)
-slot_text-nodes list script row before new none =
+    → slot_lines list script row before new ≡ map (node_line_of list script row before) (below (length list.slots))
+slot_lines-nodes list script row before new none =
     let slot = length before in
-    let nodes = texts_below (node_line_of list script row before) (length list.slots) in
+    let nodes = map (node_line_of list script row before) (below (length list.slots)) in
     (λ i. nodes ++ more_write_lines list script slot [] (writes_in-none script slot none i)
-    ++ flat_map (read_line list script slot (row ∷ before)) (read_messages (reads_in-none script slot none i) new.read))
+    ++ map (read_line list script slot (row ∷ before)) (read_messages (reads_in-none script slot none i) new.read))
     ∙ append-nil (nodes ++ []) ∙ append-nil nodes
 
 -- Messages.
