@@ -1,16 +1,14 @@
 -- What one slot makes of a node that begins a stint in it or goes on: its place, its notes and its clock.
-use Rattle.std.proofs.Common.{◌≡◌, ℕ, suc, ◌<◌, ℤ, pos, ◌+ℤ◌, true, false, cond, ◌||◌, List, [], ◌∷◌, ◌++◌, length}
+use Rattle.std.proofs.Common.{◌≡◌, ℕ, suc, ℤ, pos, ◌+ℤ◌, true, false, cond, ◌||◌, [], ◌∷◌, ◌++◌, length}
 use Rattle.std.proofs.Common.{refl, ap, ◌∙◌, arith}
 use Rattle.std.specs.Prelude.{◌==◌}
 use Rattle.std.proofs.lemmas.Bool.{false≢true}
 use Rattle.std.proofs.Math.Bool.{or-true}
 use Rattle.std.proofs.lemmas.List.{append-nil}
 use Rattle.std.proofs.lemmas.Int.{ints}
-use Rattle.std.proofs.lemmas.List.FromFn.{get_or-map-range_with_len}
 use Rattle.ttp_world.specs.declared.medl.Medl.{Medl}
 use Rattle.ttp_world.specs.declared.node.Act.{Act}
 use Rattle.ttp_world.specs.declared.node.Act.TheVariants as act
-use Rattle.ttp_world.specs.declared.node.Chosen.{Chosen}
 use Rattle.ttp_world.specs.declared.node.Entry.{Entry}
 use Rattle.ttp_world.specs.declared.node.Entry.TheVariants as entry
 use Rattle.ttp_world.specs.declared.script.Script.{Script}
@@ -20,10 +18,8 @@ use Rattle.ttp_world.specs.Clock.{correction_of, offset_of}
 use Rattle.ttp_world.specs.Diary.{Diary, History, SlotSurroundings, Surroundings, begins_stint, continues_stint, Place}
 use Rattle.ttp_world.specs.Diary.{next_place, stint_place, place_of, ends_round, diary_of}
 use Rattle.ttp_world.specs.Medium.{surroundings_of}
-use Rattle.ttp_world.specs.Outgoing.{nothing_chosen}
 use Rattle.ttp_world.specs.Script.{jump_of}
-use Rattle.ttp_world.specs.World.{jump_taken, ReadyNode, ready_node, ready_nodes, node_past, ready_of, chosen_of}
-use Rattle.ttp_world.specs.World.{no_node}
+use Rattle.ttp_world.specs.World.{jump_taken, node_after}
 use Rattle.ttp_world.proofs.Pasts.{elim-cond}
 use Rattle.precision.specs.Together.{clock_at}
 use Rattle.precision.proofs.Rounds.{plus_none, correction}
@@ -74,7 +70,8 @@ pub notes_anew : (list : Medl) (k : ℕ) (diary : Diary) (e : Entry) (place : Pl
     → stint_notes list k (e ∷ diary) ≡ notes_in list place e
 notes_anew list k diary e place is begins =
     (λ i. notes_in list (is i) e ++ elim (begins_round (is i) e) [ true ↦ [] | false ↦ stint_notes list k diary ])
-    ∙ ap (λ ns. notes_in list place e ++ ns) (elim-cond (begins_round place e) [] (stint_notes list k diary) ∙ ap (λ b. cond b [] (stint_notes list k diary)) begins)
+    ∙ ap (λ ns. notes_in list place e ++ ns) (elim-cond (begins_round place e) [] (stint_notes list k diary) ∙ ap
+    (λ b. cond b [] (stint_notes list k diary)) begins)
     ∙ append-nil (notes_in list place e)
 
 pub notes_more : (list : Medl) (k : ℕ) (diary : Diary) (e : Entry) (place : Place)
@@ -82,7 +79,8 @@ pub notes_more : (list : Medl) (k : ℕ) (diary : Diary) (e : Entry) (place : Pl
     → stint_notes list k (e ∷ diary) ≡ notes_in list place e ++ stint_notes list k diary
 notes_more list k diary e place is inside =
     (λ i. notes_in list (is i) e ++ elim (begins_round (is i) e) [ true ↦ [] | false ↦ stint_notes list k diary ])
-    ∙ ap (λ ns. notes_in list place e ++ ns) (elim-cond (begins_round place e) [] (stint_notes list k diary) ∙ ap (λ b. cond b [] (stint_notes list k diary)) inside)
+    ∙ ap (λ ns. notes_in list place e ++ ns) (elim-cond (begins_round place e) [] (stint_notes list k diary) ∙ ap
+    (λ b. cond b [] (stint_notes list k diary)) inside)
 
 -- a stint begins with a round's notes, and so does the first slot of a round
 pub begun_round_first : (place : Place) (e : Entry) → begins_stint e ≡ true → begins_round place e ≡ true
@@ -110,13 +108,17 @@ correction_of-active : (list : Medl) (k : ℕ) (diary : Diary) (e : Entry) → i
     → correction_of list k (e ∷ diary)
     ≡ correction list (stint_place list k (e ∷ diary)).slot (stint_notes list k (e ∷ diary))
 correction_of-active list k diary entry.Started h =
-    elim-cond (ends_round list (stint_place list k (entry.Started ∷ diary))) (fta (stint_notes list k (entry.Started ∷ diary))) (pos 0)
+    elim-cond (ends_round list (stint_place list k (entry.Started ∷ diary)))
+    (fta (stint_notes list k (entry.Started ∷ diary))) (pos 0)
 correction_of-active list k diary (entry.Joined sender cstate deviation) h =
-    elim-cond (ends_round list (stint_place list k (entry.Joined sender cstate deviation ∷ diary))) (fta (stint_notes list k (entry.Joined sender cstate deviation ∷ diary))) (pos 0)
+    elim-cond (ends_round list (stint_place list k (entry.Joined sender cstate deviation ∷ diary)))
+    (fta (stint_notes list k (entry.Joined sender cstate deviation ∷ diary))) (pos 0)
 correction_of-active list k diary (entry.Sent message) h =
-    elim-cond (ends_round list (stint_place list k (entry.Sent message ∷ diary))) (fta (stint_notes list k (entry.Sent message ∷ diary))) (pos 0)
+    elim-cond (ends_round list (stint_place list k (entry.Sent message ∷ diary)))
+    (fta (stint_notes list k (entry.Sent message ∷ diary))) (pos 0)
 correction_of-active list k diary (entry.Judged sender v deviation) h =
-    elim-cond (ends_round list (stint_place list k (entry.Judged sender v deviation ∷ diary))) (fta (stint_notes list k (entry.Judged sender v deviation ∷ diary))) (pos 0)
+    elim-cond (ends_round list (stint_place list k (entry.Judged sender v deviation ∷ diary)))
+    (fta (stint_notes list k (entry.Judged sender v deviation ∷ diary))) (pos 0)
 correction_of-active list k diary _ h = absurd (false≢true h)
 
 slot_change-active : (e : Entry) (s : SlotSurroundings) (c : ℤ) → is_active_entry e ≡ true
@@ -130,14 +132,18 @@ slot_change-active _ s c h = absurd (false≢true h)
 regroup : (o j d v c : ℤ) → o +ℤ (j +ℤ (d +ℤ (v +ℤ c))) ≡ (o +ℤ (j +ℤ (d +ℤ v))) +ℤ c
 regroup o j d v c = omega (arith, ints)
 
-pub offset_corrected : (list : Medl) (k : ℕ) (diary : Diary) (surroundings : Surroundings) (e : Entry) (s : SlotSurroundings) (place : Place)
+pub offset_corrected : (list : Medl) (k : ℕ) (diary : Diary) (surroundings : Surroundings) (e : Entry)
+    (s : SlotSurroundings) (place : Place)
     → is_active_entry e ≡ true → stint_place list k (e ∷ diary) ≡ place
     → offset_of list k (e ∷ diary) (s ∷ surroundings)
     ≡ uncorrected list k diary surroundings e s +ℤ correction list place.slot (stint_notes list k (e ∷ diary))
 offset_corrected list k diary surroundings e s place active is =
-    ap (λ z. offset_of list k diary surroundings +ℤ z) (slot_change-active e s (correction_of list k (e ∷ diary)) active)
+    ap (λ z. offset_of list k diary surroundings +ℤ z)
+    (slot_change-active e s (correction_of list k (e ∷ diary)) active)
     ∙ regroup (offset_of list k diary surroundings) s.jump s.drift (join_deviation e) (correction_of list k (e ∷ diary))
-    ∙ ap (λ c. uncorrected list k diary surroundings e s +ℤ c) (correction_of-active list k diary e active ∙ ap (λ (p : Place). correction list p.slot (stint_notes list k (e ∷ diary))) is)
+    ∙ ap (λ c. uncorrected list k diary surroundings e s +ℤ c)
+    (correction_of-active list k diary e active ∙ ap
+    (λ (p : Place). correction list p.slot (stint_notes list k (e ∷ diary))) is)
 
 -- The beginning of a slot.
 
@@ -150,15 +156,7 @@ pub clock_at-still : (list : Medl) (script : Script) (history : History) (k : �
     → jump_of script k (length history) ≡ pos 0
     → clock_at list script history k ≡ offset_of list k (diary_of history k) (surroundings_of script history k)
 clock_at-still list script history k still =
-    let node = ready_node list script (length history) (node_past list script history k) nothing_chosen k in
+    let node = node_after list script history k in
     ap (λ z. offset_of list k (diary_of history k) (surroundings_of script history k) +ℤ jump_taken node.act z) still
     ∙ ap (λ z. offset_of list k (diary_of history k) (surroundings_of script history k) +ℤ z) (no_jump_taken node.act)
     ∙ plus_none (offset_of list k (diary_of history k) (surroundings_of script history k))
-
--- it is that of the node when it is ready for the slot, whatever messages are chosen
-pub clock_ready : (list : Medl) (script : Script) (history : History) (chosen : List Chosen) (k : ℕ)
-    → k < length list.slots
-    → (ready_of list (ready_nodes list script history chosen) k).clock ≡ clock_at list script history k
-clock_ready list script history chosen k inside =
-    ap (λ (node : ReadyNode). node.clock)
-    (get_or-map-range_with_len (λ j. ready_node list script (length history) (node_past list script history j) (chosen_of chosen j) j) 0 (length list.slots) k k (no_node list) inside (omega arith))

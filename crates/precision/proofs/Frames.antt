@@ -5,7 +5,6 @@ use Rattle.std.specs.Option.{option_to_list}
 use Rattle.std.proofs.lemmas.Bool.{false≢true}
 use Rattle.std.proofs.lemmas.Int.{ints}
 use Rattle.ttp_world.specs.declared.medl.Medl.{Medl}
-use Rattle.ttp_world.specs.declared.node.Chosen.{Chosen}
 use Rattle.ttp_world.specs.declared.node.Entry.{Entry}
 use Rattle.ttp_world.specs.declared.node.Entry.TheVariants as entry
 use Rattle.ttp_world.specs.declared.script.Script.{Script}
@@ -13,16 +12,23 @@ use Rattle.ttp_world.specs.Clock.{join_deviation, notes_in}
 use Rattle.ttp_world.specs.Diary.{Diary, History, begins_stint, continues_stint, Place, stint_place}
 use Rattle.ttp_world.specs.Medl.{plan_at}
 use Rattle.ttp_world.specs.Script.{drift_of, reading_error}
-use Rattle.ttp_world.specs.World.{ready_nodes, ready_of}
+use Rattle.ttp_world.specs.World.{BegunNode, slot_after, node_of}
+use Rattle.ttp_world.proofs.Slots.{node_of-slot_after}
 use Rattle.precision.specs.Together.{clock_at, measured, BeginsOn, TellsOf}
 use Rattle.precision.proofs.Averages.{IsUpTo, Locate}
-use Rattle.precision.proofs.Entries.{clock_ready}
 
 -- where a frame of node p lies in the slot after a history: as far as that node's clock is ahead
-abbrev pub frame_of : Medl → Script → History → List Chosen → ℕ → ℤ
-frame_of list script history chosen p = (ready_of list (ready_nodes list script history chosen) p).clock
+abbrev pub frame_of : Medl → Script → History → ℕ → ℤ
+frame_of list script history p = (node_of (slot_after list script history) p).clock
 
--- a node that runs within the list's bounds in the slot after a history, and whose clock was o before it and didn't jump
+-- by what it is in the slot
+pub frame_of-node : (list : Medl) (script : Script) (history : History) (k : ℕ) → k < length list.slots
+    → frame_of list script history k ≡ clock_at list script history k
+frame_of-node list script history k node =
+    ap (λ (n : BegunNode). n.clock) (node_of-slot_after list script history k node)
+
+-- a node that runs within the list's bounds in the slot after a history, and whose clock was o before it and didn't
+-- jump
 pub record RunsFrom (list : Medl) (script : Script) (history : History) (k : ℕ) (o : ℤ) : Type 0 where
   pub inside : k < length list.slots
   pub before : clock_at list script history k ≡ o
@@ -41,48 +47,55 @@ own_near : (x o d e q v : ℤ) → x ≡ o → IsUpTo q d → pos 0 ≤ℤ e →
 own_near x o d e q v is drift up none =
     (omega (arith, ints, is, drift.0, drift.1, up, none), omega (arith, ints, is, drift.0, drift.1, up, none))
 
-own_frame : (list : Medl) (script : Script) (history : History) (chosen : List Chosen) (k p : ℕ) (o : ℤ)
-    → RunsFrom list script history k o → k ≡ p → frame_of list script history chosen p ≡ o
-own_frame list script history chosen k p o runs own =
-    sym (ap (frame_of list script history chosen) own) ∙ clock_ready list script history chosen k runs.inside ∙ runs.before
+own_frame : (list : Medl) (script : Script) (history : History) (k p : ℕ) (o : ℤ)
+    → RunsFrom list script history k o → k ≡ p → frame_of list script history p ≡ o
+own_frame list script history k p o runs own =
+    sym (ap (frame_of list script history) own) ∙ frame_of-node list script history k runs.inside ∙ runs.before
 
 -- Another's frame.
 
 other_near : (x c o d e r q v : ℤ) → c ≡ o → v ≡ (x -ℤ c) +ℤ r → IsUpTo q d → IsUpTo e r
     → IsUpTo (e +ℤ q) ((o +ℤ (pos 0 +ℤ (d +ℤ v))) -ℤ x)
-other_near x c o d e r q v is was drift error =
-    (omega (arith, ints, is, was, drift.0, drift.1, error.0, error.1), omega (arith, ints, is, was, drift.0, drift.1, error.0, error.1))
+other_near x c o d e r q v is was drift error = (
+  omega (arith, ints, is, was, drift.0, drift.1, error.0, error.1),
+  omega (arith, ints, is, was, drift.0, drift.1, error.0, error.1),
+)
 
 -- what node k measured of a frame, added to its clock, tells where the frame was
-other_frame : (list : Medl) (script : Script) (history : History) (chosen : List Chosen) (k p : ℕ) (o deviation : ℤ)
+other_frame : (list : Medl) (script : Script) (history : History) (k p : ℕ) (o deviation : ℤ)
     → RunsFrom list script history k o
-    → deviation ≡ measured list script history chosen k p
-    → IsUpTo (list.error +ℤ list.drift) (moved script k o deviation -ℤ frame_of list script history chosen p)
-other_frame list script history chosen k p o deviation runs is =
-    other_near (frame_of list script history chosen p) (frame_of list script history chosen k) o (drift_of script k) list.error (reading_error script k (length history)) list.drift deviation
-    (clock_ready list script history chosen k runs.inside ∙ runs.before) is runs.drift runs.error
+    → deviation ≡ measured list script history k p
+    → IsUpTo (list.error +ℤ list.drift) (moved script k o deviation -ℤ frame_of list script history p)
+other_frame list script history k p o deviation runs is =
+    other_near (frame_of list script history p) (frame_of list script history k) o (drift_of script k) list.error
+    (reading_error script k (length history)) list.drift deviation
+    (frame_of-node list script history k runs.inside ∙ runs.before) is runs.drift runs.error
 
 -- The slot in which it begins.
 
-pub begun_stint : (list : Medl) (script : Script) (history : History) (chosen : List Chosen) (p k : ℕ) (place : Place) (e : Entry) → BeginsOn list script history chosen p place k e → begins_stint e ≡ true
-begun_stint list script history chosen p k place entry.Started h = refl
-begun_stint list script history chosen p k place (entry.Joined sender cstate deviation) h = refl
-begun_stint list script history chosen p k place _ h = absurd h
+pub begun_stint : (list : Medl) (script : Script) (history : History) (p k : ℕ) (place : Place) (e : Entry)
+    → BeginsOn list script history p place k e → begins_stint e ≡ true
+begun_stint list script history p k place entry.Started h = refl
+begun_stint list script history p k place (entry.Joined sender cstate deviation) h = refl
+begun_stint list script history p k place _ h = absurd h
 
-pub begun_place : (list : Medl) (script : Script) (history : History) (chosen : List Chosen) (p k : ℕ) (place : Place) (diary : Diary) (e : Entry) → BeginsOn list script history chosen p place k e
+pub begun_place : (list : Medl) (script : Script) (history : History) (p k : ℕ) (place : Place) (diary : Diary)
+    (e : Entry) → BeginsOn list script history p place k e
     → stint_place list k (e ∷ diary) ≡ place
-begun_place list script history chosen p k place diary entry.Started h = sym h.1
-begun_place list script history chosen p k place diary (entry.Joined sender cstate deviation) h = sym h.0
-begun_place list script history chosen p k place diary _ h = absurd h
+begun_place list script history p k place diary entry.Started h = sym h.1
+begun_place list script history p k place diary (entry.Joined sender cstate deviation) h = sym h.0
+begun_place list script history p k place diary _ h = absurd h
 
-pub begun_near : (list : Medl) (script : Script) (history : History) (chosen : List Chosen) (p k : ℕ) (place : Place) (o : ℤ) (e : Entry) → RunsFrom list script history k o
-    → BeginsOn list script history chosen p place k e
-    → IsUpTo (list.error +ℤ list.drift) (moved script k o (join_deviation e) -ℤ frame_of list script history chosen p)
-begun_near list script history chosen p k place o entry.Started runs h =
-    own_near (frame_of list script history chosen p) o (drift_of script k) list.error list.drift (pos 0) (own_frame list script history chosen k p o runs h.0) runs.drift runs.error_up refl
-begun_near list script history chosen p k place o (entry.Joined sender cstate deviation) runs h =
-    other_frame list script history chosen k p o deviation runs h.1
-begun_near list script history chosen p k place o _ runs h = absurd h
+pub begun_near : (list : Medl) (script : Script) (history : History) (p k : ℕ) (place : Place) (o : ℤ) (e : Entry)
+    → RunsFrom list script history k o
+    → BeginsOn list script history p place k e
+    → IsUpTo (list.error +ℤ list.drift) (moved script k o (join_deviation e) -ℤ frame_of list script history p)
+begun_near list script history p k place o entry.Started runs h =
+    own_near (frame_of list script history p) o (drift_of script k) list.error list.drift (pos 0)
+    (own_frame list script history k p o runs h.0) runs.drift runs.error_up refl
+begun_near list script history p k place o (entry.Joined sender cstate deviation) runs h =
+    other_frame list script history k p o deviation runs h.1
+begun_near list script history p k place o _ runs h = absurd h
 
 -- Notes.
 
@@ -103,29 +116,36 @@ abbrev pub frames_at : Medl → Place → ℤ → List ℤ
 frames_at list place frame = cond (plan_at list place.slot).sync (frame ∷ []) []
 
 -- the first note of a stint is 0
-pub begun_noted : (list : Medl) (script : Script) (history : History) (chosen : List Chosen) (p k : ℕ) (place : Place) (w z x : ℤ) (e : Entry) → BeginsOn list script history chosen p place k e
+pub begun_noted : (list : Medl) (script : Script) (history : History) (p k : ℕ) (place : Place) (w z x : ℤ) (e : Entry)
+    → BeginsOn list script history p place k e
     → IsUpTo w (z -ℤ x) → Locate w z (notes_in list place e) (frames_at list place x)
-begun_noted list script history chosen p k place w z x entry.Started h near =
+begun_noted list script history p k place w z x entry.Started h near =
     with_note w z (pos 0) x (plan_at list place.slot).sync (note_nothing w z x near)
-begun_noted list script history chosen p k place w z x (entry.Joined sender cstate deviation) h near = with_note w z (pos 0) x (plan_at list place.slot).sync (note_nothing w z x near)
-begun_noted list script history chosen p k place w z x _ h near = absurd h
+begun_noted list script history p k place w z x (entry.Joined sender cstate deviation) h near =
+    with_note w z (pos 0) x (plan_at list place.slot).sync (note_nothing w z x near)
+begun_noted list script history p k place w z x _ h near = absurd h
 
 -- a later note is of its own frame or of another's
-pub told_noted : (list : Medl) (script : Script) (history : History) (chosen : List Chosen) (p k : ℕ) (place : Place) (o : ℤ) (e : Entry) → RunsFrom list script history k o
-    → TellsOf list script history chosen p k e
-    → Locate (list.error +ℤ list.drift) (moved script k o (pos 0)) (notes_in list place e) (frames_at list place (frame_of list script history chosen p))
-told_noted list script history chosen p k place o (entry.Sent message) runs h =
-    with_note (list.error +ℤ list.drift) (moved script k o (pos 0)) (pos 0) (frame_of list script history chosen p) (plan_at list place.slot).sync
-    (note_nothing (list.error +ℤ list.drift) (moved script k o (pos 0)) (frame_of list script history chosen p)
-    (own_near (frame_of list script history chosen p) o (drift_of script k) list.error list.drift (pos 0) (own_frame list script history chosen k p o runs h) runs.drift runs.error_up refl))
-told_noted list script history chosen p k place o (entry.Judged sender v deviation) runs h =
+pub told_noted : (list : Medl) (script : Script) (history : History) (p k : ℕ) (place : Place) (o : ℤ) (e : Entry)
+    → RunsFrom list script history k o
+    → TellsOf list script history p k e
+    → Locate (list.error +ℤ list.drift) (moved script k o (pos 0)) (notes_in list place e)
+    (frames_at list place (frame_of list script history p))
+told_noted list script history p k place o (entry.Sent message) runs h =
+    with_note (list.error +ℤ list.drift) (moved script k o (pos 0)) (pos 0) (frame_of list script history p)
+    (plan_at list place.slot).sync
+    (note_nothing (list.error +ℤ list.drift) (moved script k o (pos 0)) (frame_of list script history p)
+    (own_near (frame_of list script history p) o (drift_of script k) list.error list.drift (pos 0)
+    (own_frame list script history k p o runs h) runs.drift runs.error_up refl))
+told_noted list script history p k place o (entry.Judged sender v deviation) runs h =
     let w = list.error +ℤ list.drift in
     let z = moved script k o (pos 0) in
-    let x = frame_of list script history chosen p in
-    subst (λ b. Locate w z (cond (plan_at list place.slot).sync (option_to_list (cond b (Some deviation) None)) []) (frames_at list place x)) (sym h.0)
+    let x = frame_of list script history p in
+    subst (λ b. Locate w z (cond (plan_at list place.slot).sync (option_to_list (cond b (Some deviation) None)) [])
+    (frames_at list place x)) (sym h.0)
     (with_note w z deviation x (plan_at list place.slot).sync
-    (note_later w o (drift_of script k) deviation x (other_frame list script history chosen k p o deviation runs h.1)))
-told_noted list script history chosen p k place o _ runs h = absurd h
+    (note_later w o (drift_of script k) deviation x (other_frame list script history k p o deviation runs h.1)))
+told_noted list script history p k place o _ runs h = absurd h
 
 pub joins_nothing : (e : Entry) → continues_stint e ≡ true → join_deviation e ≡ pos 0
 joins_nothing (entry.Sent message) h = refl

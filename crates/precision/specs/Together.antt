@@ -6,7 +6,6 @@
 use Rattle.std.specs.Prelude.{◌≡◌, ℕ, ◌+◌, ◌<◌, ◌≤◌, ℤ, pos, neg_ℤ, ◌-ℤ◌, ◌≤ℤ◌, Bool, ◌⊎◌, List, [], ◌∷◌, length, None}
 use Rattle.std.specs.Prelude.{IsTrue}
 use Rattle.ttp_world.specs.declared.medl.Medl.{Medl}
-use Rattle.ttp_world.specs.declared.node.Chosen.{Chosen}
 use Rattle.ttp_world.specs.declared.node.Entry.{Entry}
 use Rattle.ttp_world.specs.declared.node.Entry.TheVariants as entry
 use Rattle.ttp_world.specs.declared.script.Script.{Script}
@@ -15,21 +14,18 @@ use Rattle.ttp_world.specs.Clock.{notes_in, notes_of}
 use Rattle.ttp_world.specs.Diary.{Diary, History, entry_of, diary_of, continues_stint, Place, start_place, joined_place}
 use Rattle.ttp_world.specs.Diary.{place_of, ends_round}
 use Rattle.ttp_world.specs.Hypothesis.{clocks_broken}
-use Rattle.ttp_world.specs.Outgoing.{nothing_chosen}
 use Rattle.ttp_world.specs.Script.{jump_of}
-use Rattle.ttp_world.specs.World.{node_past, ready_node, ready_nodes, deviation_in}
+use Rattle.ttp_world.specs.World.{node_after, slot_after, deviation_in}
 
 -- Clocks.
 
 -- node k's clock at the beginning of the slot after a history
 abbrev pub clock_at : Medl → Script → History → ℕ → ℤ
-clock_at list script history k =
-    (ready_node list script (length history) (node_past list script history k) nothing_chosen k).clock
+clock_at list script history k = (node_after list script history k).clock
 
--- the deviation that node r measures of a frame of node p in the slot after a history, where these messages are chosen
-abbrev pub measured : Medl → Script → History → List Chosen → ℕ → ℕ → ℤ
-measured list script history chosen r p =
-    deviation_in list script (length history) (ready_nodes list script history chosen) r p
+-- the deviation that node r measures of a frame of node p in the slot after a history
+abbrev pub measured : Medl → Script → History → ℕ → ℕ → ℤ
+measured list script history r p = deviation_in (slot_after list script history) r p
 
 -- Beginning together.
 
@@ -38,20 +34,19 @@ abbrev pub IsIn : Medl → (ℕ → Bool) → ℕ → Type 0
 IsIn list group k = (k < length list.slots) × IsTrue (group k)
 
 -- by this entry node k begins a stint at a place, on a frame of node p: its own start, or a join
-abbrev pub BeginsOn : Medl → Script → History → List Chosen → ℕ → Place → ℕ → Entry → Type 0
-BeginsOn list script history chosen p place k entry.Started = (k ≡ p) × (place ≡ start_place k)
-BeginsOn list script history chosen p place k (entry.Joined sender cstate deviation) =
-    (place ≡ joined_place cstate) × (deviation ≡ measured list script history chosen k p)
-BeginsOn list script history chosen p place k _ = ⊥
+abbrev pub BeginsOn : Medl → Script → History → ℕ → Place → ℕ → Entry → Type 0
+BeginsOn list script history p place k entry.Started = (k ≡ p) × (place ≡ start_place k)
+BeginsOn list script history p place k (entry.Joined sender cstate deviation) =
+    (place ≡ joined_place cstate) × (deviation ≡ measured list script history k p)
+BeginsOn list script history p place k _ = ⊥
 
 -- in the slot of a row after a history, each node of the group begins on a frame of the same node at the same place
 pub record BeganTogether (list : Medl) (script : Script) (group : ℕ → Bool) (row : List Entry) (history : History)
     : Type 0 where
-  pub chosen : List Chosen
   pub sender : ℕ
   pub place : Place
   pub inside : place.slot < length list.slots
-  pub begins : (k : ℕ) → IsIn list group k → BeginsOn list script history chosen sender place k (entry_of row k)
+  pub begins : (k : ℕ) → IsIn list group k → BeginsOn list script history sender place k (entry_of row k)
 
 -- Staying together.
 
@@ -61,11 +56,11 @@ newest_notes list k [] = []
 newest_notes list k (e ∷ diary) = notes_in list (place_of list k (e ∷ diary)) e
 
 -- this entry of node k tells of a frame of node p: its own, or one that it found correct and measured
-abbrev pub TellsOf : Medl → Script → History → List Chosen → ℕ → ℕ → Entry → Type 0
-TellsOf list script history chosen p k (entry.Sent message) = k ≡ p
-TellsOf list script history chosen p k (entry.Judged sender v deviation) =
-    IsTrue (is_correct v) × (deviation ≡ measured list script history chosen k p)
-TellsOf list script history chosen p k _ = ⊥
+abbrev pub TellsOf : Medl → Script → History → ℕ → ℕ → Entry → Type 0
+TellsOf list script history p k (entry.Sent message) = k ≡ p
+TellsOf list script history p k (entry.Judged sender v deviation) =
+    IsTrue (is_correct v) × (deviation ≡ measured list script history k p)
+TellsOf list script history p k _ = ⊥
 
 -- in the slot of a row after a history, no node of the group notes anything, or the entry of each tells of a frame of
 -- the same node
@@ -73,8 +68,8 @@ pub data NotedAlike (list : Medl) (script : Script) (group : ℕ → Bool) (row 
     : Type 0 where
   Nothing : ((k : ℕ) → IsIn list group k → newest_notes list k (diary_of (row ∷ history) k) ≡ [])
       → NotedAlike list script group row history
-  OneFrame : (chosen : List Chosen) (p : ℕ)
-      → ((k : ℕ) → IsIn list group k → TellsOf list script history chosen p k (entry_of row k))
+  OneFrame : (p : ℕ)
+      → ((k : ℕ) → IsIn list group k → TellsOf list script history p k (entry_of row k))
       → NotedAlike list script group row history
 
 -- with this row a round of node k ends that began after slot s
@@ -118,10 +113,10 @@ HoldsClocksWithin list bound =
     → (j k : ℕ) → IsIn list group j → IsIn list group k
     → (clock_at list script history j -ℤ clock_at list script history k) ≤ℤ bound
 
--- what one of them measures of another's frame then lies no further from 0, whatever is sent
+-- what one of them measures of another's frame then lies no further from 0
 unfoldable pub HoldsDeviationsWithin : Medl → ℤ → Type 0
 HoldsDeviationsWithin list bound =
     (script : Script) (group : ℕ → Bool) (s : ℕ) (history : History) → IsCommonRun list script group s history
     → length history < script.slots
-    → (chosen : List Chosen) (r p : ℕ) → IsIn list group r → IsIn list group p
-    → (neg_ℤ bound ≤ℤ measured list script history chosen r p) × (measured list script history chosen r p ≤ℤ bound)
+    → (r p : ℕ) → IsIn list group r → IsIn list group p
+    → (neg_ℤ bound ≤ℤ measured list script history r p) × (measured list script history r p ≤ℤ bound)

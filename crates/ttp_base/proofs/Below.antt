@@ -1,8 +1,10 @@
 -- The numbers below a number, one after another.
 use Rattle.std.proofs.Common.{◌≡◌, ℕ, zero, suc, ◌+◌, ◌<◌, ◌≤◌, List, [], ◌∷◌, ◌++◌, refl, ap, sym, ◌∙◌, arith}
+use Rattle.std.proofs.Common.{add-one, append_assoc, inl, inr, subst}
 use Rattle.std.specs.Prelude.{map}
 use Rattle.std.specs.List.{flat_map, range_with_len, AllByRecursion}
-use Rattle.std.proofs.lemmas.List.{append-nil, map-id}
+use Rattle.std.proofs.lemmas.List.{append-nil, map-append, map-id}
+use Rattle.std.proofs.Math.Nat.{eq-or-lt_of_le}
 use Rattle.std.proofs.lemmas.List.Concat.{flat_map-append}
 use Rattle.std.proofs.lemmas.List.FromFn.{map-range_with_len_more}
 use Rattle.ttp_base.specs.NodeSet.{below}
@@ -51,3 +53,33 @@ below-next n = sym (map-id (below (n + 1))) ∙ map-range_with_len_more (λ k. k
 
 pub flat_map-next : {X : Type 0} (f : ℕ → List X) (n : ℕ) → flat_map f (below (n + 1)) ≡ flat_map f (below n) ++ f n
 flat_map-next f n = ap (flat_map f) (below-next n) ∙ flat_map-append f (below n) (n ∷ []) ∙ ap (λ ys. flat_map f (below n) ++ ys) (append-nil (f n))
+
+pub map-next : {X : Type 0} (f : ℕ → X) (n : ℕ) → map f (below (n + 1)) ≡ map f (below n) ++ f n ∷ []
+map-next f n = ap (map f) (below-next n) ∙ map-append f (below n) (n ∷ [])
+
+-- The numbers below n are those below k, k itself, and more.
+
+below-split : (k n : ℕ) → k < n → (rest : List ℕ) × (below n ≡ below k ++ k ∷ rest)
+below-split k zero less = absurd (omega arith)
+below-split k (suc n) less =
+    let within : k ≤ n = omega arith in
+    let next : below (suc n) ≡ below n ++ n ∷ [] =
+        subst (λ m. below m ≡ below n ++ n ∷ []) (add-one n) (below-next n) in
+    elim (eq-or-lt_of_le within) [
+      | inl same ↦ ([], rw same next)
+      | inr lower ↦
+          let split = below-split k n lower in
+          (split.0 ++ n ∷ [], next ∙ rw (split.1, append_assoc) refl)
+    ]
+
+pub map-split : {X : Type 0} (f : ℕ → X) (k n : ℕ) → k < n
+    → (rest : List X) × (map f (below n) ≡ map f (below k) ++ f k ∷ rest)
+map-split f k n less =
+    let split = below-split k n less in
+    (map f split.0, ap (map f) split.1 ∙ map-append f (below k) (k ∷ split.0))
+
+pub flat_map-split : {X : Type 0} (f : ℕ → List X) (k n : ℕ) → k < n
+    → (rest : List X) × (flat_map f (below n) ≡ flat_map f (below k) ++ (f k ++ rest))
+flat_map-split f k n less =
+    let split = below-split k n less in
+    (flat_map f split.0, ap (flat_map f) split.1 ∙ flat_map-append f (below k) (k ∷ split.0))

@@ -6,8 +6,9 @@ pub mod Lines
 pub mod NodeLists
 pub mod NodeSets
 pub mod NodeTests
+pub mod Numerals
 pub mod Outputs
 pub mod Room
 pub mod SetWords
 mod Walks
-pub mod Written
+mod Written

@@ -1,68 +1,106 @@
 -- What a sink was given, from one write to the next.
-use Rattle.std.proofs.Common.{◌≡◌, ℕ, ◌+◌, ◌<◌, ◌≤◌, List, [], ◌++◌, subst, sym, ◌∙◌, refl, append_assoc, add-one}
-use Rattle.std.proofs.Common.{arith}
+use Rattle.std.proofs.Common.{◌≡◌, ℕ, ◌+◌, ◌<◌, ◌≤◌, List, [], ◌∷◌, ◌++◌, subst, sym, ◌∙◌, refl, ap, append_assoc, take}
 use Rattle.std.proofs.lemmas.List.{append-nil}
-use Rattle.ttp_base.specs.Outside.{HasRisen, GrewBy, Output, Wrote, WroteLines, CutShort}
-use Rattle.ttp_base.specs.Text.{line_count, texts_below}
-use Rattle.ttp_base.proofs.Lines.{line_count-append}
-use Rattle.ttp_base.proofs.Written.{Appends-none, Appends-join, AppendsFront-join, texts_below-split}
-
--- a count, after none and after two calls
-pub GrewBy-none : (a : ℕ) → GrewBy a a 0
-GrewBy-none a = (omega arith, omega arith)
-
-pub GrewBy-join : (a b c m n : ℕ) → GrewBy a b m → GrewBy b c n → GrewBy a c (m + n)
-GrewBy-join a b c m n p q = (omega (arith, p.0, p.1, q.0, q.1), omega (arith, p.1, q.1))
+use Rattle.std.proofs.lemmas.List.Folds.{concat-append}
+use Rattle.std.specs.Prelude.{map}
+use Rattle.std.specs.List.{concat}
+use Rattle.std.specs.Io.KnownBytes.{Appends}
+use Rattle.ttp_base.specs.NodeSet.{below}
+use Rattle.ttp_base.specs.Outside.{AppendsFront, HasRisen, Output, Wrote, WroteLines, CutShort}
+use Rattle.ttp_base.specs.Text.{Lines, lines_below}
+use Rattle.ttp_base.proofs.Below.{flat_map-next, flat_map-split, map-next, map-split}
+use Rattle.ttp_base.proofs.Written.{Appends-none, Appends-join}
 
 -- nothing was written
-pub Wrote-none : (o : Output) → Wrote o o 0 []
-Wrote-none o = record { text = Appends-none o.written; pieces = GrewBy-none o.pieces; quiet = refl }
+pub Wrote-none : (o : Output) → Wrote o o []
+Wrote-none o = record { bytes = Appends-none o.written; given = sym (append-nil o.pieces); quiet = refl }
 
--- two texts, one after another
-pub Wrote-join : (a b c : Output) (m n : ℕ) (x y : List ℕ) → Wrote a b m x → Wrote b c n y → Wrote a c (m + n) (x ++ y)
-Wrote-join a b c m n x y p q = record {
-  text = Appends-join a.written b.written c.written x y p.text q.text;
-  pieces = GrewBy-join a.pieces b.pieces c.pieces m n p.pieces q.pieces;
+-- pieces, and then more of them
+pub Wrote-join : (a b c : Output) (x y : List (List ℕ)) → Wrote a b x → Wrote b c y → Wrote a c (x ++ y)
+Wrote-join a b c x y p q = record {
+  bytes =
+      subst (Appends a.written c.written) (sym (concat-append x y))
+      (Appends-join a.written b.written c.written (concat x) (concat y) p.bytes q.bytes);
+  given = rw (q.given, p.given, append_assoc) refl;
   quiet = q.quiet ∙ p.quiet;
 }
 
--- a line was written
-pub WroteLines-line : (a b : Output) (line : List ℕ) → line_count line ≡ 1 → Wrote a b 1 line → WroteLines a b line
-WroteLines-line a b line one wrote = subst (λ n. Wrote a b n line) (sym one) wrote
+-- one piece was cut short
+pub CutShort-one : (a b : Output) (piece : List ℕ) → AppendsFront a.written b.written piece → b.pieces ≡ a.pieces
+    → HasRisen a.faults b.faults → a.faults ≤ b.faults → CutShort a b (piece ∷ [])
+CutShort-one a b piece front same risen count = record {
+  whole = [];
+  next = piece;
+  rest = [];
+  text = refl;
+  given = same ∙ sym (append-nil a.pieces);
+  front = front;
+  risen = risen;
+  count = count;
+}
 
-pub WroteLines-join : (a b c : Output) (x y : List ℕ) → WroteLines a b x → WroteLines b c y → WroteLines a c (x ++ y)
-WroteLines-join a b c x y p q =
-    subst (λ n. Wrote a c n (x ++ y)) (sym (line_count-append x y))
-    (Wrote-join a b c (line_count x) (line_count y) x y p q)
-
--- a text was written, and the next one was cut short: so are both with whatever follows
-pub CutShort-join : (a b c : Output) (many : ℕ) (x y z : List ℕ)
-    → Wrote a b many x → CutShort b c y → CutShort a c (x ++ (y ++ z))
-CutShort-join a b c many x y z p q = record {
-  front = AppendsFront-join a.written b.written c.written x y z p.text q.front;
+-- lines were written, and those after them were cut short
+pub CutShort-after : (a b c : Output) (x y : Lines) → WroteLines a b x → CutShort b c y → CutShort a c (x ++ y)
+CutShort-after a b c x y p q = record {
+  whole = x ++ q.whole;
+  next = q.next;
+  rest = q.rest;
+  text = ap (λ (lines : Lines). x ++ lines) q.text ∙ sym (append_assoc x q.whole (q.next ∷ q.rest));
+  given = rw (q.given, p.given, append_assoc) refl;
+  front =
+      let n = q.front.0 in
+      (n,
+      subst (Appends a.written c.written)
+      (sym (ap (λ (bytes : List ℕ). bytes ++ take n q.next) (concat-append x q.whole)
+      ∙ append_assoc (concat x) (concat q.whole) (take n q.next)))
+      (Appends-join a.written b.written c.written (concat x) (concat q.whole ++ take n q.next) p.bytes q.front.1));
   risen = subst (λ n. HasRisen n c.faults) p.quiet q.risen;
   count = subst (λ n. n ≤ c.faults) p.quiet q.count;
 }
 
--- with nothing that follows, and with nothing before
-pub CutShort-after : (a b c : Output) (many : ℕ) (x y : List ℕ)
-    → Wrote a b many x → CutShort b c y → CutShort a c (x ++ y)
-CutShort-after a b c many x y p q =
-    subst (λ (t : List ℕ). CutShort a c (x ++ t)) (append-nil y) (CutShort-join a b c many x y [] p q)
+-- lines that were cut short are with more lines behind them
+pub CutShort-more : (a c : Output) (x y : Lines) → CutShort a c x → CutShort a c (x ++ y)
+CutShort-more a c x y p = record {
+  whole = p.whole;
+  next = p.next;
+  rest = p.rest ++ y;
+  text = ap (λ (lines : Lines). lines ++ y) p.text ∙ append_assoc p.whole (p.next ∷ p.rest) y;
+  given = p.given;
+  front = p.front;
+  risen = p.risen;
+  count = p.count;
+}
 
-pub CutShort-more : (a c : Output) (y z : List ℕ) → CutShort a c y → CutShort a c (y ++ z)
-CutShort-more a c y z cut = CutShort-join a a c 0 [] y z (Wrote-none a) cut
+-- Loops: a head and the lines of the numbers below k, and then those of k, whole or cut short.
 
--- a head and the texts of some numbers were written, and the next one's text was cut short
-pub CutShort-texts : (a b c : Output) (head : List ℕ) (text : ℕ → List ℕ) (k n : ℕ) → k < n
-    → WroteLines a b (head ++ texts_below text k) → CutShort b c (text k) → CutShort a c (head ++ texts_below text n)
-CutShort-texts a b c head text k n less before cut =
-    let split = texts_below-split text k n less in
-    rw (split.1, ← append_assoc) (CutShort-join a b c (line_count (head ++ texts_below text k)) (head ++ texts_below text k) (text k) split.0 before cut)
+pub WroteLines-below : (a b c : Output) (head : Lines) (lines : ℕ → Lines) (k : ℕ)
+    → WroteLines a b (head ++ lines_below lines k) → WroteLines b c (lines k)
+    → WroteLines a c (head ++ lines_below lines (k + 1))
+WroteLines-below a b c head lines k before more =
+    rw (flat_map-next lines k, ← append_assoc) (Wrote-join a b c (head ++ lines_below lines k) (lines k) before more)
 
--- a head and the texts of some numbers were written, and then the next one's text
-pub WroteLines-texts : (a b c : Output) (head : List ℕ) (text : ℕ → List ℕ) (k : ℕ)
-    → WroteLines a b (head ++ texts_below text k) → WroteLines b c (text k)
-    → WroteLines a c (head ++ texts_below text (k + 1))
-WroteLines-texts a b c head text k before more =
-    rw (add-one, ← append_assoc) (WroteLines-join a b c (head ++ texts_below text k) (text k) before more)
+pub CutShort-below : (a b c : Output) (head : Lines) (lines : ℕ → Lines) (k n : ℕ) → k < n
+    → WroteLines a b (head ++ lines_below lines k) → CutShort b c (lines k)
+    → CutShort a c (head ++ lines_below lines n)
+CutShort-below a b c head lines k n less before cut =
+    let split = flat_map-split lines k n less in
+    rw (split.1, ← append_assoc head (lines_below lines k) (lines k ++ split.0))
+    (CutShort-after a b c (head ++ lines_below lines k) (lines k ++ split.0) before
+    (CutShort-more b c (lines k) split.0 cut))
+
+-- The same where each number has one line.
+
+pub WroteLines-each : (a b c : Output) (head : Lines) (line : ℕ → List ℕ) (k : ℕ)
+    → WroteLines a b (head ++ map line (below k)) → WroteLines b c (line k ∷ [])
+    → WroteLines a c (head ++ map line (below (k + 1)))
+WroteLines-each a b c head line k before more =
+    rw (map-next line k, ← append_assoc) (Wrote-join a b c (head ++ map line (below k)) (line k ∷ []) before more)
+
+pub CutShort-each : (a b c : Output) (head : Lines) (line : ℕ → List ℕ) (k n : ℕ) → k < n
+    → WroteLines a b (head ++ map line (below k)) → CutShort b c (line k ∷ [])
+    → CutShort a c (head ++ map line (below n))
+CutShort-each a b c head line k n less before cut =
+    let split = map-split line k n less in
+    rw (split.1, ← append_assoc)
+    (CutShort-after a b c (head ++ map line (below k)) (line k ∷ split.0) before
+    (CutShort-more b c (line k ∷ []) split.0 cut))

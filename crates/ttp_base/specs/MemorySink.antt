@@ -24,4 +24,8 @@ sink_faults sink = sink.faults
 
 -- what it tells
 abbrev pub sink_output : MemorySink → Output
-sink_output sink = record { written = Some (sink_bytes sink); pieces = sink.pieces; faults = sink_faults sink }
+sink_output sink = record {
+  written = Some (sink_bytes sink);
+  pieces = (sink.pieces).given;
+  faults = sink_faults sink;
+}

@@ -2,9 +2,9 @@
 -- counts of faults.
 use Rattle.std.specs.Prelude.{◌≡◌, ◌==◌, ℕ, ◌+◌, ◌-◌, ◌^◌, ◌≤◌, min, Bool, Option}
 use Rattle.std.specs.Prelude.{List, [], ◌∷◌, ◌++◌, length, take}
-use Rattle.std.specs.List.{list_any}
+use Rattle.std.specs.List.{concat, list_any}
 use Rattle.std.specs.Io.KnownBytes.{Appends}
-use Rattle.ttp_base.specs.Text.{line_count}
+use Rattle.ttp_base.specs.Text.{Lines}
 
 -- ---- counts
 
@@ -15,10 +15,6 @@ count_end = 2 ^ 64 - 1
 -- the count rose, or it stands at its end
 abbrev pub HasRisen : ℕ → ℕ → Type 0
 HasRisen before now = min (before + 1) count_end ≤ now
-
--- the count rose by so many, or as far as it goes
-abbrev pub GrewBy : ℕ → ℕ → ℕ → Type 0
-GrewBy before now many = (min (before + many) count_end ≤ now) × (now ≤ before + many)
 
 -- whether the call of this number is one of those that are to fail
 abbrev pub comes_up : List ℕ → ℕ → Bool
@@ -68,29 +64,35 @@ NoneRose before now = (name : List ℕ) → now.faults name ≡ before.faults na
 
 -- ---- output
 
--- the bytes that were written so far, where the sink tells them, in how many pieces they were given, and the count of
--- faults
+-- the bytes that were written so far, where the sink tells them, the pieces that it took whole, the first one first, and
+-- the count of faults
 pub record Output : Type 0 where
   pub written : Option (List ℕ)
-  pub pieces : ℕ
+  pub pieces : List (List ℕ)
   pub faults : ℕ
 
 -- known bytes grow by the first bytes of a text, by none of them or by all
 abbrev pub AppendsFront : Option (List ℕ) → Option (List ℕ) → List ℕ → Type 0
 AppendsFront before now text = (n : ℕ) × Appends before now (take n text)
 
--- so many pieces were written, which are this text, and there was no fault
-pub record Wrote (before now : Output) (many : ℕ) (bytes : List ℕ) : Type 0 where
-  pub text : Appends before.written now.written bytes
-  pub pieces : GrewBy before.pieces now.pieces many
+-- these pieces were written, one after another, and there was no fault
+pub record Wrote (before now : Output) (pieces : List (List ℕ)) : Type 0 where
+  pub bytes : Appends before.written now.written (concat pieces)
+  pub given : now.pieces ≡ before.pieces ++ pieces
   pub quiet : now.faults ≡ before.faults
 
 -- a text was written, each of its lines as one piece
-abbrev pub WroteLines : Output → Output → List ℕ → Type 0
-WroteLines before now text = Wrote before now (line_count text) text
+abbrev pub WroteLines : Output → Output → Lines → Type 0
+WroteLines before now lines = Wrote before now lines
 
--- a fault cut a text short: some first bytes of it were written, or none, and the count of faults rose
-pub record CutShort (before now : Output) (text : List ℕ) : Type 0 where
-  pub front : AppendsFront before.written now.written text
+-- A fault cut a text short: some of its first lines, or none, were written as a piece each, and then some first bytes of
+-- the next line, or none, or all of them where it failed after them. The count of faults rose.
+pub record CutShort (before now : Output) (lines : Lines) : Type 0 where
+  pub whole : Lines
+  pub next : List ℕ
+  pub rest : Lines
+  pub text : lines ≡ whole ++ next ∷ rest
+  pub given : now.pieces ≡ before.pieces ++ whole
+  pub front : (n : ℕ) × Appends before.written now.written (concat whole ++ take n next)
   pub risen : HasRisen before.faults now.faults
   pub count : before.faults ≤ now.faults

@@ -10,4 +10,8 @@ library_files library = record { held = λ _. untold; faults = λ _. library.fau
 
 -- what the writer tells of its bytes
 abbrev pub sink_output : {W : Type 0} → (W → Option (List ℕ)) → StreamSink W → Output
-sink_output contents sink = record { written = contents sink.writer; pieces = sink.pieces; faults = sink.faults }
+sink_output contents sink = record {
+  written = contents sink.writer;
+  pieces = (sink.pieces).given;
+  faults = sink.faults;
+}

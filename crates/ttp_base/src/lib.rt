@@ -20,6 +20,7 @@ mod list;
 mod memory_library;
 mod memory_sink;
 mod node_set;
+mod pieces;
 mod sink;
 mod streams;
 mod system;

@@ -1,11 +1,12 @@
 //! A sink in memory.
-ghost use Rattle.std.specs.Prelude.{◌≡◌, ◌⊎◌, ◌+◌, ◌<◌, ◌≤◌, ◌↔◌, [], length, min, vec_len, vec_capacity};
+ghost use Rattle.std.specs.Prelude.{◌≡◌, ◌⊎◌, ◌+◌, ◌<◌, ◌≤◌, ◌↔◌, [], ◌∷◌, length, min, vec_len, vec_capacity};
 ghost use Rattle.std.specs.Prelude.{is_ok, if◌then◌else◌, IsTrue, IsErr, IfOk, OnOk, OnErr};
 ghost use Rattle.ttp_base.specs.Outside.{Wrote, CutShort, comes_up, count_end};
 
 use crate::calls::is_next_to_fail;
 use crate::fault::{Failed, Memory};
 use crate::list::List;
+use crate::pieces::{Piece, Pieces};
 use crate::sink::Sink;
 use std::alloc::Global;
 
@@ -18,7 +19,7 @@ pub struct MemorySink {
     room: usize,
     fail: List<u32>,
     calls: u64,
-    pieces: u64,
+    pieces: Pieces,
     faults: u64,
     ghost fits: { vec_len bytes ≤ room },
     ghost reserved: { room ≤ vec_capacity bytes },
@@ -34,7 +35,7 @@ impl MemorySink {
         ensures empty { IfOk result (λ sink. sink_bytes sink ≡ []) }
         ensures room { IfOk result (λ sink. sink_room sink ≡ room) }
         ensures fail { IfOk result (λ sink. (sink_fail sink ≡ fail) × (sink_calls sink ≡ 0)) }
-        ensures counts { IfOk result (λ sink. ((sink_output sink).pieces ≡ 0) × (sink_faults sink ≡ 0)) }
+        ensures nothing { IfOk result (λ sink. ((sink_output sink).pieces ≡ []) × (sink_faults sink ≡ 0)) }
     {
         match Vec::with_capacity(alloc, room) {
             Ok(bytes) => Ok(MemorySink {
@@ -42,7 +43,7 @@ impl MemorySink {
                 room,
                 fail,
                 calls: 0,
-                pieces: 0,
+                pieces: Pieces::nothing(),
                 faults: 0,
             }),
             Err(_) => Err(Memory),
@@ -66,8 +67,8 @@ impl Sink for MemorySink {
     /// Fails exactly where the call's number is to fail or the piece doesn't fit the rest of the
     /// room, and then writes nothing.
     fn write(&mut self, piece: &[u8]) -> Result<(), Failed>
-        ensures ok { OnOk result (Wrote (sink_output self.old) (sink_output self.new) 1 piece.now) }
-        ensures failed { OnErr result (CutShort (sink_output self.old) (sink_output self.new) piece.now) }
+        ensures ok { OnOk result (Wrote (sink_output self.old) (sink_output self.new) (piece.now ∷ [])) }
+        ensures failed { OnErr result (CutShort (sink_output self.old) (sink_output self.new) (piece.now ∷ [])) }
 
         ensures number { sink_calls self.new ≡ min (sink_calls self.old + 1) count_end }
         ensures exact { IsErr result ↔ (IsTrue (comes_up (sink_fail self.old) (sink_calls self.new))
@@ -85,7 +86,7 @@ impl Sink for MemorySink {
         }
         match self.bytes.extend_from_slice(piece) {
             Ok(()) => {
-                self.pieces = self.pieces.saturating_add(1);
+                self.pieces = Pieces::and(&self.pieces, &Piece { bytes: piece });
                 Ok(())
             }
             Err(_) => unreachable!(),

@@ -1,5 +1,5 @@
 //! Where output goes.
-ghost use Rattle.std.specs.Prelude.{OnOk, OnErr};
+ghost use Rattle.std.specs.Prelude.{[], ◌∷◌, OnOk, OnErr};
 ghost use Rattle.ttp_base.specs.Outside.{Output, Wrote, CutShort};
 
 use crate::fault::Failed;
@@ -7,16 +7,17 @@ use crate::fault::Failed;
 /// Takes bytes, a piece at a time.
 ///
 /// An implementation may tell what was written, as one over memory does, or leave that untold, as
-/// one over a stream whose writer does. It counts the pieces that it took whole, and its faults.
-/// Neither count falls, and each stands still at 2^64 - 1.
+/// one over a stream whose writer does. It tells the pieces that it took whole, so that a caller's
+/// contract can say which bytes were given together, and counts its faults. The count never falls, and
+/// stands still at 2^64 - 1.
 pub trait Sink {
-    /// What was written so far, and the counts.
+    /// What was written so far, in which pieces, and the count of faults.
     ghost output: { Self → Output };
 
     /// Writes a piece after what was written before. After `Failed` some first bytes of it were
     /// written, or none.
     fn write(&mut self, piece: &[u8]) -> Result<(), Failed>
-        ensures ok { OnOk result (Wrote (output self.old) (output self.new) 1 piece.now) }
+        ensures ok { OnOk result (Wrote (output self.old) (output self.new) (piece.now ∷ [])) }
         // The outside is blamed only where it is at fault.
-        ensures failed { OnErr result (CutShort (output self.old) (output self.new) piece.now) };
+        ensures failed { OnErr result (CutShort (output self.old) (output self.new) (piece.now ∷ [])) };
 }

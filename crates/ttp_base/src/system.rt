@@ -4,6 +4,7 @@ ghost use Rattle.std.specs.Prelude.{◌≡◌, [], vec_len, IfOk, ◌≤◌};
 use crate::asked::{Asked, Request};
 use crate::fault::Failed;
 use crate::library::{Library, LoadError};
+use crate::pieces::{Piece, Pieces};
 use crate::sink::Sink;
 use crate::streams::{cause_of, read_front, send};
 use std::alloc::Global;
@@ -78,7 +79,7 @@ fn load_front<R: Files>(
 #[derive(Drop)]
 pub struct StreamSink<W> {
     writer: W,
-    pieces: u64,
+    pieces: Pieces,
     faults: u64,
 }
 
@@ -86,11 +87,11 @@ impl<W: Write> StreamSink<W> {
     ghost use Rattle.ttp_base.specs.System.{sink_output};
 
     pub fn new(writer: W) -> StreamSink<W>
-        ensures { sink_output W.contents result ≡ record { written = W.contents writer; pieces = 0; faults = 0 } }
+        ensures { sink_output W.contents result ≡ record { written = W.contents writer; pieces = []; faults = 0 } }
     {
         StreamSink {
             writer,
-            pieces: 0,
+            pieces: Pieces::nothing(),
             faults: 0,
         }
     }
@@ -104,7 +105,7 @@ impl<W: Write> Sink for StreamSink<W> {
     fn write(&mut self, piece: &[u8]) -> Result<(), Failed> {
         match send(&mut self.writer, piece) {
             Ok(()) => {
-                self.pieces = self.pieces.saturating_add(1);
+                self.pieces = Pieces::and(&self.pieces, &Piece { bytes: piece });
                 Ok(())
             }
             Err(Failed) => {

@@ -19,11 +19,11 @@ each P a b c d (suc (suc (suc (suc k)))) p = absurd (omega (arith, p.0))
 -- a slot in which all tell of a frame of one node, and no later round ends
 goes_on : (p : ℕ) (row : List Entry) (history : History)
     → ((k : ℕ) → IsIn four_nodes every_node k → IsTrue (continues_stint (entry_of row k)))
-    → ((k : ℕ) → IsIn four_nodes every_node k → TellsOf four_nodes drifting history [] p k (entry_of row k))
+    → ((k : ℕ) → IsIn four_nodes every_node k → TellsOf four_nodes drifting history p k (entry_of row k))
     → ((k : ℕ) → IsIn four_nodes every_node k → EndsLaterRound four_nodes 8 k row history → ⊥)
     → StayedTogether four_nodes drifting every_node 8 row history
 goes_on p row history active tells never =
-    record { active = active; noted = OneFrame [] p tells; enough = λ k is ends. absurd (never k is ends) }
+    record { active = active; noted = OneFrame p tells; enough = λ k is ends. absurd (never k is ends) }
 
 pub returns-clause-world : goal.returns-clause-world
 unfolding members_in with_node
@@ -44,26 +44,31 @@ returns-clause-together c =
                   inl (
                     refl,
                     record {
-                      chosen = [];
                       sender = 0;
                       place = record { time = 0; round = 0; slot = 0 };
                       inside = omega arith;
                       begins = each _ (refl, refl) (refl, refl) (refl, refl) (refl, refl);
                     },
                   ),
-                  goes_on 1 _ _ (each _ refl refl refl refl) (each _ (refl, refl) refl (refl, refl) (refl, refl)) (λ k is ends. omega (arith, ends.1)),
+                  goes_on 1 _ _ (each _ refl refl refl refl) (each _ (refl, refl) refl (refl, refl) (refl, refl))
+                      (λ k is ends. omega (arith, ends.1)),
                 ),
-                goes_on 2 _ _ (each _ refl refl refl refl) (each _ (refl, refl) (refl, refl) refl (refl, refl)) (λ k is ends. omega (arith, ends.1)),
+                goes_on 2 _ _ (each _ refl refl refl refl) (each _ (refl, refl) (refl, refl) refl (refl, refl))
+                    (λ k is ends. omega (arith, ends.1)),
               ),
-              goes_on 3 _ _ (each _ refl refl refl refl) (each _ (refl, refl) (refl, refl) (refl, refl) refl) (λ k is ends. omega (arith, ends.1)),
+              goes_on 3 _ _ (each _ refl refl refl refl) (each _ (refl, refl) (refl, refl) (refl, refl) refl)
+                  (λ k is ends. omega (arith, ends.1)),
             ),
             goes_on 0 _ _ (each _ refl refl refl refl) (each _ refl (refl, refl) (refl, refl) (refl, refl))
-                (each _ (λ ends. false≢true ends.0) (λ ends. false≢true ends.0) (λ ends. false≢true ends.0) (λ ends. false≢true ends.0)),
+                (each _ (λ ends. false≢true ends.0) (λ ends. false≢true ends.0) (λ ends. false≢true ends.0)
+                (λ ends. false≢true ends.0)),
           ),
           goes_on 1 _ _ (each _ refl refl refl refl) (each _ (refl, refl) refl (refl, refl) (refl, refl))
-              (each _ (λ ends. false≢true ends.0) (λ ends. false≢true ends.0) (λ ends. false≢true ends.0) (λ ends. false≢true ends.0)),
+              (each _ (λ ends. false≢true ends.0) (λ ends. false≢true ends.0) (λ ends. false≢true ends.0)
+              (λ ends. false≢true ends.0)),
         ),
         goes_on 2 _ _ (each _ refl refl refl refl) (each _ (refl, refl) (refl, refl) refl (refl, refl))
-            (each _ (λ ends. false≢true ends.0) (λ ends. false≢true ends.0) (λ ends. false≢true ends.0) (λ ends. false≢true ends.0)),
+            (each _ (λ ends. false≢true ends.0) (λ ends. false≢true ends.0) (λ ends. false≢true ends.0)
+            (λ ends. false≢true ends.0)),
       );
     }
