@@ -21,11 +21,13 @@ all_by_xor : map (bytes_by by_xor) (below 8) ≡ map (bytes_by flip_in_byte) (be
 all_by_xor = refl
 
 pub flip_in_byte-xor : (place byte : ℕ) → place < 8 → byte < 256 → by_xor place byte ≡ flip_in_byte place byte
-flip_in_byte-xor place byte there fits = sym (entry by_xor) ∙ ap (λ rows. get_or (get_or rows place []) byte 0) all_by_xor ∙ entry flip_in_byte
+flip_in_byte-xor place byte there fits =
+    sym (entry by_xor) ∙ ap (λ rows. get_or (get_or rows place []) byte 0) all_by_xor ∙ entry flip_in_byte
   where
     entry : (flip : ℕ → ℕ → ℕ) → get_or (get_or (map (bytes_by flip) (below 8)) place []) byte 0 ≡ flip place byte
     entry flip =
-        ap (λ row. get_or row byte 0) (get_or-map-range_with_len (bytes_by flip) 0 8 place place [] there (zero-add place))
+        ap (λ row. get_or row byte 0)
+        (get_or-map-range_with_len (bytes_by flip) 0 8 place place [] there (zero-add place))
         ∙ get_or-map-range_with_len (flip place) 0 256 byte byte 0 fits (zero-add byte)
 
 -- A bit of bytes is flipped in its byte, if it is not past the end.
@@ -39,7 +41,8 @@ flips_at (byte ∷ bytes) bit zero place is there within =
     rw (lt-ltb bit 8 small, same) refl
 flips_at (byte ∷ bytes) bit (suc at) place is there within =
     let large : 8 ≤ bit = omega arith in
-    rw (le-ltb bit 8 large) (ap (λ rest. byte ∷ rest) (flips_at bytes (bit - 8) at place (omega arith) there (omega arith)))
+    rw (le-ltb bit 8 large)
+    (ap (λ rest. byte ∷ rest) (flips_at bytes (bit - 8) at place (omega arith) there (omega arith)))
 
 keeps_past : (bytes : List ℕ) (bit at place : ℕ) → bit ≡ 8 * at + place → length bytes ≤ at → flip_bit bytes bit ≡ bytes
 keeps_past [] bit at place is past = refl

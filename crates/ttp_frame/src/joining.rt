@@ -6,13 +6,12 @@ ghost use Rattle.std.specs.List.{list_all};
 ghost use Rattle.ttp_base.specs.NodeSet.{members_in};
 ghost use Rattle.ttp_world.specs.Fitting.{carried, is_formed, joinable};
 ghost use Rattle.ttp_world.specs.Fitting.{is_cold_start, is_joinable_state, is_listed_explicit};
-ghost use Rattle.ttp_world.specs.Frame.{header_of};
-ghost use Rattle.ttp_world.specs.Medl.{member_bytes, may_start, payload_length, schedule_limit, IsValid};
+ghost use Rattle.ttp_world.specs.Medl.{member_bytes, may_start, schedule_limit, IsValid};
 
 use crate::judging::has_shape;
-use crate::pieces::{BARE, COLD_START, EXPLICIT, IMPLICIT, ends_with_word, state_len};
+use crate::pieces::{COLD_START, IMPLICIT, ends_with_word, state_len};
 use ttp_base::NodeSet;
-use ttp_world::{CState, Kind, Medl};
+use ttp_world::{CState, Medl};
 
 // The set whose members are the bits of a word.
 fn members_of(word: u32) -> NodeSet
@@ -81,30 +80,6 @@ fn is_formed(bytes: &[u8], wide: bool, header: u8, payload: u8, start: u32) -> b
     has_shape(bytes, wide, header, payload) && ends_with_word(start, &[], bytes)
 }
 
-// The header of an explicit frame of this kind.
-fn header_of(kind: Kind) -> u8
-    ensures { result ≡ header_of kind }
-{
-    match kind {
-        Kind::N => IMPLICIT,
-        Kind::I => BARE,
-        Kind::X => EXPLICIT,
-    }
-}
-
-// The bytes of payload of the frame in a round and slot.
-fn payload_of(list: &Medl, round: u8, slot: u8) -> u8
-    requires valid { IsValid list.now }
-    requires round { round < list.now.rounds }
-    requires slot { slot < length list.now.slots }
-    ensures { result ≡ payload_length list.now round slot }
-{
-    match list.kind_at(round, slot) {
-        Kind::I => 0,
-        Kind::N | Kind::X => list.slots.get(slot as usize).payload,
-    }
-}
-
 fn is_cold_start(list: &Medl, bytes: &[u8], c: &CState) -> bool
     requires valid { IsValid list.now }
     requires slot { c.now.slot < length list.now.slots }
@@ -120,8 +95,8 @@ fn is_listed_explicit(list: &Medl, bytes: &[u8], c: &CState) -> bool
     requires slot { c.now.slot < length list.now.slots }
     ensures { result ≡ is_listed_explicit list.now bytes.now c.now }
 {
-    let header = header_of(list.kind_at(c.round, c.slot));
-    let payload = payload_of(list, c.round, c.slot);
+    let header = list.kind_at(c.round, c.slot).header();
+    let payload = list.payload_length(c.round, c.slot);
     header != IMPLICIT && is_formed(bytes, list.is_wide(), header, payload, list.schedule)
 }
 

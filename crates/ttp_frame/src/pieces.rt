@@ -9,10 +9,6 @@ use ttp_world::CState;
 
 /// The header of a frame that carries a payload and not its C-state.
 pub(crate) const IMPLICIT: u8 = 0;
-/// That of a frame that carries its C-state alone.
-pub(crate) const BARE: u8 = 1;
-/// That of a frame that carries both.
-pub(crate) const EXPLICIT: u8 = 2;
 /// That of a cold-start frame, which carries its C-state alone.
 pub(crate) const COLD_START: u8 = 3;
 

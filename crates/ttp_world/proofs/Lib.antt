@@ -5,6 +5,10 @@ pub mod EntriesMade
 pub mod EventBounds
 pub mod FlipLists
 pub mod Fronts
+pub mod LegalNumbers
+pub mod LegalRuns
+pub mod LegalShapes
+pub mod LineLists
 pub mod LineNumbers
 pub mod LineWords
 pub mod Lists
@@ -14,11 +18,16 @@ pub mod NumberWords
 pub mod Pasts
 pub mod Places
 pub mod PointBounds
+pub mod Rings
+pub mod RunNumbers
 pub mod Silences
+pub mod SlotNumbers
 pub mod Slots
 pub mod Splits
 pub mod Sweep
 pub mod Told
 pub mod Totals
+pub mod TraceNumbers
+pub mod Unhosted
 pub mod WeightBounds
 pub mod Worlds

@@ -8,7 +8,6 @@ use Rattle.ttp_world.specs.declared.node.Reason.{Reason}
 use Rattle.ttp_world.specs.declared.node.Reason.TheVariants as reason
 use Rattle.ttp_world.specs.declared.node.Verdict.{Verdict}
 use Rattle.ttp_world.specs.declared.node.Verdict.TheVariants as verdict
-use Rattle.ttp_world.specs.Messages.{message_of}
 use Rattle.ttp_world.specs.Trace.{verdict_word, reason_word, entry_word, number_or_dash}
 use Rattle.ttp_world.specs.TraceNumbers.{word_in, number_named, is_sending_line, is_reading_line, number_read}
 use Rattle.ttp_world.proofs.LineWords.{IsNodeLine, IsHostLine}

@@ -1,7 +1,8 @@
 -- The world that numbers make: how long it is, how wide its rows are, and that its entries speak of the list.
-use Rattle.std.proofs.Common.{◌≡◌, ℕ, ◌<◌, suc, [], ◌∷◌, length, refl, ap}
+use Rattle.std.proofs.Common.{◌≡◌, ℕ, zero, suc, ◌<◌, List, [], ◌∷◌, length, drop, refl, ap}
 use Rattle.std.specs.List.{AllByRecursion}
 use Rattle.ttp_world.specs.declared.medl.Medl.{Medl}
+use Rattle.ttp_world.specs.declared.node.Entry.{Entry}
 use Rattle.ttp_world.specs.declared.script.Script.{Script}
 use Rattle.ttp_world.specs.Act.{coming_place}
 use Rattle.ttp_world.specs.Medl.{IsValid}
@@ -11,6 +12,11 @@ use Rattle.ttp_world.proofs.Lists.{IsPlaceOf}
 use Rattle.ttp_world.proofs.Places.{AreOfList, coming_place-of_list, row_after-of_list, entry_of-of_list}
 use Rattle.ttp_world.proofs.Places.{IsSentInList, delivered_of-sender}
 use Rattle.ttp_world.proofs.Slots.{length-row_in}
+
+-- the row of the slot after the world of some numbers, by the numbers of that slot
+abbrev pub row_of_world : Medl → Script → SlotNumbers → Numbers → List Entry
+row_of_world list script new numbers =
+    row_in (slot_after list script (world list script numbers)) (messages_chosen list script (length numbers) new.sent)
 
 pub length-world : (list : Medl) (script : Script) (numbers : Numbers)
     → length (world list script numbers) ≡ length numbers
@@ -26,6 +32,13 @@ rows-world list script (new ∷ numbers) = (
       (messages_chosen list script (length numbers) new.sent),
   rows-world list script numbers,
 )
+
+-- the world some slots before
+pub world-older : (list : Medl) (script : Script) (m : ℕ) (numbers : Numbers)
+    → drop m (world list script numbers) ≡ world list script (drop m numbers)
+world-older list script zero numbers = refl
+world-older list script (suc m) [] = refl
+world-older list script (suc m) (new ∷ numbers) = world-older list script m numbers
 
 -- Where the list is valid, each entry speaks of a slot of the list.
 
@@ -48,11 +61,9 @@ coming_place-world list script numbers k valid node =
 
 -- and what a node delivers came from a node of the list
 pub delivered_of-world : (list : Medl) (script : Script) (new : SlotNumbers) (numbers : Numbers) (r : ℕ) → IsValid list
-    → IsSentInList list (delivered_of list script (world list script numbers)
-    (row_in (slot_after list script (world list script numbers))
-    (messages_chosen list script (length numbers) new.sent)) r)
+    → IsSentInList list
+    (delivered_of list script (world list script numbers) (row_of_world list script new numbers) r)
 delivered_of-world list script new numbers r valid =
-    let row = row_in (slot_after list script (world list script numbers))
-    (messages_chosen list script (length numbers) new.sent) in
+    let row = row_of_world list script new numbers in
     delivered_of-sender list script (world list script numbers) row r
     (entry_of-of_list list row r (world-of_list list script (new ∷ numbers) valid).0)

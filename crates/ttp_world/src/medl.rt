@@ -19,6 +19,22 @@ pub enum Kind {
     X,
 }
 
+impl Kind {
+    ghost use Rattle.std.specs.Prelude.{◌≡◌};
+    ghost use Rattle.ttp_world.specs.Frame.{header_of};
+
+    /// The header of a frame of this kind: the frame's first byte.
+    pub fn header(self) -> u8
+        ensures { result ≡ header_of self }
+    {
+        match self {
+            Kind::N => 0,
+            Kind::I => 1,
+            Kind::X => 2,
+        }
+    }
+}
+
 /// One slot of the TDMA round. Node k owns slot k.
 #[derive(Debug, Drop)]
 pub struct SlotPlan {
@@ -82,7 +98,7 @@ impl SlotPlan {
 
 impl Medl {
     ghost use Rattle.std.specs.Prelude.{◌≡◌, ◌<◌, length, IfOk};
-    ghost use Rattle.ttp_world.specs.Medl.{IsValid, kind_at, is_wide};
+    ghost use Rattle.ttp_world.specs.Medl.{IsValid, kind_at, payload_length, is_wide};
 
     /// A copy of the list.
     pub fn copy(&self, alloc: Global) -> Result<Medl, Memory>
@@ -125,6 +141,19 @@ impl Medl {
         ensures { result ≡ kind_at self.now round slot }
     {
         *self.slots.get(slot as usize).kinds.get(round as usize)
+    }
+
+    /// The bytes of payload that a slot's frame carries in a round of the cluster cycle.
+    pub fn payload_length(&self, round: u8, slot: u8) -> u8
+        requires valid { IsValid self.now }
+        requires round { round < self.now.rounds }
+        requires slot { slot < length self.now.slots }
+        ensures { result ≡ payload_length self.now round slot }
+    {
+        match self.kind_at(round, slot) {
+            Kind::I => 0,
+            Kind::N | Kind::X => self.slots.get(slot as usize).payload,
+        }
     }
 }
 

@@ -1,6 +1,6 @@
 //! What a script says: which nodes are switched on, their clocks, faults, and what hosts do.
 
-ghost use Rattle.std.specs.Prelude.{◌≡◌, ◌<◌, length};
+ghost use Rattle.std.specs.Prelude.{◌≡◌, ◌++◌, ◌<◌, ◌≤◌, length, drop};
 ghost use Rattle.ttp_world.specs.declared.script.Channel.{Channel};
 ghost use Rattle.ttp_world.specs.Script.{is_on, incidents_of, flipped_bits, bits_on, AreBounded};
 
@@ -82,6 +82,37 @@ impl Model for Payload {
     ghost view = { λ p. take p.len p.bytes };
 
     ghost invariant = { λ p. (p.len ≤ 240) × (drop p.len p.bytes ≡ replicate (240 - p.len) 0) };
+}
+
+impl Payload {
+    /// The payload of these bytes, which are copied.
+    pub fn of(bytes: &[u8]) -> Payload
+        requires { length bytes.now ≤ PAYLOAD_LIMIT }
+        ensures { result ≡ bytes.now }
+    {
+        let mut copied = [0; PAYLOAD_LIMIT];
+        put_front(&mut copied, bytes);
+        Payload {
+            len: bytes.len() as u8,
+            bytes: copied,
+        }
+    }
+
+    /// The bytes, at most 240.
+    pub fn bytes(&self) -> &[u8]
+        ensures value { result.now ≡ self.now }
+        ensures bound { length result.now ≤ PAYLOAD_LIMIT }
+    {
+        &self.bytes[..self.len as usize]
+    }
+}
+
+// Writes bytes to the front of others.
+fn put_front(out: &mut [u8; PAYLOAD_LIMIT], bytes: &[u8])
+    requires { length bytes.now ≤ PAYLOAD_LIMIT }
+    ensures { out.new ≡ bytes.now ++ drop (length bytes.now) out.old }
+{
+    out[..bytes.len()].copy_from_slice(bytes);
 }
 
 /// One line of a script that speaks of slots. Slots are counted from 0, and a fault that has two of

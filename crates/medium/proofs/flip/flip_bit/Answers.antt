@@ -5,7 +5,8 @@ use Rattle.medium.proofs.flip.flip_bit.Goals as goal
 
 pub returns-then-at-bytes : goal.returns-then-at-bytes
 returns-then-at-bytes c =
-    ap (set c.args.bytes.now (c.args.bit / 8)) c.flip_in_byte.ensures ∙ sym (flip_bit-at c.args.bytes.now c.args.bit c.if-at-bytes.true)
+    ap (set c.args.bytes.now (c.args.bit / 8)) c.flip_in_byte.ensures
+    ∙ sym (flip_bit-at c.args.bytes.now c.args.bit c.if-at-bytes.true)
 
 pub returns-else-at-bytes : goal.returns-else-at-bytes
 returns-else-at-bytes c = sym (flip_bit-past c.args.bytes.now c.args.bit c.if-at-bytes.false)

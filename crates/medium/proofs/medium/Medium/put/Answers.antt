@@ -24,10 +24,14 @@ returns c = λ slot frames clock is stands.
     let kept : to_z w64 (of_z w64 c.args.offset) ≡ c.args.offset = to_z-of_z w64 c.args.offset c.ranges.offset in
     record {
       slot = old.slot;
-      a = Carries-put script slot channel.A inside.a _ frames sent c.args.offset clock incidents.send_silence.a incidents.send_noise.a _ is
+      a = Carries-put script slot channel.A inside.a _ frames sent c.args.offset clock incidents.send_silence.a
+          incidents.send_noise.a _ is
           (ap (λ i. i.send_silence.a) told) (ap (λ i. i.send_noise.a) told)
-          (c.flips_of.ensures channel.A ∙ ap (flipped_bits script node channel.A) old.slot) (rw kept at c.put.ensures) old.a;
-      b = Carries-put script slot channel.B inside.b _ frames sent c.args.offset clock incidents.send_silence.b incidents.send_noise.b _ is
+          (c.flips_of.ensures channel.A ∙ ap (flipped_bits script node channel.A) old.slot)
+          (rw kept at c.put.ensures) old.a;
+      b = Carries-put script slot channel.B inside.b _ frames sent c.args.offset clock incidents.send_silence.b
+          incidents.send_noise.b _ is
           (ap (λ i. i.send_silence.b) told) (ap (λ i. i.send_noise.b) told)
-          (c.flips_of.ensures channel.B ∙ ap (flipped_bits script node channel.B) old.slot) (rw kept at c.put-2.ensures) old.b;
+          (c.flips_of.ensures channel.B ∙ ap (flipped_bits script node channel.B) old.slot)
+          (rw kept at c.put-2.ensures) old.b;
     }
