@@ -36,7 +36,7 @@ AreChosen-all_zeros list k node =
     ∙ length-replicate (plan_at list k).payload 0
 
 -- and the one that its host's ring has by that number
-zeros_of-hosts : (list : Medl) (script : Script) (slot k : ℕ)
+pub zeros_of-hosts : (list : Medl) (script : Script) (slot k : ℕ)
     → zeros_chosen list k ≡ message_chosen list script slot k (Some 0)
 zeros_of-hosts list script slot k =
     λ i. record { number = 0; payload = sym (out_messages-first list script k slot) i }
