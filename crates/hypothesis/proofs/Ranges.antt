@@ -8,22 +8,14 @@ use Rattle.std.proofs.lemmas.List.FromFn.{length-range_with_len, get_or-range_wi
 use Rattle.std.specs.List.{All, filter, list_all, find, range_with_len}
 use Rattle.ttp_base.specs.NodeSet.{below}
 
--- All pass, or one does not.
-
-all-range : (p : ℕ → Bool) (a n : ℕ) → ((k : ℕ) → a ≤ k → k < a + n → p k ≡ true) → list_all p (range_with_len a n) ≡ true
-all-range p a zero each = refl
-all-range p a (suc n) each =
-    ap (λ b. b && list_all p (range_with_len (a + 1) n)) (each a (omega arith) (omega arith))
-    ∙ all-range p (a + 1) n (λ k from to. each k (omega arith) (omega arith))
-
-pub all-below : (p : ℕ → Bool) (n : ℕ) → ((k : ℕ) → k < n → p k ≡ true) → list_all p (below n) ≡ true
-all-below p n each = all-range p 0 n (λ k from to. each k (omega arith))
+-- Where one fails, not all pass.
 
 and-false : (b : Bool) → (b && false) ≡ false
 and-false true = refl
 and-false false = refl
 
-fails-step : (p : ℕ → Bool) (a k : ℕ) (rest b : Bool) → (a == k) ≡ b → p k ≡ false → a ≤ k → (a < k → rest ≡ false) → (p a && rest) ≡ false
+fails-step : (p : ℕ → Bool) (a k : ℕ) (rest b : Bool) → (a == k) ≡ b → p k ≡ false → a ≤ k → (a < k → rest ≡ false)
+    → (p a && rest) ≡ false
 fails-step p a k rest true same fails from later = ap (λ b. b && rest) (ap p (eqb-true a k same) ∙ fails)
 fails-step p a k rest false other fails from later =
     let apart : a ≢ k = eqb-false a k other in
@@ -49,7 +41,8 @@ none-range p a (suc n) each =
 pub none-below : (p : ℕ → Bool) (n : ℕ) → ((k : ℕ) → k < n → p k ≡ false) → find p (below n) ≡ None
 none-below p n each = none-range p 0 n (λ k from to. each k (omega arith))
 
-first-step : (p : ℕ → Bool) (a k : ℕ) (rest : Option ℕ) (b : Bool) → (a == k) ≡ b → p k ≡ true → a ≤ k → (a < k → p a ≡ false) → (a < k → rest ≡ Some k)
+first-step : (p : ℕ → Bool) (a k : ℕ) (rest : Option ℕ) (b : Bool) → (a == k) ≡ b → p k ≡ true → a ≤ k
+    → (a < k → p a ≡ false) → (a < k → rest ≡ Some k)
     → cond (p a) (Some a) rest ≡ Some k
 first-step p a k rest true same passes from before later =
     ap (λ b. cond b (Some a) rest) (ap p (eqb-true a k same) ∙ passes) ∙ ap Some (eqb-true a k same)
@@ -65,7 +58,8 @@ first-range p a (suc n) k from to before passes =
     first-step p a k (find p (range_with_len (a + 1) n)) (a == k) refl passes from (λ less. before a (omega arith) less)
     (λ less. first-range p (a + 1) n k (omega arith) (omega arith) (λ j above to'. before j (omega arith) to') passes)
 
-pub first-below : (p : ℕ → Bool) (n k : ℕ) → k < n → ((j : ℕ) → j < k → p j ≡ false) → p k ≡ true → find p (below n) ≡ Some k
+pub first-below : (p : ℕ → Bool) (n k : ℕ) → k < n → ((j : ℕ) → j < k → p j ≡ false) → p k ≡ true
+    → find p (below n) ≡ Some k
 first-below p n k less before passes = first-range p 0 n k (omega arith) (omega arith) (λ j from to. before j to) passes
 
 -- Those that pass are below the number.

@@ -23,6 +23,7 @@ lines_of-line (b ∷ line) more is = go (b == 10) refl is (lines_of-line line mo
         → newline ∷ lines_of (rest ++ more) ≡ (b ∷ rest) ∷ lines_of more
     ends [] feed none = rw feed refl
     ends (c ∷ rest) feed none = absurd (grind arith)
+
     go : (feed : Bool) → (b == 10) ≡ feed → cond feed (length line == 0) (is_line line) ≡ true
         → (is_line line ≡ true → lines_of (line ++ more) ≡ line ∷ lines_of more)
         → cond feed (newline ∷ lines_of (line ++ more)) (before_lines b (lines_of (line ++ more)))

@@ -9,7 +9,7 @@ use Rattle.std.proofs.lemmas.Grind.{reverse_onto}
 use Rattle.std.proofs.lemmas.List.{length-map}
 use Rattle.std.proofs.lemmas.List.FromFn.{get_or-map-range_with_len}
 use Rattle.ttp_base.specs.NodeSet.{below}
-use Rattle.ttp_base.proofs.Below.{below-lt}
+use Rattle.ttp_base.proofs.Below.{all-below}
 use Rattle.ttp_world.specs.declared.medl.Medl.{Medl}
 use Rattle.ttp_world.specs.declared.node.Chosen.{Chosen}
 use Rattle.ttp_world.specs.declared.node.Entry.{Entry}
@@ -23,13 +23,13 @@ use Rattle.ttp_world.specs.Legal.{is_same_source, is_same_ring, all_reads, is_no
 use Rattle.ttp_world.specs.Messages.{message_of, ring_messages, newest_number}
 use Rattle.ttp_world.specs.Outgoing.{messages_before, out_messages, nothing_chosen, message_chosen}
 use Rattle.ttp_world.specs.Script.{HostRead, reads_in}
-use Rattle.ttp_world.specs.World.{BegunSlot, SlotNumbers, Numbers, slot_after, is_loaded, chosen_of, messages_chosen}
+use Rattle.ttp_world.specs.World.{BegunSlot, SlotNumbers, Numbers, slot_after, is_loaded, chosen_of}
 use Rattle.ttp_world.specs.World.{row_in, world}
-use Rattle.ttp_world.proofs.Carried.{message_of-row_in, AreOfHosts, row_in-told}
+use Rattle.ttp_world.proofs.Carried.{message_of-row_in, AreOfHosts}
 use Rattle.ttp_world.proofs.LegalShapes.{are_legal_slots-parts, slots-legal, reads-never_fall}
 use Rattle.ttp_world.proofs.Rings.{newest_written, newest_read}
 use Rattle.ttp_world.proofs.Slots.{length-row_in}
-use Rattle.ttp_world.proofs.Worlds.{row_of_world, length-world}
+use Rattle.ttp_world.proofs.Worlds.{row_of_world, length-world, row_of_world-told}
 
 -- Frames.
 
@@ -88,7 +88,7 @@ messages-legal s chosen newest =
     (λ loaded. ap (λ (c : Chosen). c.number) (newest.message k node loaded)) in
     let all : list_all legal (below (length row)) ≡ true =
     ap (λ m. list_all legal (below m)) (length-row_in s chosen)
-    ∙ list_all-each legal (λ k. k < n) (below n) each (below-lt n) in
+    ∙ all-below legal n each in
     λ i. are_same_numbers-refl (map message_of row) i && all i
 
 -- Reads.
@@ -238,8 +238,7 @@ legal-next list script numbers chosen legal newest =
     let new = newest_numbers list script history row in
     let most = newest_of list script (row ∷ history) in
     let same : row_of_world list script new numbers ≡ row =
-    ap (λ slot. row_in s (messages_chosen list script slot new.sent)) (sym (length-world list script numbers))
-    ∙ row_in-told s chosen (AreOfHosts-newest s chosen newest) in
+    row_of_world-told list script numbers chosen new.read (AreOfHosts-newest s chosen newest) in
     let at_row : is_legal_slot list script row history new ≡ true = λ i.
     messages-legal s chosen newest i && reads-legal list script row history (reads_in script (length history)) i in
     let slot = subst (λ (r : List Entry). is_legal_slot list script r history new ≡ true) (sym same) at_row in

@@ -1,13 +1,11 @@
 -- What legal numbers say of a run: which numbers there are of each slot, and that those of its older slots are legal.
-use Rattle.std.proofs.Common.{◌≡◌, ℕ, ◌<◌, Bool, true, ◌&&◌, List, [], ◌∷◌, ◌++◌, length, Option, Some, None, IsTrue}
+use Rattle.std.proofs.Common.{◌≡◌, ℕ, ◌<◌, true, ◌&&◌, List, [], ◌∷◌, ◌++◌, length, Option, Some, None, IsTrue}
 use Rattle.std.proofs.Common.{refl, ap, sym, ◌∙◌, arith}
 use Rattle.std.specs.Prelude.{map, reverse}
 use Rattle.std.specs.List.{list_all}
 use Rattle.std.proofs.lemmas.Bool.{and_parts, eqb-true, false≢true}
 use Rattle.std.proofs.lemmas.List.{length-map}
-use Rattle.std.proofs.lemmas.List.FromFn.{get_or-range_with_len, length-range_with_len}
-use Rattle.std.proofs.lemmas.List.Sums.{AllPass-from_list_all}
-use Rattle.ttp_base.specs.NodeSet.{below}
+use Rattle.ttp_base.proofs.Below.{each-below}
 use Rattle.ttp_world.specs.declared.medl.Medl.{Medl}
 use Rattle.ttp_world.specs.declared.node.Entry.{Entry}
 use Rattle.ttp_world.specs.declared.script.Script.{Script}
@@ -114,11 +112,6 @@ legal-shapes list script numbers legal =
     shapes list script numbers (slots-legal list script numbers legal)
 
 -- and the message of each frame is legal
-passes_below : (p : ℕ → Bool) (n k : ℕ) → list_all p (below n) ≡ true → k < n → p k ≡ true
-passes_below p n k all less =
-    ap p (sym (get_or-range_with_len 0 n k 0 less ∙ omega arith))
-    ∙ AllPass-from_list_all p (below n) all k 0 (omega (arith, length-range_with_len 0 n))
-
 pub legal-message : (list : Medl) (script : Script) (new : SlotNumbers) (numbers : Numbers) (k : ℕ)
     → IsLegal list script (new ∷ numbers) → k < length list.slots
     → IsTrue (is_legal_message list script (length numbers) k
@@ -131,8 +124,20 @@ legal-message list script new numbers k legal node =
     in
     ap (λ slot. is_legal_message list script slot k (message_of (entry_of row k)))
     (sym (length-world list script numbers))
-    ∙ passes_below (λ j. is_legal_message list script (length history) j (message_of (entry_of row j))) (length row) k
+    ∙ each-below (λ j. is_legal_message list script (length history) j (message_of (entry_of row j))) (length row) k
     (and_parts (are_same_numbers new.sent (map message_of row)) _ parts.messages).1 (omega (arith, width))
+
+-- and so is each read
+pub legal-reads : (list : Medl) (script : Script) (new : SlotNumbers) (numbers : Numbers)
+    → IsLegal list script (new ∷ numbers)
+    → IsTrue (list_all (is_legal_read list script (world list script numbers) (world list script (new ∷ numbers)))
+    (read_messages (reads_in script (length numbers)) new.read))
+legal-reads list script new numbers legal =
+    let history = world list script numbers in
+    let test = is_legal_read list script history (world list script (new ∷ numbers)) in
+    let parts = are_legal_slots-parts list script new numbers (slots-legal list script (new ∷ numbers) legal) in
+    ap (λ slot. list_all test (read_messages (reads_in script slot) new.read)) (sym (length-world list script numbers))
+    ∙ (and_parts _ (list_all test (read_messages (reads_in script (length history)) new.read)) parts.reads).1
 
 -- The numbers of the older slots are legal too.
 

@@ -27,7 +27,9 @@ pub mod Splits
 pub mod Sweep
 pub mod Told
 pub mod Totals
+pub mod TraceLines
 pub mod TraceNumbers
+pub mod TraceWords
 pub mod Unhosted
 pub mod WeightBounds
 pub mod Worlds

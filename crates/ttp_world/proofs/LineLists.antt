@@ -63,13 +63,13 @@ find-in_range p f a zero k low high others = absurd (omega arith)
 find-in_range p f a (suc n) k low high others =
     let rest = find p (map f (range_with_len (a + 1) n)) in
     elim (cases_eq a k) [
-      inl same ↦
-        ap (λ o. cond (p (f a)) (Some (f a)) o)
-        (find-none_in_range p f (a + 1) n (λ j above less. others j (omega arith) (λ at. omega (arith, same, at))))
-        ∙ ap (λ (j : ℕ). cond (p (f j)) (Some (f j)) None) same
-    | inr other ↦
-        ap (λ (b : Bool). cond b (Some (f a)) rest) (others a (omega arith) other)
-        ∙ find-in_range p f (a + 1) n k (omega (arith, other)) (omega arith) (λ j less ne. others j (omega arith) ne)
+      | inl same ↦
+          ap (λ o. cond (p (f a)) (Some (f a)) o)
+          (find-none_in_range p f (a + 1) n (λ j above less. others j (omega arith) (λ at. omega (arith, same, at))))
+          ∙ ap (λ (j : ℕ). cond (p (f j)) (Some (f j)) None) same
+      | inr other ↦
+          ap (λ (b : Bool). cond b (Some (f a)) rest) (others a (omega arith) other)
+          ∙ find-in_range p f (a + 1) n k (omega (arith, other)) (omega arith) (λ j less ne. others j (omega arith) ne)
     ]
 
 pub find-below : {X : Type 0} (p : X → Bool) (f : ℕ → X) (n k : ℕ) → k < n → ((j : ℕ) → j < n → j ≢ k → p (f j) ≡ false)

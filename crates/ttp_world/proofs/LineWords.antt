@@ -1,79 +1,40 @@
 -- The words of the lines of a trace.
-use Rattle.std.proofs.Common.{◌≡◌, ℕ, true, false, List, [], ◌∷◌, ◌++◌, Option, Some, None}
-use Rattle.std.proofs.Common.{◌+◌, not, length, get_or, refl, ap, ◌∙◌, append_assoc, All, codes, decimal}
+use Rattle.std.proofs.Common.{◌≡◌, ℕ, false, List, [], ◌∷◌, ◌++◌, Option, ◌<◌, arith}
+use Rattle.std.proofs.Common.{◌+◌, length, get_or, refl, ap, ◌∙◌, append_assoc, All, codes, decimal}
 use Rattle.std.specs.Prelude.{◌==◌}
 use Rattle.std.specs.Fmt.{signed_decimal}
-use Rattle.std.specs.List.{list_all}
-use Rattle.std.proofs.lemmas.Bool.{and_parts, not-true}
+use Rattle.std.proofs.lemmas.Bool.{or_parts}
 use Rattle.std.proofs.lemmas.List.Elements.{All-nil, All-cons}
 use Rattle.std.proofs.lemmas.List.Splits.{slice_split_at}
 use Rattle.ttp_base.specs.NodeSet.{set_bits}
 use Rattle.ttp_base.specs.Text.{newline, hex}
 use Rattle.ttp_world.specs.declared.medl.Medl.{Medl}
-use Rattle.ttp_world.specs.declared.node.Entry.{Entry}
-use Rattle.ttp_world.specs.declared.node.Entry.TheVariants as entry
 use Rattle.ttp_world.specs.declared.node.NodeState.{NodeState}
-use Rattle.ttp_world.specs.declared.node.Reason.{Reason}
-use Rattle.ttp_world.specs.declared.node.Reason.TheVariants as reason
-use Rattle.ttp_world.specs.declared.node.Verdict.{Verdict}
-use Rattle.ttp_world.specs.declared.node.Verdict.TheVariants as verdict
 use Rattle.ttp_world.specs.declared.script.Script.{Script}
-use Rattle.ttp_world.specs.declared.script.Source.{Source}
-use Rattle.ttp_world.specs.declared.script.Source.TheVariants as source
 use Rattle.ttp_world.specs.Diary.{History}
 use Rattle.ttp_world.specs.Legal.{ReadMessage}
 use Rattle.ttp_world.specs.Messages.{ring_messages}
 use Rattle.ttp_world.specs.Outgoing.{messages_before}
-use Rattle.ttp_world.specs.Trace.{number_or_dash, verdict_word, reason_word, entry_word, peer_of, ack_word, node_line}
+use Rattle.ttp_world.specs.Trace.{number_or_dash, entry_word, peer_of, ack_word, node_line}
 use Rattle.ttp_world.specs.Trace.{write_line, source_word, message_hex, read_line}
 use Rattle.ttp_world.specs.TraceNumbers.{words_of, word_in}
-use Rattle.ttp_world.proofs.NumberWords.{decimal-no_space}
+use Rattle.ttp_base.proofs.Numerals.{has, has-decimal}
+use Rattle.ttp_world.proofs.TraceWords.{has-entry_word, has-number_or_dash, has-source_word}
 
--- The words of a line stand between spaces, so they have none.
+space_is_low : 32 < 45
+space_is_low = omega arith
 
-small_words-no_space : (word : List ℕ) → list_all (λ c. not (c == 32)) word ≡ true → All (λ c. (c == 32) ≡ false) word
-small_words-no_space [] none = All-nil (λ c. (c == 32) ≡ false)
-small_words-no_space (c ∷ word) none =
-    let parts = and_parts (not (c == 32)) (list_all (λ c. not (c == 32)) word) none in
-    All-cons (λ c. (c == 32) ≡ false) c word (not-true (c == 32) parts.0) (small_words-no_space word parts.1)
-
-verdict_word-no_space : (v : Verdict) → All (λ c. (c == 32) ≡ false) (verdict_word v)
-verdict_word-no_space verdict.Null = small_words-no_space (codes "null") refl
-verdict_word-no_space verdict.Invalid = small_words-no_space (codes "invalid") refl
-verdict_word-no_space verdict.Incorrect = small_words-no_space (codes "incorrect") refl
-verdict_word-no_space verdict.Correct = small_words-no_space (codes "correct") refl
-verdict_word-no_space verdict.Tentative = small_words-no_space (codes "tentative") refl
-verdict_word-no_space verdict.Denied = small_words-no_space (codes "denied") refl
-
-reason_word-no_space : (why : Reason) → All (λ c. (c == 32) ≡ false) (reason_word why)
-reason_word-no_space reason.Denied = small_words-no_space (codes "denied") refl
-reason_word-no_space reason.Unacknowledged = small_words-no_space (codes "unacknowledged") refl
-reason_word-no_space reason.Clique = small_words-no_space (codes "clique") refl
-
-entry_word-no_space : (e : Entry) → All (λ c. (c == 32) ≡ false) (entry_word e)
-entry_word-no_space entry.Off = small_words-no_space (codes "off") refl
-entry_word-no_space entry.Waited = small_words-no_space (codes "wait") refl
-entry_word-no_space entry.Retried = small_words-no_space (codes "retry") refl
-entry_word-no_space entry.Gone = small_words-no_space (codes "gone") refl
-entry_word-no_space entry.Started = small_words-no_space (codes "start") refl
-entry_word-no_space (entry.Sent message) = small_words-no_space (codes "send") refl
-entry_word-no_space (entry.Joined sender cstate deviation) = small_words-no_space (codes "join") refl
-entry_word-no_space (entry.Judged sender v deviation) = verdict_word-no_space v
-entry_word-no_space (entry.Left why peer) = reason_word-no_space why
-
-number_or_dash-no_space : (number : Option ℕ) → All (λ c. (c == 32) ≡ false) (number_or_dash number)
-number_or_dash-no_space None = small_words-no_space (codes "-") refl
-number_or_dash-no_space (Some n) = decimal-no_space n
-
-source_word-no_space : (from : Source) → All (λ c. (c == 32) ≡ false) (source_word from)
-source_word-no_space source.Status = small_words-no_space (codes "status") refl
-source_word-no_space (source.Node p) = decimal-no_space p
+no_space : (word : List ℕ) → has 32 word ≡ false → All (λ c. (c == 32) ≡ false) word
+no_space [] none = All-nil (λ c. (c == 32) ≡ false)
+no_space (c ∷ word) none =
+    let parts = or_parts (c == 32) (has 32 word) none in
+    All-cons (λ c. (c == 32) ≡ false) c word parts.0 (no_space word parts.1)
 
 -- a word, a space and the rest of the line
-word_then : (word rest : List ℕ) (words : List (List ℕ)) → All (λ c. (c == 32) ≡ false) word → words_of rest ≡ words
+word_then : (word rest : List ℕ) (words : List (List ℕ)) → has 32 word ≡ false → words_of rest ≡ words
     → words_of (word ++ 32 ∷ rest) ≡ word ∷ words
 word_then word rest words one then =
-    slice_split_at (λ c. c == 32) word 32 rest one refl ∙ ap (λ (ws : List (List ℕ)). word ∷ ws) then
+    slice_split_at (λ c. c == 32) word 32 rest (no_space word one) refl ∙ ap (λ (ws : List (List ℕ)). word ∷ ws) then
 
 -- Node lines.
 
@@ -89,8 +50,8 @@ five_more : (x a members b accepted c rejected d ack e clock end : List ℕ)
 five_more x a members b accepted c rejected d ack e clock end = simp append_assoc
 
 node_words : (slot k entry peer message rest : List ℕ)
-    → All (λ c. (c == 32) ≡ false) slot → All (λ c. (c == 32) ≡ false) k → All (λ c. (c == 32) ≡ false) entry
-    → All (λ c. (c == 32) ≡ false) peer → All (λ c. (c == 32) ≡ false) message
+    → has 32 slot ≡ false → has 32 k ≡ false → has 32 entry ≡ false
+    → has 32 peer ≡ false → has 32 message ≡ false
     → words_of (codes "slot " ++ slot ++ codes " node " ++ k ++ codes " " ++ entry ++ codes " peer " ++ peer
     ++ codes " msg " ++ message ++ 32 ∷ rest)
     ≡ codes "slot" ∷ slot ∷ codes "node" ∷ k ∷ entry ∷ codes "peer" ∷ peer ∷ codes "msg" ∷ message ∷ words_of rest
@@ -129,8 +90,8 @@ node_line-words width slot k state message =
     (codes " mem ") members (codes " acc ") (decimal state.accepted) (codes " rej ") (decimal state.rejected)
     (codes " ack ") (ack_word state.ack) (codes " clock ") (signed_decimal state.offset) newline)
     ∙ node_words (decimal slot) (decimal k) (entry_word state.entry) peer (number_or_dash message) rest
-    (decimal-no_space slot) (decimal-no_space k) (entry_word-no_space state.entry)
-    (number_or_dash-no_space (peer_of k state.entry)) (number_or_dash-no_space message) in
+    (has-decimal 32 slot space_is_low) (has-decimal 32 k space_is_low) (has-entry_word 32 state.entry space_is_low)
+    (has-number_or_dash 32 (peer_of k state.entry) space_is_low) (has-number_or_dash 32 message space_is_low) in
     record {
       slot = ap (λ (ws : List (List ℕ)). word_in ws 1) same;
       kind = ap (λ (ws : List (List ℕ)). word_in ws 2) same;
@@ -141,7 +102,7 @@ node_line-words width slot k state message =
 
 -- Host lines.
 
-host_words : (slot k rest : List ℕ) → All (λ c. (c == 32) ≡ false) slot → All (λ c. (c == 32) ≡ false) k
+host_words : (slot k rest : List ℕ) → has 32 slot ≡ false → has 32 k ≡ false
     → words_of (codes "slot " ++ (slot ++ (codes " host " ++ (k ++ 32 ∷ rest))))
     ≡ codes "slot" ∷ slot ∷ codes "host" ∷ k ∷ words_of rest
 host_words slot k rest p q =
@@ -169,14 +130,14 @@ pub write_line-words : (list : Medl) (script : Script) (slot k earlier : ℕ)
 write_line-words list script slot k earlier =
     let number = decimal (length (messages_before list script k slot) + earlier) in
     let same = ap words_of (write_nested (codes "slot ") (decimal slot) (codes " host ") (decimal k) (codes " write ") number newline)
-    ∙ host_words (decimal slot) (decimal k) (codes "write " ++ number ++ newline) (decimal-no_space slot) (decimal-no_space k) in
+    ∙ host_words (decimal slot) (decimal k) (codes "write " ++ number ++ newline) (has-decimal 32 slot space_is_low) (has-decimal 32 k space_is_low) in
     record {
       slot = ap (λ (ws : List (List ℕ)). word_in ws 1) same;
       kind = ap (λ (ws : List (List ℕ)). word_in ws 2) same;
       act = ap (λ (ws : List (List ℕ)). word_in ws 4) same;
     }
 
-read_words : (from number rest : List ℕ) → All (λ c. (c == 32) ≡ false) from → All (λ c. (c == 32) ≡ false) number
+read_words : (from number rest : List ℕ) → has 32 from ≡ false → has 32 number ≡ false
     → words_of (codes "read " ++ (from ++ (32 ∷ (number ++ 32 ∷ rest)))) ≡ codes "read" ∷ from ∷ number ∷ words_of rest
 read_words from number rest p q =
     ap (λ (ws : List (List ℕ)). codes "read" ∷ ws)
@@ -193,11 +154,13 @@ read_line-words list script slot after r =
     let same = ap words_of (read_nested (codes "slot ") (decimal slot) (codes " host ") (decimal r.read.host) (codes " read ")
     from (codes " ") number (codes " ") message newline)
     ∙ host_words (decimal slot) (decimal r.read.host) (codes "read " ++ (from ++ (codes " " ++ (number ++ (codes " " ++ message ++ newline)))))
-    (decimal-no_space slot) (decimal-no_space r.read.host)
+    (has-decimal 32 slot space_is_low) (has-decimal 32 r.read.host space_is_low)
     ∙ ap (λ (ws : List (List ℕ)). codes "slot" ∷ decimal slot ∷ codes "host" ∷ decimal r.read.host ∷ ws)
-    (read_words from number (message ++ newline) (source_word-no_space r.read.source) (decimal-no_space r.number)) in
-    (record {
-      slot = ap (λ (ws : List (List ℕ)). word_in ws 1) same;
-      kind = ap (λ (ws : List (List ℕ)). word_in ws 2) same;
-      act = ap (λ (ws : List (List ℕ)). word_in ws 4) same;
-    }, ap (λ (ws : List (List ℕ)). word_in ws 6) same)
+    (read_words from number (message ++ newline) (has-source_word 32 r.read.source space_is_low) (has-decimal 32 r.number space_is_low)) in (
+      record {
+        slot = ap (λ (ws : List (List ℕ)). word_in ws 1) same;
+        kind = ap (λ (ws : List (List ℕ)). word_in ws 2) same;
+        act = ap (λ (ws : List (List ℕ)). word_in ws 4) same;
+      },
+      ap (λ (ws : List (List ℕ)). word_in ws 6) same,
+    )

@@ -1,14 +1,13 @@
 -- Numbers as words: digits alone, and for each number below 2^64 a word of its own.
 use Rattle.std.proofs.Common.{◌≡◌, ◌≢◌, ℕ, zero, suc, ◌+◌, ◌/◌, ◌%◌, ◌<◌, ◌≤◌, ◌^◌, Bool, true, false, cond, ◌&&◌, not}
 use Rattle.std.proofs.Common.{List, [], ◌∷◌, ◌++◌, length, Some, None, refl, ap, ◌∙◌, arith, length-append}
-use Rattle.std.proofs.Common.{bytes_eq, decimal, fold, All}
+use Rattle.std.proofs.Common.{bytes_eq, decimal, fold}
 use Rattle.std.specs.Prelude.{◌==◌, nat_lt}
 use Rattle.std.specs.Fmt.{digit_glyph, digits_onto, digits}
 use Rattle.std.specs.List.{list_all}
-use Rattle.std.proofs.lemmas.Bool.{false_from_ne_true, and_parts, both_ways}
+use Rattle.std.proofs.lemmas.Bool.{false_from_ne_true, both_ways}
 use Rattle.std.proofs.lemmas.Bool.Decides.{nat_tests}
 use Rattle.std.proofs.lemmas.Fmt.{decimal_by_steps, decimal_injective}
-use Rattle.std.proofs.lemmas.List.Elements.{All-nil, All-cons}
 use Rattle.std.proofs.lemmas.List.Sums.{fold-append}
 use Rattle.std.proofs.lemmas.Slice.Eq.{bytes_eq-Decides}
 use Rattle.ttp_world.specs.TraceNumbers.{is_digit, append_digit, number_named}
@@ -31,19 +30,6 @@ digits_onto-digits (suc k) n text before =
 pub decimal-digits : (n : ℕ) → list_all is_digit (decimal n) ≡ true
 unfolding digits
 decimal-digits n = digits_onto-digits 64 n [] refl
-
--- so there is no space in it
-digit-no_space : (c : ℕ) → is_digit c ≡ true → (c == 32) ≡ false
-digit-no_space c digit = grind (arith, nat_tests)
-
-digits-no_space : (word : List ℕ) → list_all is_digit word ≡ true → All (λ c. (c == 32) ≡ false) word
-digits-no_space [] digits = All-nil (λ c. (c == 32) ≡ false)
-digits-no_space (c ∷ word) digits =
-    let parts = and_parts (is_digit c) (list_all is_digit word) digits in
-    All-cons (λ c. (c == 32) ≡ false) c word (digit-no_space c parts.0) (digits-no_space word parts.1)
-
-pub decimal-no_space : (n : ℕ) → All (λ c. (c == 32) ≡ false) (decimal n)
-decimal-no_space n = digits-no_space (decimal n) (decimal-digits n)
 
 -- The number is read again.
 

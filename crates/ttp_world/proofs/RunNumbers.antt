@@ -1,20 +1,18 @@
 -- Message numbers that are those of a run: each that was sent, and one for each read.
-use Rattle.std.proofs.Common.{◌≡◌, ℕ, ◌<◌, ◌^◌, List, [], ◌∷◌, length, IfSome, map, refl, arith}
+use Rattle.std.proofs.Common.{◌≡◌, ℕ, ◌<◌, ◌^◌, List, [], ◌∷◌, length, IfSome, refl, arith}
 use Rattle.std.specs.List.{AllByRecursion}
 use Rattle.ttp_world.specs.declared.medl.Medl.{Medl}
 use Rattle.ttp_world.specs.declared.node.Entry.{Entry}
 use Rattle.ttp_world.specs.declared.script.Script.{Script}
 use Rattle.ttp_world.specs.Diary.{History, entry_of}
 use Rattle.ttp_world.specs.Messages.{message_of}
-use Rattle.ttp_world.specs.Script.{reads_in}
 use Rattle.ttp_world.specs.World.{SlotNumbers, Numbers}
+use Rattle.ttp_world.proofs.LegalShapes.{HasShape}
 
--- the numbers of a slot are those of its row: what the nodes sent, and one for each read
+-- the numbers of a slot have the shape that its row gives them, and a word of a line can hold each
 pub record AreNumbersOf (list : Medl) (script : Script) (row : List Entry) (slot : ℕ) (new : SlotNumbers) : Type 0 where
-  pub nodes : length row ≡ length list.slots
-  pub sent : new.sent ≡ map message_of row
+  pub shape : HasShape list script slot row new
   pub small_sent : (k : ℕ) → k < length list.slots → IfSome (message_of (entry_of row k)) (λ i. i < 2 ^ 64)
-  pub read : length (reads_in script slot) ≡ length new.read
   pub small_read : AllByRecursion (λ i. i < 2 ^ 64) new.read
 
 -- slot by slot, the numbers are those of a history
@@ -23,7 +21,7 @@ AreNumbersOfAll list script [] [] = Unit {0}
 AreNumbersOfAll list script [] (new ∷ numbers) = ⊥
 AreNumbersOfAll list script (row ∷ history) [] = ⊥
 AreNumbersOfAll list script (row ∷ history) (new ∷ numbers) =
-    AreNumbersOf list script row (length history) new × AreNumbersOfAll list script history numbers
+    AreNumbersOf list script row (length numbers) new × AreNumbersOfAll list script history numbers
 
 pub numbers-slots : (list : Medl) (script : Script) (history : History) (numbers : Numbers)
     → AreNumbersOfAll list script history numbers → length history ≡ length numbers

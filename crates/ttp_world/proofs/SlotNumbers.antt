@@ -94,9 +94,10 @@ writes-each : (P : List (List ℕ) → Type 0) (list : Medl) (script : Script) (
     → ((words : List (List ℕ)) → IsHostLine slot (codes "write") words → P words) → (earlier writes : List HostWrite)
     → AllByRecursion P (map words_of (more_write_lines list script slot earlier writes))
 writes-each P list script slot each earlier [] = tt
-writes-each P list script slot each earlier (w ∷ writes) =
-    (each _ (write_line-words list script slot w.host (count_by (λ e. e.host == w.host) earlier)),
-    writes-each P list script slot each (w ∷ earlier) writes)
+writes-each P list script slot each earlier (w ∷ writes) = (
+  each _ (write_line-words list script slot w.host (count_by (λ e. e.host == w.host) earlier)),
+  writes-each P list script slot each (w ∷ earlier) writes,
+)
 
 reads-each : (P : List (List ℕ) → Type 0) (list : Medl) (script : Script) (slot : ℕ) (after : History)
     → ((words : List (List ℕ)) → IsHostLine slot (codes "read") words → P words) → (reads : List ReadMessage)
@@ -195,7 +196,7 @@ slot-read list script row before new are =
     ∙ ap (λ is. is ++ filter_map h reads) (filter_map-none h writes
     (writes-each (λ words. h words ≡ None) list script (length before) (λ words line. read-write (length before) (length before) words line)
     [] (writes_in script (length before))))
-    ∙ reads-read list script (length before) (row ∷ before) (reads_in script (length before)) new.read are.read are.small_read
+    ∙ reads-read list script (length before) (row ∷ before) (reads_in script (length before)) new.read (sym are.shape.reads) are.small_read
 
 -- a row has the numbers of its nodes
 row-messages : (row : List Entry) (n : ℕ) → length row ≡ n
@@ -213,15 +214,22 @@ slot_numbers-between list script row before new first last few are others others
   where
     s : ℕ
     s = length before
+
     lines : List (List (List ℕ))
     lines = map words_of (slot_lines list script row before new)
+
     each : (k : ℕ) → k < length list.slots → number_sent (first ++ (lines ++ last)) s k ≡ message_of (entry_of row k)
     each k within =
         ap number_of (find-between (is_sending_line s k) first lines last (others-none_sent s k first others) (others-none_sent s k last others_last))
         ∙ slot-sent list script row before new k few within (are.small_sent k within)
+
+    nodes : length row ≡ length list.slots
+    nodes = sym (length-map row message_of) ∙ ap length (sym are.shape.sent) ∙ are.shape.nodes
+
     sent : map (number_sent (first ++ (lines ++ last)) s) (below (length list.slots)) ≡ new.sent
     sent = map_agree-below _ (λ k. message_of (entry_of row k)) (length list.slots) each
-        ∙ sym (row-messages row (length list.slots) are.nodes) ∙ sym are.sent
+        ∙ sym (row-messages row (length list.slots) nodes) ∙ sym are.shape.sent
+
     read : filter_map (number_read s) (first ++ (lines ++ last)) ≡ new.read
     read = filter_map-between (number_read s) first lines last (others-none_read s first others) (others-none_read s last others_last)
         ∙ slot-read list script row before new are

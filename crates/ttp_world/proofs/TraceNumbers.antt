@@ -1,6 +1,6 @@
 -- The numbers that the lines of a trace name are those of its run.
 use Rattle.std.proofs.Common.{◌≡◌, ℕ, suc, ◌<◌, ◌≤◌, ◌^◌, List, [], ◌∷◌, ◌++◌, length, refl, sym, ap, ◌∙◌, arith}
-use Rattle.std.proofs.Common.{append_assoc, map, codes}
+use Rattle.std.proofs.Common.{subst, append_assoc, map, codes}
 use Rattle.std.specs.List.{AllByRecursion}
 use Rattle.std.proofs.lemmas.List.{map-append}
 use Rattle.ttp_world.specs.declared.keep.Keep.{Keep}
@@ -20,7 +20,7 @@ use Rattle.ttp_world.proofs.LineNumbers.{IsOther}
 use Rattle.ttp_world.proofs.NumberWords.{word-no_number}
 use Rattle.ttp_world.proofs.LegalNumbers.{legal-AreNumbersOfAll}
 use Rattle.ttp_world.proofs.Lists.{nodes-most}
-use Rattle.ttp_world.proofs.RunNumbers.{AreNumbersOfAll, numbers-slots}
+use Rattle.ttp_world.proofs.RunNumbers.{AreNumbersOf, AreNumbersOfAll, numbers-slots}
 use Rattle.ttp_world.proofs.SlotNumbers.{slot-IsOther, slot_numbers-between}
 
 -- The lines of the slots below one are of other slots.
@@ -51,22 +51,23 @@ numbers_below-between list script (row ∷ history) (new ∷ numbers) first last
     let lines = map words_of (slot_lines list script row history new) in
     let slots = numbers-slots list script history numbers are.1 in
     let split : first ++ (map words_of (history_lines list script history numbers ++ slot_lines list script row history new) ++ last)
-        ≡ first ++ (old ++ (lines ++ last)) =
-        ap (λ ws. first ++ (ws ++ last)) (map-append words_of (history_lines list script history numbers) (slot_lines list script row history new))
-        ∙ ap (λ ws. first ++ ws) (append_assoc old lines last) in
+    ≡ first ++ (old ++ (lines ++ last)) =
+    ap (λ ws. first ++ (ws ++ last)) (map-append words_of (history_lines list script history numbers) (slot_lines list script row history new))
+    ∙ ap (λ ws. first ++ ws) (append_assoc old lines last) in
     let here : slot_numbers list (first ++ (old ++ (lines ++ last))) (length numbers) ≡ new =
-        ap (λ ws. slot_numbers list ws (length numbers)) (sym (append_assoc first old (lines ++ last)))
-        ∙ ap (slot_numbers list ((first ++ old) ++ (lines ++ last))) (sym slots)
-        ∙ slot_numbers-between list script row history new (first ++ old) last few are.0
-        (each-append (IsOther (length history)) first old (before (length history) (omega (arith, slots)))
-        (history-IsOther list script history numbers (length history) (omega arith) (omega (arith, slots))))
-        (after (length history) (omega (arith, slots))) in
+    ap (λ ws. slot_numbers list ws (length numbers)) (sym (append_assoc first old (lines ++ last)))
+    ∙ ap (slot_numbers list ((first ++ old) ++ (lines ++ last))) (sym slots)
+    ∙ slot_numbers-between list script row history new (first ++ old) last few
+    (subst (λ s. AreNumbersOf list script row s new) (sym slots) are.0)
+    (each-append (IsOther (length history)) first old (before (length history) (omega (arith, slots)))
+    (history-IsOther list script history numbers (length history) (omega arith) (omega (arith, slots))))
+    (after (length history) (omega (arith, slots))) in
     let earlier : numbers_below list (first ++ (old ++ (lines ++ last))) (length numbers) ≡ numbers =
-        numbers_below-between list script history numbers first (lines ++ last) few (omega arith) are.1
-        (λ t less. before t (omega arith))
-        (λ t less. each-append (IsOther t) lines last
-        (slot-IsOther list script row history new t (omega (arith, slots)) (omega arith) (omega (arith, slots)))
-        (after t (omega arith))) in
+    numbers_below-between list script history numbers first (lines ++ last) few (omega arith) are.1
+    (λ t less. before t (omega arith))
+    (λ t less. each-append (IsOther t) lines last
+    (slot-IsOther list script row history new t (omega (arith, slots)) (omega arith) (omega (arith, slots)))
+    (after t (omega arith))) in
     ap (λ ws. numbers_below list ws (suc (length numbers))) split
     ∙ (λ i. here i ∷ earlier i)
 

@@ -1,13 +1,16 @@
 -- The world that numbers make: how long it is, how wide its rows are, and that its entries speak of the list.
-use Rattle.std.proofs.Common.{◌≡◌, ℕ, zero, suc, ◌<◌, List, [], ◌∷◌, length, drop, refl, ap}
+use Rattle.std.proofs.Common.{◌≡◌, ℕ, zero, suc, ◌<◌, List, [], ◌∷◌, length, drop, refl, ap, sym, ◌∙◌}
+use Rattle.std.specs.Prelude.{map}
 use Rattle.std.specs.List.{AllByRecursion}
 use Rattle.ttp_world.specs.declared.medl.Medl.{Medl}
+use Rattle.ttp_world.specs.declared.node.Chosen.{Chosen}
 use Rattle.ttp_world.specs.declared.node.Entry.{Entry}
 use Rattle.ttp_world.specs.declared.script.Script.{Script}
 use Rattle.ttp_world.specs.Act.{coming_place}
 use Rattle.ttp_world.specs.Medl.{IsValid}
-use Rattle.ttp_world.specs.Messages.{delivered_of}
+use Rattle.ttp_world.specs.Messages.{message_of, delivered_of}
 use Rattle.ttp_world.specs.World.{SlotNumbers, Numbers, node_past, slot_after, messages_chosen, row_in, world}
+use Rattle.ttp_world.proofs.Carried.{AreOfHosts, row_in-told}
 use Rattle.ttp_world.proofs.Lists.{IsPlaceOf}
 use Rattle.ttp_world.proofs.Places.{AreOfList, coming_place-of_list, row_after-of_list, entry_of-of_list}
 use Rattle.ttp_world.proofs.Places.{IsSentInList, delivered_of-sender}
@@ -32,6 +35,19 @@ rows-world list script (new ∷ numbers) = (
       (messages_chosen list script (length numbers) new.sent),
   rows-world list script numbers,
 )
+
+-- the numbers that the row of some messages tells make that row, where hosts have written the messages
+pub row_of_world-told : (list : Medl) (script : Script) (numbers : Numbers) (chosen : List Chosen) (read : List ℕ)
+    → AreOfHosts (slot_after list script (world list script numbers)) chosen
+    → row_of_world list script
+    (record { sent = map message_of (row_in (slot_after list script (world list script numbers)) chosen); read = read })
+    numbers
+    ≡ row_in (slot_after list script (world list script numbers)) chosen
+row_of_world-told list script numbers chosen read of_hosts =
+    let s = slot_after list script (world list script numbers) in
+    ap (λ slot. row_in s (messages_chosen list script slot (map message_of (row_in s chosen))))
+    (sym (length-world list script numbers))
+    ∙ row_in-told s chosen of_hosts
 
 -- the world some slots before
 pub world-older : (list : Medl) (script : Script) (m : ℕ) (numbers : Numbers)

@@ -1,11 +1,11 @@
--- The text of a trace: its lines, each as its bytes with the line feed at its end.
+-- The text of a trace, line by line.
 use Rattle.std.specs.Prelude.{ℕ, ◌+◌, ◌*◌, ◌==◌, List, [], ◌∷◌, ◌++◌, map, length, get_or, count_by, flat_map}
 use Rattle.std.specs.Prelude.{Option, Some, None, option_map, codes, decimal}
 use Rattle.std.specs.Fmt.{signed_decimal}
 -- a row of a crate above computes a text where it unfolds `ttp_world::specs::Trace::digits`
 pub use Rattle.std.specs.Fmt.{digits}
 use Rattle.ttp_base.specs.NodeSet.{below, set_bits}
-use Rattle.ttp_base.specs.Text.{newline, hex, hex_bytes}
+use Rattle.ttp_base.specs.Text.{Lines, newline, hex, hex_bytes}
 use Rattle.ttp_world.specs.declared.keep.Keep.{Keep}
 use Rattle.ttp_world.specs.declared.keep.Keep.TheVariants as keep
 use Rattle.ttp_world.specs.declared.medl.Medl.{Medl}
@@ -129,13 +129,13 @@ abbrev pub write_line : Medl → Script → ℕ → ℕ → ℕ → List ℕ
 write_line list script slot k earlier =
     host_head slot k ++ codes " write " ++ decimal (length (messages_before list script k slot) + earlier) ++ newline
 
-abbrev pub more_write_lines : Medl → Script → ℕ → List HostWrite → List HostWrite → List (List ℕ)
+abbrev pub more_write_lines : Medl → Script → ℕ → List HostWrite → List HostWrite → Lines
 more_write_lines list script slot earlier [] = []
 more_write_lines list script slot earlier (w ∷ ws) =
     write_line list script slot w.host (count_by (λ e. e.host == w.host) earlier)
     ∷ more_write_lines list script slot (w ∷ earlier) ws
 
-abbrev pub write_lines : Medl → Script → ℕ → List (List ℕ)
+abbrev pub write_lines : Medl → Script → ℕ → Lines
 write_lines list script slot = more_write_lines list script slot [] (writes_in script slot)
 
 abbrev pub word_hex : ℕ → List ℕ
@@ -157,20 +157,20 @@ read_line list script slot after r =
     ++ message_hex r.read.source (get_or (ring_messages list script after r.read.host r.read.source) r.number [])
     ++ newline
 
-abbrev pub read_lines : Medl → Script → ℕ → History → List ℕ → List (List ℕ)
+abbrev pub read_lines : Medl → Script → ℕ → History → List ℕ → Lines
 read_lines list script slot after numbers =
     map (read_line list script slot after) (read_messages (reads_in script slot) numbers)
 
 -- A slot: the nodes, what hosts wrote, and what they read.
 
-abbrev pub slot_lines : Medl → Script → List Entry → History → SlotNumbers → List (List ℕ)
+abbrev pub slot_lines : Medl → Script → List Entry → History → SlotNumbers → Lines
 slot_lines list script row before new =
     map (node_line_of list script row before) (below (length list.slots))
     ++ write_lines list script (length before)
     ++ read_lines list script (length before) (row ∷ before) new.read
 
 -- the oldest slot first
-abbrev pub history_lines : Medl → Script → History → Numbers → List (List ℕ)
+abbrev pub history_lines : Medl → Script → History → Numbers → Lines
 history_lines list script [] numbers = []
 history_lines list script (row ∷ history) [] = []
 history_lines list script (row ∷ history) (new ∷ numbers) =
@@ -183,9 +183,9 @@ keep_line (keep.Yes start) = codes "keeps yes start " ++ decimal start ++ newlin
 keep_line (keep.No rule slot) = codes "keeps no H" ++ decimal rule ++ codes " " ++ decimal slot ++ newline
 
 -- the trace before its last line, and the whole
-abbrev pub run_lines : Medl → Script → Numbers → List (List ℕ)
+abbrev pub run_lines : Medl → Script → Numbers → Lines
 run_lines list script numbers =
     trace_head list script ∷ history_lines list script (world list script numbers) numbers
 
-abbrev pub trace_lines : Medl → Script → Numbers → List (List ℕ)
+abbrev pub trace_lines : Medl → Script → Numbers → Lines
 trace_lines list script numbers = run_lines list script numbers ++ keep_line (keeps list script) ∷ []

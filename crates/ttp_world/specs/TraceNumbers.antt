@@ -5,6 +5,7 @@ use Rattle.std.specs.Prelude.{find, fold, Option, Some, None, option_and_then, c
 use Rattle.std.specs.List.{filter_map, list_all, slice_split}
 use Rattle.std.specs.Str.{bytes_eq}
 use Rattle.ttp_base.specs.NodeSet.{below}
+use Rattle.ttp_base.specs.Text.{Lines}
 use Rattle.ttp_world.specs.declared.medl.Medl.{Medl}
 use Rattle.ttp_world.specs.declared.script.Script.{Script}
 use Rattle.ttp_world.specs.World.{SlotNumbers, Numbers}
@@ -60,5 +61,5 @@ abbrev pub numbers_below : Medl → List (List (List ℕ)) → ℕ → Numbers
 numbers_below list lines zero = []
 numbers_below list lines (suc slot) = slot_numbers list lines slot ∷ numbers_below list lines slot
 
-abbrev pub numbers_in : Medl → Script → List (List ℕ) → Numbers
+abbrev pub numbers_in : Medl → Script → Lines → Numbers
 numbers_in list script lines = numbers_below list (map words_of lines) script.slots

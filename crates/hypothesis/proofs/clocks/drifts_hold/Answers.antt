@@ -2,13 +2,16 @@ use Rattle.std.proofs.Common.{sym, rules, arith}
 use Rattle.std.specs.Prelude.{length}
 use Rattle.ttp_world.specs.Hypothesis.{is_within_bound}
 use Rattle.ttp_world.specs.Script.{drift_of}
-use Rattle.hypothesis.proofs.Ranges.{all-below, one-fails}
+use Rattle.ttp_base.proofs.Below.{all-below}
+use Rattle.hypothesis.proofs.Ranges.{one-fails}
 use Rattle.hypothesis.proofs.clocks.drifts_hold.Goals as goal
 
 pub returns-then-not-is_within_bound : goal.returns-then-not-is_within_bound
 returns-then-not-is_within_bound c =
-    sym (one-fails (λ k. is_within_bound c.args.list.now.drift (drift_of c.args.script.now k)) (length c.args.list.now.slots) c.loop-node.node (omega arith) (search rules))
+    sym (one-fails (λ k. is_within_bound c.args.list.now.drift (drift_of c.args.script.now k))
+    (length c.args.list.now.slots) c.loop-node.node (omega arith) (search rules))
 
 pub returns : goal.returns
 returns c =
-    sym (all-below (λ k. is_within_bound c.args.list.now.drift (drift_of c.args.script.now k)) (length c.args.list.now.slots) (λ k less. c.loop-node.invariant k (omega arith)))
+    sym (all-below (λ k. is_within_bound c.args.list.now.drift (drift_of c.args.script.now k))
+    (length c.args.list.now.slots) (λ k less. c.loop-node.invariant k (omega arith)))

@@ -2,16 +2,19 @@ use Rattle.std.proofs.Common.{sym, below_more, rules, arith}
 use Rattle.std.specs.Prelude.{length}
 use Rattle.ttp_world.specs.Hypothesis.{is_within_bound}
 use Rattle.ttp_world.specs.Script.{reading_error}
-use Rattle.hypothesis.proofs.Ranges.{all-below, one-fails}
+use Rattle.ttp_base.proofs.Below.{all-below}
+use Rattle.hypothesis.proofs.Ranges.{one-fails}
 use Rattle.hypothesis.proofs.clocks.errors_hold_in.Goals as goal
 
 pub returns-then-not-is_within_bound : goal.returns-then-not-is_within_bound
 returns-then-not-is_within_bound c =
-    sym (one-fails (λ k. is_within_bound c.args.list.now.error (reading_error c.args.script.now k c.args.slot)) (length c.args.list.now.slots) c.loop-node.node (omega arith) (search rules))
+    sym (one-fails (λ k. is_within_bound c.args.list.now.error (reading_error c.args.script.now k c.args.slot))
+    (length c.args.list.now.slots) c.loop-node.node (omega arith) (search rules))
 
 pub loop-node-preserved : goal.loop-node-preserved
 loop-node-preserved c = below_more _ _ c.loop-node.invariant (search rules)
 
 pub returns : goal.returns
 returns c =
-    sym (all-below (λ k. is_within_bound c.args.list.now.error (reading_error c.args.script.now k c.args.slot)) (length c.args.list.now.slots) (λ k less. c.loop-node.invariant k (omega arith)))
+    sym (all-below (λ k. is_within_bound c.args.list.now.error (reading_error c.args.script.now k c.args.slot))
+    (length c.args.list.now.slots) (λ k less. c.loop-node.invariant k (omega arith)))

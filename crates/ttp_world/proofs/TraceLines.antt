@@ -1,0 +1,180 @@
+-- Each line of a trace is one line: its one line feed is its last byte.
+use Rattle.std.proofs.Common.{◌≡◌, ℕ, ◌+◌, ◌<◌, true, false, List, [], ◌∷◌, ◌++◌, length, get_or, Option, refl, arith}
+use Rattle.std.proofs.Common.{map, count_by, codes, decimal}
+use Rattle.std.specs.Prelude.{◌==◌}
+use Rattle.std.specs.Fmt.{signed_decimal}
+use Rattle.std.specs.List.{AllByRecursion}
+use Rattle.std.proofs.lemmas.List.Folds.{list_any-append}
+use Rattle.ttp_base.specs.NodeSet.{below, set_bits}
+use Rattle.ttp_base.specs.Text.{newline, is_line, hex}
+use Rattle.ttp_base.proofs.Below.{map_each-below}
+use Rattle.ttp_base.proofs.Lines.{is_line-append}
+use Rattle.ttp_base.proofs.Numerals.{has, has-decimal, has-signed, has-hex}
+use Rattle.ttp_world.specs.declared.keep.Keep.{Keep}
+use Rattle.ttp_world.specs.declared.keep.Keep.TheVariants as keep
+use Rattle.ttp_world.specs.declared.medl.Medl.{Medl}
+use Rattle.ttp_world.specs.declared.node.Entry.{Entry}
+use Rattle.ttp_world.specs.declared.node.NodeState.{NodeState}
+use Rattle.ttp_world.specs.declared.script.Script.{Script}
+use Rattle.ttp_world.specs.Diary.{History}
+use Rattle.ttp_world.specs.Hypothesis.{keeps}
+use Rattle.ttp_world.specs.Legal.{ReadMessage, read_messages}
+use Rattle.ttp_world.specs.Messages.{ring_messages}
+use Rattle.ttp_world.specs.Outgoing.{messages_before}
+use Rattle.ttp_world.specs.Past.{state_of}
+use Rattle.ttp_world.specs.Script.{HostWrite, writes_in, reads_in}
+use Rattle.ttp_world.specs.Trace.{number_or_dash, entry_word, peer_of, ack_word, member_digits, message_shown}
+use Rattle.ttp_world.specs.Trace.{trace_head, node_line, node_line_of, write_line, more_write_lines, write_lines}
+use Rattle.ttp_world.specs.Trace.{source_word, message_hex, read_line, read_lines, keep_line}
+use Rattle.ttp_world.specs.Trace.{slot_lines, history_lines, trace_lines}
+use Rattle.ttp_world.specs.World.{SlotNumbers, Numbers, node_past, world}
+use Rattle.ttp_world.proofs.LineLists.{each-append}
+use Rattle.ttp_world.proofs.TraceWords.{has-entry_word, has-number_or_dash, has-ack_word, has-source_word, has-message_hex}
+
+abbrev IsLine : List ℕ → Type 0
+IsLine line = is_line line ≡ true
+
+ends : (x : List ℕ) → has 10 x ≡ false → IsLine (x ++ newline)
+ends x none = is_line-append x newline none refl
+
+feed_is_low : 10 < 45
+feed_is_low = omega arith
+
+-- The first line.
+
+head-by_words : (version nodes rounds slots schedule : List ℕ) → has 10 version ≡ false → has 10 nodes ≡ false
+    → has 10 rounds ≡ false → has 10 slots ≡ false → has 10 schedule ≡ false
+    → IsLine (codes "ttpbench trace " ++ version ++ codes " nodes " ++ nodes ++ codes " rounds " ++ rounds
+    ++ codes " slots " ++ slots ++ codes " schedule " ++ schedule ++ newline)
+head-by_words version nodes rounds slots schedule p q r s t =
+    ends (codes "ttpbench trace " ++ version ++ codes " nodes " ++ nodes ++ codes " rounds " ++ rounds
+    ++ codes " slots " ++ slots ++ codes " schedule " ++ schedule)
+    (simp (list_any-append (λ c. c == 10), p, q, r, s, t))
+
+head-IsLine : (list : Medl) (script : Script) → IsLine (trace_head list script)
+head-IsLine list script =
+    head-by_words (decimal list.version) (decimal (length list.slots)) (decimal list.rounds) (decimal script.slots)
+    (hex 6 list.schedule) (has-decimal 10 list.version feed_is_low) (has-decimal 10 (length list.slots) feed_is_low)
+    (has-decimal 10 list.rounds feed_is_low) (has-decimal 10 script.slots feed_is_low) (has-hex 10 6 list.schedule feed_is_low)
+
+-- Node lines.
+
+node-by_words : (slot k entry peer message members accepted rejected ack clock : List ℕ)
+    → has 10 slot ≡ false → has 10 k ≡ false → has 10 entry ≡ false → has 10 peer ≡ false → has 10 message ≡ false
+    → has 10 members ≡ false → has 10 accepted ≡ false → has 10 rejected ≡ false → has 10 ack ≡ false
+    → has 10 clock ≡ false
+    → IsLine (codes "slot " ++ slot ++ codes " node " ++ k ++ codes " " ++ entry ++ codes " peer " ++ peer
+    ++ codes " msg " ++ message ++ codes " mem " ++ members ++ codes " acc " ++ accepted ++ codes " rej " ++ rejected
+    ++ codes " ack " ++ ack ++ codes " clock " ++ clock ++ newline)
+node-by_words slot k entry peer message members accepted rejected ack clock p q r s t u v w x y =
+    ends (codes "slot " ++ slot ++ codes " node " ++ k ++ codes " " ++ entry ++ codes " peer " ++ peer
+    ++ codes " msg " ++ message ++ codes " mem " ++ members ++ codes " acc " ++ accepted ++ codes " rej " ++ rejected
+    ++ codes " ack " ++ ack ++ codes " clock " ++ clock)
+    (simp (list_any-append (λ c. c == 10), p, q, r, s, t, u, v, w, x, y))
+
+node_line-IsLine : (width slot k : ℕ) (state : NodeState) (message : Option ℕ)
+    → IsLine (node_line width slot k state message)
+node_line-IsLine width slot k state message =
+    node-by_words (decimal slot) (decimal k) (entry_word state.entry) (number_or_dash (peer_of k state.entry))
+    (number_or_dash message) (hex width (set_bits state.members)) (decimal state.accepted) (decimal state.rejected)
+    (ack_word state.ack) (signed_decimal state.offset)
+    (has-decimal 10 slot feed_is_low) (has-decimal 10 k feed_is_low) (has-entry_word 10 state.entry feed_is_low)
+    (has-number_or_dash 10 (peer_of k state.entry) feed_is_low) (has-number_or_dash 10 message feed_is_low)
+    (has-hex 10 width (set_bits state.members) feed_is_low) (has-decimal 10 state.accepted feed_is_low)
+    (has-decimal 10 state.rejected feed_is_low) (has-ack_word 10 state.ack feed_is_low) (has-signed 10 state.offset feed_is_low)
+
+-- Host lines.
+
+write-by_words : (slot k number : List ℕ) → has 10 slot ≡ false → has 10 k ≡ false → has 10 number ≡ false
+    → IsLine (codes "slot " ++ slot ++ codes " host " ++ k ++ codes " write " ++ number ++ newline)
+write-by_words slot k number p q r =
+    ends (codes "slot " ++ slot ++ codes " host " ++ k ++ codes " write " ++ number)
+    (simp (list_any-append (λ c. c == 10), p, q, r))
+
+read-by_words : (slot k from number message : List ℕ) → has 10 slot ≡ false → has 10 k ≡ false → has 10 from ≡ false
+    → has 10 number ≡ false → has 10 message ≡ false
+    → IsLine (codes "slot " ++ slot ++ codes " host " ++ k ++ codes " read " ++ from ++ codes " " ++ number
+    ++ codes " " ++ message ++ newline)
+read-by_words slot k from number message p q r s t =
+    ends (codes "slot " ++ slot ++ codes " host " ++ k ++ codes " read " ++ from ++ codes " " ++ number
+    ++ codes " " ++ message)
+    (simp (list_any-append (λ c. c == 10), p, q, r, s, t))
+
+write_line-IsLine : (list : Medl) (script : Script) (slot k earlier : ℕ) → IsLine (write_line list script slot k earlier)
+write_line-IsLine list script slot k earlier =
+    let number = length (messages_before list script k slot) + earlier in
+    write-by_words (decimal slot) (decimal k) (decimal number) (has-decimal 10 slot feed_is_low) (has-decimal 10 k feed_is_low)
+    (has-decimal 10 number feed_is_low)
+
+read_line-IsLine : (list : Medl) (script : Script) (slot : ℕ) (after : History) (r : ReadMessage)
+    → IsLine (read_line list script slot after r)
+read_line-IsLine list script slot after r =
+    let message = get_or (ring_messages list script after r.read.host r.read.source) r.number [] in
+    read-by_words (decimal slot) (decimal r.read.host) (source_word r.read.source) (decimal r.number)
+    (message_hex r.read.source message) (has-decimal 10 slot feed_is_low) (has-decimal 10 r.read.host feed_is_low)
+    (has-source_word 10 r.read.source feed_is_low) (has-decimal 10 r.number feed_is_low)
+    (has-message_hex 10 r.read.source message feed_is_low)
+
+more_write_lines-each : (list : Medl) (script : Script) (slot : ℕ) (earlier writes : List HostWrite)
+    → AllByRecursion IsLine (more_write_lines list script slot earlier writes)
+more_write_lines-each list script slot earlier [] = tt
+more_write_lines-each list script slot earlier (w ∷ writes) = (
+  write_line-IsLine list script slot w.host (count_by (λ e. e.host == w.host) earlier),
+  more_write_lines-each list script slot (w ∷ earlier) writes,
+)
+
+read_lines-each : (list : Medl) (script : Script) (slot : ℕ) (after : History) (reads : List ReadMessage)
+    → AllByRecursion IsLine (map (read_line list script slot after) reads)
+read_lines-each list script slot after [] = tt
+read_lines-each list script slot after (r ∷ reads) =
+    (read_line-IsLine list script slot after r, read_lines-each list script slot after reads)
+
+-- The last line.
+
+yes-by_words : (start : List ℕ) → has 10 start ≡ false → IsLine (codes "keeps yes start " ++ start ++ newline)
+yes-by_words start p =
+    ends (codes "keeps yes start " ++ start)
+    (simp (list_any-append (λ c. c == 10), p))
+
+no-by_words : (rule slot : List ℕ) → has 10 rule ≡ false → has 10 slot ≡ false
+    → IsLine (codes "keeps no H" ++ rule ++ codes " " ++ slot ++ newline)
+no-by_words rule slot p q =
+    ends (codes "keeps no H" ++ rule ++ codes " " ++ slot)
+    (simp (list_any-append (λ c. c == 10), p, q))
+
+keep_line-IsLine : (k : Keep) → IsLine (keep_line k)
+keep_line-IsLine (keep.Yes start) = yes-by_words (decimal start) (has-decimal 10 start feed_is_low)
+keep_line-IsLine (keep.No rule slot) =
+    no-by_words (decimal rule) (decimal slot) (has-decimal 10 rule feed_is_low) (has-decimal 10 slot feed_is_low)
+
+-- The whole.
+
+slot_lines-each : (list : Medl) (script : Script) (row : List Entry) (before : History) (new : SlotNumbers)
+    → AllByRecursion IsLine (slot_lines list script row before new)
+slot_lines-each list script row before new =
+    let slot = length before in
+    each-append IsLine
+    (map (node_line_of list script row before) (below (length list.slots)) ++ write_lines list script slot)
+    (read_lines list script slot (row ∷ before) new.read)
+    (each-append IsLine (map (node_line_of list script row before) (below (length list.slots))) (write_lines list script slot)
+    (map_each-below IsLine (node_line_of list script row before) (length list.slots) (λ k less.
+    let state = state_of (node_past list script (row ∷ before) k) in
+    node_line-IsLine (member_digits list) slot k state (message_shown list script row before k state.entry)))
+    (more_write_lines-each list script slot [] (writes_in script slot)))
+    (read_lines-each list script slot (row ∷ before) (read_messages (reads_in script slot) new.read))
+
+history_lines-each : (list : Medl) (script : Script) (history : History) (numbers : Numbers)
+    → AllByRecursion IsLine (history_lines list script history numbers)
+history_lines-each list script [] numbers = tt
+history_lines-each list script (row ∷ history) [] = tt
+history_lines-each list script (row ∷ history) (new ∷ numbers) =
+    each-append IsLine (history_lines list script history numbers) (slot_lines list script row history new)
+    (history_lines-each list script history numbers) (slot_lines-each list script row history new)
+
+pub trace_lines-each : (list : Medl) (script : Script) (numbers : Numbers)
+    → AllByRecursion (λ line. is_line line ≡ true) (trace_lines list script numbers)
+trace_lines-each list script numbers = (
+  head-IsLine list script,
+  each-append IsLine (history_lines list script (world list script numbers) numbers) (keep_line (keeps list script) ∷ [])
+      (history_lines-each list script (world list script numbers) numbers) (keep_line-IsLine (keeps list script), tt),
+)
