@@ -1,23 +1,21 @@
 -- The rows of a run in which every frame with payload carries message 0 are those of the world by its numbers.
-use Rattle.std.proofs.Common.{◌≡◌, ℕ, zero, suc, ◌+◌, ◌<◌, List, ◌∷◌, length, Some}
-use Rattle.std.proofs.Common.{refl, ap, sym, ◌∙◌, add-one, arith}
-use Rattle.std.proofs.lemmas.List.{length-replicate}
+use Rattle.std.proofs.Common.{◌≡◌, ℕ, zero, suc, ◌+◌, ◌<◌, List, [], ◌∷◌, length, refl, ap, sym, ◌∙◌, add-one, arith}
 use Rattle.std.proofs.lemmas.List.FromFn.{get_or-map-range_with_len, length-map-range_with_len}
 use Rattle.ttp_world.specs.declared.medl.Medl.{Medl}
-use Rattle.ttp_world.specs.declared.node.Chosen.{Chosen}
 use Rattle.ttp_world.specs.declared.node.Entry.{Entry}
 use Rattle.ttp_world.specs.declared.script.Script.{Script}
 use Rattle.ttp_world.specs.Diary.{History, entry_of}
-use Rattle.ttp_world.specs.Medl.{plan_at, IsValid}
+use Rattle.ttp_world.specs.Legal.{IsLegal, IsLegalRun}
+use Rattle.ttp_world.specs.Medl.{IsValid}
 use Rattle.ttp_world.specs.Messages.{delivered_of}
-use Rattle.ttp_world.specs.Outgoing.{nothing_chosen, message_chosen}
-use Rattle.ttp_world.specs.World.{slot_after, chosen_of, frames_in, delivered_in, messages_chosen, step}
-use Rattle.ttp_world.proofs.Carried.{AreOfHosts, row_in-told, delivered_of-row_in}
+use Rattle.ttp_world.specs.Outgoing.{nothing_chosen}
+use Rattle.ttp_world.specs.World.{slot_after, chosen_of, frames_in, delivered_in}
+use Rattle.ttp_world.proofs.Carried.{delivered_of-row_in}
+use Rattle.ttp_world.proofs.LegalRuns.{legal-none}
 use Rattle.ttp_world.proofs.Places.{IsSentInList, row_after-of_list, entry_of-of_list, delivered_of-sender}
-use Rattle.ttp_world.proofs.Worlds.{length-world, world-of_list}
-use Rattle.controller.specs.PlantStands.{AreChosen}
-use Rattle.plant_run.specs.FirstNumbers.{zeros_chosen, all_zeros, zeros_row, numbers_told, first_numbers, first_world}
-use Rattle.plant_run.proofs.Unhosted.{out_messages-first}
+use Rattle.ttp_world.proofs.Unhosted.{AreOfHosts-zeros, legal-unhosted}
+use Rattle.ttp_world.proofs.Worlds.{length-world, row_of_world-told, world-of_list}
+use Rattle.plant_run.specs.FirstNumbers.{IsUnhosted, zeros_chosen, all_zeros, zeros_row, first_numbers, first_world}
 
 -- Message 0 of each node.
 
@@ -28,28 +26,6 @@ pub chosen_of-all_zeros : (list : Medl) (k : ℕ) → k < length list.slots
     → chosen_of (all_zeros list) k ≡ zeros_chosen list k
 chosen_of-all_zeros list k node =
     get_or-map-range_with_len (zeros_chosen list) 0 (length list.slots) k k nothing_chosen node (omega arith)
-
--- it is as long as the list says
-pub AreChosen-all_zeros : (list : Medl) → AreChosen list (all_zeros list)
-AreChosen-all_zeros list k node =
-    ap (λ (c : Chosen). length c.payload) (chosen_of-all_zeros list k node)
-    ∙ length-replicate (plan_at list k).payload 0
-
--- and the one that its host's ring has by that number
-pub zeros_of-hosts : (list : Medl) (script : Script) (slot k : ℕ)
-    → zeros_chosen list k ≡ message_chosen list script slot k (Some 0)
-zeros_of-hosts list script slot k =
-    λ i. record { number = 0; payload = sym (out_messages-first list script k slot) i }
-
-pub all_zeros-of_hosts : (list : Medl) (script : Script) (history : History)
-    → AreOfHosts (slot_after list script history) (all_zeros list)
-all_zeros-of_hosts list script history = record {
-  message = λ k node loaded.
-      let is = chosen_of-all_zeros list k node in
-      is
-      ∙ zeros_of-hosts list script (length history) k
-      ∙ ap (λ (c : Chosen). message_chosen list script (length history) k (Some c.number)) (sym is);
-}
 
 -- The world by the numbers.
 
@@ -67,12 +43,10 @@ pub first_world-next : (list : Medl) (script : Script) (slots : ℕ)
     → first_world list script (suc slots)
     ≡ zeros_row list script (first_world list script slots) ∷ first_world list script slots
 first_world-next list script slots =
+    let numbers = first_numbers list script slots in
     let history = first_world list script slots in
-    let s = slot_after list script history in
-    let sent = (numbers_told (zeros_row list script history)).sent in
-    let same = length-first_numbers list script slots ∙ sym (length-first_world list script slots) in
-    ap (λ (slot : ℕ). step list script history (messages_chosen list script slot sent)) same
-    ∙ ap (λ (row : List Entry). row ∷ history) (row_in-told s (all_zeros list) (all_zeros-of_hosts list script history))
+    ap (λ (row : List Entry). row ∷ history)
+    (row_of_world-told list script numbers (all_zeros list) [] (AreOfHosts-zeros list script history))
 
 -- as code counts it
 pub first_world-more : (list : Medl) (script : Script) (slot : ℕ)
@@ -87,7 +61,7 @@ pub delivered_of-zeros_row : (list : Medl) (script : Script) (history : History)
     (entry_of (zeros_row list script history) k)
     ≡ delivered_of list script history (zeros_row list script history) k
 delivered_of-zeros_row list script history k =
-    sym (delivered_of-row_in list script history (all_zeros list) k (all_zeros-of_hosts list script history))
+    sym (delivered_of-row_in list script history (all_zeros list) k (AreOfHosts-zeros list script history))
 
 -- from nodes of the list
 pub zeros_row-senders : (list : Medl) (script : Script) (slots k : ℕ) → IsValid list
@@ -100,3 +74,18 @@ zeros_row-senders list script slots k valid =
     (entry_of-of_list list row k
     (row_after-of_list list script history (all_zeros list) valid
     (world-of_list list script (first_numbers list script slots) valid)))
+
+-- The numbers are legal.
+
+first_numbers-legal : (list : Medl) (script : Script) (slots : ℕ) → IsUnhosted script
+    → IsLegal list script (first_numbers list script slots)
+first_numbers-legal list script zero none = legal-none list script
+first_numbers-legal list script (suc slots) none =
+    legal-unhosted list script (first_numbers list script slots) none (first_numbers-legal list script slots none)
+
+pub first_numbers-legal_run : (list : Medl) (script : Script) → IsUnhosted script
+    → IsLegalRun list script (first_numbers list script script.slots)
+first_numbers-legal_run list script none = record {
+  count = length-first_numbers list script script.slots;
+  legal = first_numbers-legal list script script.slots none;
+}

@@ -1,6 +1,8 @@
 -- The lines of a run: those of its slots, one after another, in each the lines of its nodes.
 use Rattle.std.proofs.Common.{◌≡◌, ℕ, zero, suc, ◌+◌, ◌<◌, List, [], ◌∷◌, ◌++◌, length, Option, Some, None, IfSome}
-use Rattle.std.proofs.Common.{option_map, refl, ap, sym, ◌∙◌, add-one}
+use Rattle.std.proofs.Common.{option_map, refl, ap, sym, ◌∙◌, append-nil, add-one}
+use Rattle.std.specs.Prelude.{map}
+use Rattle.ttp_base.specs.NodeSet.{below}
 use Rattle.ttp_base.specs.Text.{Lines, lines_below}
 use Rattle.ttp_base.proofs.Below.{flat_map-next}
 use Rattle.ttp_base.proofs.SetWords.{HasWord, HasWord-nil, HasWord-filter, set_bits-small}
@@ -16,10 +18,12 @@ use Rattle.ttp_world.specs.Membership.{is_good, members_of}
 use Rattle.ttp_world.specs.Messages.{delivered_of}
 use Rattle.ttp_world.specs.Past.{state_of}
 use Rattle.ttp_world.specs.Trace.{trace_head, member_digits, node_line, number_delivered, message_shown, node_line_of}
-use Rattle.ttp_world.specs.Trace.{history_lines, run_lines}
-use Rattle.ttp_world.specs.World.{node_past}
+use Rattle.ttp_world.specs.Trace.{more_write_lines, read_line, slot_lines, history_lines, run_lines}
+use Rattle.ttp_world.specs.Legal.{read_messages}
+use Rattle.ttp_world.specs.World.{SlotNumbers, node_past}
 use Rattle.ttp_world.proofs.Lists.{node_limit-most, nodes-most}
 use Rattle.ttp_world.proofs.Pasts.{elim_both}
+use Rattle.ttp_world.proofs.Unhosted.{writes_in-none, reads_in-none}
 use Rattle.trace_text.specs.LineParts.{HasDigits, listed_line}
 use Rattle.controller.specs.PlantStands.{ShowsNode, outcome_at}
 use Rattle.plant_run.specs.declared.run.Run.{Run}
@@ -27,7 +31,6 @@ use Rattle.plant_run.specs.Deliveries.{received, count_at, Tally, Tells}
 use Rattle.plant_run.specs.FirstNumbers.{IsUnhosted, zeros_row, numbers_told, first_numbers, first_world}
 use Rattle.plant_run.specs.RunAfter.{StandsAfter, HoldsDelivered, message_named, lines_after}
 use Rattle.plant_run.proofs.FirstRows.{length-first_world, first_world-next, first_world-more, zeros_row-senders}
-use Rattle.plant_run.proofs.Unhosted.{slot_lines-nodes}
 
 -- A node's line.
 
@@ -112,6 +115,17 @@ listed_line-shown list script slot k state number state_is number_is =
     (message_shown list script row before k (same i).entry))
 
 -- The lines of the run.
+
+-- those of a slot are its nodes', since no host does anything
+slot_lines-nodes : (list : Medl) (script : Script) (row : List Entry) (before : History) (new : SlotNumbers)
+    → IsUnhosted script
+    → slot_lines list script row before new ≡ map (node_line_of list script row before) (below (length list.slots))
+slot_lines-nodes list script row before new none =
+    let slot = length before in
+    let nodes = map (node_line_of list script row before) (below (length list.slots)) in
+    (λ i. nodes ++ more_write_lines list script slot [] (writes_in-none script slot none i)
+    ++ map (read_line list script slot (row ∷ before)) (read_messages (reads_in-none script slot none i) new.read))
+    ∙ append-nil (nodes ++ []) ∙ append-nil nodes
 
 history_lines-below : (list : Medl) (script : Script) (slots : ℕ) → IsUnhosted script
     → history_lines list script (first_world list script slots) (first_numbers list script slots)

@@ -1,6 +1,5 @@
-use Rattle.ttp_world.specs.Legal.{IsLegalRun}
 use Rattle.plant_run.specs.FirstNumbers.{first_numbers}
-use Rattle.plant_run.proofs.Legal.{first_numbers-legal_run}
+use Rattle.plant_run.proofs.FirstRows.{first_numbers-legal_run}
 use Rattle.plant_run.proofs.run.put_run.Goals as goal
 
 pub returns-in-Ok-put-clause-ok : goal.returns-in-Ok-put-clause-ok
