@@ -5,6 +5,7 @@ pub mod EntriesMade
 pub mod EventBounds
 pub mod FlipLists
 pub mod Fronts
+pub mod HostLists
 pub mod LegalNumbers
 pub mod LegalRuns
 pub mod LegalShapes
@@ -23,6 +24,7 @@ pub mod RunNumbers
 pub mod Silences
 pub mod SlotNumbers
 pub mod Slots
+pub mod SortedLists
 pub mod Splits
 pub mod Sweep
 pub mod Told

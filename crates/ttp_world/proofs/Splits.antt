@@ -2,7 +2,7 @@
 use Rattle.std.proofs.Common.{◌≡◌, ℕ, zero, suc, ◌<◌, ◌≤◌, Bool, true, false, List, [], ◌∷◌, length, arith}
 use Rattle.std.specs.Prelude.{nat_le, nat_lt}
 use Rattle.std.proofs.lemmas.Bool.{leb-true, leb-false}
-use Rattle.ttp_world.specs.Index.{SplitsAt}
+use Rattle.ttp_world.specs.Sorted.{SplitsAt}
 
 -- without the first element, which passes or fails
 pub splits-head_in : {X : Type 0} (p : X → Bool) (x : X) (xs : List X) (place : ℕ) → SplitsAt p (x ∷ xs) (suc place) → p x ≡ true

@@ -1,13 +1,16 @@
 pub mod Medl
 pub mod Events
+pub mod Sorted
+pub mod Flips
+pub mod HostLines
 pub mod Index
 pub mod Weights
 pub mod Points
-pub mod Flips
 pub mod Script
 pub mod CheckWord
 pub mod Frame
 pub mod Fitting
+pub mod Words
 pub mod Diary
 pub mod Acknowledgement
 pub mod Membership

@@ -3,8 +3,11 @@
 -- A script is asked by its events: which of them speak of a node in a slot, and what they add up to.
 use Rattle.std.specs.Prelude.{◌≡◌, ◌≢◌, ℕ, ◌<◌, ◌≤◌, nat_le, ℤ, pos, is_some, if◌then◌else◌, Bool, true, false, ◌==◌}
 use Rattle.std.specs.Prelude.{List, length, get_or, count_by, slice_get, All, Option, Some, None, unwrap_or, IfSome}
+use Rattle.std.specs.Prelude.{option_and_then}
 use Rattle.std.specs.List.{list_any, filter_map}
 use Rattle.ttp_world.specs.declared.events.Incidents.{Incidents}
+pub use Rattle.ttp_world.specs.declared.host_lines.HostRead.{HostRead}
+use Rattle.ttp_world.specs.declared.host_lines.Written.{Written}
 use Rattle.ttp_world.specs.declared.medl.Medl.{Medl}
 use Rattle.ttp_world.specs.declared.script.Channel.{Channel}
 use Rattle.ttp_world.specs.declared.script.Event.{Event}
@@ -82,10 +85,9 @@ pub record HostWrite : Type 0 where
   pub host : ℕ
   pub payload : List ℕ
 
--- a read of a node's host
-pub record HostRead : Type 0 where
-  pub host : ℕ
-  pub source : Source
+-- the same where it lies in the script
+abbrev pub host_write : Written → HostWrite
+host_write written = record { host = written.host; payload = written.payload.now }
 
 abbrev pub write_in : ℕ → Event → Option HostWrite
 write_in slot (event.Write node at payload) =
@@ -95,6 +97,14 @@ write_in slot _ = None
 abbrev pub read_in : ℕ → Event → Option HostRead
 read_in slot (event.Read node at from) = if at == slot then Some (record { host = node; source = from }) else None
 read_in slot _ = None
+
+-- the message that the event at a place writes
+abbrev pub write_of : Event → Option HostWrite
+write_of (event.Write node at payload) = Some (record { host = node; payload = payload })
+write_of _ = None
+
+abbrev pub write_at : Script → ℕ → Option HostWrite
+write_at script place = option_and_then write_of (slice_get script.events place)
 
 -- the messages that hosts write in a slot, and what they read there, in the order of the script
 abbrev pub writes_in : Script → ℕ → List HostWrite

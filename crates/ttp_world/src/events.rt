@@ -3,10 +3,11 @@ ghost use Rattle.std.specs.Prelude.{◌≡◌, ◌≤◌, [], length, All, IfOk}
 ghost use Rattle.std.specs.List.{filter_map};
 ghost use Rattle.ttp_world.specs.declared.script.Channel.{Channel};
 ghost use Rattle.ttp_world.specs.Events.{bits_on, flipped_bit, incidents_in, IsBounded, AreBounded};
+ghost use Rattle.ttp_world.specs.HostLines.{keyed_read, keyed_writes};
+ghost use Rattle.ttp_world.specs.Sorted.{values_of};
 
-use crate::index::{
-    Index, bits_between, incidents_before, key_of, keys_below, keys_up_to, steps_up_to,
-};
+use crate::host_lines::HostRead;
+use crate::index::{Index, incidents_before, key_of, steps_up_to};
 use crate::script::{Channels, EVENT_LIMIT, Event};
 use std::alloc::Global;
 use std::marker::Model;
@@ -108,10 +109,21 @@ impl Events {
     pub(crate) fn flips(&self, node: u8, slot: u32) -> &[FlippedBit]
         ensures { (c : Channel) → bits_on c result.now ≡ filter_map (flipped_bit node c slot) self.now }
     {
-        let key = key_of(node, slot);
-        let keys = self.index.flips.keys.as_slice();
-        let from = keys_below(keys, key);
-        let to = keys_up_to(keys, key);
-        bits_between(self.index.flips.bits.as_slice(), from, to)
+        self.index.flips.at(key_of(node, slot))
+    }
+
+    /// The places of the writes of a slot among all events, in the order of the script. Costs two
+    /// binary searches.
+    pub(crate) fn writes(&self, slot: u32) -> &[usize]
+        ensures { result.now ≡ values_of slot (keyed_writes 0 self.now) }
+    {
+        self.index.writes.at(u64::from(slot))
+    }
+
+    /// The reads of a slot, in the order of the script. Costs two binary searches.
+    pub(crate) fn reads(&self, slot: u32) -> &[HostRead]
+        ensures { result.now ≡ values_of slot (filter_map keyed_read self.now) }
+    {
+        self.index.reads.at(u64::from(slot))
     }
 }

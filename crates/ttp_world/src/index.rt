@@ -1,14 +1,15 @@
 //! The index by which events are found.
-ghost use Rattle.std.specs.Prelude.{◌≡◌, ◌≤◌, ◌<◌, [], length, All, IfOk};
-ghost use Rattle.std.specs.Prelude.{nat_lt, nat_le, slice_range};
+ghost use Rattle.std.specs.Prelude.{◌≡◌, ◌≤◌, [], length, IfOk};
 ghost use Rattle.std.specs.List.Sorted.{IsNonDecreasingBy};
-ghost use Rattle.ttp_world.specs.Index.{key_of, no_incidents, incidents_before, step_is_by, SplitsAt, AreFew};
-ghost use Rattle.ttp_world.specs.Index.{IsIndexOf};
+ghost use Rattle.ttp_world.specs.Index.{no_incidents, incidents_before, step_is_by, AreFew, IsIndexOf};
+ghost use Rattle.ttp_world.specs.Sorted.{key_of, SplitsAt};
 
 use crate::events::{FlippedBit, Incidents};
-use crate::flips::{SortedFlips, sorted_flips};
+use crate::flips::flips_of;
+use crate::host_lines::{HostRead, reads_of, writes_of};
 use crate::points::sorted_steps;
 use crate::script::{Channels, Event};
+use crate::sorted::Sorted;
 use std::alloc::Global;
 use ttp_base::{List, Memory};
 
@@ -22,11 +23,15 @@ pub(crate) struct Step {
     pub(crate) incidents: Incidents,
 }
 
-/// The steps of all nodes and the flipped bits, each in the order of its keys.
+/// The steps of all nodes, the flipped bits, and what hosts do, each in the order of its keys.
 #[derive(Debug, Drop)]
 pub(crate) struct Index {
     pub(crate) steps: List<Step>,
-    pub(crate) flips: SortedFlips,
+    pub(crate) flips: Sorted<FlippedBit>,
+    /// The places of the writes among the events, by their slots.
+    pub(crate) writes: Sorted<usize>,
+    /// The reads, by their slots.
+    pub(crate) reads: Sorted<HostRead>,
 }
 
 /// The key of a node and slot.
@@ -74,33 +79,6 @@ pub(crate) fn incidents_before(steps: &[Step], place: usize) -> Incidents
     }
 }
 
-/// How many keys are below this one.
-pub(crate) fn keys_below(keys: &[u64], key: u64) -> usize
-    requires { IsNonDecreasingBy (λ key. key) keys.now }
-    ensures bound { result ≤ length keys.now }
-    ensures place { SplitsAt (λ other. nat_lt other key) keys.now result }
-{
-    keys.partition_point(|other| *other < key)
-}
-
-/// How many keys are not above this one.
-pub(crate) fn keys_up_to(keys: &[u64], key: u64) -> usize
-    requires { IsNonDecreasingBy (λ key. key) keys.now }
-    ensures bound { result ≤ length keys.now }
-    ensures place { SplitsAt (λ other. nat_le other key) keys.now result }
-{
-    keys.partition_point(|other| *other <= key)
-}
-
-/// The flipped bits from one place up to another.
-pub(crate) fn bits_between(bits: &[FlippedBit], from: usize, to: usize) -> &[FlippedBit]
-    requires order { from ≤ to }
-    requires within { to ≤ length bits.now }
-    ensures { result.now ≡ slice_range bits.now from to }
-{
-    &bits[from..to]
-}
-
 impl Index {
     /// The index of no events. Takes no memory.
     pub(crate) fn empty(alloc: Global) -> Index
@@ -108,10 +86,9 @@ impl Index {
     {
         Index {
             steps: List::new(alloc),
-            flips: SortedFlips {
-                keys: Vec::new(alloc),
-                bits: Vec::new(alloc),
-            },
+            flips: Sorted::empty(alloc),
+            writes: Sorted::empty(alloc),
+            reads: Sorted::empty(alloc),
         }
     }
 
@@ -121,7 +98,14 @@ impl Index {
         ensures { IfOk result (λ index. IsIndexOf events.now index) }
     {
         let steps = sorted_steps(alloc, events)?;
-        let flips = sorted_flips(alloc, events)?;
-        Ok(Index { steps, flips })
+        let flips = Sorted::of(alloc, flips_of(alloc, events)?)?;
+        let writes = Sorted::of(alloc, writes_of(alloc, events)?)?;
+        let reads = Sorted::of(alloc, reads_of(alloc, events)?)?;
+        Ok(Index {
+            steps,
+            flips,
+            writes,
+            reads,
+        })
     }
 }

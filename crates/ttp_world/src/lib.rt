@@ -15,15 +15,19 @@
 
 mod events;
 mod flips;
+mod host_lines;
 mod index;
 mod keep;
+pub mod laws;
 mod medl;
 mod node;
 mod points;
 mod script;
+mod sorted;
 mod weights;
 
 pub use events::{Events, FlippedBit, Incidents};
+pub use host_lines::{HostRead, Written};
 pub use keep::Keep;
 pub use medl::{Kind, Medl, SlotPlan};
 pub use node::{

@@ -1,10 +1,13 @@
 //! What a script says: which nodes are switched on, their clocks, faults, and what hosts do.
 
-ghost use Rattle.std.specs.Prelude.{◌≡◌, ◌++◌, ◌<◌, ◌≤◌, length, drop};
+ghost use Rattle.std.specs.Prelude.{◌≡◌, ◌++◌, ◌<◌, ◌≤◌, length, drop, option_map};
+ghost use Rattle.std.specs.List.{filter_map};
 ghost use Rattle.ttp_world.specs.declared.script.Channel.{Channel};
 ghost use Rattle.ttp_world.specs.Script.{is_on, incidents_of, flipped_bits, bits_on, AreBounded};
+ghost use Rattle.ttp_world.specs.Script.{host_write, write_at, writes_in, reads_in};
 
 use crate::events::{Events, FlippedBit, Incidents};
+use crate::host_lines::{HostRead, Written, write_of};
 use std::marker::Model;
 use ttp_base::List;
 
@@ -214,5 +217,30 @@ impl Script {
         ensures { (c : Channel) → bits_on c result.now ≡ flipped_bits self.now node c slot }
     {
         self.events.flips(node, slot)
+    }
+
+    /// The places of what hosts write in a slot, in the order of the script: [`Script::write`] gives
+    /// the message at a place. Costs two binary searches.
+    pub fn writes(&self, slot: u32) -> &[usize]
+        ensures { filter_map (write_at self.now) result.now ≡ writes_in self.now slot }
+    {
+        self.events.writes(slot)
+    }
+
+    /// The message that a host writes at a place, if there is one.
+    pub fn write(&self, place: usize) -> Option<Written<'_>>
+        ensures { option_map host_write result ≡ write_at self.now place }
+    {
+        match self.events.as_slice().get(place) {
+            Some(event) => write_of(event),
+            None => None,
+        }
+    }
+
+    /// What hosts read in a slot, in the order of the script. Costs two binary searches.
+    pub fn reads(&self, slot: u32) -> &[HostRead]
+        ensures { result.now ≡ reads_in self.now slot }
+    {
+        self.events.reads(slot)
     }
 }

@@ -2,7 +2,10 @@
 ghost use Rattle.std.specs.Prelude.{◌≡◌, ℕ, ◌+◌, ◌<◌, ◌≤◌, length, All, IfOk, ◌∷◌, []};
 ghost use Rattle.ttp_world.specs.Events.{IsBounded};
 
-use crate::{Channels, Event, Events, Fault, FlippedBit, Incidents, Kind, Medl, Script, SlotPlan};
+use crate::{
+    Channels, Event, Events, Fault, FlippedBit, HostRead, Incidents, Kind, Medl, Payload, Script,
+    SlotPlan, Source,
+};
 use std::alloc::Global;
 use std::test::Fail;
 use ttp_base::{List, Memory};
@@ -256,6 +259,61 @@ fn flips_in_the_order_of_the_script(rt: HostRuntime) -> Result<(), Fail> {
         );
     }
     Ok(())
+}
+
+fn write(node: u8, slot: u32, bytes: &[u8]) -> Event
+    requires { length bytes.now ≤ 240 }
+    ensures { IsBounded result }
+{
+    Event::Write {
+        node,
+        slot,
+        payload: Payload::of(bytes),
+    }
+}
+
+fn read(node: u8, slot: u32, source: Source) -> Event
+    ensures { IsBounded result }
+{
+    Event::Read { node, slot, source }
+}
+
+// Hosts that write and read twice in slot 7, among lines of other slots and kinds.
+fn of_hosts(alloc: Global) -> Result<Events, Memory> {
+    let events = and(List::new(alloc), read(3, 7, Source::Node(1)))?;
+    let events = and(events, write(1, 9, &[1]))?;
+    let events = and(events, write(1, 7, &[2, 3]))?;
+    let events = and(events, flip(1, ON_A, 9, 7))?;
+    let events = and(events, read(2, 6, Source::Status))?;
+    let events = and(events, read(0, 7, Source::Status))?;
+    let events = and(events, write(0, 7, &[]))?;
+    Events::index(alloc, events)
+}
+
+#[test]
+fn lines_of_hosts_in_the_order_of_the_script(rt: HostRuntime) -> Result<(), Fail> {
+    let script = script_of(rt.alloc(), of_hosts(rt.alloc())?)?;
+    let source = Source::Node(1);
+    let first = HostRead { host: 3, source };
+    let second = HostRead {
+        host: 0,
+        source: Source::Status,
+    };
+    assert!(rt; script.reads(7) == [first, second].as_slice());
+    assert!(rt; script.reads(6).len() == 1 && script.reads(9).is_empty());
+    assert!(rt; script.writes(7) == [2, 6].as_slice() && script.writes(9) == [1].as_slice());
+    let (Some(long), Some(empty)) = (script.write(2), script.write(6)) else {
+        return Err(Fail::new("no write"));
+    };
+    assert!(rt; long.host == 1 && long.payload.bytes() == [2, 3].as_slice());
+    assert!(rt; empty.host == 0 && empty.payload.bytes().is_empty());
+    assert!(rt; script.write(3).is_none() && script.write(7).is_none());
+    Ok(())
+}
+
+#[test]
+fn header_of_each_kind(rt: HostRuntime) {
+    assert!(rt; Kind::N.header() == 0 && Kind::I.header() == 1 && Kind::X.header() == 2);
 }
 
 #[test]

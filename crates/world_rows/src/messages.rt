@@ -3,6 +3,7 @@ ghost use Rattle.std.specs.Prelude.{◌≡◌, [], ◌∷◌, ◌++◌, true, fa
 ghost use Rattle.ttp_world.specs.Legal.{is_legal, IsLegal};
 ghost use Rattle.ttp_world.specs.Trace.{write_lines, read_lines};
 ghost use Rattle.ttp_world.specs.TraceNumbers.{numbers_in};
+ghost use Rattle.ttp_world.specs.Words.{words_of_payload};
 ghost use Rattle.ttp_world.specs.World.{world};
 ghost use Rattle.world_rows.specs.Cases.{bare_list, script_of, loaded_list, loaded_numbers, reading_numbers};
 ghost use Rattle.world_rows.specs.Cases.{sending_slot, no_numbers, lines_in};
@@ -68,4 +69,11 @@ pub fn numbers_that_lines_name()
         ∷ codes "slot 1 host 0 read 2 3 0000000000000000\n"
         ∷ [])
         ≡ sending_slot 4 (3 ∷ []) ∷ no_numbers 5 ∷ [] }
+{}
+
+/// The words of payloads of no byte, of eight, and of nine.
+pub fn words_of_payloads()
+    ensures none { words_of_payload [] ≡ [] }
+    ensures full { words_of_payload (1 ∷ 2 ∷ 3 ∷ 4 ∷ 5 ∷ 6 ∷ 7 ∷ 8 ∷ []) ≡ 72623859790382856 ∷ [] }
+    ensures begun { words_of_payload (0 ∷ 0 ∷ 0 ∷ 0 ∷ 0 ∷ 0 ∷ 1 ∷ 2 ∷ 3 ∷ []) ≡ 258 ∷ 216172782113783808 ∷ [] }
 {}

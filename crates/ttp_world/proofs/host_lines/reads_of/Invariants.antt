@@ -1,0 +1,7 @@
+use Rattle.std.proofs.Common.{◌≡◌, take}
+use Rattle.std.specs.List.{filter_map}
+use Rattle.ttp_world.specs.HostLines.{keyed_read}
+use Rattle.ttp_world.proofs.host_lines.reads_of.Given as goal
+
+abbrev pub invariant-loop-event : goal.invariant-loop-event
+invariant-loop-event l = l.reads ≡ filter_map keyed_read (take l.event-index l.events)

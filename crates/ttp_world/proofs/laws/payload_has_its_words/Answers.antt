@@ -1,0 +1,11 @@
+use Rattle.std.proofs.Common.{length, ◌∙◌}
+use Rattle.std.proofs.lemmas.List.{length-map}
+use Rattle.std.proofs.lemmas.List.FromFn.{length-range_with_len}
+use Rattle.ttp_base.specs.NodeSet.{below}
+use Rattle.ttp_world.specs.Words.{word_count, payload_word}
+use Rattle.ttp_world.proofs.laws.payload_has_its_words.Goals as goal
+
+pub returns : goal.returns
+returns c = λ bytes.
+    length-map (below (word_count (length bytes))) (payload_word bytes)
+    ∙ length-range_with_len 0 (word_count (length bytes))
