@@ -1,4 +1,4 @@
--- What a verdict leads to: the acknowledgement of the longer diary, and the members and counts of a judged entry.
+-- What a verdict asks for leads to the members and counts of a judged entry.
 use Rattle.std.proofs.Common.{◌≡◌, ◌≢◌, ℕ, ◌<◌, Bool, true, false, not, ◌&&◌, ◌||◌, List, refl, ap, sym, ◌∙◌}
 use Rattle.std.specs.Prelude.{◌==◌, ◌↔◌}
 use Rattle.std.proofs.lemmas.Bool.{eqb-true, ne_eqb, false≢true}
@@ -6,27 +6,15 @@ use Rattle.ttp_base.specs.NodeSet.{most_nodes, below, has_node, with_node, witho
 use Rattle.ttp_base.proofs.NodeSets.{same_sieve, filter-filter, has_node-without}
 use Rattle.ttp_world.specs.declared.node.Ack.{Ack}
 use Rattle.ttp_world.specs.declared.node.Ack.TheVariants as ack
-use Rattle.ttp_world.specs.declared.node.ChannelView.{ChannelView}
-use Rattle.ttp_world.specs.declared.node.ChannelView.TheVariants as view
-use Rattle.ttp_world.specs.declared.node.Entry.TheVariants as entry
 use Rattle.ttp_world.specs.declared.node.Verdict.{Verdict}
 use Rattle.ttp_world.specs.declared.node.Verdict.TheVariants as verdict
 use Rattle.ttp_world.specs.Acknowledgement.{is_correct}
-use Rattle.ttp_world.specs.After.{judged_members, ack_answered}
+use Rattle.ttp_world.specs.After.{judged_members}
 use Rattle.ttp_world.specs.Counts.{is_rejection}
-use Rattle.ttp_world.specs.Reception.{better_view, verdict_of_view, verdict_of}
-use Rattle.ttp_world.proofs.Pasts.{ack_of-cons}
 use Rattle.ack_check.specs.declared.moves.AckMove.{AckMove}
 use Rattle.ack_check.specs.declared.moves.AckMove.TheVariants.{Accept, Reject, Hold, Resolve, Leave}
-use Rattle.ack_check.specs.StandsFor.{StandsAfterJudged}
-use Rattle.ack_check.specs.Moves.{moved_members, adds_accepted, adds_rejected, taken_verdict, move_of, IsDoubtElsewhere}
+use Rattle.ack_check.specs.Moves.{moved_members, adds_accepted, adds_rejected, move_of, IsDoubtElsewhere}
 use Rattle.ack_check.specs.Moves.{IsMoveOf}
-
--- The acknowledgement.
-
-pub StandsAfterJudged-answered : (a : Ack) (sender : ℕ) (v : Verdict) → StandsAfterJudged a (ack_answered a v sender) sender v
-StandsAfterJudged-answered a sender v diary deviation active stands =
-    ap (λ b. ack_answered b v sender) stands ∙ sym (ack_of-cons diary (entry.Judged sender v deviation) active)
 
 -- Leaving.
 
@@ -85,7 +73,8 @@ rejects-move_of a verdict.Invalid = refl
 
 -- Members.
 
-settled_test : (sent doubted held : Bool) → (sent ≡ true → doubted ≡ false) → ((sent || held) && not doubted) ≡ (sent || (not doubted && held))
+settled_test : (sent doubted held : Bool) → (sent ≡ true → doubted ≡ false)
+    → ((sent || held) && not doubted) ≡ (sent || (not doubted && held))
 settled_test true true held apart = absurd (false≢true (sym (apart refl)))
 settled_test true false held apart = refl
 settled_test false true true apart = refl
@@ -104,15 +93,20 @@ without_node-with members sender x other =
     apart : (j : ℕ) → (j == sender) ≡ true → (j == x) ≡ false
     apart j sent = ne_eqb j x (λ doubted. other (sym doubted ∙ eqb-true j sender sent))
 
-    each : (j : ℕ) → j < most_nodes → (((j == sender) || has_node members j) && not (j == x)) ≡ ((j == sender) || has_node (without_node members x) j)
+    each : (j : ℕ) → j < most_nodes
+        → (((j == sender) || has_node members j) && not (j == x))
+        ≡ ((j == sender) || has_node (without_node members x) j)
     each j within =
-        settled_test (j == sender) (j == x) (has_node members j) (apart j) ∙ ap (λ b. (j == sender) || b) (sym (has_node-without members x j))
+        settled_test (j == sender) (j == x) (has_node members j) (apart j)
+        ∙ ap (λ b. (j == sender) || b) (sym (has_node-without members x j))
 
-moved_members-move_of : (a : Ack) (v : Verdict) (sender : ℕ) (members : List ℕ) → v ≢ verdict.Denied → IsDoubtElsewhere a sender
+moved_members-move_of : (a : Ack) (v : Verdict) (sender : ℕ) (members : List ℕ) → v ≢ verdict.Denied
+    → IsDoubtElsewhere a sender
     → moved_members (move_of a v) members sender ≡ judged_members members a v sender
 moved_members-move_of ack.Closed verdict.Correct sender members stays elsewhere = refl
 moved_members-move_of ack.First verdict.Correct sender members stays elsewhere = refl
-moved_members-move_of (ack.Doubt x) verdict.Correct sender members stays elsewhere = without_node-with members sender x elsewhere
+moved_members-move_of (ack.Doubt x) verdict.Correct sender members stays elsewhere =
+    without_node-with members sender x elsewhere
 moved_members-move_of a verdict.Tentative sender members stays elsewhere = refl
 moved_members-move_of a verdict.Denied sender members stays elsewhere = absurd (stays refl)
 moved_members-move_of a verdict.Null sender members stays elsewhere = refl
@@ -126,26 +120,3 @@ IsMoveOf-move_of a v sender = record {
   rejects = rejects-move_of a v;
   members = moved_members-move_of a v sender;
 }
-
--- Verdicts.
-
-taken-view : (v : ChannelView) (a : Ack) → taken_verdict a (verdict_of_view v a) ≡ verdict_of_view v a
-taken-view view.First ack.Closed = refl
-taken-view view.First ack.First = refl
-taken-view view.First (ack.Doubt x) = refl
-taken-view view.Second ack.Closed = refl
-taken-view view.Second ack.First = refl
-taken-view view.Second (ack.Doubt x) = refl
-taken-view view.Other ack.Closed = refl
-taken-view view.Other ack.First = refl
-taken-view view.Other (ack.Doubt x) = refl
-taken-view view.Bad ack.Closed = refl
-taken-view view.Bad ack.First = refl
-taken-view view.Bad (ack.Doubt x) = refl
-taken-view view.Silent ack.Closed = refl
-taken-view view.Silent ack.First = refl
-taken-view view.Silent (ack.Doubt x) = refl
-
--- the verdict of two views is one that the acknowledgement can have
-pub taken-verdict_of : (x y : ChannelView) (a : Ack) → taken_verdict a (verdict_of x y a) ≡ verdict_of x y a
-taken-verdict_of x y a = taken-view (better_view x y) a

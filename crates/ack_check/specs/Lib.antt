@@ -1,2 +1,2 @@
-pub mod StandsFor
+pub mod AboutNode
 pub mod Moves

@@ -12,10 +12,9 @@
 //! let settled = state.step(5, Verdict::Correct);      // AckMove::Resolve { other: 4 }
 //! ```
 //!
-//! A state stands for a node's diary by the acknowledgement that `ack_of` of `ttp_world` reads from it:
-//! whatever diary it stood for, it stands after each call for that with the node's entry of the slot
-//! more. An [`AckMove`] is what the verdict asks of the node's members and counts; `specs/Moves.antt`
-//! says what each means.
+//! What a verdict makes of a state is `ack_answered` of `ttp_world`, by which one more entry changes the
+//! acknowledgement that is read of a diary. An [`AckMove`] is what the verdict asks of the node's
+//! members and counts; `specs/Moves.antt` says what each means.
 //!
 //! The crate sends and hears nothing, holds no members and counts no frames. It takes no memory, and
 //! answers at all states and verdicts.

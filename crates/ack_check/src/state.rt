@@ -1,12 +1,10 @@
 //! What a node knows of its own newest frame.
-ghost use Rattle.std.specs.Prelude.{◌≡◌, ◌<◌, ◌↔◌, ℤ, IsTrue, IsNone, not, []};
+ghost use Rattle.std.specs.Prelude.{◌≡◌, ◌<◌, ◌↔◌, IsNone};
 ghost use Rattle.ttp_base.specs.NodeSet.{most_nodes};
 ghost use Rattle.ttp_world.specs.Acknowledgement.{is_open};
 ghost use Rattle.ttp_world.specs.After.{ack_answered};
-ghost use Rattle.ttp_world.specs.Diary.{Diary, is_active};
 ghost use Rattle.ttp_world.specs.Reception.{candidates};
-ghost use Rattle.ack_check.specs.StandsFor.{IsAboutNode, StandsFor, StandsAfterSent, StandsAfterStarted};
-ghost use Rattle.ack_check.specs.StandsFor.{StandsAfterJoined, StandsAfterJudged};
+ghost use Rattle.ack_check.specs.AboutNode.{IsAboutNode};
 ghost use Rattle.ack_check.specs.Moves.{taken_verdict, move_of, IsMoveOf, IsNodeMove};
 
 use crate::moves::AckMove;
@@ -16,8 +14,8 @@ use ttp_world::{Ack, Verdict};
 
 /// What a node knows of its own newest frame.
 ///
-/// Contracts see it as an acknowledgement, whose doubt is about a node number below 24. A copy stands
-/// for the same diaries, and goes on by itself.
+/// Contracts see it as an acknowledgement, whose doubt is about a node number below 24. A copy goes on
+/// by itself.
 #[derive(Clone, Copy, Debug, PartialEq, Eq)]
 pub struct AckState {
     ack: Ack,
@@ -25,7 +23,7 @@ pub struct AckState {
 
 impl Model for AckState {
     ghost use Rattle.ttp_world.specs.declared.node.Ack.{Ack};
-    ghost use Rattle.ack_check.specs.StandsFor.{IsAboutNode};
+    ghost use Rattle.ack_check.specs.AboutNode.{IsAboutNode};
 
     ghost Value = { Ack };
 
@@ -75,18 +73,14 @@ fn ack_answered(ack: Ack, verdict: Verdict, sender: u8) -> Ack
 impl AckState {
     /// A closed acknowledgement: that of a node that is not active, and of one that has just joined.
     pub fn new() -> AckState
-        ensures value { result ≡ Ack.Closed }
-        ensures idle { (diary : Diary) → IsTrue (not (is_active diary)) → StandsFor result diary }
-        ensures joined { StandsAfterJoined result }
+        ensures { result ≡ Ack.Closed }
     {
         AckState { ack: Ack::Closed }
     }
 
     /// The node has sent a frame, or its cold start.
     pub fn after_send(&mut self)
-        ensures value { self.new ≡ Ack.First }
-        ensures sent { StandsAfterSent self.old self.new }
-        ensures started { StandsAfterStarted self.new }
+        ensures { self.new ≡ Ack.First }
     {
         self.ack = Ack::First;
     }
@@ -135,7 +129,6 @@ impl AckState {
     pub fn step(&mut self, sender: u8, verdict: Verdict) -> AckMove
         requires { sender < most_nodes }
         ensures value { self.new ≡ ack_answered self.old (taken_verdict self.old verdict) sender }
-        ensures stands { StandsAfterJudged self.old self.new sender (taken_verdict self.old verdict) }
         ensures moves { result ≡ move_of self.old (taken_verdict self.old verdict) }
         ensures means { IsMoveOf result self.old (taken_verdict self.old verdict) sender }
         ensures other { IsNodeMove result }

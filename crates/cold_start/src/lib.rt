@@ -11,10 +11,11 @@
 //! }
 //! ```
 //!
-//! It stands for how many of the last slots, one after the other, were slots in which the node listened
-//! and both channels were silent, as `ttp_world` reads that from a diary: each slot heard makes of it
-//! what one more entry of a waiting node makes. It is due exactly where these are as many as its limit,
-//! or more, for however long it listens.
+//! It counts how many of the last slots, one after the other, were slots in which the node listened and
+//! both channels were silent: each slot heard makes of the count what `silent_slots_after` of
+//! `ttp_world` makes of it by one more entry of a waiting node, but that it stops at 65535. No limit is
+//! greater, so it is due exactly where these are as many as its limit, or more, for however long it
+//! listens.
 //!
 //! The crate judges no frame: which are joinable, and what noise is, is for the layer above to say. It
 //! takes no memory, and answers at all arguments.

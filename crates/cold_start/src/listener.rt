@@ -1,7 +1,8 @@
 //! How long it has been silent.
-ghost use Rattle.std.specs.Prelude.{◌≡◌, ◌↔◌, nat_le};
-ghost use Rattle.ttp_world.specs.declared.node.CState.{CState as CStateValue};
-ghost use Rattle.cold_start.specs.StandsFor.{StandsFor, IsDueExactly, StandsAfterHeard, StandsAfterWaited, listen_move};
+ghost use Rattle.std.specs.Prelude.{◌≡◌, min, nat_le};
+ghost use Rattle.ttp_world.specs.declared.node.Entry.TheVariants as entry;
+ghost use Rattle.ttp_world.specs.After.{silent_slots_after};
+ghost use Rattle.cold_start.specs.Listening.{most_silent, is_silent, listen_move};
 
 use crate::heard::{Heard, ListenMove};
 use std::marker::Model;
@@ -30,7 +31,7 @@ impl Listener {
     /// A node that begins to listen, and waits for so many silent slots.
     pub fn new(limit: u16) -> Listener
         ensures limit { result.limit ≡ limit }
-        ensures stands { StandsFor result 0 }
+        ensures silent { result.silent_slots ≡ 0 }
     {
         Listener {
             limit,
@@ -40,8 +41,7 @@ impl Listener {
 
     /// Whether the last `limit` slots or more were silent.
     pub fn due(&self) -> bool
-        ensures value { result ≡ nat_le self.now.limit self.now.silent_slots }
-        ensures exact { IsDueExactly self.now result }
+        ensures { result ≡ nat_le self.now.limit self.now.silent_slots }
     {
         self.silent_slots >= self.limit
     }
@@ -49,10 +49,9 @@ impl Listener {
     /// Takes what the node heard in one more slot. It joins exactly where that is a C-state.
     pub fn hear(&mut self, heard: Heard) -> ListenMove
         ensures limit { self.new.limit ≡ self.old.limit }
-        ensures stands { StandsAfterHeard self.old self.new heard }
-        ensures waited { StandsAfterWaited self.old self.new heard }
+        ensures silent { self.new.silent_slots
+            ≡ min (silent_slots_after self.old.silent_slots entry.Waited (is_silent heard)) most_silent }
         ensures value { result ≡ listen_move heard }
-        ensures joins { (c : CStateValue) → (result ≡ ListenMove.Join c) ↔ (heard ≡ Heard.Explicit c) }
     {
         self.silent_slots = match heard {
             Heard::Silent => self.silent_slots.saturating_add(1),

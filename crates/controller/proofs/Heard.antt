@@ -1,11 +1,42 @@
--- Whatever comes to a node shows some signals.
-use Rattle.std.proofs.Common.{◌≡◌, ℕ, zero, suc, ℤ, refl}
+-- What a node hears, judges and delivers, by what comes to it.
+use Rattle.std.proofs.Common.{◌≡◌, ℕ, zero, suc, ℤ, refl, ◌+ℤ◌, ◌-ℤ◌, List, ap, sym, subst, ◌<◌, pos, Bool, true}
+use Rattle.std.proofs.Common.{length, Option, Some, None, unwrap_or, ◌∙◌, false, not, cond, IfSome}
+use Rattle.std.specs.Borrow.{Bor}
+use Rattle.std.specs.Option.{option_or}
+use Rattle.std.specs.Prelude.{◌==◌}
+use Rattle.std.proofs.lemmas.Bool.{ne_eqb}
+use Rattle.ttp_world.specs.declared.medl.Medl.{Medl}
+use Rattle.ttp_world.specs.declared.node.Ack.{Ack}
+use Rattle.ttp_world.specs.declared.node.CState.{CState}
+use Rattle.ttp_world.specs.declared.node.ChannelView.{ChannelView}
+use Rattle.ttp_world.specs.declared.node.ChannelView.TheVariants.{First}
+use Rattle.ttp_world.specs.declared.node.Entry.{Entry}
+use Rattle.ttp_world.specs.declared.node.Entry.TheVariants as entry
+use Rattle.ttp_world.specs.declared.node.Verdict.{Verdict}
+use Rattle.ttp_world.specs.declared.node.Verdict.TheVariants.{Correct}
+use Rattle.ttp_world.specs.Act.{coming_place}
+use Rattle.ttp_world.specs.Conduct.{carries_payload, delivery, judging_entry, payload_taken, verdict_entry, join_entry}
+use Rattle.ttp_world.specs.Conduct.{channel_join, listening_entry}
+use Rattle.ttp_world.specs.Diary.{Place}
+use Rattle.ttp_world.specs.Fitting.{joinable}
 use Rattle.ttp_world.specs.Medium.{Signal, Silence, Noise, Bits, is_silence}
+use Rattle.ttp_world.specs.Membership.{AreNodes}
+use Rattle.ttp_world.specs.Past.{NodePast}
+use Rattle.ttp_world.specs.Reception.{Expected, Hearing, candidates, entry_deviation, expected_of, heard_deviation}
+use Rattle.ttp_world.specs.Reception.{is_first_view, is_taken_from_a, verdict_of, view_of, expected_length}
+use Rattle.ttp_world.specs.Reception.{payload_heard}
+use Rattle.medium.specs.Shows.{Shows}
 use Rattle.medium.specs.declared.arrival.Arrival.{Arrival}
 use Rattle.medium.specs.declared.arrival.Arrival.TheVariants as arrival
-use Rattle.medium.specs.Shows.{Shows}
-use Rattle.controller.specs.Hearing.{is_silent_arrival}
+use Rattle.controller.specs.declared.hearing.Judgement.{Judgement}
+use Rattle.controller.specs.declared.hearing.Receiver.{Receiver}
+use Rattle.controller.specs.declared.hearing.Seen.{Seen}
+use Rattle.controller.specs.Hearing.{is_silent_arrival, ForSignals, deviation_by, IsReceiver, Receives, awaited_by}
+use Rattle.controller.specs.Hearing.{IsSeen, IsJudgement}
 use Rattle.controller.specs.Limits.{offset_of_arrival}
+use Rattle.controller.specs.Within.{IsAckWithin, IsWithin}
+
+-- Whatever comes to a node shows some signals.
 
 -- as sent by this node
 abbrev pub signal_from : ℕ → Arrival → Signal
@@ -29,7 +60,8 @@ shows_b a arrival.Noise = refl
 shows_b a (arrival.Bits bytes offset) = (refl, refl)
 
 -- silence is told of what came
-pub silence-shown : (came : Arrival) (sent : Signal) (clock : ℕ → ℤ) → Shows came sent clock → is_silent_arrival came ≡ is_silence sent
+pub silence-shown : (came : Arrival) (sent : Signal) (clock : ℕ → ℤ) → Shows came sent clock
+    → is_silent_arrival came ≡ is_silence sent
 silence-shown arrival.Silence Silence clock shows = refl
 silence-shown arrival.Noise Silence clock shows = cc
 silence-shown (arrival.Bits bytes offset) Silence clock shows = cc
@@ -39,3 +71,207 @@ silence-shown (arrival.Bits bytes offset) Noise clock shows = cc
 silence-shown arrival.Silence (Bits sender bytes) clock shows = absurd shows
 silence-shown arrival.Noise (Bits sender bytes) clock shows = absurd shows
 silence-shown (arrival.Bits came offset) (Bits sender bytes) clock shows = refl
+
+-- What came on a channel tells what was heard there.
+
+-- silence and noise show themselves alone
+silence-shows : (P : Signal → (ℕ → ℤ) → Type 0) (own error : ℤ) → ((deviation : ℕ → ℤ) → P Silence deviation)
+    → ForSignals arrival.Silence own error P
+silence-shows P own error here Silence clock shows = here (deviation_by clock own error)
+silence-shows P own error here Noise clock shows = cc
+silence-shows P own error here (Bits sender sent) clock shows = absurd shows
+
+noise-shows : (P : Signal → (ℕ → ℤ) → Type 0) (own error : ℤ) → ((deviation : ℕ → ℤ) → P Noise deviation)
+    → ForSignals arrival.Noise own error P
+noise-shows P own error here Silence clock shows = cc
+noise-shows P own error here Noise clock shows = here (deviation_by clock own error)
+noise-shows P own error here (Bits sender sent) clock shows = absurd shows
+
+-- bits show themselves, and how late they are, by whatever node sent them
+bits-show : (P : Signal → (ℕ → ℤ) → Type 0) (own error : ℤ) (bytes : Bor (List ℕ)) (offset : ℤ)
+    → ((sender : ℕ) (deviation : ℕ → ℤ) → deviation sender ≡ (offset -ℤ own) +ℤ error
+    → P (Bits sender bytes.now) deviation)
+    → ForSignals (arrival.Bits bytes offset) own error P
+bits-show P own error bytes offset here Silence clock shows = cc
+bits-show P own error bytes offset here Noise clock shows = cc
+bits-show P own error bytes offset here (Bits sender sent) clock shows =
+    subst (λ (bs : List ℕ). P (Bits sender bs) (deviation_by clock own error)) shows.0
+    (here sender (deviation_by clock own error) (ap (λ (ahead : ℤ). (ahead -ℤ own) +ℤ error) (sym shows.1)))
+
+pub of_silence : (P : Signal → (ℕ → ℤ) → Type 0) (own error : ℤ) (came : Arrival) → came ≡ arrival.Silence
+    → ((deviation : ℕ → ℤ) → P Silence deviation) → ForSignals came own error P
+of_silence P own error came is here =
+    subst (λ (a : Arrival). ForSignals a own error P) (sym is) (silence-shows P own error here)
+
+pub of_noise : (P : Signal → (ℕ → ℤ) → Type 0) (own error : ℤ) (came : Arrival) → came ≡ arrival.Noise
+    → ((deviation : ℕ → ℤ) → P Noise deviation) → ForSignals came own error P
+of_noise P own error came is here =
+    subst (λ (a : Arrival). ForSignals a own error P) (sym is) (noise-shows P own error here)
+
+pub of_bits : (P : Signal → (ℕ → ℤ) → Type 0) (own error : ℤ) (came : Arrival) (bytes : Bor (List ℕ)) (offset : ℤ)
+    → came ≡ arrival.Bits bytes offset
+    → ((sender : ℕ) (deviation : ℕ → ℤ) → deviation sender ≡ (offset -ℤ own) +ℤ error
+    → P (Bits sender bytes.now) deviation)
+    → ForSignals came own error P
+of_bits P own error came bytes offset is here =
+    subst (λ (a : Arrival). ForSignals a own error P) (sym is) (bits-show P own error bytes offset here)
+
+-- Judgements: where channel A is seen as the first candidate, channel B changes nothing.
+
+-- The first candidate on channel A.
+
+first_is_correct : (b : ChannelView) (a : Ack) → Correct ≡ verdict_of First b a
+first_is_correct First a = refl
+first_is_correct _ a = refl
+
+first_is_taken : (b : ChannelView) → true ≡ is_taken_from_a First b
+first_is_taken First = refl
+first_is_taken _ = refl
+
+first_of_test : (v : ChannelView) → is_first_view v ≡ true → v ≡ First
+first_of_test First is = refl
+first_of_test _ is = cc
+
+-- of both deviations, that of channel A
+taken_deviation : (d : ℤ) (b : Option ℤ) → d ≡ entry_deviation true (Some d) b
+taken_deviation d None = refl
+taken_deviation d (Some b) = refl
+
+-- a frame that is seen so carried bits
+first_heard : (list : Medl) (e : Expected) (late : ℕ → ℤ) (sent : Signal) (b : Option ℤ)
+    → view_of list e late sent ≡ First
+    → unwrap_or (heard_deviation late sent) (pos 0) ≡ entry_deviation true (heard_deviation late sent) b
+first_heard list e late Silence b is = cc
+first_heard list e late Noise b is = cc
+first_heard list e late (Bits sender bytes) b is = taken_deviation (late sender) b
+
+pub IsJudgement-first : (list : Medl) (e : Expected) (a : Ack) (h : Hearing) (seen : Seen) (deviation : ℤ)
+    → IsSeen seen list e h.a h.deviation
+    → is_first_view seen.view ≡ true → deviation ≡ unwrap_or seen.deviation (pos 0)
+    → IsJudgement (record { verdict = Correct; deviation = deviation; from_a = true }) list e a h
+IsJudgement-first list e a h seen deviation is first late =
+    let view_a : view_of list e h.deviation h.a ≡ First = sym is.view ∙ first_of_test seen.view first in
+    let view_b = view_of list e h.deviation h.b in
+    record {
+      verdict = subst (λ (v : ChannelView). Correct ≡ verdict_of v view_b a) (sym view_a) (first_is_correct view_b a);
+      deviation =
+          late ∙ ap (λ (o : Option ℤ). unwrap_or o (pos 0)) is.deviation
+          ∙ first_heard list e h.deviation h.a (heard_deviation h.deviation h.b) view_a
+          ∙ ap (λ (taken : Bool). entry_deviation taken (heard_deviation h.deviation h.a)
+          (heard_deviation h.deviation h.b))
+          (first_is_taken view_b ∙ ap (λ (v : ChannelView). is_taken_from_a v view_b) (sym view_a));
+      from_a = sym (ap is_first_view view_a);
+    }
+
+-- Both channels.
+
+pub IsJudgement-both : (list : Medl) (e : Expected) (a : Ack) (h : Hearing) (seen_a seen_b : Seen) (found : Judgement)
+    → IsSeen seen_a list e h.a h.deviation → IsSeen seen_b list e h.b h.deviation
+    → found.verdict ≡ verdict_of seen_a.view seen_b.view a
+    → found.deviation ≡ entry_deviation (is_taken_from_a seen_a.view seen_b.view) seen_a.deviation seen_b.deviation
+    → found.from_a ≡ is_first_view seen_a.view
+    → IsJudgement found list e a h
+IsJudgement-both list e a h seen_a seen_b found is_a is_b verdict deviation from_a = record {
+  verdict = verdict ∙ (λ i. verdict_of (is_a.view i) (is_b.view i) a);
+  deviation = deviation
+      ∙ (λ i. entry_deviation (is_taken_from_a (is_a.view i) (is_b.view i)) (is_a.deviation i) (is_b.deviation i));
+  from_a = from_a ∙ ap is_first_view is_a.view;
+}
+
+-- What a receiver expects is what the node expects by its past.
+
+received : (list : Medl) (past : NodePast) (receiver : Receiver) → Receives list past receiver
+    → awaited_by receiver ≡ expected_of list receiver.number past
+received list past receiver is = λ i. record {
+  place = is.coming.place i;
+  candidates = candidates (is.ack i) receiver.number (is.members i) (is.coming.place i).slot;
+}
+
+pub IsJudgement-received : (list : Medl) (past : NodePast) (receiver : Receiver) (h : Hearing) (found : Judgement)
+    (e : Expected) (a : Ack)
+    → Receives list past receiver → e ≡ awaited_by receiver → a ≡ receiver.ack → IsJudgement found list e a h
+    → IsJudgement found list (expected_of list receiver.number past) past.ack h
+IsJudgement-received list past receiver h found e a is expects acks judges =
+    subst (λ (x : Expected). IsJudgement found list x past.ack h) (expects ∙ received list past receiver is)
+    (subst (λ (x : Ack). IsJudgement found list e x h) (acks ∙ is.ack) judges)
+
+-- and such a receiver is within the list where the node's past is
+pub IsReceiver-within : (list : Medl) (k : ℕ) (past : NodePast) (receiver : Receiver) → k < length list.slots
+    → receiver.number ≡ k → IsWithin list k past
+    → Receives list past receiver → IsReceiver list receiver
+IsReceiver-within list k past receiver node number within is = record {
+  number = subst (λ (n : ℕ). n < length list.slots) (sym number) node;
+  coming = record { place = refl; rounds = is.coming.rounds; slots = is.coming.slots };
+  doubt = λ x doubts. (subst (IsAckWithin list k past.place.slot) (sym is.ack ∙ doubts) within.ack).0;
+  members = subst (AreNodes list) (sym is.members) within.members;
+}
+
+-- What a correct verdict delivers.
+
+-- the payload is that of channel A where A's frame is of the first candidate, and else that of B
+pub payload_from_a : (list : Medl) (e : Expected) (h : Hearing) (place : Place) (payload : List ℕ) → place ≡ e.place
+    → payload ≡ payload_heard list place h.a
+    → true ≡ is_first_view (view_of list e h.deviation h.a) → payload ≡ payload_taken list e h
+payload_from_a list e h place payload at heard first =
+    heard ∙ ap (λ (p : Place). payload_heard list p h.a) at
+    ∙ ap (λ (b : Bool). cond b (payload_heard list e.place h.a) (payload_heard list e.place h.b)) first
+
+pub payload_from_b : (list : Medl) (e : Expected) (h : Hearing) (place : Place) (payload : List ℕ) → place ≡ e.place
+    → payload ≡ payload_heard list place h.b
+    → false ≡ is_first_view (view_of list e h.deviation h.a) → payload ≡ payload_taken list e h
+payload_from_b list e h place payload at heard other =
+    heard ∙ ap (λ (p : Place). payload_heard list p h.b) at
+    ∙ ap (λ (b : Bool). cond b (payload_heard list e.place h.a) (payload_heard list e.place h.b)) other
+
+-- a frame of some length carries payload
+pub carries_some : (list : Medl) (place there : Place) (size : ℕ) → (size ≡ 0 → ⊥) → size ≡ expected_length list place
+    → place ≡ there
+    → true ≡ carries_payload list there
+carries_some list place there size some is at =
+    sym (ap not (ne_eqb size 0 some)) ∙ ap (λ (n : ℕ). not (n == 0)) (is ∙ ap (expected_length list) at)
+
+pub delivered_correct : (list : Medl) (k : ℕ) (past : NodePast) (h : Hearing) (found : Judgement) (sender : ℕ)
+    (payload : List ℕ)
+    → IsJudgement found list (expected_of list k past) past.ack h → found.verdict ≡ Correct
+    → true ≡ carries_payload list (coming_place list past)
+    → sender ≡ (coming_place list past).slot → payload ≡ payload_taken list (expected_of list k past) h
+    → Some (record { sender = sender; payload = payload }) ≡ delivery list k past h (judging_entry list k past h)
+delivered_correct list k past h found sender payload is correct carries sends taken =
+    let e = expected_of list k past in
+    let view_a = view_of list e h.deviation h.a in
+    let view_b = view_of list e h.deviation h.b in
+    let late = entry_deviation (is_taken_from_a view_a view_b) (heard_deviation h.deviation h.a)
+    (heard_deviation h.deviation h.b) in
+    let slot = (coming_place list past).slot in
+    (λ i. Some (record { sender = sends i; payload = taken i }))
+    ∙ ap (λ (b : Bool). cond b (Some (record { sender = slot; payload = payload_taken list e h })) None) carries
+    ∙ ap (λ (v : Verdict). delivery list k past h (verdict_entry slot v late)) (sym correct ∙ is.verdict)
+
+-- A listening node delivers nothing.
+
+abbrev DeliversNone : Medl → ℕ → NodePast → Hearing → Entry → Type 0
+DeliversNone list k past h e = delivery list k past h e ≡ None
+
+first_none : (list : Medl) (k : ℕ) (past : NodePast) (h : Hearing) (x y : Option Entry)
+    → IfSome x (DeliversNone list k past h) → IfSome y (DeliversNone list k past h)
+    → DeliversNone list k past h (unwrap_or (option_or x y) entry.Waited)
+first_none list k past h None None p q = refl
+first_none list k past h None (Some e) p q = q
+first_none list k past h (Some e) y p q = p
+
+join_none : (list : Medl) (k : ℕ) (past : NodePast) (h : Hearing) (deviation : ℤ) (c : Option CState)
+    → IfSome (join_entry deviation c) (DeliversNone list k past h)
+join_none list k past h deviation None = tt
+join_none list k past h deviation (Some c) = refl
+
+channel_none : (list : Medl) (k : ℕ) (past : NodePast) (h : Hearing) (signal : Signal)
+    → IfSome (channel_join list h.deviation signal) (DeliversNone list k past h)
+channel_none list k past h Silence = tt
+channel_none list k past h Noise = tt
+channel_none list k past h (Bits sender bytes) = join_none list k past h (h.deviation sender) (joinable list bytes)
+
+pub listening-none : (list : Medl) (k : ℕ) (past : NodePast) (h : Hearing)
+    → delivery list k past h (listening_entry list h) ≡ None
+listening-none list k past h =
+    first_none list k past h (channel_join list h.deviation h.a) (channel_join list h.deviation h.b)
+    (channel_none list k past h h.a) (channel_none list k past h h.b)

@@ -1,28 +1,16 @@
-mod Arrivals
-mod Candidates
-pub mod Corrections
-pub mod Course
-mod Deliveries
-mod Joinable
-mod Judgements
-pub mod Kept
+pub mod Clocks
+pub mod Heard
+pub mod InSlot
+pub mod MadeEntries
 pub mod Near
-mod NextEntry
-mod Endings
-mod Heard
-mod Landing
-pub mod SlotEnd
-pub mod SlotStands
-pub mod OneNode
+pub mod Parts
 pub mod Passed
 pub mod Payloads
-pub mod Rooms
 pub mod SendingLaws
-pub mod Silence
-pub mod SlotEnds
-pub mod SlotSends
+pub mod Sends
+pub mod Sets
+pub mod Standing
 pub mod StatusLaws
 pub mod Stints
-pub mod Turns
+mod Walks
 pub mod WholeSlot
-pub mod Within

@@ -16,13 +16,14 @@ use Rattle.controller.specs.Passes.{payload_handed}
 use Rattle.controller.specs.StandsFor.{Stands, seat_past, payload_planned}
 use Rattle.controller.specs.Turn.{Begun, Seat}
 
--- the payload that is handed to a node is as long as it asks for, where the payload that is chosen is as long as the list says
+-- the payload that is handed to a node is as long as it asks for, where that which is chosen for a frame that carries
+-- payload is as long as the list says
 pub length-payload_handed : (list : Medl) (k : ℕ) (wanted : Intent) (chosen : Chosen)
-    → length chosen.payload ≡ loaded_length list k intent.Loaded
+    → (wanted ≡ intent.Loaded → length chosen.payload ≡ loaded_length list k intent.Loaded)
     → length (payload_handed wanted chosen) ≡ loaded_length list k wanted
 length-payload_handed list k intent.Quiet chosen whole = refl
 length-payload_handed list k intent.Bare chosen whole = refl
-length-payload_handed list k intent.Loaded chosen whole = whole
+length-payload_handed list k intent.Loaded chosen whole = whole refl
 
 -- and it is the one that the node's frame carries
 
@@ -43,7 +44,7 @@ payload_by-intent list past chosen Send = carried_or (carries_payload list (comi
 payload_by-intent list past chosen Judge = refl
 
 -- what is kept of a past says the same of it
-intent_by-kept : (list : Medl) (past : NodePast) (a : Act) → intent_by list (kept past) a ≡ intent_by list past a
+pub intent_by-kept : (list : Medl) (past : NodePast) (a : Act) → intent_by list (kept past) a ≡ intent_by list past a
 intent_by-kept list past Off = refl
 intent_by-kept list past Gone = refl
 intent_by-kept list past Listen = refl

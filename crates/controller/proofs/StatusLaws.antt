@@ -21,22 +21,29 @@ both-at p holds false = (and_parts (p true) (p false) holds).1
 
 abbrev flags_word : Bool → Bool → Bool → Bool → Bool → Bool → Bool → Bool → ℕ
 flags_word a b c d e f g h =
-    bit_or (bit_or (bit_or (bit_or (bit_or (bit_or (bit_or (bit_or 0 (flag 1 a)) (flag 2 b)) (flag 4 c)) (flag 8 d)) (flag 16 e)) (flag 32 f)) (flag 64 g)) (flag 128 h)
+    bit_or (bit_or (bit_or
+    (bit_or (bit_or (bit_or (bit_or (bit_or 0 (flag 1 a)) (flag 2 b)) (flag 4 c)) (flag 8 d)) (flag 16 e)) (flag 32 f))
+    (flag 64 g)) (flag 128 h)
 
 abbrev flags_sum : Bool → Bool → Bool → Bool → Bool → Bool → Bool → Bool → ℕ
-flags_sum a b c d e f g h = flag 1 a + (flag 2 b + (flag 4 c + (flag 8 d + (flag 16 e + (flag 32 f + (flag 64 g + flag 128 h))))))
+flags_sum a b c d e f g h =
+    flag 1 a + (flag 2 b + (flag 4 c + (flag 8 d + (flag 16 e + (flag 32 f + (flag 64 g + flag 128 h))))))
 
 abbrev is_sum : Bool → Bool → Bool → Bool → Bool → Bool → Bool → Bool → Bool
 is_sum a b c d e f g h = flags_word a b c d e f g h == flags_sum a b c d e f g h
 
-all_sums : both (λ a. both (λ b. both (λ c. both (λ d. both (λ e. both (λ f. both (λ g. both (λ h. is_sum a b c d e f g h)))))))) ≡ true
+all_sums : both (λ a. both
+    (λ b. both (λ c. both (λ d. both (λ e. both (λ f. both (λ g. both (λ h. is_sum a b c d e f g h)))))))) ≡ true
 all_sums = refl
 
 pub flags_word-sum : (a b c d e f g h : Bool) → flags_word a b c d e f g h ≡ flags_sum a b c d e f g h
 flags_word-sum a b c d e f g h =
-    let at_a = both-at (λ a. both (λ b. both (λ c. both (λ d. both (λ e. both (λ f. both (λ g. both (λ h. is_sum a b c d e f g h)))))))) all_sums a in
-    let at_b = both-at (λ b. both (λ c. both (λ d. both (λ e. both (λ f. both (λ g. both (λ h. is_sum a b c d e f g h))))))) at_a b in
-    let at_c = both-at (λ c. both (λ d. both (λ e. both (λ f. both (λ g. both (λ h. is_sum a b c d e f g h)))))) at_b c in
+    let at_a = both-at (λ a. both
+    (λ b. both (λ c. both (λ d. both (λ e. both (λ f. both (λ g. both (λ h. is_sum a b c d e f g h)))))))) all_sums a in
+    let at_b = both-at (λ b. both
+    (λ c. both (λ d. both (λ e. both (λ f. both (λ g. both (λ h. is_sum a b c d e f g h))))))) at_a b in
+    let at_c = both-at (λ c. both (λ d. both (λ e. both (λ f. both (λ g. both (λ h. is_sum a b c d e f g h)))))) at_b
+    c in
     let at_d = both-at (λ d. both (λ e. both (λ f. both (λ g. both (λ h. is_sum a b c d e f g h))))) at_c d in
     let at_e = both-at (λ e. both (λ f. both (λ g. both (λ h. is_sum a b c d e f g h)))) at_d e in
     let at_f = both-at (λ f. both (λ g. both (λ h. is_sum a b c d e f g h))) at_e f in

@@ -1,10 +1,18 @@
--- A stint after one more entry, field by field.
-use Rattle.std.proofs.Common.{◌≡◌, ◌≢◌, ℕ, ◌<◌, min, ℤ, ◌+ℤ◌, Bool, true, false, cond, ◌||◌, ◌++◌, List, [], length}
-use Rattle.std.proofs.Common.{take, Option, Some, None, refl, ap, sym, subst, ◌∙◌, arith}
-use Rattle.std.specs.Prelude.{◌==◌}
+-- What an entry makes of an active node's past: it stays within the numbers of the list.
+use Rattle.std.proofs.Common.{◌≡◌, ◌≢◌, ℕ, suc, ◌+◌, ◌-◌, ◌*◌, ◌%◌, ◌<◌, ◌≤◌, ℤ, pos, Bool, true, false, cond, List, []}
+use Rattle.std.proofs.Common.{◌++◌, length, take, Option, Some, None, mod-lt, refl, sym, subst, ◌∙◌, ap, inl, inr}
+use Rattle.std.proofs.Common.{arith, min, ◌+ℤ◌, ◌||◌}
+use Rattle.std.specs.List.{filter}
 use Rattle.std.specs.Option.{option_to_list}
+use Rattle.std.specs.Prelude.{◌==◌, nat_lt, All, IfSome}
 use Rattle.std.proofs.Math.Bool.{or-true, or-false}
-use Rattle.std.proofs.lemmas.Bool.{cond-true, cond-false}
+use Rattle.std.proofs.lemmas.Bool.{cond_both, cases_lt, cond-true, cond-false, lt-ltb, le-ltb, eqb-false, eqb-true}
+use Rattle.std.proofs.lemmas.Int.{ints}
+use Rattle.std.proofs.lemmas.List.{length-take}
+use Rattle.std.proofs.lemmas.List.Elements.{All-nil, All-cons, All-take}
+use Rattle.ttp_base.proofs.NodeLists.{filter-none}
+use Rattle.ttp_base.proofs.NodeSets.{same_sieve, has_node-sieve}
+use Rattle.ttp_base.specs.NodeSet.{below, has_node}
 use Rattle.ttp_world.specs.declared.medl.Medl.{Medl}
 use Rattle.ttp_world.specs.declared.node.Ack.{Ack}
 use Rattle.ttp_world.specs.declared.node.Ack.TheVariants as ack
@@ -13,24 +21,283 @@ use Rattle.ttp_world.specs.declared.node.Entry.TheVariants as entry
 use Rattle.ttp_world.specs.declared.node.Verdict.{Verdict}
 use Rattle.ttp_world.specs.declared.node.Verdict.TheVariants as verdict
 use Rattle.ttp_world.specs.Acknowledgement.{is_correct}
-use Rattle.ttp_world.specs.After.{place_after, members_after, accepted_after, rejected_after, ack_after}
-use Rattle.ttp_world.specs.After.{cold_start_after, limit_after, silent_slots_after, notes_after, correction_after}
-use Rattle.ttp_world.specs.After.{past_after}
-use Rattle.ttp_world.specs.Clock.{slot_change}
-use Rattle.ttp_world.specs.Diary.{Place, SlotSurroundings, next_place, phase_after}
+use Rattle.ttp_world.specs.After.{ack_answered, past_after, place_after, members_after, accepted_after, rejected_after}
+use Rattle.ttp_world.specs.After.{ack_after, cold_start_after, limit_after, silent_slots_after, notes_after}
+use Rattle.ttp_world.specs.After.{correction_after}
+use Rattle.ttp_world.specs.Clock.{is_corrected, slot_change}
+use Rattle.ttp_world.specs.Counts.{is_rejection}
+use Rattle.ttp_world.specs.Diary.{Place, start_place, joined_place, next_place, Diary, SlotSurroundings, phase_after}
 use Rattle.ttp_world.specs.Medl.{IsValid, plan_at}
-use Rattle.ttp_world.specs.Past.{NodePast}
+use Rattle.ttp_world.specs.Membership.{AreNodes}
+use Rattle.ttp_world.specs.Past.{NodePast, retried_of, limit_of, no_past}
 use Rattle.ttp_world.proofs.Lists.{nodes-most}
 use Rattle.ttp_world.proofs.MemberSets.{members_after-Judged}
-use Rattle.ack_check.specs.declared.moves.AckMove.{AckMove}
 use Rattle.ack_check.specs.Moves.{moved_members, IsDoubtElsewhere, IsMoveOf}
-use Rattle.cold_start.specs.StandsFor.{most_silent}
+use Rattle.ack_check.specs.declared.moves.AckMove.{AckMove}
+use Rattle.cold_start.specs.Listening.{most_silent}
 use Rattle.fta_sync.specs.StandsFor.{kept_notes}
 use Rattle.controller.specs.Kept.{kept}
 use Rattle.controller.specs.Stint.{stint_after}
-use Rattle.controller.specs.Within.{IsAckWithin, IsWithin, IsJudgedWithin}
-use Rattle.controller.proofs.Kept.{correction_after-take}
-use Rattle.controller.proofs.Within.{doubt_elsewhere, IsPlaceOf-next}
+use Rattle.controller.specs.Within.{slots_to_own, IsAckWithin, IsNearEnough, IsWithin, IsEntryWithin, IsJudgedWithin}
+use Rattle.ttp_world.proofs.Averages.{fta-take}
+
+-- How far a node's own slot is.
+
+to_own-before : (list : Medl) (k slot : ℕ) → slot < k → slots_to_own list k slot ≡ k - slot
+to_own-before list k slot less =
+    cond-true (nat_lt slot k) (k - slot) (length list.slots + k - slot) (lt-ltb slot k less)
+
+to_own-after : (list : Medl) (k slot : ℕ) → k ≤ slot → slots_to_own list k slot ≡ length list.slots + k - slot
+to_own-after list k slot more =
+    cond-false (nat_lt slot k) (k - slot) (length list.slots + k - slot) (le-ltb slot k more)
+
+-- at most a round
+to_own-round : (list : Medl) (k slot : ℕ) → k < length list.slots → slots_to_own list k slot ≤ length list.slots
+to_own-round list k slot node = elim (cases_lt slot k) [
+  | inl less ↦ omega (arith, to_own-before list k slot less)
+  | inr more ↦ omega (arith, to_own-after list k slot more)
+]
+
+-- one slot later it is one slot nearer, unless that slot is it
+nearer_by : (list : Medl) (k slot : ℕ) (last : Bool) → (suc slot == length list.slots) ≡ last → slot < length list.slots
+    → k < length list.slots
+    → cond last 0 (slot + 1) ≢ k → slots_to_own list k (cond last 0 (slot + 1)) + 1 ≡ slots_to_own list k slot
+nearer_by list k slot true last within node other =
+    let here = eqb-true (suc slot) (length list.slots) last in
+    let some : 0 < k = omega (arith, other) in
+    omega (arith, to_own-before list k 0 some, to_own-after list k slot (omega arith))
+nearer_by list k slot false inside within node other = elim (cases_lt slot k) [
+  | inl less ↦
+      let more : slot + 1 < k = omega (arith, other) in
+      omega (arith, to_own-before list k (slot + 1) more, to_own-before list k slot less)
+  | inr more ↦ omega (arith, to_own-after list k (slot + 1) (omega arith), to_own-after list k slot more)
+]
+
+next_slot-by : (list : Medl) (place : Place) (b : Bool)
+    → (cond {A = Place} b
+    (record { time = (place.time + 1) % 65536; round = (place.round + 1) % list.rounds; slot = 0 })
+    (record { time = (place.time + 1) % 65536; round = place.round; slot = place.slot + 1 })).slot
+    ≡ cond b 0 (place.slot + 1)
+next_slot-by list place true = refl
+next_slot-by list place false = refl
+
+next_slot-is : (list : Medl) (place : Place)
+    → (next_place list place).slot ≡ cond (suc place.slot == length list.slots) 0 (place.slot + 1)
+next_slot-is list place = next_slot-by list place (suc place.slot == length list.slots)
+
+nearer : (list : Medl) (k : ℕ) (place : Place) → place.slot < length list.slots → k < length list.slots
+    → (next_place list place).slot ≢ k
+    → slots_to_own list k (next_place list place).slot + 1 ≡ slots_to_own list k place.slot
+nearer list k place within node other =
+    let is = next_slot-is list place in
+    ap (λ slot. slots_to_own list k slot + 1) is
+    ∙ nearer_by list k place.slot (suc place.slot == length list.slots) refl within node (λ same. other (is ∙ same))
+
+-- a doubt is not about the coming sender
+pub doubt_elsewhere : (list : Medl) (k : ℕ) (place : Place) (x : ℕ) → place.slot < length list.slots
+    → k < length list.slots → (next_place list place).slot ≢ k
+    → slots_to_own list k place.slot ≤ slots_to_own list k x → x ≢ (next_place list place).slot
+doubt_elsewhere list k place x within node other since same =
+    omega (arith, since, nearer list k place within node other, ap (slots_to_own list k) same)
+
+-- Places.
+
+-- a place of the list's cycle
+pub record IsPlaceOf (list : Medl) (place : Place) : Type 0 where
+  pub round : place.round < list.rounds
+  pub slot : place.slot < length list.slots
+
+lt_of_ne : (m n : ℕ) → m ≤ n → m ≢ n → m < n
+lt_of_ne m n few other = omega arith
+
+pub IsPlaceOf-next : (list : Medl) (place : Place) → IsValid list → place.round < list.rounds
+    → place.slot < length list.slots → IsPlaceOf list (next_place list place)
+IsPlaceOf-next list place valid round slot =
+    let next : (place.round + 1) % list.rounds < list.rounds = mod-lt (place.round + 1) (omega (arith, valid.rounds)) in
+    cond_both (suc place.slot == length list.slots) _ _ (IsPlaceOf list)
+    (λ last. record { round = next; slot = omega (arith, valid.count) })
+    (λ inside. record {
+      round = round;
+      slot = lt_of_ne (place.slot + 1) (length list.slots) (omega (arith, slot))
+          (λ same. eqb-false (suc place.slot) (length list.slots) inside (omega arith));
+    })
+
+-- Sets.
+
+AreNodes-filter : (list : Medl) (p : ℕ → Bool) → AreNodes list (filter p (below (length list.slots)))
+AreNodes-filter list p =
+    let n = length list.slots in
+    same_sieve p (has_node (filter p (below n))) n (λ j within. sym (has_node-sieve p n j within))
+
+AreNodes-nil : (list : Medl) → AreNodes list []
+AreNodes-nil list = sym (filter-none (has_node []) 0 (length list.slots) (λ j _. refl))
+
+-- Acknowledgements.
+
+-- a doubt stays one about a node that had its slot
+IsAckWithin-later : (list : Medl) (k slot later : ℕ) (a : Ack) → slots_to_own list k later ≤ slots_to_own list k slot
+    → IsAckWithin list k slot a → IsAckWithin list k later a
+IsAckWithin-later list k slot later ack.Closed less within = tt
+IsAckWithin-later list k slot later ack.First less within = tt
+IsAckWithin-later list k slot later (ack.Doubt x) less within = (within.0, omega (arith, less, within.1))
+
+-- the sender that is judged is that of the slot
+ack_answered-within : (list : Medl) (k slot : ℕ) (a : Ack) (v : Verdict) → slot < length list.slots
+    → IsAckWithin list k slot a → IsAckWithin list k slot (ack_answered a v slot)
+ack_answered-within list k slot ack.Closed v exists within = tt
+ack_answered-within list k slot ack.First verdict.Correct exists within = tt
+ack_answered-within list k slot ack.First verdict.Tentative exists within = (exists, omega arith)
+ack_answered-within list k slot ack.First _ exists within = tt
+ack_answered-within list k slot (ack.Doubt x) verdict.Correct exists within = tt
+ack_answered-within list k slot (ack.Doubt x) verdict.Tentative exists within = (exists, omega arith)
+ack_answered-within list k slot (ack.Doubt x) _ exists within = within
+
+-- Notes.
+
+-- those of a slot, put before those of the round before it
+All-noted : (P : ℤ → Type 0) (sync begins : Bool) (noted : Option ℤ) (notes : List ℤ) → IfSome noted P → All P notes
+    → All P (cond sync (option_to_list noted) [] ++ cond begins [] notes)
+All-noted P true true (Some z) notes here before = All-cons P z [] here (All-nil P)
+All-noted P true false (Some z) notes here before = All-cons P z notes here before
+All-noted P true true None notes here before = All-nil P
+All-noted P true false None notes here before = before
+All-noted P false true noted notes here before = All-nil P
+All-noted P false false noted notes here before = before
+
+-- what is noted where a verdict is correct
+IfSome-cond : (P : ℤ → Type 0) (b : Bool) (z : ℤ) → (b ≡ true → P z) → IfSome (cond b (Some z) None) P
+IfSome-cond P true z holds = holds refl
+IfSome-cond P false z holds = tt
+
+pub zero_near : (list : Medl) → IsValid list → IsNearEnough list (pos 0)
+zero_near list valid = (omega (arith, ints, valid.window), omega (arith, ints, valid.window))
+
+-- the last four after a slot
+record AreFewNear (list : Medl) (notes : List ℤ) : Type 0 where
+  few : length notes ≤ kept_notes
+  near : All (IsNearEnough list) notes
+
+noted_near : (list : Medl) (slot : ℕ) (begins : Bool) (noted : Option ℤ) (notes : List ℤ)
+    → IfSome noted (IsNearEnough list) → All (IsNearEnough list) notes
+    → AreFewNear list (take kept_notes
+    (cond (plan_at list slot).sync (option_to_list noted) [] ++ cond begins [] notes))
+noted_near list slot begins noted notes here before =
+    let sync = (plan_at list slot).sync in
+    let new = cond sync (option_to_list noted) [] ++ cond begins [] notes in
+    record {
+      few = omega (arith, length-take 4 new);
+      near = All-take (IsNearEnough list) kept_notes new
+          (All-noted (IsNearEnough list) sync begins noted notes here before);
+    }
+
+-- One more entry.
+
+one_more : (b : Bool) (count : ℕ) → cond b 1 0 + count ≤ count + 1
+one_more true count = omega arith
+one_more false count = omega arith
+
+-- a node that is not active
+pub idle : (list : Medl) (k : ℕ) (past : NodePast) → IsValid list → k < length list.slots
+    → past.phase ≡ phase_after past.entry → past.place.round ≡ 0 → past.place.slot ≡ 0
+    → past.members ≡ [] → past.accepted ≡ 0 → past.rejected ≡ 0 → past.ack ≡ ack.Closed
+    → past.limit ≤ 3 * length list.slots → past.notes ≡ []
+    → IsWithin list k past
+idle list k past valid node phase round slot members accepted rejected acked limit notes =
+    let own = to_own-round list k past.place.slot node in
+    record {
+      phase = phase;
+      round = omega (arith, round, valid.rounds);
+      slot = omega (arith, slot);
+      members = subst (AreNodes list) (sym members) (AreNodes-nil list);
+      accepted = omega (arith, own, accepted);
+      rejected = omega (arith, own, rejected);
+      ack = subst (IsAckWithin list k past.place.slot) (sym acked) tt;
+      limit = limit;
+      few = omega (arith, ap length notes);
+      notes = subst (All (IsNearEnough list)) (sym notes) (All-nil (IsNearEnough list));
+    }
+
+-- an active node that has just sent or joined: its counts begin anew
+begun : (list : Medl) (k : ℕ) (past : NodePast) → k < length list.slots → past.phase ≡ phase_after past.entry
+    → IsPlaceOf list past.place
+    → AreNodes list past.members → past.accepted ≡ 1 → past.rejected ≡ 0 → IsAckWithin list k past.place.slot past.ack
+    → past.limit ≤ 3 * length list.slots
+    → AreFewNear list past.notes → IsWithin list k past
+begun list k past node phase place members accepted rejected acked limit notes =
+    let own = to_own-round list k past.place.slot node in
+    record {
+      phase = phase;
+      round = place.round;
+      slot = place.slot;
+      members = members;
+      accepted = omega (arith, own, accepted);
+      rejected = omega (arith, own, rejected);
+      ack = acked;
+      limit = limit;
+      few = notes.few;
+      notes = notes.near;
+    }
+
+pub no_past-within : (list : Medl) (k : ℕ) → IsValid list → k < length list.slots → IsWithin list k (no_past list k)
+no_past-within list k valid node =
+    idle list k (no_past list k) valid node refl refl refl refl refl refl refl (omega arith) refl
+
+-- with one more entry, a node's past stays within what it can keep of it
+pub kept_after-within : (list : Medl) (k : ℕ) (past : NodePast) (e : Entry) (s : SlotSurroundings) → IsValid list
+    → k < length list.slots
+    → IsWithin list k past → IsEntryWithin list k past e → IsWithin list k (kept (past_after list k past e s))
+kept_after-within list k past entry.Off s valid node within next =
+    idle list k _ valid node refl refl refl refl refl refl refl within.limit refl
+kept_after-within list k past entry.Waited s valid node within next =
+    idle list k _ valid node refl refl refl refl refl refl refl within.limit refl
+kept_after-within list k past entry.Retried s valid node within next =
+    idle list k _ valid node refl refl refl refl refl refl refl (omega arith) refl
+kept_after-within list k past entry.Gone s valid node within next =
+    idle list k _ valid node refl refl refl refl refl refl refl (omega arith) refl
+kept_after-within list k past (entry.Left why peer) s valid node within next =
+    idle list k _ valid node refl refl refl refl refl refl refl (omega arith) refl
+kept_after-within list k past entry.Started s valid node within next =
+    let first : IsPlaceOf list (start_place k) = record { round = omega (arith, valid.rounds); slot = node } in
+    begun list k _ node refl first (AreNodes-filter list _) refl refl tt within.limit
+    (noted_near list k _ (Some (pos 0)) past.notes (zero_near list valid) within.notes)
+kept_after-within list k past (entry.Joined sender cstate deviation) s valid node within next =
+    let first : IsPlaceOf list (joined_place cstate) = record { round = next.0.round; slot = next.0.slot } in
+    begun list k _ node refl first (AreNodes-filter list _) refl refl tt within.limit
+    (noted_near list cstate.slot _ (Some (pos 0)) past.notes (zero_near list valid) within.notes)
+kept_after-within list k past (entry.Sent message) s valid node within next =
+    let place = next_place list past.place in
+    begun list k _ node refl (IsPlaceOf-next list past.place valid within.round within.slot) (AreNodes-filter list _)
+    refl refl tt within.limit
+    (noted_near list place.slot _ (Some (pos 0)) past.notes (zero_near list valid) within.notes)
+kept_after-within list k past (entry.Judged sender v deviation) s valid node within next =
+    let place = next_place list past.place in
+    let exists = IsPlaceOf-next list past.place valid within.round within.slot in
+    let own = nearer list k past.place within.slot node (λ same. next.another (next.coming ∙ same)) in
+    let later = IsAckWithin-later list k past.place.slot place.slot past.ack (omega (arith, own)) within.ack in
+    let notes = noted_near list place.slot _ _ past.notes
+    (IfSome-cond (IsNearEnough list) (is_correct v) deviation next.near) within.notes in
+    record {
+      phase = refl;
+      round = exists.round;
+      slot = exists.slot;
+      members = AreNodes-filter list _;
+      accepted = omega (arith, own, within.accepted, one_more (is_correct v) past.accepted);
+      rejected = omega (arith, own, within.rejected, one_more (is_rejection past.ack v) past.rejected);
+      ack = subst (λ (x : ℕ). IsAckWithin list k place.slot (ack_answered past.ack v x)) (sym next.coming)
+          (ack_answered-within list k place.slot past.ack v exists.slot later);
+      limit = within.limit;
+      few = notes.few;
+      notes = notes.near;
+    }
+
+-- the limit that is read of any diary of node k
+limit-by : (b : Bool) (n k : ℕ) → k < n → cond b (n + k) (2 * n + k) ≤ 3 * n
+limit-by true n k node = omega arith
+limit-by false n k node = omega arith
+
+pub limit_of-within : (list : Medl) (k : ℕ) (diary : Diary) → k < length list.slots
+    → limit_of list k diary ≤ 3 * length list.slots
+limit_of-within list k diary node = limit-by (retried_of diary) (length list.slots) k node
 
 -- one past is another after an entry, as to its stint
 pub record IsStintAfter (list : Medl) (k : ℕ) (past : NodePast) (e : Entry) (after : NodePast) : Type 0 where
@@ -47,7 +314,8 @@ pub record IsStintAfter (list : Medl) (k : ℕ) (past : NodePast) (e : Entry) (a
   pub offset : after.offset ≡ past.offset
   pub notes : after.notes ≡ take kept_notes (notes_after list past.notes (place_after list k past.place e) e)
 
-stint_after-fields : (list : Medl) (k : ℕ) (past : NodePast) (e : Entry) (after : NodePast) → IsStintAfter list k past e after → after ≡ stint_after list k past e
+stint_after-fields : (list : Medl) (k : ℕ) (past : NodePast) (e : Entry) (after : NodePast)
+    → IsStintAfter list k past e after → after ≡ stint_after list k past e
 stint_after-fields list k past e after is = λ i. record {
   phase = is.phase i;
   entry = is.entry i;
@@ -64,27 +332,35 @@ stint_after-fields list k past e after is = λ i. record {
 }
 
 -- where the past is what a node's fields show
-pub stint_after-of : (list : Medl) (k : ℕ) (view past : NodePast) (e : Entry) (after : NodePast) → view ≡ past → IsStintAfter list k view e after → after ≡ stint_after list k past e
-stint_after-of list k view past e after shows is = subst (λ p. after ≡ stint_after list k p e) shows (stint_after-fields list k view e after is)
+pub stint_after-of : (list : Medl) (k : ℕ) (view past : NodePast) (e : Entry) (after : NodePast) → view ≡ past
+    → IsStintAfter list k view e after → after ≡ stint_after list k past e
+stint_after-of list k view past e after shows is =
+    subst (λ p. after ≡ stint_after list k p e) shows (stint_after-fields list k view e after is)
 
 -- Judged slots.
 
-doubt_of_another : (list : Medl) (k : ℕ) (place : Place) (a : Ack) → place.slot < length list.slots → k < length list.slots → (next_place list place).slot ≢ k
+doubt_of_another : (list : Medl) (k : ℕ) (place : Place) (a : Ack) → place.slot < length list.slots
+    → k < length list.slots → (next_place list place).slot ≢ k
     → IsAckWithin list k place.slot a → IsDoubtElsewhere a (next_place list place).slot
 doubt_of_another list k place ack.Closed slot node another within = tt
 doubt_of_another list k place ack.First slot node another within = tt
-doubt_of_another list k place (ack.Doubt x) slot node another within = doubt_elsewhere list k place x slot node another within.1
+doubt_of_another list k place (ack.Doubt x) slot node another within =
+    doubt_elsewhere list k place x slot node another within.1
 
 -- the move of a judgement leads to the members after it
-pub moved_members-after : (list : Medl) (k : ℕ) (past : NodePast) (sender : ℕ) (v : Verdict) (deviation : ℤ) (move : AckMove) → IsValid list → k < length list.slots
+pub moved_members-after : (list : Medl) (k : ℕ) (past : NodePast) (sender : ℕ) (v : Verdict) (deviation : ℤ)
+    (move : AckMove) → IsValid list → k < length list.slots
     → IsWithin list k past → IsJudgedWithin list k past sender v deviation → IsMoveOf move past.ack v sender
-    → moved_members move past.members sender ≡ members_after list k past.members past.ack (entry.Judged sender v deviation)
+    → moved_members move past.members sender
+    ≡ members_after list k past.members past.ack (entry.Judged sender v deviation)
 moved_members-after list k past sender v deviation move valid node within judged moves =
     let place = next_place list past.place in
     let another : place.slot ≢ k = λ same. judged.another (judged.coming ∙ same) in
-    let exists : sender < length list.slots = omega (arith, judged.coming, (IsPlaceOf-next list past.place valid within.round within.slot).slot) in
+    let exists : sender < length list.slots =
+    omega (arith, judged.coming, (IsPlaceOf-next list past.place valid within.round within.slot).slot) in
     moves.members past.members judged.stays
-    (subst (IsDoubtElsewhere past.ack) (sym judged.coming) (doubt_of_another list k past.place past.ack within.slot node another within.ack))
+    (subst (IsDoubtElsewhere past.ack) (sym judged.coming)
+    (doubt_of_another list k past.place past.ack within.slot node another within.ack))
     ∙ members_after-Judged list k past.members past.ack sender v deviation within.members exists (nodes-most list valid)
 
 -- Notes.
@@ -96,16 +372,13 @@ pub noted : (list : Medl) (slot there : ℕ) (told said : Option ℤ) (notes new
 noted list slot there told said notes new same says is =
     is
     ∙ (λ i. take 4 (cond (plan_at list (same i)).sync (option_to_list (says i)) [] ++ cond (same i == 0) [] notes))
-    ∙ ap (λ b. take 4 (cond (plan_at list there).sync (option_to_list said) [] ++ cond b [] notes)) (sym (or-false (there == 0)))
+    ∙ ap (λ b. take 4 (cond (plan_at list there).sync (option_to_list said) [] ++ cond b [] notes))
+    (sym (or-false (there == 0)))
 
 -- a verdict that is not correct
 is_correct-other : (v : Verdict) → v ≢ verdict.Correct → is_correct v ≡ false
 is_correct-other verdict.Correct other = absurd (other refl)
-is_correct-other verdict.Null other = refl
-is_correct-other verdict.Invalid other = refl
-is_correct-other verdict.Incorrect other = refl
-is_correct-other verdict.Tentative other = refl
-is_correct-other verdict.Denied other = refl
+is_correct-other _ other = refl
 
 pub not_noted : (v : Verdict) (deviation : ℤ) → v ≢ verdict.Correct → None ≡ cond (is_correct v) (Some deviation) None
 not_noted v deviation other = sym (cond-false (is_correct v) (Some deviation) None (is_correct-other v other))
@@ -122,22 +395,33 @@ noted-first list slot deviation notes begins =
     ap (λ (before : List ℤ). take 4 (cond (plan_at list slot).sync (option_to_list deviation) [] ++ before))
     (cond-same begins ∙ sym (cond-true ((slot == 0) || true) [] notes (or-true (slot == 0))))
 
+-- Corrections.
+
+-- the last four settle the correction
+pub correction_after-take : (list : Medl) (place : Place) (notes : List ℤ) (e : Entry)
+    → correction_after list place (take kept_notes notes) e ≡ correction_after list place notes e
+correction_after-take list place notes e =
+    ap (λ z. cond (is_corrected list (phase_after e) place) z (pos 0)) (fta-take notes)
+
 -- The whole past.
 
 -- a stint with its new entry, listening and clock
-pub entered : (list : Medl) (k : ℕ) (past : NodePast) (e : Entry) (s : SlotSurroundings) (stint : NodePast) (limit silent : ℕ) (offset : ℤ)
+pub entered : (list : Medl) (k : ℕ) (past : NodePast) (e : Entry) (s : SlotSurroundings) (stint : NodePast)
+    (limit silent : ℕ) (offset : ℤ)
     → stint ≡ stint_after list k past e
     → limit ≡ limit_after list k stint.limit e
     → silent ≡ min (silent_slots_after stint.silent_slots e s.is_silent) most_silent
     → offset ≡ stint.offset +ℤ slot_change e s (correction_after list stint.place stint.notes e)
-    → record stint { phase = phase_after e; entry = e; limit = limit; silent_slots = silent; offset = offset } ≡ kept (past_after list k past e s)
+    → record stint { phase = phase_after e; entry = e; limit = limit; silent_slots = silent; offset = offset }
+    ≡ kept (past_after list k past e s)
 entered list k past e s stint limit silent offset is =
     let after = past_after list k past e s in
     let P : NodePast → Type 0 = λ p.
     limit ≡ limit_after list k p.limit e
     → silent ≡ min (silent_slots_after p.silent_slots e s.is_silent) most_silent
     → offset ≡ p.offset +ℤ slot_change e s (correction_after list p.place p.notes e)
-    → record p { phase = phase_after e; entry = e; limit = limit; silent_slots = silent; offset = offset } ≡ kept after in
+    → record p { phase = phase_after e; entry = e; limit = limit; silent_slots = silent; offset = offset }
+    ≡ kept after in
     let corrected = correction_after-take list after.place after.notes e in
     subst P (sym is) (λ limits silents offsets.
     let clock = offsets ∙ ap (λ z. past.offset +ℤ slot_change e s z) corrected in

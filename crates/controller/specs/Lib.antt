@@ -7,8 +7,9 @@ pub mod Sending
 pub mod Limits
 pub mod Hearing
 pub mod StandsFor
-pub mod Ending
+pub mod Parts
 pub mod PlantView
 pub mod PlantWithin
 pub mod Passes
 pub mod PlantStands
+pub mod Ending

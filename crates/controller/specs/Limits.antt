@@ -1,5 +1,5 @@
 -- What a controller is asked for at each turn of a slot, so that its clock fits its number and its frame its list.
-use Rattle.std.specs.Prelude.{ℕ, ◌+◌, ◌^◌, ◌≤◌, max, ℤ, pos, ◌+ℤ◌, unsigned_abs, if◌then◌else◌}
+use Rattle.std.specs.Prelude.{ℕ, ◌+◌, ◌^◌, ◌≤◌, max, ℤ, pos, ◌+ℤ◌, unsigned_abs, Option, Some, None, if◌then◌else◌}
 use Rattle.ttp_world.specs.declared.medl.Medl.{Medl}
 use Rattle.ttp_world.specs.declared.node.Act.{Act}
 use Rattle.ttp_world.specs.declared.node.Act.TheVariants.{Start, Send}
@@ -30,7 +30,8 @@ offset_of_arrival (arrival.Bits bytes offset) = offset
 -- what is measured of what came stays within them, and so does a clock that joins by it
 abbrev pub ArrivalFits : Medl → ℤ → Arrival → ℤ → ℤ → Type 0
 ArrivalFits list own came error drift =
-    unsigned_abs own + unsigned_abs (offset_of_arrival came) + unsigned_abs error + unsigned_abs drift + unsigned_abs list.window ≤ most_clock
+    unsigned_abs own + unsigned_abs (offset_of_arrival came) + unsigned_abs error + unsigned_abs drift
+    + unsigned_abs list.window ≤ most_clock
 
 -- Turns.
 
@@ -70,6 +71,12 @@ turn_intent list past (Planned act jump message) = intent.Quiet
 abbrev pub seat_intent : Seat → Intent
 seat_intent seat = turn_intent seat.list seat.past seat.turn
 
+-- the message of this number goes into a frame with payload
+abbrev pub message_carried : Intent → ℕ → Option ℕ
+message_carried intent.Quiet number = None
+message_carried intent.Bare number = None
+message_carried intent.Loaded number = Some number
+
 -- how many bytes of payload node k's frame carries
 abbrev pub loaded_length : Medl → ℕ → Intent → ℕ
 loaded_length list k intent.Quiet = 0
@@ -84,10 +91,12 @@ payload_wanted seat = loaded_length seat.list seat.node (seat_intent seat)
 -- within these many microticks of 0 are a node's clock and those of the senders of what came
 abbrev pub most_ahead_of : Seat → Arrival → Arrival → ℕ
 most_ahead_of seat came_a came_b =
-    max (unsigned_abs (seat_clock seat)) (max (unsigned_abs (offset_of_arrival came_a)) (unsigned_abs (offset_of_arrival came_b)))
+    max (unsigned_abs (seat_clock seat))
+    (max (unsigned_abs (offset_of_arrival came_a)) (unsigned_abs (offset_of_arrival came_b)))
 
 -- A slot takes a clock no further from 0 than one of them is, but for a reading error, the drift and a correction,
 -- which is within the window.
 abbrev pub StaysNear : ℤ → Seat → Arrival → Arrival → ℤ → ℤ → Type 0
 StaysNear offset seat came_a came_b error drift =
-    unsigned_abs offset ≤ most_ahead_of seat came_a came_b + unsigned_abs error + unsigned_abs drift + unsigned_abs seat.list.window
+    unsigned_abs offset
+    ≤ most_ahead_of seat came_a came_b + unsigned_abs error + unsigned_abs drift + unsigned_abs seat.list.window

@@ -1,53 +1,74 @@
--- What each of the three passes over a plant's controllers makes of them in a slot, node by node.
-use Rattle.std.specs.Prelude.{◌≡◌, ℕ, ◌+◌, ◌<◌, ◌≤◌, ℤ, unsigned_abs, List, [], ◌++◌, length, get_or, slice_get, Option}
-use Rattle.std.specs.Prelude.{Some, None}
-use Rattle.std.specs.List.{flat_map}
-use Rattle.ttp_base.specs.NodeSet.{below}
-use Rattle.ttp_world.specs.declared.node.Act.{Act}
+-- What the three passes of a slot make of a cluster's controllers, in the words of the world's slot.
+use Rattle.std.specs.Prelude.{◌≡◌, ℕ, ◌<◌, ℤ, true, List, [], ◌∷◌, ◌++◌, length, min, Option, is_some}
+use Rattle.ttp_world.specs.declared.medl.Medl.{Medl}
 use Rattle.ttp_world.specs.declared.node.Chosen.{Chosen}
-use Rattle.ttp_world.specs.declared.script.Channel.TheVariants as channel
+use Rattle.ttp_world.specs.declared.node.Delivered.{Delivered}
 use Rattle.ttp_world.specs.declared.script.Script.{Script}
-use Rattle.ttp_world.specs.Conduct.{new_entry, delivery}
-use Rattle.ttp_world.specs.Diary.{Diary, Surroundings, SlotSurroundings}
-use Rattle.ttp_world.specs.Medium.{SentFrame, heard}
+use Rattle.ttp_world.specs.Conduct.{node_frames}
+use Rattle.ttp_world.specs.Diary.{History, diary_of, entry_of}
+use Rattle.ttp_world.specs.Medium.{SentFrame, surroundings_of}
 use Rattle.ttp_world.specs.Medl.{plan_at}
-use Rattle.ttp_world.specs.Script.{is_on, is_armed, jump_of, reading_error, drift_of}
-use Rattle.ttp_world.specs.World.{chosen_of}
+use Rattle.ttp_world.specs.Messages.{status_words}
+use Rattle.ttp_world.specs.Script.{jump_of}
+use Rattle.ttp_world.specs.World.{BegunSlot, jump_taken, node_of, node_past, slot_after, is_loaded, chosen_of, frames_in}
+use Rattle.ttp_world.specs.World.{delivered_in, row_in}
 use Rattle.medium.specs.Carried.{Carried}
 use Rattle.medium.specs.StandsFor as medium
 use Rattle.controller.specs.declared.controller.Intent.{Intent}
 use Rattle.controller.specs.declared.controller.Intent.TheVariants as intent
 use Rattle.controller.specs.declared.controller.Outcome.{Outcome}
-use Rattle.controller.specs.Hearing.{hearing_of}
-use Rattle.controller.specs.Limits.{IsBegun, IsPlanned, seat_clock}
-use Rattle.controller.specs.PlantWithin.{most_ahead, most_ahead_in, most_error}
-use Rattle.controller.specs.StandsFor.{Stands, IsSameSeat, Begins, seat_past, frames_planned, message_planned, IsPlan}
-use Rattle.controller.specs.StandsFor.{clock_begun, AreSurroundings, IsEnd}
-use Rattle.controller.specs.Turn.{Begun, Planned, Seat, Ended}
+use Rattle.controller.specs.Kept.{kept}
+use Rattle.controller.specs.Limits.{IsPlanned, seat_clock, seat_intent}
+use Rattle.controller.specs.Parts.{EachFrom}
+use Rattle.controller.specs.StandsFor.{StandsFor, IsSameSeat, message_planned, frames_planned, most_slots}
+use Rattle.controller.specs.Turn.{Turn, Begun, Planned, Seat}
 
--- The first: each controller begins the slot.
+-- Between two slots.
 
-pub record HasBegun (script : Script) (slot k : ℕ) (old new : Seat) : Type 0 where
-  pub same : IsSameSeat old new
-  pub begins : Begins old new (is_on script k slot) (is_armed script k slot) (jump_of script k slot)
-  pub turn : IsBegun new.turn
-  pub clock : unsigned_abs (seat_clock new) ≤ most_ahead_in slot
+-- node k's controller stands for its diary in a history, and for what came to the node from outside
+abbrev pub StandsAfter : Script → History → ℕ → Seat → Type 0
+StandsAfter script history k seat = StandsFor seat (diary_of history k) (surroundings_of script history k)
 
-pub record HaveBegun (script : Script) (slot : ℕ) (old new : List Seat) : Type 0 where
-  pub count : length new ≡ length old
-  pub each : (k : ℕ) (before after : Seat) → slice_get old k ≡ Some before → slice_get new k ≡ Some after
-      → HasBegun script slot k before after
+-- so do the controllers of the nodes from a first one on
+abbrev pub StandAfter : Script → History → ℕ → List Seat → Type 0
+StandAfter script history first seats = EachFrom first (StandsAfter script history) seats
 
--- the reading errors of the nodes in the slot
-pub record IsReadingError (script : Script) (slot k : ℕ) (error : ℤ) : Type 0 where
-  pub value : error ≡ reading_error script k slot
-  pub small : unsigned_abs error ≤ most_error
+-- In a slot.
 
-abbrev pub AreReadingErrors : Script → ℕ → ℕ → List ℤ → Type 0
-AreReadingErrors script slot nodes errors =
-    (k : ℕ) (error : ℤ) → k < nodes → slice_get errors k ≡ Some error → IsReadingError script slot k error
+-- A controller stands for node k of a slot that has begun, at this turn of it: it keeps the node's past.
+pub record StandsForNode (s : BegunSlot) (k : ℕ) (now : Turn) (seat : Seat) : Type 0 where
+  pub list : seat.list ≡ s.list
+  pub node : seat.node ≡ k
+  pub past : seat.past ≡ kept (node_of s k).past
+  pub slots : seat.slots ≡ min s.number most_slots
+  pub turn : seat.turn ≡ now
 
--- The second: each plans its frame, if it sends one, and that is put on the medium.
+-- by how much its clock jumped
+abbrev pub jump_begun : BegunSlot → ℕ → ℤ
+jump_begun s k = jump_taken (node_of s k).act (jump_of s.script k s.number)
+
+-- The first pass: each has begun the slot, with what its node does in it and its clock's jump.
+
+abbrev pub HasBegun : BegunSlot → ℕ → Seat → Type 0
+HasBegun s k seat = StandsForNode s k (Begun (node_of s k).act (jump_begun s k)) seat
+
+abbrev pub HaveBegun : BegunSlot → ℕ → List Seat → Type 0
+HaveBegun s first seats = EachFrom first (HasBegun s) seats
+
+-- The second: each has planned it, where this message is chosen for its node, and what it sends is on the medium.
+
+-- each node whose frame carries a message has one with as much payload as the list gives it
+abbrev pub AreChosen : BegunSlot → List Chosen → Type 0
+AreChosen s chosen =
+    (k : ℕ) → k < length s.list.slots → is_loaded s k ≡ true
+    → length (chosen_of chosen k).payload ≡ (plan_at s.list k).payload
+
+-- all controllers have begun the slot after some history, and the messages are chosen for it
+pub record MayPlan (list : Medl) (script : Script) (slot : ℕ) (seats : List Seat) (chosen : List Chosen) : Type 0 where
+  pub history : History
+  pub slot_is : length history ≡ slot
+  pub begun : HaveBegun (slot_after list script history) 0 seats
+  pub chosen_are : AreChosen (slot_after list script history) chosen
 
 -- the payload that is handed to a node that will send this
 abbrev pub payload_handed : Intent → Chosen → List ℕ
@@ -55,104 +76,92 @@ payload_handed intent.Quiet chosen = []
 payload_handed intent.Bare chosen = []
 payload_handed intent.Loaded chosen = chosen.payload
 
--- it has planned to send these bytes, or nothing, whatever diary it stood for
-pub record HasPlanned (chosen : Chosen) (old new : Seat) (bytes : Option (List ℕ)) : Type 0 where
+abbrev pub HasPlanned : BegunSlot → Chosen → ℕ → Seat → Type 0
+HasPlanned s chosen k seat =
+    StandsForNode s k
+    (Planned (node_of s k).act (jump_begun s k)
+    (message_planned s.list (node_of s k).past chosen (node_of s k).act)) seat
+
+abbrev pub HavePlanned : BegunSlot → List Chosen → ℕ → List Seat → Type 0
+HavePlanned s chosen first seats = EachFrom first (λ k seat. HasPlanned s (chosen_of chosen k) k seat) seats
+
+-- the frames that node k sends, where this message is chosen for it
+abbrev pub frames_by : BegunSlot → Chosen → ℕ → List SentFrame
+frames_by s chosen k = node_frames s.list k (node_of s k).past chosen (node_of s k).act
+
+-- the medium stands for frames that were sent in the slot, with the clocks of its nodes
+abbrev pub Carries : BegunSlot → List SentFrame → Carried → Type 0
+Carries s frames carried = medium.StandsFor carried s.script s.number frames (λ p. (node_of s p).clock)
+
+-- The third: each stands for its diary with the slot's entry, and leaves what its node's host is to get.
+
+-- what node r delivers in a slot in which these messages are chosen
+abbrev pub delivered_at : BegunSlot → List Chosen → ℕ → Option Delivered
+delivered_at s chosen r = delivered_in s (frames_in s chosen) r (entry_of (row_in s chosen) r)
+
+-- the payload that node k delivers, and its status after the slot
+pub record IsLeft (list : Medl) (script : Script) (history : History) (chosen : List Chosen) (k : ℕ)
+    (outcome : Outcome) : Type 0 where
+  pub delivered : outcome.delivered ≡ delivered_at (slot_after list script history) chosen k
+  pub status : outcome.status.words
+      ≡ status_words list (length history)
+      (node_past list script (row_in (slot_after list script history) chosen ∷ history) k)
+      (is_some (delivered_at (slot_after list script history) chosen k))
+
+abbrev pub AreLeft : Medl → Script → History → List Chosen → ℕ → List Outcome → Type 0
+AreLeft list script history chosen first outcomes = EachFrom first (IsLeft list script history chosen) outcomes
+
+-- the controllers and outcomes of the nodes from a first one on, after a slot
+pub record HaveEnded (list : Medl) (script : Script) (history : History) (chosen : List Chosen) (first : ℕ)
+    (seats : List Seat) (outcomes : List Outcome) : Type 0 where
+  pub stand : StandAfter script (row_in (slot_after list script history) chosen ∷ history) first seats
+  pub left : AreLeft list script history chosen first outcomes
+
+-- What each pass makes of one controller.
+
+-- whatever history of so many slots it stood for, it has begun the slot after it
+abbrev pub BeginsSlot : Medl → Script → ℕ → ℕ → Seat → Seat → Type 0
+BeginsSlot list script slot k old new =
+    (history : History) → length history ≡ slot → StandsAfter script history k old
+    → HasBegun (slot_after list script history) k new
+
+-- whatever slot it has begun, it has planned it, and sends these bytes, or nothing, by the message that is chosen
+abbrev pub PlansSlot : Seat → Seat → Chosen → Option (List ℕ) → Type 0
+PlansSlot old new chosen bytes =
+    (list : Medl) (script : Script) (history : History) (k : ℕ) →
+    let s = slot_after list script history in
+    k < length list.slots → HasBegun s k old
+    → HasPlanned s chosen k new × (frames_planned k bytes ≡ frames_by s chosen k)
+
+-- one of node k
+abbrev pub PlansIn : Medl → Script → ℕ → Chosen → Seat → Seat → Type 0
+PlansIn list script k chosen old new =
+    (history : History) → HasBegun (slot_after list script history) k old
+    → HasPlanned (slot_after list script history) chosen k new
+
+-- and what it sends is put on the medium
+abbrev pub PutsFrames : Medl → Script → ℕ → Seat → Chosen → Carried → Carried → Type 0
+PutsFrames list script k old chosen before after =
+    (history : History) (frames : List SentFrame) →
+    let s = slot_after list script history in
+    HasBegun s k old → Carries s frames before → Carries s (frames ++ frames_by s chosen k) after
+
+-- whatever slot it has planned, and whatever was chosen in it, if this medium carries the frames of that slot, it stands
+-- for its diary after it, and leaves what its host is to get
+abbrev pub EndsSlot : Medl → Script → Carried → ℕ → Seat → Seat → Outcome → Type 0
+EndsSlot list script carried k old new outcome =
+    (history : History) (chosen : List Chosen) →
+    let s = slot_after list script history in
+    HasPlanned s (chosen_of chosen k) k old → Carries s (frames_in s chosen) carried
+    → StandsAfter script (row_in s chosen ∷ history) k new × IsLeft list script history chosen k outcome
+
+-- where its frame carries a message, the one that is chosen has as much payload as the list gives its node
+abbrev pub IsPayloadFor : Seat → Chosen → Type 0
+IsPayloadFor seat chosen =
+    seat_intent seat ≡ intent.Loaded → length chosen.payload ≡ (plan_at seat.list seat.node).payload
+
+-- it stays the controller of its node, with the clock of the slot, and has planned
+pub record IsPlannedFrom (old new : Seat) : Type 0 where
   pub same : IsSameSeat old new
   pub clock : seat_clock new ≡ seat_clock old
-  pub plans : (diary : Diary) (surroundings : Surroundings) (a : Act) (jump : ℤ)
-      → Stands old diary surroundings (Begun a jump)
-      → IsPlan old new bytes diary surroundings a jump chosen
   pub turn : IsPlanned new.turn
-
--- whatever frames the one medium stands for, the other stands for these and what node k sends, whose clock is so far
--- ahead
-abbrev pub Puts : Script → ℕ → ℤ → Option (List ℕ) → Carried → Carried → Type 0
-Puts script k ahead bytes old new =
-    (slot : ℕ) (frames : List SentFrame) (clock : ℕ → ℤ) → ahead ≡ clock k
-    → medium.StandsFor old script slot frames clock
-    → medium.StandsFor new script slot (frames ++ frames_planned k bytes) clock
-
-pub record HasSent (script : Script) (k : ℕ) (chosen : Chosen) (old new : Seat) (before after : Carried) : Type 0 where
-  pub sent : Option (List ℕ)
-  pub plans : HasPlanned chosen old new sent
-  pub puts : Puts script k (seat_clock new) sent before after
-
--- one that can plan to send the message that is chosen for node k
-pub record MayPlan (k : ℕ) (chosen : Chosen) (seat : Seat) : Type 0 where
-  pub node : seat.node ≡ k
-  pub turn : IsBegun seat.turn
-  pub payload : length chosen.payload ≡ (plan_at seat.list k).payload
-
-abbrev pub AllMayPlan : List Chosen → List Seat → Type 0
-AllMayPlan chosen seats = (k : ℕ) (seat : Seat) → slice_get seats k ≡ Some seat → MayPlan k (chosen_of chosen k) seat
-
--- the frames of the first nodes, so many, by the bytes that each sends
-abbrev pub frames_sent : List (Option (List ℕ)) → ℕ → List SentFrame
-frames_sent sent nodes = flat_map (λ k. frames_planned k (get_or sent k None)) (below nodes)
-
--- the clock of each node is that of its controller
-abbrev pub AreClocks : List Seat → (ℕ → ℤ) → Type 0
-AreClocks seats clock = (k : ℕ) (seat : Seat) → slice_get seats k ≡ Some seat → seat_clock seat ≡ clock k
-
--- the medium stands for what they sent after what it stood for, where these are the clocks of those that sent
-abbrev pub Carries : Script → List Seat → Carried → Carried → List SentFrame → Type 0
-Carries script seats old new sent =
-    (slot : ℕ) (frames : List SentFrame) (clock : ℕ → ℤ) → AreClocks seats clock
-    → medium.StandsFor old script slot frames clock → medium.StandsFor new script slot (frames ++ sent) clock
-
-pub record HavePlanned (script : Script) (chosen : List Chosen) (old new : List Seat)
-    (before after : Carried) : Type 0 where
-  pub count : length new ≡ length old
-  -- what each node sends
-  pub sent : List (Option (List ℕ))
-  pub sent_count : length sent ≡ length old
-  pub each : (k : ℕ) (seat planned : Seat) (bytes : Option (List ℕ)) → slice_get old k ≡ Some seat
-      → slice_get new k ≡ Some planned
-      → slice_get sent k ≡ Some bytes → HasPlanned (chosen_of chosen k) seat planned bytes
-  pub carries : Carries script old before after (frames_sent sent (length old))
-
--- The third: each takes what it hears.
-
--- what is on the medium was sent by nodes whose clocks are within so much of 0
-pub record IsFromWithin (carried : Carried) (script : Script) (bound : ℕ) : Type 0 where
-  pub frames : List SentFrame
-  pub clock : ℕ → ℤ
-  pub stands : medium.StandsFor carried script carried.slot frames clock
-  pub near : (p : ℕ) → unsigned_abs (clock p) ≤ bound
-
--- one ends the slot by what it hears of the medium, whatever diary it stood for and whatever was sent
-abbrev pub EndsByMedium : Carried → Script → ℕ → ℤ → Seat → Seat → Outcome → Type 0
-EndsByMedium carried script k error old new outcome =
-    (diary : Diary) (surroundings : Surroundings) (a : Act) (jump : ℤ) (chosen : Chosen) (slot : ℕ)
-    (frames : List SentFrame) (clock : ℕ → ℤ) (s : SlotSurroundings) →
-    let past = seat_past old diary surroundings in
-    let h = hearing_of (heard script slot k channel.A frames) (heard script slot k channel.B frames) clock
-    (clock_begun past jump) error in
-    let e = new_entry old.list old.node past chosen h a in
-    Stands old diary surroundings (Planned a jump (message_planned old.list past chosen a))
-    → medium.StandsFor carried script slot frames clock → AreSurroundings s a jump (drift_of script k) h
-    → IsEnd old new outcome diary surroundings e s (delivery old.list old.node past h e)
-
-pub record HasEnded (carried : Carried) (script : Script) (k : ℕ) (error : ℤ) (old new : Seat)
-    (outcome : Outcome) : Type 0 where
-  pub same : IsSameSeat old new
-  pub ends : EndsByMedium carried script k error old new outcome
-  pub turn : new.turn ≡ Ended
-  pub clock : unsigned_abs new.past.offset ≤ most_ahead (carried.slot + 1)
-
--- one that can take what it hears
-pub record MayEnd (slot : ℕ) (seat : Seat) : Type 0 where
-  pub turn : IsPlanned seat.turn
-  pub clock : unsigned_abs (seat_clock seat) ≤ most_ahead_in slot
-  pub window : unsigned_abs seat.list.window ≤ 1000000
-
-abbrev pub AllMayEnd : ℕ → List Seat → Type 0
-AllMayEnd slot seats = (k : ℕ) (seat : Seat) → slice_get seats k ≡ Some seat → MayEnd slot seat
-
-pub record HaveEnded (carried : Carried) (script : Script) (errors : List ℤ) (old new : List Seat)
-    (outcomes : List Outcome) : Type 0 where
-  pub count : length new ≡ length old
-  pub each : (k : ℕ) (before after : Seat) (error : ℤ) (outcome : Outcome) → slice_get old k ≡ Some before
-      → slice_get new k ≡ Some after
-      → slice_get errors k ≡ Some error → slice_get outcomes k ≡ Some outcome
-      → HasEnded carried script k error before after outcome

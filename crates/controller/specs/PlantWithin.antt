@@ -1,11 +1,19 @@
--- What is so of a plant between two slots, whatever it stands for: it has a controller for each node, and no clock is
--- further from 0 than all that the script's limits allow so many slots.
-use Rattle.std.specs.Prelude.{◌≡◌, ℕ, ◌+◌, ◌*◌, ◌^◌, ◌≤◌, unsigned_abs, List, length, slice_get, Some}
+-- What is so of a cluster's controllers, whatever they stand for: whose they are, and that no clock is further from 0 than
+-- all that the script's limits allow so many slots.
+use Rattle.std.specs.Prelude.{◌≡◌, ℕ, ◌+◌, ◌*◌, ◌^◌, ◌≤◌, ℤ, unsigned_abs, List, length}
+use Rattle.ttp_world.specs.declared.events.Incidents.{Incidents}
 use Rattle.ttp_world.specs.declared.medl.Medl.{Medl}
+use Rattle.ttp_world.specs.declared.script.Script.{Script}
 use Rattle.ttp_world.specs.declared.script.TheConstants.{SLOT_LIMIT, EVENT_LIMIT, JUMP_LIMIT, ERROR_LIMIT}
+use Rattle.ttp_world.specs.Medium.{SentFrame}
 use Rattle.ttp_world.specs.Medl.{IsValid}
+use Rattle.ttp_world.specs.Script.{AreBounded, incidents_of}
+use Rattle.medium.specs.Carried.{Carried}
+use Rattle.medium.specs.StandsFor as medium
 use Rattle.controller.specs.declared.controller.Outcome.{Outcome}
-use Rattle.controller.specs.Turn.{Ended, Seat}
+use Rattle.controller.specs.Limits.{seat_clock}
+use Rattle.controller.specs.Parts.{EachFrom}
+use Rattle.controller.specs.Turn.{Turn, Ended, Seat}
 
 -- How far a clock may be from 0, in microticks.
 
@@ -28,19 +36,46 @@ most_error = EVENT_LIMIT * ERROR_LIMIT
 abbrev pub most_ahead_in : ℕ → ℕ
 most_ahead_in slot = most_ahead slot + most_jump
 
--- node k's controller after so many slots
-pub record IsSeatOf (l : Medl) (slot k : ℕ) (seat : Seat) : Type 0 where
+-- Controllers.
+
+abbrev pub IsEnded : Turn → Type 0
+IsEnded turn = turn ≡ Ended
+
+-- node k's controller, at a turn of which this holds, with its clock within so much of 0
+pub record IsSeatOf (l : Medl) (IsAt : Turn → Type 0) (bound k : ℕ) (seat : Seat) : Type 0 where
   pub list : seat.list ≡ l
   pub node : seat.node ≡ k
-  pub turn : seat.turn ≡ Ended
-  pub clock : unsigned_abs seat.past.offset ≤ most_ahead slot
+  pub turn : IsAt seat.turn
+  pub clock : unsigned_abs (seat_clock seat) ≤ bound
 
-pub record AreSeats (list : Medl) (slot : ℕ) (seats : List Seat) : Type 0 where
-  pub count : length seats ≡ length list.slots
-  pub each : (k : ℕ) (seat : Seat) → slice_get seats k ≡ Some seat → IsSeatOf list slot k seat
+-- those of the nodes from a first one on
+abbrev pub AreSeats : Medl → (Turn → Type 0) → ℕ → ℕ → List Seat → Type 0
+AreSeats list IsAt bound first seats = EachFrom first (IsSeatOf list IsAt bound) seats
 
-pub record IsPlantWithin (list : Medl) (slot : ℕ) (seats : List Seat) (outcomes : List Outcome) : Type 0 where
+-- The slot.
+
+-- what happens to node k in a slot
+pub record IsIncidentsOf (script : Script) (slot k : ℕ) (incidents : Incidents) : Type 0 where
+  pub value : incidents ≡ incidents_of script k slot
+  pub bounds : AreBounded incidents
+
+abbrev pub AreIncidents : Script → ℕ → ℕ → List Incidents → Type 0
+AreIncidents script slot first incidents = EachFrom first (IsIncidentsOf script slot) incidents
+
+-- what is on the medium was sent by nodes whose clocks are within so much of 0
+pub record IsFromWithin (carried : Carried) (script : Script) (bound : ℕ) : Type 0 where
+  pub frames : List SentFrame
+  pub clock : ℕ → ℤ
+  pub stands : medium.StandsFor carried script carried.slot frames clock
+  pub near : (p : ℕ) → unsigned_abs (clock p) ≤ bound
+
+-- The plant between two slots.
+
+pub record IsPlantWithin (list : Medl) (slot : ℕ) (seats : List Seat) (incidents : List Incidents)
+    (outcomes : List Outcome) : Type 0 where
   pub valid : IsValid list
   pub few : slot ≤ SLOT_LIMIT
-  pub are : AreSeats list slot seats
-  pub count : length outcomes ≡ length list.slots
+  pub count : length seats ≡ length list.slots
+  pub are : AreSeats list IsEnded (most_ahead slot) 0 seats
+  pub incidents_count : length incidents ≡ length list.slots
+  pub outcomes_count : length outcomes ≡ length list.slots

@@ -7,7 +7,8 @@ use Rattle.ttp_world.specs.Act.{act}
 use Rattle.ttp_world.specs.Medl.{IsValid}
 use Rattle.ttp_world.specs.Past.{NodePast}
 use Rattle.ttp_world.specs.World.{jump_taken}
-use Rattle.controller.specs.Limits.{most_clock, JumpFits}
+use Rattle.controller.specs.declared.controller.Intent.{Intent}
+use Rattle.controller.specs.Limits.{most_clock, JumpFits, turn_intent}
 use Rattle.controller.specs.StandsFor.{message_planned}
 use Rattle.controller.specs.Turn.{Turn, Ended, Begun, Planned}
 use Rattle.controller.specs.Within.{IsWithin}
@@ -25,7 +26,8 @@ pub record IsBegunWithin (list : Medl) (k : ℕ) (past : NodePast) (does : Act) 
   pub taken : jump ≡ jump_taken does jump
 
 -- and what its frame carries is of some message that was chosen for it
-pub record IsPlannedWithin (list : Medl) (k : ℕ) (past : NodePast) (does : Act) (jump : ℤ) (message : Option ℕ) : Type 0 where
+pub record IsPlannedWithin (list : Medl) (k : ℕ) (past : NodePast) (does : Act) (jump : ℤ)
+    (message : Option ℕ) : Type 0 where
   pub begun : IsBegunWithin list k past does jump
   pub chosen : Chosen
   pub carries : message ≡ message_planned list past chosen does
@@ -35,10 +37,11 @@ IsTurnWithin list k past Ended = Unit {0}
 IsTurnWithin list k past (Begun does jump) = IsBegunWithin list k past does jump
 IsTurnWithin list k past (Planned does jump message) = IsPlannedWithin list k past does jump message
 
--- node k's controller
-pub record IsSeatWithin (list : Medl) (k : ℕ) (past : NodePast) (now : Turn) : Type 0 where
+-- node k's controller, which keeps what its next plan sends
+pub record IsSeatWithin (list : Medl) (k : ℕ) (past : NodePast) (now : Turn) (sends : Intent) : Type 0 where
   pub valid : IsValid list
   pub node : k < length list.slots
   pub within : IsWithin list k past
   pub clock : unsigned_abs past.offset ≤ most_clock
   pub turn : IsTurnWithin list k past now
+  pub intent : sends ≡ turn_intent list past now

@@ -8,4 +8,5 @@ use Rattle.ttp_world.specs.Medl.{member_width, kind_at}
 -- that of a sender which holds these members, with this payload
 abbrev pub frame_at : Medl → Place → List ℕ → List ℕ → List ℕ
 frame_at list place members payload =
-    frame (member_width list) (header_of (kind_at list place.round place.slot)) (cstate_at place members) payload list.schedule
+    frame (member_width list) (header_of (kind_at list place.round place.slot)) (cstate_at place members) payload
+    list.schedule

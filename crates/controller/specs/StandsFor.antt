@@ -53,7 +53,8 @@ act_begun seat diary surroundings on armed = act seat.list seat.node on armed (s
 abbrev pub Begins : Seat → Seat → Bool → Bool → ℤ → Type 0
 Begins old new on armed jump =
     (diary : Diary) (surroundings : Surroundings) → StandsFor old diary surroundings
-    → Stands new diary surroundings (Begun (act_begun old diary surroundings on armed) (jump_taken (act_begun old diary surroundings on armed) jump))
+    → Stands new diary surroundings
+    (Begun (act_begun old diary surroundings on armed) (jump_taken (act_begun old diary surroundings on armed) jump))
 
 -- Sending.
 
@@ -71,12 +72,15 @@ abbrev pub payload_planned : Medl → NodePast → Chosen → Act → List ℕ
 payload_planned list past chosen Send = payload_sent list (coming_place list past) chosen
 payload_planned list past chosen _ = []
 
-pub record IsPlan (old new : Seat) (planned : Option (List ℕ)) (diary : Diary) (surroundings : Surroundings) (a : Act) (jump : ℤ) (chosen : Chosen) : Type 0 where
+pub record IsPlan (old new : Seat) (planned : Option (List ℕ)) (diary : Diary) (surroundings : Surroundings) (a : Act)
+    (jump : ℤ) (chosen : Chosen) : Type 0 where
   pub frames : frames_planned old.node planned
       ≡ node_frames old.list old.node (seat_past old diary surroundings) chosen a
-  pub stands : Stands new diary surroundings (Planned a jump (message_planned old.list (seat_past old diary surroundings) chosen a))
+  pub stands : Stands new diary surroundings
+      (Planned a jump (message_planned old.list (seat_past old diary surroundings) chosen a))
 
--- whatever diary it stood for, and whatever was chosen, if it has this number and, where the frame carries payload, this one
+-- whatever diary it stood for, and whatever was chosen, if it has this number and, where the frame carries payload,
+-- this one
 abbrev pub Plans : Seat → Seat → ℕ → List ℕ → Option (List ℕ) → Type 0
 Plans old new number payload planned =
     (diary : Diary) (surroundings : Surroundings) (a : Act) (jump : ℤ) (chosen : Chosen)
@@ -99,7 +103,8 @@ pub record AreSurroundings (s : SlotSurroundings) (a : Act) (jumped drifts : ℤ
 
 -- what a slot ends with: the diary has the entry of the world for what was heard, and the surroundings what came from
 -- outside; what is delivered and the status are those of the world
-pub record IsEnd (old new : Seat) (outcome : Outcome) (diary : Diary) (surroundings : Surroundings) (e : Entry) (s : SlotSurroundings) (handed : Option Delivered) : Type 0 where
+pub record IsEnd (old new : Seat) (outcome : Outcome) (diary : Diary) (surroundings : Surroundings) (e : Entry)
+    (s : SlotSurroundings) (handed : Option Delivered) : Type 0 where
   pub stands : StandsFor new (e ∷ diary) (s ∷ surroundings)
   pub delivered : outcome.delivered ≡ handed
   pub status : length diary ≤ most_slots
@@ -110,7 +115,8 @@ pub record IsEnd (old new : Seat) (outcome : Outcome) (diary : Diary) (surroundi
 -- with the slot's entry
 abbrev pub Ends : Seat → Seat → Outcome → Arrival → Arrival → ℤ → ℤ → Type 0
 Ends old new outcome came_a came_b error drift =
-    (diary : Diary) (surroundings : Surroundings) (a : Act) (jump : ℤ) (chosen : Chosen) (sent_a sent_b : Signal) (clock : ℕ → ℤ) (s : SlotSurroundings) →
+    (diary : Diary) (surroundings : Surroundings) (a : Act) (jump : ℤ) (chosen : Chosen) (sent_a sent_b : Signal)
+    (clock : ℕ → ℤ) (s : SlotSurroundings) →
     let past = seat_past old diary surroundings in
     let h = hearing_of sent_a sent_b clock (clock_begun past jump) error in
     let e = new_entry old.list old.node past chosen h a in

@@ -53,7 +53,8 @@ pub record IsCStateWithin (list : Medl) (cstate : CState) : Type 0 where
   pub members : AreNodes list cstate.members
 
 -- node k may judge its coming slot so, and stay
-pub record IsJudgedWithin (list : Medl) (k : ℕ) (past : NodePast) (sender : ℕ) (v : Verdict) (deviation : ℤ) : Type 0 where
+pub record IsJudgedWithin (list : Medl) (k : ℕ) (past : NodePast) (sender : ℕ) (v : Verdict)
+    (deviation : ℤ) : Type 0 where
   pub coming : sender ≡ (coming_place list past).slot
   pub another : sender ≢ k
   pub stays : v ≢ verdict.Denied

@@ -1,5 +1,5 @@
 //! A controller: one node, slot by slot.
-ghost use Rattle.std.specs.Prelude.{◌≡◌, ◌&&◌, ◌<◌, ◌≤◌, ◌+◌, [], length, unsigned_abs, IfOk};
+ghost use Rattle.std.specs.Prelude.{◌≡◌, ◌&&◌, ◌<◌, ◌≤◌, ◌+◌, [], length, unsigned_abs, IsOk, IfOk};
 ghost use Rattle.ttp_world.specs.Medl.{IsValid};
 ghost use Rattle.ttp_world.specs.World.{jump_taken};
 ghost use Rattle.controller.specs.Hearing.{is_silent_arrival};
@@ -9,6 +9,7 @@ ghost use Rattle.controller.specs.StandsFor.{StandsFor, IsSameSeat, Begins, Plan
 ghost use Rattle.controller.specs.Turn.{Ended};
 
 use crate::ending::ending_of;
+use crate::given_list::GivenList;
 use crate::node::{Node, Outside};
 use crate::sending::{frame_of, intent_of, message_of};
 use crate::status::status_words;
@@ -60,14 +61,17 @@ fn are_silent(a: &Arrival, b: &Arrival) -> bool
 ///
 /// It keeps a packed state and no diary, and *stands for* a diary of its node: what it keeps is what
 /// the definitions read of that diary. In each slot `begin`, `plan` and `take` are called once, in
-/// this order; after them it stands for the diary with one entry more.
+/// this order; after them it stands for the diary with one entry more. It keeps no list either: each
+/// call is handed the one that the controller was made with.
 #[derive(Drop)]
 pub struct Controller {
-    list: Medl,
+    given: GivenList,
     number: u8,
     node: Node,
     slots: u64,
     turn: Turn,
+    // What the next plan sends.
+    intent: Intent,
 }
 
 impl Model for Controller {
@@ -76,33 +80,42 @@ impl Model for Controller {
 
     ghost Value = { Seat };
 
-    ghost view = { λ c. record { list = c.list; node = c.number; past = c.node; slots = c.slots; turn = c.turn } };
+    ghost view = { λ c. record {
+      list = c.given.list;
+      node = c.number;
+      past = c.node;
+      slots = c.slots;
+      turn = c.turn;
+    } };
 
-    ghost invariant = { λ c. IsSeatWithin c.list c.number c.node c.turn };
+    ghost invariant = { λ c. IsSeatWithin c.given.list c.number c.node c.turn c.intent };
 }
 
 impl Controller {
-    /// The controller of a node that is off, before the first slot. Only this call takes memory: for
-    /// a copy of the list.
-    pub fn new(alloc: Global, list: &Medl, node: u8) -> Result<Controller, Memory>
+    /// The controller of a node that is off, before the first slot. It takes no memory, and is never
+    /// refused.
+    pub fn new(_alloc: Global, list: &Medl, node: u8) -> Result<Controller, Memory>
         requires valid { IsValid list.now }
         requires node { node < length list.now.slots }
+        ensures made { IsOk result }
         ensures list { IfOk result (λ c. c.list ≡ list.now) }
         ensures node { IfOk result (λ c. c.node ≡ node) }
         ensures stands { IfOk result (λ c. StandsFor c [] []) }
     {
         Ok(Controller {
-            list: list.copy(alloc)?,
+            given: GivenList::of(list),
             number: node,
             node: Node::new(list, node),
             slots: 0,
             turn: Turn::Ended,
+            intent: Intent::Quiet,
         })
     }
 
     /// The beginning of a slot, in which the node is to be on or not, is armed to listen again or
     /// not, and its clock jumps by so many microticks. A node that is on stays on.
-    pub fn begin(&mut self, on: bool, armed: bool, jump: i64)
+    pub fn begin(&mut self, list: &Medl, on: bool, armed: bool, jump: i64)
+        requires list { list.now ≡ self.old.list }
         requires turn { self.old.turn ≡ Ended }
         requires clock { JumpFits self.old.past.offset jump }
         ensures same { IsSameSeat self.old self.new }
@@ -110,22 +123,20 @@ impl Controller {
         ensures clock { unsigned_abs (seat_clock self.new) ≤ unsigned_abs self.old.past.offset + unsigned_abs jump }
         ensures turn { IsBegun self.new.turn }
     {
-        let act = self.node.act(&self.list, self.number, on, armed);
+        let act = self.node.act(list, self.number, on, armed);
+        self.intent = intent_of(list, self.number, &self.node, act);
         self.turn = Turn::Begun {
             act,
             jump: jump_taken(act, jump),
         };
     }
 
-    /// Whether this slot's `plan` sends nothing, a frame without payload, or one with payload.
+    /// Whether this slot's `plan` sends nothing, a frame without payload, or one with payload. It is
+    /// Quiet where no slot has begun, or its plan was made.
     pub fn intent(&self) -> Intent
-        requires { IsBegun self.now.turn }
         ensures { result ≡ seat_intent self.now }
     {
-        match self.turn {
-            Turn::Begun { act, .. } => intent_of(&self.list, self.number, &self.node, act),
-            Turn::Ended | Turn::Planned { .. } => Intent::Quiet,
-        }
+        self.intent
     }
 
     /// The node's clock in this slot, in microticks, with the slot's jump.
@@ -141,7 +152,8 @@ impl Controller {
 
     /// The frame that the node sends in this slot, if it sends one: with the message of this number
     /// and payload, where the intent is Loaded. The payload is empty otherwise.
-    pub fn plan(&mut self, message: u64, payload: &[u8]) -> Option<Outgoing>
+    pub fn plan(&mut self, list: &Medl, message: u64, payload: &[u8]) -> Option<Outgoing>
+        requires list { list.now ≡ self.old.list }
         requires turn { IsBegun self.old.turn }
         requires payload { length payload.now ≡ payload_wanted self.old }
         ensures same { IsSameSeat self.old self.new }
@@ -151,9 +163,10 @@ impl Controller {
     {
         match self.turn {
             Turn::Begun { act, jump } => {
-                let message = message_of(&self.list, self.number, &self.node, act, message);
+                let message = message_of(self.intent, message);
                 self.turn = Turn::Planned { act, jump, message };
-                frame_of(&self.list, self.number, &self.node, act, payload)
+                self.intent = Intent::Quiet;
+                frame_of(list, self.number, &self.node, act, payload)
             }
             Turn::Ended | Turn::Planned { .. } => None,
         }
@@ -161,24 +174,28 @@ impl Controller {
 
     /// The end of the slot, by what came on both channels. The reading error is that of the node as
     /// a receiver in this slot, and the drift that of its clock, in microticks. A node that sent,
-    /// left or retried in this slot hears nothing.
-    pub fn take(&mut self, a: &Arrival, b: &Arrival, error: i64, drift: i64) -> Outcome
+    /// left or retried in this slot hears nothing. What the slot leaves for the node's host is
+    /// written over what the slot before it left.
+    pub fn take(
+        &mut self,
+        list: &Medl,
+        a: &Arrival,
+        b: &Arrival,
+        error: i64,
+        drift: i64,
+        outcome: &mut Outcome,
+    )
+        requires list { list.now ≡ self.old.list }
         requires turn { IsPlanned self.old.turn }
         requires a { ArrivalFits self.old.list (seat_clock self.old) a.now error drift }
         requires b { ArrivalFits self.old.list (seat_clock self.old) b.now error drift }
         ensures same { IsSameSeat self.old self.new }
-        ensures ends { Ends self.old self.new result a.now b.now error drift }
+        ensures ends { Ends self.old self.new outcome.new a.now b.now error drift }
         ensures clock { StaysNear self.new.past.offset self.old a.now b.now error drift }
         ensures turn { self.new.turn ≡ Ended }
     {
-        match self.turn {
-            Turn::Planned { act, jump, message } => {
-                self.end(act, jump, message, a, b, error, drift)
-            }
-            Turn::Ended | Turn::Begun { .. } => Outcome {
-                delivered: None,
-                status: StatusWords { words: [0; 4] },
-            },
+        if let Turn::Planned { act, jump, message } = self.turn {
+            self.end(list, act, jump, message, a, b, error, drift, outcome);
         }
     }
 
@@ -186,6 +203,7 @@ impl Controller {
     // message so.
     fn end(
         &mut self,
+        list: &Medl,
         act: Act,
         jump: i64,
         message: Option<u64>,
@@ -193,18 +211,20 @@ impl Controller {
         b: &Arrival,
         error: i64,
         drift: i64,
-    ) -> Outcome
+        outcome: &mut Outcome,
+    )
+        requires list { list.now ≡ self.old.list }
         requires turn { self.old.turn ≡ Turn.Planned act jump message }
         requires a { ArrivalFits self.old.list (seat_clock self.old) a.now error drift }
         requires b { ArrivalFits self.old.list (seat_clock self.old) b.now error drift }
         ensures same { IsSameSeat self.old self.new }
-        ensures ends { Ends self.old self.new result a.now b.now error drift }
+        ensures ends { Ends self.old self.new outcome.new a.now b.now error drift }
         ensures clock { StaysNear self.new.past.offset self.old a.now b.now error drift }
         ensures turn { self.new.turn ≡ Ended }
     {
         let own = self.node.offset() + jump;
-        let ending = ending_of(
-            &self.list,
+        let entry = ending_of(
+            list,
             self.number,
             &self.node,
             act,
@@ -213,23 +233,18 @@ impl Controller {
             error,
             a,
             b,
+            &mut outcome.delivered,
         );
         let outside = Outside {
             jump,
             drift,
-            armed: false,
             silent: are_silent(a, b),
         };
-        self.node
-            .enter(&self.list, self.number, &ending.entry, &outside);
-        let delivers = ending.delivered.is_some();
-        let status = status_words(&self.list, self.number, self.slots, &self.node, delivers);
+        self.node.enter(list, self.number, &entry, &outside);
+        let delivers = outcome.delivered.is_some();
+        outcome.status = status_words(list, self.number, self.slots, &self.node, delivers);
         self.slots = self.slots.saturating_add(1);
         self.turn = Turn::Ended;
-        Outcome {
-            delivered: ending.delivered,
-            status,
-        }
     }
 
     /// What is shown of the node after the newest slot.

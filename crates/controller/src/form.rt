@@ -1,38 +1,13 @@
 //! The form of the frame that the list gives for a slot.
-ghost use Rattle.std.specs.Prelude.{◌≡◌, ◌<◌, length};
+ghost use Rattle.std.specs.Prelude.{◌≡◌};
 ghost use Rattle.slot_clock.specs.StandsFor.{StandsFor};
 ghost use Rattle.ttp_frame.specs.Shape.{IsShape};
-ghost use Rattle.ttp_world.specs.Frame.{header_of};
-ghost use Rattle.ttp_world.specs.Medl.{IsValid, is_wide, payload_length};
+ghost use Rattle.ttp_world.specs.Medl.{IsValid, is_wide};
 ghost use Rattle.ttp_world.specs.Reception.{expected_header, expected_length};
 
 use slot_clock::SlotClock;
 use ttp_frame::Expect;
-use ttp_world::{Kind, Medl};
-
-// The header of a frame of this kind.
-fn header_of(kind: Kind) -> u8
-    ensures { result ≡ header_of kind }
-{
-    match kind {
-        Kind::N => 0,
-        Kind::I => 1,
-        Kind::X => 2,
-    }
-}
-
-// The bytes of payload of the frame in a round and slot.
-fn payload_length(list: &Medl, round: u8, slot: u8) -> u8
-    requires valid { IsValid list.now }
-    requires round { round < list.now.rounds }
-    requires slot { slot < length list.now.slots }
-    ensures { result ≡ payload_length list.now round slot }
-{
-    match list.kind_at(round, slot) {
-        Kind::I => 0,
-        Kind::N | Kind::X => list.slots.get(slot as usize).payload,
-    }
-}
+use ttp_world::Medl;
 
 /// The form of the frame that the list gives for the slot of a place.
 pub(crate) fn form_of(list: &Medl, place: &SlotClock) -> Expect
@@ -47,7 +22,7 @@ pub(crate) fn form_of(list: &Medl, place: &SlotClock) -> Expect
     let slot = place.sender();
     Expect {
         wide: list.is_wide(),
-        header: header_of(list.kind_at(round, slot)),
-        payload: payload_length(list, round, slot),
+        header: list.kind_at(round, slot).header(),
+        payload: list.payload_length(round, slot),
     }
 }

@@ -1,5 +1,5 @@
 //! What a node makes of what comes to it in a slot: its entry, and what it hands to its host.
-ghost use Rattle.std.specs.Prelude.{◌≡◌, ◌↔◌, ◌+◌, ◌≤◌, ◌<◌, ℕ, ℤ, ◌-ℤ◌, ◌+ℤ◌, Bool, not, IsTrue, ◌++◌, drop, length};
+ghost use Rattle.std.specs.Prelude.{◌≡◌, ◌↔◌, ◌+◌, ◌≤◌, ◌<◌, ℕ, ℤ, ◌-ℤ◌, ◌+ℤ◌, Bool, not, IsTrue, length};
 ghost use Rattle.std.specs.Prelude.{unsigned_abs, if◌then◌else◌};
 ghost use Rattle.ttp_frame.specs.Shape.{HaveRoom};
 ghost use Rattle.ttp_world.specs.Act.{coming_place};
@@ -25,9 +25,7 @@ use reception::{is_taken_from_a, slot_verdict};
 use slot_clock::SlotClock;
 use ttp_base::NodeSet;
 use ttp_frame::{Expect, FrameMatch, judge, read_explicit};
-use ttp_world::{
-    Ack, CState, ChannelView, Delivered, Entry, Medl, PAYLOAD_LIMIT, Payload, Reason, Verdict,
-};
+use ttp_world::{Ack, CState, ChannelView, Delivered, Entry, Medl, Payload, Reason, Verdict};
 
 /// What an active node judges the slot of another node by.
 #[derive(Clone, Copy, Debug)]
@@ -360,27 +358,6 @@ fn payload_in<'a>(form: &Expect, bytes: &'a [u8]) -> &'a [u8]
     &behind[..behind.len().min(form.payload as usize)]
 }
 
-// Writes bytes to the front of others.
-fn put_front(out: &mut [u8; PAYLOAD_LIMIT], bytes: &[u8])
-    requires { length bytes.now ≤ 240 }
-    ensures { out.new ≡ bytes.now ++ drop (length bytes.now) out.old }
-{
-    out[..bytes.len()].copy_from_slice(bytes);
-}
-
-// The payload of these bytes.
-fn payload_of(bytes: &[u8]) -> Payload
-    requires { length bytes.now ≤ 240 }
-    ensures { result ≡ bytes.now }
-{
-    let mut copied = [0; PAYLOAD_LIMIT];
-    put_front(&mut copied, bytes);
-    Payload {
-        len: bytes.len() as u8,
-        bytes: copied,
-    }
-}
-
 // The payload that came on a channel, in a frame of this place.
 fn payload_heard(list: &Medl, place: &SlotClock, came: &Arrival) -> Payload
     requires valid { IsValid list.now }
@@ -389,39 +366,41 @@ fn payload_heard(list: &Medl, place: &SlotClock, came: &Arrival) -> Payload
         result ≡ payload_heard list.now place.now.place sent) }
 {
     match came {
-        Arrival::Silence | Arrival::Noise => payload_of(&[]),
-        Arrival::Bits { bytes, .. } => payload_of(payload_in(&form_of(list, place), bytes)),
+        Arrival::Silence | Arrival::Noise => Payload::of(&[]),
+        Arrival::Bits { bytes, .. } => Payload::of(payload_in(&form_of(list, place), bytes)),
     }
 }
 
 /// What a receiver hands to its host: the payload of a correct frame, if it carries payload, from
-/// channel A where A's frame was of the first candidate, and else from B.
-pub(crate) fn delivered(
+/// channel A where A's frame was of the first candidate, and else from B. It is written in place.
+pub(crate) fn deliver(
     list: &Medl,
     coming: &SlotClock,
     judgement: &Judgement,
     a: &Arrival,
     b: &Arrival,
-) -> Option<Delivered>
+    delivered: &mut Option<Delivered>,
+)
     requires valid { IsValid list.now }
     requires coming { StandsFor coming.now list.now coming.now.place }
     ensures { (k : ℕ) (past : NodePast) (own error : ℤ) → StandsFor coming.now list.now (coming_place list.now past)
         → ForHearings a.now b.now own error (λ h.
         IsJudgement judgement.now list.now (expected_of list.now k past) past.ack h
-        → result ≡ delivery list.now k past h (judging_entry list.now k past h)) }
+        → delivered.new ≡ delivery list.now k past h (judging_entry list.now k past h)) }
 {
     if judgement.verdict != Verdict::Correct || form_of(list, coming).payload == 0 {
-        return None;
+        *delivered = None;
+        return;
     }
     let payload = if judgement.from_a {
         payload_heard(list, coming, a)
     } else {
         payload_heard(list, coming, b)
     };
-    Some(Delivered {
+    *delivered = Some(Delivered {
         sender: coming.sender(),
         payload,
-    })
+    });
 }
 
 #[cfg(test)]

@@ -11,7 +11,7 @@
 //! for a history of the cluster, and a slot is one step of the world for every list, every script and
 //! every choice of messages.
 //!
-//! Only what makes a controller or a plant takes memory. A slot costs its nodes, and for each node a
+//! Only what makes a plant takes memory. A slot costs its nodes, and for each node a
 //! few look-ups in the script; at most two check words for each channel that a node judges. The crate
 //! knows no text, no files and no hosts: which message a frame carries is handed to it.
 #![tactic(auto)]
@@ -19,13 +19,16 @@
 mod controller;
 mod ending;
 mod form;
+mod given_list;
 mod hearing;
 mod node;
+mod passes;
 mod plant;
 mod sending;
 mod status;
 mod turn;
 
 pub use controller::{Controller, Intent, Outcome};
+pub use passes::{begin_all, is_loaded, plan_all, take_all};
 pub use plant::Plant;
 pub use status::StatusFlags;

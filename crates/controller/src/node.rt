@@ -7,7 +7,7 @@ ghost use Rattle.ttp_world.specs.Diary.{phase_after, cstate_at};
 ghost use Rattle.ttp_world.specs.Medl.{IsValid};
 ghost use Rattle.ttp_world.specs.Messages.{has_averaged};
 ghost use Rattle.ttp_world.specs.Past.{state_of, no_past};
-ghost use Rattle.cold_start.specs.StandsFor.{most_silent, is_silent};
+ghost use Rattle.cold_start.specs.Listening.{most_silent, is_silent};
 ghost use Rattle.fta_sync.specs.StandsFor.{IsDeviation};
 ghost use Rattle.slot_clock.specs.StandsFor.{StandsFor};
 ghost use Rattle.controller.specs.Kept.{kept};
@@ -34,8 +34,6 @@ pub(crate) struct Outside {
     /// How far its clock jumps, and how far it drifts, in microticks.
     pub(crate) jump: i64,
     pub(crate) drift: i64,
-    /// Whether it is armed to listen again.
-    pub(crate) armed: bool,
     /// Whether both channels are silent to it.
     pub(crate) silent: bool,
 }
@@ -45,9 +43,9 @@ impl Model for Outside {
 
     ghost Value = { SlotSurroundings };
 
-    ghost view = { λ s. record { jump = s.jump; drift = s.drift; is_armed = s.armed; is_silent = s.silent } };
+    ghost view = { λ s. record { jump = s.jump; drift = s.drift; is_silent = s.silent } };
 
-    ghost inverse = { λ s. record { jump = s.jump; drift = s.drift; armed = s.is_armed; silent = s.is_silent } };
+    ghost inverse = { λ s. record { jump = s.jump; drift = s.drift; silent = s.is_silent } };
 }
 
 /// What a node keeps of its past.

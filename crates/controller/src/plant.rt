@@ -1,34 +1,25 @@
 //! A plant: all controllers of a cluster and the medium between them, slot by slot.
 //!
-//! In a slot all controllers begin, then they plan and put their frames on the medium, and then each
-//! takes what it hears.
-ghost use Rattle.std.specs.Prelude.{◌≡◌, ◌<◌, ◌≤◌, ◌+◌, ◌^◌, [], length, All, IfOk, unsigned_abs};
+//! A slot is the three passes over all its controllers.
+ghost use Rattle.std.specs.Prelude.{◌≡◌, ◌<◌, ◌+◌, [], length, IfOk};
 ghost use Rattle.std.specs.Option.{option_copied};
 ghost use Rattle.ttp_world.specs.declared.script.Script.{Script};
-ghost use Rattle.ttp_world.specs.declared.script.TheConstants.{SLOT_LIMIT, DRIFT_LIMIT};
-ghost use Rattle.ttp_world.specs.Medl.{IsValid, plan_at};
-ghost use Rattle.ttp_world.specs.Script.{IsValidScript, IsWithinSpan};
-ghost use Rattle.controller.specs.Passes.{HasBegun, HaveBegun, IsReadingError, AreReadingErrors};
-ghost use Rattle.controller.specs.Passes.{payload_handed, HasPlanned, HasSent, HavePlanned, MayPlan, AllMayPlan};
-ghost use Rattle.controller.specs.Passes.{HasEnded, HaveEnded, MayEnd, AllMayEnd, IsFromWithin};
-ghost use Rattle.controller.specs.PlantStands.{PlantStandsFor, plant_of, Steps, AreChosen};
+ghost use Rattle.ttp_world.specs.Medl.{IsValid};
+ghost use Rattle.ttp_world.specs.Script.{IsValidScript};
+ghost use Rattle.controller.specs.PlantStands.{PlantStandsFor, plant_of, MayStep, Steps};
 ghost use Rattle.controller.specs.PlantStands.{AllStandAtFirst, ShowsNode, outcome_at, no_outcomes};
-ghost use Rattle.controller.specs.PlantWithin.{AreSeats, most_ahead, most_ahead_in, most_error};
-ghost use Rattle.controller.specs.Limits.{IsBegun, IsPlanned, seat_clock};
-ghost use Rattle.controller.specs.Turn.{Ended};
+ghost use Rattle.controller.specs.PlantWithin.{IsEnded, AreSeats, most_ahead};
 
 #[cfg(test)]
 mod tests;
 
-use crate::controller::{Controller, Intent, Outcome};
-use medium::{Medium, Outgoing};
+use crate::controller::{Controller, Outcome};
+use crate::passes::{begin_all, plan_all, take_all};
+use medium::Medium;
 use std::alloc::Global;
 use std::marker::Model;
 use ttp_base::{List, Memory};
-use ttp_world::{Channel, Chosen, Delivered, Medl, NodeState, Payload, Script, StatusWords};
-
-/// The most nodes of a cluster.
-const NODE_LIMIT: usize = 24;
+use ttp_world::{Channels, Chosen, Delivered, Incidents, Medl, NodeState, Script, StatusWords};
 
 /// The whole cluster, stepped on one thread.
 ///
@@ -41,6 +32,8 @@ pub struct Plant {
     slot: u32,
     medium: Medium,
     controllers: Vec<Controller>,
+    // What happens to each node in the newest slot.
+    incidents: Vec<Incidents>,
     // What the newest slot left for each node's host.
     outcomes: Vec<Outcome>,
 }
@@ -55,176 +48,14 @@ impl Model for Plant {
 
     ghost view = { λ p. plant_of p.list p.slot p.controllers.items p.outcomes.items };
 
-    ghost invariant = { λ p. IsPlantWithin p.list p.slot p.controllers.items p.outcomes.items };
-}
-
-// A controller begins the slot. Its node's reading error in it is the answer.
-fn begin_one(controller: &mut Controller, script: &Script, k: u8, slot: u32) -> i64
-    requires on { k < length script.now.on }
-    requires slot { slot ≤ SLOT_LIMIT }
-    requires turn { controller.old.turn ≡ Ended }
-    requires clock { unsigned_abs controller.old.past.offset ≤ most_ahead slot }
-    ensures begun { HasBegun script.now slot k controller.old controller.new }
-    ensures error { IsReadingError script.now slot k result }
-{
-    let incidents = script.incidents(k, slot);
-    controller.begin(script.is_on(k, slot), incidents.armed, incidents.jump);
-    incidents.error
-}
-
-// The first pass: each controller begins the slot. The nodes' reading errors in it are the answer.
-fn begin_all(
-    controllers: &mut [Controller],
-    script: &Script,
-    list: &Medl,
-    slot: u32,
-) -> [i64; NODE_LIMIT]
-    requires list { IsValid list.now }
-    requires script { length script.now.on ≡ length list.now.slots }
-    requires slot { slot ≤ SLOT_LIMIT }
-    requires seats { AreSeats list.now slot controllers.old }
-    ensures begun { HaveBegun script.now slot controllers.old controllers.new }
-    ensures errors { AreReadingErrors script.now slot (length list.now.slots) result }
-{
-    let mut errors = [0; NODE_LIMIT];
-    for k in 0..list.nodes() {
-        errors[k as usize] = begin_one(&mut controllers[k as usize], script, k, slot);
-    }
-    errors
-}
-
-// The bytes of a payload.
-fn bytes_of(payload: &Payload) -> &[u8]
-    ensures { result.now ≡ payload.now }
-{
-    &payload.bytes[..payload.len as usize]
-}
-
-// The payload that goes into the frame of a node that will send this.
-fn payload_for(intent: Intent, chosen: &Chosen) -> &[u8]
-    ensures { result.now ≡ payload_handed intent chosen.now }
-{
-    match intent {
-        Intent::Loaded => bytes_of(&chosen.payload),
-        Intent::Quiet => &[],
-        Intent::Bare => &[],
-    }
-}
-
-// A controller plans its frame, by the message that is chosen for its node.
-fn plan_one(controller: &mut Controller, chosen: &Chosen) -> Option<Outgoing>
-    requires turn { IsBegun controller.old.turn }
-    requires payload { length chosen.now.payload ≡ (plan_at controller.old.list controller.old.node).payload }
-    ensures { HasPlanned chosen.now controller.old controller.new result }
-{
-    let payload = payload_for(controller.intent(), chosen);
-    controller.plan(chosen.number, payload)
-}
-
-// A controller plans, and its frame is put on the medium, if it sends one.
-fn send_one(
-    controller: &mut Controller,
-    medium: &mut Medium,
-    script: &Script,
-    k: u8,
-    chosen: &Chosen,
-)
-    requires { MayPlan k chosen.now controller.old }
-    ensures { HasSent script.now k chosen.now controller.old controller.new medium.old medium.new }
-{
-    if let Some(frame) = plan_one(controller, chosen) {
-        medium.put(script, k, &frame, controller.clock());
-    }
-}
-
-// The second pass: each controller plans, and what it sends is put on the medium.
-fn send_all(controllers: &mut [Controller], medium: &mut Medium, script: &Script, chosen: &[Chosen])
-    requires nodes { length controllers.old ≤ 24 }
-    requires count { length chosen.now ≡ length controllers.old }
-    requires may { AllMayPlan chosen.now controllers.old }
-    ensures { HavePlanned script.now chosen.now controllers.old controllers.new medium.old medium.new }
-{
-    for k in 0..controllers.len() {
-        send_one(&mut controllers[k], medium, script, k as u8, &chosen[k]);
-    }
-}
-
-// A controller takes what its node hears.
-fn take_one(
-    controller: &mut Controller,
-    medium: &Medium,
-    script: &Script,
-    k: u8,
-    error: i64,
-) -> Outcome
-    requires may { MayEnd medium.now.slot controller.old }
-    requires drift { All (IsWithinSpan DRIFT_LIMIT) script.now.drift }
-    requires node { k < length script.now.drift }
-    requires error { unsigned_abs error ≤ most_error }
-    requires slot { medium.now.slot < SLOT_LIMIT }
-    requires medium { IsFromWithin medium.now script.now (most_ahead_in medium.now.slot) }
-    ensures { HasEnded medium.now script.now k error controller.old controller.new result }
-{
-    let a = medium.heard(script, k, Channel::A);
-    let b = medium.heard(script, k, Channel::B);
-    controller.take(&a, &b, error, *script.drift.get(k as usize))
-}
-
-// The third pass: each controller takes what its node hears.
-fn take_all(
-    controllers: &mut [Controller],
-    outcomes: &mut [Outcome],
-    medium: &Medium,
-    script: &Script,
-    errors: &[i64; NODE_LIMIT],
-)
-    requires nodes { length controllers.old ≤ 24 }
-    requires may { AllMayEnd medium.now.slot controllers.old }
-    requires outcomes { length outcomes.old ≡ length controllers.old }
-    requires drift { All (IsWithinSpan DRIFT_LIMIT) script.now.drift }
-    requires drifts { length script.now.drift ≡ length controllers.old }
-    requires errors { AreReadingErrors script.now medium.now.slot (length controllers.old) errors.now }
-    requires slot { medium.now.slot < SLOT_LIMIT }
-    requires medium { IsFromWithin medium.now script.now (most_ahead_in medium.now.slot) }
-    ensures { HaveEnded medium.now script.now errors.now controllers.old controllers.new outcomes.new }
-{
-    for k in 0..controllers.len() {
-        outcomes[k] = take_one(&mut controllers[k], medium, script, k as u8, errors[k]);
-    }
-}
-
-// All three passes of a slot.
-fn step(
-    controllers: &mut [Controller],
-    outcomes: &mut [Outcome],
-    medium: &mut Medium,
-    list: &Medl,
-    script: &Script,
-    slot: u32,
-    chosen: &[Chosen],
-)
-    requires valid { IsValid list.now }
-    requires script { IsValidScript list.now script.now }
-    requires slot { slot < script.now.slots }
-    requires seats { AreSeats list.now slot controllers.old }
-    requires outcomes { length outcomes.old ≡ length list.now.slots }
-    requires count { length chosen.now ≡ length list.now.slots }
-    requires chosen { AreChosen list.now chosen.now }
-    ensures seats { AreSeats list.now (slot + 1) controllers.new }
-    ensures steps { let old = plant_of list.now slot controllers.old outcomes.old in
-        let new = plant_of list.now (slot + 1) controllers.new outcomes.new in
-        Steps old new script.now chosen.now }
-{
-    let errors = begin_all(controllers, script, list, slot);
-    medium.begin(slot);
-    send_all(controllers, medium, script, chosen);
-    take_all(controllers, outcomes, medium, script, &errors);
+    ghost invariant = { λ p. IsPlantWithin p.list p.slot p.controllers.items p.incidents.items p.outcomes.items };
 }
 
 // The controllers of a list's nodes.
 fn controllers_of(alloc: Global, list: &Medl) -> Result<Vec<Controller>, Memory>
     requires { IsValid list.now }
-    ensures seats { IfOk result (λ controllers. AreSeats list.now 0 controllers.items) }
+    ensures count { IfOk result (λ controllers. length controllers.items ≡ length list.now.slots) }
+    ensures seats { IfOk result (λ controllers. AreSeats list.now IsEnded (most_ahead 0) 0 controllers.items) }
     ensures stand { IfOk result (λ controllers. AllStandAtFirst controllers.items) }
 {
     let mut controllers = List::new(alloc);
@@ -249,6 +80,59 @@ fn first_outcomes(alloc: Global, list: &Medl) -> Result<Vec<Outcome>, Memory>
     Ok(outcomes.into_vec())
 }
 
+// A place for what happens to each of a list's nodes in a slot.
+fn incidents_of(alloc: Global, list: &Medl) -> Result<Vec<Incidents>, Memory>
+    requires { IsValid list.now }
+    ensures { IfOk result (λ incidents. length incidents.items ≡ length list.now.slots) }
+{
+    let none = Channels { a: false, b: false };
+    let mut incidents = List::new(alloc);
+    for _ in 0..list.nodes() {
+        incidents.push(Incidents {
+            send_silence: none,
+            send_noise: none,
+            receive_silence: none,
+            receive_noise: none,
+            has_flip: false,
+            armed: false,
+            error: 0,
+            jump: 0,
+        })?;
+    }
+    Ok(incidents.into_vec())
+}
+
+// A slot of all controllers: the three passes, one after another.
+fn step(
+    controllers: &mut [Controller],
+    incidents: &mut [Incidents],
+    outcomes: &mut [Outcome],
+    medium: &mut Medium,
+    list: &Medl,
+    script: &Script,
+    slot: u32,
+    chosen: &[Chosen],
+)
+    requires list { IsValid list.now }
+    requires script { IsValidScript list.now script.now }
+    requires slot { slot < script.now.slots }
+    requires nodes { length controllers.old ≡ length list.now.slots }
+    requires incidents { length incidents.old ≡ length list.now.slots }
+    requires outcomes { length outcomes.old ≡ length list.now.slots }
+    requires seats { AreSeats list.now IsEnded (most_ahead slot) 0 controllers.old }
+    requires count { length chosen.now ≡ length list.now.slots }
+    requires chosen { MayStep (plant_of list.now slot controllers.old outcomes.old) script.now chosen.now }
+    ensures nodes { length controllers.new ≡ length controllers.old }
+    ensures seats { AreSeats list.now IsEnded (most_ahead (slot + 1)) 0 controllers.new }
+    ensures steps { let old = plant_of list.now slot controllers.old outcomes.old in
+        let new = plant_of list.now (slot + 1) controllers.new outcomes.new in
+        Steps old new script.now chosen.now }
+{
+    begin_all(controllers, incidents, list, script, 0, slot);
+    plan_all(controllers, medium, incidents, list, script, slot, chosen);
+    take_all(controllers, outcomes, incidents, medium, list, script, 0);
+}
+
 impl Plant {
     /// The cluster of a list before the first slot: each node is off, and nothing is left for any
     /// host. Only this call takes memory.
@@ -263,24 +147,27 @@ impl Plant {
             slot: 0,
             medium: Medium::new(alloc, list)?,
             controllers: controllers_of(alloc, list)?,
+            incidents: incidents_of(alloc, list)?,
             outcomes: first_outcomes(alloc, list)?,
         })
     }
 
-    /// Takes the cluster through one slot, in which each node is to send the message that is chosen
-    /// for it, if it sends one with payload. It takes no memory.
+    /// Takes the cluster through one slot. Each node whose frame carries a message in it sends the one
+    /// that is chosen for it, which is to have as much payload as the list gives the node; what is
+    /// there for the others is not read. It takes no memory.
     pub fn slot(&mut self, list: &Medl, script: &Script, chosen: &[Chosen])
         requires list { list.now ≡ self.old.list }
         requires script { IsValidScript list.now script.now }
         requires slot { self.old.slot < script.now.slots }
         requires count { length chosen.now ≡ length list.now.slots }
-        requires chosen { AreChosen list.now chosen.now }
+        requires chosen { MayStep self.old script.now chosen.now }
         ensures list { self.new.list ≡ self.old.list }
         ensures slot { self.new.slot ≡ self.old.slot + 1 }
         ensures steps { Steps self.old self.new script.now chosen.now }
     {
         step(
             &mut self.controllers,
+            &mut self.incidents,
             &mut self.outcomes,
             &mut self.medium,
             list,

@@ -8,10 +8,10 @@ ghost use Rattle.ttp_world.specs.Membership.{AreNodes};
 ghost use Rattle.slot_clock.specs.StandsFor.{StandsFor};
 ghost use Rattle.ttp_frame.specs.FrameBytes.{bytes_of};
 ghost use Rattle.ttp_frame.specs.Shape.{IsShape, HaveRoom};
-ghost use Rattle.controller.specs.Limits.{intent_by, loaded_length};
+ghost use Rattle.controller.specs.Limits.{intent_by, loaded_length, message_carried};
 ghost use Rattle.controller.specs.SeatWithin.{IsPossible};
 ghost use Rattle.controller.specs.Sending.{frame_at};
-ghost use Rattle.controller.specs.StandsFor.{frames_planned, message_planned, payload_planned};
+ghost use Rattle.controller.specs.StandsFor.{frames_planned, payload_planned};
 ghost use Rattle.controller.specs.Within.{IsWithin};
 
 use crate::controller::Intent;
@@ -91,13 +91,11 @@ pub(crate) fn intent_of(list: &Medl, k: u8, node: &Node, act: Act) -> Intent
     }
 }
 
-/// The number of the message that node k's frame carries, of the one chosen for it, by what it does.
-pub(crate) fn message_of(list: &Medl, k: u8, node: &Node, act: Act, message: u64) -> Option<u64>
-    requires valid { IsValid list.now }
-    requires within { IsWithin list.now k node.now }
-    ensures { (chosen : ChosenValue) → chosen.number ≡ message → result ≡ message_planned list.now node.now chosen act }
+/// The number of the message in the frame of a node that sends this, of the one chosen for it.
+pub(crate) fn message_of(intent: Intent, message: u64) -> Option<u64>
+    ensures { result ≡ message_carried intent message }
 {
-    match intent_of(list, k, node, act) {
+    match intent {
         Intent::Loaded => Some(message),
         Intent::Quiet | Intent::Bare => None,
     }

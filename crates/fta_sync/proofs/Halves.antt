@@ -1,58 +1,46 @@
 -- Where three of four numbers lie between two bounds, half the sum of the middle two does too.
-use Rattle.std.proofs.Common.{◌≡◌, ◌+◌, ◌<◌, ◌≤◌, ℤ, pos, negsuc, neg_ℤ, ◌*ℤ◌, ◌+ℤ◌, FitsSigned, w64, ◌≤ℤ◌, Bool, true}
+use Rattle.std.proofs.Common.{◌≡◌, ◌+◌, ◌≤◌, ℤ, pos, neg_ℤ, ◌+ℤ◌, FitsSigned, w64, ◌≤ℤ◌, Bool, true}
 use Rattle.std.proofs.Common.{false, cond, ◌&&◌, [], ◌∷◌, refl, sym, subst, arith}
-use Rattle.std.specs.Prelude.{int_le, int_div, int_rem, unsigned_abs, count_by}
+use Rattle.std.specs.Prelude.{int_le, int_div, count_by}
 use Rattle.std.specs.Int.{int_min, int_max}
-use Rattle.std.proofs.lemmas.Int.{ints, clamps, quot-rem, rem_below}
+use Rattle.std.proofs.lemmas.Int.{ints, clamps}
 use Rattle.ttp_world.specs.Clock.{middle_half}
+use Rattle.ttp_world.proofs.Averages.{Between, half_between}
 use Rattle.fta_sync.specs.StandsFor.{most_deviation, IsDeviation, is_between}
 use Rattle.fta_sync.proofs.MiddleTwo.{paired_sum, middle_half-paired}
 
--- Halves.
-
-rem_small : (r : ℤ) → unsigned_abs r < 2 → (negsuc 0 ≤ℤ r) × (r ≤ℤ pos 1)
-rem_small (pos n) small = (omega (arith, ints, small), omega (arith, ints, small))
-rem_small (negsuc n) small = (omega (arith, ints, small), omega (arith, ints, small))
-
-half_between_of : (low high z q r : ℤ) → q *ℤ pos 2 +ℤ r ≡ z → (negsuc 0 ≤ℤ r) × (r ≤ℤ pos 1) → (low +ℤ low) ≤ℤ z → z ≤ℤ (high +ℤ high) → (low ≤ℤ q) × (q ≤ℤ high)
-half_between_of low high z q r is small from upto = (omega (arith, ints, is, small.0, small.1, from), omega (arith, ints, is, small.0, small.1, upto))
-
-half_between : (low high z : ℤ) → (low +ℤ low) ≤ℤ z → z ≤ℤ (high +ℤ high) → (low ≤ℤ int_div z (pos 2)) × (int_div z (pos 2) ≤ℤ high)
-half_between low high z from upto =
-    half_between_of low high z (int_div z (pos 2)) (int_rem z (pos 2)) (quot-rem z (pos 2)) (rem_small (int_rem z (pos 2)) (rem_below z (pos 2) (omega arith))) from upto
-
 -- The sum of the middle two, where one of the four may be anything.
 
--- a number lies between two bounds
-abbrev pub Between : ℤ → ℤ → ℤ → Type 0
-Between low high z = (low ≤ℤ z) × (z ≤ℤ high)
-
--- and half a number does
+-- half a number lies between two bounds
 abbrev pub HalfBetween : ℤ → ℤ → ℤ → Type 0
 HalfBetween low high z = ((low +ℤ low) ≤ℤ z) × (z ≤ℤ (high +ℤ high))
 
 both_between : (low high m n : ℤ) → Between low high m → Between low high n → HalfBetween low high (m +ℤ n)
 both_between low high m n p q = (omega (arith, ints, p.0, q.0), omega (arith, ints, p.1, q.1))
 
-without_fourth : (low high a b c d : ℤ) → Between low high a → Between low high b → Between low high c → HalfBetween low high (paired_sum a b (int_min c d) (int_max c d))
+without_fourth : (low high a b c d : ℤ) → Between low high a → Between low high b → Between low high c
+    → HalfBetween low high (paired_sum a b (int_min c d) (int_max c d))
 without_fourth low high a b c d p q r =
     both_between low high (int_max (int_min a b) (int_min c d)) (int_min (int_max a b) (int_max c d))
     (omega (arith, ints, clamps, p.0, q.0), omega (arith, ints, clamps, p.1, r.1))
     (omega (arith, ints, clamps, p.0, r.0), omega (arith, ints, clamps, p.1, q.1))
 
-without_third : (low high a b c d : ℤ) → Between low high a → Between low high b → Between low high d → HalfBetween low high (paired_sum a b (int_min c d) (int_max c d))
+without_third : (low high a b c d : ℤ) → Between low high a → Between low high b → Between low high d
+    → HalfBetween low high (paired_sum a b (int_min c d) (int_max c d))
 without_third low high a b c d p q r =
     both_between low high (int_max (int_min a b) (int_min c d)) (int_min (int_max a b) (int_max c d))
     (omega (arith, ints, clamps, p.0, q.0), omega (arith, ints, clamps, p.1, r.1))
     (omega (arith, ints, clamps, p.0, r.0), omega (arith, ints, clamps, p.1, q.1))
 
-without_second : (low high a b c d : ℤ) → Between low high a → Between low high c → Between low high d → HalfBetween low high (paired_sum a b (int_min c d) (int_max c d))
+without_second : (low high a b c d : ℤ) → Between low high a → Between low high c → Between low high d
+    → HalfBetween low high (paired_sum a b (int_min c d) (int_max c d))
 without_second low high a b c d p q r =
     both_between low high (int_max (int_min a b) (int_min c d)) (int_min (int_max a b) (int_max c d))
     (omega (arith, ints, clamps, q.0, r.0), omega (arith, ints, clamps, p.1, q.1))
     (omega (arith, ints, clamps, p.0, q.0), omega (arith, ints, clamps, q.1, r.1))
 
-without_first : (low high a b c d : ℤ) → Between low high b → Between low high c → Between low high d → HalfBetween low high (paired_sum a b (int_min c d) (int_max c d))
+without_first : (low high a b c d : ℤ) → Between low high b → Between low high c → Between low high d
+    → HalfBetween low high (paired_sum a b (int_min c d) (int_max c d))
 without_first low high a b c d p q r =
     both_between low high (int_max (int_min a b) (int_min c d)) (int_min (int_max a b) (int_max c d))
     (omega (arith, ints, clamps, q.0, r.0), omega (arith, ints, clamps, p.1, q.1))
@@ -65,13 +53,18 @@ both_of_test : (low high z : ℤ) → is_between low high z ≡ true → Between
 both_of_test low high z h = (grind (arith, ints), grind (arith, ints))
 
 -- three of four lie between the bounds
-three_between : (low high a b c d : ℤ) (w x y z : Bool) → is_between low high a ≡ w → is_between low high b ≡ x → is_between low high c ≡ y → is_between low high d ≡ z
+three_between : (low high a b c d : ℤ) (w x y z : Bool) → is_between low high a ≡ w → is_between low high b ≡ x
+    → is_between low high c ≡ y → is_between low high d ≡ z
     → 3 ≤ (((0 + cond w 1 0) + cond x 1 0) + cond y 1 0) + cond z 1 0
     → HalfBetween low high (paired_sum a b (int_min c d) (int_max c d))
-three_between low high a b c d true true true z p q r s enough = without_fourth low high a b c d (both_of_test low high a p) (both_of_test low high b q) (both_of_test low high c r)
-three_between low high a b c d true true false true p q r s enough = without_third low high a b c d (both_of_test low high a p) (both_of_test low high b q) (both_of_test low high d s)
-three_between low high a b c d true false true true p q r s enough = without_second low high a b c d (both_of_test low high a p) (both_of_test low high c r) (both_of_test low high d s)
-three_between low high a b c d false true true true p q r s enough = without_first low high a b c d (both_of_test low high b q) (both_of_test low high c r) (both_of_test low high d s)
+three_between low high a b c d true true true z p q r s enough =
+    without_fourth low high a b c d (both_of_test low high a p) (both_of_test low high b q) (both_of_test low high c r)
+three_between low high a b c d true true false true p q r s enough =
+    without_third low high a b c d (both_of_test low high a p) (both_of_test low high b q) (both_of_test low high d s)
+three_between low high a b c d true false true true p q r s enough =
+    without_second low high a b c d (both_of_test low high a p) (both_of_test low high c r) (both_of_test low high d s)
+three_between low high a b c d false true true true p q r s enough =
+    without_first low high a b c d (both_of_test low high b q) (both_of_test low high c r) (both_of_test low high d s)
 three_between low high a b c d true true false false p q r s enough = absurd (omega (arith, enough))
 three_between low high a b c d true false true false p q r s enough = absurd (omega (arith, enough))
 three_between low high a b c d true false false true p q r s enough = absurd (omega (arith, enough))
@@ -89,7 +82,9 @@ pub middle_half-between : (low high a b c d : ℤ) → 3 ≤ count_by (is_betwee
     → (low ≤ℤ middle_half (a ∷ b ∷ c ∷ d ∷ [])) × (middle_half (a ∷ b ∷ c ∷ d ∷ []) ≤ℤ high)
 middle_half-between low high a b c d enough =
     let sum = paired_sum a b (int_min c d) (int_max c d) in
-    let holds : HalfBetween low high sum = three_between low high a b c d (is_between low high a) (is_between low high b) (is_between low high c) (is_between low high d) refl refl refl refl enough in
+    let holds : HalfBetween low high sum =
+    three_between low high a b c d (is_between low high a) (is_between low high b) (is_between low high c)
+    (is_between low high d) refl refl refl refl enough in
     subst (Between low high) (sym (middle_half-paired a b c d)) (half_between low high sum holds.0 holds.1)
 
 -- Four deviations: the sum of the middle two fits 64 bits, and half of it is a deviation.
@@ -101,10 +96,15 @@ deviations_between a b c d p q r = without_fourth (neg_ℤ (pos most_deviation))
 fits_between : (z : ℤ) → HalfBetween (neg_ℤ (pos most_deviation)) (pos most_deviation) z → FitsSigned w64 z
 fits_between z h = omega (arith, ints, h.0, h.1)
 
-pub deviations_fit : (a b c d : ℤ) → IsDeviation a → IsDeviation b → IsDeviation c → FitsSigned w64 (paired_sum a b (int_min c d) (int_max c d))
+pub deviations_fit : (a b c d : ℤ) → IsDeviation a → IsDeviation b → IsDeviation c
+    → FitsSigned w64 (paired_sum a b (int_min c d) (int_max c d))
 deviations_fit a b c d p q r = fits_between _ (deviations_between a b c d p q r)
 
-pub deviations_half : (a b c d : ℤ) → IsDeviation a → IsDeviation b → IsDeviation c → IsDeviation (int_div (paired_sum a b (int_min c d) (int_max c d)) (pos 2))
+pub deviations_half : (a b c d : ℤ) → IsDeviation a → IsDeviation b → IsDeviation c
+    → IsDeviation (int_div (paired_sum a b (int_min c d) (int_max c d)) (pos 2))
 deviations_half a b c d p q r =
-    let holds : HalfBetween (neg_ℤ (pos most_deviation)) (pos most_deviation) (paired_sum a b (int_min c d) (int_max c d)) = deviations_between a b c d p q r in
-    half_between (neg_ℤ (pos most_deviation)) (pos most_deviation) (paired_sum a b (int_min c d) (int_max c d)) holds.0 holds.1
+    let holds : HalfBetween (neg_ℤ (pos most_deviation)) (pos most_deviation)
+    (paired_sum a b (int_min c d) (int_max c d)) =
+    deviations_between a b c d p q r in
+    half_between (neg_ℤ (pos most_deviation)) (pos most_deviation) (paired_sum a b (int_min c d) (int_max c d)) holds.0
+    holds.1

@@ -71,11 +71,16 @@ max_first x y h = omega (arith, ints, clamps, h)
 max_second : (x y : ℤ) → x ≤ℤ y → y ≡ int_max x y
 max_second x y h = omega (arith, ints, clamps, h)
 
-middle_sum-sorted : (a b c d : ℤ) → middle_sum (sorted (a ∷ b ∷ c ∷ d ∷ [])) ≡ paired_sum a b (int_min c d) (int_max c d)
+middle_sum-sorted : (a b c d : ℤ)
+    → middle_sum (sorted (a ∷ b ∷ c ∷ d ∷ [])) ≡ paired_sum a b (int_min c d) (int_max c d)
 middle_sum-sorted a b c d =
-    cond_both (int_le c d) _ _ (λ xs. middle_sum (insert_sorted a (insert_sorted b xs)) ≡ paired_sum a b (int_min c d) (int_max c d))
-    (λ cd. let h : c ≤ℤ d = le_of_test c d cd in among_pair a b c d h ∙ (λ i. paired_sum a b (min_first c d h i) (max_second c d h i)))
-    (λ cd. let h : d ≤ℤ c = ge_of_test c d cd in among_pair a b d c h ∙ (λ i. paired_sum a b (min_second c d h i) (max_first c d h i)))
+    cond_both (int_le c d) _ _
+    (λ xs. middle_sum (insert_sorted a (insert_sorted b xs)) ≡ paired_sum a b (int_min c d) (int_max c d))
+    (λ cd. let h : c ≤ℤ d = le_of_test c d cd in among_pair a b c d h
+    ∙ (λ i. paired_sum a b (min_first c d h i) (max_second c d h i)))
+    (λ cd. let h : d ≤ℤ c = ge_of_test c d cd in among_pair a b d c h
+    ∙ (λ i. paired_sum a b (min_second c d h i) (max_first c d h i)))
 
-pub middle_half-paired : (a b c d : ℤ) → middle_half (a ∷ b ∷ c ∷ d ∷ []) ≡ int_div (paired_sum a b (int_min c d) (int_max c d)) (pos 2)
+pub middle_half-paired : (a b c d : ℤ)
+    → middle_half (a ∷ b ∷ c ∷ d ∷ []) ≡ int_div (paired_sum a b (int_min c d) (int_max c d)) (pos 2)
 middle_half-paired a b c d = ap (λ s. int_div s (pos 2)) (middle_sum-sorted a b c d)

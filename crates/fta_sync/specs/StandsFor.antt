@@ -1,6 +1,6 @@
 -- What measures stand for. Contracts see them as the list of the last four notes, the newest first.
-use Rattle.std.specs.Prelude.{◌≡◌, ℕ, ◌≤◌, ◌^◌, ℤ, pos, neg_ℤ, ◌≤ℤ◌, int_le, Bool, ◌&&◌, List, ◌∷◌, length, take}
-use Rattle.std.specs.Prelude.{count_by, IsTrue, ◌↔◌}
+use Rattle.std.specs.Prelude.{◌≡◌, ℕ, ◌≤◌, ◌^◌, ℤ, pos, neg_ℤ, ◌≤ℤ◌, int_le, Bool, ◌&&◌, List, length, take}
+use Rattle.std.specs.Prelude.{count_by}
 use Rattle.ttp_world.specs.Clock.{fta}
 
 -- so many notes make an average
@@ -22,22 +22,9 @@ pub record AreKept (count : ℕ) (newest second third fourth : ℤ) : Type 0 whe
   pub third_within : IsDeviation third
   pub fourth_within : IsDeviation fourth
 
--- these are the last of all notes, the newest first
-abbrev pub StandsFor : List ℤ → List ℤ → Type 0
-StandsFor measures notes = measures ≡ take kept_notes notes
-
--- whatever notes the one stood for, the other stands for these and one more
-abbrev pub StandsWith : List ℤ → List ℤ → ℤ → Type 0
-StandsWith old new deviation = (notes : List ℤ) → StandsFor old notes → StandsFor new (deviation ∷ notes)
-
--- this tells whether there are four notes or more
-abbrev pub IsReadyExactly : List ℤ → Bool → Type 0
-IsReadyExactly measures ready =
-    (notes : List ℤ) → StandsFor measures notes → (IsTrue ready ↔ (kept_notes ≤ length notes))
-
--- this is the average of all notes
+-- this is the average of all notes, whose last are these
 abbrev pub IsAverage : List ℤ → ℤ → Type 0
-IsAverage measures average = (notes : List ℤ) → StandsFor measures notes → average ≡ fta notes
+IsAverage measures average = (notes : List ℤ) → measures ≡ take kept_notes notes → average ≡ fta notes
 
 -- a value lies between two numbers, both included
 abbrev pub is_between : ℤ → ℤ → ℤ → Bool

@@ -1,8 +1,7 @@
 //! The deviations that were noted.
-ghost use Rattle.std.specs.Prelude.{◌≡◌, ◌≤◌, ◌↔◌, ℤ, List, [], ◌∷◌, IsTrue, length, take};
+ghost use Rattle.std.specs.Prelude.{◌≡◌, ◌≤◌, ◌↔◌, [], ◌∷◌, IsTrue, length, take};
 ghost use Rattle.ttp_world.specs.Clock.{fta};
-ghost use Rattle.fta_sync.specs.StandsFor.{kept_notes, IsDeviation, StandsFor, StandsWith, IsReadyExactly, IsAverage};
-ghost use Rattle.fta_sync.specs.StandsFor.{LiesBetween};
+ghost use Rattle.fta_sync.specs.StandsFor.{kept_notes, IsDeviation, IsAverage, LiesBetween};
 
 use crate::middle::middle_half;
 use std::marker::Model;
@@ -35,8 +34,7 @@ impl Model for Measures {
 impl Measures {
     /// Nothing noted.
     pub fn new() -> Measures
-        ensures value { result ≡ [] }
-        ensures stands { StandsFor result [] }
+        ensures { result ≡ [] }
     {
         Measures {
             newest: 0,
@@ -50,8 +48,7 @@ impl Measures {
     /// Notes one deviation more.
     pub fn note(&mut self, deviation: i64)
         requires { IsDeviation deviation }
-        ensures value { self.new ≡ take kept_notes (deviation ∷ self.old) }
-        ensures stands { StandsWith self.old self.new deviation }
+        ensures { self.new ≡ take kept_notes (deviation ∷ self.old) }
     {
         self.fourth = self.third;
         self.third = self.second;
@@ -62,8 +59,7 @@ impl Measures {
 
     /// Whether four or more were noted.
     pub fn ready(&self) -> bool
-        ensures kept { IsTrue result ↔ (kept_notes ≤ length self.now) }
-        ensures noted { IsReadyExactly self.now result }
+        ensures { IsTrue result ↔ (kept_notes ≤ length self.now) }
     {
         self.count == 4
     }
@@ -85,8 +81,7 @@ impl Measures {
 
     /// Forgets all notes.
     pub fn clear(&mut self)
-        ensures value { self.new ≡ [] }
-        ensures stands { StandsFor self.new [] }
+        ensures { self.new ≡ [] }
     {
         self.count = 0;
     }

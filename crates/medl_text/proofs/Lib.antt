@@ -1,4 +1,3 @@
 pub mod Tables
 pub mod Counts
-mod Lines
 pub mod Microticks

@@ -17,7 +17,8 @@ use Rattle.medl_text.specs.ListFile.{are_tables, tables_of, slots_faults, plans_
 pub are_tables-drop : (vs : List Value) (i : ℕ) (v : Value) → i < length vs → v ≡ get_or vs i v
     → are_tables (items_view (drop i vs)) ≡ (is_some (as_table (view v)) && are_tables (items_view (drop (i + 1) vs)))
 are_tables-drop vs i v h here =
-    ap are_tables (items_view-drop vs i v h) ∙ ap (λ (w : Value). is_some (as_table (view w)) && are_tables (items_view (drop (i + 1) vs))) (sym here)
+    ap are_tables (items_view-drop vs i v h)
+    ∙ ap (λ (w : Value). is_some (as_table (view w)) && are_tables (items_view (drop (i + 1) vs))) (sym here)
 
 -- the keys of a table are those of its entries
 pub has_only-entries : (known : List FieldName) (es : List (String Global × Value))
@@ -28,6 +29,8 @@ has_only-entries known (e ∷ es) = ap (λ rest. is_among known (string_bytes e.
 -- The first slots have no fault and were read, so that what is left decides.
 pub record AreRead (rounds modes : ℕ) (vs : List Value) (plans : List SlotPlan) (k : ℕ) : Type 0 where
   pub tables : are_tables (items_view (drop k vs)) ≡ true
-  pub faults : slots_faults rounds modes 0 (tables_of (items_view vs)) ≡ slots_faults rounds modes k (tables_of (items_view (drop k vs)))
-  pub values : plans_of modes 0 (tables_of (items_view vs)) ≡ plans ++ plans_of modes k (tables_of (items_view (drop k vs)))
+  pub faults : slots_faults rounds modes 0 (tables_of (items_view vs))
+      ≡ slots_faults rounds modes k (tables_of (items_view (drop k vs)))
+  pub values : plans_of modes 0 (tables_of (items_view vs))
+      ≡ plans ++ plans_of modes k (tables_of (items_view (drop k vs)))
   pub valid : AllByRecursion (IsValidSlot rounds modes) plans

@@ -147,7 +147,8 @@ request_faults k payload requests = if requests && (payload == 0) then errors.No
 
 unfoldable pub requests_faults : ℕ → ℕ → Members → List MedlError
 requests_faults k payload table =
-    let field = at_slot k names.Requests in optional_faults field as_bool (request_faults k payload) (held_at field table)
+    let field = at_slot k names.Requests in
+    optional_faults field as_bool (request_faults k payload) (held_at field table)
 
 -- The modes in which a slot is live. They are letters, `y` or `n`, one for each mode.
 

@@ -1,6 +1,7 @@
 -- The slot table: a line for the list, and one for each slot of each round.
-use Rattle.std.specs.Prelude.{ℕ, Bool, true, false, List, ◌++◌, length, codes, decimal}
-use Rattle.ttp_base.specs.Text.{newline, hex, texts_below}
+use Rattle.std.specs.Prelude.{ℕ, Bool, true, false, List, ◌∷◌, ◌++◌, length, map, codes, decimal}
+use Rattle.ttp_base.specs.NodeSet.{below}
+use Rattle.ttp_base.specs.Text.{Lines, newline, hex, lines_below}
 use Rattle.ttp_world.specs.declared.medl.Kind.{Kind}
 use Rattle.ttp_world.specs.declared.medl.Kind.TheVariants as kind
 use Rattle.ttp_world.specs.declared.medl.Medl.{Medl}
@@ -31,9 +32,9 @@ slot_line list round slot =
     ++ codes " start " ++ yes_or_no (plan_at list slot).start ++ newline
 
 -- the lines of a round, in the order of the slots
-abbrev pub round_lines : Medl → ℕ → List ℕ
-round_lines list round = texts_below (slot_line list round) (length list.slots)
+abbrev pub round_lines : Medl → ℕ → Lines
+round_lines list round = map (slot_line list round) (below (length list.slots))
 
 -- the slot table
-unfoldable pub slot_table : Medl → List ℕ
-slot_table list = table_head list ++ texts_below (round_lines list) list.rounds
+unfoldable pub slot_table : Medl → Lines
+slot_table list = table_head list ∷ lines_below (round_lines list) list.rounds

@@ -106,7 +106,8 @@ fn put_round<K: Sink>(list: &Medl, round: u8, out: &mut K) -> Result<(), Failed>
 }
 
 /// Writes the slot table of one cluster cycle: a line for the list, and one for each slot of each
-/// round. Each line is one piece. After `Failed`, some first bytes of the table were written.
+/// round. Each line is one piece. After `Failed`, some whole lines of the table were written, and some
+/// first bytes of the next, or none.
 ///
 /// It takes no memory. The cost is one write for each line.
 #[tactic(auto, unfolding(crate::specs::Schedule::slot_table))]

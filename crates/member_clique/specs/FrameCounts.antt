@@ -21,5 +21,7 @@ counted more count = (if more then 1 else 0) + count
 
 -- after a move
 abbrev pub moved_counts : AckMove → FrameCounts → FrameCounts
-moved_counts move counts =
-    record { accepted = counted (adds_accepted move) counts.accepted; rejected = counted (adds_rejected move) counts.rejected }
+moved_counts move counts = record {
+  accepted = counted (adds_accepted move) counts.accepted;
+  rejected = counted (adds_rejected move) counts.rejected;
+}

@@ -1,4 +1,1 @@
 pub mod FrameCounts
-pub mod Judged
-pub mod Members
-pub mod Counted

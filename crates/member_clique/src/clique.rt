@@ -1,7 +1,6 @@
 //! The frames that an active node accepted and rejected.
 ghost use Rattle.std.specs.Prelude.{◌≡◌, ◌<◌, ◌↔◌, IsTrue};
 ghost use Rattle.member_clique.specs.FrameCounts.{FrameCounts, no_counts, first_counts, counted, moved_counts};
-ghost use Rattle.member_clique.specs.Counted.{CountedIdle, CountedAfterOwn, CountedAfterJudged};
 
 use ack_check::AckMove;
 use std::marker::Model;
@@ -37,8 +36,7 @@ fn counted(count: u8, more: bool) -> u8
 impl Clique {
     /// The counts with which a node sends, starts or joins: one accepted, none rejected.
     pub fn fresh() -> Clique
-        ensures value { result ≡ first_counts }
-        ensures own { CountedAfterOwn result }
+        ensures { result ≡ first_counts }
     {
         Clique {
             accepted: 1,
@@ -48,8 +46,7 @@ impl Clique {
 
     /// The counts of a node that is not active.
     pub fn none() -> Clique
-        ensures value { result ≡ no_counts }
-        ensures idle { CountedIdle result }
+        ensures { result ≡ no_counts }
     {
         Clique {
             accepted: 0,
@@ -61,8 +58,7 @@ impl Clique {
     pub fn count(&mut self, step: AckMove)
         requires accepted { self.old.accepted < 255 }
         requires rejected { self.old.rejected < 255 }
-        ensures value { self.new ≡ moved_counts step self.old }
-        ensures judged { CountedAfterJudged self.old self.new step }
+        ensures { self.new ≡ moved_counts step self.old }
     {
         let (accepts, rejects) = match step {
             AckMove::Accept => (true, false),

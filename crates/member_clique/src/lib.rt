@@ -13,9 +13,8 @@
 //! // in its own slot, where clique.may_send(): members.add(own), and a fresh clique
 //! ```
 //!
-//! They stand for a node's diary by its members and counts, as `ttp_world` reads them from it: whatever
-//! diary they stood for, they stand after a move for that with the judged entry more, and after
-//! [`Membership::add`] of the node itself for that with the frame that it sent.
+//! What a move makes of them is said in the words of `ack_check`, which promises that a verdict's move
+//! leads to the members and counts that `ttp_world` reads of a diary with the judged entry more.
 //!
 //! The crate decides no move and sends nothing: what a verdict asks for is `ack_check`'s to say, and
 //! leaving is the work of the layer above. It takes no memory.

@@ -2,7 +2,6 @@
 ghost use Rattle.std.specs.Prelude.{◌≡◌, ◌<◌};
 ghost use Rattle.ttp_base.specs.NodeSet.{most_nodes, with_node};
 ghost use Rattle.ack_check.specs.Moves.{IsNodeMove, moved_members};
-ghost use Rattle.member_clique.specs.Members.{HoldAfterJoined, HoldAfterSent, HoldAfterJudged};
 
 use ack_check::AckMove;
 use std::marker::Model;
@@ -43,8 +42,7 @@ fn moved(members: NodeSet, step: AckMove, sender: u8) -> NodeSet
 impl Membership {
     /// A membership of these nodes: those of the C-state that a node adopts, or a starting node alone.
     pub fn of(members: NodeSet) -> Membership
-        ensures value { result ≡ members }
-        ensures joined { HoldAfterJoined members result }
+        ensures { result ≡ members }
     {
         Membership { members }
     }
@@ -54,8 +52,7 @@ impl Membership {
     pub fn apply(&mut self, step: AckMove, sender: u8)
         requires sender { sender < most_nodes }
         requires other { IsNodeMove step }
-        ensures value { self.new ≡ moved_members step self.old sender }
-        ensures judged { HoldAfterJudged self.old self.new step sender }
+        ensures { self.new ≡ moved_members step self.old sender }
     {
         self.members = moved(self.members, step, sender);
     }
@@ -63,8 +60,7 @@ impl Membership {
     /// Puts a node in: the node itself, where it sends.
     pub fn add(&mut self, node: u8)
         requires { node < most_nodes }
-        ensures value { self.new ≡ with_node self.old node }
-        ensures sent { HoldAfterSent self.old self.new node }
+        ensures { self.new ≡ with_node self.old node }
     {
         self.members = self.members.with(node);
     }

@@ -2,7 +2,7 @@
 ghost use Rattle.std.specs.Prelude.{◌≡◌, ◌+◌, ◌<◌, ◌↔◌, IsTrue, length};
 ghost use Rattle.ttp_world.specs.Diary.{joined_place, cstate_at};
 ghost use Rattle.ttp_world.specs.Medl.{IsValid};
-ghost use Rattle.slot_clock.specs.StandsFor.{StandsFor, StandsAtJoin, StandsAtNext, StandsAtEntry, EndsRound};
+ghost use Rattle.slot_clock.specs.StandsFor.{StandsFor, StandsAtNext};
 
 use std::marker::Model;
 use ttp_base::NodeSet;
@@ -51,8 +51,7 @@ impl SlotClock {
         requires valid { IsValid list.now }
         requires round { cstate.now.round < list.now.rounds }
         requires slot { cstate.now.slot < length list.now.slots }
-        ensures stands { StandsFor result list.now (joined_place cstate.now) }
-        ensures joined { StandsAtJoin result list.now cstate.now }
+        ensures { StandsFor result list.now (joined_place cstate.now) }
     {
         SlotClock {
             time: cstate.time,
@@ -66,8 +65,7 @@ impl SlotClock {
     /// Goes on by one slot: after the last slot of a round to the next round, and after the last round
     /// to the first.
     pub fn next(&mut self)
-        ensures stands { StandsAtNext self.old self.new }
-        ensures entry { StandsAtEntry self.old self.new }
+        ensures { StandsAtNext self.old self.new }
     {
         self.time = self.time.wrapping_add(1);
         if self.slot + 1 == self.slots {
@@ -103,8 +101,7 @@ impl SlotClock {
 
     /// Whether this is the last slot of a round.
     pub fn ends_round(&self) -> bool
-        ensures last { IsTrue result ↔ (self.now.place.slot + 1 ≡ self.now.slots) }
-        ensures value { EndsRound self.now result }
+        ensures { IsTrue result ↔ (self.now.place.slot + 1 ≡ self.now.slots) }
     {
         self.slot + 1 == self.slots
     }

@@ -11,7 +11,7 @@
 //! ```
 //!
 //! It stands for a place of a descriptor list's cycle, in the words of `ttp_world`: a call of `next`
-//! takes it to `next_place`, and so along the diary of an active node from one entry to the next.
+//! takes it to `next_place`, where the next entry of an active node lies.
 //! Times are counted modulo 65536, rounds modulo the list's rounds.
 //!
 //! The crate knows no microticks: how far a node's clock is ahead within the slot is measured and

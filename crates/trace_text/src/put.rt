@@ -1,5 +1,5 @@
 //! The lines, written.
-ghost use Rattle.std.specs.Prelude.{OnOk, OnErr};
+ghost use Rattle.std.specs.Prelude.{[], ◌∷◌, OnOk, OnErr};
 ghost use Rattle.ttp_base.specs.Outside.{WroteLines, CutShort};
 ghost use Rattle.ttp_world.specs.Medl.{IsValid};
 ghost use Rattle.ttp_world.specs.Trace.{trace_head, keep_line};
@@ -15,8 +15,10 @@ use ttp_world::{Keep, Medl, NodeState, Script};
 /// line were written, or none. Takes no memory.
 pub fn put_header<K: Sink>(list: &Medl, script: &Script, out: &mut K) -> Result<(), Failed>
     requires { IsValid list.now }
-    ensures ok { OnOk result (WroteLines (K.output out.old) (K.output out.new) (trace_head list.now script.now)) }
-    ensures failed { OnErr result (CutShort (K.output out.old) (K.output out.new) (trace_head list.now script.now)) }
+    ensures ok { OnOk result (WroteLines (K.output out.old) (K.output out.new)
+        (trace_head list.now script.now ∷ [])) }
+    ensures failed { OnErr result (CutShort (K.output out.old) (K.output out.new)
+        (trace_head list.now script.now ∷ [])) }
 {
     out.write(head_line(list, script).bytes())
 }
@@ -38,9 +40,9 @@ pub fn put_node_line<K: Sink>(
 ) -> Result<(), Failed>
     requires { HasDigits list.now state.now }
     ensures ok { OnOk result (WroteLines (K.output out.old) (K.output out.new)
-        (listed_line list.now slot node state.now message)) }
+        (listed_line list.now slot node state.now message ∷ [])) }
     ensures failed { OnErr result (CutShort (K.output out.old) (K.output out.new)
-        (listed_line list.now slot node state.now message)) }
+        (listed_line list.now slot node state.now message ∷ [])) }
 {
     make_node_line(list, slot, node, state, message, line);
     out.write(line.bytes())
@@ -49,8 +51,8 @@ pub fn put_node_line<K: Sink>(
 /// Writes the line of the hypothesis test, `keeps yes start S` or `keeps no HR T`, as one piece.
 /// `Failed` is the sink's: some first bytes of the line were written, or none. Takes no memory.
 pub fn put_keep<K: Sink>(keep: &Keep, out: &mut K) -> Result<(), Failed>
-    ensures ok { OnOk result (WroteLines (K.output out.old) (K.output out.new) (keep_line keep.now)) }
-    ensures failed { OnErr result (CutShort (K.output out.old) (K.output out.new) (keep_line keep.now)) }
+    ensures ok { OnOk result (WroteLines (K.output out.old) (K.output out.new) (keep_line keep.now ∷ [])) }
+    ensures failed { OnErr result (CutShort (K.output out.old) (K.output out.new) (keep_line keep.now ∷ [])) }
 {
     out.write(keep_line(keep).bytes())
 }

@@ -1,5 +1,6 @@
 -- Lines, and the lines that bytes are cut into.
-use Rattle.std.proofs.Common.{◌≡◌, ℕ, ◌==◌, Bool, true, false, cond, ◌||◌, List, [], ◌∷◌, ◌++◌, length, refl, ap, ◌∙◌, arith}
+use Rattle.std.proofs.Common.{◌≡◌, ℕ, ◌==◌, Bool, true, false, cond, ◌||◌, List, [], ◌∷◌, ◌++◌, length, refl, ap, ◌∙◌}
+use Rattle.std.proofs.Common.{arith}
 use Rattle.std.specs.List.{concat, AllByRecursion}
 use Rattle.ttp_base.specs.Text.{Lines, newline, is_line, before_lines, lines_of}
 use Rattle.ttp_base.proofs.Numerals.{has}
@@ -32,7 +33,8 @@ lines_of-line (b ∷ line) more is = go (b == 10) refl is (lines_of-line line mo
     go false feed is after = ap (before_lines b) (after is)
 
 -- a text's bytes are cut into its lines again
-pub lines_of-concat : (lines : Lines) → AllByRecursion (λ line. is_line line ≡ true) lines → lines_of (concat lines) ≡ lines
+pub lines_of-concat : (lines : Lines) → AllByRecursion (λ line. is_line line ≡ true) lines
+    → lines_of (concat lines) ≡ lines
 lines_of-concat [] are = refl
 lines_of-concat (line ∷ lines) are =
     lines_of-line line (concat lines) are.0 ∙ ap (λ (rest : Lines). line ∷ rest) (lines_of-concat lines are.1)

@@ -15,9 +15,11 @@ filter-none p a (suc n) fails =
     rw here (filter-none p (a + 1) n (λ j from. fails j (omega arith)))
 
 -- of t numbers from a on, those below a + n that pass a test are those of the first n
-filter-range : (p : ℕ → Bool) (a n t b : ℕ) → n ≤ t → b ≡ a + n → filter (λ j. ltb j b && p j) (range_with_len a t) ≡ filter p (range_with_len a n)
+filter-range : (p : ℕ → Bool) (a n t b : ℕ) → n ≤ t → b ≡ a + n
+    → filter (λ j. ltb j b && p j) (range_with_len a t) ≡ filter p (range_with_len a n)
 filter-range p a zero t b fits is =
-    filter-none (λ j. ltb j b && p j) a t (λ j from. let past : ltb j b ≡ false = le-ltb j b (omega arith) in ap (λ c. c && p j) past)
+    filter-none (λ j. ltb j b && p j) a t
+    (λ j from. let past : ltb j b ≡ false = le-ltb j b (omega arith) in ap (λ c. c && p j) past)
 filter-range p a (suc n) zero b fits is = absurd (omega arith)
 filter-range p a (suc n) (suc t) b fits is =
     let within : ltb a b ≡ true = lt-ltb a b (omega arith) in
@@ -40,9 +42,11 @@ has_node-past : (p : ℕ → Bool) (n j : ℕ) → n ≤ j → has_node (filter 
 has_node-past p n j past = has_node-filter p (below n) j ∙ and_right (p j) _ (has_node-range_past 0 n j (omega arith))
 
 -- a node of the list put in
-pub with_node-filter : (p : ℕ → Bool) (n k : ℕ) → k < n → n ≤ most_nodes → with_node (filter p (below n)) k ≡ filter (λ j. (j == k) || p j) (below n)
+pub with_node-filter : (p : ℕ → Bool) (n k : ℕ) → k < n → n ≤ most_nodes
+    → with_node (filter p (below n)) k ≡ filter (λ j. (j == k) || p j) (below n)
 unfolding with_node
-with_node-filter p n k within fits = same_sieve was now most_nodes each ∙ filter-below (λ j. (j == k) || p j) n most_nodes fits
+with_node-filter p n k within fits =
+    same_sieve was now most_nodes each ∙ filter-below (λ j. (j == k) || p j) n most_nodes fits
   where
     was : ℕ → Bool
     was j = (j == k) || has_node (filter p (below n)) j
@@ -64,11 +68,13 @@ with_node-filter p n k within fits = same_sieve was now most_nodes each ∙ filt
     ]
 
 -- a node taken out
-pub without_node-filter : (p : ℕ → Bool) (n k : ℕ) → without_node (filter p (below n)) k ≡ filter (λ j. p j && not (j == k)) (below n)
+pub without_node-filter : (p : ℕ → Bool) (n k : ℕ)
+    → without_node (filter p (below n)) k ≡ filter (λ j. p j && not (j == k)) (below n)
 without_node-filter p n k = filter-filter p (λ j. not (j == k)) (below n)
 
 -- one more number: it is put in where it passes
-pub with_node-next : (p : ℕ → Bool) (n : ℕ) → n < most_nodes → p n ≡ true → with_node (filter p (below n)) n ≡ filter p (below (n + 1))
+pub with_node-next : (p : ℕ → Bool) (n : ℕ) → n < most_nodes → p n ≡ true
+    → with_node (filter p (below n)) n ≡ filter p (below (n + 1))
 unfolding with_node
 with_node-next p n small passes = same_sieve was now most_nodes each ∙ filter-below p (n + 1) most_nodes (omega arith)
   where
@@ -101,7 +107,9 @@ with_node-next p n small passes = same_sieve was now most_nodes each ∙ filter-
 
 -- and left out where it does not
 pub filter-next : (p : ℕ → Bool) (n : ℕ) → n < most_nodes → p n ≡ false → filter p (below n) ≡ filter p (below (n + 1))
-filter-next p n small fails = sym (filter-below p n most_nodes (omega arith)) ∙ same_sieve was now most_nodes each ∙ filter-below p (n + 1) most_nodes (omega arith)
+filter-next p n small fails =
+    sym (filter-below p n most_nodes (omega arith)) ∙ same_sieve was now most_nodes each
+    ∙ filter-below p (n + 1) most_nodes (omega arith)
   where
     was : ℕ → Bool
     was j = ltb j n && p j
@@ -132,7 +140,9 @@ filter-one a zero k from to = absurd (omega arith)
 filter-one a (suc n) k from to = elim (cases_eq a k) [
   | inl same ↦
       let here : (a == k) ≡ true = eq-eqb a k same in
-      let none = filter-none (λ j. (j == k) || false) (a + 1) n (λ j past. let off : (j == k) ≡ false = ne_eqb j k (λ is. omega arith) in ap (λ b. b || false) off) in
+      let none =
+      filter-none (λ j. (j == k) || false) (a + 1) n
+      (λ j past. let off : (j == k) ≡ false = ne_eqb j k (λ is. omega arith) in ap (λ b. b || false) off) in
       rw (here, none) (ap (λ j. j ∷ []) same)
   | inr other ↦
       let off : (a == k) ≡ false = ne_eqb a k other in

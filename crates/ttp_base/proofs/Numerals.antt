@@ -1,5 +1,6 @@
 -- What no numeral has: a byte before the sign and the digits, as a line feed or a space.
-use Rattle.std.proofs.Common.{◌≡◌, ℕ, zero, suc, ◌+◌, ◌/◌, ◌%◌, ◌==◌, ◌<◌, Bool, true, false, cond, nat_lt, ℤ, pos, negsuc}
+use Rattle.std.proofs.Common.{◌≡◌, ℕ, zero, suc, ◌+◌, ◌/◌, ◌%◌, ◌==◌, ◌<◌, Bool, true, false, cond, nat_lt, ℤ, pos}
+use Rattle.std.proofs.Common.{negsuc}
 use Rattle.std.proofs.Common.{List, [], ◌∷◌, ◌++◌, refl, ◌∙◌, arith}
 use Rattle.std.specs.List.{list_any}
 use Rattle.std.specs.Fmt.{digit_glyph, digits_onto, digits, decimal, signed_decimal}
@@ -45,7 +46,8 @@ has-hex b (suc digits) v low =
 
 has-byte_hex : (b byte : ℕ) → b < 45 → has b (byte_hex byte) ≡ false
 has-byte_hex b byte low =
-    rw (glyph_differs b (nat_lt (byte / 16) 10) (byte / 16) low, glyph_differs b (nat_lt (byte % 16) 10) (byte % 16) low) refl
+    let high = glyph_differs b (nat_lt (byte / 16) 10) (byte / 16) low in
+    rw (high, glyph_differs b (nat_lt (byte % 16) 10) (byte % 16) low) refl
 
 pub has-hex_bytes : (b : ℕ) (bytes : List ℕ) → b < 45 → has b (hex_bytes bytes) ≡ false
 has-hex_bytes b [] low = refl

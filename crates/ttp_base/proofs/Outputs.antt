@@ -48,13 +48,10 @@ CutShort-after a b c x y p q = record {
   text = ap (λ (lines : Lines). x ++ lines) q.text ∙ sym (append_assoc x q.whole (q.next ∷ q.rest));
   given = rw (q.given, p.given, append_assoc) refl;
   front =
-      let n = q.front.0 in (
-        n,
-        subst (Appends a.written c.written)
-            (sym (ap (λ (bytes : List ℕ). bytes ++ take n q.next) (concat-append x q.whole)
-            ∙ append_assoc (concat x) (concat q.whole) (take n q.next)))
-            (Appends-join a.written b.written c.written (concat x) (concat q.whole ++ take n q.next) p.bytes q.front.1),
-      );
+      let n = q.front.0 in
+      let joined =
+      Appends-join a.written b.written c.written (concat x) (concat q.whole ++ take n q.next) p.bytes q.front.1 in
+      (n, rw (concat-append x q.whole, append_assoc) joined);
   risen = subst (λ n. HasRisen n c.faults) p.quiet q.risen;
   count = subst (λ n. n ≤ c.faults) p.quiet q.count;
 }

@@ -17,18 +17,23 @@ use Rattle.ttp_base.proofs.NodeSets.{members_in-with, members_in-without, member
 
 -- the n + m numbers from a on are the first n and then m more
 range_with_len-split : (a n m : ℕ) → range_with_len a (n + m) ≡ range_with_len a n ++ range_with_len (a + n) m
-range_with_len-split a zero m = λ i. range_with_len ((let e : a ≡ a + 0 = omega arith in e) i) ((let e : 0 + m ≡ m = omega arith in e) i)
+range_with_len-split a zero m =
+    λ i. range_with_len ((let e : a ≡ a + 0 = omega arith in e) i) ((let e : 0 + m ≡ m = omega arith in e) i)
 range_with_len-split a (suc n) m =
     let more : suc n + m ≡ suc (n + m) = omega arith in
     let next : a + 1 + n ≡ a + suc n = omega arith in
-    ap (range_with_len a) more ∙ ap (λ ks. a ∷ ks) (range_with_len-split (a + 1) n m ∙ ap (λ b. range_with_len (a + 1) n ++ range_with_len b m) next)
+    ap (range_with_len a) more
+    ∙ ap (λ ks. a ∷ ks)
+    (range_with_len-split (a + 1) n m ∙ ap (λ b. range_with_len (a + 1) n ++ range_with_len b m) next)
 
 -- those below n + m that pass a test are those below n where none passes from n on
-filter-below_more : (p : ℕ → Bool) (n m : ℕ) → ((j : ℕ) → n ≤ j → p j ≡ false) → filter p (below (n + m)) ≡ filter p (below n)
+filter-below_more : (p : ℕ → Bool) (n m : ℕ) → ((j : ℕ) → n ≤ j → p j ≡ false)
+    → filter p (below (n + m)) ≡ filter p (below n)
 filter-below_more p n m none =
     let zero_n : 0 + n ≡ n = omega arith in
     ap (filter p) (range_with_len-split 0 n m ∙ ap (λ b. below n ++ range_with_len b m) zero_n)
-    ∙ filter-append p (below n) (range_with_len n m) ∙ ap (λ t. filter p (below n) ++ t) (filter-none p n m none) ∙ append-nil (filter p (below n))
+    ∙ filter-append p (below n) (range_with_len n m) ∙ ap (λ t. filter p (below n) ++ t) (filter-none p n m none)
+    ∙ append-nil (filter p (below n))
 
 -- The word of a test.
 
@@ -64,9 +69,12 @@ unfolding word_from
 bit_at-word_from p a zero i k within at = absurd (omega arith)
 bit_at-word_from p a (suc n) zero k within at =
     let here : a ≡ k = omega arith in
-    bit_at_lowest (cond (p a) 1 0 + 2 * word_from p (a + 1) n) ∙ lowest_of (word_from p (a + 1) n) (p a) ∙ ap (λ j. cond (p j) 1 0) here
+    bit_at_lowest (cond (p a) 1 0 + 2 * word_from p (a + 1) n) ∙ lowest_of (word_from p (a + 1) n) (p a)
+    ∙ ap (λ j. cond (p j) 1 0) here
 bit_at-word_from p a (suc n) (suc i) k within at =
-    bit_at-suc (cond (p a) 1 0 + 2 * word_from p (a + 1) n) i ∙ ap (λ w. bit_at w i) (others_of (word_from p (a + 1) n) (p a)) ∙ bit_at-word_from p (a + 1) n i k (omega arith) (omega arith)
+    bit_at-suc (cond (p a) 1 0 + 2 * word_from p (a + 1) n) i
+    ∙ ap (λ w. bit_at w i) (others_of (word_from p (a + 1) n) (p a))
+    ∙ bit_at-word_from p (a + 1) n i k (omega arith) (omega arith)
 
 -- a bit made of a test is that test
 is_one : (b : Bool) → (cond b 1 0 == 1) ≡ b
@@ -79,8 +87,10 @@ unfolding members_in
 members_in-word_from p n m all =
     let word = word_from p 0 n in
     let set = λ (k : ℕ). bit_at word k == 1 in
-    let above : (j : ℕ) → n ≤ j → set j ≡ false = λ j from. ap (λ b. b == 1) (bit_at_above word n j (word_from-lt p 0 n) from) in
-    let each : (j : ℕ) → j < n → set j ≡ p j = λ j within. ap (λ b. b == 1) (bit_at-word_from p 0 n j j within (omega arith)) ∙ is_one (p j) in
+    let above : (j : ℕ) → n ≤ j → set j ≡ false =
+    λ j from. ap (λ b. b == 1) (bit_at_above word n j (word_from-lt p 0 n) from) in
+    let each : (j : ℕ) → j < n → set j ≡ p j =
+    λ j within. ap (λ b. b == 1) (bit_at-word_from p 0 n j j within (omega arith)) ∙ is_one (p j) in
     ap (λ count. filter set (below count)) (sym all) ∙ filter-below_more set n m above ∙ same_sieve set p n each
 
 -- Sets with a word of so many bits.
@@ -104,15 +114,19 @@ HasWord-filter bits p n few fits = record {
 }
 
 -- a set with one more node
-pub HasWord-with : (bits : ℕ) (s : List ℕ) (k : ℕ) → HasWord bits s → k < bits → k < most_nodes → HasWord bits (with_node s k)
+pub HasWord-with : (bits : ℕ) (s : List ℕ) (k : ℕ) → HasWord bits s → k < bits → k < most_nodes
+    → HasWord bits (with_node s k)
 HasWord-with bits s k has small within = record {
   word = _;
-  fits = subst (λ mask. bit_or has.word mask < 2 ^ bits) (sym (one_shl k 32 (omega arith))) (or_lt bits has.word (2 ^ k) has.fits (pow_below k bits small));
+  fits =
+      subst (λ mask. bit_or has.word mask < 2 ^ bits) (sym (one_shl k 32 (omega arith)))
+      (or_lt bits has.word (2 ^ k) has.fits (pow_below k bits small));
   is = members_in-with has.word k s has.is within;
 }
 
 -- a set with one node less
-pub HasWord-without : (bits : ℕ) (s : List ℕ) (k : ℕ) → HasWord bits s → k < most_nodes → HasWord bits (without_node s k)
+pub HasWord-without : (bits : ℕ) (s : List ℕ) (k : ℕ) → HasWord bits s → k < most_nodes
+    → HasWord bits (without_node s k)
 HasWord-without bits s k has within = record {
   word = _;
   fits = omega (arith, and_le_l has.word (bit_not w32 (1 * 2 ^ k % 2 ^ 32)), has.fits);
@@ -121,13 +135,15 @@ HasWord-without bits s k has within = record {
 
 -- the set of one node
 pub HasWord-only : (bits k : ℕ) → k < bits → k < most_nodes → HasWord bits (k ∷ [])
-HasWord-only bits k small within = subst (HasWord bits) (with_node-nil k within) (HasWord-with bits [] k (HasWord-nil bits) small within)
+HasWord-only bits k small within =
+    subst (HasWord bits) (with_node-nil k within) (HasWord-with bits [] k (HasWord-nil bits) small within)
 
 -- The word of such a set is told by its members, and tells them.
 
 set_bits_is : (bits : ℕ) (s : List ℕ) (has : HasWord bits s) → bits ≤ most_nodes → set_bits s ≡ has.word
 set_bits_is bits s has few =
-    let within : has.word < 2 ^ most_nodes = (let wider : 2 ^ bits ≤ 2 ^ most_nodes = pow-le-pow_right (zero-lt-suc 1) few in omega (arith, has.fits)) in
+    let within : has.word < 2 ^ most_nodes =
+    (let wider : 2 ^ bits ≤ 2 ^ most_nodes = pow-le-pow_right (zero-lt-suc 1) few in omega (arith, has.fits)) in
     sym (ap set_bits has.is) ∙ bits_of_members has.word within
 
 -- so the bits of its members are that word, and small

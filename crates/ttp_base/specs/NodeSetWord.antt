@@ -23,10 +23,14 @@ bits_from word a zero = sym (ap (λ r. r * 2 ^ a) (mod-one (word / 2 ^ a)) ∙ z
 bits_from word a (suc n) =
     let high = word / 2 ^ a in
     let rest = high / 2 % 2 ^ n in
-    set_bits-cond (high % 2) a (filter (λ k. bit_at word k == 1) (range_with_len (a + 1) n)) (mod-lt high (zero-lt-suc 1))
-    ∙ ap (λ r. high % 2 * 2 ^ a + r) (bits_from word (a + 1) n ∙ (λ i. sym (shr-shr word a 1) i % 2 ^ n * (pow-add 2 a 1 ∙ mul_comm (2 ^ a) 2) i) ∙ sym (mul_assoc rest 2 (2 ^ a)))
+    set_bits-cond (high % 2) a (filter (λ k. bit_at word k == 1) (range_with_len (a + 1) n))
+    (mod-lt high (zero-lt-suc 1))
+    ∙ ap (λ r. high % 2 * 2 ^ a + r)
+    (bits_from word (a + 1) n ∙ (λ i. sym (shr-shr word a 1) i % 2 ^ n * (pow-add 2 a 1 ∙ mul_comm (2 ^ a) 2) i)
+    ∙ sym (mul_assoc rest 2 (2 ^ a)))
     ∙ sym (add-mul (high % 2) (rest * 2) (2 ^ a))
-    ∙ ap (λ r. r * 2 ^ a) (add_comm (high % 2) (rest * 2) ∙ sym (mod-pow-add high n 1) ∙ ap (λ j. high % 2 ^ j) (add-one n))
+    ∙ ap (λ r. r * 2 ^ a)
+    (add_comm (high % 2) (rest * 2) ∙ sym (mod-pow-add high n 1) ∙ ap (λ j. high % 2 ^ j) (add-one n))
 
 -- the members of a word have it as their word
 pub bits_of_members : (word : ℕ) → word < 2 ^ most_nodes → set_bits (members_in word) ≡ word

@@ -2,4 +2,3 @@ mod Parts
 pub mod Files
 pub mod Calls
 pub mod Scripts
-mod FormerClauses

@@ -1,3 +1,4 @@
+pub mod Texts
 pub mod Plan
 pub mod Outcome
 pub mod Files

@@ -8,8 +8,8 @@ ghost use Rattle.ttp_top.specs.Calls.Words.{run, texts_of, form_of, form_asked};
 ghost use Rattle.ttp_top.specs.Scripts.Promise.{RunPromise};
 
 use crate::lines::say;
+use crate::run::{keeps, run};
 use crate::schedule::schedule;
-use crate::shown::{Shown, show_files};
 use crate::words::{Command, command_of};
 use std::alloc::Global;
 use std::sync::Wait;
@@ -32,12 +32,8 @@ fn obey<L: Library, K: Sink>(
 {
     match command {
         Command::Schedule { list } => schedule(alloc, list, library, out),
-        Command::Run { list, script } => {
-            show_files(alloc, Shown::Trace, list, script, library, out)
-        }
-        Command::Keeps { list, script } => {
-            show_files(alloc, Shown::Keep, list, script, library, out)
-        }
+        Command::Run { list, script } => run(alloc, list, script, library, out),
+        Command::Keeps { list, script } => keeps(alloc, list, script, library, out),
         Command::NoForm => say(out, USAGE.as_bytes(), 2),
     }
 }
@@ -58,7 +54,7 @@ fn obey<L: Library, K: Sink>(
 /// | 3 | exactly where the list is longer than 1,048,576 bytes or refused | a line that begins `list: ` |
 /// | 4 | exactly where the script is longer than 1,048,576 bytes or refused | a line that begins `script: ` |
 /// | 5 | only where the count of the file's name rose, and no earlier refusal came | `load: list` or `load: script` |
-/// | 6 | only where the sink's count rose | a prefix of the text that was due |
+/// | 6 | only where the sink's count rose | so many whole lines of a text that was due, and a front of the next |
 /// | 7 | want of memory | nothing |
 ///
 /// The library is asked for the files of the form, each once, in the order of the words, and for a
@@ -79,7 +75,8 @@ pub fn bench<R: Threads + Wait + Sync, L: Library, K: Sink, G: Gate>(
     // The promise of every form: what is asked for, how it ends, and what is written.
     ensures promise { Promise (form_of (texts_of words.now)) (outside (L.files library.old) (K.output out.old))
         (outside (L.files library.new) (K.output out.new)) result }
-    // For `run`, in its own words: status 0 is the trace of the world's run, and right files give it.
+    // For `run`, in its own words: status 0 is the trace of the world's run for the numbers that the trace
+    // names, which are legal; right files give one; and status 6 is one that was cut short.
     ensures run { (list script : List ℕ) → form_of (texts_of words.now) ≡ Some (run list script)
         → RunPromise list script (outside (L.files library.old) (K.output out.old))
         (outside (L.files library.new) (K.output out.new)) result }

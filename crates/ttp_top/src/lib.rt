@@ -9,15 +9,15 @@
 #![tactic(auto)]
 
 mod call;
-#[cfg(test)]
-mod former;
 mod lines;
+mod load;
 mod read;
+mod run;
 mod schedule;
-mod shown;
 mod words;
 
 pub use call::bench;
+pub use read::FileFault;
 
 #[cfg(test)]
 mod tests;

@@ -17,8 +17,8 @@ pub(crate) const LIST_LIMIT: usize = 1_048_576;
 pub(crate) const SCRIPT_LIMIT: usize = 1_048_576;
 
 /// What is wrong with a file's bytes.
-#[derive(Clone, Copy)]
-pub(crate) enum FileFault {
+#[derive(Clone, Copy, Debug, PartialEq, Eq)]
+pub enum FileFault {
     /// They are more than the limit.
     TooLarge,
     /// They are no list, or none that is taken.

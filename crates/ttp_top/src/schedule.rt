@@ -1,26 +1,25 @@
 //! The command `schedule MEDL`.
-ghost use Rattle.ttp_top.specs.Calls.Forms.{schedule_ending, schedule_plan};
-ghost use Rattle.ttp_top.specs.Calls.Outcome.{Shows, Follows};
+ghost use Rattle.std.specs.Prelude.{Some};
+ghost use Rattle.ttp_world.specs.Medl.{IsValid};
+ghost use Rattle.ttp_top.specs.Calls.Forms.{table_ending, plan_of};
+ghost use Rattle.ttp_top.specs.Calls.Outcome.{Says, Follows};
 ghost use Rattle.ttp_top.specs.Calls.Plan.{outside};
+ghost use Rattle.ttp_top.specs.Calls.Words.{schedule};
 
-use crate::lines::{fault_line, say};
-use crate::read::{LIST_LIMIT, Refusal, list_from};
+use crate::load::load_list;
 use medl_text::put_schedule;
 use std::alloc::Global;
-use ttp_base::{Library, LoadError, Sink};
+use ttp_base::{Library, Sink};
+use ttp_world::Medl;
 
-// The slot table of the list that these bytes are, or what is wrong with it.
-#[tactic(auto, unfolding(crate::specs::Calls::Forms::schedule_ending))]
-fn show_schedule<K: Sink>(alloc: Global, bytes: &[u8], out: &mut K) -> u8
-    ensures { Shows (schedule_ending bytes.now) (K.output out.old) (K.output out.new) result }
+// The slot table of a list.
+fn show_table<K: Sink>(list: &Medl, out: &mut K) -> u8
+    requires { IsValid list.now }
+    ensures { Says (table_ending list.now) (K.output out.old) (K.output out.new) result }
 {
-    match list_from(alloc, bytes) {
-        Ok(list) => match put_schedule(&list, out) {
-            Ok(()) => 0,
-            Err(_) => 6,
-        },
-        Err(Refusal::Told(fault)) => say(out, fault_line("list", fault).bytes(), 3),
-        Err(Refusal::Memory) => 7,
+    match put_schedule(list, out) {
+        Ok(()) => 0,
+        Err(_) => 6,
     }
 }
 
@@ -31,12 +30,11 @@ pub(crate) fn schedule<L: Library, K: Sink>(
     library: &mut L,
     out: &mut K,
 ) -> u8
-    ensures { Follows (schedule_plan list.now) (outside (L.files library.old) (K.output out.old))
+    ensures { Follows (plan_of (Some (schedule list.now))) (outside (L.files library.old) (K.output out.old))
         (outside (L.files library.new) (K.output out.new)) result }
 {
-    match library.load(alloc, list, LIST_LIMIT) {
-        Ok(bytes) => show_schedule(alloc, bytes.as_slice(), out),
-        Err(LoadError::Failed) => say(out, b"load: list\n", 5),
-        Err(LoadError::Memory) => 7,
+    match load_list(alloc, list, library, out) {
+        Ok(medl) => show_table(&medl, out),
+        Err(status) => status,
     }
 }

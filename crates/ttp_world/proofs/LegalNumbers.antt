@@ -63,7 +63,11 @@ status_messages-count list script [] k = omega arith
 status_messages-count list script (row ∷ history) k =
     let new = status_words list (length history) (node_past list script (row ∷ history) k)
     (is_some (delivered_of list script history row k)) in
-    omega (arith, length-append (status_messages list script history k) (new ∷ []), status_messages-count list script history k)
+    omega (
+      arith,
+      length-append (status_messages list script history k) (new ∷ []),
+      status_messages-count list script history k,
+    )
 
 ring_messages-few : (list : Medl) (script : Script) (history : History) (k : ℕ) (from : Source)
     → length (ring_messages list script history k from) ≤ 1 + length history
@@ -79,7 +83,12 @@ legal_message-small list script valid valid_script slot k within None legal = tt
 legal_message-small list script valid valid_script slot k within (Some i) legal =
     let newest = newest_number (out_messages list script k slot) in
     let parts = and_parts (nat_le (newest_number (messages_before list script k slot)) i) (nat_le i newest) legal in
-    omega (arith, leb-true i newest parts.1, messages_before-few list script valid valid_script k (suc slot), valid_script.slots.1)
+    omega (
+      arith,
+      leb-true i newest parts.1,
+      messages_before-few list script valid valid_script k (suc slot),
+      valid_script.slots.1,
+    )
 
 -- The numbers of reads.
 
@@ -94,7 +103,8 @@ legal_reads-small list script before after few (r ∷ reads) (i ∷ numbers) sam
     let parts = and_parts (is_legal_read list script before after (record { read = r; number = i }))
     (list_all (is_legal_read list script before after) (read_messages reads numbers)) legal in
     let newest = newest_number (ring_messages list script after r.host r.source) in
-    let most = and_parts (nat_le (newest_number (ring_messages list script before r.host r.source)) i) (nat_le i newest) parts.0 in (
+    let oldest = newest_number (ring_messages list script before r.host r.source) in
+    let most = and_parts (nat_le oldest i) (nat_le i newest) parts.0 in (
       omega (arith, leb-true i newest most.1, ring_messages-few list script after r.host r.source),
       legal_reads-small list script before after few reads numbers (omega (arith, same)) parts.1,
     )

@@ -1,3 +1,4 @@
+pub mod Averages
 pub mod Carried
 pub mod Covering
 pub mod Entries

@@ -19,11 +19,12 @@ map_of_map g f (x ∷ xs) = ap (λ ys. g (f x) ∷ ys) (map_of_map g f xs)
 
 -- Where none passes, none is found.
 
-pub find-none : {X : Type 0} (p : X → Bool) (xs : List X) → AllByRecursion (λ x. p x ≡ false) xs → find p xs ≡ None
+find-none : {X : Type 0} (p : X → Bool) (xs : List X) → AllByRecursion (λ x. p x ≡ false) xs → find p xs ≡ None
 find-none p [] none = refl
 find-none p (x ∷ xs) none = ap (λ (b : Bool). cond b (Some x) (find p xs)) none.0 ∙ find-none p xs none.1
 
-pub filter_map-none : {X Y : Type 0} (h : X → Option Y) (xs : List X) → AllByRecursion (λ x. h x ≡ None) xs → filter_map h xs ≡ []
+pub filter_map-none : {X Y : Type 0} (h : X → Option Y) (xs : List X) → AllByRecursion (λ x. h x ≡ None) xs
+    → filter_map h xs ≡ []
 filter_map-none h [] none = refl
 filter_map-none h (x ∷ xs) none = ap (λ o. cons_option o (filter_map h xs)) none.0 ∙ filter_map-none h xs none.1
 
@@ -43,7 +44,8 @@ pub filter_map-between : {X Y : Type 0} (h : X → Option Y) (before xs after : 
     → AllByRecursion (λ x. h x ≡ None) before → AllByRecursion (λ x. h x ≡ None) after
     → filter_map h (before ++ (xs ++ after)) ≡ filter_map h xs
 filter_map-between h before xs after none none_after =
-    filter_map-append h before (xs ++ after) ∙ ap (λ ys. ys ++ filter_map h (xs ++ after)) (filter_map-none h before none)
+    filter_map-append h before (xs ++ after)
+    ∙ ap (λ ys. ys ++ filter_map h (xs ++ after)) (filter_map-none h before none)
     ∙ filter_map-append h xs after ∙ ap (λ ys. filter_map h xs ++ ys) (filter_map-none h after none_after)
     ∙ append-nil (filter_map h xs)
 
@@ -53,7 +55,8 @@ find-none_in_range : {X : Type 0} (p : X → Bool) (f : ℕ → X) (a n : ℕ)
     → ((j : ℕ) → a ≤ j → j < a + n → p (f j) ≡ false) → find p (map f (range_with_len a n)) ≡ None
 find-none_in_range p f a zero none = refl
 find-none_in_range p f a (suc n) none =
-    ap (λ (b : Bool). cond b (Some (f a)) (find p (map f (range_with_len (a + 1) n)))) (none a (omega arith) (omega arith))
+    ap (λ (b : Bool). cond b (Some (f a)) (find p (map f (range_with_len (a + 1) n))))
+    (none a (omega arith) (omega arith))
     ∙ find-none_in_range p f (a + 1) n (λ j low high. none j (omega arith) (omega arith))
 
 find-in_range : {X : Type 0} (p : X → Bool) (f : ℕ → X) (a n k : ℕ) → a ≤ k → k < a + n

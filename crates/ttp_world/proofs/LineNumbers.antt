@@ -128,11 +128,13 @@ sending-own s k e message words line =
     sending-node s s k k (entry_word e) message words line
     ∙ all_equal _ _ _ (is_own_frame e) (send_word e) (bytes_eq-same (decimal s)) (bytes_eq-same (decimal k))
 
-number_or_dash-named : (message : Option ℕ) → IfSome message (λ i. i < 2 ^ 64) → number_named (number_or_dash message) ≡ message
+number_or_dash-named : (message : Option ℕ) → IfSome message (λ i. i < 2 ^ 64)
+    → number_named (number_or_dash message) ≡ message
 number_or_dash-named None small = refl
 number_or_dash-named (Some i) small = number_named-decimal i small
 
-pub named-node : (s k : ℕ) (does : List ℕ) (message : Option ℕ) (words : List (List ℕ)) → IfSome message (λ i. i < 2 ^ 64)
+pub named-node : (s k : ℕ) (does : List ℕ) (message : Option ℕ) (words : List (List ℕ))
+    → IfSome message (λ i. i < 2 ^ 64)
     → IsNodeLine s k does message words → number_named (word_in words 8) ≡ message
 named-node s k does message words small line =
     ap number_named line.number ∙ number_or_dash-named message small

@@ -82,7 +82,8 @@ pub node_line-words : (width slot k : ℕ) (state : NodeState) (message : Option
 node_line-words width slot k state message =
     let peer = number_or_dash (peer_of k state.entry) in
     let members = hex width (set_bits state.members) in
-    let rest = codes "mem " ++ members ++ codes " acc " ++ decimal state.accepted ++ codes " rej " ++ decimal state.rejected
+    let rest = codes "mem " ++ members ++ codes " acc " ++ decimal state.accepted ++ codes " rej "
+    ++ decimal state.rejected
     ++ codes " ack " ++ ack_word state.ack ++ codes " clock " ++ signed_decimal state.offset ++ newline in
     let same = ap words_of (five_more
     (codes "slot " ++ decimal slot ++ codes " node " ++ decimal k ++ codes " " ++ entry_word state.entry
@@ -129,8 +130,10 @@ pub write_line-words : (list : Medl) (script : Script) (slot k earlier : ℕ)
     → IsHostLine slot (codes "write") (words_of (write_line list script slot k earlier))
 write_line-words list script slot k earlier =
     let number = decimal (length (messages_before list script k slot) + earlier) in
-    let same = ap words_of (write_nested (codes "slot ") (decimal slot) (codes " host ") (decimal k) (codes " write ") number newline)
-    ∙ host_words (decimal slot) (decimal k) (codes "write " ++ number ++ newline) (has-decimal 32 slot space_is_low) (has-decimal 32 k space_is_low) in
+    let same = ap words_of
+    (write_nested (codes "slot ") (decimal slot) (codes " host ") (decimal k) (codes " write ") number newline)
+    ∙ host_words (decimal slot) (decimal k) (codes "write " ++ number ++ newline)
+    (has-decimal 32 slot space_is_low) (has-decimal 32 k space_is_low) in
     record {
       slot = ap (λ (ws : List (List ℕ)). word_in ws 1) same;
       kind = ap (λ (ws : List (List ℕ)). word_in ws 2) same;
@@ -150,13 +153,17 @@ pub read_line-words : (list : Medl) (script : Script) (slot : ℕ) (after : Hist
 read_line-words list script slot after r =
     let from = source_word r.read.source in
     let number = decimal r.number in
-    let message = message_hex r.read.source (get_or (ring_messages list script after r.read.host r.read.source) r.number []) in
-    let same = ap words_of (read_nested (codes "slot ") (decimal slot) (codes " host ") (decimal r.read.host) (codes " read ")
+    let ring = ring_messages list script after r.read.host r.read.source in
+    let message = message_hex r.read.source (get_or ring r.number []) in
+    let same = ap words_of
+    (read_nested (codes "slot ") (decimal slot) (codes " host ") (decimal r.read.host) (codes " read ")
     from (codes " ") number (codes " ") message newline)
-    ∙ host_words (decimal slot) (decimal r.read.host) (codes "read " ++ (from ++ (codes " " ++ (number ++ (codes " " ++ message ++ newline)))))
+    ∙ host_words (decimal slot) (decimal r.read.host)
+    (codes "read " ++ (from ++ (codes " " ++ (number ++ (codes " " ++ message ++ newline)))))
     (has-decimal 32 slot space_is_low) (has-decimal 32 r.read.host space_is_low)
     ∙ ap (λ (ws : List (List ℕ)). codes "slot" ∷ decimal slot ∷ codes "host" ∷ decimal r.read.host ∷ ws)
-    (read_words from number (message ++ newline) (has-source_word 32 r.read.source space_is_low) (has-decimal 32 r.number space_is_low)) in (
+    (read_words from number (message ++ newline) (has-source_word 32 r.read.source space_is_low)
+    (has-decimal 32 r.number space_is_low)) in (
       record {
         slot = ap (λ (ws : List (List ℕ)). word_in ws 1) same;
         kind = ap (λ (ws : List (List ℕ)). word_in ws 2) same;

@@ -21,13 +21,17 @@ digits_onto-digits : (k n : ℕ) (text : List ℕ) → list_all is_digit text �
     → list_all is_digit (digits_onto k 10 false n text) ≡ true
 digits_onto-digits zero n text before = before
 digits_onto-digits (suc k) n text before =
-    let one : is_digit (digit_glyph false (n % 10)) ≡ true = glyph-digit (nat_lt (n % 10) 10) (n % 10) (omega arith) (grind (arith, nat_tests)) in
-    let here : list_all is_digit (digit_glyph false (n % 10) ∷ text) ≡ true = ap (λ (b : Bool). b && list_all is_digit text) one ∙ before in
-    let go : (last : Bool) → list_all is_digit (cond last (digit_glyph false (n % 10) ∷ text) (digits_onto k 10 false (n / 10) (digit_glyph false (n % 10) ∷ text))) ≡ true =
-    elim [ true ↦ here | false ↦ digits_onto-digits k (n / 10) (digit_glyph false (n % 10) ∷ text) here ] in
+    let glyph = digit_glyph false (n % 10) in
+    let one : is_digit glyph ≡ true =
+    glyph-digit (nat_lt (n % 10) 10) (n % 10) (omega arith) (grind (arith, nat_tests)) in
+    let here : list_all is_digit (glyph ∷ text) ≡ true =
+    ap (λ (b : Bool). b && list_all is_digit text) one ∙ before in
+    let go : (last : Bool)
+    → list_all is_digit (cond last (glyph ∷ text) (digits_onto k 10 false (n / 10) (glyph ∷ text))) ≡ true =
+    elim [ true ↦ here | false ↦ digits_onto-digits k (n / 10) (glyph ∷ text) here ] in
     go (n / 10 == 0)
 
-pub decimal-digits : (n : ℕ) → list_all is_digit (decimal n) ≡ true
+decimal-digits : (n : ℕ) → list_all is_digit (decimal n) ≡ true
 unfolding digits
 decimal-digits n = digits_onto-digits 64 n [] refl
 

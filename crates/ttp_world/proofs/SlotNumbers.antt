@@ -27,7 +27,8 @@ use Rattle.ttp_world.specs.World.{SlotNumbers, node_past}
 use Rattle.ttp_world.proofs.LineLists.{each-append, map_of_map, find-between, find-below, filter_map-none}
 use Rattle.ttp_world.proofs.LineLists.{filter_map-between}
 use Rattle.ttp_world.proofs.LineNumbers.{IsOther, sending-other, read-other, other_by_slot, sending-host, read-node}
-use Rattle.ttp_world.proofs.LineNumbers.{read-write, read-read, sending-other_node, is_own_frame, sending-own, named-node}
+use Rattle.ttp_world.proofs.LineNumbers.{read-write, read-read, sending-other_node, is_own_frame, sending-own}
+use Rattle.ttp_world.proofs.LineNumbers.{named-node}
 use Rattle.ttp_world.proofs.RunNumbers.{AreNumbersOf}
 use Rattle.ttp_world.proofs.LineWords.{IsNodeLine, node_line-words, IsHostLine, write_line-words, read_line-words}
 
@@ -37,7 +38,8 @@ abbrev node_words : Medl → Script → List Entry → History → ℕ → List 
 node_words list script row before k = words_of (node_line_of list script row before k)
 
 node-IsNodeLine : (list : Medl) (script : Script) (row : List Entry) (before : History) (k : ℕ)
-    → IsNodeLine (length before) k (entry_word (entry_of row k)) (message_shown list script row before k (entry_of row k))
+    → IsNodeLine (length before) k (entry_word (entry_of row k))
+    (message_shown list script row before k (entry_of row k))
     (node_words list script row before k)
 node-IsNodeLine list script row before k =
     node_line-words (member_digits list) (length before) k (state_of (node_past list script (row ∷ before) k))
@@ -52,7 +54,8 @@ nodes-IsOther list script row before t low high other n =
     (node-IsNodeLine list script row before k).slot)
 
 nodes-none_read : (list : Medl) (script : Script) (row : List Entry) (before : History) (n : ℕ)
-    → AllByRecursion (λ words. number_read (length before) words ≡ None) (map (node_words list script row before) (below n))
+    → AllByRecursion (λ words. number_read (length before) words ≡ None)
+    (map (node_words list script row before) (below n))
 nodes-none_read list script row before n =
     map_each-below (λ words. number_read (length before) words ≡ None) (node_words list script row before) n
     (λ k less. read-node (length before) (length before) k _ _ (node_words list script row before k)
@@ -66,7 +69,8 @@ number_of-entry : (list : Medl) (script : Script) (row : List Entry) (before : H
     (words : List (List ℕ)) → IfSome (message_of e) (λ i. i < 2 ^ 64)
     → IsNodeLine (length before) k (entry_word e) (message_shown list script row before k e) words
     → number_of (cond (is_own_frame e) (Some words) None) ≡ message_of e
-number_of-entry list script row before k (entry.Sent message) words small line = named-node (length before) k _ message words small line
+number_of-entry list script row before k (entry.Sent message) words small line =
+    named-node (length before) k _ message words small line
 number_of-entry list script row before k entry.Off words small line = refl
 number_of-entry list script row before k entry.Waited words small line = refl
 number_of-entry list script row before k entry.Retried words small line = refl
@@ -83,9 +87,11 @@ nodes-sent list script row before n k few within small =
     let words = node_words list script row before in
     let line = node-IsNodeLine list script row before k in
     ap number_of (find-below (is_sending_line (length before) k) words n k within
-    (λ j less other. sending-other_node (length before) (length before) j k _ _ (words j) (omega arith) (omega arith) other
+    (λ j less other.
+    sending-other_node (length before) (length before) j k _ _ (words j) (omega arith) (omega arith) other
     (node-IsNodeLine list script row before j)))
-    ∙ ap (λ (b : Bool). number_of (cond b (Some (words k)) None)) (sending-own (length before) k (entry_of row k) _ (words k) line)
+    ∙ ap (λ (b : Bool). number_of (cond b (Some (words k)) None))
+    (sending-own (length before) k (entry_of row k) _ (words k) line)
     ∙ number_of-entry list script row before k (entry_of row k) (words k) small line
 
 -- The lines of the hosts.
@@ -108,7 +114,8 @@ reads-each P list script slot after each (r ∷ reads) =
 
 reads-read : (list : Medl) (script : Script) (slot : ℕ) (after : History) (reads : List HostRead) (numbers : List ℕ)
     → length reads ≡ length numbers → AllByRecursion (λ i. i < 2 ^ 64) numbers
-    → filter_map (number_read slot) (map words_of (map (read_line list script slot after) (read_messages reads numbers)))
+    → filter_map (number_read slot)
+    (map words_of (map (read_line list script slot after) (read_messages reads numbers)))
     ≡ numbers
 reads-read list script slot after [] [] same small = refl
 reads-read list script slot after [] (i ∷ numbers) same small = absurd (omega (arith, same))
@@ -117,7 +124,8 @@ reads-read list script slot after (r ∷ reads) (i ∷ numbers) same small =
     let message : ReadMessage = record { read = r; number = i } in
     let line = read_line-words list script slot after message in
     let words = words_of (read_line list script slot after message) in
-    let rest = filter_map (number_read slot) (map words_of (map (read_line list script slot after) (read_messages reads numbers))) in
+    let later = map (read_line list script slot after) (read_messages reads numbers) in
+    let rest = filter_map (number_read slot) (map words_of later) in
     ap (λ o. cons_option o rest) (read-read slot words i small.0 line.0 line.1)
     ∙ ap (λ is. i ∷ is) (reads-read list script slot after reads numbers (omega (arith, same)) small.1)
 
@@ -138,14 +146,18 @@ slot-words list script row before new =
     map-append words_of (nodes ++ writes) reads
     ∙ ap (λ ws. ws ++ map words_of reads) (map-append words_of nodes writes)
     ∙ append_assoc (map words_of nodes) (map words_of writes) (map words_of reads)
-    ∙ ap (λ ws. ws ++ (map words_of writes ++ map words_of reads)) (map_of_map words_of (node_line_of list script row before) (below (length list.slots)))
+    ∙ ap (λ ws. ws ++ (map words_of writes ++ map words_of reads))
+    (map_of_map words_of (node_line_of list script row before) (below (length list.slots)))
 
-hosts-each : (P : List (List ℕ) → Type 0) (list : Medl) (script : Script) (row : List Entry) (before : History) (new : SlotNumbers)
+hosts-each : (P : List (List ℕ) → Type 0) (list : Medl) (script : Script) (row : List Entry) (before : History)
+    (new : SlotNumbers)
     → ((does : List ℕ) (words : List (List ℕ)) → IsHostLine (length before) does words → P words)
     → AllByRecursion P (hosts_words list script row before new)
 hosts-each P list script row before new each =
-    each-append P _ _ (writes-each P list script (length before) (each (codes "write")) [] (writes_in script (length before)))
-    (reads-each P list script (length before) (row ∷ before) (each (codes "read")) (read_messages (reads_in script (length before)) new.read))
+    each-append P _ _ (writes-each P list script (length before) (each (codes "write")) []
+    (writes_in script (length before)))
+    (reads-each P list script (length before) (row ∷ before) (each (codes "read"))
+    (read_messages (reads_in script (length before)) new.read))
 
 -- they name no number of another slot
 pub slot-IsOther : (list : Medl) (script : Script) (row : List Entry) (before : History) (new : SlotNumbers) (t : ℕ)
@@ -191,12 +203,15 @@ slot-read list script row before new are =
     let reads = map words_of (read_lines list script (length before) (row ∷ before) new.read) in
     ap (filter_map h) (slot-words list script row before new)
     ∙ filter_map-append h nodes (writes ++ reads)
-    ∙ ap (λ is. is ++ filter_map h (writes ++ reads)) (filter_map-none h nodes (nodes-none_read list script row before (length list.slots)))
+    ∙ ap (λ is. is ++ filter_map h (writes ++ reads))
+    (filter_map-none h nodes (nodes-none_read list script row before (length list.slots)))
     ∙ filter_map-append h writes reads
     ∙ ap (λ is. is ++ filter_map h reads) (filter_map-none h writes
-    (writes-each (λ words. h words ≡ None) list script (length before) (λ words line. read-write (length before) (length before) words line)
+    (writes-each (λ words. h words ≡ None) list script (length before)
+    (λ words line. read-write (length before) (length before) words line)
     [] (writes_in script (length before))))
-    ∙ reads-read list script (length before) (row ∷ before) (reads_in script (length before)) new.read (sym are.shape.reads) are.small_read
+    ∙ reads-read list script (length before) (row ∷ before) (reads_in script (length before)) new.read
+    (sym are.shape.reads) are.small_read
 
 -- a row has the numbers of its nodes
 row-messages : (row : List Entry) (n : ℕ) → length row ≡ n
@@ -220,7 +235,8 @@ slot_numbers-between list script row before new first last few are others others
 
     each : (k : ℕ) → k < length list.slots → number_sent (first ++ (lines ++ last)) s k ≡ message_of (entry_of row k)
     each k within =
-        ap number_of (find-between (is_sending_line s k) first lines last (others-none_sent s k first others) (others-none_sent s k last others_last))
+        ap number_of (find-between (is_sending_line s k) first lines last (others-none_sent s k first others)
+        (others-none_sent s k last others_last))
         ∙ slot-sent list script row before new k few within (are.small_sent k within)
 
     nodes : length row ≡ length list.slots
@@ -231,5 +247,7 @@ slot_numbers-between list script row before new first last few are others others
         ∙ sym (row-messages row (length list.slots) nodes) ∙ sym are.shape.sent
 
     read : filter_map (number_read s) (first ++ (lines ++ last)) ≡ new.read
-    read = filter_map-between (number_read s) first lines last (others-none_read s first others) (others-none_read s last others_last)
+    read =
+        filter_map-between (number_read s) first lines last (others-none_read s first others)
+        (others-none_read s last others_last)
         ∙ slot-read list script row before new are

@@ -29,7 +29,8 @@ use Rattle.ttp_world.specs.Trace.{source_word, message_hex, read_line, read_line
 use Rattle.ttp_world.specs.Trace.{slot_lines, history_lines, trace_lines}
 use Rattle.ttp_world.specs.World.{SlotNumbers, Numbers, node_past, world}
 use Rattle.ttp_world.proofs.LineLists.{each-append}
-use Rattle.ttp_world.proofs.TraceWords.{has-entry_word, has-number_or_dash, has-ack_word, has-source_word, has-message_hex}
+use Rattle.ttp_world.proofs.TraceWords.{has-entry_word, has-number_or_dash, has-ack_word, has-source_word}
+use Rattle.ttp_world.proofs.TraceWords.{has-message_hex}
 
 abbrev IsLine : List ℕ → Type 0
 IsLine line = is_line line ≡ true
@@ -55,7 +56,8 @@ head-IsLine : (list : Medl) (script : Script) → IsLine (trace_head list script
 head-IsLine list script =
     head-by_words (decimal list.version) (decimal (length list.slots)) (decimal list.rounds) (decimal script.slots)
     (hex 6 list.schedule) (has-decimal 10 list.version feed_is_low) (has-decimal 10 (length list.slots) feed_is_low)
-    (has-decimal 10 list.rounds feed_is_low) (has-decimal 10 script.slots feed_is_low) (has-hex 10 6 list.schedule feed_is_low)
+    (has-decimal 10 list.rounds feed_is_low) (has-decimal 10 script.slots feed_is_low)
+    (has-hex 10 6 list.schedule feed_is_low)
 
 -- Node lines.
 
@@ -81,7 +83,8 @@ node_line-IsLine width slot k state message =
     (has-decimal 10 slot feed_is_low) (has-decimal 10 k feed_is_low) (has-entry_word 10 state.entry feed_is_low)
     (has-number_or_dash 10 (peer_of k state.entry) feed_is_low) (has-number_or_dash 10 message feed_is_low)
     (has-hex 10 width (set_bits state.members) feed_is_low) (has-decimal 10 state.accepted feed_is_low)
-    (has-decimal 10 state.rejected feed_is_low) (has-ack_word 10 state.ack feed_is_low) (has-signed 10 state.offset feed_is_low)
+    (has-decimal 10 state.rejected feed_is_low) (has-ack_word 10 state.ack feed_is_low)
+    (has-signed 10 state.offset feed_is_low)
 
 -- Host lines.
 
@@ -100,10 +103,12 @@ read-by_words slot k from number message p q r s t =
     ++ codes " " ++ message)
     (simp (list_any-append (λ c. c == 10), p, q, r, s, t))
 
-write_line-IsLine : (list : Medl) (script : Script) (slot k earlier : ℕ) → IsLine (write_line list script slot k earlier)
+write_line-IsLine : (list : Medl) (script : Script) (slot k earlier : ℕ)
+    → IsLine (write_line list script slot k earlier)
 write_line-IsLine list script slot k earlier =
     let number = length (messages_before list script k slot) + earlier in
-    write-by_words (decimal slot) (decimal k) (decimal number) (has-decimal 10 slot feed_is_low) (has-decimal 10 k feed_is_low)
+    write-by_words (decimal slot) (decimal k) (decimal number) (has-decimal 10 slot feed_is_low)
+    (has-decimal 10 k feed_is_low)
     (has-decimal 10 number feed_is_low)
 
 read_line-IsLine : (list : Medl) (script : Script) (slot : ℕ) (after : History) (r : ReadMessage)
@@ -156,7 +161,8 @@ slot_lines-each list script row before new =
     each-append IsLine
     (map (node_line_of list script row before) (below (length list.slots)) ++ write_lines list script slot)
     (read_lines list script slot (row ∷ before) new.read)
-    (each-append IsLine (map (node_line_of list script row before) (below (length list.slots))) (write_lines list script slot)
+    (each-append IsLine (map (node_line_of list script row before) (below (length list.slots)))
+    (write_lines list script slot)
     (map_each-below IsLine (node_line_of list script row before) (length list.slots) (λ k less.
     let state = state_of (node_past list script (row ∷ before) k) in
     node_line-IsLine (member_digits list) slot k state (message_shown list script row before k state.entry)))
@@ -175,6 +181,7 @@ pub trace_lines-each : (list : Medl) (script : Script) (numbers : Numbers)
     → AllByRecursion (λ line. is_line line ≡ true) (trace_lines list script numbers)
 trace_lines-each list script numbers = (
   head-IsLine list script,
-  each-append IsLine (history_lines list script (world list script numbers) numbers) (keep_line (keeps list script) ∷ [])
+  each-append IsLine (history_lines list script (world list script numbers) numbers)
+      (keep_line (keeps list script) ∷ [])
       (history_lines-each list script (world list script numbers) numbers) (keep_line-IsLine (keeps list script), tt),
 )

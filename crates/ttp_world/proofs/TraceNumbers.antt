@@ -26,7 +26,8 @@ use Rattle.ttp_world.proofs.SlotNumbers.{slot-IsOther, slot_numbers-between}
 -- The lines of the slots below one are of other slots.
 
 history-IsOther : (list : Medl) (script : Script) (history : History) (numbers : Numbers) (t : ℕ)
-    → length history ≤ t → t < 2 ^ 64 → AllByRecursion (IsOther t) (map words_of (history_lines list script history numbers))
+    → length history ≤ t → t < 2 ^ 64
+    → AllByRecursion (IsOther t) (map words_of (history_lines list script history numbers))
 history-IsOther list script [] numbers t past few = tt
 history-IsOther list script (row ∷ history) [] t past few = tt
 history-IsOther list script (row ∷ history) (new ∷ numbers) t past few =
@@ -50,9 +51,11 @@ numbers_below-between list script (row ∷ history) (new ∷ numbers) first last
     let old = map words_of (history_lines list script history numbers) in
     let lines = map words_of (slot_lines list script row history new) in
     let slots = numbers-slots list script history numbers are.1 in
-    let split : first ++ (map words_of (history_lines list script history numbers ++ slot_lines list script row history new) ++ last)
+    let whole = history_lines list script history numbers ++ slot_lines list script row history new in
+    let split : first ++ (map words_of whole ++ last)
     ≡ first ++ (old ++ (lines ++ last)) =
-    ap (λ ws. first ++ (ws ++ last)) (map-append words_of (history_lines list script history numbers) (slot_lines list script row history new))
+    ap (λ ws. first ++ (ws ++ last))
+    (map-append words_of (history_lines list script history numbers) (slot_lines list script row history new))
     ∙ ap (λ ws. first ++ ws) (append_assoc old lines last) in
     let here : slot_numbers list (first ++ (old ++ (lines ++ last))) (length numbers) ≡ new =
     ap (λ ws. slot_numbers list ws (length numbers)) (sym (append_assoc first old (lines ++ last)))
@@ -85,10 +88,12 @@ keep-IsOther (keep.No rule slot) t = word-no_number (codes "no") t refl
 trace-words : (list : Medl) (script : Script) (numbers : Numbers)
     → map words_of (trace_lines list script numbers)
     ≡ (words_of (trace_head list script) ∷ [])
-    ++ (map words_of (history_lines list script (world list script numbers) numbers) ++ words_of (keep_line (keeps list script)) ∷ [])
+    ++ (map words_of (history_lines list script (world list script numbers) numbers)
+    ++ words_of (keep_line (keeps list script)) ∷ [])
 trace-words list script numbers =
     ap (λ ws. words_of (trace_head list script) ∷ ws)
-    (map-append words_of (history_lines list script (world list script numbers) numbers) (keep_line (keeps list script) ∷ []))
+    (map-append words_of (history_lines list script (world list script numbers) numbers)
+    (keep_line (keeps list script) ∷ []))
 
 pub numbers_in-trace : (list : Medl) (script : Script) (numbers : Numbers) → IsValid list → IsValidScript list script
     → length numbers ≡ script.slots → IsLegal list script numbers
@@ -97,8 +102,10 @@ numbers_in-trace list script numbers valid valid_script slots legal =
     let history = world list script numbers in
     ap (λ ws. numbers_below list ws script.slots) (trace-words list script numbers)
     ∙ ap (numbers_below list ((words_of (trace_head list script) ∷ [])
-    ++ (map words_of (history_lines list script history numbers) ++ words_of (keep_line (keeps list script)) ∷ []))) (sym slots)
+    ++ (map words_of (history_lines list script history numbers) ++ words_of (keep_line (keeps list script)) ∷ [])))
+    (sym slots)
     ∙ numbers_below-between list script history numbers (words_of (trace_head list script) ∷ [])
-    (words_of (keep_line (keeps list script)) ∷ []) (omega (arith, nodes-most list valid)) (omega (arith, slots, valid_script.slots.1))
+    (words_of (keep_line (keeps list script)) ∷ []) (omega (arith, nodes-most list valid))
+    (omega (arith, slots, valid_script.slots.1))
     (legal-AreNumbersOfAll list script numbers valid valid_script (omega (arith, slots)) legal)
     (λ t less. (head-IsOther list script t, tt)) (λ t less. (keep-IsOther (keeps list script) t, tt))

@@ -26,12 +26,11 @@ entry_of row k = get_or row k entry.Off
 abbrev pub diary_of : History → ℕ → Diary
 diary_of history k = map (λ row. entry_of row k) history
 
--- What comes to a node from outside in a slot: how its clock jumps and drifts, whether it is armed to listen again, and
--- whether both channels were silent to it.
+-- What comes to a node from outside in a slot: how its clock jumps and drifts, and whether both channels were silent to
+-- it.
 pub record SlotSurroundings : Type 0 where
   pub jump : ℤ
   pub drift : ℤ
-  pub is_armed : Bool
   pub is_silent : Bool
 
 -- one for each entry of a diary

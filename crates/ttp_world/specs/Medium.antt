@@ -9,7 +9,7 @@ use Rattle.ttp_world.specs.declared.script.Channel.TheVariants as channel
 use Rattle.ttp_world.specs.declared.script.Fault.TheVariants as fault
 use Rattle.ttp_world.specs.declared.script.Script.{Script}
 use Rattle.ttp_world.specs.Diary.{History, SlotSurroundings, Surroundings, entry_of}
-use Rattle.ttp_world.specs.Script.{has_send_fault, has_receive_fault, flipped_bits, jump_of, drift_of, is_armed}
+use Rattle.ttp_world.specs.Script.{has_send_fault, has_receive_fault, flipped_bits, jump_of, drift_of}
 
 -- a frame and the node that sends it
 pub record SentFrame : Type 0 where
@@ -100,7 +100,6 @@ abbrev pub surroundings_in : Script → ℕ → List Entry → ℕ → SlotSurro
 surroundings_in script slot row k = record {
   jump = jump_of script k slot;
   drift = drift_of script k;
-  is_armed = is_armed script k slot;
   is_silent = is_silent_to script slot k (senders_in row);
 }
 

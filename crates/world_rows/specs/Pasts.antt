@@ -17,17 +17,13 @@ past_of_six k diary surroundings = past_of (bare_list 6) k diary surroundings
 
 -- a slot in which a clock jumps so far and drifts by one microtick, silent to the node or not
 abbrev pub slot_with : ℤ → Bool → SlotSurroundings
-slot_with jump is_silent = record { jump = jump; drift = pos 1; is_armed = false; is_silent = is_silent }
+slot_with jump is_silent = record { jump = jump; drift = pos 1; is_silent = is_silent }
 
 abbrev pub silent : SlotSurroundings
 silent = slot_with (pos 0) true
 
 abbrev pub busy : SlotSurroundings
 busy = slot_with (pos 0) false
-
--- the same, and the node is armed
-abbrev pub armed : SlotSurroundings
-armed = record { jump = pos 0; drift = pos 1; is_armed = true; is_silent = true }
 
 -- Off: its jumps and its drift are lost.
 

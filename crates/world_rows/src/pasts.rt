@@ -5,7 +5,7 @@ ghost use Rattle.ttp_world.specs.declared.node.Verdict.TheVariants as verdict;
 ghost use Rattle.ttp_world.specs.After.{past_after};
 ghost use Rattle.ttp_world.specs.Past.{no_past};
 ghost use Rattle.world_rows.specs.Cases.{bare_list};
-ghost use Rattle.world_rows.specs.Pasts.{past_of_six, slot_with, silent, busy, armed, judged_late, off_past};
+ghost use Rattle.world_rows.specs.Pasts.{past_of_six, slot_with, silent, busy, judged_late, off_past};
 ghost use Rattle.world_rows.specs.Pasts.{listening_diary, listening_surroundings, listening_past, started_diary};
 ghost use Rattle.world_rows.specs.Pasts.{started_past, retried_diary, retried_past, active_diary};
 ghost use Rattle.world_rows.specs.Pasts.{surroundings_of_active, active_past, corrected_past, next_round_past};
@@ -37,7 +37,7 @@ pub fn pasts_of_an_active_node()
 /// A node that left, and one that was armed since and listens.
 pub fn pasts_of_a_node_that_left()
     ensures left { past_of_six 1 left_diary surroundings_of_left ≡ left_past }
-    ensures armed { past_of_six 1 (entry.Waited ∷ left_diary) (armed ∷ surroundings_of_left) ≡ armed_past }
+    ensures armed { past_of_six 1 (entry.Waited ∷ left_diary) (silent ∷ surroundings_of_left) ≡ armed_past }
 {}
 
 /// What one more entry makes of such a record.
@@ -47,5 +47,5 @@ pub fn pasts_after_one_more_entry()
     ensures last_slot { past_after (bare_list 6) 1 active_past (entry.Judged 5 verdict.Null (pos 0)) busy
         ≡ corrected_past }
     ensures next_round { past_after (bare_list 6) 1 corrected_past (judged_late 0 (pos 7)) busy ≡ next_round_past }
-    ensures armed { past_after (bare_list 6) 1 left_past entry.Waited armed ≡ armed_past }
+    ensures armed { past_after (bare_list 6) 1 left_past entry.Waited silent ≡ armed_past }
 {}

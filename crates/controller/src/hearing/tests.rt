@@ -5,7 +5,7 @@ ghost use Rattle.ttp_world.specs.Medl.{IsValid};
 ghost use Rattle.controller.specs.Hearing.{ReadingFits, IsReceiver};
 ghost use Rattle.slot_clock.specs.StandsFor.{StandsFor};
 
-use super::{Judgement, Receiver, delivered, judged_entry, judging, listening_entry};
+use super::{Judgement, Receiver, deliver, judged_entry, judging, listening_entry};
 use ack_check::AckState;
 use medium::{Arrival, Outgoing};
 use slot_clock::SlotClock;
@@ -210,7 +210,8 @@ fn better_channel_decides(rt: HostRuntime) -> Result<(), Fail> {
         let judgement = judging(&list, &receiver, 4, 1, &a, &b);
         assert!(rt; judgement.verdict == verdict, "{on_a:?} {on_b:?}");
         assert!(rt; judgement.deviation == deviation, "{on_a:?} {on_b:?}");
-        let handed = delivered(&list, &receiver.coming, &judgement, &a, &b);
+        let mut handed = None;
+        deliver(&list, &receiver.coming, &judgement, &a, &b, &mut handed);
         assert!(rt; first_byte(handed) == byte, "{on_a:?} {on_b:?}");
     }
     Ok(())

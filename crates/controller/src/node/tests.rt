@@ -57,12 +57,11 @@ pub(crate) fn four_nodes(alloc: Global) -> Result<Medl, Memory>
 }
 
 fn outside(jump: i64, drift: i64) -> Outside
-    ensures { result ≡ record { jump = jump; drift = drift; is_armed = false; is_silent = true } }
+    ensures { result ≡ record { jump = jump; drift = drift; is_silent = true } }
 {
     Outside {
         jump,
         drift,
-        armed: false,
         silent: true,
     }
 }

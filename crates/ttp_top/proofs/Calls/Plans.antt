@@ -5,14 +5,12 @@ use Rattle.ttp_base.specs.Outside.{Held, untold, absent, holds, Load, Gives}
 use Rattle.ttp_world.specs.declared.medl.Medl.{Medl}
 use Rattle.ttp_world.specs.declared.script.Script.{Script}
 use Rattle.ttp_top.specs.declared.read.FileFault.{FileFault}
-use Rattle.ttp_top.specs.Calls.Forms.{table_ending, schedule_ending, plan_of}
+use Rattle.ttp_top.specs.Calls.Files.{after_list, after_script, script_plan, both_plan}
+use Rattle.ttp_top.specs.Calls.Forms.{table_ending, trace_ending, keep_ending, plan_of}
 use Rattle.ttp_top.specs.Calls.Plan.{Ending, Plan, ends, asks, Comes, AsksFirst, told_ending}
 use Rattle.ttp_top.specs.Calls.Promise.{EachName}
 use Rattle.ttp_top.specs.Calls.Words.{Form, schedule, run, keeps}
 use Rattle.ttp_top.specs.Files.Read.{list_from, script_from}
-use Rattle.ttp_top.specs.declared.shown.Shown.{Shown}
-use Rattle.ttp_top.specs.declared.shown.Shown.TheVariants as shown
-use Rattle.ttp_top.specs.Scripts.Plan.{shown_ending, script_ending, plan_with}
 
 -- each ending of a plan is of a kind
 abbrev pub AllEnd : (Ending → Type 0) → Plan → Type 0
@@ -34,24 +32,29 @@ IsOfForm ending = (ending.status ≤ 4) × (ending.status ≢ 2)
 abbrev pub IsFinal : Ending → Type 0
 IsFinal ending = ending.status ≤ 4
 
-table_status : (read : Result Medl FileFault) → IsOfForm (table_ending read)
-table_status (Ok list) = (omega arith, λ two. omega arith)
-table_status (Err fault) = (omega arith, λ two. omega arith)
+list_ends : (next : Medl → Plan) → ((list : Medl) → AllEnd IsOfForm (next list)) → (read : Result Medl FileFault)
+    → AllEnd IsOfForm (after_list next read)
+list_ends next all (Ok list) = all list
+list_ends next all (Err fault) = (omega arith, λ two. omega arith)
 
-shown_status : (what : Shown) (list : Medl) (read : Result Script FileFault) → IsOfForm (shown_ending what list read)
-shown_status what list (Ok script) = (omega arith, λ two. omega arith)
-shown_status what list (Err fault) = (omega arith, λ two. omega arith)
+script_ends : (next : Script → Plan) → ((script : Script) → AllEnd IsOfForm (next script))
+    → (read : Result Script FileFault) → AllEnd IsOfForm (after_script next read)
+script_ends next all (Ok script) = all script
+script_ends next all (Err fault) = (omega arith, λ two. omega arith)
 
-script_status : (what : Shown) (read : Result Medl FileFault) (script : List ℕ) → AllEnd IsOfForm (plan_with what read script)
-unfolding script_ending
-script_status what (Ok list) script = λ bytes. shown_status what list (script_from list bytes)
-script_status what (Err fault) script = (omega arith, λ two. omega arith)
+both_end : (list script : List ℕ) (ending : Medl → Script → Ending)
+    → ((medl : Medl) (right : Script) → IsOfForm (ending medl right))
+    → AllEnd IsOfForm (both_plan list script (λ medl right. ends (ending medl right)))
+both_end list script ending all = λ bytes.
+    list_ends (λ medl. script_plan medl script (λ right. ends (ending medl right)))
+    (λ medl script_bytes. script_ends (λ right. ends (ending medl right)) (all medl) (script_from medl script_bytes))
+    (list_from bytes)
 
 pub forms_end : (form : Form) → AllEnd IsOfForm (plan_of (Some form))
-unfolding schedule_ending
-forms_end (schedule list) = λ bytes. table_status (list_from bytes)
-forms_end (run list script) = λ bytes. script_status shown.Trace (list_from bytes) script
-forms_end (keeps list script) = λ bytes. script_status shown.Keep (list_from bytes) script
+forms_end (schedule list) = λ bytes.
+    list_ends (λ medl. ends (table_ending medl)) (λ medl. (omega arith, λ two. omega arith)) (list_from bytes)
+forms_end (run list script) = both_end list script trace_ending (λ medl right. (omega arith, λ two. omega arith))
+forms_end (keeps list script) = both_end list script keep_ending (λ medl right. (omega arith, λ two. omega arith))
 
 weaker : (plan : Plan) → AllEnd IsOfForm plan → AllEnd IsFinal plan
 weaker (ends ending) all = all.0
@@ -80,7 +83,8 @@ all_asked Q held (asks file next) (load ∷ (other ∷ loads)) all asked = (
 
 -- where the files are told, a plan comes to one ending
 told_next : (held : List ℕ → Held) (h : Held) (limit : ℕ) (given : List ℕ) (next : List ℕ → Plan) (ending : Ending)
-    → elim h [ untold ↦ None | absent ↦ None | holds bytes ↦ told_ending held (next (take (limit + 1) bytes)) ] ≡ Some ending
+    → elim h [ untold ↦ None | absent ↦ None | holds bytes ↦ told_ending held (next (take (limit + 1) bytes)) ]
+    ≡ Some ending
     → Gives h limit given → told_ending held (next given) ≡ Some ending
 told_next held untold limit given next ending told gives = absurd (cc)
 told_next held absent limit given next ending told gives = absurd gives

@@ -2,10 +2,11 @@
 use Rattle.std.proofs.Common.{◌≡◌, ◌≢◌, ◌⊎◌, ℕ, ◌≤◌, List, [], ◌∷◌, ◌++◌, Option, Some, None, refl, ap, sym, subst, ◌∙◌}
 use Rattle.std.proofs.Common.{inl, inr, append_assoc, append-nil, arith}
 use Rattle.ttp_base.specs.Outside.{Held, Load, Files, Gives, HasRisen, NoneRose, NoneFell, HoldsTheSame}
-use Rattle.ttp_base.specs.Outside.{Output, Wrote, CutShort}
+use Rattle.ttp_base.specs.Outside.{Output, Wrote}
 use Rattle.ttp_top.specs.Calls.Outcome.{Showed, Refused, Says, Shows, Asked, Follows}
-use Rattle.ttp_top.specs.Calls.Plan.{Outside, outside, Ending, File, Plan, ends, asks, load_of, unloaded, Comes}
-use Rattle.ttp_top.specs.Calls.Plan.{AsksFirst, told_ending}
+use Rattle.ttp_top.specs.Calls.Plan.{Outside, outside, Ending, File, Plan, ends, asks, line_ending, load_of, unloaded}
+use Rattle.ttp_top.specs.Calls.Plan.{Comes, AsksFirst, told_ending}
+use Rattle.ttp_top.specs.Calls.Texts.{CutAmong}
 use Rattle.ttp_top.specs.Calls.Promise.{Reached, Unloaded, IsDue, EachName, NoneAskedRose, Promise}
 use Rattle.ttp_top.specs.Calls.Forms.{plan_of}
 use Rattle.ttp_top.specs.Calls.Words.{Form}
@@ -34,24 +35,39 @@ none_fell : (a b : Files) → NoneRose a b → NoneFell a b
 none_fell a b quiet = λ name. omega (arith, quiet name)
 
 -- what may be given before is given after, where the library holds the same
-comes_held : (held later : List ℕ → Held) → ((name : List ℕ) → later name ≡ held name) → (plan : Plan) (loads : List Load) (rest : Plan)
+comes_held : (held later : List ℕ → Held) → ((name : List ℕ) → later name ≡ held name)
+    → (plan : Plan) (loads : List Load) (rest : Plan)
     → Comes later plan loads rest → Comes held plan loads rest
 comes_held held later same plan [] rest comes = comes
 comes_held held later same (ends ending) (load ∷ loads) rest comes = absurd comes
-comes_held held later same (asks file next) (load ∷ loads) rest comes =
-    (comes.0, (comes.1.0, subst (λ (h : Held). Gives h file.limit comes.1.0) (same file.name) comes.1.1, comes_held held later same (next comes.1.0) loads rest comes.1.2))
+comes_held held later same (asks file next) (load ∷ loads) rest comes = (
+  comes.0,
+  (
+    comes.1.0,
+    subst (λ (h : Held). Gives h file.limit comes.1.0) (same file.name) comes.1.1,
+    comes_held held later same (next comes.1.0) loads rest comes.1.2,
+  ),
+)
 
-asks_held : (held later : List ℕ → Held) → ((name : List ℕ) → later name ≡ held name) → (plan : Plan) (loads : List Load)
+asks_held : (held later : List ℕ → Held) → ((name : List ℕ) → later name ≡ held name)
+    → (plan : Plan) (loads : List Load)
     → AsksFirst later plan loads → AsksFirst held plan loads
 asks_held held later same plan [] asked = tt
 asks_held held later same (ends ending) (load ∷ loads) asked = absurd asked
 asks_held held later same (asks file next) (load ∷ []) asked = asked
-asks_held held later same (asks file next) (load ∷ (other ∷ loads)) asked =
-    (asked.0, (asked.1.0, subst (λ (h : Held). Gives h file.limit asked.1.0) (same file.name) asked.1.1, asks_held held later same (next asked.1.0) (other ∷ loads) asked.1.2))
+asks_held held later same (asks file next) (load ∷ (other ∷ loads)) asked = (
+  asked.0,
+  (
+    asked.1.0,
+    subst (λ (h : Held). Gives h file.limit asked.1.0) (same file.name) asked.1.1,
+    asks_held held later same (next asked.1.0) (other ∷ loads) asked.1.2,
+  ),
+)
 
 -- one load more before the loads of what follows
 asks_more : (held : List ℕ → Held) (file : File) (next : List ℕ → Plan) (bytes : List ℕ) (loads : List Load)
-    → Gives (held file.name) file.limit bytes → AsksFirst held (next bytes) loads → AsksFirst held (asks file next) (load_of file ∷ loads)
+    → Gives (held file.name) file.limit bytes → AsksFirst held (next bytes) loads
+    → AsksFirst held (asks file next) (load_of file ∷ loads)
 asks_more held file next bytes [] gives rest = refl
 asks_more held file next bytes (other ∷ loads) gives rest = (refl, (bytes, gives, rest))
 
@@ -64,13 +80,20 @@ goes_on file next before now answer bytes files one gives rest =
     let loads = load_of file ∷ rest.loads in
     record {
       loads = loads;
-      asked = rest.asked ∙ ap (λ (l : List Load). l ++ rest.loads) one.load ∙ append_assoc before.files.loads (load_of file ∷ []) rest.loads;
-      in_order = asks_more held file next bytes rest.loads gives (asks_held held files.held one.keeps (next bytes) rest.loads rest.in_order);
+      asked =
+          rest.asked ∙ ap (λ (l : List Load). l ++ rest.loads) one.load
+          ∙ append_assoc before.files.loads (load_of file ∷ []) rest.loads;
+      in_order =
+          asks_more held file next bytes rest.loads gives
+          (asks_held held files.held one.keeps (next bytes) rest.loads rest.in_order);
       keeps = λ name. rest.keeps name ∙ one.keeps name;
       count = none_fell_after before.files files now.files one.quiet rest.count;
       how =
           elim rest.how [
-            | inl r ↦ inl (r.0, record { comes = (refl, (bytes, gives, comes_held held files.held one.keeps (next bytes) rest.loads (ends r.0) r.1.comes)); quiet = none_rose_then before.files files now.files one.quiet r.1.quiet }, r.2)
+            | inl r ↦
+                let later = comes_held held files.held one.keeps (next bytes) rest.loads (ends r.0) r.1.comes in
+                let quiet = none_rose_then before.files files now.files one.quiet r.1.quiet in
+                inl (r.0, record { comes = (refl, (bytes, gives, later)); quiet = quiet }, r.2)
             | inr other ↦
                 elim other [
                   | inl u ↦ inr (inl (
@@ -79,9 +102,18 @@ goes_on file next before now answer bytes files one gives rest =
                       earlier = load_of file ∷ u.1.earlier;
                       file = u.1.file;
                       next = u.1.next;
-                      comes = (refl, (bytes, gives, comes_held held files.held one.keeps (next bytes) u.1.earlier (asks u.1.file u.1.next) u.1.comes));
+                      comes = (
+                        refl,
+                        (
+                          bytes,
+                          gives,
+                          comes_held held files.held one.keeps (next bytes) u.1.earlier (asks u.1.file u.1.next)
+                              u.1.comes,
+                        ),
+                      );
                       last = ap (λ (l : List Load). load_of file ∷ l) u.1.last;
-                      risen = subst (λ n. HasRisen n (now.files.faults u.1.file.name)) (one.quiet u.1.file.name) u.1.risen;
+                      risen =
+                          subst (λ n. HasRisen n (now.files.faults u.1.file.name)) (one.quiet u.1.file.name) u.1.risen;
                       line = u.1.line;
                     },
                     u.2,
@@ -91,7 +123,8 @@ goes_on file next before now answer bytes files one gives rest =
           ];
     }
 
-pub ended : (plan : Plan) (before now : Outside) (answer : ℕ) → Follows plan before now answer → Ended plan before now answer
+pub ended : (plan : Plan) (before now : Outside) (answer : ℕ) → Follows plan before now answer
+    → Ended plan before now answer
 ended (ends ending) before now answer follows =
     let same = follows.0 in
     record {
@@ -103,14 +136,28 @@ ended (ends ending) before now answer follows =
       how = inl (ending, record { comes = refl; quiet = λ name. ap (λ (f : Files). f.faults name) same }, follows.1);
     }
 ended (asks file next) before now answer (inl goes) =
-    goes_on file next before now answer goes.0 goes.1.0 goes.1.1.0 goes.1.1.1 (ended (next goes.0) (outside goes.1.0 before.output) now answer goes.1.1.2)
+    goes_on file next before now answer goes.0 goes.1.0 goes.1.1.0 goes.1.1.1
+    (ended (next goes.0) (outside goes.1.0 before.output) now answer goes.1.1.2)
 ended (asks file next) before now answer (inr (inl fails)) = record {
   loads = load_of file ∷ [];
   asked = fails.0.load;
   in_order = refl;
   keeps = fails.0.keeps;
   count = fails.0.count;
-  how = inr (inl (unloaded file, record { earlier = []; file = file; next = next; comes = refl; last = refl; risen = fails.0.risen; line = refl }, fails.1));
+  how =
+      inr (inl (
+        unloaded file,
+        record {
+          earlier = [];
+          file = file;
+          next = next;
+          comes = refl;
+          last = refl;
+          risen = fails.0.risen;
+          line = refl;
+        },
+        fails.1,
+      ));
 }
 ended (asks file next) before now answer (inr (inr wants)) = record {
   loads = load_of file ∷ [];
@@ -123,9 +170,9 @@ ended (asks file next) before now answer (inr (inr wants)) = record {
 
 -- a line that was said, under another name
 pub said_as : (status : ℕ) (line text : List ℕ) (before now : Output) (answer : ℕ) → line ≡ text
-    → Says (record { status = status; text = line }) before now answer → Says (record { status = status; text = text }) before now answer
+    → Says (line_ending status line) before now answer → Says (line_ending status text) before now answer
 said_as status line text before now answer same said =
-    subst (λ (t : List ℕ). Says (record { status = status; text = t }) before now answer) same said
+    subst (λ (t : List ℕ). Says (line_ending status t) before now answer) same said
 
 -- ---- the four ways in which a call ends, by its status
 
@@ -164,19 +211,23 @@ up_to_7 answer (inr (inr (inr d))) = omega (arith, d.0)
 
 abbrev CallWays : Plan → Outside → Outside → List Load → ℕ → Type 0
 CallWays plan before now loads answer =
-    Ways answer ((ending : Ending) × Reached plan before now loads ending × Showed ending before.output now.output answer)
+    Ways answer
+    ((ending : Ending) × Reached plan before now loads ending × Showed ending before.output now.output answer)
     ((ending : Ending) × Unloaded plan before now loads ending × Showed ending before.output now.output answer)
-    ((ending : Ending) × IsDue plan before now loads ending × CutShort before.output now.output ending.text)
-    (NoneRose before.files now.files × Wrote before.output now.output 0 [])
+    ((ending : Ending) × IsDue plan before now loads ending × CutAmong ending.texts before.output now.output)
+    (NoneRose before.files now.files × Wrote before.output now.output [])
 
-ways : (plan : Plan) (before now : Outside) (answer : ℕ) → AllEnd IsFinal plan → (e : Ended plan before now answer) → CallWays plan before now e.loads answer
+ways : (plan : Plan) (before now : Outside) (answer : ℕ) → AllEnd IsFinal plan → (e : Ended plan before now answer)
+    → CallWays plan before now e.loads answer
 ways plan before now answer all e =
     elim e.how [
       | inl r ↦
           elim r.2 [
             | inl says ↦
                 elim says [
-                  | inl showed ↦ inl (omega (arith, showed.status, all_come IsFinal before.files.held plan e.loads r.0 all r.1.comes), (r.0, r.1, showed))
+                  | inl showed ↦
+                      let final = all_come IsFinal before.files.held plan e.loads r.0 all r.1.comes in
+                      inl (omega (arith, showed.status, final), (r.0, r.1, showed))
                   | inr stopped ↦ inr (inr (inl (stopped.status, (r.0, inl r.1, stopped.text))))
                 ]
             | inr refused ↦ inr (inr (inr (refused.status, (r.1.quiet, refused.text))))
@@ -194,10 +245,11 @@ ways plan before now answer all e =
 
 -- ---- the sentences
 
-no_fault_fell : (plan : Plan) (before now : Outside) (loads : List Load) (answer : ℕ) → CallWays plan before now loads answer → before.output.faults ≤ now.output.faults
-no_fault_fell plan before now loads answer (inl a) = omega (arith, a.1.2.text.quiet)
-no_fault_fell plan before now loads answer (inr (inl b)) = omega (arith, b.1.2.text.quiet)
-no_fault_fell plan before now loads answer (inr (inr (inl c))) = c.1.2.count
+no_fault_fell : (plan : Plan) (before now : Outside) (loads : List Load) (answer : ℕ)
+    → CallWays plan before now loads answer → before.output.faults ≤ now.output.faults
+no_fault_fell plan before now loads answer (inl a) = omega (arith, a.1.2.text.wrote.quiet)
+no_fault_fell plan before now loads answer (inr (inl b)) = omega (arith, b.1.2.text.wrote.quiet)
+no_fault_fell plan before now loads answer (inr (inr (inl c))) = c.1.2.cut.count
 no_fault_fell plan before now loads answer (inr (inr (inr d))) = omega (arith, d.1.1.quiet)
 
 usage_alone : (form : Option Form) (held : List ℕ → Held) (loads : List Load) (ending : Ending)
@@ -206,23 +258,28 @@ usage_alone None held loads ending comes two = refl
 usage_alone (Some form) held loads ending comes two =
     absurd ((all_come IsOfForm held (plan_of (Some form)) loads ending (forms_end form) comes).1 two)
 
-each_last : (P : List ℕ → Type 0) (loads : List Load) (load : Load) → EachName P (loads ++ load ∷ []) → P load.name
+pub each_last : (P : List ℕ → Type 0) (loads : List Load) (load : Load) → EachName P (loads ++ load ∷ [])
+    → P load.name
 each_last P [] load each = each.0
 each_last P (other ∷ loads) load each = each_last P loads load each.1
 
-told_way : (plan : Plan) (before now : Outside) (loads : List Load) (answer : ℕ) (ending : Ending) → CallWays plan before now loads answer
-    → told_ending before.files.held plan ≡ Some ending → NoneAskedRose before now loads → ¬ HasRisen before.output.faults now.output.faults
+told_way : (plan : Plan) (before now : Outside) (loads : List Load) (answer : ℕ) (ending : Ending)
+    → CallWays plan before now loads answer
+    → told_ending before.files.held plan
+    ≡ Some ending → NoneAskedRose before now loads → ¬ HasRisen before.output.faults now.output.faults
     → Showed ending before.output now.output answer ⊎ (answer ≡ 7)
 told_way plan before now loads answer ending (inl a) told quiet sink =
-    inl (subst (λ (e : Ending). Showed e before.output now.output answer) (told_comes before.files.held plan loads a.1.0 ending a.1.1.comes told) a.1.2)
+    let same = told_comes before.files.held plan loads a.1.0 ending a.1.1.comes told in
+    inl (subst (λ (e : Ending). Showed e before.output now.output answer) same a.1.2)
 told_way plan before now loads answer ending (inr (inl b)) told quiet sink =
     let P : List ℕ → Type 0 = λ name. ¬ HasRisen (before.files.faults name) (now.files.faults name) in
     let u = b.1.1 in
     absurd (each_last P u.earlier (load_of u.file) (subst (EachName P) u.last quiet) u.risen)
-told_way plan before now loads answer ending (inr (inr (inl c))) told quiet sink = absurd (sink c.1.2.risen)
+told_way plan before now loads answer ending (inr (inr (inl c))) told quiet sink = absurd (sink c.1.2.cut.risen)
 told_way plan before now loads answer ending (inr (inr (inr d))) told quiet sink = inr d.0
 
-pub promise : (form : Option Form) (before now : Outside) (answer : ℕ) → Follows (plan_of form) before now answer → (form ≡ None → answer ≢ 7)
+pub promise : (form : Option Form) (before now : Outside) (answer : ℕ) → Follows (plan_of form) before now answer
+    → (form ≡ None → answer ≢ 7)
     → Promise form before now answer
 promise form before now answer follows never =
     let plan = plan_of form in

@@ -13,7 +13,8 @@ abbrev within : {X : Type 0} → ℕ → X → (List ℕ → X) → List ℕ →
 within limit large read bytes = cond (nat_lt limit (length bytes)) large (read bytes)
 
 -- what stands past the limit doesn't matter
-within-front_at : {X : Type 0} (limit : ℕ) (large : X) (read : List ℕ → X) (all : List ℕ) → (limit < length all) ⊎ (length all ≤ limit)
+within-front_at : {X : Type 0} (limit : ℕ) (large : X) (read : List ℕ → X) (all : List ℕ)
+    → (limit < length all) ⊎ (length all ≤ limit)
     → within limit large read (take (limit + 1) all) ≡ within limit large read all
 within-front_at limit large read all (inr short) = ap (within limit large read) (take_all (limit + 1) all (omega arith))
 within-front_at limit large read all (inl long) =
@@ -30,6 +31,8 @@ pub list_from-front : (all : List ℕ) → list_from (take (list_limit + 1) all)
 unfolding list_from
 list_from-front all = within-front list_limit (Err wrong.TooLarge) (λ bytes. list_read (medl_of bytes)) all
 
-pub script_from-front : (list : Medl) (all : List ℕ) → script_from list (take (script_limit + 1) all) ≡ script_from list all
+pub script_from-front : (list : Medl) (all : List ℕ)
+    → script_from list (take (script_limit + 1) all) ≡ script_from list all
 unfolding script_from
-script_from-front list all = within-front script_limit (Err wrong.TooLarge) (λ bytes. script_read (script_of list bytes)) all
+script_from-front list all =
+    within-front script_limit (Err wrong.TooLarge) (λ bytes. script_read (script_of list bytes)) all

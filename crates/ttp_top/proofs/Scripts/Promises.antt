@@ -3,35 +3,43 @@ use Rattle.std.proofs.Common.{◌≡◌, ℕ, ◌+◌, ◌≤◌, List, [], ◌�
 use Rattle.std.proofs.Common.{refl, ap, sym, subst, ◌∙◌, inl, inr, arith, cond, nat_lt, Bool, true, false}
 use Rattle.std.proofs.lemmas.Bool.{le-ltb, ltb-false}
 use Rattle.std.proofs.lemmas.List.{take_all, length-take}
-use Rattle.ttp_base.specs.Outside.{Held, untold, absent, holds, Load, Gives, HasRisen, WroteLines}
+use Rattle.ttp_base.specs.Outside.{Held, untold, absent, holds, Load, Gives, HasRisen, Output}
+use Rattle.ttp_base.specs.Text.{Lines}
 use Rattle.ttp_world.specs.declared.medl.Medl.{Medl}
 use Rattle.ttp_world.specs.declared.script.Script.{Script}
+use Rattle.ttp_world.specs.Legal.{IsLegalRun}
+use Rattle.ttp_world.specs.Trace.{trace_lines}
+use Rattle.ttp_world.specs.TraceNumbers.{numbers_in}
+use Rattle.ttp_world.proofs.TraceNumbers.{numbers_in-trace}
 use Rattle.medl_text.specs.declared.error.MedlError.{MedlError}
 use Rattle.medl_text.specs.ListFile.{medl_of}
 use Rattle.script_text.specs.declared.error.ScriptError.{ScriptError}
 use Rattle.script_text.specs.ScriptFile.{script_of}
 use Rattle.ttp_top.specs.declared.read.FileFault.{FileFault}
 use Rattle.ttp_top.specs.declared.read.FileFault.TheVariants as wrong
-use Rattle.ttp_top.specs.Calls.Files.{refused_list}
-use Rattle.ttp_top.specs.Calls.Plan.{Outside, Ending, ends, Comes, told_ending}
-use Rattle.ttp_top.specs.Calls.Promise.{Promise}
+use Rattle.ttp_top.specs.Calls.Files.{refused_list, after_list, refused_script, after_script, script_plan}
+use Rattle.ttp_top.specs.Calls.Forms.{trace_ending, plan_of}
+use Rattle.ttp_top.specs.Calls.Plan.{Outside, Ending, Plan, ends, load_of, Comes, AsksFirst, told_ending}
+use Rattle.ttp_top.specs.Calls.Promise.{IsDue, EachName, NoneAskedRose, Promise}
+use Rattle.ttp_top.specs.Calls.Texts.{traces, IsTrace, WroteAmong, CutAmong}
 use Rattle.ttp_top.specs.Calls.Words.{run}
 use Rattle.ttp_top.specs.Files.Read.{list_limit, list_read, list_from, script_limit, script_read, script_from}
-use Rattle.ttp_top.specs.declared.shown.Shown.TheVariants as shown
-use Rattle.ttp_top.specs.Scripts.Plan.{trace_of, shown_ending, script_ending, plan_with, shown_plan}
-use Rattle.ttp_top.specs.Scripts.Promise.{MayBe, AreRight, WroteTrace, RunPromise}
-use Rattle.ttp_top.proofs.Calls.Plans.{AllAsk, all_asked}
+use Rattle.ttp_top.specs.Scripts.Promise.{MayBe, AreRight, WroteTraceOf, WroteTrace, AreTold, RunPromise}
+use Rattle.ttp_top.proofs.Calls.Plans.{AllAsk, all_asked, told_comes}
+use Rattle.ttp_top.proofs.Calls.Promises.{each_last}
 use Rattle.ttp_top.proofs.Files.Fronts.{list_from-front, script_from-front}
 
 -- ---- what a list or a script that is taken was read as
 
 -- it is not too large, and it was read as that
-list_taken : (read : Result Medl MedlError) (large : Bool) (medl : Medl) → cond large (Err wrong.TooLarge) (list_read read) ≡ Ok medl → (large ≡ false) × (read ≡ Ok medl)
+list_taken : (read : Result Medl MedlError) (large : Bool) (medl : Medl)
+    → cond large (Err wrong.TooLarge) (list_read read) ≡ Ok medl → (large ≡ false) × (read ≡ Ok medl)
 list_taken (Ok list) false medl taken = (refl, cc)
 list_taken (Err fault) false medl taken = absurd (cc)
 list_taken read true medl taken = absurd (cc)
 
-script_taken : (read : Result Script ScriptError) (large : Bool) (right : Script) → cond large (Err wrong.TooLarge) (script_read read) ≡ Ok right → (large ≡ false) × (read ≡ Ok right)
+script_taken : (read : Result Script ScriptError) (large : Bool) (right : Script)
+    → cond large (Err wrong.TooLarge) (script_read read) ≡ Ok right → (large ≡ false) × (read ≡ Ok right)
 script_taken (Ok script) false right taken = (refl, cc)
 script_taken (Err fault) false right taken = absurd (cc)
 script_taken read true right taken = absurd (cc)
@@ -50,7 +58,8 @@ is_run bytes medl taken =
       list = read.1;
     }
 
-right_script : (bytes script_bytes : List ℕ) (medl : Medl) (right : Script) → IsRun bytes medl → script_from medl script_bytes ≡ Ok right → AreRight bytes script_bytes medl right
+right_script : (bytes script_bytes : List ℕ) (medl : Medl) (right : Script) → IsRun bytes medl
+    → script_from medl script_bytes ≡ Ok right → AreRight bytes script_bytes medl right
 unfolding script_from
 right_script bytes script_bytes medl right list taken =
     let read = script_taken (script_of medl script_bytes) (nat_lt script_limit (length script_bytes)) right taken in
@@ -80,12 +89,23 @@ pub record Traced (list script : Held) (ending : Ending) : Type 0 where
   pub list_file : MayBe list bytes
   pub script_file : MayBe script script_bytes
   pub are : AreRight bytes script_bytes medl right
-  pub text : ending.text ≡ trace_of medl right
+  pub comes : ending ≡ trace_ending medl right
 
-from_script : (list script : Held) (bytes script_bytes : List ℕ) (medl : Medl) (read : Result Script FileFault) (ending : Ending)
-    → script_from medl script_bytes ≡ read → shown_ending shown.Trace medl read ≡ ending → ending.status ≡ 0
+-- the plan of a run, from a list on and from a script on
+abbrev from_script : Medl → Script → Plan
+from_script medl right = ends (trace_ending medl right)
+
+abbrev from_list : List ℕ → Medl → Plan
+from_list script medl = script_plan medl script (from_script medl)
+
+same_end : (one other : Ending) → ends one ≡ ends other → one ≡ other
+same_end one other same = cc
+
+script_traced : (list script : Held) (bytes script_bytes : List ℕ) (medl : Medl) (read : Result Script FileFault)
+    (ending : Ending) → script_from medl script_bytes ≡ read
+    → after_script (from_script medl) read ≡ ends ending → ending.status ≡ 0
     → IsRun bytes medl → MayBe list bytes → Gives script script_limit script_bytes → Traced list script ending
-from_script list script bytes script_bytes medl (Ok right) ending is comes zero taken may gives =
+script_traced list script bytes script_bytes medl (Ok right) ending is comes zero taken may gives =
     let are = right_script bytes script_bytes medl right taken is in
     record {
       bytes = bytes;
@@ -95,35 +115,60 @@ from_script list script bytes script_bytes medl (Ok right) ending is comes zero 
       list_file = may;
       script_file = may_be script script_limit script_bytes gives are.script_size;
       are = are;
-      text = sym (ap (λ (e : Ending). e.text) comes);
+      comes = sym (same_end (trace_ending medl right) ending comes);
     }
-from_script list script bytes script_bytes medl (Err fault) ending is comes zero taken may gives =
-    absurd (omega (arith, zero, ap (λ (e : Ending). e.status) comes))
+script_traced list script bytes script_bytes medl (Err fault) ending is comes zero taken may gives =
+    absurd (omega (arith, zero, ap (λ (e : Ending). e.status) (same_end (refused_script fault) ending comes)))
 
-same_end : (one other : Ending) → ends one ≡ ends other → one ≡ other
-same_end one other same = cc
+-- nothing is asked for after a script
+no_more : (held : List ℕ → Held) (medl : Medl) (read : Result Script FileFault) (load : Load) (loads : List Load)
+    (ending : Ending) → Comes held (after_script (from_script medl) read) (load ∷ loads) (ends ending) → ⊥
+no_more held medl (Ok right) load loads ending comes = comes
+no_more held medl (Err fault) load loads ending comes = comes
 
-from_list : (held : List ℕ → Held) (list script bytes : List ℕ) (read : Result Medl FileFault) (loads : List Load) (ending : Ending)
-    → list_from bytes ≡ read → Comes held (plan_with shown.Trace read script) loads (ends ending) → ending.status ≡ 0
-    → Gives (held list) list_limit bytes → Traced (held list) (held script) ending
-unfolding script_ending
-from_list held list script bytes (Ok medl) [] ending is comes zero gives = absurd (cc)
-from_list held list script bytes (Ok medl) (load ∷ []) ending is comes zero gives =
+list_traced : (held : List ℕ → Held) (list script bytes : List ℕ) (read : Result Medl FileFault) (loads : List Load)
+    (ending : Ending) → list_from bytes ≡ read → Comes held (after_list (from_list script) read) loads (ends ending)
+    → ending.status ≡ 0 → Gives (held list) list_limit bytes → Traced (held list) (held script) ending
+list_traced held list script bytes (Ok medl) [] ending is comes zero gives = absurd (cc)
+list_traced held list script bytes (Ok medl) (load ∷ []) ending is comes zero gives =
     let taken = is_run bytes medl is in
-    from_script (held list) (held script) bytes comes.1.0 medl (script_from medl comes.1.0) ending refl
-    (same_end (script_ending shown.Trace medl comes.1.0) ending comes.1.2) zero taken (may_be (held list) list_limit bytes gives taken.size) comes.1.1
-from_list held list script bytes (Ok medl) (load ∷ (other ∷ loads)) ending is comes zero gives = absurd comes.1.2
-from_list held list script bytes (Err fault) [] ending is comes zero gives =
+    script_traced (held list) (held script) bytes comes.1.0 medl (script_from medl comes.1.0) ending refl comes.1.2 zero
+    taken (may_be (held list) list_limit bytes gives taken.size) comes.1.1
+list_traced held list script bytes (Ok medl) (load ∷ (other ∷ loads)) ending is comes zero gives =
+    absurd (no_more held medl (script_from medl comes.1.0) other loads ending comes.1.2)
+list_traced held list script bytes (Err fault) [] ending is comes zero gives =
     absurd (omega (arith, zero, ap (λ (e : Ending). e.status) (same_end (refused_list fault) ending comes)))
-from_list held list script bytes (Err fault) (load ∷ loads) ending is comes zero gives = absurd comes
+list_traced held list script bytes (Err fault) (load ∷ loads) ending is comes zero gives = absurd comes
 
 traced : (held : List ℕ → Held) (list script : List ℕ) (loads : List Load) (ending : Ending)
-    → Comes held (shown_plan shown.Trace list script) loads (ends ending) → ending.status ≡ 0 → Traced (held list) (held script) ending
+    → Comes held (plan_of (Some (run list script))) loads (ends ending) → ending.status ≡ 0
+    → Traced (held list) (held script) ending
 traced held list script [] ending comes zero = absurd (cc)
 traced held list script (load ∷ loads) ending comes zero =
-    from_list held list script comes.1.0 (list_from comes.1.0) loads ending refl comes.1.2 zero comes.1.1
+    list_traced held list script comes.1.0 (list_from comes.1.0) loads ending refl comes.1.2 zero comes.1.1
 
-wrote_trace : (list script : List ℕ) (before now : Outside) (answer : ℕ) → Promise (Some (run list script)) before now answer → answer ≡ 0 → WroteTrace list script before now
+-- ---- the numbers of a trace
+
+-- a trace names the numbers that it was made with
+own_numbers : (medl : Medl) (right : Script) (lines : Lines) → (t : IsTrace medl right lines)
+    → numbers_in medl right lines ≡ t.numbers
+own_numbers medl right lines t =
+    ap (numbers_in medl right) t.text
+    ∙ numbers_in-trace medl right t.numbers t.valid t.valid_script t.legal.count t.legal.legal
+
+wrote_trace_of : (medl : Medl) (right : Script) (before now : Output) → WroteAmong (traces medl right) before now
+    → WroteTraceOf medl right before now
+wrote_trace_of medl right before now w =
+    let own = own_numbers medl right w.lines w.among in
+    record {
+      lines = w.lines;
+      wrote = w.wrote;
+      text = w.among.text ∙ ap (trace_lines medl right) (sym own);
+      legal = subst (IsLegalRun medl right) (sym own) w.among.legal;
+    }
+
+wrote_trace : (list script : List ℕ) (before now : Outside) (answer : ℕ)
+    → Promise (Some (run list script)) before now answer → answer ≡ 0 → WroteTrace list script before now
 wrote_trace list script before now answer p zero =
     let final = p.ended (omega (arith, zero)) in
     let t = traced before.files.held list script p.loads final.0 final.1.comes (sym final.2.status ∙ zero) in
@@ -135,44 +180,82 @@ wrote_trace list script before now answer p zero =
       list_file = t.list_file;
       script_file = t.script_file;
       are = t.are;
-      text = subst (λ (x : List ℕ). WroteLines before.output now.output x) t.text final.2.text;
+      text =
+          wrote_trace_of t.medl t.right before.output now.output
+          (subst (λ (e : Ending). WroteAmong e.texts before.output now.output) t.comes final.2.text);
     }
 
 -- ---- right files
 
-pub list_from-right : (bytes : List ℕ) (medl : Medl) → length bytes ≤ list_limit → medl_of bytes ≡ Ok medl → list_from bytes ≡ Ok medl
+pub list_from-right : (bytes : List ℕ) (medl : Medl) → length bytes ≤ list_limit → medl_of bytes ≡ Ok medl
+    → list_from bytes ≡ Ok medl
 unfolding list_from
 list_from-right bytes medl short right = rw (le-ltb list_limit (length bytes) short, right) refl
 
-script_from-right : (medl : Medl) (bytes : List ℕ) (script : Script) → length bytes ≤ script_limit → script_of medl bytes ≡ Ok script → script_from medl bytes ≡ Ok script
+pub script_from-right : (medl : Medl) (bytes : List ℕ) (script : Script) → length bytes ≤ script_limit
+    → script_of medl bytes ≡ Ok script → script_from medl bytes ≡ Ok script
 unfolding script_from
 script_from-right medl bytes script short right = rw (le-ltb script_limit (length bytes) short, right) refl
 
-pub run_told : (held : List ℕ → Held) (list script bytes script_bytes : List ℕ) (medl : Medl) → held list ≡ holds bytes → held script ≡ holds script_bytes
-    → list_from bytes ≡ Ok medl → told_ending held (shown_plan shown.Trace list script) ≡ Some (script_ending shown.Trace medl script_bytes)
-unfolding script_ending
-run_told held list script bytes script_bytes medl told script_told taken =
-    rw (told, list_from-front bytes, taken, script_told) (ap (λ r. Some (shown_ending shown.Trace medl r)) (script_from-front medl script_bytes))
+-- they come to the traces of their list and their script
+run_told : (list script : List ℕ) (before now : Outside) (medl : Medl) (right : Script)
+    → (files : AreTold list script before now medl right)
+    → told_ending before.files.held (plan_of (Some (run list script))) ≡ Some (trace_ending medl right)
+run_told list script before now medl right files =
+    let taken = list_from-right files.bytes medl files.are.size files.are.list in
+    let script_taken = script_from-right medl files.script_bytes right files.are.script_size files.are.script in
+    rw (
+      files.list_file,
+      list_from-front files.bytes,
+      taken,
+      files.script_file,
+      script_from-front medl files.script_bytes,
+      script_taken,
+    ) refl
 
--- the names that a run asks for
-run_asks : (Q : List ℕ → Type 0) (list script : List ℕ) (read : Result Medl FileFault) → Q script → AllAsk Q (plan_with shown.Trace read script)
-run_asks Q list script (Ok medl) q = (q, λ bytes. tt)
-run_asks Q list script (Err fault) q = tt
+asks_no_more : (Q : List ℕ → Type 0) (medl : Medl) (read : Result Script FileFault)
+    → AllAsk Q (after_script (from_script medl) read)
+asks_no_more Q medl (Ok right) = tt
+asks_no_more Q medl (Err fault) = tt
 
-pub run_promise : (list script : List ℕ) (before now : Outside) (answer : ℕ) → Promise (Some (run list script)) before now answer → RunPromise list script before now answer
-unfolding script_ending
+-- and no count of a name rises that a run asks for
+run_asks : (Q : List ℕ → Type 0) (script : List ℕ) (read : Result Medl FileFault) → Q script
+    → AllAsk Q (after_list (from_list script) read)
+run_asks Q script (Ok medl) q = (q, λ bytes. asks_no_more Q medl (script_from medl bytes))
+run_asks Q script (Err fault) q = tt
+
+none_rose : (list script : List ℕ) (before now : Outside) (medl : Medl) (right : Script) (loads : List Load)
+    → AreTold list script before now medl right → AsksFirst before.files.held (plan_of (Some (run list script))) loads
+    → NoneAskedRose before now loads
+none_rose list script before now medl right loads files asked =
+    let Q : List ℕ → Type 0 = λ name. ¬ HasRisen (before.files.faults name) (now.files.faults name) in
+    all_asked Q before.files.held (plan_of (Some (run list script))) loads
+    (files.list_quiet, λ bytes. run_asks Q script (list_from bytes) files.script_quiet) asked
+
+-- what was due and was cut short is one of those traces
+cut_trace : (list script : List ℕ) (before now : Outside) (medl : Medl) (right : Script) (loads : List Load)
+    (ending : Ending) → AreTold list script before now medl right → NoneAskedRose before now loads
+    → IsDue (plan_of (Some (run list script))) before now loads ending → ending ≡ trace_ending medl right
+cut_trace list script before now medl right loads ending files quiet (inl reached) =
+    told_comes before.files.held (plan_of (Some (run list script))) loads ending (trace_ending medl right) reached.comes
+    (run_told list script before now medl right files)
+cut_trace list script before now medl right loads ending files quiet (inr u) =
+    let Q : List ℕ → Type 0 = λ name. ¬ HasRisen (before.files.faults name) (now.files.faults name) in
+    absurd (each_last Q u.earlier (load_of u.file) (subst (EachName Q) u.last quiet) u.risen)
+
+pub run_promise : (list script : List ℕ) (before now : Outside) (answer : ℕ)
+    → Promise (Some (run list script)) before now answer → RunPromise list script before now answer
 run_promise list script before now answer p = record {
   trace = wrote_trace list script before now answer p;
-  complete = λ bytes script_bytes medl right told script_told are quiet.
-      let Q : List ℕ → Type 0 = λ name. ¬ HasRisen (before.files.faults name) (now.files.faults name) in
-      let asked = all_asked Q before.files.held (shown_plan shown.Trace list script) p.loads (quiet.list_file, λ b. run_asks Q list script (list_from b) quiet.script_file) p.in_order in
-      let taken = list_from-right bytes medl are.size are.list in
-      let is = run_told before.files.held list script bytes script_bytes medl told script_told taken in
-      let script_is = script_from-right medl script_bytes right are.script_size are.script in
-      let ending : shown_ending shown.Trace medl (script_from medl script_bytes) ≡ shown_ending shown.Trace medl (Ok right) = ap (shown_ending shown.Trace medl) script_is in
-      let outcome = p.told (shown_ending shown.Trace medl (Ok right)) (is ∙ ap Some ending) asked quiet.sink in
-      elim outcome [
-        | inl showed ↦ inl (showed.status, showed.text)
+  complete = λ medl right files sink.
+      let quiet = none_rose list script before now medl right p.loads files p.in_order in
+      elim (p.told (trace_ending medl right) (run_told list script before now medl right files) quiet sink) [
+        | inl showed ↦ inl (showed.status, wrote_trace_of medl right before.output now.output showed.text)
         | inr seven ↦ inr seven
       ];
+  cut = λ medl right files six.
+      let stopped = p.stopped six in
+      let quiet = none_rose list script before now medl right p.loads files p.in_order in
+      let is = cut_trace list script before now medl right p.loads stopped.0 files quiet stopped.1 in
+      subst (λ (e : Ending). CutAmong e.texts before.output now.output) is stopped.2;
 }

@@ -1,37 +1,38 @@
 -- What each form asks for, and how it ends.
-use Rattle.std.specs.Prelude.{ℕ, List, Option, Some, None, Result, Ok, Err, codes}
+use Rattle.std.specs.Prelude.{ℕ, List, Option, Some, None, codes}
 use Rattle.ttp_world.specs.declared.medl.Medl.{Medl}
+use Rattle.ttp_world.specs.declared.script.Script.{Script}
+use Rattle.ttp_world.specs.Hypothesis.{keeps as keeps_of}
+use Rattle.ttp_world.specs.Trace.{keep_line}
 use Rattle.medl_text.specs.Schedule.{slot_table}
-use Rattle.ttp_top.specs.declared.read.FileFault.{FileFault}
-use Rattle.ttp_top.specs.Calls.Files.{list_file, refused_list}
-use Rattle.ttp_top.specs.Calls.Plan.{Ending, Plan, ends, asks}
+use Rattle.ttp_top.specs.Calls.Files.{list_plan, both_plan}
+use Rattle.ttp_top.specs.Calls.Plan.{Ending, Plan, line_ending, ends}
+use Rattle.ttp_top.specs.Calls.Texts.{one, traces}
 use Rattle.ttp_top.specs.Calls.Words.{Form, schedule, run, keeps}
-use Rattle.ttp_top.specs.Files.Read.{list_from}
-use Rattle.ttp_top.specs.declared.shown.Shown.TheVariants as shown
-use Rattle.ttp_top.specs.Scripts.Plan.{shown_plan}
 
 abbrev pub usage_line : List ℕ
 usage_line =
-    codes "usage: schedule MEDL | run MEDL SCRIPT | keeps MEDL SCRIPT | verify MEDL SCRIPT TRACE | sample MEDL SLOTS NUMBER\n"
+    codes
+    "usage: schedule MEDL | run MEDL SCRIPT | keeps MEDL SCRIPT | verify MEDL SCRIPT TRACE | sample MEDL SLOTS NUMBER\n"
 
 abbrev pub usage_ending : Ending
-usage_ending = record { status = 2; text = usage_line }
+usage_ending = line_ending 2 usage_line
 
--- `schedule`
+-- the slot table of a list
+abbrev pub table_ending : Medl → Ending
+table_ending list = record { status = 0; texts = one (slot_table list) }
 
-abbrev pub table_ending : Result Medl FileFault → Ending
-table_ending (Ok list) = record { status = 0; text = slot_table list }
-table_ending (Err fault) = refused_list fault
+-- a trace of a list and a script
+abbrev pub trace_ending : Medl → Script → Ending
+trace_ending list script = record { status = 0; texts = traces list script }
 
-unfoldable pub schedule_ending : List ℕ → Ending
-schedule_ending bytes = table_ending (list_from bytes)
-
-abbrev pub schedule_plan : List ℕ → Plan
-schedule_plan list = asks (list_file list) (λ bytes. ends (schedule_ending bytes))
+-- the line of the hypothesis test alone
+abbrev pub keep_ending : Medl → Script → Ending
+keep_ending list script = line_ending 0 (keep_line (keeps_of list script))
 
 -- the plan of a form, and of words that have none
 abbrev pub plan_of : Option Form → Plan
 plan_of None = ends usage_ending
-plan_of (Some (schedule list)) = schedule_plan list
-plan_of (Some (run list script)) = shown_plan shown.Trace list script
-plan_of (Some (keeps list script)) = shown_plan shown.Keep list script
+plan_of (Some (schedule list)) = list_plan list (λ medl. ends (table_ending medl))
+plan_of (Some (run list script)) = both_plan list script (λ medl right. ends (trace_ending medl right))
+plan_of (Some (keeps list script)) = both_plan list script (λ medl right. ends (keep_ending medl right))

@@ -1,23 +1,24 @@
 -- How a part of a call ended, and how a call ended that follows a plan.
 use Rattle.std.specs.Prelude.{◌≡◌, ◌⊎◌, ℕ, List, []}
 use Rattle.ttp_base.specs.Outside.{Gives, Files, AskedFor, HasRisen, NoneRose, NoneFell, HoldsTheSame}
-use Rattle.ttp_base.specs.Outside.{Output, Wrote, WroteLines, CutShort}
+use Rattle.ttp_base.specs.Outside.{Output, Wrote}
 use Rattle.ttp_top.specs.Calls.Plan.{Outside, outside, Ending, File, Plan, ends, asks, unloaded}
+use Rattle.ttp_top.specs.Calls.Texts.{WroteAmong, CutAmong}
 
--- this ending was shown: its status was answered, and its text was written, a piece a line
+-- this ending was shown: its status was answered, and one of its texts was written, a piece a line
 pub record Showed (ending : Ending) (before now : Output) (answer : ℕ) : Type 0 where
   pub status : answer ≡ ending.status
-  pub text : WroteLines before now ending.text
+  pub text : WroteAmong ending.texts before now
 
--- a fault of the sink cut its text short, which is status 6
+-- a fault of the sink cut one of its texts short, which is status 6
 pub record Stopped (ending : Ending) (before now : Output) (answer : ℕ) : Type 0 where
   pub status : answer ≡ 6
-  pub text : CutShort before now ending.text
+  pub text : CutAmong ending.texts before now
 
 -- memory was refused before anything was written, which is status 7
 pub record Refused (before now : Output) (answer : ℕ) : Type 0 where
   pub status : answer ≡ 7
-  pub text : Wrote before now 0 []
+  pub text : Wrote before now []
 
 abbrev pub Says : Ending → Output → Output → ℕ → Type 0
 Says ending before now answer = Showed ending before now answer ⊎ Stopped ending before now answer
@@ -47,3 +48,8 @@ Follows (asks file next) before now answer =
     × Follows (next bytes) (outside files before.output) now answer)))
     ⊎ ((Failed file before.files now.files × Says (unloaded file) before.output now.output answer)
     ⊎ (Asked file before.files now.files × Refused before.output now.output answer))
+
+-- A call came so far in a plan: whatever it does from here on, if it follows what is left, it followed the plan.
+abbrev pub CameTo : Plan → Outside → Plan → Outside → Type 0
+CameTo plan before rest now =
+    (later : Outside) (answer : ℕ) → Follows rest now later answer → Follows plan before later answer

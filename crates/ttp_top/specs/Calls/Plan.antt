@@ -1,6 +1,7 @@
 -- How a command goes on: which file it asks for next, and how it ends, by what the files hold.
 use Rattle.std.specs.Prelude.{◌≡◌, ℕ, ◌+◌, List, [], ◌∷◌, take, Option, Some, None}
 use Rattle.ttp_base.specs.Outside.{Held, untold, absent, holds, Load, Files, Gives, Output}
+use Rattle.ttp_top.specs.Calls.Texts.{Texts, one}
 
 -- what a call sees of the outside, and leaves of it
 pub record Outside : Type 0 where
@@ -10,10 +11,14 @@ pub record Outside : Type 0 where
 abbrev pub outside : Files → Output → Outside
 outside files output = record { files = files; output = output }
 
--- the status, and the text that is due with it
+-- the status, and the texts of which one is due with it
 pub record Ending : Type 0 where
   pub status : ℕ
-  pub text : List ℕ
+  pub texts : Texts
+
+-- an ending with this line alone
+abbrev pub line_ending : ℕ → List ℕ → Ending
+line_ending status line = record { status = status; texts = one (line ∷ []) }
 
 -- a file that is asked for: its name, how many bytes it may have, and the line that says that it could not be loaded
 pub record File : Type 0 where
@@ -31,7 +36,7 @@ abbrev pub load_of : File → Load
 load_of file = record { name = file.name; limit = file.limit }
 
 abbrev pub unloaded : File → Ending
-unloaded file = record { status = 5; text = file.missing }
+unloaded file = line_ending 5 file.missing
 
 -- after these loads, of files that may hold what is told of them, this is left of a plan
 abbrev pub Comes : (List ℕ → Held) → Plan → List Load → Plan → Type 0

@@ -1,10 +1,11 @@
 -- The promise of a call, for every form: seven sentences on what it asked for, how it ended and what it wrote.
 use Rattle.std.specs.Prelude.{◌≡◌, ◌≢◌, ◌⊎◌, ◌≤◌, ℕ, List, [], ◌∷◌, ◌++◌, Option, Some, None}
-use Rattle.ttp_base.specs.Outside.{Load, HasRisen, NoneRose, NoneFell, HoldsTheSame, Wrote, CutShort}
+use Rattle.ttp_base.specs.Outside.{Load, HasRisen, NoneRose, NoneFell, HoldsTheSame, Wrote}
 use Rattle.ttp_top.specs.Calls.Forms.{plan_of}
 use Rattle.ttp_top.specs.Calls.Outcome.{Showed}
 use Rattle.ttp_top.specs.Calls.Plan.{Outside, Ending, File, Plan, ends, asks, load_of, unloaded, Comes, AsksFirst}
 use Rattle.ttp_top.specs.Calls.Plan.{told_ending}
+use Rattle.ttp_top.specs.Calls.Texts.{CutAmong}
 use Rattle.ttp_top.specs.Calls.Words.{Form}
 
 -- an ending is due after these loads: each gave its bytes, and no count rose
@@ -47,11 +48,12 @@ pub record Promise (form : Option Form) (before now : Outside) (answer : ℕ) : 
   pub failed : answer ≡ 5
       → (ending : Ending) × Unloaded (plan_of form) before now loads ending
       × Showed ending before.output now.output answer
-  -- Status 6 comes only where the sink's count rose, and a prefix of what was due is written.
+  -- Status 6 comes only where the sink's count rose, and a text that was due is cut short.
   pub stopped : answer ≡ 6
-      → (ending : Ending) × IsDue (plan_of form) before now loads ending × CutShort before.output now.output ending.text
+      → (ending : Ending) × IsDue (plan_of form) before now loads ending
+      × CutAmong ending.texts before.output now.output
   -- Status 7 is want of memory: no count rose, and what is written is a prefix of what was due, which is nothing.
-  pub refused : answer ≡ 7 → NoneRose before.files now.files × Wrote before.output now.output 0 []
+  pub refused : answer ≡ 7 → NoneRose before.files now.files × Wrote before.output now.output []
   pub statuses : answer ≤ 7
   -- Over files that are told, a call in which no asked count rose ended as its form says, or memory was refused.
   pub told : (ending : Ending) → told_ending before.files.held (plan_of form) ≡ Some ending

@@ -1,13 +1,17 @@
 -- The promise of `run MEDL SCRIPT` in its own words.
 use Rattle.std.specs.Prelude.{◌≡◌, ◌⊎◌, ◌≤◌, ℕ, List, length, Ok}
-use Rattle.ttp_base.specs.Outside.{Held, untold, absent, holds, HasRisen, WroteLines}
+use Rattle.ttp_base.specs.Outside.{Held, untold, absent, holds, HasRisen, Output, WroteLines}
+use Rattle.ttp_base.specs.Text.{Lines}
 use Rattle.ttp_world.specs.declared.medl.Medl.{Medl}
 use Rattle.ttp_world.specs.declared.script.Script.{Script}
+use Rattle.ttp_world.specs.Legal.{IsLegalRun}
+use Rattle.ttp_world.specs.Trace.{trace_lines}
+use Rattle.ttp_world.specs.TraceNumbers.{numbers_in}
 use Rattle.medl_text.specs.ListFile.{medl_of}
 use Rattle.script_text.specs.ScriptFile.{script_of}
 use Rattle.ttp_top.specs.Calls.Plan.{Outside}
+use Rattle.ttp_top.specs.Calls.Texts.{traces, CutAmong}
 use Rattle.ttp_top.specs.Files.Read.{list_limit, script_limit}
-use Rattle.ttp_top.specs.Scripts.Plan.{trace_of}
 
 -- these may be the bytes that are held
 abbrev pub MayBe : Held → List ℕ → Type 0
@@ -22,7 +26,14 @@ pub record AreRight (bytes script_bytes : List ℕ) (medl : Medl) (right : Scrip
   pub script_size : length script_bytes ≤ script_limit
   pub script : script_of medl script_bytes ≡ Ok right
 
--- the trace of the world's run was written, for a list and a script that the files of these names may be
+-- a text was written that is the trace of the world's run for the numbers that its own lines name, and they are legal
+pub record WroteTraceOf (medl : Medl) (right : Script) (before now : Output) : Type 0 where
+  pub lines : Lines
+  pub wrote : WroteLines before now lines
+  pub text : lines ≡ trace_lines medl right (numbers_in medl right lines)
+  pub legal : IsLegalRun medl right (numbers_in medl right lines)
+
+-- it was written for a list and a script that the files of these names may be
 pub record WroteTrace (list script : List ℕ) (before now : Outside) : Type 0 where
   pub bytes : List ℕ
   pub script_bytes : List ℕ
@@ -31,19 +42,25 @@ pub record WroteTrace (list script : List ℕ) (before now : Outside) : Type 0 w
   pub list_file : MayBe (before.files.held list) bytes
   pub script_file : MayBe (before.files.held script) script_bytes
   pub are : AreRight bytes script_bytes medl right
-  pub text : WroteLines before.output now.output (trace_of medl right)
+  pub text : WroteTraceOf medl right before.output now.output
 
--- no count rose of the list's name, the script's or the sink
-pub record IsQuiet (list script : List ℕ) (before now : Outside) : Type 0 where
-  pub list_file : ¬ HasRisen (before.files.faults list) (now.files.faults list)
-  pub script_file : ¬ HasRisen (before.files.faults script) (now.files.faults script)
-  pub sink : ¬ HasRisen before.output.faults now.output.faults
+-- the files of these names hold a right list and a right script, and no count of a name rose
+pub record AreTold (list script : List ℕ) (before now : Outside) (medl : Medl) (right : Script) : Type 0 where
+  pub bytes : List ℕ
+  pub script_bytes : List ℕ
+  pub list_file : before.files.held list ≡ holds bytes
+  pub script_file : before.files.held script ≡ holds script_bytes
+  pub are : AreRight bytes script_bytes medl right
+  pub list_quiet : ¬ HasRisen (before.files.faults list) (now.files.faults list)
+  pub script_quiet : ¬ HasRisen (before.files.faults script) (now.files.faults script)
 
 pub record RunPromise (list script : List ℕ) (before now : Outside) (answer : ℕ) : Type 0 where
-  -- Status 0 says that the trace of the world's run for the list and the script was written.
+  -- Status 0 says that a trace of the world's run for the list and the script was written.
   pub trace : answer ≡ 0 → WroteTrace list script before now
-  -- A right list and a right script give that trace and status 0, unless a count rose or memory was refused.
-  pub complete : (bytes script_bytes : List ℕ) (medl : Medl) (right : Script) → before.files.held list ≡ holds bytes
-      → before.files.held script ≡ holds script_bytes → AreRight bytes script_bytes medl right
-      → IsQuiet list script before now
-      → ((answer ≡ 0) × WroteLines before.output now.output (trace_of medl right)) ⊎ (answer ≡ 7)
+  -- A right list and a right script give one and status 0, unless a count rose or memory was refused.
+  pub complete : (medl : Medl) (right : Script) → AreTold list script before now medl right
+      → ¬ HasRisen before.output.faults now.output.faults
+      → ((answer ≡ 0) × WroteTraceOf medl right before.output now.output) ⊎ (answer ≡ 7)
+  -- With status 6 one of the traces that a right list and a right script have was cut short.
+  pub cut : (medl : Medl) (right : Script) → AreTold list script before now medl right → answer ≡ 6
+      → CutAmong (traces medl right) before.output now.output

@@ -1,6 +1,6 @@
-use Rattle.std.proofs.Common.{w64, FitsSigned, rules, refl, sym, ◌∙◌}
+use Rattle.std.proofs.Common.{w64, FitsSigned, rules, refl, sym}
 use Rattle.std.proofs.lemmas.Int.{to_z-of_z}
-use Rattle.controller.proofs.Endings.{listening-none}
+use Rattle.controller.proofs.Heard.{listening-none}
 use Rattle.controller.proofs.ending.ending_of.Goals as goal
 
 pub returns-in-Listen : goal.returns-in-Listen
@@ -9,10 +9,9 @@ returns-in-Listen c =
     let error : FitsSigned w64 c.args.error = search rules in
     let hears = rw (to_z-of_z w64 c.args.own own, to_z-of_z w64 c.args.error error) at c.listening_entry.ensures in
     rw c.in-Listen.is (λ chosen is sent_a sent_b clock shows_a shows_b.
-    let heard = hears sent_a sent_b clock shows_a shows_b in
     record {
-      entry = (λ i. (c.undelivered-in-Listen.ensures i).entry) ∙ heard;
-      delivered = (λ i. (c.undelivered-in-Listen.ensures i).delivered) ∙ sym (listening-none c.args.list.now c.args.k c.args.node.now _);
+      entry = hears sent_a sent_b clock shows_a shows_b;
+      delivered = sym (listening-none c.args.list.now c.args.k c.args.node.now _);
     })
 
 pub returns-in-Judge : goal.returns-in-Judge

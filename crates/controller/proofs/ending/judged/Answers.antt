@@ -9,9 +9,12 @@ returns c = λ chosen is sent_a sent_b clock shows_a shows_b.
     let own : FitsSigned w64 c.args.own = search rules in
     let error : FitsSigned w64 c.args.error = search rules in
     let judges = rw (to_z-of_z w64 c.args.own own, to_z-of_z w64 c.args.error error) at c.judging-judgement.ensures in
-    let judgement = judges past (record { coming = c.coming.ensures; ack = c.acknowledgement.ensures; members = c.members.ensures }) sent_a sent_b clock shows_a shows_b in
-    let sender = c.sender.ensures.value ∙ (λ i. (c.coming.ensures.place i).slot) in
+    let received = c.receiver_of-receiver.ensures in
+    let judgement = judges past received.receives sent_a sent_b clock shows_a shows_b in
+    let judged = rw received.number at judgement in
+    let sender = c.sender.ensures.value ∙ (λ i. (received.receives.coming.place i).slot) in
     record {
-      entry = c.judged_entry.ensures.judging c.args.list.now k past _ sender judgement;
-      delivered = c.delivered.ensures k past c.args.own c.args.error c.coming.ensures sent_a sent_b clock shows_a shows_b judgement;
+      entry = c.judged_entry.ensures.judging c.args.list.now k past _ sender judged;
+      delivered = c.deliver.ensures k past c.args.own c.args.error received.receives.coming sent_a sent_b clock shows_a
+          shows_b judged;
     }

@@ -2,7 +2,7 @@
 use Rattle.std.proofs.Common.{ℕ, ◌<◌, List, length, sym, subst, Option, IfSome, arith}
 use Rattle.ttp_frame.specs.Shape.{HaveRoom}
 use Rattle.ttp_world.specs.Medl.{is_wide}
-use Rattle.controller.proofs.Candidates.{candidates-room}
+use Rattle.controller.proofs.Sets.{candidates-room}
 use Rattle.controller.proofs.hearing.expected_of.Goals as goal
 
 pub returns-clause-expected : goal.returns-clause-expected
@@ -10,10 +10,13 @@ returns-clause-expected c =
     let list = c.args.list.now in
     let receiver = c.args.receiver.now in
     let is = c.requires.receiver in
-    let sends : c.sender-sender.result < length list.slots = omega (arith, c.sender-sender.ensures.exists, is.coming.slots) in
-    let rooms = candidates-room list receiver.ack receiver.number receiver.members c.sender-sender.result c.requires.valid is.number sends is.doubt is.members in
+    let sends : c.sender-sender.result < length list.slots =
+    omega (arith, c.sender-sender.ensures.exists, is.coming.slots) in
+    let rooms = candidates-room list receiver.ack receiver.number receiver.members c.sender-sender.result
+    c.requires.valid is.number sends is.doubt is.members in
     record {
       place = is.coming;
       first = subst (HaveRoom (is_wide list)) (sym c.candidates-first.ensures.first) rooms.first;
-      second = subst (λ (o : Option (List ℕ)). IfSome o (HaveRoom (is_wide list))) (sym c.candidates-first.ensures.second) rooms.second;
+      second = subst (λ (o : Option (List ℕ)). IfSome o (HaveRoom (is_wide list)))
+          (sym c.candidates-first.ensures.second) rooms.second;
     }

@@ -1,6 +1,6 @@
 -- The node's past is within the list.
 use Rattle.std.proofs.Common.{refl}
-use Rattle.controller.proofs.Judgements.{IsReceiver-within}
+use Rattle.controller.proofs.Heard.{IsReceiver-within}
 use Rattle.controller.proofs.hearing.receiver_of.Goals as goal
 
 pub returns-clause-receiver : goal.returns-clause-receiver

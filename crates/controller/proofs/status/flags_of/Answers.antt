@@ -24,5 +24,6 @@ returns c =
     let sixth = c.with-flags-6.ensures ∙ (λ i. bit_or (fifth i) (flag 32 (opened i))) in
     let seventh = c.with-flags-7.ensures ∙ (λ i. bit_or (sixth i) (flag 64 (doubt i))) in
     c.with.ensures ∙ (λ i. bit_or (seventh i) (flag 128 (c.has_averaged.ensures i)))
-    ∙ flags_word-sum (is_active_phase node.phase) (is_listening_phase node.phase) (is_left_phase node.phase) (is_sending node.entry)
+    ∙ flags_word-sum (is_active_phase node.phase) (is_listening_phase node.phase) (is_left_phase node.phase)
+    (is_sending node.entry)
     c.args.delivers (is_open node.ack) (is_doubt node.ack) (has_averaged c.args.list.now node)

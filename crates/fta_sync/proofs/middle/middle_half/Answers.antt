@@ -10,14 +10,35 @@ low_is : (c : goal.After-min-high) → c.max-low.result ≡ int_max (int_min c.a
 low_is c =
     let first : FitsSigned w64 c.min.result = search rules in
     let second : FitsSigned w64 c.min-2.result = search rules in
-    rw (to_z-of_z w64 c.min.result first, to_z-of_z w64 c.min-2.result second, c.min.ensures.value, c.min-2.ensures.value, to_z-of_z w64 c.args.a c.ranges.a, to_z-of_z w64 c.args.b c.ranges.b, to_z-of_z w64 c.args.c c.ranges.c, to_z-of_z w64 c.args.d c.ranges.d)
+    rw (
+      to_z-of_z w64 c.min.result first,
+      to_z-of_z w64 c.min-2.result second,
+      c.min.ensures.value,
+      c.min-2.ensures.value,
+      to_z-of_z w64 c.args.a c.ranges.a,
+      to_z-of_z w64 c.args.b c.ranges.b,
+      to_z-of_z w64 c.args.c
+          c.ranges.c,
+      to_z-of_z w64 c.args.d c.ranges.d,
+    )
     at c.max-low.ensures.value
 
-high_is : (c : goal.After-min-high) → c.min-high.result ≡ int_min (int_max c.args.a c.args.b) (int_max c.args.c c.args.d)
+high_is : (c : goal.After-min-high)
+    → c.min-high.result ≡ int_min (int_max c.args.a c.args.b) (int_max c.args.c c.args.d)
 high_is c =
     let first : FitsSigned w64 c.max.result = search rules in
     let second : FitsSigned w64 c.max-2.result = search rules in
-    rw (to_z-of_z w64 c.max.result first, to_z-of_z w64 c.max-2.result second, c.max.ensures.value, c.max-2.ensures.value, to_z-of_z w64 c.args.a c.ranges.a, to_z-of_z w64 c.args.b c.ranges.b, to_z-of_z w64 c.args.c c.ranges.c, to_z-of_z w64 c.args.d c.ranges.d)
+    rw (
+      to_z-of_z w64 c.max.result first,
+      to_z-of_z w64 c.max-2.result second,
+      c.max.ensures.value,
+      c.max-2.ensures.value,
+      to_z-of_z w64 c.args.a c.ranges.a,
+      to_z-of_z w64 c.args.b c.ranges.b,
+      to_z-of_z w64 c.args.c
+          c.ranges.c,
+      to_z-of_z w64 c.args.d c.ranges.d,
+    )
     at c.min-high.ensures.value
 
 pub overflow_add-result : goal.overflow_add-result
@@ -32,8 +53,17 @@ returns-clause-value c =
     let low : FitsSigned w64 c.max-low.result = search rules in
     let high : FitsSigned w64 c.min-high.result = search rules in
     let sum = paired_sum c.args.a c.args.b (int_min c.args.c c.args.d) (int_max c.args.c c.args.d) in
-    let fits : FitsSigned w64 sum = deviations_fit c.args.a c.args.b c.args.c c.args.d c.requires.a c.requires.b c.requires.c in
-    rw (to_z-of_z w64 c.max-low.result low, to_z-of_z w64 c.min-high.result high, low_is c, high_is c, to_z-of_z w64 sum fits, to_z-of_z w64 (int_div sum (pos 2)) (quot_fits w64 sum (pos 2) fits (record { lt = tt })))
+    let fits : FitsSigned w64 sum =
+    deviations_fit c.args.a c.args.b c.args.c c.args.d c.requires.a c.requires.b c.requires.c in
+    rw (
+      to_z-of_z w64 c.max-low.result low,
+      to_z-of_z w64 c.min-high.result high,
+      low_is c,
+      high_is c,
+      to_z-of_z w64 sum
+          fits,
+      to_z-of_z w64 (int_div sum (pos 2)) (quot_fits w64 sum (pos 2) fits (record { lt = tt })),
+    )
     (sym (middle_half-paired c.args.a c.args.b c.args.c c.args.d))
 
 pub returns-clause-within : goal.returns-clause-within
@@ -41,6 +71,15 @@ returns-clause-within c =
     let low : FitsSigned w64 c.max-low.result = search rules in
     let high : FitsSigned w64 c.min-high.result = search rules in
     let sum = paired_sum c.args.a c.args.b (int_min c.args.c c.args.d) (int_max c.args.c c.args.d) in
-    let fits : FitsSigned w64 sum = deviations_fit c.args.a c.args.b c.args.c c.args.d c.requires.a c.requires.b c.requires.c in
-    rw (to_z-of_z w64 c.max-low.result low, to_z-of_z w64 c.min-high.result high, low_is c, high_is c, to_z-of_z w64 sum fits, to_z-of_z w64 (int_div sum (pos 2)) (quot_fits w64 sum (pos 2) fits (record { lt = tt })))
+    let fits : FitsSigned w64 sum =
+    deviations_fit c.args.a c.args.b c.args.c c.args.d c.requires.a c.requires.b c.requires.c in
+    rw (
+      to_z-of_z w64 c.max-low.result low,
+      to_z-of_z w64 c.min-high.result high,
+      low_is c,
+      high_is c,
+      to_z-of_z w64 sum
+          fits,
+      to_z-of_z w64 (int_div sum (pos 2)) (quot_fits w64 sum (pos 2) fits (record { lt = tt })),
+    )
     (deviations_half c.args.a c.args.b c.args.c c.args.d c.requires.a c.requires.b c.requires.c)

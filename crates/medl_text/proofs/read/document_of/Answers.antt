@@ -15,5 +15,6 @@ returns-in-Ok-table_from_str-clause-ok c =
 pub returns-in_default-clause-err : goal.returns-in_default-clause-err
 unfolding document_of
 returns-in_default-clause-err c =
-    let no_text : is_utf8 c.args.text.now ≡ false = false_from_ne_true _ (λ test. c.in_default.ensures.cases.0 (IsUtf8-from_is_utf8 c.args.text.now test)) in
+    let no_text : is_utf8 c.args.text.now ≡ false =
+    false_from_ne_true _ (λ test. c.in_default.ensures.cases.0 (IsUtf8-from_is_utf8 c.args.text.now test)) in
     grind (arith, common_steps)

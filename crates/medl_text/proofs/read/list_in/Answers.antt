@@ -11,7 +11,9 @@ returns-clause-valid c = record {
   buffers = c.in_ok-buffers.ensures.range;
   drift = IsWithin-widened 0 1000 _ _ c.from-drift.ensures (omega arith) c.in_ok-number.ensures.range.1 (omega arith);
   error = IsWithin-widened 0 1000 _ _ c.from-error.ensures (omega arith) c.in_ok-number-2.ensures.range.1 (omega arith);
-  window = IsWithin-widened 1 1000000 _ _ c.from-window.ensures c.in_ok-number-3.ensures.range.0 c.in_ok-number-3.ensures.range.1 (omega arith);
+  window =
+      IsWithin-widened 1 1000000 _ _ c.from-window.ensures c.in_ok-number-3.ensures.range.0
+      c.in_ok-number-3.ensures.range.1 (omega arith);
   modes = c.in_ok-modes.ensures.range;
   count = (grind (arith, counts), grind (arith, counts));
   slots = c.in_ok-slots.ensures.valid;

@@ -7,4 +7,5 @@ use Rattle.medl_text.proofs.read.unknown_in.Given as goal
 abbrev pub invariant-loop-k : goal.invariant-loop-k
 invariant-loop-k l =
     (are_tables (items_view (drop l.k l.elements)) ≡ true)
-    × (unknown_in_slots 0 (tables_of (items_view l.elements)) ≡ unknown_in_slots l.k (tables_of (items_view (drop l.k l.elements))))
+    × (unknown_in_slots 0 (tables_of (items_view l.elements))
+    ≡ unknown_in_slots l.k (tables_of (items_view (drop l.k l.elements))))

@@ -1,8 +1,7 @@
-use Rattle.std.proofs.Common.{arith, length, ◌<◌, [], ◌∙◌}
+use Rattle.std.proofs.Common.{arith, length, ◌<◌, []}
 use Rattle.std.proofs.lemmas.Result.{err_from_is_err_and}
-use Rattle.ttp_base.proofs.Outputs.{CutShort-texts, Wrote-none, WroteLines-texts}
+use Rattle.ttp_base.proofs.Outputs.{CutShort-each, Wrote-none, WroteLines-each}
 use Rattle.medl_text.specs.Schedule.{slot_line}
-use Rattle.medl_text.proofs.Lines.{slot_line_is_a_line, wrote_line}
 use Rattle.medl_text.proofs.schedule.put_round.Goals as goal
 
 pub loop-slot-init : goal.loop-slot-init
@@ -10,11 +9,9 @@ loop-slot-init g c = Wrote-none _
 
 pub loop-slot-preserved : goal.loop-slot-preserved
 loop-slot-preserved g c =
-    let list = c.args.list.now in
-    let round = c.args.round in
-    let slot = c.loop-slot.slot in
-    let line = wrote_line _ _ (slot_line list round slot) _ (slot_line_is_a_line list round slot) (c.bytes.ensures ∙ c.slot_line.ensures) c.in_ok-write.ensures.ok in
-    WroteLines-texts _ _ _ [] (slot_line list round) slot c.loop-slot.invariant line
+    let text = slot_line c.args.list.now c.args.round in
+    WroteLines-each _ _ _ [] text c.loop-slot.slot c.loop-slot.invariant
+    (rw (← c.slot_line.ensures, ← c.bytes.ensures) c.in_ok-write.ensures.ok)
 
 pub returns-in_err-write-clause-failed : goal.returns-in_err-write-clause-failed
 returns-in_err-write-clause-failed g c =
@@ -22,5 +19,5 @@ returns-in_err-write-clause-failed g c =
     let text = slot_line c.args.list.now c.args.round in
     let slot = c.loop-slot.slot in
     let less : slot < length c.args.list.now.slots = omega arith in
-    rw failed.1 (CutShort-texts _ _ _ [] text slot (length c.args.list.now.slots) less c.loop-slot.invariant
+    rw failed.1 (CutShort-each _ _ _ [] text slot (length c.args.list.now.slots) less c.loop-slot.invariant
     (rw (← c.slot_line.ensures, ← c.bytes.ensures) c.in_err-write.ensures.failed))

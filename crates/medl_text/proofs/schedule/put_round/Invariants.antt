@@ -1,9 +1,10 @@
+use Rattle.std.proofs.Common.{map}
+use Rattle.ttp_base.specs.NodeSet.{below}
 use Rattle.ttp_base.specs.Outside.{WroteLines}
-use Rattle.ttp_base.specs.Text.{texts_below}
 use Rattle.medl_text.specs.Schedule.{slot_line}
 use Rattle.medl_text.proofs.schedule.put_round.Given as goal
 
 -- the lines of the slots so far were written
 abbrev pub invariant-loop-slot : goal.invariant-loop-slot
 invariant-loop-slot g l =
-    WroteLines (g.K.Sink.output l.fn.out) (g.K.Sink.output l.out) (texts_below (slot_line l.list l.round) l.slot)
+    WroteLines (g.K.Sink.output l.fn.out) (g.K.Sink.output l.out) (map (slot_line l.list l.round) (below l.slot))

@@ -5,7 +5,8 @@ use Rattle.ttp_base.proofs.streams.write_whole.Given as goal
 -- the first bytes of the piece were written
 abbrev pub invariant-loop-done : goal.invariant-loop-done
 invariant-loop-done g l =
-    (l.done ≤ length l.piece) × Appends (g.W.Write.contents l.fn.writer) (g.W.Write.contents l.writer) (take l.done l.piece)
+    (l.done ≤ length l.piece)
+    × Appends (g.W.Write.contents l.fn.writer) (g.W.Write.contents l.writer) (take l.done l.piece)
 
 abbrev pub decreases-loop-done : goal.decreases-loop-done
 decreases-loop-done g l = length l.piece - l.done

@@ -11,8 +11,12 @@ pub returns-in-OutOfRange-clause-text : goal.returns-in-OutOfRange-clause-text
 returns-in-OutOfRange-clause-text c =
     let fits : SFits w64 c.in-OutOfRange.value = search rules in
     let signed = simp to_z-of_z at c.put_signed.ensures in
-    rw c.in-OutOfRange.is (four_parts _ _ _ _ _ _ _ _ _ c.put_text-in-OutOfRange.ensures c.put_field-in-OutOfRange.ensures.text c.put_text-in-OutOfRange-2.ensures signed)
+    rw c.in-OutOfRange.is
+    (four_parts _ _ _ _ _ _ _ _ _ c.put_text-in-OutOfRange.ensures c.put_field-in-OutOfRange.ensures.text
+    c.put_text-in-OutOfRange-2.ensures signed)
 
 pub returns-in-NoRequestData-clause-text : goal.returns-in-NoRequestData-clause-text
 returns-in-NoRequestData-clause-text c =
-    rw (c.in-NoRequestData.is, c.put_number-in-NoRequestData.ensures, c.put_text-in-NoRequestData.ensures, c.from-in-NoRequestData.ensures, append_assoc)
+    let number = c.put_number-in-NoRequestData.ensures in
+    rw
+    (c.in-NoRequestData.is, number, c.put_text-in-NoRequestData.ensures, c.from-in-NoRequestData.ensures, append_assoc)

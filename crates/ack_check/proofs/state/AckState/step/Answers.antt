@@ -1,11 +1,6 @@
 use Rattle.ack_check.specs.Moves.{taken_verdict}
-use Rattle.ack_check.proofs.MoveLaws.{StandsAfterJudged-answered, IsMoveOf-move_of}
+use Rattle.ack_check.proofs.MoveLaws.{IsMoveOf-move_of}
 use Rattle.ack_check.proofs.state.AckState.step.Goals as goal
-
-pub returns-clause-stands : goal.returns-clause-stands
-returns-clause-stands c =
-    rw (c.ack_answered-self-inside.ensures, c.taken_verdict-verdict.ensures, c.self.view_is)
-    (StandsAfterJudged-answered c.args.self.now c.args.sender (taken_verdict c.args.self.now c.args.verdict))
 
 pub returns-clause-means : goal.returns-clause-means
 returns-clause-means c =

@@ -20,7 +20,8 @@ three_of_four list four = ap (λ (n : ℕ). filter (has_node (0 ∷ 1 ∷ 3 ∷ 
 pub returns : goal.returns
 returns c = record {
   number = omega arith;
-  coming = record { place = refl; rounds = c.at.ensures.stands.rounds; slots = c.at.ensures.stands.slots };
+  coming = record { place = refl; rounds = c.at.ensures.rounds; slots = c.at.ensures.slots };
   doubt = no_doubt (length c.args.list.now.slots) c.ack_of.result c.ack_of.ensures;
-  members = subst (AreNodes c.args.list.now) (sym c.three_members.ensures) (three_of_four c.args.list.now c.requires.four);
+  members = subst (AreNodes c.args.list.now) (sym c.three_members.ensures)
+      (three_of_four c.args.list.now c.requires.four);
 }

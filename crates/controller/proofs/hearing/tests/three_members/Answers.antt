@@ -9,5 +9,6 @@ computed = refl
 
 pub returns : goal.returns
 returns c =
-    let two = c.with-2.ensures ∙ ap (λ (s : List ℕ). with_node s 1) (c.with.ensures ∙ ap (λ (s : List ℕ). with_node s 0) c.empty.ensures) in
+    let two = c.with-2.ensures
+    ∙ ap (λ (s : List ℕ). with_node s 1) (c.with.ensures ∙ ap (λ (s : List ℕ). with_node s 0) c.empty.ensures) in
     c.with-3.ensures ∙ ap (λ (s : List ℕ). with_node s 3) two ∙ computed

@@ -3,7 +3,7 @@ use Rattle.std.proofs.lemmas.Int.{ints, to_z-of_z}
 use Rattle.ttp_world.specs.declared.node.Entry.TheVariants as entry
 use Rattle.ttp_world.specs.Clock.{join_deviation}
 use Rattle.controller.specs.Within.{AreChangesWithin}
-use Rattle.controller.proofs.Corrections.{slot_change-on}
+use Rattle.controller.proofs.Clocks.{slot_change-on}
 use Rattle.controller.proofs.node.Node.clock_change.Goals as goal
 
 pub returns-in_default-clause-value : goal.returns-in_default-clause-value
@@ -23,7 +23,13 @@ returns-in_default-clause-value c =
     let joined_is = c.join_deviation.ensures ∙ ap join_deviation entry_is in
     let on : node.entry ≢ entry.Off = λ off. c.in_default.not-Off (entry_is ∙ off) in
     to_z-of_z w64 c.sum_of_changes.result sum
-    ∙ (rw (to_z-of_z w64 inside.jump jump, to_z-of_z w64 inside.drift drift, to_z-of_z w64 c.join_deviation.result joined, to_z-of_z w64 c.correction.result corrected)
+    ∙ (rw (
+      to_z-of_z w64 inside.jump jump,
+      to_z-of_z w64 inside.drift drift,
+      to_z-of_z w64 c.join_deviation.result
+          joined,
+      to_z-of_z w64 c.correction.result corrected,
+    )
     at c.sum_of_changes.ensures.value)
     ∙ (λ i. jump_is i +ℤ (drift_is i +ℤ (joined_is i +ℤ c.correction.ensures.value i)))
     ∙ slot_change-on node.entry s _ on

@@ -29,22 +29,29 @@ returns c =
     let a = c.args in
     let before = c.self.inside in
     let within = subst (IsWithin a.list.now a.k) (sym c.self.view_is) c.requires.within in
-    let judged = subst (λ past. IsJudgedWithin a.list.now a.k past a.sender a.verdict a.deviation) (sym c.self.view_is) c.requires.judged in
+    let judged = subst (λ past. IsJudgedWithin a.list.now a.k past a.sender a.verdict a.deviation) (sym c.self.view_is)
+    c.requires.judged in
     let place = ap joined_place c.cstate-self-inside.ensures ∙ c.next_clock-clock.ensures.place in
-    let moves = subst (λ v. IsMoveOf c.step-asked.result before.ack v a.sender) judged.possible c.step-asked.ensures.means in
+    let moves = subst (λ v. IsMoveOf c.step-asked.result before.ack v a.sender) judged.possible
+    c.step-asked.ensures.means in
     stint_after-of a.list.now a.k _ _ (entry.Judged a.sender a.verdict a.deviation) _ c.self.view_is (record {
       phase = refl;
       entry = refl;
       place = place;
       members = ap (λ cstate. cstate.members) c.cstate-self-inside.ensures
-          ∙ c.set.ensures ∙ c.apply.ensures.value ∙ ap (λ s. moved_members c.step-asked.result s a.sender) c.of-members.ensures.value
-          ∙ moved_members-after a.list.now a.k _ a.sender a.verdict a.deviation c.step-asked.result c.requires.valid c.requires.node within judged moves;
-      accepted = ap (λ counts. counts.accepted) c.count.ensures.value ∙ ap (λ more. counted more before.counts.accepted) moves.accepts;
-      rejected = ap (λ counts. counts.rejected) c.count.ensures.value ∙ ap (λ more. counted more before.counts.rejected) moves.rejects;
+          ∙ c.set.ensures ∙ c.apply.ensures
+          ∙ ap (λ s. moved_members c.step-asked.result s a.sender) c.of-members.ensures
+          ∙ moved_members-after a.list.now a.k _ a.sender a.verdict a.deviation c.step-asked.result c.requires.valid
+          c.requires.node within judged moves;
+      accepted = ap (λ counts. counts.accepted) c.count.ensures
+          ∙ ap (λ more. counted more before.counts.accepted) moves.accepts;
+      rejected = ap (λ counts. counts.rejected) c.count.ensures
+          ∙ ap (λ more. counted more before.counts.rejected) moves.rejects;
       ack = c.step-asked.ensures.value ∙ ap (λ v. ack_answered before.ack v a.sender) judged.possible;
       cold_start = refl;
       limit = refl;
       silent_slots = refl;
       offset = refl;
-      notes = noted a.list.now a.sender _ c.match-verdict.noted _ before.measures _ judged.coming (told c) c.note.ensures;
+      notes = noted a.list.now a.sender _ c.match-verdict.noted _ before.measures _ judged.coming (told c)
+          c.note.ensures;
     })

@@ -19,14 +19,16 @@ returns c message =
       entry = refl;
       place = place;
       members = ap (λ cstate. cstate.members) c.cstate-self-inside.ensures
-          ∙ c.set.ensures ∙ c.add.ensures.value ∙ ap (λ s. with_node s a.k) c.of-members.ensures.value
-          ∙ members_after-Sent a.list.now a.k before.cstate.members before.ack message within.members c.requires.node (nodes-most a.list.now c.requires.valid);
-      accepted = ap (λ counts. counts.accepted) c.fresh-self-inside.ensures.value;
-      rejected = ap (λ counts. counts.rejected) c.fresh-self-inside.ensures.value;
-      ack = c.after_send.ensures.value;
+          ∙ c.set.ensures ∙ c.add.ensures ∙ ap (λ s. with_node s a.k) c.of-members.ensures
+          ∙ members_after-Sent a.list.now a.k before.cstate.members before.ack message within.members c.requires.node
+          (nodes-most a.list.now c.requires.valid);
+      accepted = ap (λ counts. counts.accepted) c.fresh-self-inside.ensures;
+      rejected = ap (λ counts. counts.rejected) c.fresh-self-inside.ensures;
+      ack = c.after_send.ensures;
       cold_start = refl;
       limit = refl;
       silent_slots = refl;
       offset = refl;
-      notes = noted a.list.now c.sender.result _ (Some (pos 0)) (Some (pos 0)) before.measures _ (c.sender.ensures.value ∙ ap (λ there. there.slot) c.next_clock-clock.ensures.place) refl c.note.ensures;
+      notes = noted a.list.now c.sender.result _ (Some (pos 0)) (Some (pos 0)) before.measures _
+          (c.sender.ensures.value ∙ ap (λ there. there.slot) c.next_clock-clock.ensures.place) refl c.note.ensures;
     })

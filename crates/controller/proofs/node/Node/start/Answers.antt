@@ -16,13 +16,15 @@ returns c =
       entry = refl;
       place = refl;
       members = c.with.ensures ∙ ap (λ s. with_node s a.k) c.empty.ensures
-          ∙ members_after-Started a.list.now a.k before.cstate.members before.ack c.requires.node (nodes-most a.list.now c.requires.valid);
-      accepted = ap (λ counts. counts.accepted) c.fresh-self-inside.ensures.value;
-      rejected = ap (λ counts. counts.rejected) c.fresh-self-inside.ensures.value;
-      ack = c.after_send.ensures.value;
+          ∙ members_after-Started a.list.now a.k before.cstate.members before.ack c.requires.node
+          (nodes-most a.list.now c.requires.valid);
+      accepted = ap (λ counts. counts.accepted) c.fresh-self-inside.ensures;
+      rejected = ap (λ counts. counts.rejected) c.fresh-self-inside.ensures;
+      ack = c.after_send.ensures;
       cold_start = refl;
       limit = refl;
       silent_slots = refl;
       offset = refl;
-      notes = rw c.clear.ensures.value at c.note.ensures ∙ noted-first a.list.now a.k (Some (pos 0)) before.measures (a.k == 0);
+      notes = rw c.clear.ensures at c.note.ensures
+          ∙ noted-first a.list.now a.k (Some (pos 0)) before.measures (a.k == 0);
     })

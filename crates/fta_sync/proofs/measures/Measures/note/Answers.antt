@@ -1,17 +1,20 @@
-use Rattle.std.proofs.Common.{ap, ◌∙◌, ◌∷◌, take, w64, FitsSigned, rules}
+use Rattle.std.proofs.Common.{w64, FitsSigned, rules}
 use Rattle.std.proofs.lemmas.Int.{to_z-of_z}
-use Rattle.fta_sync.proofs.KeptNotes.{kept_with, take-with}
+use Rattle.fta_sync.proofs.KeptNotes.{kept_with}
 use Rattle.fta_sync.proofs.measures.Measures.note.Goals as goal
 
-pub returns-clause-value : goal.returns-clause-value
-returns-clause-value c =
+pub returns : goal.returns
+returns c =
     let m = c.self.inside in
     let newest : FitsSigned w64 m.newest = search rules in
     let second : FitsSigned w64 m.second = search rules in
     let third : FitsSigned w64 m.third = search rules in
-    rw (to_z-of_z w64 c.args.deviation c.ranges.deviation, to_z-of_z w64 m.newest newest, to_z-of_z w64 m.second second, to_z-of_z w64 m.third third, c.min-self-inside.ensures, ← c.self.view_is)
+    rw (
+      to_z-of_z w64 c.args.deviation c.ranges.deviation,
+      to_z-of_z w64 m.newest newest,
+      to_z-of_z w64 m.second second,
+      to_z-of_z w64 m.third third,
+      c.min-self-inside.ensures,
+      ← c.self.view_is,
+    )
     (kept_with m.count c.args.deviation m.newest m.second m.third m.fourth c.self.invariant.few)
-
-pub returns-clause-stands : goal.returns-clause-stands
-returns-clause-stands c notes stands =
-    returns-clause-value c ∙ ap (λ xs. take 4 (c.args.deviation ∷ xs)) stands ∙ take-with c.args.deviation notes

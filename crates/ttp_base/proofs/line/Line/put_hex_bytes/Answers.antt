@@ -8,4 +8,9 @@ put_bytes-requires c =
     let b = c.args.b.now in
     let i = c.loop-byte.byte-index in
     let within : i ≤ length b = omega arith in
-    omega (arith, simp length-append at (ap length c.loop-byte.invariant), length-hex_bytes (take i b), length-take-le i b within)
+    omega (
+      arith,
+      simp length-append at (ap length c.loop-byte.invariant),
+      length-hex_bytes (take i b),
+      length-take-le i b within,
+    )

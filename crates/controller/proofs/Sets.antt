@@ -1,0 +1,136 @@
+-- Sets of a list's nodes: they have room in its frames, and those on which a node joins are such.
+use Rattle.std.proofs.Common.{ℕ, ◌<◌, Bool, true, false, ◌∷◌, [], List, length, subst, sym, arith, ◌≡◌, refl}
+use Rattle.std.proofs.Common.{IfSome, ◌&&◌, ◌||◌, ap, ◌∙◌}
+use Rattle.std.specs.Int.{bit_at}
+use Rattle.std.specs.List.{list_all}
+use Rattle.std.specs.Prelude.{◌==◌, nat_lt}
+use Rattle.std.proofs.lemmas.Bool.{and_parts, eqb-true, ltb-true}
+use Rattle.ttp_base.proofs.NodeLists.{filter-below}
+use Rattle.ttp_base.proofs.NodeSets.{has_node-sieve, same_sieve}
+use Rattle.ttp_base.proofs.SetWords.{HasWord, HasWord-filter, HasWord-only, HasWord-with, HasWord-without}
+use Rattle.ttp_base.proofs.SetWords.{set_bits-small}
+use Rattle.ttp_base.specs.NodeSet.{most_nodes, has_node, with_node, without_node, members_in}
+use Rattle.ttp_world.specs.declared.medl.Medl.{Medl}
+use Rattle.ttp_world.specs.declared.node.Ack.{Ack}
+use Rattle.ttp_world.specs.declared.node.Ack.TheVariants as ack
+use Rattle.ttp_world.specs.Fitting.{carried, is_joinable_state}
+use Rattle.ttp_world.specs.Medl.{IsValid, is_wide, node_limit, member_width}
+use Rattle.ttp_world.specs.Membership.{AreNodes}
+use Rattle.ttp_world.specs.Reception.{Candidates, candidate_sets, candidates}
+use Rattle.ttp_world.proofs.Lists.{nodes-most, node_limit-most}
+use Rattle.ttp_frame.specs.Shape.{HaveRoom}
+use Rattle.controller.specs.Within.{IsCStateWithin}
+
+-- a set has a word of the list's frames
+abbrev HasListWord : Medl → List ℕ → Type 0
+HasListWord list members = HasWord (node_limit list) members
+
+has_room : (list : Medl) (members : List ℕ) → HasListWord list members → HaveRoom (is_wide list) members
+has_room list members word = set_bits-small (node_limit list) members word (node_limit-most list)
+
+nodes-word : (list : Medl) (members : List ℕ) → IsValid list → AreNodes list members → HasListWord list members
+nodes-word list members valid are =
+    subst (HasListWord list) (sym are)
+    (HasWord-filter (node_limit list) (has_node members) (length list.slots) valid.count.1 (nodes-most list valid))
+
+with_node-word : (list : Medl) (members : List ℕ) (k : ℕ) → IsValid list → k < length list.slots
+    → HasListWord list members → HasListWord list (with_node members k)
+with_node-word list members k valid node has =
+    HasWord-with (node_limit list) members k has (omega (arith, valid.count)) (omega (arith, nodes-most list valid))
+
+without_node-word : (list : Medl) (members : List ℕ) (k : ℕ) → IsValid list → k < length list.slots
+    → HasListWord list members → HasListWord list (without_node members k)
+without_node-word list members k valid node has =
+    HasWord-without (node_limit list) members k has (omega (arith, nodes-most list valid))
+
+pub nodes-room : (list : Medl) (members : List ℕ) → IsValid list → AreNodes list members
+    → HaveRoom (is_wide list) members
+nodes-room list members valid are = has_room list members (nodes-word list members valid are)
+
+pub with_node-room : (list : Medl) (members : List ℕ) (k : ℕ) → IsValid list → AreNodes list members
+    → k < length list.slots → HaveRoom (is_wide list) (with_node members k)
+with_node-room list members k valid are node =
+    has_room list _ (with_node-word list members k valid node (nodes-word list members valid are))
+
+pub only-room : (list : Medl) (k : ℕ) → IsValid list → k < length list.slots → HaveRoom (is_wide list) (k ∷ [])
+only-room list k valid node =
+    has_room list _ (HasWord-only (node_limit list) k (omega (arith, valid.count))
+    (omega (arith, nodes-most list valid)))
+
+-- The candidates for a sender's members, where they are made of nodes of the list.
+
+pub record HaveRooms (list : Medl) (c : Candidates) : Type 0 where
+  pub first : HaveRoom (is_wide list) c.first
+  pub second : IfSome c.second (HaveRoom (is_wide list))
+
+candidate_sets-room : (list : Medl) (a : Ack) (own : ℕ) (members : List ℕ) → IsValid list → own < length list.slots
+    → ((x : ℕ) → a ≡ ack.Doubt x → x < length list.slots) → HasListWord list members
+    → HaveRooms list (candidate_sets a own members)
+candidate_sets-room list ack.Closed own members valid node doubt has =
+    record { first = has_room list _ has; second = tt }
+candidate_sets-room list ack.First own members valid node doubt has = record {
+  first = has_room list _ (with_node-word list members own valid node has);
+  second = has_room list _ (without_node-word list members own valid node has);
+}
+candidate_sets-room list (ack.Doubt x) own members valid node doubt has = record {
+  first = has_room list _ (without_node-word list (with_node members own) x valid (doubt x refl)
+      (with_node-word list members own valid node has));
+  second = has_room list _ (with_node-word list (without_node members own) x valid (doubt x refl)
+      (without_node-word list members own valid node has));
+}
+
+-- where they are made of nodes of the list
+pub candidates-room : (list : Medl) (a : Ack) (own : ℕ) (members : List ℕ) (sender : ℕ) → IsValid list
+    → own < length list.slots → sender < length list.slots
+    → ((x : ℕ) → a ≡ ack.Doubt x → x < length list.slots) → AreNodes list members
+    → HaveRooms list (candidates a own members sender)
+candidates-room list a own members sender valid node sends doubt are =
+    candidate_sets-room list a own (with_node members sender) valid node doubt
+    (with_node-word list members sender valid sends (nodes-word list members valid are))
+
+-- A C-state on which a node joins is one of the list.
+
+each_here : (q : ℕ → Bool) (x j : ℕ) (here more : Bool) → (x == j) ≡ here → q x ≡ true → (more ≡ true → q j ≡ true)
+    → (here || more) ≡ true → q j ≡ true
+each_here q x j true more at passes others is = sym (ap q (eqb-true x j at)) ∙ passes
+each_here q x j false more at passes others is = others is
+
+-- what all members pass, each passes
+each_of_all : (q : ℕ → Bool) (s : List ℕ) (j : ℕ) → list_all q s ≡ true → has_node s j ≡ true → q j ≡ true
+each_of_all q [] j all is = cc
+each_of_all q (x ∷ s) j all is =
+    let both = and_parts (q x) (list_all q s) all in
+    each_here q x j (x == j) (has_node s j) refl both.0 (each_of_all q s j both.1) is
+
+-- a test that another one implies takes nothing from it
+absorbs : (x y : Bool) → (y ≡ true → x ≡ true) → y ≡ (x && y)
+absorbs true y implied = refl
+absorbs false true implied = sym (implied refl)
+absorbs false false implied = refl
+
+-- the members of a word are nodes of a list where each is
+members_in-nodes : (list : Medl) (word : ℕ) → IsValid list
+    → list_all (λ k. nat_lt k (length list.slots)) (members_in word) ≡ true → AreNodes list (members_in word)
+unfolding members_in
+members_in-nodes list word valid all =
+    let n = length list.slots in
+    let members = members_in word in
+    let is_set = λ (k : ℕ). bit_at word k == 1 in
+    let agree : (j : ℕ) → j < most_nodes → is_set j ≡ (nat_lt j n && has_node members j) =
+    λ j within. sym (has_node-sieve is_set most_nodes j within)
+    ∙ absorbs (nat_lt j n) (has_node members j) (each_of_all (λ k. nat_lt k n) members j all) in
+    same_sieve is_set (λ j. nat_lt j n && has_node members j) most_nodes agree
+    ∙ filter-below (has_node members) n most_nodes (nodes-most list valid)
+
+pub joinable-within : (list : Medl) (bytes : List ℕ) → IsValid list
+    → is_joinable_state list (carried (member_width list) bytes) ≡ true
+    → IsCStateWithin list (carried (member_width list) bytes)
+joinable-within list bytes valid joins =
+    let c = carried (member_width list) bytes in
+    let round = and_parts (nat_lt c.round list.rounds) _ joins in
+    let slot = and_parts (nat_lt c.slot (length list.slots)) _ round.1 in
+    record {
+      round = ltb-true c.round list.rounds round.0;
+      slot = ltb-true c.slot (length list.slots) slot.0;
+      members = members_in-nodes list _ valid (and_parts _ _ slot.1).0;
+    }

@@ -1,0 +1,395 @@
+-- What a controller stands for at each turn of a slot: what it keeps is all that the rules ask of its node's past.
+use Rattle.std.proofs.Common.{◌≡◌, ℕ, ◌+◌, ◌≤◌, min, ℤ, pos, ◌+ℤ◌, Bool, true, false, cond, ◌&&◌, List, [], ◌∷◌, ◌++◌}
+use Rattle.std.proofs.Common.{length, take, refl, ap, sym, ◌∙◌, inl, inr, arith, ◌<◌, Some, None, Option, subst, suc}
+use Rattle.std.proofs.Common.{is_some}
+use Rattle.std.specs.Prelude.{nat_le}
+use Rattle.std.proofs.lemmas.Bool.{cases_lt, le-leb, lt-leb}
+use Rattle.ttp_world.specs.declared.medl.Medl.{Medl}
+use Rattle.ttp_world.specs.declared.node.Act.{Act}
+use Rattle.ttp_world.specs.declared.node.Act.TheVariants.{Start, Listen, Send, Off}
+use Rattle.ttp_world.specs.declared.node.Chosen.{Chosen}
+use Rattle.ttp_world.specs.declared.node.Delivered.{Delivered}
+use Rattle.ttp_world.specs.declared.node.Entry.{Entry}
+use Rattle.ttp_world.specs.declared.node.Entry.TheVariants as entry
+use Rattle.ttp_world.specs.declared.node.Phase.{Phase}
+use Rattle.ttp_world.specs.declared.node.Phase.TheVariants as phase
+use Rattle.ttp_world.specs.Act.{act, phase_act, coming_place}
+use Rattle.ttp_world.specs.After.{past_after, silent_slots_after, notes_after, is_active_entry, correction_after}
+use Rattle.ttp_world.specs.After.{place_after}
+use Rattle.ttp_world.specs.Clock.{notes_in, begins_round, is_corrected, slot_change, join_deviation}
+use Rattle.ttp_world.specs.Conduct.{node_frames, new_entry, delivery, carries_payload}
+use Rattle.ttp_world.specs.Diary.{Place, SlotSurroundings, Diary, Surroundings, may_follow}
+use Rattle.ttp_world.specs.Medl.{may_start, IsValid}
+use Rattle.ttp_world.specs.Messages.{has_averaged, status_words}
+use Rattle.ttp_world.specs.Past.{NodePast, state_of, past_of}
+use Rattle.ttp_world.specs.Reception.{Hearing}
+use Rattle.ttp_world.specs.World.{jump_taken}
+use Rattle.ttp_world.proofs.Entries.{new_entry-follows}
+use Rattle.ttp_world.proofs.Lists.{nodes-most}
+use Rattle.ttp_world.proofs.Pasts.{past_of-cons}
+use Rattle.cold_start.specs.Listening.{most_silent}
+use Rattle.fta_sync.specs.StandsFor.{kept_notes}
+use Rattle.medium.specs.declared.arrival.Arrival.{Arrival}
+use Rattle.controller.specs.declared.controller.Intent.TheVariants as intent
+use Rattle.controller.specs.declared.controller.Outcome.{Outcome}
+use Rattle.controller.specs.Ending.{EndsAs}
+use Rattle.controller.specs.Hearing.{hearing_of, is_silent_arrival}
+use Rattle.controller.specs.Kept.{kept}
+use Rattle.controller.specs.Limits.{intent_by, message_carried}
+use Rattle.controller.specs.SeatWithin.{IsPossible, IsPlannedWithin}
+use Rattle.controller.specs.StandsFor.{message_planned, payload_planned, Begins, Plans, frames_planned, most_slots}
+use Rattle.controller.specs.StandsFor.{Ends}
+use Rattle.controller.specs.Turn.{Turn, Ended, Begun, Planned, Seat}
+use Rattle.controller.proofs.Heard.{silence-shown}
+use Rattle.controller.proofs.Stints.{limit_of-within, correction_after-take}
+
+-- Silent slots.
+
+silent-kept : (b : Bool) (count : ℕ) → min (cond b (1 + min count 65535) 0) 65535 ≡ min (cond b (1 + count) 0) 65535
+silent-kept true count = omega arith
+silent-kept false count = refl
+
+silent_slots_after-kept : (count : ℕ) (e : Entry) (silent : Bool)
+    → min (silent_slots_after (min count most_silent) e silent) most_silent
+    ≡ min (silent_slots_after count e silent) most_silent
+silent_slots_after-kept count entry.Waited silent = silent-kept silent count
+silent_slots_after-kept count _ silent = refl
+
+-- Notes.
+
+-- the last four of some notes put before the last four of others
+take-put : (more notes : List ℤ) → take 4 (more ++ take 4 notes) ≡ take 4 (more ++ notes)
+take-put [] [] = refl
+take-put [] (a ∷ []) = refl
+take-put [] (a ∷ b ∷ []) = refl
+take-put [] (a ∷ b ∷ c ∷ []) = refl
+take-put [] (a ∷ b ∷ c ∷ d ∷ notes) = refl
+take-put (x ∷ []) [] = refl
+take-put (x ∷ []) (a ∷ []) = refl
+take-put (x ∷ []) (a ∷ b ∷ []) = refl
+take-put (x ∷ []) (a ∷ b ∷ c ∷ notes) = refl
+take-put (x ∷ y ∷ []) [] = refl
+take-put (x ∷ y ∷ []) (a ∷ []) = refl
+take-put (x ∷ y ∷ []) (a ∷ b ∷ notes) = refl
+take-put (x ∷ y ∷ z ∷ []) [] = refl
+take-put (x ∷ y ∷ z ∷ []) (a ∷ notes) = refl
+take-put (x ∷ y ∷ z ∷ w ∷ more) notes = refl
+
+take-noted : (more notes : List ℤ) (begins : Bool)
+    → take 4 (more ++ cond begins [] (take 4 notes)) ≡ take 4 (more ++ cond begins [] notes)
+take-noted more notes true = refl
+take-noted more notes false = take-put more notes
+
+take-noted_active : (more notes : List ℤ) (begins active : Bool)
+    → take 4 (cond active (more ++ cond begins [] (take 4 notes)) [])
+    ≡ take 4 (cond active (more ++ cond begins [] notes) [])
+take-noted_active more notes begins true = take-noted more notes begins
+take-noted_active more notes begins false = refl
+
+pub notes_after-kept : (list : Medl) (notes : List ℤ) (place : Place) (e : Entry)
+    → take kept_notes (notes_after list (take kept_notes notes) place e)
+    ≡ take kept_notes (notes_after list notes place e)
+notes_after-kept list notes place e =
+    take-noted_active (notes_in list place e) notes (begins_round place e) (is_active_entry e)
+
+correction_after-kept : (list : Medl) (place : Place) (notes : List ℤ) (e : Entry)
+    → correction_after list place (notes_after list (take kept_notes notes) place e) e
+    ≡ correction_after list place (notes_after list notes place e) e
+correction_after-kept list place notes e =
+    sym (correction_after-take list place (notes_after list (take kept_notes notes) place e) e)
+    ∙ ap (λ ns. correction_after list place ns e) (notes_after-kept list notes place e)
+    ∙ correction_after-take list place (notes_after list notes place e) e
+
+-- One more entry of what is kept.
+
+pub kept_after-kept : (list : Medl) (k : ℕ) (past : NodePast) (e : Entry) (s : SlotSurroundings)
+    → kept (past_after list k (kept past) e s) ≡ kept (past_after list k past e s)
+kept_after-kept list k past e s =
+    let place = place_after list k past.place e in
+    let silent = silent_slots_after-kept past.silent_slots e s.is_silent in
+    let notes = notes_after-kept list past.notes place e in
+    let corrected = correction_after-kept list place past.notes e in
+    λ i. record (kept (past_after list k past e s)) {
+      silent_slots = silent i;
+      offset = past.offset +ℤ slot_change e s (corrected i);
+      notes = notes i;
+    }
+
+-- What a node does.
+
+due-kept : (limit count : ℕ) → limit ≤ 65535 → nat_le limit (min count 65535) ≡ nat_le limit count
+due-kept limit count few = elim (cases_lt count limit) [
+  | inl early ↦ lt-leb limit (min count 65535) (omega arith) ∙ sym (lt-leb limit count early)
+  | inr due ↦ le-leb limit (min count 65535) (omega arith) ∙ sym (le-leb limit count due)
+]
+
+phase_act-kept : (p : Phase) (list : Medl) (k : ℕ) (on armed : Bool) (past : NodePast) → past.limit ≤ most_silent
+    → phase_act p list k on armed (kept past) ≡ phase_act p list k on armed past
+phase_act-kept phase.Off list k on armed past few = refl
+phase_act-kept phase.Left list k on armed past few = refl
+phase_act-kept phase.Listening list k on armed past few =
+    ap (λ due. cond (may_start list k && due) Start Listen) (due-kept past.limit past.silent_slots few)
+phase_act-kept phase.Active list k on armed past few = refl
+
+pub act-kept : (list : Medl) (k : ℕ) (on armed : Bool) (past : NodePast) → past.limit ≤ most_silent
+    → act list k on armed (kept past) ≡ act list k on armed past
+act-kept list k on armed past few = phase_act-kept past.phase list k on armed past few
+
+-- What it sends, and what it makes of what it hears.
+
+pub record DecidesAlike (list : Medl) (k : ℕ) (past : NodePast) (chosen : Chosen) (does : Act) : Type 0 where
+  pub message : message_planned list (kept past) chosen does ≡ message_planned list past chosen does
+  pub payload : payload_planned list (kept past) chosen does ≡ payload_planned list past chosen does
+  pub frames : node_frames list k (kept past) chosen does ≡ node_frames list k past chosen does
+  pub entry : (h : Hearing) → new_entry list k (kept past) chosen h does ≡ new_entry list k past chosen h does
+
+pub decides-alike : (list : Medl) (k : ℕ) (past : NodePast) (chosen : Chosen) (does : Act)
+    → DecidesAlike list k past chosen does
+decides-alike list k past chosen Send = record { message = refl; payload = refl; frames = refl; entry = λ h. refl }
+decides-alike list k past chosen _ = record { message = refl; payload = refl; frames = refl; entry = λ h. refl }
+
+pub delivery-kept : (list : Medl) (k : ℕ) (past : NodePast) (h : Hearing) (e : Entry)
+    → delivery list k (kept past) h e ≡ delivery list k past h e
+delivery-kept list k past h (entry.Judged sender v deviation) = refl
+delivery-kept list k past h _ = refl
+
+-- What is shown and published.
+
+pub state_of-kept : (past : NodePast) → state_of (kept past) ≡ state_of past
+state_of-kept past = refl
+
+enough-kept : (notes : List ℤ) → nat_le 4 (length (take 4 notes)) ≡ nat_le 4 (length notes)
+enough-kept [] = refl
+enough-kept (a ∷ []) = refl
+enough-kept (a ∷ b ∷ []) = refl
+enough-kept (a ∷ b ∷ c ∷ []) = refl
+enough-kept (a ∷ b ∷ c ∷ d ∷ notes) = sym (le-leb 4 (length (a ∷ b ∷ c ∷ d ∷ notes)) (omega arith))
+
+pub has_averaged-kept : (list : Medl) (past : NodePast) → has_averaged list (kept past) ≡ has_averaged list past
+has_averaged-kept list past = ap (λ b. is_corrected list past.phase past.place && b) (enough-kept past.notes)
+
+pub status_words-kept : (list : Medl) (slot : ℕ) (past : NodePast) (delivers : Bool)
+    → status_words list slot (kept past) delivers ≡ status_words list slot past delivers
+status_words-kept list slot past delivers = rw (enough-kept past.notes) refl
+
+-- a controller at a turn
+abbrev pub seat_at : Medl → ℕ → NodePast → ℕ → Turn → Seat
+seat_at list k past slots now = record { list = list; node = k; past = past; slots = slots; turn = now }
+
+-- what a turn knows of the slot
+abbrev act_in : Turn → Act
+act_in Ended = Off
+act_in (Begun does jump) = does
+act_in (Planned does jump message) = does
+
+abbrev jump_in : Turn → ℤ
+jump_in Ended = pos 0
+jump_in (Begun does jump) = jump
+jump_in (Planned does jump message) = jump
+
+abbrev message_in : Turn → Option ℕ
+message_in Ended = None
+message_in (Begun does jump) = None
+message_in (Planned does jump message) = message
+
+pub same_act : (now there : Turn) → now ≡ there → act_in now ≡ act_in there
+same_act now there same = ap act_in same
+
+pub same_jump : (now there : Turn) → now ≡ there → jump_in now ≡ jump_in there
+same_jump now there same = ap jump_in same
+
+pub same_message : (now there : Turn) → now ≡ there → message_in now ≡ message_in there
+same_message now there same = ap message_in same
+
+-- The beginning.
+
+limit-small : (list : Medl) (k : ℕ) (diary : Diary) (surroundings : Surroundings) → IsValid list → k < length list.slots
+    → (past_of list k diary surroundings).limit ≤ most_silent
+limit-small list k diary surroundings valid node =
+    omega (arith, limit_of-within list k diary node, nodes-most list valid)
+
+-- what a node does by what its controller keeps is what it does by its diary
+pub act_kept-of : (list : Medl) (k : ℕ) (on armed : Bool) (past : NodePast) (diary : Diary)
+    (surroundings : Surroundings) → IsValid list → k < length list.slots
+    → past ≡ kept (past_of list k diary surroundings)
+    → act list k on armed past ≡ act list k on armed (past_of list k diary surroundings)
+act_kept-of list k on armed past diary surroundings valid node is =
+    ap (act list k on armed) is
+    ∙ act-kept list k on armed (past_of list k diary surroundings) (limit-small list k diary surroundings valid node)
+
+pub Begins-turn : (list : Medl) (k : ℕ) (past : NodePast) (slots : ℕ) (now : Turn) (on armed : Bool) (jump : ℤ)
+    (does : Act) (jumped : ℤ) → IsValid list → k < length list.slots
+    → does ≡ act list k on armed past → jumped ≡ jump_taken does jump
+    → Begins (seat_at list k past slots now) (seat_at list k past slots (Begun does jumped)) on armed jump
+Begins-turn list k past slots now on armed jump does jumped valid node is taken = λ diary surroundings stands.
+    let done = is ∙ act_kept-of list k on armed past diary surroundings valid node stands.past in
+    record {
+      past = stands.past;
+      slots = stands.slots;
+      turn = λ i. Begun (done i) ((taken ∙ ap (λ a. jump_taken a jump) done) i);
+    }
+
+-- The plan.
+
+message_carried-cond : (loads : Bool) (number : ℕ)
+    → message_carried (cond loads intent.Loaded intent.Bare) number ≡ cond loads (Some number) None
+message_carried-cond true number = refl
+message_carried-cond false number = refl
+
+-- what a node sends tells the message in its frame
+pub message_carried-planned : (list : Medl) (past : NodePast) (chosen : Chosen) (does : Act)
+    → message_carried (intent_by list past does) chosen.number ≡ message_planned list past chosen does
+message_carried-planned list past chosen Send =
+    message_carried-cond (carries_payload list (coming_place list past)) chosen.number
+message_carried-planned list past chosen _ = refl
+
+-- the frame of node k, of whatever was chosen with this payload
+abbrev pub IsFrameOf : Medl → ℕ → NodePast → Act → List ℕ → Option (List ℕ) → Type 0
+IsFrameOf list k past does payload planned =
+    (chosen : Chosen) → payload_planned list past chosen does ≡ payload
+    → frames_planned k planned ≡ node_frames list k past chosen does
+
+pub Plans-turn : (list : Medl) (k : ℕ) (past : NodePast) (slots : ℕ) (now : Turn) (does : Act) (jumped again : ℤ)
+    (number : ℕ) (payload : List ℕ) (message : Option ℕ) (planned : Option (List ℕ))
+    → now ≡ Begun does jumped → again ≡ jumped
+    → message ≡ message_carried (intent_by list past does) number
+    → IsFrameOf list k past does payload planned
+    → Plans (seat_at list k past slots now) (seat_at list k past slots (Planned does again message)) number payload
+    planned
+Plans-turn list k past slots now does jumped again number payload message planned begun same carries frames =
+    λ diary surroundings a jump chosen stands numbered paid.
+    let read = past_of list k diary surroundings in
+    let turns = sym begun ∙ stands.turn in
+    let acts = same_act (Begun does jumped) (Begun a jump) turns in
+    let alike = decides-alike list k read chosen a in
+    let carried =
+    carries
+    ∙ (λ i. message_carried (intent_by list past does) (sym numbered i))
+    ∙ message_carried-planned list past chosen does
+    ∙ (λ i. message_planned list (stands.past i) chosen (acts i))
+    ∙ alike.message in
+    let asked =
+    (λ i. payload_planned list (stands.past i) chosen (acts i))
+    ∙ alike.payload
+    ∙ paid in
+    record {
+      frames = frames chosen asked
+          ∙ (λ i. node_frames list k (stands.past i) chosen (acts i))
+          ∙ alike.frames;
+      stands = record {
+        past = stands.past;
+        slots = stands.slots;
+        turn = λ i. Planned (acts i) ((same ∙ same_jump (Begun does jumped) (Begun a jump) turns) i) (carried i);
+      };
+    }
+
+-- What comes from outside matters by its silence, and by how it changes the clock.
+
+past_after-outside : (list : Medl) (k : ℕ) (past : NodePast) (e : Entry) (x y : SlotSurroundings)
+    → x.is_silent ≡ y.is_silent → ((corrected : ℤ) → slot_change e x corrected ≡ slot_change e y corrected)
+    → past_after list k past e x ≡ past_after list k past e y
+past_after-outside list k past e x y silent changes =
+    let after = past_after list k past e x in
+    λ i. record after {
+      silent_slots = silent_slots_after past.silent_slots e (silent i);
+      offset = past.offset +ℤ changes (correction_after list after.place after.notes e) i;
+    }
+
+same_change : (e : Entry) (x y : SlotSurroundings) (corrected : ℤ) → x.jump ≡ y.jump → x.drift ≡ y.drift
+    → slot_change e x corrected ≡ slot_change e y corrected
+same_change entry.Off x y corrected jump drift = refl
+same_change e x y corrected jump drift = λ i. jump i +ℤ (drift i +ℤ (join_deviation e +ℤ corrected))
+
+-- the jump that a node takes is the slot's, or it is off and makes that entry
+taken_change : (list : Medl) (k : ℕ) (past : NodePast) (chosen : Chosen) (h : Hearing) (does : Act)
+    (x s : SlotSurroundings) (corrected : ℤ) → x.jump ≡ jump_taken does s.jump → x.drift ≡ s.drift
+    → slot_change (new_entry list k past chosen h does) x corrected
+    ≡ slot_change (new_entry list k past chosen h does) s corrected
+taken_change list k past chosen h Off x s corrected jump drift = refl
+taken_change list k past chosen h does x s corrected jump drift =
+    same_change (new_entry list k past chosen h does) x s corrected jump drift
+
+-- Counting slots.
+
+one_slot : (slots n most : ℕ) → slots ≡ min n most → min (slots + 1) most ≡ min (suc n) most
+one_slot slots n most is = omega (arith, is)
+
+few_slots : (slots n most : ℕ) → slots ≡ min n most → n ≤ most → slots ≡ n
+few_slots slots n most is few = omega (arith, is, few)
+
+-- The diary with one more entry.
+
+read_next : (list : Medl) (k : ℕ) (past : NodePast) (diary : Diary) (surroundings : Surroundings) (does : Act)
+    (chosen : Chosen) (h : Hearing) (s : SlotSurroundings)
+    → IsValid list → k < length list.slots → past ≡ kept (past_of list k diary surroundings)
+    → IsPossible list k past does →
+    let e = new_entry list k (past_of list k diary surroundings) chosen h does in
+    past_of list k (e ∷ diary) (s ∷ surroundings) ≡ past_after list k (past_of list k diary surroundings) e s
+read_next list k past diary surroundings does chosen h s valid node is possible =
+    let read = past_of list k diary surroundings in
+    let done = possible.is ∙ act_kept-of list k possible.on possible.armed past diary surroundings valid node is in
+    let follows = subst (λ a. may_follow diary (new_entry list k read chosen h a) ≡ true) (sym done)
+    (new_entry-follows list k possible.on possible.armed diary surroundings chosen h) in
+    past_of-cons list k diary surroundings (new_entry list k read chosen h does) s follows
+
+pub Ends-seat : (list : Medl) (k : ℕ) (past : NodePast) (slots : ℕ) (t : Turn) (new : NodePast) (ended : ℕ)
+    (outcome : Outcome) (made : Entry) (handed : Option Delivered) (does : Act) (jump : ℤ) (message : Option ℕ)
+    (a b : Arrival) (error drift : ℤ) (x : SlotSurroundings) → IsValid list → k < length list.slots
+    → t ≡ Planned does jump message → IsPlannedWithin list k past does jump message
+    → EndsAs made handed list k past does message a b (past.offset +ℤ jump) error
+    → x.jump ≡ jump → x.drift ≡ drift → x.is_silent ≡ (is_silent_arrival a && is_silent_arrival b)
+    → new ≡ kept (past_after list k past made x) → ended ≡ min (slots + 1) most_slots
+    → outcome.delivered ≡ handed → outcome.status.words ≡ status_words list slots new (is_some handed)
+    → Ends (seat_at list k past slots t) (seat_at list k new ended Ended) outcome a b error drift
+Ends-seat list k past slots t new ended outcome made handed does jump message a b error drift x valid node turn planned
+    ends jumps drifts silent entered counted delivered status =
+    λ diary surroundings there jumped chosen sent_a sent_b clock s stands shown_a shown_b around.
+    let read = past_of list k diary surroundings in
+    let turns = sym turn ∙ stands.turn in
+    let now = Planned does jump message in
+    let then = Planned there jumped (message_planned list read chosen there) in
+    let acts = same_act now then turns in
+    let alike = decides-alike list k read chosen there in
+    let same = same_jump now then turns in
+    let own : (past.offset +ℤ jump) ≡ (read.offset +ℤ jumped) = λ i. (stands.past i).offset +ℤ same i in
+    let h = hearing_of sent_a sent_b clock (read.offset +ℤ jumped) error in
+    let carries = same_message now then turns ∙ sym (alike.message)
+    ∙ (λ i. message_planned list (sym stands.past i) chosen (sym acts i)) in
+    let is = ends chosen carries sent_a sent_b clock shown_a shown_b in
+    let from_kept = (λ i. new_entry list k (stands.past i) chosen (hearing_of sent_a sent_b clock (own i) error)
+    (acts i)) ∙ alike.entry h in
+    let e = new_entry list k read chosen h there in
+    let makes = is.entry ∙ from_kept in
+    let possible = subst (IsPossible list k past) acts planned.begun.possible in
+    let quiet = silent ∙ (λ i. silence-shown a sent_a clock shown_a i && silence-shown b sent_b clock shown_b i)
+    ∙ sym around.silent in
+    let changes : (corrected : ℤ) → slot_change e x corrected ≡ slot_change e s corrected =
+    λ corrected. taken_change list k read chosen h there x s corrected (jumps ∙ same ∙ around.jump)
+    (drifts ∙ sym around.drift) in
+    let next = read_next list k past diary surroundings there chosen h s valid node stands.past possible in
+    let kept_new =
+    entered
+    ∙ (λ i. kept (past_after list k (stands.past i) (makes i) x))
+    ∙ kept_after-kept list k read e x
+    ∙ ap kept (past_after-outside list k read e x s quiet changes)
+    ∙ ap kept (sym next) in
+    let hands =
+    is.delivered
+    ∙ (λ i. delivery list k (stands.past i) (hearing_of sent_a sent_b clock (own i) error)
+    (new_entry list k (stands.past i) chosen (hearing_of sent_a sent_b clock (own i) error) (acts i)))
+    ∙ (λ i. delivery list k (kept read) h (alike.entry h i))
+    ∙ delivery-kept list k read h e in
+    record {
+      stands = record {
+        past = kept_new;
+        slots = counted ∙ one_slot slots (length diary) most_slots stands.slots;
+        turn = refl;
+      };
+      delivered = delivered ∙ hands;
+      status = λ few.
+          status
+          ∙ (λ i. status_words list (few_slots slots (length diary) most_slots stands.slots few i) (kept_new i)
+          (is_some (hands i)))
+          ∙ status_words-kept list (length diary) (past_of list k (e ∷ diary) (s ∷ surroundings))
+          (is_some (delivery list k read h e));
+    }

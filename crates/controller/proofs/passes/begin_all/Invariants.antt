@@ -1,0 +1,13 @@
+use Rattle.std.proofs.Common.{◌+◌}
+use Rattle.controller.specs.Limits.{IsBegun}
+use Rattle.controller.specs.Passes.{BeginsSlot}
+use Rattle.controller.specs.PlantWithin.{IsIncidentsOf, IsSeatOf, most_ahead_in}
+use Rattle.controller.proofs.Passed.{ArePassed}
+use Rattle.controller.proofs.passes.begin_all.Given as goal
+
+abbrev pub invariant-loop-j : goal.invariant-loop-j
+invariant-loop-j l = ArePassed
+    (λ j old new incidents. IsIncidentsOf l.script l.slot (l.first + j) incidents
+    × IsSeatOf l.list IsBegun (most_ahead_in l.slot) (l.first + j) new
+    × BeginsSlot l.list l.script l.slot (l.first + j) old new)
+    l.j l.fn.controllers l.controllers l.incidents

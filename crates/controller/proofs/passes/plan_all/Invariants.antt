@@ -1,0 +1,5 @@
+use Rattle.controller.proofs.Sends.{AreSent}
+use Rattle.controller.proofs.passes.plan_all.Given as goal
+
+abbrev pub invariant-loop-k : goal.invariant-loop-k
+invariant-loop-k l = AreSent l.list l.script l.slot l.chosen l.k l.fn.controllers l.controllers l.medium

@@ -1,0 +1,22 @@
+use Rattle.std.proofs.Common.{length, ap, ◌∙◌}
+use Rattle.controller.specs.declared.controller.Intent.{Intent}
+use Rattle.controller.specs.Limits.{seat_intent}
+use Rattle.controller.specs.Passes.{payload_handed}
+use Rattle.controller.proofs.InSlot.{planned-node}
+use Rattle.controller.proofs.Payloads.{length-payload_handed}
+use Rattle.controller.proofs.passes.plan_one.Goals as goal
+
+pub plan-requires-clause-payload : goal.plan-requires-clause-payload
+plan-requires-clause-payload c =
+    let seat = c.args.controller.now in
+    let chosen = c.args.chosen.now in
+    ap length c.payload_for-payload.ensures
+    ∙ ap (λ (wanted : Intent). length (payload_handed wanted chosen)) c.intent.ensures
+    ∙ length-payload_handed seat.list seat.node (seat_intent seat) chosen c.requires.payload
+
+pub returns-clause-plans : goal.returns-clause-plans
+returns-clause-plans c list script history k node =
+    let handed = c.payload_for-payload.ensures
+    ∙ ap (λ (wanted : Intent). payload_handed wanted c.args.chosen.now) c.intent.ensures in
+    planned-node list script history k c.args.controller.now c.plan.new.self _ _ c.args.chosen.now node
+    c.plan.ensures.same c.plan.ensures.plans handed

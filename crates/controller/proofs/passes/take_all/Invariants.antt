@@ -1,0 +1,11 @@
+use Rattle.std.proofs.Common.{◌+◌}
+use Rattle.controller.specs.Passes.{EndsSlot}
+use Rattle.controller.specs.PlantWithin.{IsEnded, IsSeatOf, most_ahead}
+use Rattle.controller.proofs.Passed.{ArePassed}
+use Rattle.controller.proofs.passes.take_all.Given as goal
+
+abbrev pub invariant-loop-j : goal.invariant-loop-j
+invariant-loop-j l = ArePassed
+    (λ j old new outcome. IsSeatOf l.list IsEnded (most_ahead (l.medium.slot + 1)) (l.first + j) new
+    × EndsSlot l.list l.script l.medium (l.first + j) old new outcome)
+    l.j l.fn.controllers l.controllers l.outcomes

@@ -1,0 +1,42 @@
+-- The texts that a call may write.
+use Rattle.std.specs.Prelude.{◌≡◌}
+use Rattle.ttp_base.specs.Outside.{Output, WroteLines, CutShort}
+use Rattle.ttp_base.specs.Text.{Lines}
+use Rattle.ttp_world.specs.declared.medl.Medl.{Medl}
+use Rattle.ttp_world.specs.declared.script.Script.{Script}
+use Rattle.ttp_world.specs.Legal.{IsLegalRun}
+use Rattle.ttp_world.specs.Medl.{IsValid}
+use Rattle.ttp_world.specs.Script.{IsValidScript}
+use Rattle.ttp_world.specs.Trace.{trace_lines}
+use Rattle.ttp_world.specs.World.{Numbers}
+
+-- A set of texts.
+pub data Texts : Type 0 where
+  -- this one
+  one : (lines : Lines) → Texts
+  -- the traces of a list and a script: one for each choice of message numbers that is legal
+  traces : (list : Medl) (script : Script) → Texts
+
+-- the trace of the world's run for some legal numbers, of a valid list and a valid script
+pub record IsTrace (list : Medl) (script : Script) (lines : Lines) : Type 0 where
+  pub valid : IsValid list
+  pub valid_script : IsValidScript list script
+  pub numbers : Numbers
+  pub legal : IsLegalRun list script numbers
+  pub text : lines ≡ trace_lines list script numbers
+
+abbrev pub IsAmong : Texts → Lines → Type 0
+IsAmong (one text) lines = lines ≡ text
+IsAmong (traces list script) lines = IsTrace list script lines
+
+-- one of these texts was written, each of its lines as one piece
+pub record WroteAmong (texts : Texts) (before now : Output) : Type 0 where
+  pub lines : Lines
+  pub among : IsAmong texts lines
+  pub wrote : WroteLines before now lines
+
+-- a fault of the sink cut one of these texts short
+pub record CutAmong (texts : Texts) (before now : Output) : Type 0 where
+  pub lines : Lines
+  pub among : IsAmong texts lines
+  pub cut : CutShort before now lines

@@ -1,0 +1,72 @@
+//! A list and a script from their files. Where there is none, what is wrong is said, and its status
+//! answered.
+ghost use Rattle.std.specs.Prelude.{IfOk, IfErr};
+ghost use Rattle.ttp_world.specs.declared.medl.Medl.{Medl};
+ghost use Rattle.ttp_world.specs.declared.script.Script.{Script};
+ghost use Rattle.ttp_world.specs.Medl.{IsValid};
+ghost use Rattle.ttp_world.specs.Script.{IsValidScript};
+ghost use Rattle.plant_run.specs.FirstNumbers.{IsUnhosted};
+ghost use Rattle.ttp_top.specs.Calls.Files.{list_plan, script_plan};
+ghost use Rattle.ttp_top.specs.Calls.Outcome.{Follows, CameTo};
+ghost use Rattle.ttp_top.specs.Calls.Plan.{Plan, outside};
+
+use crate::lines::{fault_line, say};
+use crate::read::{LIST_LIMIT, Refusal, SCRIPT_LIMIT, list_from, script_from};
+use std::alloc::Global;
+use ttp_base::{Library, LoadError, Sink};
+use ttp_world::{Medl, Script};
+
+/// The list of this name, or the status of a call that found none.
+pub(crate) fn load_list<L: Library, K: Sink>(
+    alloc: Global,
+    name: &str,
+    library: &mut L,
+    out: &mut K,
+) -> Result<Medl, u8>
+    ensures valid { IfOk result IsValid }
+    ensures ok { IfOk result (λ list. (next : Medl → Plan)
+        → CameTo (list_plan name.now next) (outside (L.files library.old) (K.output out.old))
+        (next list) (outside (L.files library.new) (K.output out.new))) }
+    ensures err { IfErr result (λ status. (next : Medl → Plan)
+        → Follows (list_plan name.now next) (outside (L.files library.old) (K.output out.old))
+        (outside (L.files library.new) (K.output out.new)) status) }
+{
+    match library.load(alloc, name, LIST_LIMIT) {
+        Ok(bytes) => match list_from(alloc, bytes.as_slice()) {
+            Ok(list) => Ok(list),
+            Err(Refusal::Told(fault)) => Err(say(out, fault_line("list", fault).bytes(), 3)),
+            Err(Refusal::Memory) => Err(7),
+        },
+        Err(LoadError::Failed) => Err(say(out, b"load: list\n", 5)),
+        Err(LoadError::Memory) => Err(7),
+    }
+}
+
+/// The script of this name for a list, or the status of a call that found none.
+pub(crate) fn load_script<L: Library, K: Sink>(
+    alloc: Global,
+    list: &Medl,
+    name: &str,
+    library: &mut L,
+    out: &mut K,
+) -> Result<Script, u8>
+    requires { IsValid list.now }
+    ensures valid { IfOk result (IsValidScript list.now) }
+    ensures hosts { IfOk result IsUnhosted }
+    ensures ok { IfOk result (λ script. (next : Script → Plan)
+        → CameTo (script_plan list.now name.now next) (outside (L.files library.old) (K.output out.old))
+        (next script) (outside (L.files library.new) (K.output out.new))) }
+    ensures err { IfErr result (λ status. (next : Script → Plan)
+        → Follows (script_plan list.now name.now next) (outside (L.files library.old) (K.output out.old))
+        (outside (L.files library.new) (K.output out.new)) status) }
+{
+    match library.load(alloc, name, SCRIPT_LIMIT) {
+        Ok(bytes) => match script_from(alloc, list, bytes.as_slice()) {
+            Ok(script) => Ok(script),
+            Err(Refusal::Told(fault)) => Err(say(out, fault_line("script", fault).bytes(), 4)),
+            Err(Refusal::Memory) => Err(7),
+        },
+        Err(LoadError::Failed) => Err(say(out, b"load: script\n", 5)),
+        Err(LoadError::Memory) => Err(7),
+    }
+}
