@@ -8,7 +8,6 @@ mod runs;
 mod texts;
 
 use crate::bench;
-use crate::former::former;
 use std::sync::Wait;
 use std::test::Fail;
 use std::thread::Threads;
@@ -230,18 +229,5 @@ fn a_sink_that_fails_at_each_line(rt: HostRuntime) -> Result<(), Fail> {
         assert_eq!(rt; status, 6);
         assert_eq!(rt; text.as_slice(), whole.as_bytes());
     }
-    Ok(())
-}
-
-#[test]
-fn the_former_clauses_are_those_of_the_same_call(rt: HostRuntime) -> Result<(), Fail> {
-    let mut library = MemoryLibrary::new(rt.alloc(), List::new(rt.alloc()));
-    let mut out = MemorySink::new(rt.alloc(), 1_000, List::new(rt.alloc()))?;
-    let gate = OpenGate::new();
-    assert_eq!(rt;
-        former(&rt, rt.alloc(), &[], &mut library, &mut out, &gate),
-        2
-    );
-    assert_eq!(rt; out.bytes(), USAGE.as_bytes());
     Ok(())
 }

@@ -1,6 +1,6 @@
 -- Legal numbers are those of their run, and a word of a line can hold each.
 use Rattle.std.proofs.Common.{◌≡◌, ℕ, zero, suc, ◌+◌, ◌*◌, ◌<◌, ◌≤◌, ◌^◌, Bool, true, false, List, [], ◌∷◌}
-use Rattle.std.proofs.Common.{cond, is_some, length, Option, Some, None, IfSome, arith, length-append}
+use Rattle.std.proofs.Common.{cond, is_some, length, Option, Some, None, IfSome, sym, arith, length-append}
 use Rattle.std.specs.Prelude.{◌==◌, nat_le}
 use Rattle.std.specs.List.{AllByRecursion, list_all}
 use Rattle.std.proofs.lemmas.Bool.{and_parts, leb-true, eqb-true}
@@ -10,16 +10,14 @@ use Rattle.ttp_world.specs.declared.script.Script.{Script}
 use Rattle.ttp_world.specs.declared.script.Source.{Source}
 use Rattle.ttp_world.specs.declared.script.Source.TheVariants as source
 use Rattle.ttp_world.specs.Diary.{History, entry_of}
-use Rattle.ttp_world.specs.Legal.{is_legal_message, read_messages}
-use Rattle.ttp_world.specs.Legal.{is_legal_read, IsLegal}
+use Rattle.ttp_world.specs.Legal.{is_legal_message, read_messages, is_legal_read, IsLegal}
 use Rattle.ttp_world.specs.Medl.{IsValid}
 use Rattle.ttp_world.specs.Messages.{message_of, delivered_of, new_messages, in_messages, status_words, status_messages}
 use Rattle.ttp_world.specs.Messages.{ring_messages, newest_number}
 use Rattle.ttp_world.specs.Outgoing.{messages_before, out_messages}
 use Rattle.ttp_world.specs.Script.{HostRead, messages_written, reads_in, IsValidScript}
-use Rattle.ttp_world.specs.World.{SlotNumbers, Numbers, node_past}
-use Rattle.ttp_world.specs.World.{world}
-use Rattle.ttp_world.proofs.LegalShapes.{are_legal_slots-parts, slots-legal, legal-shapes, legal-message, legal-older}
+use Rattle.ttp_world.specs.World.{SlotNumbers, Numbers, node_past, world}
+use Rattle.ttp_world.proofs.LegalShapes.{legal-shapes, legal-message, legal-reads, legal-older}
 use Rattle.ttp_world.proofs.RunNumbers.{AreNumbersOf, AreNumbersOfAll}
 use Rattle.ttp_world.proofs.Worlds.{row_of_world, length-world}
 
@@ -115,22 +113,18 @@ legal_slot-AreNumbersOf : (list : Medl) (script : Script) (new : SlotNumbers) (n
     → IsValidScript list script → length numbers < script.slots → IsLegal list script (new ∷ numbers)
     → AreNumbersOf list script (row_of_world list script new numbers) (length numbers) new
 legal_slot-AreNumbersOf list script new numbers valid valid_script within legal =
-    let before = world list script numbers in
     let after = world list script (new ∷ numbers) in
-    let parts = are_legal_slots-parts list script new numbers (slots-legal list script (new ∷ numbers) legal) in
-    let reads = reads_in script (length before) in
-    let read = and_parts (length reads == length new.read)
-    (list_all (is_legal_read list script before after) (read_messages reads new.read)) parts.reads in
+    let shape = (legal-shapes list script (new ∷ numbers) legal).0 in
     record {
-      shape = (legal-shapes list script (new ∷ numbers) legal).0;
+      shape = shape;
       small_sent = λ k less.
           legal_message-small list script valid valid_script (length numbers) k within
           (message_of (entry_of (row_of_world list script new numbers) k))
           (legal-message list script new numbers k legal less);
       small_read =
-          legal_reads-small list script before after
-          (omega (arith, length-world list script numbers, valid_script.slots.1)) reads new.read
-          (eqb-true (length reads) (length new.read) read.0) read.1;
+          legal_reads-small list script (world list script numbers) after
+          (omega (arith, length-world list script numbers, valid_script.slots.1)) (reads_in script (length numbers))
+          new.read (sym shape.reads) (legal-reads list script new numbers legal);
     }
 
 pub legal-AreNumbersOfAll : (list : Medl) (script : Script) (numbers : Numbers) → IsValid list

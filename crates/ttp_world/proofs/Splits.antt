@@ -1,7 +1,12 @@
 -- Lists that a place splits by a test.
-use Rattle.std.proofs.Common.{◌≡◌, ℕ, zero, suc, ◌<◌, ◌≤◌, Bool, true, false, List, [], ◌∷◌, length, arith}
+use Rattle.std.proofs.Common.{◌≡◌, ℕ, zero, suc, ◌-◌, ◌<◌, ◌≤◌, Bool, true, false, List, [], ◌∷◌, length, get_or, ap}
+use Rattle.std.proofs.Common.{arith}
 use Rattle.std.specs.Prelude.{nat_le, nat_lt}
-use Rattle.std.proofs.lemmas.Bool.{leb-true, leb-false}
+use Rattle.std.specs.List.Sorted.{IsNonDecreasingBy}
+use Rattle.std.proofs.lemmas.Bool.{leb-true, leb-false, le-leb, lt-leb}
+use Rattle.std.proofs.lemmas.List.{get_or_default}
+use Rattle.ttp_world.specs.declared.index.Step.{Step}
+use Rattle.ttp_world.specs.Index.{first_step, step_is_by}
 use Rattle.ttp_world.specs.Sorted.{SplitsAt}
 
 -- without the first element, which passes or fails
@@ -32,3 +37,17 @@ below-first key (other ∷ keys) (suc from) (suc to) within below up_to =
     let rest = below-first key keys from to (omega arith) (splits-tail_in (λ other. nat_lt other key) other keys from below)
     (splits-tail_in (λ other. nat_le other key) other keys to up_to) in
     omega (arith, rest)
+
+-- sorted steps are split by a key where the step before is not above it, and the one behind is
+pub splits-step : (steps : List Step) (place key : ℕ) → IsNonDecreasingBy (λ step. step.key) steps
+    → place ≤ length steps → (1 ≤ place → (get_or steps (place - 1) first_step).key ≤ key)
+    → (place < length steps → key < (get_or steps place first_step).key) → SplitsAt (step_is_by key) steps place
+splits-step steps place key rising within below above = (
+  λ k d low high.
+      let last = ap (λ (step : Step). step.key) (get_or_default steps (place - 1) d first_step (omega arith)) in
+      le-leb (get_or steps k d).key key
+      (omega (arith, last, below (omega arith), rising k (place - 1) d (omega arith) (omega arith))),
+  λ k d low high.
+      let first = ap (λ (step : Step). step.key) (get_or_default steps place d first_step (omega arith)) in
+      lt-leb (get_or steps k d).key key (omega (arith, first, above (omega arith), rising place k d low high)),
+)

@@ -100,7 +100,8 @@ impl Events {
         ensures bounds { AreBounded result }
     {
         let steps = self.index.steps.as_slice();
-        let place = steps_up_to(steps, key_of(node, slot));
+        let between = self.index.blocks.around(node, slot, steps.len());
+        let place = steps_up_to(steps, between, key_of(node, slot));
         incidents_before(steps, place)
     }
 

@@ -1,9 +1,11 @@
 //! The index by which events are found.
-ghost use Rattle.std.specs.Prelude.{◌≡◌, ◌≤◌, [], length, IfOk};
+ghost use Rattle.std.specs.Prelude.{◌≡◌, ◌-◌, ◌<◌, ◌≤◌, [], true, length, slice_index_or, IfOk};
 ghost use Rattle.std.specs.List.Sorted.{IsNonDecreasingBy};
-ghost use Rattle.ttp_world.specs.Index.{no_incidents, incidents_before, step_is_by, AreFew, IsIndexOf};
+ghost use Rattle.ttp_world.specs.Index.{first_step, no_incidents, incidents_before, step_is_by, AreFew};
+ghost use Rattle.ttp_world.specs.Index.{IsIndexOf};
 ghost use Rattle.ttp_world.specs.Sorted.{key_of, SplitsAt};
 
+use crate::blocks::{Between, Blocks};
 use crate::events::{FlippedBit, Incidents};
 use crate::flips::flips_of;
 use crate::host_lines::{HostRead, reads_of, writes_of};
@@ -27,6 +29,7 @@ pub(crate) struct Step {
 #[derive(Debug, Drop)]
 pub(crate) struct Index {
     pub(crate) steps: List<Step>,
+    pub(crate) blocks: Blocks,
     pub(crate) flips: Sorted<FlippedBit>,
     /// The places of the writes among the events, by their slots.
     pub(crate) writes: Sorted<usize>,
@@ -58,13 +61,59 @@ pub(crate) fn no_incidents() -> Incidents
     }
 }
 
-/// How many steps have keys up to this one.
-pub(crate) fn steps_up_to(steps: &[Step], key: u64) -> usize
+// How many of all steps have keys up to this one.
+fn all_up_to(steps: &[Step], key: u64) -> usize
     requires { IsNonDecreasingBy (λ step. step.key) steps.now }
     ensures bound { result ≤ length steps.now }
     ensures place { SplitsAt (step_is_by key) steps.now result }
 {
     steps.partition_point(|step| step.key <= key)
+}
+
+// The place behind the steps with keys up to this one, if it lies between these places.
+fn place_between(steps: &[Step], between: Between, key: u64) -> usize
+    ensures { result ≤ length steps.now }
+{
+    let to = between.to.min(steps.len());
+    let from = between.from.min(to);
+    from + steps[from..to].partition_point(|step| step.key <= key)
+}
+
+// Whether the last step before a place has a key up to this one, if there is a step.
+fn is_behind(steps: &[Step], place: usize, key: u64) -> bool
+    requires { place ≤ length steps.now }
+    ensures { result ≡ true → 1 ≤ place → (slice_index_or steps.now (place - 1) first_step).key ≤ key }
+{
+    if place == 0 {
+        return true;
+    }
+    steps[place - 1].key <= key
+}
+
+// Whether the step at a place has a key above this one, if there is a step.
+fn is_before(steps: &[Step], place: usize, key: u64) -> bool
+    requires { place ≤ length steps.now }
+    ensures { result ≡ true → place < length steps.now → key < (slice_index_or steps.now place first_step).key }
+{
+    if place == steps.len() {
+        return true;
+    }
+    key < steps[place].key
+}
+
+/// How many steps have keys up to this one: few of them are looked at where that place lies between
+/// these.
+pub(crate) fn steps_up_to(steps: &[Step], between: Between, key: u64) -> usize
+    requires { IsNonDecreasingBy (λ step. step.key) steps.now }
+    ensures bound { result ≤ length steps.now }
+    ensures place { SplitsAt (step_is_by key) steps.now result }
+{
+    let place = place_between(steps, between, key);
+    if is_behind(steps, place, key) && is_before(steps, place, key) {
+        place
+    } else {
+        all_up_to(steps, key)
+    }
 }
 
 /// What the newest of so many steps says.
@@ -86,6 +135,7 @@ impl Index {
     {
         Index {
             steps: List::new(alloc),
+            blocks: Blocks::none(alloc),
             flips: Sorted::empty(alloc),
             writes: Sorted::empty(alloc),
             reads: Sorted::empty(alloc),
@@ -98,11 +148,13 @@ impl Index {
         ensures { IfOk result (λ index. IsIndexOf events.now index) }
     {
         let steps = sorted_steps(alloc, events)?;
+        let blocks = Blocks::of(alloc, steps.as_slice())?;
         let flips = Sorted::of(alloc, flips_of(alloc, events)?)?;
         let writes = Sorted::of(alloc, writes_of(alloc, events)?)?;
         let reads = Sorted::of(alloc, reads_of(alloc, events)?)?;
         Ok(Index {
             steps,
+            blocks,
             flips,
             writes,
             reads,

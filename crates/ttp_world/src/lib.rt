@@ -13,6 +13,7 @@
 //! The crate reads, prints and decides nothing.
 #![tactic(auto)]
 
+mod blocks;
 mod events;
 mod flips;
 mod host_lines;

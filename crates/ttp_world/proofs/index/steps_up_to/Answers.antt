@@ -1,9 +1,7 @@
-use Rattle.std.proofs.Common.{rules}
-use Rattle.std.proofs.lemmas.List.Sorted.{IsPartitionedBy-leb, IsPartitionPoint-from_clause}
-use Rattle.ttp_world.specs.Index.{step_is_by}
+use Rattle.ttp_world.proofs.Splits.{splits-step}
 use Rattle.ttp_world.proofs.index.steps_up_to.Goals as goal
 
-pub returns-clause-place : goal.returns-clause-place
-returns-clause-place c =
-    IsPartitionPoint-from_clause (step_is_by c.args.key) c.args.steps.now _ c.partition_point.ensures.partitioned
-    (IsPartitionedBy-leb (λ step. step.key) c.args.steps.now c.args.key c.requires) (λ a r f' called. search rules)
+pub returns-then-is_before-clause-place : goal.returns-then-is_before-clause-place
+returns-then-is_before-clause-place c =
+    splits-step c.args.steps.now c.place_between-place.result c.args.key c.requires c.place_between-place.ensures
+    (c.is_behind.ensures c.if-is_behind.true) (c.is_before.ensures c.if-is_before.true)
