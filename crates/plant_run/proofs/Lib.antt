@@ -1,11 +1,6 @@
-pub mod EntriesMade
 pub mod FirstRows
 pub mod Grid
-pub mod Legal
 pub mod Payloads
-pub mod Places
 pub mod Received
 pub mod SlotLines
 pub mod Standing
-pub mod Unchosen
-pub mod Unhosted

@@ -1,7 +1,10 @@
 -- The lines of a run: those of its slots, one after another, in each the lines of its nodes.
 use Rattle.std.proofs.Common.{◌≡◌, ℕ, zero, suc, ◌+◌, ◌<◌, List, [], ◌∷◌, ◌++◌, length, Option, Some, None, IfSome}
-use Rattle.std.proofs.Common.{option_map, refl, ap, sym, ◌∙◌}
-use Rattle.ttp_base.specs.Text.{texts_below}
+use Rattle.std.proofs.Common.{option_map, refl, ap, sym, ◌∙◌, append-nil, add-one}
+use Rattle.std.specs.Prelude.{map}
+use Rattle.ttp_base.specs.NodeSet.{below}
+use Rattle.ttp_base.specs.Text.{Lines, lines_below}
+use Rattle.ttp_base.proofs.Below.{flat_map-next}
 use Rattle.ttp_base.proofs.SetWords.{HasWord, HasWord-nil, HasWord-filter, set_bits-small}
 use Rattle.ttp_world.specs.declared.medl.Medl.{Medl}
 use Rattle.ttp_world.specs.declared.node.Delivered.{Delivered}
@@ -15,20 +18,19 @@ use Rattle.ttp_world.specs.Membership.{is_good, members_of}
 use Rattle.ttp_world.specs.Messages.{delivered_of}
 use Rattle.ttp_world.specs.Past.{state_of}
 use Rattle.ttp_world.specs.Trace.{trace_head, member_digits, node_line, number_delivered, message_shown, node_line_of}
-use Rattle.ttp_world.specs.Trace.{history_text, run_text}
-use Rattle.ttp_world.specs.World.{node_past}
+use Rattle.ttp_world.specs.Trace.{more_write_lines, read_line, slot_lines, history_lines, run_lines}
+use Rattle.ttp_world.specs.Legal.{read_messages}
+use Rattle.ttp_world.specs.World.{SlotNumbers, node_past}
 use Rattle.ttp_world.proofs.Lists.{node_limit-most, nodes-most}
 use Rattle.ttp_world.proofs.Pasts.{elim_both}
+use Rattle.ttp_world.proofs.Unhosted.{writes_in-none, reads_in-none}
 use Rattle.trace_text.specs.LineParts.{HasDigits, listed_line}
 use Rattle.controller.specs.PlantStands.{ShowsNode, outcome_at}
 use Rattle.plant_run.specs.declared.run.Run.{Run}
 use Rattle.plant_run.specs.Deliveries.{received, count_at, Tally, Tells}
 use Rattle.plant_run.specs.FirstNumbers.{IsUnhosted, zeros_row, numbers_told, first_numbers, first_world}
-use Rattle.plant_run.specs.RunAfter.{StandsAfter, HoldsDelivered, message_named, slot_lines}
-use Rattle.plant_run.proofs.FirstRows.{length-first_world, first_world-next}
-use Rattle.plant_run.proofs.Places.{delivered_of-sender}
-use Rattle.plant_run.proofs.Standing.{first_world-more}
-use Rattle.plant_run.proofs.Unhosted.{slot_text-nodes}
+use Rattle.plant_run.specs.RunAfter.{StandsAfter, HoldsDelivered, message_named, lines_after}
+use Rattle.plant_run.proofs.FirstRows.{length-first_world, first_world-next, first_world-more, zeros_row-senders}
 
 -- A node's line.
 
@@ -90,7 +92,7 @@ counted-number list script slot k tally left valid node tells is =
     (λ d. count_at tally k d.sender ≡ number_delivered list script (row ∷ before) k d) delivered
     (λ d sender. tells.counts k d.sender node sender
     ∙ ap (λ (h : History). received list script h k d.sender) (first_world-more list script slot))
-    (delivered_of-sender list script slot k valid node))
+    (zeros_row-senders list script slot k valid))
 
 -- the line
 pub listed_line-shown : (list : Medl) (script : Script) (slot k : ℕ) (state : NodeState) (number : Option ℕ)
@@ -112,25 +114,38 @@ listed_line-shown list script slot k state number state_is number_is =
     ∙ (λ i. node_line (member_digits list) (length before) k (same i)
     (message_shown list script row before k (same i).entry))
 
--- The text of the run.
+-- The lines of the run.
 
-history_text-lines : (list : Medl) (script : Script) (slots : ℕ) → IsUnhosted script
-    → history_text list script (first_world list script slots) (first_numbers list script slots)
-    ≡ texts_below (slot_lines list script) slots
-history_text-lines list script zero none = refl
-history_text-lines list script (suc slots) none =
+-- those of a slot are its nodes', since no host does anything
+slot_lines-nodes : (list : Medl) (script : Script) (row : List Entry) (before : History) (new : SlotNumbers)
+    → IsUnhosted script
+    → slot_lines list script row before new ≡ map (node_line_of list script row before) (below (length list.slots))
+slot_lines-nodes list script row before new none =
+    let slot = length before in
+    let nodes = map (node_line_of list script row before) (below (length list.slots)) in
+    (λ i. nodes ++ more_write_lines list script slot [] (writes_in-none script slot none i)
+    ++ map (read_line list script slot (row ∷ before)) (read_messages (reads_in-none script slot none i) new.read))
+    ∙ append-nil (nodes ++ []) ∙ append-nil nodes
+
+history_lines-below : (list : Medl) (script : Script) (slots : ℕ) → IsUnhosted script
+    → history_lines list script (first_world list script slots) (first_numbers list script slots)
+    ≡ lines_below (lines_after list script) slots
+history_lines-below list script zero none = refl
+history_lines-below list script (suc slots) none =
     let before = first_world list script slots in
     let row = zeros_row list script before in
-    ap (λ (h : History). history_text list script h (first_numbers list script (suc slots)))
+    ap (λ (h : History). history_lines list script h (first_numbers list script (suc slots)))
     (first_world-next list script slots)
-    ∙ (λ i. history_text-lines list script slots none i ++ slot_text-nodes list script row before
-    (numbers_told row) none i)
+    ∙ (λ i. history_lines-below list script slots none i
+    ++ slot_lines-nodes list script row before (numbers_told row) none i)
+    ∙ sym (ap (lines_below (lines_after list script)) (sym (add-one slots))
+    ∙ flat_map-next (lines_after list script) slots)
 
-pub run_text-lines : (list : Medl) (script : Script) (slots : ℕ) → IsUnhosted script
-    → trace_head list script ++ texts_below (slot_lines list script) slots
-    ≡ run_text list script (first_numbers list script slots)
-run_text-lines list script slots none =
-    ap (λ (t : List ℕ). trace_head list script ++ t) (sym (history_text-lines list script slots none))
+pub run_lines-below : (list : Medl) (script : Script) (slots : ℕ) → IsUnhosted script
+    → trace_head list script ∷ lines_below (lines_after list script) slots
+    ≡ run_lines list script (first_numbers list script slots)
+run_lines-below list script slots none =
+    ap (λ (lines : Lines). trace_head list script ∷ lines) (sym (history_lines-below list script slots none))
 
 -- What a run writes of a node after a slot.
 

@@ -1,30 +1,46 @@
 -- One slot takes a run to the world of one slot more.
-use Rattle.std.proofs.Common.{◌≡◌, ℕ, ◌+◌, ◌<◌, List, ◌∷◌, length, IfSome, ap, sym, subst, ◌∙◌, add-one, ◌^◌, arith}
+use Rattle.std.proofs.Common.{◌≡◌, ℕ, ◌+◌, ◌<◌, true, List, ◌∷◌, length, IfSome, ap, sym, subst, ◌∙◌, ◌^◌, arith}
 use Rattle.std.proofs.lemmas.List.{length-replicate}
-use Rattle.std.proofs.lemmas.List.FromFn.{length-map-range_with_len}
 use Rattle.ttp_world.specs.declared.medl.Medl.{Medl}
 use Rattle.ttp_world.specs.declared.node.Chosen.{Chosen}
 use Rattle.ttp_world.specs.declared.node.Entry.{Entry}
 use Rattle.ttp_world.specs.declared.script.Script.{Script}
+use Rattle.ttp_world.specs.Diary.{History}
 use Rattle.ttp_world.specs.Medl.{plan_at, IsValid}
 use Rattle.ttp_world.specs.Script.{IsValidScript}
-use Rattle.controller.specs.PlantStands.{PlantStandsFor, Steps, row_added, delivered_added, outcome_at, AreChosen}
+use Rattle.ttp_world.specs.World.{slot_after, row_in}
+use Rattle.ttp_world.proofs.Places.{IsSentInList}
+use Rattle.controller.specs.Passes.{AreChosen, delivered_at}
+use Rattle.controller.specs.PlantStands.{PlantStandsFor, MayStep, Steps, outcome_at}
 use Rattle.controller.specs.PlantView.{PlantView}
 use Rattle.plant_run.specs.Deliveries.{count_of, count_at, Tally, Tells}
-use Rattle.plant_run.specs.FirstNumbers.{zeros_chosen, all_zeros, zeros_row, first_world}
+use Rattle.plant_run.specs.FirstNumbers.{all_zeros, zeros_row, first_world}
 use Rattle.plant_run.specs.RunAfter.{HoldsDelivered}
-use Rattle.plant_run.proofs.FirstRows.{chosen_of-all_zeros, length-first_world, first_world-next}
-use Rattle.plant_run.proofs.FirstRows.{delivered_of-zeros_row}
-use Rattle.plant_run.proofs.Places.{IsSentInList, delivered_of-sender}
+use Rattle.plant_run.proofs.FirstRows.{chosen_of-all_zeros, length-first_world, first_world-more, delivered_of-zeros_row}
+use Rattle.plant_run.proofs.FirstRows.{zeros_row-senders}
 use Rattle.plant_run.proofs.Received.{received-next, received-few}
 
--- one slot more, as code counts it
-pub first_world-more : (list : Medl) (script : Script) (slot : ℕ)
-    → first_world list script (slot + 1)
-    ≡ zeros_row list script (first_world list script slot) ∷ first_world list script slot
-first_world-more list script slot = ap (first_world list script) (add-one slot) ∙ first_world-next list script slot
-
 -- The plant.
+
+-- message 0 of a node is as long as the list says
+AreChosen-all_zeros : (list : Medl) (script : Script) (history : History)
+    → AreChosen (slot_after list script history) (all_zeros list)
+AreChosen-all_zeros list script history = λ k node loaded.
+    ap (λ (c : Chosen). length c.payload) (chosen_of-all_zeros list k node)
+    ∙ length-replicate (plan_at list k).payload 0
+
+-- so the zeros may be sent in the slot that comes
+pub may_step : (list : Medl) (script : Script) (slot : ℕ) (plant : PlantView) (chosen : List Chosen)
+    → plant.list ≡ list → chosen ≡ all_zeros list → PlantStandsFor plant script (first_world list script slot)
+    → MayStep plant script chosen
+may_step list script slot plant chosen same zeros stands = record {
+  history = first_world list script slot;
+  stands = stands;
+  chosen_are =
+      subst (λ (l : Medl). AreChosen (slot_after l script (first_world list script slot)) chosen) (sym same)
+      (subst (AreChosen (slot_after list script (first_world list script slot))) (sym zeros)
+      (AreChosen-all_zeros list script (first_world list script slot)));
+}
 
 pub plant_next : (list : Medl) (script : Script) (slot : ℕ) (old new : PlantView) (chosen : List Chosen)
     → new.list ≡ list → chosen ≡ all_zeros list
@@ -32,8 +48,8 @@ pub plant_next : (list : Medl) (script : Script) (slot : ℕ) (old new : PlantVi
     → PlantStandsFor new script (first_world list script (slot + 1))
 plant_next list script slot old new chosen same zeros steps stands =
     let history = first_world list script slot in
-    let row : row_added new.list script history chosen
-    ≡ zeros_row list script history = λ i. row_added (same i) script history (zeros i) in
+    let row : row_in (slot_after new.list script history) chosen ≡ zeros_row list script history =
+    λ i. row_in (slot_after (same i) script history) (zeros i) in
     subst (PlantStandsFor new script)
     (ap (λ (r : List Entry). r ∷ history) row ∙ sym (first_world-more list script slot))
     (steps history stands).stands
@@ -46,7 +62,7 @@ holds_delivered list script slot old new chosen same zeros steps stands = λ k n
     let history = first_world list script slot in
     let within = subst (λ (l : Medl). k < length l.slots) (sym same) node in
     ((steps history stands).left k within).delivered
-    ∙ (λ i. delivered_added (same i) script history (zeros i) k)
+    ∙ (λ i. delivered_at (slot_after (same i) script history) (zeros i) k)
     ∙ delivered_of-zeros_row list script history k
 
 -- The counts.
@@ -70,21 +86,13 @@ tally_next list script slot before now plant nodes counted holds tells =
 
 -- What the calls of a slot ask.
 
-pub length-all_zeros : (list : Medl) → length (all_zeros list) ≡ length list.slots
-length-all_zeros list = length-map-range_with_len (zeros_chosen list) 0 (length list.slots)
-
-pub AreChosen-all_zeros : (list : Medl) → AreChosen list (all_zeros list)
-AreChosen-all_zeros list k node =
-    ap (λ (c : Chosen). length c.payload) (chosen_of-all_zeros list k node)
-    ∙ length-replicate (plan_at list k).payload 0
-
 pub senders-of_list : (list : Medl) (script : Script) (slot : ℕ) (plant : PlantView) (n : ℕ) → IsValid list
     → n ≡ length list.slots → HoldsDelivered plant list script slot
     → (k : ℕ) → k < n → IfSome (outcome_at plant k).delivered (λ d. d.sender < n)
 senders-of_list list script slot plant n valid nodes holds k node =
     let within : k < length list.slots = omega arith in
     subst (λ (m : ℕ). IfSome (outcome_at plant k).delivered (λ d. d.sender < m)) (sym nodes)
-    (subst (IsSentInList list) (sym (holds k within)) (delivered_of-sender list script slot k valid within))
+    (subst (IsSentInList list) (sym (holds k within)) (zeros_row-senders list script slot k valid))
 
 -- the counts stay far below what their numbers hold
 pub count_at-few : (list : Medl) (script : Script) (slot : ℕ) (tally : Tally) (k p : ℕ) → IsValidScript list script

@@ -9,7 +9,7 @@ use Rattle.ttp_world.specs.Diary.{History}
 use Rattle.ttp_world.specs.Messages.{message_of}
 use Rattle.ttp_world.specs.Outgoing.{zeros_of}
 use Rattle.ttp_world.specs.Script.{is_host_event}
-use Rattle.ttp_world.specs.World.{SlotNumbers, Numbers, ready_nodes, ready_row, world}
+use Rattle.ttp_world.specs.World.{SlotNumbers, Numbers, slot_after, row_in, world}
 
 -- a script in which no host writes or reads
 abbrev pub IsUnhosted : Script → Type 0
@@ -24,8 +24,7 @@ all_zeros list = map (zeros_chosen list) (below (length list.slots))
 
 -- the entries of the slot after a history, where it is chosen
 abbrev pub zeros_row : Medl → Script → History → List Entry
-zeros_row list script history =
-    ready_row list script (length history) (ready_nodes list script history (all_zeros list))
+zeros_row list script history = row_in (slot_after list script history) (all_zeros list)
 
 -- the numbers that a row tells
 abbrev pub numbers_told : List Entry → SlotNumbers

@@ -1,4 +1,4 @@
 pub mod Deliveries
 pub mod FirstNumbers
-pub mod Fault
+pub mod Wrote
 pub mod RunAfter

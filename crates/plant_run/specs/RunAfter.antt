@@ -1,6 +1,7 @@
 -- What a run has come to after some slots.
-use Rattle.std.specs.Prelude.{◌≡◌, ℕ, ◌<◌, List, length, Option, None}
-use Rattle.ttp_base.specs.Text.{texts_below}
+use Rattle.std.specs.Prelude.{◌≡◌, ℕ, ◌<◌, map, length, Option, None}
+use Rattle.ttp_base.specs.NodeSet.{below}
+use Rattle.ttp_base.specs.Text.{Lines}
 use Rattle.ttp_world.specs.declared.medl.Medl.{Medl}
 use Rattle.ttp_world.specs.declared.node.Entry.{Entry}
 use Rattle.ttp_world.specs.declared.node.Entry.TheVariants as entry
@@ -33,8 +34,8 @@ message_named (entry.Sent message) delivered = message
 message_named (entry.Judged sender verdict deviation) delivered = delivered
 message_named _ delivered = None
 
--- the lines of a slot
-abbrev pub slot_lines : Medl → Script → ℕ → List ℕ
-slot_lines list script slot =
+-- the lines of the slot after so many
+abbrev pub lines_after : Medl → Script → ℕ → Lines
+lines_after list script slot =
     let before = first_world list script slot in
-    texts_below (node_line_of list script (zeros_row list script before) before) (length list.slots)
+    map (node_line_of list script (zeros_row list script before) before) (below (length list.slots))

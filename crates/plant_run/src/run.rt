@@ -3,17 +3,15 @@ ghost use Rattle.std.specs.Prelude.{◌≡◌, ◌==◌, ◌+◌, ◌^◌, ◌<�
 ghost use Rattle.std.specs.Prelude.{replicate, IfOk, IfErr, IfSome, OnOk, OnErr, option_map};
 ghost use Rattle.std.specs.Option.{option_copied};
 ghost use Rattle.ttp_base.specs.Outside.{WroteLines, CutShort};
-ghost use Rattle.ttp_base.specs.Text.{texts_below};
 ghost use Rattle.ttp_world.specs.declared.script.Script.{Script};
-ghost use Rattle.ttp_world.specs.Legal.{IsLegal};
 ghost use Rattle.ttp_world.specs.Medl.{IsValid};
 ghost use Rattle.ttp_world.specs.Script.{IsValidScript};
-ghost use Rattle.ttp_world.specs.Trace.{run_text};
+ghost use Rattle.ttp_world.specs.Trace.{run_lines};
 ghost use Rattle.controller.specs.PlantStands.{outcome_at};
 ghost use Rattle.plant_run.specs.Deliveries.{count_at, count_of};
-ghost use Rattle.plant_run.specs.Fault.{Leaves};
 ghost use Rattle.plant_run.specs.FirstNumbers.{IsUnhosted, all_zeros, first_numbers};
-ghost use Rattle.plant_run.specs.RunAfter.{StandsAfter, HoldsDelivered, message_named, slot_lines};
+ghost use Rattle.plant_run.specs.RunAfter.{StandsAfter, HoldsDelivered, message_named, lines_after};
+ghost use Rattle.plant_run.specs.Wrote.{WroteRun, Leaves};
 
 use crate::deliveries::Deliveries;
 use controller::Plant;
@@ -158,9 +156,9 @@ impl Run {
         requires stands { StandsAfter self.old list.now script.now slot }
         ensures stands { OnOk result (StandsAfter self.new list.now script.now (slot + 1)) }
         ensures ok { OnOk result (WroteLines (K.output out.old) (K.output out.new)
-            (slot_lines list.now script.now slot)) }
+            (lines_after list.now script.now slot)) }
         ensures failed { OnErr result (CutShort (K.output out.old) (K.output out.new)
-            (slot_lines list.now script.now slot)) }
+            (lines_after list.now script.now slot)) }
     {
         self.step(list, script, slot);
         for node in 0..list.nodes() {
@@ -179,9 +177,9 @@ impl Run {
         requires hosts { IsUnhosted script.now }
         requires stands { StandsAfter self.old list.now script.now 0 }
         ensures ok { OnOk result (WroteLines (K.output out.old) (K.output out.new)
-            (run_text list.now script.now (first_numbers list.now script.now script.now.slots))) }
+            (run_lines list.now script.now (first_numbers list.now script.now script.now.slots))) }
         ensures failed { OnErr result (CutShort (K.output out.old) (K.output out.new)
-            (run_text list.now script.now (first_numbers list.now script.now script.now.slots))) }
+            (run_lines list.now script.now (first_numbers list.now script.now script.now.slots))) }
     {
         put_header(list, script, out)?;
         let mut line = Line::new();
@@ -195,14 +193,14 @@ impl Run {
 /// Runs a cluster through its controllers, and writes the trace of the run less its last line, slot
 /// by slot, each line as one piece.
 ///
-/// The text is that of the world's run in which each frame with payload carries message 0: no host
-/// of the script writes or reads. The numbers of that run are legal. All memory is taken before the
-/// first byte is written; a slot costs its nodes, whatever its number, and takes none.
+/// The lines are those of the world's run for some legal message numbers: no host of the script writes
+/// or reads, so each frame with payload carries message 0. All memory is taken before the first line is
+/// written; a slot costs its nodes, whatever its number, and takes none.
 ///
 /// # Errors
 ///
 /// `Memory` where memory was refused: nothing was written then, and no fault was counted. `Failed`
-/// where the sink failed: some first bytes of the text were written, or none.
+/// where the sink failed: some whole lines were written, or none, and perhaps a front of the next.
 pub fn put_run<K: Sink>(
     alloc: Global,
     list: &Medl,
@@ -212,11 +210,8 @@ pub fn put_run<K: Sink>(
     requires list { IsValid list.now }
     requires script { IsValidScript list.now script.now }
     requires hosts { IsUnhosted script.now }
-    ensures ok { OnOk result (WroteLines (K.output out.old) (K.output out.new)
-        (run_text list.now script.now (first_numbers list.now script.now script.now.slots))) }
-    ensures fault { IfErr result (λ fault. Leaves fault (K.output out.old) (K.output out.new)
-        (run_text list.now script.now (first_numbers list.now script.now script.now.slots))) }
-    ensures legal { IsLegal list.now script.now (first_numbers list.now script.now script.now.slots) }
+    ensures ok { OnOk result (WroteRun list.now script.now (K.output out.old) (K.output out.new)) }
+    ensures fault { IfErr result (λ fault. Leaves fault list.now script.now (K.output out.old) (K.output out.new)) }
 {
     let Ok(mut run) = Run::new(alloc, list) else {
         return Err(RunFault::Memory);

@@ -1,5 +1,5 @@
 -- Legal message numbers: which message a frame may carry, and which one a host may read.
-use Rattle.std.specs.Prelude.{ℕ, nat_le, Bool, true, false, ◌&&◌, ◌||◌, not, ◌==◌, List, [], ◌∷◌, ◌++◌, length, map}
+use Rattle.std.specs.Prelude.{◌≡◌, ℕ, nat_le, Bool, true, false, ◌&&◌, ◌||◌, not, ◌==◌, List, [], ◌∷◌, ◌++◌, length, map}
 use Rattle.std.specs.Prelude.{reverse, Option, Some, None, IsTrue}
 use Rattle.std.specs.List.{list_all}
 use Rattle.ttp_base.specs.NodeSet.{below}
@@ -103,3 +103,8 @@ is_legal list script numbers =
 
 abbrev pub IsLegal : Medl → Script → Numbers → Type 0
 IsLegal list script numbers = IsTrue (is_legal list script numbers)
+
+-- legal numbers of a whole run: some for each of its slots
+pub record IsLegalRun (list : Medl) (script : Script) (numbers : Numbers) : Type 0 where
+  pub count : length numbers ≡ script.slots
+  pub legal : IsLegal list script numbers

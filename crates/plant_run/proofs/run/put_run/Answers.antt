@@ -1,14 +1,23 @@
-use Rattle.plant_run.proofs.Legal.{first_numbers-legal}
+use Rattle.plant_run.specs.FirstNumbers.{first_numbers}
+use Rattle.plant_run.proofs.FirstRows.{first_numbers-legal_run}
 use Rattle.plant_run.proofs.run.put_run.Goals as goal
 
-pub returns-in_default-clause-legal : goal.returns-in_default-clause-legal
-returns-in_default-clause-legal g c =
-    first_numbers-legal c.args.list.now c.args.script.now c.args.script.now.slots c.requires.hosts
+pub returns-in-Ok-put-clause-ok : goal.returns-in-Ok-put-clause-ok
+returns-in-Ok-put-clause-ok g c =
+    let list = c.args.list.now in
+    let script = c.args.script.now in
+    record {
+      numbers = first_numbers list script script.slots;
+      legal = first_numbers-legal_run list script c.requires.hosts;
+      lines = c.in-Ok-put.ensures.ok;
+    }
 
-pub returns-in-Ok-put-clause-legal : goal.returns-in-Ok-put-clause-legal
-returns-in-Ok-put-clause-legal g c =
-    first_numbers-legal c.args.list.now c.args.script.now c.args.script.now.slots c.requires.hosts
-
-pub returns-clause-legal : goal.returns-clause-legal
-returns-clause-legal g c =
-    first_numbers-legal c.args.list.now c.args.script.now c.args.script.now.slots c.requires.hosts
+pub returns-clause-fault : goal.returns-clause-fault
+returns-clause-fault g c =
+    let list = c.args.list.now in
+    let script = c.args.script.now in
+    record {
+      numbers = first_numbers list script script.slots;
+      legal = first_numbers-legal_run list script c.requires.hosts;
+      lines = c.in-Err.ensures.failed;
+    }

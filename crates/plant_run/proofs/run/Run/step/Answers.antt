@@ -1,9 +1,7 @@
-use Rattle.std.proofs.Common.{length, ap, sym, subst, ◌∙◌, arith}
-use Rattle.controller.specs.PlantStands.{AreChosen}
+use Rattle.std.proofs.Common.{length, ap, ◌∙◌, arith}
 use Rattle.plant_run.specs.RunAfter.{HoldsDelivered}
-use Rattle.plant_run.proofs.FirstRows.{length-first_world}
-use Rattle.plant_run.proofs.Standing.{plant_next, holds_delivered, tally_next, length-all_zeros, AreChosen-all_zeros}
-use Rattle.plant_run.proofs.Standing.{senders-of_list, count_at-few}
+use Rattle.plant_run.proofs.FirstRows.{length-all_zeros, length-first_world}
+use Rattle.plant_run.proofs.Standing.{may_step, plant_next, holds_delivered, tally_next, senders-of_list, count_at-few}
 use Rattle.plant_run.proofs.run.Run.step.Goals as goal
 use Rattle.plant_run.proofs.run.Run.step.Goals.{After-slot}
 
@@ -22,8 +20,9 @@ slot-requires-clause-count c =
 
 pub slot-requires-clause-chosen : goal.slot-requires-clause-chosen
 slot-requires-clause-chosen c =
-    let list = c.args.list.now in
-    subst (AreChosen list) (sym (c.as_slice.ensures ∙ c.requires.stands.zeros)) (AreChosen-all_zeros list)
+    let stands = c.requires.stands in
+    may_step c.args.list.now c.args.script.now c.args.slot c.args.self.now.plant c.as_slice.result.now stands.same
+    (c.as_slice.ensures ∙ stands.zeros) stands.plant
 
 pub count_deliveries-requires-clause-senders : goal.count_deliveries-requires-clause-senders
 count_deliveries-requires-clause-senders c =

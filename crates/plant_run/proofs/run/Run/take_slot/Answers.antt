@@ -1,7 +1,7 @@
-use Rattle.std.proofs.Common.{◌+◌, ◌<◌, [], length, sym, subst, arith}
+use Rattle.std.proofs.Common.{ℕ, ◌+◌, ◌<◌, List, [], ◌∷◌, length, sym, subst, arith}
 use Rattle.std.proofs.lemmas.Result.{err_from_is_err_and}
 use Rattle.ttp_base.specs.Outside.{WroteLines, CutShort}
-use Rattle.ttp_base.proofs.Outputs.{WroteLines-texts, CutShort-texts}
+use Rattle.ttp_base.proofs.Outputs.{WroteLines-each, CutShort-each}
 use Rattle.ttp_world.specs.Trace.{node_line_of}
 use Rattle.trace_text.specs.LineParts.{HasDigits}
 use Rattle.plant_run.specs.FirstNumbers.{zeros_row, first_world}
@@ -42,11 +42,11 @@ returns-in_err-put_node_line-clause-failed g c =
     c.message_named-message.ensures in
     let before = first_world list script slot in
     rw failed.1
-    (CutShort-texts (g.K.Sink.output c.args.out.now) (g.K.Sink.output c.loop-node.out)
+    (CutShort-each (g.K.Sink.output c.args.out.now) (g.K.Sink.output c.loop-node.out)
     (g.K.Sink.output c.put_node_line.new.out) [] (node_line_of list script (zeros_row list script before) before)
     node (length list.slots) less c.loop-node.invariant
-    (subst (CutShort (g.K.Sink.output c.loop-node.out)
-    (g.K.Sink.output c.put_node_line.new.out)) line c.in_err-put_node_line.ensures.failed))
+    (subst (λ (bytes : List ℕ). CutShort (g.K.Sink.output c.loop-node.out)
+    (g.K.Sink.output c.put_node_line.new.out) (bytes ∷ [])) line c.in_err-put_node_line.ensures.failed))
 
 pub loop-node-preserved : goal.loop-node-preserved
 loop-node-preserved g c =
@@ -60,8 +60,8 @@ loop-node-preserved g c =
     c.step.ensures.stands c.step.ensures.delivered c.node-state.ensures c.number_delivered-delivered.ensures
     c.message_named-message.ensures in
     let before = first_world list script slot in
-    WroteLines-texts (g.K.Sink.output c.args.out.now) (g.K.Sink.output c.loop-node.out)
+    WroteLines-each (g.K.Sink.output c.args.out.now) (g.K.Sink.output c.loop-node.out)
     (g.K.Sink.output c.put_node_line.new.out) [] (node_line_of list script (zeros_row list script before) before)
     node c.loop-node.invariant
-    (subst (WroteLines (g.K.Sink.output c.loop-node.out)
-    (g.K.Sink.output c.put_node_line.new.out)) line c.in_ok-put_node_line.ensures.ok)
+    (subst (λ (bytes : List ℕ). WroteLines (g.K.Sink.output c.loop-node.out)
+    (g.K.Sink.output c.put_node_line.new.out) (bytes ∷ [])) line c.in_ok-put_node_line.ensures.ok)

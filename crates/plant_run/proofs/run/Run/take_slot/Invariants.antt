@@ -1,5 +1,6 @@
 use Rattle.ttp_base.specs.Outside.{WroteLines}
-use Rattle.ttp_base.specs.Text.{texts_below}
+use Rattle.std.specs.Prelude.{map}
+use Rattle.ttp_base.specs.NodeSet.{below}
 use Rattle.ttp_world.specs.Trace.{node_line_of}
 use Rattle.plant_run.specs.FirstNumbers.{zeros_row, first_world}
 use Rattle.plant_run.proofs.run.Run.take_slot.Given as goal
@@ -8,5 +9,5 @@ use Rattle.plant_run.proofs.run.Run.take_slot.Given as goal
 abbrev pub invariant-loop-node : goal.invariant-loop-node
 invariant-loop-node g l =
     WroteLines (g.K.Sink.output l.fn.out) (g.K.Sink.output l.out)
-    (texts_below (node_line_of l.list l.script (zeros_row l.list l.script (first_world l.list l.script l.slot))
-    (first_world l.list l.script l.slot)) l.node)
+    (map (node_line_of l.list l.script (zeros_row l.list l.script (first_world l.list l.script l.slot))
+    (first_world l.list l.script l.slot)) (below l.node))
