@@ -3,6 +3,7 @@ use Rattle.std.specs.Prelude.{ℕ, zero, suc, pos, true, false, Bool, List, [], 
 use Rattle.std.specs.Prelude.{Result}
 use Rattle.toml.specs.Data.{Data, string, integer, boolean, array, table, Items, no_items, item, Members, no_members}
 use Rattle.toml.specs.Data.{member}
+use Rattle.ttp_base.specs.Text.{Lines}
 use Rattle.ttp_world.specs.declared.medl.Kind.{Kind}
 use Rattle.ttp_world.specs.declared.medl.Kind.TheVariants as kind
 use Rattle.ttp_world.specs.declared.medl.SlotPlan.{SlotPlan}
@@ -84,20 +85,22 @@ mixed_nodes = record {
   slots = mixed_slot ∷ [];
 }
 
-abbrev pub four_nodes_table : List ℕ
+abbrev pub four_nodes_table : Lines
 four_nodes_table =
     codes "ttpbench schedule 1 nodes 4 rounds 1 schedule 000000\n"
-    ++ codes "round 0 slot 0 kind I data 0 sync yes start yes\n"
-    ++ codes "round 0 slot 1 kind I data 0 sync yes start no\n"
-    ++ codes "round 0 slot 2 kind I data 0 sync yes start no\n"
-    ++ codes "round 0 slot 3 kind I data 0 sync yes start no\n"
+    ∷ codes "round 0 slot 0 kind I data 0 sync yes start yes\n"
+    ∷ codes "round 0 slot 1 kind I data 0 sync yes start no\n"
+    ∷ codes "round 0 slot 2 kind I data 0 sync yes start no\n"
+    ∷ codes "round 0 slot 3 kind I data 0 sync yes start no\n"
+    ∷ []
 
-abbrev pub mixed_nodes_table : List ℕ
+abbrev pub mixed_nodes_table : Lines
 mixed_nodes_table =
     codes "ttpbench schedule 2 nodes 1 rounds 3 schedule 001234\n"
-    ++ codes "round 0 slot 0 kind I data 0 sync no start yes\n"
-    ++ codes "round 1 slot 0 kind N data 16 sync no start yes\n"
-    ++ codes "round 2 slot 0 kind X data 16 sync no start yes\n"
+    ∷ codes "round 0 slot 0 kind I data 0 sync no start yes\n"
+    ∷ codes "round 1 slot 0 kind N data 16 sync no start yes\n"
+    ∷ codes "round 2 slot 0 kind X data 16 sync no start yes\n"
+    ∷ []
 
 -- Files: as a text, and as the table that a text is.
 
