@@ -1,5 +1,6 @@
 -- A controller in a slot of the world: what it stands for at each turn is node k of the slot after the history.
-use Rattle.std.proofs.Common.{◌≡◌, ℕ, ◌<◌, ◌≤◌, ℤ, ◌+ℤ◌, Bool, true, false, cond, List, ◌∷◌, length, min, Option, is_some}
+use Rattle.std.proofs.Common.{◌≡◌, ℕ, ◌<◌, ◌≤◌, ℤ, ◌+ℤ◌, Bool, true, false, cond, List, ◌∷◌, length, min, Option}
+use Rattle.std.proofs.Common.{is_some}
 use Rattle.std.proofs.Common.{refl, ap, sym, ◌∙◌, subst}
 use Rattle.std.proofs.lemmas.List.{length-map}
 use Rattle.ttp_world.specs.declared.medl.Medl.{Medl}
@@ -44,7 +45,8 @@ length-diary_of history k = length-map history (λ row. entry_of row k)
 
 past-node : (list : Medl) (script : Script) (history : History) (k : ℕ) (seat : Seat) → k < length list.slots
     → seat.list ≡ list → seat.node ≡ k
-    → seat_past seat (diary_of history k) (surroundings_of script history k) ≡ (node_of (slot_after list script history) k).past
+    → seat_past seat (diary_of history k) (surroundings_of script history k)
+    ≡ (node_of (slot_after list script history) k).past
 past-node list script history k seat node list_is node_is =
     (λ i. past_of (list_is i) (node_is i) (diary_of history k) (surroundings_of script history k))
     ∙ ap (λ (n : BegunNode). n.past) (sym (node_of-slot_after list script history k node))
@@ -126,7 +128,8 @@ loading_by list past (Leave why) = refl
 loading_by list past Send = loading_or (carries_payload list (coming_place list past))
 loading_by list past Judge = refl
 
-pub loaded-node : (s : BegunSlot) (k : ℕ) (seat : Seat) → HasBegun s k seat → is_loading (seat_intent seat) ≡ is_loaded s k
+pub loaded-node : (s : BegunSlot) (k : ℕ) (seat : Seat) → HasBegun s k seat
+    → is_loading (seat_intent seat) ≡ is_loaded s k
 loaded-node s k seat begun =
     let node = node_of s k in
     (λ i. is_loading (turn_intent (begun.list i) (begun.past i) (begun.turn i)))
@@ -193,7 +196,8 @@ ended-node list script history chosen k planned new outcome a b error drift node
     let end = ends diary surroundings does jump message (on channel.A) (on channel.B) clock outside stands on_a on_b
     (record { jump = refl; drift = sym drift_is; silent = is_silent_to-row_in s chosen k }) in
     let own_is = (λ i. clock_begun (past_is i) jump) ∙ offset-node list script history k node in
-    let hearing_is : hearing_of (on channel.A) (on channel.B) clock (clock_begun (seat_past planned diary surroundings) jump)
+    let hearing_is : hearing_of (on channel.A) (on channel.B) clock
+    (clock_begun (seat_past planned diary surroundings) jump)
     error
     ≡ hearing_in s frames k = λ i. hearing_of (on channel.A) (on channel.B) clock (own_is i) (error_is i) in
     let entry_is = (λ i. new_entry (has.list i) (has.node i) (past_is i) message (hearing_is i) does)

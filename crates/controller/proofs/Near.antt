@@ -1,5 +1,6 @@
 -- Clocks stay near 0: what a slot's jumps, errors and drifts add up to.
-use Rattle.std.proofs.Common.{◌≡◌, ℕ, ◌+◌, ◌^◌, ◌<◌, ◌≤◌, max, ℤ, pos, ◌+ℤ◌, List, length, get_or, Some, unsigned_abs, w64}
+use Rattle.std.proofs.Common.{◌≡◌, ℕ, ◌+◌, ◌^◌, ◌<◌, ◌≤◌, max, ℤ, pos, ◌+ℤ◌, List, length, get_or, Some, unsigned_abs}
+use Rattle.std.proofs.Common.{w64}
 use Rattle.std.proofs.Common.{to_z, of_z, refl, ap, sym, ◌∙◌, subst, arith}
 use Rattle.std.specs.Prelude.{slice_get, All}
 use Rattle.std.proofs.lemmas.Int.{ints, to_z-of_z, fits_signed_from_abs}
@@ -21,7 +22,8 @@ use Rattle.medium.specs.StandsFor as medium
 use Rattle.controller.specs.Limits.{most_clock, ArrivalFits, IsBegun, IsPlanned, JumpFits, StaysNear, offset_of_arrival}
 use Rattle.controller.specs.Limits.{seat_clock, turn_jump}
 use Rattle.controller.specs.Passes.{IsPlannedFrom}
-use Rattle.controller.specs.PlantWithin.{most_ahead, most_ahead_in, most_error, most_jump, IsEnded, IsSeatOf, IsFromWithin}
+use Rattle.controller.specs.PlantWithin.{most_ahead, most_ahead_in, most_error, most_jump, IsEnded, IsSeatOf}
+use Rattle.controller.specs.PlantWithin.{IsFromWithin}
 use Rattle.controller.specs.StandsFor.{IsSameSeat}
 use Rattle.controller.specs.Turn.{Ended, Seat}
 
@@ -141,7 +143,8 @@ pub ended-seat : (carried : Carried) (script : Script) (list : Medl) (k : ℕ) (
     → unsigned_abs error ≤ most_error → unsigned_abs drift ≤ 1000
     → IsSameSeat old new → StaysNear new.past.offset old a b error drift → new.turn ≡ Ended
     → IsSeatOf list IsEnded (most_ahead (carried.slot + 1)) k new
-ended-seat carried script list k c d a b error drift old new valid of from on_a on_b few_error few_drift same near turn =
+ended-seat carried script list k c d a b error drift old new valid of from on_a on_b few_error few_drift same near
+    turn =
     let bound = most_ahead_in carried.slot in
     record {
       list = same.list ∙ of.list;

@@ -37,7 +37,8 @@ pub record AreSent (list : Medl) (script : Script) (slot : ℕ) (chosen : List C
     (carried : Carried) : Type 0 where
   pub passed : ArePassed (IsSentBy list script chosen) k old new new
   pub carries : (history : History) → length history ≡ slot → HaveBegun (slot_after list script history) 0 old
-      → Carries (slot_after list script history) (flat_map (frames_of (slot_after list script history) chosen) (below k))
+      → Carries (slot_after list script history)
+      (flat_map (frames_of (slot_after list script history) chosen) (below k))
       carried
 
 pub AreSent-none : (list : Medl) (script : Script) (slot : ℕ) (chosen : List Chosen) (seats : List Seat)
@@ -85,8 +86,12 @@ sent-by : (list : Medl) (script : Script) (slot : ℕ) (chosen : List Chosen) (n
     → (x : Seat) × (slice_get old k ≡ Some x) × IsSentBy list script chosen k x seat seat
 sent-by list script slot chosen n old new carried sent all k seat here =
     let within = slice_get_within new k seat here in
-    let was = there old k (omega (arith, sent.passed.count)) in
-    (was.0, was.1, ArePassed-all (IsSentBy list script chosen) n old new new sent.passed all k was.0 seat seat was.1 here here)
+    let was = there old k (omega (arith, sent.passed.count)) in (
+      was.0,
+      was.1,
+      ArePassed-all (IsSentBy list script chosen) n old new new sent.passed all k was.0 seat seat was.1
+          here here,
+    )
 
 pub AreSent-seats : (list : Medl) (script : Script) (slot bound : ℕ) (chosen : List Chosen) (n : ℕ)
     (old new : List Seat) (carried : Carried)
@@ -129,7 +134,12 @@ AreSent-near list script slot bound chosen n old new carried sent all are_nodes 
           (each-of (IsSeatOf list IsBegun bound) old seats p seat.0 seat.1).clock)
           (λ (beyond : n ≤ p).
           let nobody = get_or_past s.nodes p (no_node list)
-          (omega (arith, are_nodes, length-map-range_with_len (node_after list script may.history) 0 (length list.slots))) in
+          (omega (
+            arith,
+            are_nodes,
+            length-map-range_with_len (node_after list script may.history) 0
+                (length list.slots),
+          )) in
           subst (λ (z : ℤ). unsigned_abs z ≤ bound) (ap (λ (b : BegunNode). b.clock) (sym nobody)) (omega arith))
           (cases_lt p n);
     }

@@ -10,7 +10,8 @@ use Rattle.ttp_world.specs.Medium.{SentFrame, surroundings_of}
 use Rattle.ttp_world.specs.Medl.{plan_at}
 use Rattle.ttp_world.specs.Messages.{status_words}
 use Rattle.ttp_world.specs.Script.{jump_of}
-use Rattle.ttp_world.specs.World.{BegunSlot, jump_taken, node_of, node_past, slot_after, is_loaded, chosen_of, frames_in}
+use Rattle.ttp_world.specs.World.{BegunSlot, jump_taken, node_of, node_past, slot_after, is_loaded, chosen_of}
+use Rattle.ttp_world.specs.World.{frames_in}
 use Rattle.ttp_world.specs.World.{delivered_in, row_in}
 use Rattle.medium.specs.Carried.{Carried}
 use Rattle.medium.specs.StandsFor as medium
@@ -146,7 +147,8 @@ PutsFrames list script k old chosen before after =
     let s = slot_after list script history in
     HasBegun s k old → Carries s frames before → Carries s (frames ++ frames_by s chosen k) after
 
--- whatever slot it has planned, and whatever was chosen in it, if this medium carries the frames of that slot, it stands
+-- whatever slot it has planned, and whatever was chosen in it, if this medium carries the frames of that slot, it
+-- stands
 -- for its diary after it, and leaves what its host is to get
 abbrev pub EndsSlot : Medl → Script → Carried → ℕ → Seat → Seat → Outcome → Type 0
 EndsSlot list script carried k old new outcome =

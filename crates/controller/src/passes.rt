@@ -46,12 +46,7 @@ fn begin_one(
     ensures begins { BeginsSlot list.now script.now slot k controller.old controller.new }
 {
     let incidents = script.incidents(k, slot);
-    controller.begin(
-        list,
-        script.is_on(k, slot),
-        incidents.armed,
-        incidents.jump,
-    );
+    controller.begin(list, script.is_on(k, slot), incidents.armed, incidents.jump);
     incidents
 }
 

@@ -1,8 +1,8 @@
 //! A cold start of four nodes, worked out by hand.
 ghost use Rattle.std.specs.Prelude.{◌≡◌, [], All, Some, length, pos, replicate, IfOk};
 
-use crate::Plant;
 use crate::node::tests::four_nodes;
+use crate::{Controller, Plant, is_loaded};
 use std::alloc::Global;
 use std::test::Fail;
 use ttp_base::{List, Memory};
@@ -50,6 +50,7 @@ fn a_cluster_starts(rt: HostRuntime) -> Result<(), Fail> {
     let chosen = [nothing(), nothing(), nothing(), nothing()];
     let mut plant = Plant::new(alloc, &list)?;
     assert!(rt; plant.node(0).phase == Phase::Off);
+    assert!(rt; !is_loaded(&Controller::new(alloc, &list, 0)?));
     assert!(rt; plant.delivered(1).is_none());
     assert!(rt; plant.status(3).words == [0, 0, 0, 0]);
     // Node 0 waits for two rounds, then starts, and node 1 sends the first frame after it.

@@ -43,7 +43,8 @@ send_one-requires-clause-payload c =
     let seat = get_or c.loop-k.controllers k c.index-controllers-k.result in
     let here = ArePassed-coming _ k c.args.controllers.now c.loop-k.controllers c.loop-k.controllers
     c.index-controllers-k.result c.loop-k.invariant.passed (omega arith) in
-    let message = get_or_read c.args.chosen.now k c.index-chosen-k.result (omega (arith, c.requires.count, c.requires.nodes))
+    let message = get_or_read c.args.chosen.now k c.index-chosen-k.result
+    (omega (arith, c.requires.count, c.requires.nodes))
     c.index-chosen-k.is nothing_chosen in
     subst (IsPayloadFor seat) (sym message)
     (payload-node s k seat c.args.chosen.now (omega (arith, c.requires.nodes))
@@ -69,7 +70,8 @@ loop-k-preserved c =
     let planned = c.send_one.new.controller in
     let here = ArePassed-coming _ k c.args.controllers.now c.loop-k.controllers c.loop-k.controllers
     c.index-controllers-k.result c.loop-k.invariant.passed (omega arith) in
-    let message = get_or_read c.args.chosen.now k c.index-chosen-k.result (omega (arith, c.requires.count, c.requires.nodes))
+    let message = get_or_read c.args.chosen.now k c.index-chosen-k.result
+    (omega (arith, c.requires.count, c.requires.nodes))
     c.index-chosen-k.is nothing_chosen in
     AreSent-more list script c.args.slot c.args.chosen.now k c.args.controllers.now c.loop-k.controllers c.loop-k.medium
     c.send_one.new.medium seat planned c.loop-k.invariant (omega arith) here.0 here.1 (

@@ -86,4 +86,5 @@ returns-clause-ends c history chosen planned carries =
     (omega (arith, c.requires.slot, carries.slot)) c.take.ensures.same
     (kept_numbers (λ x y. Ends old new c.take.new.outcome a b x y) error drift few_error few_drift c.take.ensures.ends)
     (ap (λ (incidents : Incidents). incidents.error) value
-    ∙ ap (λ (slot : ℕ). reading_error script k slot) carries.slot) at.0 (c.heard-a.ensures script k value _ _ _ carries) (c.heard-b.ensures script k value _ _ _ carries) planned
+    ∙ ap (λ (slot : ℕ). reading_error script k slot) carries.slot) at.0
+    (c.heard-a.ensures script k value _ _ _ carries) (c.heard-b.ensures script k value _ _ _ carries) planned

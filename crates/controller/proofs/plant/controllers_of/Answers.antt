@@ -45,7 +45,8 @@ loop-k-preserved c =
     let invariant = c.loop-k.invariant in
     record {
       count = ap length pushed ∙ length_push seats seat ∙ ap (λ n. n + 1) invariant.count;
-      each = λ k other here. each-push (IsSeatOf list IsEnded (most_ahead 0)) seats c.loop-k.k seat invariant.count invariant.each
+      each = λ k other here. each-push (IsSeatOf list IsEnded (most_ahead 0)) seats c.loop-k.k seat invariant.count
+          invariant.each
           (first-seat list c.loop-k.k seat new.list new.node new.stands) k other
           (ap (λ (xs : List Seat). slice_get xs k) (sym pushed) ∙ here);
       stand = λ k other here. each-push (λ _ (seat : Seat). StandsFor seat [] []) seats c.loop-k.k seat

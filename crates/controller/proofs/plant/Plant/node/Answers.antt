@@ -22,8 +22,10 @@ returns c script history stands =
     let count : length seats ≡ length c.args.self.now.list.slots =
     c.self.invariant.count ∙ ap (λ (l : Medl). length l.slots) list_is in
     let here = slice_get_read seats (length seats) k seat refl (omega (arith, c.requires)) c.index.ensures in
-    let of = each-of (IsSeatOf c.self.inside.list IsEnded (most_ahead c.self.inside.slot)) seats c.self.invariant.are k seat here in
+    let of = each-of (IsSeatOf c.self.inside.list IsEnded (most_ahead c.self.inside.slot)) seats c.self.invariant.are
+    k seat here in
     let own = of.list ∙ list_is in
     let shown = c.state.ensures (diary_of history k) (surroundings_of script history k) Ended
-    (each-of (StandsAfter script history) c.args.self.now.seats stands.seats k seat (ap (λ (xs : List Seat). slice_get xs k) (sym seats_are) ∙ here)) in
+    (each-of (StandsAfter script history) c.args.self.now.seats stands.seats k seat
+    (ap (λ (xs : List Seat). slice_get xs k) (sym seats_are) ∙ here)) in
     shown ∙ (λ i. state_of (past_of (own i) (of.node i) (diary_of history k) (surroundings_of script history k)))
