@@ -140,7 +140,8 @@ slot_of kinds size sync start = slot_with None None kinds size sync start
 -- a file of this version with these modes, rounds and slots
 abbrev pub file_with : ℕ → Option Data → Data → Items → Members
 file_with version modes rounds slots =
-    member (codes "buffers") (integer (pos 2)) (member (codes "drift") (integer (pos 0)) (member (codes "error") (integer (pos 0))
+    member (codes "buffers") (integer (pos 2)) (member (codes "drift") (integer (pos 0))
+    (member (codes "error") (integer (pos 0))
     (with_key (codes "modes") modes
     (member (codes "rounds") rounds (member (codes "schedule") (integer (pos 0)) (member (codes "slot") (array slots)
     (member (codes "version") (integer (pos version)) (member (codes "window") (integer (pos 1)) no_members))))))))
@@ -193,7 +194,8 @@ numbered_slot =
 abbrev pub fast_slot : Data
 fast_slot =
     table (member (codes "data") (integer (pos 0)) (member (codes "kinds") (string (codes "I"))
-    (member (codes "speed") one (member (codes "start") (boolean false) (member (codes "sync") (boolean true) no_members)))))
+    (member (codes "speed") one (member (codes "start") (boolean false)
+    (member (codes "sync") (boolean true) no_members)))))
 
 -- four slots, of which these are the last three
 abbrev pub four_slots : Data → Data → Data → Items
