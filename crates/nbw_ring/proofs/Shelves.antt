@@ -24,7 +24,8 @@ wide_tail : (width : ℕ) (p : Message) (pairs : List Message) → Wide width (p
 wide_tail width p pairs wide k d inside = wide (suc k) d (omega arith)
 
 -- so many pairs have so many words
-pub words_count : (width : ℕ) (pairs : List Message) → Wide width pairs → length (words_in pairs) ≡ length (numbers_in pairs) * width
+pub words_count : (width : ℕ) (pairs : List Message) → Wide width pairs
+    → length (words_in pairs) ≡ length (numbers_in pairs) * width
 words_count width [] wide = omega arith
 words_count width (p ∷ pairs) wide =
     let here = wide_head width p pairs wide in
@@ -32,22 +33,27 @@ words_count width (p ∷ pairs) wide =
     omega (arith, length-append p.words (words_in pairs), suc-mul (length (numbers_in pairs)) width)
 
 -- pairs are the pairs of their numbers and words
-pub pairs_again : (width : ℕ) (pairs : List Message) → Wide width pairs → pairs_of (numbers_in pairs) (words_in pairs) width ≡ pairs
+pub pairs_again : (width : ℕ) (pairs : List Message) → Wide width pairs
+    → pairs_of (numbers_in pairs) (words_in pairs) width ≡ pairs
 pairs_again width [] wide = refl
 pairs_again width (p ∷ pairs) wide =
     let here = wide_head width p pairs wide in
     let front : take width (p.words ++ words_in pairs) ≡ p.words = take_at p.words (words_in pairs) width here in
     let back : drop width (p.words ++ words_in pairs) ≡ words_in pairs = drop_at p.words (words_in pairs) width here in
-    let rest : pairs_of (numbers_in pairs) (drop width (p.words ++ words_in pairs)) width ≡ pairs = ap (λ ws. pairs_of (numbers_in pairs) ws width) back ∙ pairs_again width pairs (wide_tail width p pairs wide) in
+    let rest : pairs_of (numbers_in pairs) (drop width (p.words ++ words_in pairs)) width ≡ pairs =
+    ap (λ ws. pairs_of (numbers_in pairs) ws width) back ∙ pairs_again width pairs (wide_tail width p pairs wide) in
     λ i. record { number = p.number; words = front i } ∷ rest i
 
 drop_further : (xs ys : List ℕ) (n : ℕ) → drop (length xs + n) (xs ++ ys) ≡ drop n ys
 drop_further [] ys n = ap (λ k. drop k ys) (omega arith)
-drop_further (x ∷ xs) ys n = let e : length (x ∷ xs) + n ≡ suc (length xs + n) = omega arith in ap (λ k. drop k (x ∷ (xs ++ ys))) e ∙ drop_further xs ys n
+drop_further (x ∷ xs) ys n =
+    let e : length (x ∷ xs) + n ≡ suc (length xs + n) = omega arith in ap (λ k. drop k (x ∷ (xs ++ ys))) e
+    ∙ drop_further xs ys n
 
 -- the last words are those of the newest pair
 pub newest_words : (width : ℕ) (pairs : List Message) → Wide width pairs → 0 < length pairs
-    → (p : Message) × (slice_get pairs (length pairs - 1) ≡ Some p) × (width ≤ length (words_in pairs)) × (drop (length (words_in pairs) - width) (words_in pairs) ≡ p.words)
+    → (p : Message) × (slice_get pairs (length pairs - 1) ≡ Some p) × (width ≤ length (words_in pairs)) ×
+    (drop (length (words_in pairs) - width) (words_in pairs) ≡ p.words)
 newest_words width [] wide some_pair = absurd (omega arith)
 newest_words width (p ∷ []) wide some_pair =
     let here = wide_head width p [] wide in
@@ -60,20 +66,29 @@ newest_words width (p ∷ q ∷ pairs) wide some_pair =
     let newest = newest_words width (q ∷ pairs) (wide_tail width p (q ∷ pairs) wide) (omega arith) in
     let inside : width ≤ length ws = newest.2 in
     let start : length (p.words ++ ws) - width ≡ length p.words + (length ws - width) = omega arith in
-    let at : suc (suc (length pairs)) - 1 ≡ suc (suc (length pairs) - 1) = omega arith in
-    (newest.0, ap (slice_get (p ∷ q ∷ pairs)) at ∙ newest.1, omega arith, ap (λ k. drop k (p.words ++ ws)) start ∙ (drop_further p.words ws (length ws - width) ∙ newest.3))
+    let at : suc (suc (length pairs)) - 1 ≡ suc (suc (length pairs) - 1) = omega arith in (
+      newest.0,
+      ap (slice_get (p ∷ q ∷ pairs)) at ∙ newest.1,
+      omega arith,
+      ap (λ k. drop k (p.words ++ ws)) start
+          ∙ (drop_further p.words ws (length ws - width) ∙ newest.3),
+    )
 
 -- one pair more on the shelf
 one_less : (spare width : ℕ) → 1 ≤ spare → (spare - 1) * width + width ≡ spare * width
 one_less zero width some_room = absurd (omega arith)
-one_less (suc spare) width some_room = let e : suc spare - 1 ≡ spare = omega arith in ap (λ k. k * width + width) e ∙ omega (arith, suc-mul spare width)
+one_less (suc spare) width some_room =
+    let e : suc spare - 1 ≡ spare = omega arith in ap (λ k. k * width + width) e ∙ omega (arith, suc-mul spare width)
 
 pub shelved_more : (r : Inside) (seat : RingSeat) (numbers words : Vec ℕ Global) (y : Reading) (p : Message)
-    → IsShelved r → 1 ≤ r.spare → (reading_of r.seat.me.0).shape ≡ y.shape → y.got ≡ (reading_of r.seat.me.0).got ++ p ∷ [] → seat.me ≡ (Reader y, []) → length p.words ≡ r.width
+    → IsShelved r → 1 ≤ r.spare → (reading_of r.seat.me.0).shape ≡ y.shape
+    → y.got ≡ (reading_of r.seat.me.0).got ++ p ∷ [] → seat.me ≡ (Reader y, []) → length p.words ≡ r.width
     → numbers.items ≡ r.numbers.items ++ p.number ∷ [] → words.items ≡ r.words.items ++ p.words
-    → vec_len numbers ≡ vec_len r.numbers + 1 → vec_capacity numbers ≡ vec_capacity r.numbers → vec_len words ≡ vec_len r.words + r.width → vec_capacity words ≡ vec_capacity r.words
+    → vec_len numbers ≡ vec_len r.numbers + 1 → vec_capacity numbers ≡ vec_capacity r.numbers
+    → vec_len words ≡ vec_len r.words + r.width → vec_capacity words ≡ vec_capacity r.words
     → IsShelved record { seat = seat; numbers = numbers; words = words; width = r.width; spare = r.spare - 1 }
-shelved_more r seat numbers words y p shelved some_room shape got is wide more_numbers more_words numbers_long numbers_room words_long words_room =
+shelved_more r seat numbers words y p shelved some_room shape got is wide more_numbers more_words numbers_long
+    numbers_room words_long words_room =
     let v : Reading = reading_of r.seat.me.0 in
     let known : reading_of seat.me.0 ≡ y = ap (λ m. reading_of m.0) is in
     let room = shelved.room in
@@ -82,25 +97,37 @@ shelved_more r seat numbers words y p shelved some_room shape got is wide more_n
     record {
       seated = is ∙ (λ i. (Reader (sym known i), []));
       width = shelved.width ∙ (ap (λ s. s.width) shape ∙ ap (λ (z : Reading). z.shape.width) (sym known));
-      wide = subst (λ (g : List Message). Wide r.width g) (sym got ∙ ap (λ (z : Reading). z.got) (sym known)) (All-push (λ q. length q.words ≡ r.width) v.got p shelved.wide wide);
-      numbers = more_numbers ∙ (ap (λ l. l ++ p.number ∷ []) shelved.numbers ∙ (sym (map_push (λ q. q.number) v.got p) ∙ ap numbers_in (sym got ∙ ap (λ (z : Reading). z.got) (sym known))));
-      words = more_words ∙ (ap (λ l. l ++ p.words) shelved.words ∙ (flat_map_more (λ q. q.words) [] v.got p ∙ ap words_in (sym got ∙ ap (λ (z : Reading). z.got) (sym known))));
+      wide = subst (λ (g : List Message). Wide r.width g) (sym got ∙ ap (λ (z : Reading). z.got) (sym known))
+          (All-push (λ q. length q.words ≡ r.width) v.got p shelved.wide wide);
+      numbers = more_numbers
+          ∙ (ap (λ l. l ++ p.number ∷ []) shelved.numbers
+          ∙ (sym (map_push (λ q. q.number) v.got p)
+          ∙ ap numbers_in (sym got ∙ ap (λ (z : Reading). z.got) (sym known))));
+      words = more_words
+          ∙ (ap (λ l. l ++ p.words) shelved.words
+          ∙ (flat_map_more (λ q. q.words) [] v.got p
+          ∙ ap words_in (sym got ∙ ap (λ (z : Reading). z.got) (sym known))));
       room = omega arith;
       word_room = omega arith;
     }
 
 -- one pair more of numbers and words
-pub pair_next : (numbers words back : List ℕ) (i width n : ℕ) (front : List ℕ) (pairs pairs' total : List Message) → i < length numbers
-    → pairs ++ pairs_of (drop i numbers) words width ≡ total → n ≡ get_or numbers i 0 → front ≡ take width words → back ≡ drop width words
-    → pairs' ≡ pairs ++ record { number = n; words = front } ∷ [] → pairs' ++ pairs_of (drop (i + 1) numbers) back width ≡ total
+pub pair_next : (numbers words back : List ℕ) (i width n : ℕ) (front : List ℕ) (pairs pairs' total : List Message)
+    → i < length numbers
+    → pairs ++ pairs_of (drop i numbers) words width ≡ total → n ≡ get_or numbers i 0 → front ≡ take width words
+    → back ≡ drop width words
+    → pairs' ≡ pairs ++ record { number = n; words = front } ∷ []
+    → pairs' ++ pairs_of (drop (i + 1) numbers) back width ≡ total
 pair_next numbers words back i width n front pairs pairs' total inside so_far number first rest more =
     let p : Message = record { number = n; words = front } in
     let later : List Message = pairs_of (drop (i + 1) numbers) back width in
     let same : p ∷ later ≡ pairs_of (drop i numbers) words width =
-    (λ k. record { number = number k; words = first k } ∷ pairs_of (drop (i + 1) numbers) (rest k) width) ∙ ap (λ ns. pairs_of ns words width) (sym (drop_more numbers i 0 inside)) in
+    (λ k. record { number = number k; words = first k } ∷ pairs_of (drop (i + 1) numbers) (rest k) width)
+    ∙ ap (λ ns. pairs_of ns words width) (sym (drop_more numbers i 0 inside)) in
     ap (λ ps. ps ++ later) more ∙ (append_assoc pairs (p ∷ []) later ∙ (ap (λ ps. pairs ++ ps) same ∙ so_far))
 
-pub rest_shorter : (count i width rest : ℕ) → i < count → rest + width ≡ (count - i) * width → rest ≡ (count - (i + 1)) * width
+pub rest_shorter : (count i width rest : ℕ) → i < count → rest + width ≡ (count - i) * width
+    → rest ≡ (count - (i + 1)) * width
 rest_shorter count i width rest inside now =
     let e : count - i ≡ suc (count - (i + 1)) = omega arith in
     let now' : rest + width ≡ suc (count - (i + 1)) * width = now ∙ ap (λ k. k * width) e in
@@ -113,12 +140,17 @@ room_for_one count i width rest inside now =
     omega (arith, suc-mul (count - (i + 1)) width)
 
 -- the words that are cut off at the end are those of the newest pair
-pub newest_slice : (width : ℕ) (got shown : List Message) (words : List ℕ) (count : ℕ) → Wide width got → shown ≡ got → 0 < length shown → words ≡ words_in got → count ≡ length words
-    → IsSomeAnd (slice_get shown (length shown - 1)) (λ pair. pair.words ≡ take (length words - (count - width)) (drop (count - width) words))
+pub newest_slice : (width : ℕ) (got shown : List Message) (words : List ℕ) (count : ℕ) → Wide width got → shown ≡ got
+    → 0 < length shown → words ≡ words_in got → count ≡ length words
+    → IsSomeAnd (slice_get shown (length shown - 1))
+    (λ pair. pair.words ≡ take (length words - (count - width)) (drop (count - width) words))
 newest_slice width got shown words count wide same some_pair are counted =
     let some_got : 0 < length got = subst (λ (g : List Message). 0 < length g) same some_pair in
     let newest = newest_words width got wide some_got in
-    let here : slice_get shown (length shown - 1) ≡ Some newest.0 = ap (λ (g : List Message). slice_get g (length g - 1)) same ∙ newest.1 in
-    let cut : drop (count - width) words ≡ newest.0.words = ap (λ n. drop (n - width) words) counted ∙ (ap (λ ws. drop (length ws - width) ws) are ∙ newest.3) in
-    subst (λ (o : Option Message). IsSomeAnd o (λ pair. pair.words ≡ take (length words - (count - width)) (drop (count - width) words))) (sym here)
+    let here : slice_get shown (length shown - 1) ≡ Some newest.0 =
+    ap (λ (g : List Message). slice_get g (length g - 1)) same ∙ newest.1 in
+    let cut : drop (count - width) words ≡ newest.0.words =
+    ap (λ n. drop (n - width) words) counted ∙ (ap (λ ws. drop (length ws - width) ws) are ∙ newest.3) in
+    subst (λ (o : Option Message). IsSomeAnd o
+    (λ pair. pair.words ≡ take (length words - (count - width)) (drop (count - width) words))) (sym here)
     (sym (take_rest words (count - width) ∙ cut))

@@ -10,7 +10,8 @@ abbrev pub number_of : Try → ℕ
 number_of (Got number) = number
 number_of (Overrun number begin end) = number
 
--- the message of this number was intact at the last load: a pair of that number was added to what the reader got, and the floor was raised to it
+-- the message of this number was intact at the last load: a pair of that number was added to what the reader got, and
+-- the floor was raised to it
 pub record Gets (old new : ReaderState) (number : ℕ) : Type 0 where
   pub intact : new.seen < limit new.ring.shape number
   pub words : List ℕ
@@ -19,7 +20,8 @@ pub record Gets (old new : ReaderState) (number : ℕ) : Type 0 where
   pub floor : new.floor ≡ number
   pub spare : new.spare + 1 ≡ old.spare
 
--- the message of this number was not intact at the last load, of `last`: what the reader got is as before. Where the first load, of `start`, shows it already, it is the last
+-- the message of this number was not intact at the last load, of `last`: what the reader got is as before. Where the
+-- first load, of `start`, shows it already, it is the last
 pub record GetsNothing (old new : ReaderState) (number start last : ℕ) : Type 0 where
   pub late : limit new.ring.shape number ≤ last
   pub first_load : start ≡ new.first

@@ -43,7 +43,8 @@ pub record Kept (shape : Shape) (s : State (Unit {0}) View) : Type 0 where
   pub shaped : writing.shape ≡ shape
   pub buffered : 0 < shape.buffers
   pub long : length s.words ≡ 1 + shape.buffers * shape.width
-  -- the counter is twice the newest number, which is one less than the number of messages, and one more while a write is open
+  -- the counter is twice the newest number, which is one less than the number of messages, and one more while a write
+  -- is open
   pub counted : slice_index s.words 0 + 2 ≡ 2 * length writing.messages + odd_part writing.is_open
   -- so that the counter fits a word
   pub few : length writing.messages ≤ most_number + 1

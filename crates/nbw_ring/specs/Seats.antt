@@ -81,7 +81,8 @@ pub record IsAttempting (v : Reading) (number : ℕ) : Type 0 where
   pub empty : v.words ≡ []
   pub half : v.first / 2 ≡ number
 
--- what the writer's fields say of its seat: it is the writer's, no write is open, and this is the number of its newest message
+-- what the writer's fields say of its seat: it is the writer's, no write is open, and this is the number of its newest
+-- message
 pub record IsAtRest (seat : RingSeat) (number : ℕ) : Type 0 where
   pub seated : IsWriterSeat seat
   pub closed : (writing_of seat.me.0).is_open ≡ false

@@ -17,8 +17,8 @@ pub record WriterState : Type 0 where
   pub messages : List (List ℕ)
   pub joined : List Settlement
 
--- the ring that a reader reads; its floor; the newest counter that it loaded; the counter with which its newest attempt began; how many attempts it began;
--- the pairs that it got; and for how many more it has room
+-- the ring that a reader reads; its floor; the newest counter that it loaded; the counter with which its newest attempt
+-- began; how many attempts it began; the pairs that it got; and for how many more it has room
 pub record ReaderState : Type 0 where
   pub ring : RingState
   pub floor : ℕ

@@ -55,7 +55,8 @@ xor_bits-right_comm (a ∷ as_) [] cs = sym (xor_bits-nil (xor_bits (a ∷ as_) 
 xor_bits-right_comm (a ∷ as_) (b ∷ bs) [] = refl
 xor_bits-right_comm (a ∷ as_) (b ∷ bs) (c ∷ cs) = rw (xor-right_comm a b c, xor_bits-right_comm as_ bs cs)
 
-pub xor_bits-assoc : (as_ bs cs : List Bool) → length as_ ≡ length bs → xor_bits (xor_bits as_ bs) cs ≡ xor_bits as_ (xor_bits bs cs)
+pub xor_bits-assoc : (as_ bs cs : List Bool) → length as_ ≡ length bs
+    → xor_bits (xor_bits as_ bs) cs ≡ xor_bits as_ (xor_bits bs cs)
 xor_bits-assoc [] bs cs same = refl
 xor_bits-assoc (a ∷ as_) [] cs same = absurd (omega arith)
 xor_bits-assoc (a ∷ as_) (b ∷ bs) [] same = refl
@@ -68,12 +69,15 @@ xor_bits-twice (a ∷ as_) [] = refl
 xor_bits-twice (a ∷ as_) (b ∷ bs) = rw (xor-twice a b, xor_bits-twice as_ bs)
 
 -- what is added to both falls out of their sum
-pub xor_bits-both : (as_ bs cs : List Bool) → length as_ ≡ length bs → xor_bits (xor_bits as_ cs) (xor_bits bs cs) ≡ xor_bits as_ bs
+pub xor_bits-both : (as_ bs cs : List Bool) → length as_ ≡ length bs
+    → xor_bits (xor_bits as_ cs) (xor_bits bs cs) ≡ xor_bits as_ bs
 xor_bits-both as_ bs cs same =
-    xor_bits-right_comm as_ cs (xor_bits bs cs) ∙ ap (λ xs. xor_bits xs cs) (sym (xor_bits-assoc as_ bs cs same)) ∙ xor_bits-twice (xor_bits as_ bs) cs
+    xor_bits-right_comm as_ cs (xor_bits bs cs) ∙ ap (λ xs. xor_bits xs cs) (sym (xor_bits-assoc as_ bs cs same))
+    ∙ xor_bits-twice (xor_bits as_ bs) cs
 
 -- rows of equal length are added front and back apart
-pub xor_bits-append : (as_ bs cs ds : List Bool) → length as_ ≡ length bs → xor_bits (as_ ++ cs) (bs ++ ds) ≡ xor_bits as_ bs ++ xor_bits cs ds
+pub xor_bits-append : (as_ bs cs ds : List Bool) → length as_ ≡ length bs
+    → xor_bits (as_ ++ cs) (bs ++ ds) ≡ xor_bits as_ bs ++ xor_bits cs ds
 xor_bits-append [] [] cs ds same = refl
 xor_bits-append [] (b ∷ bs) cs ds same = absurd (omega arith)
 xor_bits-append (a ∷ as_) [] cs ds same = absurd (omega arith)
@@ -100,7 +104,8 @@ xor_bits-self [] = refl
 xor_bits-self (a ∷ as_) = rw (xor-self a, xor_bits-self as_)
 
 -- rows that change the front of a longer row alike are equal
-pub xor_bits-cancel : (as_ bs cs : List Bool) → length bs ≡ length cs → length bs ≤ length as_ → xor_bits as_ bs ≡ xor_bits as_ cs → bs ≡ cs
+pub xor_bits-cancel : (as_ bs cs : List Bool) → length bs ≡ length cs → length bs ≤ length as_
+    → xor_bits as_ bs ≡ xor_bits as_ cs → bs ≡ cs
 xor_bits-cancel as_ [] [] same short alike = refl
 xor_bits-cancel as_ [] (c ∷ cs) same short alike = absurd (omega arith)
 xor_bits-cancel as_ (b ∷ bs) [] same short alike = absurd (omega arith)
@@ -113,7 +118,8 @@ xor_bits-cancel (a ∷ as_) (b ∷ bs) (c ∷ cs) same short alike =
     cc
 
 -- the bit at a place of a sum
-pub get_or-xor_bits : (as_ bs : List Bool) (i : ℕ) → i < length as_ → length as_ ≡ length bs → get_or (xor_bits as_ bs) i false ≡ xor (get_or as_ i false) (get_or bs i false)
+pub get_or-xor_bits : (as_ bs : List Bool) (i : ℕ) → i < length as_ → length as_ ≡ length bs
+    → get_or (xor_bits as_ bs) i false ≡ xor (get_or as_ i false) (get_or bs i false)
 get_or-xor_bits [] bs i within same = absurd (omega arith)
 get_or-xor_bits (a ∷ as_) [] i within same = absurd (omega arith)
 get_or-xor_bits (a ∷ as_) (b ∷ bs) zero within same = refl

@@ -15,7 +15,8 @@ use Rattle.ttp_check.proofs.Bits.{xor_bits-append}
 
 pub length-bits_of : (count v : ℕ) → length (bits_of count v) ≡ count
 length-bits_of zero v = refl
-length-bits_of (suc count) v = omega (arith, length-append (bits_of count (v / 2)) ((v % 2 == 1) ∷ []), length-bits_of count (v / 2))
+length-bits_of (suc count) v =
+    omega (arith, length-append (bits_of count (v / 2)) ((v % 2 == 1) ∷ []), length-bits_of count (v / 2))
 
 -- a number's bits are those of its high part and those of its low part
 pub bits_of-add : (j k v : ℕ) → bits_of (j + k) v ≡ bits_of j (v / 2 ^ k) ++ bits_of k v
@@ -24,7 +25,9 @@ bits_of-add j (suc k) v =
     let last : List Bool = (v % 2 == 1) ∷ [] in
     let places : 1 + k ≡ suc k = omega arith in
     let high : v / 2 / 2 ^ k ≡ v / 2 ^ suc k = shr-shr v 1 k ∙ ap (λ i. v / 2 ^ i) places in
-    rw (add-suc j k) (ap (λ xs. xs ++ last) (bits_of-add j k (v / 2) ∙ ap (λ h. bits_of j h ++ bits_of k (v / 2)) high) ∙ append_assoc (bits_of j (v / 2 ^ suc k)) (bits_of k (v / 2)) last)
+    rw (add-suc j k)
+    (ap (λ xs. xs ++ last) (bits_of-add j k (v / 2) ∙ ap (λ h. bits_of j h ++ bits_of k (v / 2)) high)
+    ∙ append_assoc (bits_of j (v / 2 ^ suc k)) (bits_of k (v / 2)) last)
 
 -- one place more of a number's low part
 mod-pow-suc : (v k : ℕ) → v % 2 ^ suc k ≡ (v / 2 % 2 ^ k) * 2 + v % 2
@@ -55,7 +58,8 @@ front_is v (b ∷ bits) =
 
 pub number_of-lt : (bits : List Bool) → number_of bits < 2 ^ length bits
 number_of-lt bits =
-    let none : 0 * 2 ^ length bits + number_of bits % 2 ^ length bits ≡ number_of bits = rw (front_is 0 bits) at (shr_split (number_of bits) (length bits)) in
+    let none : 0 * 2 ^ length bits + number_of bits % 2 ^ length bits ≡ number_of bits =
+    rw (front_is 0 bits) at (shr_split (number_of bits) (length bits)) in
     omega (arith, none, mod_below (number_of bits) (2 ^ length bits) (pow_pos (length bits)))
 
 bits_behind : (v : ℕ) (bits : List Bool) → bits_of (length bits) (fold append_bit v bits) ≡ bits
@@ -63,8 +67,10 @@ bits_behind v [] = refl
 bits_behind v (b ∷ bits) =
     let all : ℕ = fold append_bit (append_bit v b) bits in
     let places : suc (length bits) ≡ 1 + length bits = omega arith in
-    let first : (all / 2 ^ length bits % 2 == 1) ≡ b = ap (λ h. h % 2 == 1) (front_is (append_bit v b) bits) ∙ (last_bit v b).1 in
-    ap (λ count. bits_of count all) places ∙ bits_of-add 1 (length bits) all ∙ ap (λ h. h ∷ bits_of (length bits) all) first ∙ ap (λ xs. b ∷ xs) (bits_behind (append_bit v b) bits)
+    let first : (all / 2 ^ length bits % 2 == 1) ≡ b =
+    ap (λ h. h % 2 == 1) (front_is (append_bit v b) bits) ∙ (last_bit v b).1 in
+    ap (λ count. bits_of count all) places ∙ bits_of-add 1 (length bits) all
+    ∙ ap (λ h. h ∷ bits_of (length bits) all) first ∙ ap (λ xs. b ∷ xs) (bits_behind (append_bit v b) bits)
 
 -- a row of bits as a number and back
 pub bits_of-number_of : (bits : List Bool) → bits_of (length bits) (number_of bits) ≡ bits
@@ -97,19 +103,24 @@ low_bit a (suc (suc b)) small small_too = absurd (omega arith)
 pub bits_of-xor : (count v w : ℕ) → bits_of count (bit_xor v w) ≡ xor_bits (bits_of count v) (bits_of count w)
 bits_of-xor zero v w = refl
 bits_of-xor (suc count) v w =
-    let last : (bit_xor v w % 2 == 1) ≡ xor (v % 2 == 1) (w % 2 == 1) = ap (λ r. r == 1) (xor_mod v w 1) ∙ low_bit (v % 2) (w % 2) (omega arith) (omega arith) in
-    let same : length (bits_of count (v / 2)) ≡ length (bits_of count (w / 2)) = length-bits_of count (v / 2) ∙ sym (length-bits_of count (w / 2)) in
+    let last : (bit_xor v w % 2 == 1) ≡ xor (v % 2 == 1) (w % 2 == 1) =
+    ap (λ r. r == 1) (xor_mod v w 1) ∙ low_bit (v % 2) (w % 2) (omega arith) (omega arith) in
+    let same : length (bits_of count (v / 2)) ≡ length (bits_of count (w / 2)) =
+    length-bits_of count (v / 2) ∙ sym (length-bits_of count (w / 2)) in
     ap (λ h. bits_of count h ++ (bit_xor v w % 2 == 1) ∷ []) (xor_shr v w 1)
     ∙ ap (λ xs. xs ++ (bit_xor v w % 2 == 1) ∷ []) (bits_of-xor count (v / 2) (w / 2))
     ∙ ap (λ b. xor_bits (bits_of count (v / 2)) (bits_of count (w / 2)) ++ b ∷ []) last
     ∙ sym (xor_bits-append (bits_of count (v / 2)) (bits_of count (w / 2)) ((v % 2 == 1) ∷ []) ((w % 2 == 1) ∷ []) same)
 
-pub number_of-xor : (as_ bs : List Bool) → length as_ ≡ length bs → number_of (xor_bits as_ bs) ≡ bit_xor (number_of as_) (number_of bs)
+pub number_of-xor : (as_ bs : List Bool) → length as_ ≡ length bs
+    → number_of (xor_bits as_ bs) ≡ bit_xor (number_of as_) (number_of bs)
 number_of-xor as_ bs same =
     let n : ℕ = length as_ in
     let a : ℕ = number_of as_ in
     let b : ℕ = number_of bs in
-    let second : bits_of (length as_) (number_of bs) ≡ bs = ap (λ count. bits_of count (number_of bs)) same ∙ bits_of-number_of bs in
+    let second : bits_of (length as_) (number_of bs) ≡ bs =
+    ap (λ count. bits_of count (number_of bs)) same ∙ bits_of-number_of bs in
     let fits : number_of bs < 2 ^ length as_ = rw same (number_of-lt bs) in
-    ap number_of (sym (bits_of-xor n a b ∙ ap (λ xs. xor_bits xs (bits_of n b)) (bits_of-number_of as_) ∙ ap (xor_bits as_) second))
+    ap number_of
+    (sym (bits_of-xor n a b ∙ ap (λ xs. xor_bits xs (bits_of n b)) (bits_of-number_of as_) ∙ ap (xor_bits as_) second))
     ∙ number_of-bits_of n (bit_xor a b) ∙ mod-eq_of_lt (xor_lt n a b (number_of-lt as_) fits)

@@ -14,4 +14,6 @@ WORDS_are : WORDS ≡ map word_alone (range_with_len 0 256)
 WORDS_are = refl
 
 pub get_or-WORDS : (byte : ℕ) → byte < 256 → get_or WORDS byte 0 ≡ check_word 0 (byte ∷ [])
-get_or-WORDS byte fits = ap (λ words. get_or words byte 0) WORDS_are ∙ get_or-map-range_with_len word_alone 0 256 byte byte 0 fits (zero-add byte)
+get_or-WORDS byte fits =
+    ap (λ words. get_or words byte 0) WORDS_are
+    ∙ get_or-map-range_with_len word_alone 0 256 byte byte 0 fits (zero-add byte)

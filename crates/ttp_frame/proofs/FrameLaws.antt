@@ -30,14 +30,16 @@ pub record FitParts (width : ℕ) (bytes : List ℕ) (header size start : ℕ) (
   pub word : has_word start (unsent width header c) bytes ≡ true
   pub carried : carries (sent width header c) bytes ≡ true
 
-pub parts_of : (width : ℕ) (bytes : List ℕ) (header size start : ℕ) (c : CState) → fits width bytes header size start c ≡ true → FitParts width bytes header size start c
+pub parts_of : (width : ℕ) (bytes : List ℕ) (header size start : ℕ) (c : CState)
+    → fits width bytes header size start c ≡ true → FitParts width bytes header size start c
 parts_of width bytes header size start c told =
     let both = and_parts _ _ (sym (fits-parts width bytes header size start c) ∙ told) in
     let rest = and_parts _ _ both.1 in
     record { shape = both.0; word = rest.0; carried = rest.1 }
 
 -- bytes that fit are formed
-pub is_formed-fits : (width : ℕ) (bytes : List ℕ) (header size start : ℕ) (c : CState) → fits width bytes header size start c ≡ true → is_formed width bytes header size start ≡ true
+pub is_formed-fits : (width : ℕ) (bytes : List ℕ) (header size start : ℕ) (c : CState)
+    → fits width bytes header size start c ≡ true → is_formed width bytes header size start ≡ true
 is_formed-fits width bytes header size start c told =
     let parts = parts_of width bytes header size start c told in
     is_formed-parts width bytes header size start c ∙ and_from _ _ parts.shape (by (is_explicit header) _ parts.word)
@@ -47,8 +49,10 @@ is_formed-fits width bytes header size start c told =
     by false w is = refl
 
 -- they are a frame of the payload that stands in its place
-frame_of : (width : ℕ) (bytes : List ℕ) (header size start : ℕ) (c : CState) → fits width bytes header size start c ≡ true
-    → bytes ≡ ended start (unsent width header c) (front header (sent width header c) (payload_in width header size bytes))
+frame_of : (width : ℕ) (bytes : List ℕ) (header size start : ℕ) (c : CState)
+    → fits width bytes header size start c ≡ true
+    → bytes ≡ ended start (unsent width header c)
+    (front header (sent width header c) (payload_in width header size bytes))
 frame_of width bytes header size start c told =
     (bytes_eq-Decides bytes (frame width header c (payload_in width header size bytes) start)).0 told
     ∙ frame-pieces width header c (payload_in width header size bytes) start
@@ -66,7 +70,8 @@ differs_is true false = (λ e. cc, λ e. cc)
 differs_is false true = (λ _. refl, λ _. refl)
 differs_is false false = (λ e. cc, λ e. cc)
 
-invalid_is : (f m : Bool) → (f ≡ true → m ≡ true) → ((if f then Match else (if m then Differs else Invalid)) ≡ Invalid) ↔ (not m ≡ true)
+invalid_is : (f m : Bool) → (f ≡ true → m ≡ true)
+    → ((if f then Match else (if m then Differs else Invalid)) ≡ Invalid) ↔ (not m ≡ true)
 invalid_is true true formed = (λ e. cc, λ e. cc)
 invalid_is true false formed = absurd (false≢true (formed refl))
 invalid_is false true formed = (λ e. cc, λ e. cc)
@@ -75,27 +80,42 @@ invalid_is false false formed = (λ _. refl, λ _. refl)
 along : (found is want : FrameMatch) (P : Type 0) → found ≡ is → (is ≡ want) ↔ P → (found ≡ want) ↔ P
 along found is want P same both = (λ e. both.0 (sym same ∙ e), λ p. same ∙ both.1 p)
 
-pub Match-fits : (found : FrameMatch) (wide : Bool) (bytes : List ℕ) (header size start : ℕ) (c : CState) → found ≡ match_of wide bytes header size start c
+pub Match-fits : (found : FrameMatch) (wide : Bool) (bytes : List ℕ) (header size start : ℕ) (c : CState)
+    → found ≡ match_of wide bytes header size start c
     → (found ≡ Match) ↔ IsTrue (fits (member_bytes wide) bytes header size start c)
-Match-fits found wide bytes header size start c is = along found _ Match _ is (match_is (fits (member_bytes wide) bytes header size start c) (is_formed (member_bytes wide) bytes header size start))
+Match-fits found wide bytes header size start c is =
+    along found _ Match _ is
+    (match_is (fits (member_bytes wide) bytes header size start c)
+    (is_formed (member_bytes wide) bytes header size start))
 
-pub Differs-formed : (found : FrameMatch) (wide : Bool) (bytes : List ℕ) (header size start : ℕ) (c : CState) → found ≡ match_of wide bytes header size start c
-    → (found ≡ Differs) ↔ IsTrue (is_formed (member_bytes wide) bytes header size start && not (fits (member_bytes wide) bytes header size start c))
-Differs-formed found wide bytes header size start c is = along found _ Differs _ is (differs_is (fits (member_bytes wide) bytes header size start c) (is_formed (member_bytes wide) bytes header size start))
+pub Differs-formed : (found : FrameMatch) (wide : Bool) (bytes : List ℕ) (header size start : ℕ) (c : CState)
+    → found ≡ match_of wide bytes header size start c
+    → (found ≡ Differs) ↔ IsTrue
+    (is_formed (member_bytes wide) bytes header size start && not (fits (member_bytes wide) bytes header size start c))
+Differs-formed found wide bytes header size start c is =
+    along found _ Differs _ is
+    (differs_is (fits (member_bytes wide) bytes header size start c)
+    (is_formed (member_bytes wide) bytes header size start))
 
-pub Invalid-formed : (found : FrameMatch) (wide : Bool) (bytes : List ℕ) (header size start : ℕ) (c : CState) → found ≡ match_of wide bytes header size start c
+pub Invalid-formed : (found : FrameMatch) (wide : Bool) (bytes : List ℕ) (header size start : ℕ) (c : CState)
+    → found ≡ match_of wide bytes header size start c
     → (found ≡ Invalid) ↔ IsTrue (not (is_formed (member_bytes wide) bytes header size start))
 Invalid-formed found wide bytes header size start c is =
-    along found _ Invalid _ is (invalid_is (fits (member_bytes wide) bytes header size start c) (is_formed (member_bytes wide) bytes header size start) (is_formed-fits (member_bytes wide) bytes header size start c))
+    along found _ Invalid _ is
+    (invalid_is (fits (member_bytes wide) bytes header size start c)
+    (is_formed (member_bytes wide) bytes header size start)
+    (is_formed-fits (member_bytes wide) bytes header size start c))
 
 -- Short runs of wrong bits.
 
 -- Bytes that differ from a frame that fits, and only within 24 consecutive bits, don't fit.
-pub bursts_never_fit : (width header size start : ℕ) (c : CState) (sender heard : List ℕ) → fits width sender header size start c ≡ true → DifferWithin 24 sender heard
+pub bursts_never_fit : (width header size start : ℕ) (c : CState) (sender heard : List ℕ)
+    → fits width sender header size start c ≡ true → DifferWithin 24 sender heard
     → fits width heard header size start c ≡ true → ⊥
 bursts_never_fit width header size start c sender heard fit apart fit_too =
     own_words_are_apart start (unsent width header c) (bytes_of sender) (bytes_of heard)
-    (subst (λ (xs : List ℕ). DifferWithin 24 xs (ended start (unsent width header c) (bytes_of heard))) (frame_of width sender header size start c fit)
+    (subst (λ (xs : List ℕ). DifferWithin 24 xs (ended start (unsent width header c) (bytes_of heard)))
+    (frame_of width sender header size start c fit)
     (subst (λ (ys : List ℕ). DifferWithin 24 sender ys) (frame_of width heard header size start c fit_too) apart))
   where
     bytes_of : List ℕ → List ℕ
@@ -110,7 +130,8 @@ number_of_three : (v : ℕ) → v < 16777216 → number_in (big_endian 3 v) ≡ 
 number_of_three v small = omega arith
 
 -- members' bytes tell their word
-pub number_in-members : (wide : Bool) (v : ℕ) → v < 2 ^ (8 * member_bytes wide) → number_in (big_endian (member_bytes wide) v) ≡ v
+pub number_in-members : (wide : Bool) (v : ℕ) → v < 2 ^ (8 * member_bytes wide)
+    → number_in (big_endian (member_bytes wide) v) ≡ v
 number_in-members true v small = number_of_three v small
 number_in-members false v small = number_of_two v small
 
@@ -119,13 +140,16 @@ few_bytes true = omega arith
 few_bytes false = omega arith
 
 -- words in three bytes are told by these
-word_bytes-injective : (start : ℕ) (one other : List ℕ) → word_bytes start one ≡ word_bytes start other → check_word start one ≡ check_word start other
+word_bytes-injective : (start : ℕ) (one other : List ℕ) → word_bytes start one ≡ word_bytes start other
+    → check_word start one ≡ check_word start other
 word_bytes-injective start one other same =
-    sym (number_of_three (check_word start one) (check_word-lt start one)) ∙ ap number_in same ∙ number_of_three (check_word start other) (check_word-lt start other)
+    sym (number_of_three (check_word start one) (check_word-lt start one)) ∙ ap number_in same
+    ∙ number_of_three (check_word start other) (check_word-lt start other)
 
--- Words of members behind the same place, both right for the same bytes, are one: where the C-state is sent it tells them, and
--- else the word does.
-words_told : (wide e : Bool) (start v w : ℕ) (place bytes : List ℕ) → v < 2 ^ (8 * member_bytes wide) → w < 2 ^ (8 * member_bytes wide)
+-- Words of members behind the same place, both right for the same bytes, are one: where the C-state is sent it tells
+-- them, and else the word does.
+words_told : (wide e : Bool) (start v w : ℕ) (place bytes : List ℕ) → v < 2 ^ (8 * member_bytes wide)
+    → w < 2 ^ (8 * member_bytes wide)
     → (let one = place ++ big_endian (member_bytes wide) v in let other = place ++ big_endian (member_bytes wide) w in
     has_word start (if e then [] else one) bytes ≡ true → has_word start (if e then [] else other) bytes ≡ true
     → carries (if e then one else []) bytes ≡ true → carries (if e then other else []) bytes ≡ true → v ≡ w)
@@ -133,18 +157,33 @@ words_told wide true start v w place bytes fit fit_too word word_too carried car
     let width = member_bytes wide in
     let one : List ℕ = place ++ big_endian width v in
     let other : List ℕ = place ++ big_endian width w in
-    let long : length one ≡ length other = omega (arith, length-append place (big_endian width v), length-append place (big_endian width w), length-big_endian width v, length-big_endian width w) in
-    let same : one ≡ other = sym ((bytes_eq-Decides (take (length one) (drop 1 bytes)) one).0 carried) ∙ ap (λ n. take n (drop 1 bytes)) long ∙ (bytes_eq-Decides (take (length other) (drop 1 bytes)) other).0 carried_too in
-    sym (number_in-members wide v fit) ∙ ap number_in (append_cancel_left place (big_endian width v) (big_endian width w) same) ∙ number_in-members wide w fit_too
+    let long : length one ≡ length other =
+    omega (
+      arith,
+      length-append place (big_endian width v),
+      length-append place
+          (big_endian width w),
+      length-big_endian width v,
+      length-big_endian width w,
+    ) in
+    let same : one ≡ other =
+    sym ((bytes_eq-Decides (take (length one) (drop 1 bytes)) one).0 carried) ∙ ap (λ n. take n (drop 1 bytes)) long
+    ∙ (bytes_eq-Decides (take (length other) (drop 1 bytes)) other).0 carried_too in
+    sym (number_in-members wide v fit)
+    ∙ ap number_in (append_cancel_left place (big_endian width v) (big_endian width w) same)
+    ∙ number_in-members wide w fit_too
 words_told wide false start v w place bytes fit fit_too word word_too carried carried_too =
     let width = member_bytes wide in
     let n : ℕ = length bytes - 3 in
     let back : List ℕ = take n bytes in
     let told = (bytes_eq-Decides (drop n bytes) (word_bytes start (place ++ big_endian width v ++ back))).0 word in
-    let told_too = (bytes_eq-Decides (drop n bytes) (word_bytes start (place ++ big_endian width w ++ back))).0 word_too in
-    let same : check_word start (place ++ (big_endian width v ++ back)) ≡ check_word start (place ++ (big_endian width w ++ back)) =
+    let told_too =
+    (bytes_eq-Decides (drop n bytes) (word_bytes start (place ++ big_endian width w ++ back))).0 word_too in
+    let same : check_word start (place ++ (big_endian width v ++ back))
+    ≡ check_word start (place ++ (big_endian width w ++ back)) =
     ap (check_word start) (sym (append_assoc place (big_endian width v) back))
-    ∙ word_bytes-injective start (place ++ big_endian width v ++ back) (place ++ big_endian width w ++ back) (sym told ∙ told_too)
+    ∙ word_bytes-injective start (place ++ big_endian width v ++ back) (place ++ big_endian width w ++ back)
+    (sym told ∙ told_too)
     ∙ ap (check_word start) (append_assoc place (big_endian width w) back) in
     elim (cases_eq v w) [
       | inl equal ↦ equal
@@ -152,12 +191,18 @@ words_told wide false start v w place bytes fit fit_too word word_too carried ca
     ]
 
 -- C-states of one place that fit the same bytes have one word of members
-pub set_bits-told : (wide : Bool) (bytes : List ℕ) (header size start : ℕ) (c d : CState) → joined_place c ≡ joined_place d → HaveRoom wide c.members → HaveRoom wide d.members
-    → fits (member_bytes wide) bytes header size start c ≡ true → fits (member_bytes wide) bytes header size start d ≡ true → set_bits c.members ≡ set_bits d.members
+pub set_bits-told : (wide : Bool) (bytes : List ℕ) (header size start : ℕ) (c d : CState)
+    → joined_place c ≡ joined_place d → HaveRoom wide c.members → HaveRoom wide d.members
+    → fits (member_bytes wide) bytes header size start c ≡ true
+    → fits (member_bytes wide) bytes header size start d ≡ true → set_bits c.members ≡ set_bits d.members
 set_bits-told wide bytes header size start c d place room room_too fit fit_too =
     words_told wide (is_explicit header) start (set_bits c.members) (set_bits d.members) (before c) bytes room room_too
-    one.word (subst (λ (p : List ℕ). has_word start (if is_explicit header then [] else p ++ big_endian width (set_bits d.members)) bytes ≡ true) at other.word)
-    one.carried (subst (λ (p : List ℕ). carries (if is_explicit header then p ++ big_endian width (set_bits d.members) else []) bytes ≡ true) at other.carried)
+    one.word (subst
+    (λ (p : List ℕ). has_word start
+    (if is_explicit header then [] else p ++ big_endian width (set_bits d.members)) bytes ≡ true) at other.word)
+    one.carried (subst
+    (λ (p : List ℕ). carries (if is_explicit header then p ++ big_endian width (set_bits d.members) else []) bytes
+    ≡ true) at other.carried)
   where
     width : ℕ
     width = member_bytes wide
@@ -175,20 +220,30 @@ set_bits-told wide bytes header size start c d place room room_too fit fit_too =
     other = parts_of width bytes header size start d fit_too
 
 -- C-states of one place that fit the same bytes have the same members.
-pub members_told : (wide : Bool) (bytes : List ℕ) (header size start : ℕ) (c d : CState) → joined_place c ≡ joined_place d → HavePlaces wide c.members → HavePlaces wide d.members
-    → fits (member_bytes wide) bytes header size start c ≡ true → fits (member_bytes wide) bytes header size start d ≡ true → c.members ≡ d.members
+pub members_told : (wide : Bool) (bytes : List ℕ) (header size start : ℕ) (c d : CState)
+    → joined_place c ≡ joined_place d → HavePlaces wide c.members → HavePlaces wide d.members
+    → fits (member_bytes wide) bytes header size start c ≡ true
+    → fits (member_bytes wide) bytes header size start d ≡ true → c.members ≡ d.members
 members_told wide bytes header size start c d place has has_too fit fit_too =
-    sym has.set ∙ ap members_in (set_bits-told wide bytes header size start c d place has.room has_too.room fit fit_too) ∙ has_too.set
+    sym has.set ∙ ap members_in (set_bits-told wide bytes header size start c d place has.room has_too.room fit fit_too)
+    ∙ has_too.set
 
 -- So of C-states that differ in members alone, none but one matches.
-pub other_members_never_fit : (found : FrameMatch) (wide : Bool) (bytes : List ℕ) (header size start : ℕ) (c : CState) → found ≡ match_of wide bytes header size start c
-    → HaveRoom wide c.members → (members : List ℕ) → HaveRoom wide members → set_bits members ≢ set_bits c.members → found ≡ Match
+pub other_members_never_fit : (found : FrameMatch) (wide : Bool) (bytes : List ℕ) (header size start : ℕ) (c : CState)
+    → found ≡ match_of wide bytes header size start c
+    → HaveRoom wide c.members → (members : List ℕ) → HaveRoom wide members → set_bits members ≢ set_bits c.members
+    → found ≡ Match
     → IsTrue (not (fits (member_bytes wide) bytes header size start (record c { members = members })))
 other_members_never_fit found wide bytes header size start c is room members room_too other match =
     ap not (false_from_ne_true (fits (member_bytes wide) bytes header size start (record c { members = members }))
-    (λ fit_too. other (sym (set_bits-told wide bytes header size start c (record c { members = members }) refl room room_too ((Match-fits found wide bytes header size start c is).0 match) fit_too))))
+    (λ fit_too. other
+    (sym (set_bits-told wide bytes header size start c (record c { members = members }) refl room room_too
+    ((Match-fits found wide bytes header size start c is).0 match) fit_too))))
 
-pub bursts_never_match : (found : FrameMatch) (wide : Bool) (bytes : List ℕ) (header size start : ℕ) (c : CState) → found ≡ match_of wide bytes header size start c
-    → (sender : List ℕ) → DifferWithin 24 sender bytes → IsTrue (fits (member_bytes wide) sender header size start c) → found ≢ Match
+pub bursts_never_match : (found : FrameMatch) (wide : Bool) (bytes : List ℕ) (header size start : ℕ) (c : CState)
+    → found ≡ match_of wide bytes header size start c
+    → (sender : List ℕ) → DifferWithin 24 sender bytes → IsTrue (fits (member_bytes wide) sender header size start c)
+    → found ≢ Match
 bursts_never_match found wide bytes header size start c is sender apart fit match =
-    bursts_never_fit (member_bytes wide) header size start c sender bytes fit apart ((Match-fits found wide bytes header size start c is).0 match)
+    bursts_never_fit (member_bytes wide) header size start c sender bytes fit apart
+    ((Match-fits found wide bytes header size start c is).0 match)

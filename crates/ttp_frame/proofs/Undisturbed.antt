@@ -26,18 +26,21 @@ bits_of_members-most true = omega arith
 bits_of_members-most false = omega arith
 
 -- a set with a word of a membership's bits has its places in the C-state
-pub HavePlaces-HasWord : (wide : Bool) (members : List ℕ) → HasWord (8 * member_bytes wide) members → HavePlaces wide members
+pub HavePlaces-HasWord : (wide : Bool) (members : List ℕ) → HasWord (8 * member_bytes wide) members
+    → HavePlaces wide members
 HavePlaces-HasWord wide members has = record {
   room = set_bits-small (8 * member_bytes wide) members has (bits_of_members-most wide);
   set = members_in-set_bits (8 * member_bytes wide) members has (bits_of_members-most wide);
 }
 
 -- so do nodes of a valid list
-pub HavePlaces-AreNodes : (list : Medl) (members : List ℕ) → IsValid list → AreNodes list members → HavePlaces (is_wide list) members
+pub HavePlaces-AreNodes : (list : Medl) (members : List ℕ) → IsValid list → AreNodes list members
+    → HavePlaces (is_wide list) members
 HavePlaces-AreNodes list members valid are =
     HavePlaces-HasWord (is_wide list) members
     (subst (HasWord (8 * member_bytes (is_wide list))) (sym are)
-    (HasWord-filter (8 * member_bytes (is_wide list)) (has_node members) (length list.slots) (omega (arith, valid.count)) (omega (arith, nodes-most list valid))))
+    (HasWord-filter (8 * member_bytes (is_wide list)) (has_node members) (length list.slots)
+    (omega (arith, valid.count)) (omega (arith, nodes-most list valid))))
 
 -- What a frame carries.
 
@@ -55,7 +58,8 @@ small_byte : (v : ℕ) → v < 256 → v % 256 ≡ v
 small_byte v small = omega arith
 
 -- the bytes of a C-state tell it, behind any header and before anything
-pub carried-cstate_bytes : (wide : Bool) (header : ℕ) (c : CState) (rest : List ℕ) → FitsBytes wide c → carried (member_bytes wide) (header ∷ (cstate_bytes (member_bytes wide) c ++ rest)) ≡ c
+pub carried-cstate_bytes : (wide : Bool) (header : ℕ) (c : CState) (rest : List ℕ) → FitsBytes wide c
+    → carried (member_bytes wide) (header ∷ (cstate_bytes (member_bytes wide) c ++ rest)) ≡ c
 carried-cstate_bytes true header c rest fit = λ i. record {
   time = number_of_two c.time fit.time i;
   round = small_byte c.round fit.round i;
@@ -73,7 +77,8 @@ sent-explicit : (width header : ℕ) (c : CState) → is_explicit header ≡ tru
 sent-explicit width header c explicit = ap (λ e. if e then cstate_bytes width c else []) explicit
 
 -- an explicit frame carries its C-state
-pub carried-frame : (wide : Bool) (header : ℕ) (c : CState) (payload : List ℕ) (start : ℕ) → is_explicit header ≡ true → FitsBytes wide c
+pub carried-frame : (wide : Bool) (header : ℕ) (c : CState) (payload : List ℕ) (start : ℕ) → is_explicit header ≡ true
+    → FitsBytes wide c
     → carried (member_bytes wide) (frame (member_bytes wide) header c payload start) ≡ c
 carried-frame wide header c payload start explicit fit =
     ap (carried width) (frame-pieces width header c payload start)
@@ -88,9 +93,11 @@ carried-frame wide header c payload start explicit fit =
     word = word_bytes start (unsent width header c ++ front header (sent width header c) payload)
 
 -- and its payload in its place
-pub payload_in-frame : (width header : ℕ) (c : CState) (payload : List ℕ) (start : ℕ) → payload_in width header (length payload) (frame width header c payload start) ≡ payload
+pub payload_in-frame : (width header : ℕ) (c : CState) (payload : List ℕ) (start : ℕ)
+    → payload_in width header (length payload) (frame width header c payload start) ≡ payload
 payload_in-frame width header c payload start =
-    ap (λ n. take (length payload) (drop (1 + n) (frame width header c payload start))) (sym (length-sent width header c))
+    ap (λ n. take (length payload) (drop (1 + n) (frame width header c payload start)))
+    (sym (length-sent width header c))
     ∙ ap (λ bytes. take (length payload) (drop (1 + length piece) bytes)) (frame-pieces width header c payload start)
     ∙ ap (λ n. take (length payload) (drop n (header ∷ (piece ++ payload ++ word)))) places
     ∙ ap (λ bytes. take (length payload) (drop (length piece) bytes)) (append_assoc piece payload word)
@@ -109,21 +116,29 @@ payload_in-frame width header c payload start =
 -- What a frame fits.
 
 -- a frame fits its own C-state
-pub fits-frame : (width header : ℕ) (c : CState) (payload : List ℕ) (start : ℕ) → fits width (frame width header c payload start) header (length payload) start c ≡ true
+pub fits-frame : (width header : ℕ) (c : CState) (payload : List ℕ) (start : ℕ)
+    → fits width (frame width header c payload start) header (length payload) start c ≡ true
 fits-frame width header c payload start =
-    (bytes_eq-Decides _ _).1 (ap (λ p. frame width header c p start) (sym (payload_in-frame width header c payload start)))
+    (bytes_eq-Decides _ _).1
+    (ap (λ p. frame width header c p start) (sym (payload_in-frame width header c payload start)))
 
 -- so it is formed, and not where another header is expected
-pub is_formed-frame : (width header : ℕ) (c : CState) (payload : List ℕ) (start : ℕ) → is_formed width (frame width header c payload start) header (length payload) start ≡ true
+pub is_formed-frame : (width header : ℕ) (c : CState) (payload : List ℕ) (start : ℕ)
+    → is_formed width (frame width header c payload start) header (length payload) start ≡ true
 is_formed-frame width header c payload start =
-    is_formed-fits width (frame width header c payload start) header (length payload) start c (fits-frame width header c payload start)
+    is_formed-fits width (frame width header c payload start) header (length payload) start c
+    (fits-frame width header c payload start)
 
-pub is_formed-other : (width header : ℕ) (c : CState) (payload : List ℕ) (start expected size : ℕ) → header ≢ expected → is_formed width (frame width header c payload start) expected size start ≡ false
-is_formed-other width header c payload start expected size other = and_right _ _ (and_left _ _ (ne_eqb header expected other))
+pub is_formed-other : (width header : ℕ) (c : CState) (payload : List ℕ) (start expected size : ℕ) → header ≢ expected
+    → is_formed width (frame width header c payload start) expected size start ≡ false
+is_formed-other width header c payload start expected size other =
+    and_right _ _ (and_left _ _ (ne_eqb header expected other))
 
 -- An explicit frame fits the C-state that it carries, and no other.
-pub fits-explicit : (wide : Bool) (header : ℕ) (c d : CState) (payload : List ℕ) (start : ℕ) → is_explicit header ≡ true → FitsBytes wide c → FitsBytes wide d
-    → Decides (fits (member_bytes wide) (frame (member_bytes wide) header c payload start) header (length payload) start d) (c ≡ d)
+pub fits-explicit : (wide : Bool) (header : ℕ) (c d : CState) (payload : List ℕ) (start : ℕ) → is_explicit header ≡ true
+    → FitsBytes wide c → FitsBytes wide d
+    → Decides (fits (member_bytes wide) (frame (member_bytes wide) header c payload start) header
+    (length payload) start d) (c ≡ d)
 fits-explicit wide header c d payload start explicit fit fit_too = (there, back)
   where
     width : ℕ
@@ -132,10 +147,12 @@ fits-explicit wide header c d payload start explicit fit fit_too = (there, back)
     bytes : List ℕ
     bytes = frame width header c payload start
 
-    state : (e : CState) → fits width bytes header (length payload) start e ≡ true → take (carried_length width header) (drop 1 bytes) ≡ cstate_bytes width e
+    state : (e : CState) → fits width bytes header (length payload) start e ≡ true
+        → take (carried_length width header) (drop 1 bytes) ≡ cstate_bytes width e
     state e told =
         ap (λ n. take n (drop 1 bytes)) (sym (length-sent width header e))
-        ∙ (bytes_eq-Decides (take (length (sent width header e)) (drop 1 bytes)) (sent width header e)).0 (parts_of width bytes header (length payload) start e told).carried
+        ∙ (bytes_eq-Decides (take (length (sent width header e)) (drop 1 bytes)) (sent width header e)).0
+        (parts_of width bytes header (length payload) start e told).carried
         ∙ sent-explicit width header e explicit
 
     alone : (e : CState) → FitsBytes wide e → carried width (0 ∷ (cstate_bytes width e ++ [])) ≡ e
@@ -144,15 +161,18 @@ fits-explicit wide header c d payload start explicit fit fit_too = (there, back)
     there : fits width bytes header (length payload) start d ≡ true → c ≡ d
     there told =
         sym (alone c fit)
-        ∙ ap (λ bs. carried width (0 ∷ (bs ++ []))) (sym (state c (fits-frame width header c payload start)) ∙ state d told)
+        ∙ ap (λ bs. carried width (0 ∷ (bs ++ [])))
+        (sym (state c (fits-frame width header c payload start)) ∙ state d told)
         ∙ alone d fit_too
 
     back : c ≡ d → fits width bytes header (length payload) start d ≡ true
     back same = ap (fits width bytes header (length payload) start) (sym same) ∙ fits-frame width header c payload start
 
 -- A frame of any kind fits the C-state that it was made of, and no other of the same place.
-pub fits-same_place : (wide : Bool) (header : ℕ) (c d : CState) (payload : List ℕ) (start : ℕ) → joined_place c ≡ joined_place d → HavePlaces wide c.members → HavePlaces wide d.members
-    → Decides (fits (member_bytes wide) (frame (member_bytes wide) header c payload start) header (length payload) start d) (c ≡ d)
+pub fits-same_place : (wide : Bool) (header : ℕ) (c d : CState) (payload : List ℕ) (start : ℕ)
+    → joined_place c ≡ joined_place d → HavePlaces wide c.members → HavePlaces wide d.members
+    → Decides (fits (member_bytes wide) (frame (member_bytes wide) header c payload start) header
+    (length payload) start d) (c ≡ d)
 fits-same_place wide header c d payload start place has has_too = (there, back)
   where
     width : ℕ
@@ -163,7 +183,9 @@ fits-same_place wide header c d payload start place has has_too = (there, back)
 
     there : fits width bytes header (length payload) start d ≡ true → c ≡ d
     there told =
-        let members = members_told wide bytes header (length payload) start c d place has has_too (fits-frame width header c payload start) told in
+        let members =
+        members_told wide bytes header (length payload) start c d place has has_too
+        (fits-frame width header c payload start) told in
         λ i. record { time = (place i).time; round = (place i).round; slot = (place i).slot; members = members i }
 
     back : c ≡ d → fits width bytes header (length payload) start d ≡ true

@@ -1,6 +1,6 @@
 -- What hosts do in a slot, of what lies at its key.
-use Rattle.std.proofs.Common.{◌≡◌, ℕ, suc, ◌+◌, Bool, true, false, cond, List, [], ◌∷◌, ◌++◌, length, Option, Some, None}
-use Rattle.std.proofs.Common.{refl, ap, sym, ◌∙◌, append_assoc, add-zero, length-append, arith}
+use Rattle.std.proofs.Common.{◌≡◌, ℕ, suc, ◌+◌, Bool, true, false, cond, List, [], ◌∷◌, ◌++◌, length, Option, Some}
+use Rattle.std.proofs.Common.{None, refl, ap, sym, ◌∙◌, append_assoc, add-zero, length-append, arith}
 use Rattle.std.specs.Prelude.{◌==◌, map, slice_get, option_and_then}
 use Rattle.std.specs.List.{filter, filter_map, cons_option}
 use Rattle.ttp_world.specs.declared.host_lines.HostRead.{HostRead}

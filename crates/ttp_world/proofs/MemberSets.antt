@@ -32,7 +32,8 @@ taken_out true false = refl
 taken_out false true = refl
 taken_out false false = refl
 
-doubt_settled : (here doubted held : Bool) → (here || (held && not doubted)) ≡ unwrap_or (cond here (Some true) (cond doubted (Some false) None)) held
+doubt_settled : (here doubted held : Bool)
+    → (here || (held && not doubted)) ≡ unwrap_or (cond here (Some true) (cond doubted (Some false) None)) held
 doubt_settled true doubted held = refl
 doubt_settled false doubted held = taken_out doubted held
 
@@ -57,18 +58,23 @@ taken_out-filter members n k are =
     ap (λ s. without_node s k) are ∙ without_node-filter (has_node members) n k
     ∙ same_sieve (λ j. has_node members j && not (j == k)) _ n (λ j _. taken_out (j == k) (has_node members j))
 
-doubt_settled-filter : (members : List ℕ) (n x k : ℕ) → members ≡ filter (has_node members) (below n) → k < n → n ≤ most_nodes
-    → with_node (without_node members x) k ≡ filter (λ j. unwrap_or (cond (j == k) (Some true) (cond (x == j) (Some false) None)) (has_node members j)) (below n)
+doubt_settled-filter : (members : List ℕ) (n x k : ℕ) → members ≡ filter (has_node members) (below n) → k < n
+    → n ≤ most_nodes
+    → with_node (without_node members x) k
+    ≡ filter (λ j. unwrap_or (cond (j == k) (Some true) (cond (x == j) (Some false) None)) (has_node members j))
+    (below n)
 doubt_settled-filter members n x k are within fits =
     ap (λ s. with_node (without_node s x) k) are
     ∙ ap (λ s. with_node s k) (without_node-filter (has_node members) n x)
     ∙ with_node-filter (λ j. has_node members j && not (j == x)) n k within fits
     ∙ same_sieve (λ j. (j == k) || (has_node members j && not (j == x))) _ n
-    (λ j _. ap (λ same. (j == k) || (has_node members j && not same)) (eqb_comm j x) ∙ doubt_settled (j == k) (x == j) (has_node members j))
+    (λ j _. ap (λ same. (j == k) || (has_node members j && not same)) (eqb_comm j x)
+    ∙ doubt_settled (j == k) (x == j) (has_node members j))
 
 -- The entries that speak of nodes.
 
-pub members_after-Started : (list : Medl) (k : ℕ) (members : List ℕ) (a : Ack) → k < length list.slots → length list.slots ≤ most_nodes
+pub members_after-Started : (list : Medl) (k : ℕ) (members : List ℕ) (a : Ack) → k < length list.slots
+    → length list.slots ≤ most_nodes
     → with_node [] k ≡ members_after list k members a entry.Started
 members_after-Started list k members a within fits =
     let n = length list.slots in
@@ -79,16 +85,26 @@ members_after-Started list k members a within fits =
 pub members_after-Sent : (list : Medl) (k : ℕ) (members : List ℕ) (a : Ack) (message : Option ℕ) → AreNodes list members
     → k < length list.slots → length list.slots ≤ most_nodes
     → with_node members k ≡ members_after list k members a (entry.Sent message)
-members_after-Sent list k members a message are within fits = put_in-filter members (length list.slots) k are within fits
+members_after-Sent list k members a message are within fits =
+    put_in-filter members (length list.slots) k are within fits
 
-pub members_after-Judged : (list : Medl) (k : ℕ) (members : List ℕ) (a : Ack) (sender : ℕ) (v : Verdict) (deviation : ℤ) → AreNodes list members
+pub members_after-Judged : (list : Medl) (k : ℕ) (members : List ℕ) (a : Ack) (sender : ℕ) (v : Verdict) (deviation : ℤ)
+    → AreNodes list members
     → sender < length list.slots → length list.slots ≤ most_nodes
     → judged_members members a v sender ≡ members_after list k members a (entry.Judged sender v deviation)
-members_after-Judged list k members (ack.Doubt x) sender verdict.Correct deviation are within fits = doubt_settled-filter members (length list.slots) x sender are within fits
-members_after-Judged list k members ack.Closed sender verdict.Correct deviation are within fits = put_in-filter members (length list.slots) sender are within fits
-members_after-Judged list k members ack.First sender verdict.Correct deviation are within fits = put_in-filter members (length list.slots) sender are within fits
-members_after-Judged list k members a sender verdict.Tentative deviation are within fits = put_in-filter members (length list.slots) sender are within fits
-members_after-Judged list k members a sender verdict.Null deviation are within fits = taken_out-filter members (length list.slots) sender are
-members_after-Judged list k members a sender verdict.Invalid deviation are within fits = taken_out-filter members (length list.slots) sender are
-members_after-Judged list k members a sender verdict.Incorrect deviation are within fits = taken_out-filter members (length list.slots) sender are
-members_after-Judged list k members a sender verdict.Denied deviation are within fits = taken_out-filter members (length list.slots) sender are
+members_after-Judged list k members (ack.Doubt x) sender verdict.Correct deviation are within fits =
+    doubt_settled-filter members (length list.slots) x sender are within fits
+members_after-Judged list k members ack.Closed sender verdict.Correct deviation are within fits =
+    put_in-filter members (length list.slots) sender are within fits
+members_after-Judged list k members ack.First sender verdict.Correct deviation are within fits =
+    put_in-filter members (length list.slots) sender are within fits
+members_after-Judged list k members a sender verdict.Tentative deviation are within fits =
+    put_in-filter members (length list.slots) sender are within fits
+members_after-Judged list k members a sender verdict.Null deviation are within fits =
+    taken_out-filter members (length list.slots) sender are
+members_after-Judged list k members a sender verdict.Invalid deviation are within fits =
+    taken_out-filter members (length list.slots) sender are
+members_after-Judged list k members a sender verdict.Incorrect deviation are within fits =
+    taken_out-filter members (length list.slots) sender are
+members_after-Judged list k members a sender verdict.Denied deviation are within fits =
+    taken_out-filter members (length list.slots) sender are

@@ -33,7 +33,8 @@ one_if-within n false some = within-none n
 -- All numbers of weights.
 
 counts-wider : (m n : ℕ) (c : Counts) → m ≤ n → AreWithinCounts m c → AreWithinCounts n c
-counts-wider m n c wider within = record { a = within-wider m n c.a wider within.a; b = within-wider m n c.b wider within.b }
+counts-wider m n c wider within =
+    record { a = within-wider m n c.a wider within.a; b = within-wider m n c.b wider within.b }
 
 pub AreWithin-wider : (m n : ℕ) (w : Weights) → m ≤ n → AreWithin m w → AreWithin n w
 AreWithin-wider m n w wider within = record {
@@ -49,8 +50,10 @@ AreWithin-wider m n w wider within = record {
   };
 }
 
-counts-added : (m n : ℕ) (c d : Counts) → AreWithinCounts m c → AreWithinCounts n d → AreWithinCounts (m + n) (added_counts c d)
-counts-added m n c d first second = record { a = within-added m n c.a d.a first.a second.a; b = within-added m n c.b d.b first.b second.b }
+counts-added : (m n : ℕ) (c d : Counts) → AreWithinCounts m c → AreWithinCounts n d
+    → AreWithinCounts (m + n) (added_counts c d)
+counts-added m n c d first second =
+    record { a = within-added m n c.a d.a first.a second.a; b = within-added m n c.b d.b first.b second.b }
 
 pub AreWithin-added : (m n : ℕ) (v w : Weights) → AreWithin m v → AreWithin n w → AreWithin (m + n) (added v w)
 AreWithin-added m n v w first second = record {
@@ -102,9 +105,11 @@ AreWithin-none n = record {
 -- One event.
 
 counts-chosen : (n : ℕ) (meant : Bool) (channels : Channels) → 1 ≤ n → AreWithinCounts n (chosen_counts meant channels)
-counts-chosen n meant channels some = record { a = one_if-within n (meant && channels.a) some; b = one_if-within n (meant && channels.b) some }
+counts-chosen n meant channels some =
+    record { a = one_if-within n (meant && channels.a) some; b = one_if-within n (meant && channels.b) some }
 
-made : (n : ℕ) (w : Weights) → AreWithinCounts n w.send_silence → AreWithinCounts n w.send_noise → AreWithinCounts n w.receive_silence
+made : (n : ℕ) (w : Weights) → AreWithinCounts n w.send_silence → AreWithinCounts n w.send_noise
+    → AreWithinCounts n w.receive_silence
     → AreWithinCounts n w.receive_noise → AreWithinCounts n w.flips → AreWithinSums n w.sums → AreWithin n w
 made n w send_silence send_noise receive_silence receive_noise flips sums = record {
   send_silence = send_silence;
@@ -118,15 +123,19 @@ made n w send_silence send_noise receive_silence receive_noise flips sums = reco
 pub weights_of-within : (e : Event) → IsBounded e → AreWithin JUMP_LIMIT (weights_of e)
 weights_of-within (event.Send node channels f from to) bounded =
     let none = counts-none JUMP_LIMIT in
-    made JUMP_LIMIT (weights_of (event.Send node channels f from to)) (counts-chosen JUMP_LIMIT (is_same_fault f fault.Silence) channels (omega arith))
-    (counts-chosen JUMP_LIMIT (is_same_fault f fault.Noise) channels (omega arith)) none none none (sums-none JUMP_LIMIT)
+    made JUMP_LIMIT (weights_of (event.Send node channels f from to))
+    (counts-chosen JUMP_LIMIT (is_same_fault f fault.Silence) channels (omega arith))
+    (counts-chosen JUMP_LIMIT (is_same_fault f fault.Noise) channels (omega arith)) none none none
+    (sums-none JUMP_LIMIT)
 weights_of-within (event.Receive node channels f from to) bounded =
     let none = counts-none JUMP_LIMIT in
-    made JUMP_LIMIT (weights_of (event.Receive node channels f from to)) none none (counts-chosen JUMP_LIMIT (is_same_fault f fault.Silence) channels (omega arith))
+    made JUMP_LIMIT (weights_of (event.Receive node channels f from to)) none none
+    (counts-chosen JUMP_LIMIT (is_same_fault f fault.Silence) channels (omega arith))
     (counts-chosen JUMP_LIMIT (is_same_fault f fault.Noise) channels (omega arith)) none (sums-none JUMP_LIMIT)
 weights_of-within (event.Flip node channels bit slot) bounded =
     let none = counts-none JUMP_LIMIT in
-    made JUMP_LIMIT (weights_of (event.Flip node channels bit slot)) none none none none (counts-chosen JUMP_LIMIT true channels (omega arith)) (sums-none JUMP_LIMIT)
+    made JUMP_LIMIT (weights_of (event.Flip node channels bit slot)) none none none none
+    (counts-chosen JUMP_LIMIT true channels (omega arith)) (sums-none JUMP_LIMIT)
 weights_of-within (event.Error node value from to) bounded =
     let none = counts-none JUMP_LIMIT in
     let zero = within-none JUMP_LIMIT in
@@ -135,10 +144,12 @@ weights_of-within (event.Error node value from to) bounded =
 weights_of-within (event.Jump node value slot) bounded =
     let none = counts-none JUMP_LIMIT in
     let zero = within-none JUMP_LIMIT in
-    made JUMP_LIMIT (weights_of (event.Jump node value slot)) none none none none none (record { arms = zero; error = zero; jump = bounded })
+    made JUMP_LIMIT (weights_of (event.Jump node value slot)) none none none none none
+    (record { arms = zero; error = zero; jump = bounded })
 weights_of-within (event.Arm node slot) bounded =
     let none = counts-none JUMP_LIMIT in
     let zero = within-none JUMP_LIMIT in
-    made JUMP_LIMIT (weights_of (event.Arm node slot)) none none none none none (record { arms = one_if-within JUMP_LIMIT true (omega arith); error = zero; jump = zero })
+    made JUMP_LIMIT (weights_of (event.Arm node slot)) none none none none none
+    (record { arms = one_if-within JUMP_LIMIT true (omega arith); error = zero; jump = zero })
 weights_of-within (event.Write node slot payload) bounded = AreWithin-none JUMP_LIMIT
 weights_of-within (event.Read node slot from) bounded = AreWithin-none JUMP_LIMIT

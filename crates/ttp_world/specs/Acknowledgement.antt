@@ -53,7 +53,10 @@ ack_since _ entries = if list_any is_judged_correct entries then ack.Closed else
 -- the acknowledgement after a diary
 abbrev pub ack_of : Diary → Ack
 ack_of diary =
-    elim (is_active diary) [ true ↦ ack_since (newest_sent_or_joined diary) (since_sent_or_joined diary) | false ↦ ack.Closed ]
+    elim (is_active diary) [
+      | true ↦ ack_since (newest_sent_or_joined diary) (since_sent_or_joined diary)
+      | false ↦ ack.Closed
+    ]
 
 abbrev pub is_open : Ack → Bool
 is_open ack.Closed = false

@@ -12,7 +12,8 @@ use Rattle.ttp_world.specs.Diary.{begins_stint, Place, ends_round, stint_place, 
 use Rattle.ttp_world.specs.Medl.{plan_at}
 use Rattle.ttp_world.specs.Script.{sum_ℤ}
 
--- The notes of a round: the deviation of each correct frame, and 0 for its own frame and for a join, in slots with sync.
+-- The notes of a round: the deviation of each correct frame, and 0 for its own frame and for a join,
+-- in slots with sync.
 
 abbrev pub deviation_noted : Entry → Option ℤ
 deviation_noted entry.Started = Some (pos 0)
@@ -64,7 +65,10 @@ is_corrected list phase place = is_active_phase phase && ends_round list place
 -- what the newest slot of node k's diary corrects
 abbrev pub correction_of : Medl → ℕ → Diary → ℤ
 correction_of list k diary =
-    elim (is_corrected list (phase_of diary) (place_of list k diary)) [ true ↦ fta (notes_of list k diary) | false ↦ pos 0 ]
+    elim (is_corrected list (phase_of diary) (place_of list k diary)) [
+      | true ↦ fta (notes_of list k diary)
+      | false ↦ pos 0
+    ]
 
 -- The clock.
 

@@ -49,7 +49,8 @@ own_cstate list k past = cstate_at (coming_place list past) (with_node past.memb
 abbrev pub own_frame : Medl → ℕ → NodePast → Chosen → List ℕ
 own_frame list k past chosen =
     let place = coming_place list past in
-    frame (member_width list) (header_of (kind_at list place.round place.slot)) (own_cstate list k past) (payload_sent list place chosen) list.schedule
+    frame (member_width list) (header_of (kind_at list place.round place.slot)) (own_cstate list k past)
+    (payload_sent list place chosen) list.schedule
 
 -- the frame that node k sends by what it does, if it sends one
 abbrev pub node_frames : Medl → ℕ → NodePast → Chosen → Act → List SentFrame
@@ -84,7 +85,8 @@ judging_entry list k past h =
     let view_a = view_of list (expected_of list k past) h.deviation h.a in
     let view_b = view_of list (expected_of list k past) h.deviation h.b in
     verdict_entry (coming_place list past).slot (verdict_of view_a view_b past.ack)
-    (entry_deviation (is_taken_from_a view_a view_b) (heard_deviation h.deviation h.a) (heard_deviation h.deviation h.b))
+    (entry_deviation (is_taken_from_a view_a view_b) (heard_deviation h.deviation h.a)
+    (heard_deviation h.deviation h.b))
 
 -- the entry of node k by what it does
 abbrev pub new_entry : Medl → ℕ → NodePast → Chosen → Hearing → Act → Entry

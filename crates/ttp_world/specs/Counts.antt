@@ -31,7 +31,10 @@ is_rejecting _ a = false
 abbrev pub rejected_since : Diary → ℕ
 rejected_since [] = 0
 rejected_since (e ∷ diary) =
-    elim (is_sent_or_joined e) [ true ↦ 0 | false ↦ (if is_rejecting e (ack_of diary) then 1 else 0) + rejected_since diary ]
+    elim (is_sent_or_joined e) [
+      | true ↦ 0
+      | false ↦ (if is_rejecting e (ack_of diary) then 1 else 0) + rejected_since diary
+    ]
 
 abbrev pub rejected_of : Diary → ℕ
 rejected_of diary = elim (is_active diary) [ true ↦ rejected_since diary | false ↦ 0 ]

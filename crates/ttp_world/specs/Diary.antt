@@ -3,7 +3,8 @@
 -- Time goes forward by one entry at a time, so the newest comes first: in a diary, in the surroundings beside it, and
 -- in a history, which has for each slot the entries of all nodes in their order.
 --
--- An `elim` on a test is an `if` of which only the part that holds is computed, so that a reading of a diary stops there.
+-- An `elim` on a test is an `if` of which only the part that holds is computed, so that a reading
+-- of a diary stops there.
 use Rattle.std.specs.Prelude.{ℕ, suc, ◌+◌, ◌%◌, ℤ, Bool, true, false, not, ◌||◌, ◌==◌, List, [], ◌∷◌, map, length}
 use Rattle.std.specs.Prelude.{get_or, if◌then◌else◌}
 use Rattle.ttp_world.specs.declared.medl.Medl.{Medl}

@@ -70,7 +70,8 @@ is_cold_start list bytes c =
 abbrev pub is_listed_explicit : Medl → List ℕ → CState → Bool
 is_listed_explicit list bytes c =
     is_explicit (header_of (kind_at list c.round c.slot))
-    && is_formed (member_width list) bytes (header_of (kind_at list c.round c.slot)) (payload_length list c.round c.slot) list.schedule
+    && is_formed (member_width list) bytes (header_of (kind_at list c.round c.slot))
+    (payload_length list c.round c.slot) list.schedule
 
 abbrev pub joinable_cstate : Medl → List ℕ → CState → Option CState
 joinable_cstate list bytes c =

@@ -37,7 +37,9 @@ errors_hold_in list script slot =
 
 abbrev pub clocks_broken : Medl → Script → Option ℕ
 clocks_broken list script =
-    if drifts_hold list script then find (λ slot. not (errors_hold_in list script slot)) (below script.slots) else Some 0
+    if drifts_hold list script
+    then find (λ slot. not (errors_hold_in list script slot)) (below script.slots)
+    else Some 0
 
 -- The window (H2): it is as wide as a deviation between correct nodes needs.
 
@@ -52,7 +54,8 @@ needed list = drift_share list +ℤ (list.error *ℤ pos 3 +ℤ pos 1)
 abbrev pub window_broken : Medl → Option ℕ
 window_broken list = if int_le (needed list) list.window then None else Some 0
 
--- What stands outside (H3): no bit is flipped, no node is armed, and a clock jumps at most once, by four windows or more.
+-- What stands outside (H3): no bit is flipped, no node is armed, and a clock jumps at most once,
+-- by four windows or more.
 
 abbrev pub four_windows : Medl → ℤ
 four_windows list = list.window *ℤ pos 4
@@ -90,8 +93,8 @@ least_of (n ∷ ns) = lesser n (least_of ns)
 abbrev pub outside_broken : Medl → Script → Option ℕ
 outside_broken list script = least_of (filter_map (outside_slot list script) script.events)
 
--- The start (H4): one starter alone reaches the first slot in which one would start, and each node that is ever on is on
--- by then.
+-- The start (H4): one starter alone reaches the first slot in which one would start, and each node that is ever on is
+-- on by then.
 
 -- the slot of the start, and the node that starts
 pub record ClusterStart : Type 0 where
@@ -121,14 +124,16 @@ only_starter slot (k ∷ j ∷ ks) = None
 abbrev pub start_in : Medl → Script → Option ℕ → Option ClusterStart
 start_in list script None = None
 start_in list script (Some slot) =
-    if are_all_on list script slot then only_starter slot (filter (starts_in list script slot) (nodes_of list)) else None
+    if are_all_on list script slot
+    then only_starter slot (filter (starts_in list script slot) (nodes_of list))
+    else None
 
 -- the start, where the rule holds
 abbrev pub start_of : Medl → Script → Option ClusterStart
 start_of list script = start_in list script (least_of (filter_map (start_slot list script) (nodes_of list)))
 
--- Losses (H5): a node whose clock jumps becomes faulty, and in each slot from the start on nobody loses the frame, or all
--- others do, or exactly one of them.
+-- Losses (H5): a node whose clock jumps becomes faulty, and in each slot from the start on nobody loses the frame, or
+-- all others do, or exactly one of them.
 
 abbrev pub expected_sender : Medl → ClusterStart → ℕ → ℕ
 expected_sender list start slot = (start.node + (slot - start.slot)) % length list.slots
@@ -273,7 +278,8 @@ started_keep list script (Some start) =
 abbrev pub keeps : Medl → Script → Keep
 keeps list script =
     unless 1 (clocks_broken list script)
-    (unless 2 (window_broken list) (unless 3 (outside_broken list script) (started_keep list script (start_of list script))))
+    (unless 2 (window_broken list)
+    (unless 3 (outside_broken list script) (started_keep list script (start_of list script))))
 
 -- Faulty and correct nodes.
 

@@ -64,11 +64,13 @@ is_within_window list deviation = int_le (neg_ℤ list.window) deviation && int_
 
 abbrev pub is_expected_form : Medl → Expected → List ℕ → Bool
 is_expected_form list expected bytes =
-    is_formed (member_width list) bytes (expected_header list expected.place) (expected_length list expected.place) list.schedule
+    is_formed (member_width list) bytes (expected_header list expected.place)
+    (expected_length list expected.place) list.schedule
 
 abbrev pub fits_members : Medl → Expected → List ℕ → List ℕ → Bool
 fits_members list expected bytes members =
-    fits (member_width list) bytes (expected_header list expected.place) (expected_length list expected.place) list.schedule
+    fits (member_width list) bytes (expected_header list expected.place)
+    (expected_length list expected.place) list.schedule
     (cstate_at expected.place members)
 
 abbrev pub fits_second : Medl → Expected → List ℕ → Bool

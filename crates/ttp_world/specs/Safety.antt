@@ -56,7 +56,8 @@ is_gone list script history faulty =
 
 abbrev pub members_agree : Medl → Script → History → Bool
 members_agree list script history =
-    list_all (λ j. list_all (are_same_members list history j) (settled_nodes list script history)) (settled_nodes list script history)
+    list_all (λ j. list_all (are_same_members list history j) (settled_nodes list script history))
+    (settled_nodes list script history)
 
 abbrev pub senders_are_members : Medl → Script → History → Bool
 senders_are_members list script history =

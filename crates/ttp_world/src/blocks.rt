@@ -1,18 +1,16 @@
 //! Where the steps of a node and slot are looked for.
-ghost use Rattle.std.specs.Prelude.{◌<◌};
-
-use crate::index::{Step, key_of};
+use crate::index::{NODE_KEYS, Step};
 use std::alloc::Global;
 use ttp_base::{List, Memory};
 
 /// How many slots of a node a block has.
-const BLOCK_SLOTS: u32 = 64;
+const BLOCK_SLOTS: u64 = 32;
 
 /// How many blocks a node has. The last one goes on past the longest run.
-const NODE_BLOCKS: u32 = 313;
+const NODE_BLOCKS: u64 = 626;
 
 /// How many nodes have blocks.
-const NODES: u8 = 24;
+const NODES: u64 = 24;
 
 /// For blocks of slots of each node where their steps begin. It makes a search short, and no answer
 /// rests on it.
@@ -29,9 +27,8 @@ pub(crate) struct Between {
     pub(crate) to: usize,
 }
 
-// How many of the steps have keys below that of a node and slot.
-fn steps_before(steps: &[Step], node: u8, slot: u32) -> usize {
-    let key = key_of(node, slot);
+// How many of the steps have keys below this one.
+fn steps_below(steps: &[Step], key: u64) -> usize {
     steps.partition_point(|step| step.key < key)
 }
 
@@ -49,7 +46,7 @@ impl Blocks {
         if !steps.is_empty() {
             for node in 0..NODES {
                 for block in 0..NODE_BLOCKS {
-                    begins.push(steps_before(steps, node, block * BLOCK_SLOTS))?;
+                    begins.push(steps_below(steps, node * NODE_KEYS + block * BLOCK_SLOTS))?;
                 }
             }
             begins.push(steps.len())?;
@@ -57,16 +54,20 @@ impl Blocks {
         Ok(Blocks { begins })
     }
 
-    /// Where the steps of a node and slot lie among so many.
-    pub(crate) fn around(&self, node: u8, slot: u32, count: usize) -> Between {
-        let block = u32::from(node) * NODE_BLOCKS + (slot / BLOCK_SLOTS).min(NODE_BLOCKS - 1);
+    /// Between which places the steps with keys up to this one end.
+    pub(crate) fn around(&self, key: u64) -> Between {
+        let (node, slot) = (key / NODE_KEYS, key % NODE_KEYS);
+        let block = node * NODE_BLOCKS + (slot / BLOCK_SLOTS).min(NODE_BLOCKS - 1);
         let begins = self.begins.as_slice();
         match (begins.get(block as usize), begins.get(block as usize + 1)) {
             (Some(from), Some(to)) => Between {
                 from: *from,
                 to: *to,
             },
-            _ => Between { from: 0, to: count },
+            _ => Between {
+                from: 0,
+                to: usize::MAX,
+            },
         }
     }
 }

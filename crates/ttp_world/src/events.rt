@@ -100,8 +100,7 @@ impl Events {
         ensures bounds { AreBounded result }
     {
         let steps = self.index.steps.as_slice();
-        let between = self.index.blocks.around(node, slot, steps.len());
-        let place = steps_up_to(steps, between, key_of(node, slot));
+        let place = steps_up_to(steps, &self.index.blocks, key_of(node, slot));
         incidents_before(steps, place)
     }
 

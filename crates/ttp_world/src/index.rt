@@ -101,14 +101,16 @@ fn is_before(steps: &[Step], place: usize, key: u64) -> bool
     key < steps[place].key
 }
 
-/// How many steps have keys up to this one: few of them are looked at where that place lies between
-/// these.
-pub(crate) fn steps_up_to(steps: &[Step], between: Between, key: u64) -> usize
+/// How many steps have keys up to this one. With the blocks of the steps few of them are looked at.
+pub(crate) fn steps_up_to(steps: &[Step], blocks: &Blocks, key: u64) -> usize
     requires { IsNonDecreasingBy (λ step. step.key) steps.now }
     ensures bound { result ≤ length steps.now }
     ensures place { SplitsAt (step_is_by key) steps.now result }
 {
-    let place = place_between(steps, between, key);
+    if steps.is_empty() {
+        return 0;
+    }
+    let place = place_between(steps, blocks.around(key), key);
     if is_behind(steps, place, key) && is_before(steps, place, key) {
         place
     } else {

@@ -15,8 +15,11 @@ loop-number-preserved c =
     let cut = c.split_at.ensures.back_len in
     let copied = c.in_ok-words.ensures.items_if_clones_equal (λ x y same. same) in (
       rest_shorter (length numbers) i width (length c.split_at.result.1.now) inside (omega arith),
-      pair_next numbers rest c.split_at.result.1.now i width (slice_index numbers i) c.in_ok-words.words.items c.loop-number.pairs.items c.push_reserved.new.self.items
-          (pairs_of numbers c.args.words.now width) inside c.loop-number.invariant.1 refl (copied ∙ c.split_at.ensures.front) c.split_at.ensures.back c.push_reserved.ensures.items,
+      pair_next numbers rest c.split_at.result.1.now i width
+          (slice_index numbers i) c.in_ok-words.words.items c.loop-number.pairs.items c.push_reserved.new.self.items
+          (pairs_of numbers c.args.words.now width) inside c.loop-number.invariant.1 refl
+          (copied ∙ c.split_at.ensures.front) c.split_at.ensures.back c.push_reserved.ensures.items,
       c.push_reserved.ensures.len ∙ ap (λ n. n + 1) c.loop-number.invariant.2,
-      (let room : length numbers ≤ _ = c.loop-number.invariant.3 in let same = c.push_reserved.ensures.capacity in omega arith),
+      (let room : length numbers ≤ _ = c.loop-number.invariant.3 in let same = c.push_reserved.ensures.capacity in omega
+          arith),
     )

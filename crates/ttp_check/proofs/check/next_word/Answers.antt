@@ -3,7 +3,8 @@ use Rattle.ttp_check.proofs.Words.{check_word-lt, check_word-step}
 use Rattle.ttp_check.proofs.check.next_word.Goals as goal
 
 pub returns-clause-fits : goal.returns-clause-fits
-returns-clause-fits c = rw (c.word_of.ensures, check_word-step c.args.word c.args.byte) (check_word-lt c.args.word (c.args.byte ∷ []))
+returns-clause-fits c =
+    rw (c.word_of.ensures, check_word-step c.args.word c.args.byte) (check_word-lt c.args.word (c.args.byte ∷ []))
 
 pub returns-clause-value : goal.returns-clause-value
 returns-clause-value c = rw c.word_of.ensures (check_word-step c.args.word c.args.byte)

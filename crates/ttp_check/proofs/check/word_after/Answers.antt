@@ -11,5 +11,6 @@ loop-byte-init c = record {
 pub loop-byte-preserved : goal.loop-byte-preserved
 loop-byte-preserved c = record {
   fits = c.next_word-word.ensures.fits;
-  value = check_word-more c.args.word c.loop-byte.word _ c.loop-byte.byte-index c.args.bytes.now c.loop-byte-test.true c.loop-byte.invariant.value c.next_word-word.ensures.value;
+  value = check_word-more c.args.word c.loop-byte.word _ c.loop-byte.byte-index c.args.bytes.now c.loop-byte-test.true
+      c.loop-byte.invariant.value c.next_word-word.ensures.value;
 }

@@ -15,8 +15,11 @@ loop-node-preserved c =
     let small : node < most_nodes = omega arith in
     elim c.if-word-node-eq1.branch [
       | then-word-node-eq1 w ↦
-          w.members-is ∙ w.with-members.ensures ∙ ap (λ s. with_node s node) c.loop-node.invariant ∙ with_node-next is_set node small (eq-eqb (bit_at c.args.word node) 1 w.if-word-node-eq1.true)
-      | else-word-node-eq1 w ↦ w.members-is ∙ c.loop-node.invariant ∙ filter-next is_set node small (ne_eqb (bit_at c.args.word node) 1 w.if-word-node-eq1.false)
+          w.members-is ∙ w.with-members.ensures ∙ ap (λ s. with_node s node) c.loop-node.invariant
+          ∙ with_node-next is_set node small (eq-eqb (bit_at c.args.word node) 1 w.if-word-node-eq1.true)
+      | else-word-node-eq1 w ↦
+          w.members-is ∙ c.loop-node.invariant
+          ∙ filter-next is_set node small (ne_eqb (bit_at c.args.word node) 1 w.if-word-node-eq1.false)
     ]
 
 pub returns : goal.returns

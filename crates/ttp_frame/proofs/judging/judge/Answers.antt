@@ -9,8 +9,12 @@ returns c =
     record {
       answer = is;
       matches = Match-fits c.found.result e.wide c.args.bytes.now e.header e.payload c.args.start c.args.cstate.now is;
-      differs = Differs-formed c.found.result e.wide c.args.bytes.now e.header e.payload c.args.start c.args.cstate.now is;
-      invalid = Invalid-formed c.found.result e.wide c.args.bytes.now e.header e.payload c.args.start c.args.cstate.now is;
-      told = other_members_never_fit c.found.result e.wide c.args.bytes.now e.header e.payload c.args.start c.args.cstate.now is c.requires.members;
-      bursts = bursts_never_match c.found.result e.wide c.args.bytes.now e.header e.payload c.args.start c.args.cstate.now is;
+      differs = Differs-formed c.found.result e.wide c.args.bytes.now e.header e.payload c.args.start
+          c.args.cstate.now is;
+      invalid = Invalid-formed c.found.result e.wide c.args.bytes.now e.header e.payload c.args.start
+          c.args.cstate.now is;
+      told = other_members_never_fit c.found.result e.wide c.args.bytes.now e.header e.payload c.args.start
+          c.args.cstate.now is c.requires.members;
+      bursts = bursts_never_match c.found.result e.wide c.args.bytes.now e.header e.payload c.args.start
+          c.args.cstate.now is;
     }

@@ -16,7 +16,8 @@ pub pair_up-requires : goal.pair_up-requires
 pair_up-requires c =
     let got : List Message = (reading_of c.reader.inside.seat.me.0).got in
     ap length (c.deref-2.ensures.value ∙ c.reader.invariant.words)
-    ∙ (words_count c.reader.inside.width got c.reader.invariant.wide ∙ ap (λ l. length l * c.reader.inside.width) (sym (c.deref.ensures.value ∙ c.reader.invariant.numbers)))
+    ∙ (words_count c.reader.inside.width got c.reader.invariant.wide
+    ∙ ap (λ l. length l * c.reader.inside.width) (sym (c.deref.ensures.value ∙ c.reader.invariant.numbers)))
 
 pub join_seat-requires : goal.join_seat-requires
 join_seat-requires c =
@@ -25,14 +26,19 @@ join_seat-requires c =
     let other = c.reader.inside.seat in
     let w : Writing = writing_of seat.me.0 in
     let y : Reading = reading_of other.me.0 in
-    let at = writer_table seat c.args.writer.now table.table_id c.self.inside.shape c.args.self.now c.writer.view_is c.self.view_is c.requires.own.0 in
-    let beside = reader_table other c.reader.inside.spare c.args.reader table.table_id c.self.inside.shape c.args.self.now c.reader.view_is c.self.view_is c.requires.own.1 in
+    let at =
+    writer_table seat c.args.writer.now table.table_id c.self.inside.shape c.args.self.now c.writer.view_is
+    c.self.view_is c.requires.own.0 in
+    let beside =
+    reader_table other c.reader.inside.spare c.args.reader table.table_id c.self.inside.shape c.args.self.now
+    c.reader.view_is c.self.view_is c.requires.own.1 in
     let words = c.self.invariant.2 in (
       at.0,
       beside.0,
       ap (λ m. m.1) c.reader.invariant.seated,
       omega arith,
-      joins table.key seat.id seat.me.0 w other.id other.me.0 y (view_is seat.me (Writer w) c.writer.invariant.seated) (view_is other.me (Reader y) c.reader.invariant.seated),
+      joins table.key seat.id seat.me.0 w other.id other.me.0 y (view_is seat.me (Writer w) c.writer.invariant.seated)
+          (view_is other.me (Reader y) c.reader.invariant.seated),
     )
 
 pub load-requires : goal.load-requires
@@ -43,12 +49,17 @@ load-requires c =
     let after = c.join_seat.new.seat in
     let w : Writing = writing_of seat.me.0 in
     let y : Reading = reading_of other.me.0 in
-    let at = writer_table seat c.args.writer.now table.table_id c.self.inside.shape c.args.self.now c.writer.view_is c.self.view_is c.requires.own.0 in
-    let joined = joined_next seat.me other.me after.me w y c.writer.invariant.seated c.reader.invariant.seated c.join_seat.ensures.2 in
+    let at =
+    writer_table seat c.args.writer.now table.table_id c.self.inside.shape c.args.self.now c.writer.view_is
+    c.self.view_is c.requires.own.0 in
+    let joined =
+    joined_next seat.me other.me after.me w y c.writer.invariant.seated c.reader.invariant.seated
+    c.join_seat.ensures.2 in
     let words = c.self.invariant.2 in (
       c.join_seat.ensures.0 ∙ at.0,
       omega arith,
-      settle_loads table.key table.table_id.slots after.id after.me (with_settled y w) (view_is after.me (Writer (with_settled y w)) joined),
+      settle_loads table.key table.table_id.slots after.id after.me (with_settled y w)
+          (view_is after.me (Writer (with_settled y w)) joined),
     )
 
 pub returns-clause-pairs : goal.returns-clause-pairs
@@ -56,21 +67,34 @@ returns-clause-pairs c =
     let got : List Message = (reading_of c.reader.inside.seat.me.0).got in
     let width : ℕ = c.reader.inside.width in
     c.in_ok-receipts.ensures
-    ∙ ((λ i. pairs_of ((c.deref.ensures.value ∙ c.reader.invariant.numbers) i) ((c.deref-2.ensures.value ∙ c.reader.invariant.words) i) width)
+    ∙ ((λ i. pairs_of ((c.deref.ensures.value ∙ c.reader.invariant.numbers) i)
+    ((c.deref-2.ensures.value ∙ c.reader.invariant.words) i) width)
     ∙ (pairs_again width got c.reader.invariant.wide ∙ ap (λ r. r.got) c.reader.view_is))
 
 pub returns-clause-whole : goal.returns-clause-whole
 returns-clause-whole c =
     let w : Writing = writing_of c.writer.inside.seat.me.0 in
     let y : Reading = reading_of c.reader.inside.seat.me.0 in
-    let joined = joined_next c.writer.inside.seat.me c.reader.inside.seat.me c.join_seat.new.seat.me w y c.writer.invariant.seated c.reader.invariant.seated c.join_seat.ensures.2 in
-    let confirmed = subst (Confirms c.load.result) (view_is c.join_seat.new.seat.me (Writer (with_settled y w)) joined) c.load.ensures.2.1 in
-    subst (λ (z : List (List ℕ) × List Message). All (IsMessageOf z.0) z.1) (λ i. ((c.writer.view_is i).messages, (c.reader.view_is i).got)) (told c.load.result w y c.writer.invariant.closed confirmed).0
+    let joined =
+    joined_next c.writer.inside.seat.me c.reader.inside.seat.me c.join_seat.new.seat.me w y c.writer.invariant.seated
+    c.reader.invariant.seated c.join_seat.ensures.2 in
+    let confirmed =
+    subst (Confirms c.load.result)
+    (view_is c.join_seat.new.seat.me (Writer (with_settled y w)) joined) c.load.ensures.2.1 in
+    subst (λ (z : List (List ℕ) × List Message). All (IsMessageOf z.0) z.1)
+    (λ i. ((c.writer.view_is i).messages, (c.reader.view_is i).got))
+    (told c.load.result w y c.writer.invariant.closed confirmed).0
 
 pub returns-clause-seen : goal.returns-clause-seen
 returns-clause-seen c =
     let w : Writing = writing_of c.writer.inside.seat.me.0 in
     let y : Reading = reading_of c.reader.inside.seat.me.0 in
-    let joined = joined_next c.writer.inside.seat.me c.reader.inside.seat.me c.join_seat.new.seat.me w y c.writer.invariant.seated c.reader.invariant.seated c.join_seat.ensures.2 in
-    let confirmed = subst (Confirms c.load.result) (view_is c.join_seat.new.seat.me (Writer (with_settled y w)) joined) c.load.ensures.2.1 in
-    subst (λ (z : ℕ × List (List ℕ)). z.0 ≤ 2 * newest_number z.1) (λ i. ((c.reader.view_is i).seen, (c.writer.view_is i).messages)) (told c.load.result w y c.writer.invariant.closed confirmed).1
+    let joined =
+    joined_next c.writer.inside.seat.me c.reader.inside.seat.me c.join_seat.new.seat.me w y c.writer.invariant.seated
+    c.reader.invariant.seated c.join_seat.ensures.2 in
+    let confirmed =
+    subst (Confirms c.load.result)
+    (view_is c.join_seat.new.seat.me (Writer (with_settled y w)) joined) c.load.ensures.2.1 in
+    subst (λ (z : ℕ × List (List ℕ)). z.0 ≤ 2 * newest_number z.1)
+    (λ i. ((c.reader.view_is i).seen, (c.writer.view_is i).messages))
+    (told c.load.result w y c.writer.invariant.closed confirmed).1

@@ -15,11 +15,14 @@ load-begin-requires g c =
     let table = c.self.inside.table.shared in
     let seat = c.reader.inside.seat in
     let y : Reading = reading_of seat.me.0 in
-    let at = reader_table seat c.reader.inside.spare c.args.reader.now table.table_id c.self.inside.shape c.args.self.now c.reader.view_is c.self.view_is c.requires.own in
+    let at =
+    reader_table seat c.reader.inside.spare c.args.reader.now table.table_id c.self.inside.shape c.args.self.now
+    c.reader.view_is c.self.view_is c.requires.own in
     let words = c.self.invariant.2 in (
       at.0,
       omega arith,
-      first_loads table.key table.table_id.slots seat.id seat.me y (view_is seat.me (Reader y) c.reader.invariant.seated),
+      first_loads table.key table.table_id.slots seat.id seat.me y
+          (view_is seat.me (Reader y) c.reader.invariant.seated),
     )
 
 pub load-end-requires : goal.load-end-requires
@@ -28,14 +31,19 @@ load-end-requires g c =
     let seat = c.reader.inside.seat in
     let after = c.load_words.new.seat in
     let y : Reading = reading_of seat.me.0 in
-    let at = reader_table seat c.reader.inside.spare c.args.reader.now table.table_id c.self.inside.shape c.args.self.now c.reader.view_is c.self.view_is c.requires.own in
+    let at =
+    reader_table seat c.reader.inside.spare c.args.reader.now table.table_id c.self.inside.shape c.args.self.now
+    c.reader.view_is c.self.view_is c.requires.own in
     let words = c.self.invariant.2 in
     let begin : ℕ = c.load-begin.result in
     let z : Reading = record (with_first begin y) { words = (reading_of after.me.0).words } in
-    let loaded = loaded_next begin seat.me c.load-begin.new.seat.me after.me y (reading_of after.me.0).words c.reader.invariant.seated c.load-begin.ensures.2.0 c.load_words.ensures.seat in (
+    let loaded =
+    loaded_next begin seat.me c.load-begin.new.seat.me after.me y
+    (reading_of after.me.0).words c.reader.invariant.seated c.load-begin.ensures.2.0 c.load_words.ensures.seat in (
       c.load_words.ensures.table ∙ (c.load-begin.ensures.0 ∙ at.0),
       omega arith,
-      last_loads table.key table.table_id.slots after.id after.me z (view_is after.me (Reader z) loaded) (c.load_words.ensures.wide ∙ ap (λ (s : Shape). s.width) (sym c.self.invariant.1)),
+      last_loads table.key table.table_id.slots after.id after.me z (view_is after.me (Reader z) loaded)
+          (c.load_words.ensures.wide ∙ ap (λ (s : Shape). s.width) (sym c.self.invariant.1)),
     )
 
 pub invariant_of-reader-2 : goal.invariant_of-reader-2
@@ -43,18 +51,28 @@ invariant_of-reader-2 g c =
     let seat = c.reader.inside.seat in
     let y : Reading = reading_of seat.me.0 in
     let after : Reading = reading_of c.load_words.new.seat.me.0 in
-    let at = reader_table seat c.reader.inside.spare c.args.reader.now c.self.inside.table.shared.table_id c.self.inside.shape c.args.self.now c.reader.view_is c.self.view_is c.requires.own in
+    let at =
+    reader_table seat c.reader.inside.spare c.args.reader.now c.self.inside.table.shared.table_id c.self.inside.shape
+    c.args.self.now c.reader.view_is c.self.view_is c.requires.own in
     let begin : ℕ = c.load-begin.result in
     let z : Reading = record (with_first begin y) { words = after.words } in
-    let loaded = loaded_next begin seat.me c.load-begin.new.seat.me c.load_words.new.seat.me y after.words c.reader.invariant.seated c.load-begin.ensures.2.0 c.load_words.ensures.seat in
-    let ended = reader_next (with_last c.load-end.result) c.load_words.new.seat.me c.load-end.new.seat.me z loaded c.load-end.ensures.2.0 in
+    let loaded =
+    loaded_next begin seat.me c.load-begin.new.seat.me c.load_words.new.seat.me y after.words c.reader.invariant.seated
+    c.load-begin.ensures.2.0 c.load_words.ensures.seat in
+    let ended =
+    reader_next (with_last c.load-end.result) c.load_words.new.seat.me c.load-end.new.seat.me z loaded
+    c.load-end.ensures.2.0 in
     let near : c.load-end.result < limit c.self.inside.shape (begin / 2) = c.if-end-limit.false in
-    let below : c.load-end.result < limit z.shape (z.first / 2) = subst (λ (s : Shape). c.load-end.result < limit s (begin / 2)) (sym at.1) near in
-    let width : c.self.inside.shape.width ≡ c.reader.inside.width = ap (λ (s : Shape). s.width) (sym at.1) ∙ sym c.reader.invariant.width in
+    let below : c.load-end.result < limit z.shape (z.first / 2) =
+    subst (λ (s : Shape). c.load-end.result < limit s (begin / 2)) (sym at.1) near in
+    let width : c.self.inside.shape.width ≡ c.reader.inside.width =
+    ap (λ (s : Shape). s.width) (sym at.1) ∙ sym c.reader.invariant.width in
     let room = c.requires.room in
     let spare : c.reader.inside.spare ≡ c.args.reader.now.spare = ap (λ r. r.spare) c.reader.view_is in
     shelved_more c.reader.inside c.load-end.new.seat c.push_reserved.new.self c.load_words.new.words
     (record z { seen = c.load-end.result; floor = z.first / 2; got = z.got ++ attempt_of z ∷ [] }) (attempt_of z)
-    c.reader.invariant (omega arith) refl refl (ended ∙ ap (λ v. (Reader v, [])) (got_last c.load-end.result z below)) (c.load_words.ensures.wide ∙ width)
-    c.push_reserved.ensures.items c.load_words.ensures.loaded c.push_reserved.ensures.len c.push_reserved.ensures.capacity
+    c.reader.invariant (omega arith) refl refl (ended ∙ ap (λ v. (Reader v, [])) (got_last c.load-end.result z below))
+    (c.load_words.ensures.wide ∙ width)
+    c.push_reserved.ensures.items c.load_words.ensures.loaded c.push_reserved.ensures.len
+    c.push_reserved.ensures.capacity
     (c.load_words.ensures.more ∙ ap (λ k. vec_len c.reader.inside.words + k) width) c.load_words.ensures.room

@@ -13,12 +13,15 @@ store-requires g c =
     let table = c.self.inside.table.shared in
     let seat = c.writer.inside.seat in
     let w : Writing = writing_of seat.me.0 in
-    let at = writer_table seat c.args.writer.now table.table_id c.self.inside.shape c.args.self.now c.writer.view_is c.self.view_is c.requires.own in
+    let at =
+    writer_table seat c.args.writer.now table.table_id c.self.inside.shape c.args.self.now c.writer.view_is
+    c.self.view_is c.requires.own in
     let words = c.self.invariant.2 in
     let number : c.writer.inside.number + 1 ≡ length w.messages = c.writer.invariant.newest in (
       at.0,
       omega arith,
-      begins table.key table.table_id.slots seat.id seat.me w _ (view_is seat.me (Writer w) c.writer.invariant.seated) c.writer.invariant.closed (omega arith),
+      begins table.key table.table_id.slots seat.id seat.me w _
+          (view_is seat.me (Writer w) c.writer.invariant.seated) c.writer.invariant.closed (omega arith),
     )
 
 pub store-requires-2 : goal.store-requires-2
@@ -26,14 +29,24 @@ store-requires-2 g c =
     let table = c.self.inside.table.shared in
     let seat = c.writer.inside.seat in
     let w : Writing = writing_of seat.me.0 in
-    let at = writer_table seat c.args.writer.now table.table_id c.self.inside.shape c.args.self.now c.writer.view_is c.self.view_is c.requires.own in
+    let at =
+    writer_table seat c.args.writer.now table.table_id c.self.inside.shape c.args.self.now c.writer.view_is
+    c.self.view_is c.requires.own in
     let words = c.self.invariant.2 in
     let number : c.writer.inside.number + 1 ≡ length w.messages = c.writer.invariant.newest in
-    let filled = filled_next seat.me c.store.new.seat.me c.put_words.new.seat.me w c.args.words.now c.writer.invariant.seated c.store.ensures.2 c.put_words.ensures.seat in
-    let wide : length c.args.words.now ≡ table.key.width = c.requires.width ∙ (ap (λ (z : Shape). z.width) (ap (λ r. r.shape) (sym c.self.view_is)) ∙ ap (λ (z : Shape). z.width) (sym c.self.invariant.1)) in
-    let same : length c.args.writer.now.messages ≡ length w.messages = ap (λ z. length z.messages) (sym c.writer.view_is) in
+    let filled =
+    filled_next seat.me c.store.new.seat.me c.put_words.new.seat.me w c.args.words.now c.writer.invariant.seated
+    c.store.ensures.2 c.put_words.ensures.seat in
+    let wide : length c.args.words.now ≡ table.key.width =
+    c.requires.width
+    ∙ (ap (λ (z : Shape). z.width) (ap (λ r. r.shape) (sym c.self.view_is))
+    ∙ ap (λ (z : Shape). z.width) (sym c.self.invariant.1)) in
+    let same : length c.args.writer.now.messages ≡ length w.messages =
+    ap (λ z. length z.messages) (sym c.writer.view_is) in
     let room = c.requires.room in (
       c.put_words.ensures.table ∙ (c.store.ensures.0 ∙ at.0),
       omega arith,
-      ends table.key table.table_id.slots c.put_words.new.seat.id c.put_words.new.seat.me (record (with_open w) { put = c.args.words.now }) _ (view_is c.put_words.new.seat.me _ filled) refl wide (omega arith) (omega arith),
+      ends table.key table.table_id.slots c.put_words.new.seat.id c.put_words.new.seat.me
+          (record (with_open w) { put = c.args.words.now }) _ (view_is c.put_words.new.seat.me _ filled) refl wide
+          (omega arith) (omega arith),
     )

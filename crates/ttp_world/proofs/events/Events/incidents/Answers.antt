@@ -14,8 +14,11 @@ returns c =
     let steps = c.self.inside.index.steps in
     let place = c.steps_up_to-place.result in
     let in_node : slot < NODE_KEYS = omega arith in
-    let within : place ≤ length steps = omega (arith, c.steps_up_to-place.ensures.bound, ap length c.as_slice-steps.ensures) in
-    let up_to = subst (λ (ss : List Step). SplitsAt (step_is_by c.key_of.result) ss place) c.as_slice-steps.ensures c.steps_up_to-place.ensures.place in
+    let within : place ≤ length steps =
+    omega (arith, c.steps_up_to-place.ensures.bound, ap length c.as_slice-steps.ensures) in
+    let up_to =
+    subst (λ (ss : List Step). SplitsAt
+    (step_is_by c.key_of.result) ss place) c.as_slice-steps.ensures c.steps_up_to-place.ensures.place in
     let splits = subst (λ (key : ℕ). SplitsAt (step_is_by key) steps place) c.key_of.ensures up_to in
     let value = c.incidents_before.ensures ∙ ap (λ (ss : List Step). incidents_before ss place) c.as_slice-steps.ensures
     ∙ c.self.invariant.1.steps.incidents k slot place in_node within splits
