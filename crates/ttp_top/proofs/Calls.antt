@@ -1,2 +1,3 @@
 pub mod Plans
+pub mod Lines
 pub mod Promises

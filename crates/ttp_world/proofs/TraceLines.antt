@@ -32,7 +32,7 @@ use Rattle.ttp_world.proofs.LineLists.{each-append}
 use Rattle.ttp_world.proofs.TraceWords.{has-entry_word, has-number_or_dash, has-ack_word, has-source_word}
 use Rattle.ttp_world.proofs.TraceWords.{has-message_hex}
 
-abbrev IsLine : List ℕ → Type 0
+abbrev pub IsLine : List ℕ → Type 0
 IsLine line = is_line line ≡ true
 
 ends : (x : List ℕ) → has 10 x ≡ false → IsLine (x ++ newline)
@@ -147,7 +147,7 @@ no-by_words rule slot p q =
     ends (codes "keeps no H" ++ rule ++ codes " " ++ slot)
     (simp (list_any-append (λ c. c == 10), p, q))
 
-keep_line-IsLine : (k : Keep) → IsLine (keep_line k)
+pub keep_line-IsLine : (k : Keep) → IsLine (keep_line k)
 keep_line-IsLine (keep.Yes start) = yes-by_words (decimal start) (has-decimal 10 start feed_is_low)
 keep_line-IsLine (keep.No rule slot) =
     no-by_words (decimal rule) (decimal slot) (has-decimal 10 rule feed_is_low) (has-decimal 10 slot feed_is_low)

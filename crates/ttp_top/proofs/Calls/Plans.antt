@@ -5,9 +5,9 @@ use Rattle.ttp_base.specs.Outside.{Held, untold, absent, holds, Load, Gives}
 use Rattle.ttp_world.specs.declared.medl.Medl.{Medl}
 use Rattle.ttp_world.specs.declared.script.Script.{Script}
 use Rattle.ttp_top.specs.declared.read.FileFault.{FileFault}
-use Rattle.ttp_top.specs.Calls.Files.{after_list, after_script, script_plan, both_plan}
+use Rattle.ttp_top.specs.Calls.Files.{refused_list, refused_script, after_list, after_script, script_plan, both_plan}
 use Rattle.ttp_top.specs.Calls.Forms.{table_ending, trace_ending, keep_ending, plan_of}
-use Rattle.ttp_top.specs.Calls.Plan.{Ending, Plan, ends, asks, Comes, AsksFirst, told_ending}
+use Rattle.ttp_top.specs.Calls.Plan.{Ending, File, Plan, ends, asks, Comes, AsksFirst, told_ending}
 use Rattle.ttp_top.specs.Calls.Promise.{EachName}
 use Rattle.ttp_top.specs.Calls.Words.{Form, schedule, run, keeps}
 use Rattle.ttp_top.specs.Files.Read.{list_from, script_from}
@@ -32,29 +32,43 @@ IsOfForm ending = (ending.status ≤ 4) × (ending.status ≢ 2)
 abbrev pub IsFinal : Ending → Type 0
 IsFinal ending = ending.status ≤ 4
 
-list_ends : (next : Medl → Plan) → ((list : Medl) → AllEnd IsOfForm (next list)) → (read : Result Medl FileFault)
-    → AllEnd IsOfForm (after_list next read)
-list_ends next all (Ok list) = all list
-list_ends next all (Err fault) = (omega arith, λ two. omega arith)
+pub list_ends : (P : Ending → Type 0) → ((fault : FileFault) → P (refused_list fault)) → (next : Medl → Plan)
+    → ((list : Medl) → AllEnd P (next list)) → (read : Result Medl FileFault) → AllEnd P (after_list next read)
+list_ends P refused next all (Ok list) = all list
+list_ends P refused next all (Err fault) = refused fault
 
-script_ends : (next : Script → Plan) → ((script : Script) → AllEnd IsOfForm (next script))
-    → (read : Result Script FileFault) → AllEnd IsOfForm (after_script next read)
-script_ends next all (Ok script) = all script
-script_ends next all (Err fault) = (omega arith, λ two. omega arith)
+script_ends : (P : Ending → Type 0) → ((fault : FileFault) → P (refused_script fault)) → (next : Script → Plan)
+    → ((script : Script) → AllEnd P (next script)) → (read : Result Script FileFault)
+    → AllEnd P (after_script next read)
+script_ends P refused next all (Ok script) = all script
+script_ends P refused next all (Err fault) = refused fault
 
-both_end : (list script : List ℕ) (ending : Medl → Script → Ending)
-    → ((medl : Medl) (right : Script) → IsOfForm (ending medl right))
-    → AllEnd IsOfForm (both_plan list script (λ medl right. ends (ending medl right)))
-both_end list script ending all = λ bytes.
-    list_ends (λ medl. script_plan medl script (λ right. ends (ending medl right)))
-    (λ medl script_bytes. script_ends (λ right. ends (ending medl right)) (all medl) (script_from medl script_bytes))
+pub both_end : (P : Ending → Type 0) → ((fault : FileFault) → P (refused_list fault))
+    → ((fault : FileFault) → P (refused_script fault)) → (list script : List ℕ) (ending : Medl → Script → Ending)
+    → ((medl : Medl) (right : Script) → P (ending medl right))
+    → AllEnd P (both_plan list script (λ medl right. ends (ending medl right)))
+both_end P no_list no_script list script ending all = λ bytes.
+    list_ends P no_list (λ medl. script_plan medl script (λ right. ends (ending medl right)))
+    (λ medl script_bytes.
+    script_ends P no_script (λ right. ends (ending medl right)) (all medl) (script_from medl script_bytes))
     (list_from bytes)
+
+list_refused : (fault : FileFault) → IsOfForm (refused_list fault)
+list_refused fault = (omega arith, λ two. omega arith)
+
+script_refused : (fault : FileFault) → IsOfForm (refused_script fault)
+script_refused fault = (omega arith, λ two. omega arith)
 
 pub forms_end : (form : Form) → AllEnd IsOfForm (plan_of (Some form))
 forms_end (schedule list) = λ bytes.
-    list_ends (λ medl. ends (table_ending medl)) (λ medl. (omega arith, λ two. omega arith)) (list_from bytes)
-forms_end (run list script) = both_end list script trace_ending (λ medl right. (omega arith, λ two. omega arith))
-forms_end (keeps list script) = both_end list script keep_ending (λ medl right. (omega arith, λ two. omega arith))
+    list_ends IsOfForm list_refused (λ medl. ends (table_ending medl)) (λ medl. (omega arith, λ two. omega arith))
+    (list_from bytes)
+forms_end (run list script) =
+    both_end IsOfForm list_refused script_refused list script trace_ending
+    (λ medl right. (omega arith, λ two. omega arith))
+forms_end (keeps list script) =
+    both_end IsOfForm list_refused script_refused list script keep_ending
+    (λ medl right. (omega arith, λ two. omega arith))
 
 weaker : (plan : Plan) → AllEnd IsOfForm plan → AllEnd IsFinal plan
 weaker (ends ending) all = all.0
@@ -64,10 +78,24 @@ pub plans_end : (form : Option Form) → AllEnd IsFinal (plan_of form)
 plans_end None = omega arith
 plans_end (Some form) = weaker (plan_of (Some form)) (forms_end form)
 
+-- each file that a plan may ask for is of a kind
+abbrev pub EachFile : (File → Type 0) → Plan → Type 0
+EachFile P (ends ending) = Unit {0}
+EachFile P (asks file next) = P file × ((bytes : List ℕ) → EachFile P (next bytes))
+
+-- so the one that it comes to is
+pub file_comes : (P : File → Type 0) (held : List ℕ → Held) (plan : Plan) (loads : List Load) (file : File)
+    (next : List ℕ → Plan) → EachFile P plan → Comes held plan loads (asks file next) → P file
+file_comes P held plan [] file next all comes =
+    let here : EachFile P (asks file next) = subst (EachFile P) comes all in
+    here.0
+file_comes P held (ends e) (load ∷ loads) file next all comes = absurd comes
+file_comes P held (asks f n) (load ∷ loads) file next all comes =
+    file_comes P held (n comes.1.0) loads file next (all.1 comes.1.0) comes.1.2
+
 -- each name that a plan may ask for is of a kind
 abbrev pub AllAsk : (List ℕ → Type 0) → Plan → Type 0
-AllAsk Q (ends ending) = Unit {0}
-AllAsk Q (asks file next) = Q file.name × ((bytes : List ℕ) → AllAsk Q (next bytes))
+AllAsk Q plan = EachFile (λ file. Q file.name) plan
 
 -- so those that it asked for are
 pub all_asked : (Q : List ℕ → Type 0) (held : List ℕ → Held) (plan : Plan) (loads : List Load)

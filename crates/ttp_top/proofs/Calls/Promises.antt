@@ -6,11 +6,13 @@ use Rattle.ttp_base.specs.Outside.{Output, Wrote}
 use Rattle.ttp_top.specs.Calls.Outcome.{Showed, Refused, Says, Shows, Asked, Follows}
 use Rattle.ttp_top.specs.Calls.Plan.{Outside, outside, Ending, File, Plan, ends, asks, line_ending, load_of, unloaded}
 use Rattle.ttp_top.specs.Calls.Plan.{Comes, AsksFirst, told_ending}
-use Rattle.ttp_top.specs.Calls.Texts.{CutAmong}
+use Rattle.ttp_top.specs.Calls.Texts.{CutAmong, AreLines, GaveLines}
 use Rattle.ttp_top.specs.Calls.Promise.{Reached, Unloaded, IsDue, EachName, NoneAskedRose, Promise}
 use Rattle.ttp_top.specs.Calls.Forms.{plan_of}
 use Rattle.ttp_top.specs.Calls.Words.{Form}
-use Rattle.ttp_top.proofs.Calls.Plans.{AllEnd, all_come, IsOfForm, IsFinal, forms_end, plans_end, told_comes}
+use Rattle.ttp_top.proofs.Calls.Lines.{HasLines, line_has, plans_have, SaysLine, plans_say, lines_front}
+use Rattle.ttp_top.proofs.Calls.Plans.{AllEnd, all_come, file_comes, IsOfForm, IsFinal, forms_end, plans_end}
+use Rattle.ttp_top.proofs.Calls.Plans.{told_comes}
 
 -- ---- what a call ended in, after which loads
 
@@ -252,6 +254,41 @@ no_fault_fell plan before now loads answer (inr (inl b)) = omega (arith, b.1.2.t
 no_fault_fell plan before now loads answer (inr (inr (inl c))) = c.1.2.cut.count
 no_fault_fell plan before now loads answer (inr (inr (inr d))) = omega (arith, d.1.1.quiet)
 
+-- the texts of what is due are made of lines
+unloaded_has : (form : Option Form) (before now : Outside) (loads : List Load) (ending : Ending)
+    → Unloaded (plan_of form) before now loads ending → HasLines ending
+unloaded_has form before now loads ending u =
+    let missing =
+    file_comes SaysLine before.files.held (plan_of form) u.earlier u.file u.next (plans_say form) u.comes in
+    subst HasLines (sym u.line) (line_has 5 u.file.missing missing)
+
+due_has : (form : Option Form) (before now : Outside) (loads : List Load) (ending : Ending)
+    → IsDue (plan_of form) before now loads ending → HasLines ending
+due_has form before now loads ending (inl reached) =
+    all_come HasLines before.files.held (plan_of form) loads ending (plans_have form) reached.comes
+due_has form before now loads ending (inr u) = unloaded_has form before now loads ending u
+
+-- each piece that was given whole is one line
+gave_lines : (form : Option Form) (before now : Outside) (loads : List Load) (answer : ℕ)
+    → CallWays (plan_of form) before now loads answer → GaveLines before.output now.output
+gave_lines form before now loads answer (inl a) =
+    let w = a.1.2.text in
+    let have = all_come HasLines before.files.held (plan_of form) loads a.1.0 (plans_have form) a.1.1.comes in
+    record { pieces = w.lines; given = w.wrote.given; lines = have w.lines w.among }
+gave_lines form before now loads answer (inr (inl b)) =
+    let w = b.1.2.text in
+    record
+    { pieces = w.lines; given = w.wrote.given; lines = unloaded_has form before now loads b.1.0 b.1.1 w.lines w.among }
+gave_lines form before now loads answer (inr (inr (inl c))) =
+    let k = c.1.2 in
+    let have = due_has form before now loads c.1.0 c.1.1 in
+    record {
+      pieces = k.cut.whole;
+      given = k.cut.given;
+      lines = lines_front k.cut.whole (k.cut.next ∷ k.cut.rest) (subst AreLines k.cut.text (have k.lines k.among));
+    }
+gave_lines form before now loads answer (inr (inr (inr d))) = record { pieces = []; given = d.1.1.given; lines = tt }
+
 usage_alone : (form : Option Form) (held : List ℕ → Held) (loads : List Load) (ending : Ending)
     → Comes held (plan_of form) loads (ends ending) → ending.status ≡ 2 → form ≡ None
 usage_alone None held loads ending comes two = refl
@@ -299,6 +336,7 @@ promise form before now answer follows never =
           let final = up_to_4 answer w (omega (arith, two)) in
           usage_alone form before.files.held e.loads final.0 final.1.comes (sym final.2.status ∙ two);
       no_form = never;
+      pieces = gave_lines form before now e.loads answer w;
       counts = (e.count, no_fault_fell plan before now e.loads answer w);
       keeps = e.keeps;
     }

@@ -5,7 +5,7 @@ use Rattle.ttp_top.specs.Calls.Forms.{plan_of}
 use Rattle.ttp_top.specs.Calls.Outcome.{Showed}
 use Rattle.ttp_top.specs.Calls.Plan.{Outside, Ending, File, Plan, ends, asks, load_of, unloaded, Comes, AsksFirst}
 use Rattle.ttp_top.specs.Calls.Plan.{told_ending}
-use Rattle.ttp_top.specs.Calls.Texts.{CutAmong}
+use Rattle.ttp_top.specs.Calls.Texts.{CutAmong, GaveLines}
 use Rattle.ttp_top.specs.Calls.Words.{Form}
 
 -- an ending is due after these loads: each gave its bytes, and no count rose
@@ -62,6 +62,8 @@ pub record Promise (form : Option Form) (before now : Outside) (answer : ℕ) : 
   -- Words of no form take no memory, and only they are answered by the usage line.
   pub usage : answer ≡ 2 → form ≡ None
   pub no_form : form ≡ None → answer ≢ 7
+  -- Each piece that was given whole is one line.
+  pub pieces : GaveLines before.output now.output
   -- No count falls, and the library holds what it held.
   pub counts : NoneFell before.files now.files × (before.output.faults ≤ now.output.faults)
   pub keeps : HoldsTheSame before.files now.files

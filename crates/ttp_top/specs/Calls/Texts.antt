@@ -1,7 +1,8 @@
 -- The texts that a call may write.
-use Rattle.std.specs.Prelude.{◌≡◌}
+use Rattle.std.specs.Prelude.{◌≡◌, ℕ, true, List, ◌++◌}
+use Rattle.std.specs.List.{AllByRecursion}
 use Rattle.ttp_base.specs.Outside.{Output, WroteLines, CutShort}
-use Rattle.ttp_base.specs.Text.{Lines}
+use Rattle.ttp_base.specs.Text.{Lines, is_line}
 use Rattle.ttp_world.specs.declared.medl.Medl.{Medl}
 use Rattle.ttp_world.specs.declared.script.Script.{Script}
 use Rattle.ttp_world.specs.Legal.{IsLegalRun}
@@ -40,3 +41,13 @@ pub record CutAmong (texts : Texts) (before now : Output) : Type 0 where
   pub lines : Lines
   pub among : IsAmong texts lines
   pub cut : CutShort before now lines
+
+-- each of these pieces is one line
+abbrev pub AreLines : List (List ℕ) → Type 0
+AreLines pieces = AllByRecursion (λ piece. is_line piece ≡ true) pieces
+
+-- the pieces that were given whole are lines
+pub record GaveLines (before now : Output) : Type 0 where
+  pub pieces : List (List ℕ)
+  pub given : now.pieces ≡ before.pieces ++ pieces
+  pub lines : AreLines pieces

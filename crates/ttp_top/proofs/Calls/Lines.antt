@@ -1,0 +1,80 @@
+-- Each piece that a call gives is one line.
+use Rattle.std.proofs.Common.{◌≡◌, ℕ, List, [], ◌∷◌, ◌++◌, true, Option, Some, None, Result, Ok, Err, refl, subst, sym}
+use Rattle.std.specs.Prelude.{codes}
+use Rattle.ttp_base.specs.Text.{Lines, is_line}
+use Rattle.ttp_world.specs.declared.medl.Medl.{Medl}
+use Rattle.ttp_world.specs.declared.script.Script.{Script}
+use Rattle.ttp_world.specs.Hypothesis.{keeps as keeps_of}
+use Rattle.ttp_world.specs.Trace.{keep_line}
+use Rattle.ttp_world.proofs.TraceLines.{keep_line-IsLine, trace_lines-each}
+use Rattle.medl_text.proofs.Lines.{slot_table-each}
+use Rattle.ttp_top.specs.declared.read.FileFault.{FileFault}
+use Rattle.ttp_top.specs.Calls.Files.{refused_list, after_list, refused_script, after_script, script_plan, both_plan}
+use Rattle.ttp_top.specs.Calls.Forms.{usage_line, table_ending, trace_ending, keep_ending, plan_of}
+use Rattle.ttp_top.specs.Calls.Plan.{Ending, File, Plan, line_ending, ends}
+use Rattle.ttp_top.specs.Calls.Texts.{IsAmong, AreLines}
+use Rattle.ttp_top.specs.Calls.Words.{Form, schedule, run, keeps}
+use Rattle.ttp_top.specs.Files.Lines.{fault_line}
+use Rattle.ttp_top.specs.Files.Read.{list_from, script_from}
+use Rattle.ttp_top.proofs.Calls.Plans.{AllEnd, list_ends, both_end, EachFile}
+use Rattle.ttp_top.proofs.Files.Lines.{fault_line-is_line}
+
+-- each text of an ending is made of lines
+abbrev pub HasLines : Ending → Type 0
+HasLines ending = (lines : Lines) → IsAmong ending.texts lines → AreLines lines
+
+pub line_has : (status : ℕ) (line : List ℕ) → is_line line ≡ true → HasLines (line_ending status line)
+line_has status line is = λ lines among. subst AreLines (sym among) (is, tt)
+
+no_list : (fault : FileFault) → HasLines (refused_list fault)
+no_list fault = line_has 3 (fault_line (codes "list") fault) (fault_line-is_line (codes "list") fault refl)
+
+no_script : (fault : FileFault) → HasLines (refused_script fault)
+no_script fault = line_has 4 (fault_line (codes "script") fault) (fault_line-is_line (codes "script") fault refl)
+
+pub plans_have : (form : Option Form) → AllEnd HasLines (plan_of form)
+plans_have None = line_has 2 usage_line refl
+plans_have (Some (schedule list)) = λ bytes.
+    list_ends HasLines no_list (λ medl. ends (table_ending medl))
+    (λ medl lines among. subst AreLines (sym among) (slot_table-each medl)) (list_from bytes)
+plans_have (Some (run list script)) =
+    both_end HasLines no_list no_script list script trace_ending
+    (λ medl right lines among. subst AreLines (sym among.text) (trace_lines-each medl right among.numbers))
+plans_have (Some (keeps list script)) =
+    both_end HasLines no_list no_script list script keep_ending
+    (λ medl right. line_has 0 (keep_line (keeps_of medl right)) (keep_line-IsLine (keeps_of medl right)))
+
+-- and so is what is said of a file that could not be loaded
+abbrev pub SaysLine : File → Type 0
+SaysLine file = is_line file.missing ≡ true
+
+list_files : (next : Medl → Plan) → ((list : Medl) → EachFile SaysLine (next list)) → (read : Result Medl FileFault)
+    → EachFile SaysLine (after_list next read)
+list_files next all (Ok list) = all list
+list_files next all (Err fault) = tt
+
+script_files : (ending : Script → Ending) (read : Result Script FileFault)
+    → EachFile SaysLine (after_script (λ script. ends (ending script)) read)
+script_files ending (Ok script) = tt
+script_files ending (Err fault) = tt
+
+both_files : (list script : List ℕ) (ending : Medl → Script → Ending)
+    → EachFile SaysLine (both_plan list script (λ medl right. ends (ending medl right)))
+both_files list script ending = (
+  refl,
+  λ bytes.
+      list_files (λ medl. script_plan medl script (λ right. ends (ending medl right)))
+      (λ medl. (refl, λ script_bytes. script_files (ending medl) (script_from medl script_bytes))) (list_from bytes),
+)
+
+pub plans_say : (form : Option Form) → EachFile SaysLine (plan_of form)
+plans_say None = tt
+plans_say (Some (schedule list)) =
+    (refl, λ bytes. list_files (λ medl. ends (table_ending medl)) (λ medl. tt) (list_from bytes))
+plans_say (Some (run list script)) = both_files list script trace_ending
+plans_say (Some (keeps list script)) = both_files list script keep_ending
+
+-- the first ones of lines
+pub lines_front : (x y : Lines) → AreLines (x ++ y) → AreLines x
+lines_front [] y are = tt
+lines_front (line ∷ x) y are = (are.0, lines_front x y are.1)
