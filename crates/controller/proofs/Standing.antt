@@ -1,7 +1,7 @@
 -- What a controller stands for at each turn of a slot: what it keeps is all that the rules ask of its node's past.
 use Rattle.std.proofs.Common.{◌≡◌, ℕ, zero, ◌+◌, ◌≤◌, min, ℤ, pos, ◌+ℤ◌, Bool, true, false, cond, ◌&&◌, List, [], ◌∷◌}
-use Rattle.std.proofs.Common.{length, take, refl, ap, sym, ◌∙◌, inl, inr, arith, ◌<◌, Some, None, Option, subst, suc, ◌++◌}
-use Rattle.std.proofs.Common.{is_some}
+use Rattle.std.proofs.Common.{length, take, refl, ap, sym, ◌∙◌, inl, inr, arith, ◌<◌, Some, None, Option, subst, suc}
+use Rattle.std.proofs.Common.{is_some, ◌++◌}
 use Rattle.std.specs.Prelude.{nat_le}
 use Rattle.std.proofs.lemmas.Bool.{cases_lt, le-leb, lt-leb}
 use Rattle.ttp_world.specs.declared.medl.Medl.{Medl}
