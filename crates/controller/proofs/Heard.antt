@@ -2,7 +2,6 @@
 use Rattle.std.proofs.Common.{◌≡◌, ℕ, zero, suc, ℤ, refl, ◌+ℤ◌, ◌-ℤ◌, List, ap, sym, subst, ◌<◌, pos, Bool, true}
 use Rattle.std.proofs.Common.{length, Option, Some, None, unwrap_or, ◌∙◌, false, not, cond, IfSome}
 use Rattle.std.specs.Borrow.{Bor}
-use Rattle.std.specs.Option.{option_or}
 use Rattle.std.specs.Prelude.{◌==◌}
 use Rattle.std.proofs.lemmas.Bool.{ne_eqb}
 use Rattle.ttp_world.specs.declared.medl.Medl.{Medl}
@@ -15,8 +14,8 @@ use Rattle.ttp_world.specs.declared.node.Entry.TheVariants as entry
 use Rattle.ttp_world.specs.declared.node.Verdict.{Verdict}
 use Rattle.ttp_world.specs.declared.node.Verdict.TheVariants.{Correct}
 use Rattle.ttp_world.specs.Act.{coming_place}
-use Rattle.ttp_world.specs.Conduct.{carries_payload, delivery, judging_entry, payload_taken, verdict_entry, join_entry}
-use Rattle.ttp_world.specs.Conduct.{channel_join, listening_entry}
+use Rattle.ttp_world.specs.Conduct.{carries_payload, delivery, judging_entry, payload_taken, verdict_entry}
+use Rattle.ttp_world.specs.Conduct.{listening_entry}
 use Rattle.ttp_world.specs.Diary.{Place}
 use Rattle.ttp_world.specs.Fitting.{joinable}
 use Rattle.ttp_world.specs.Medium.{Signal, Silence, Noise, Bits, is_silence}
@@ -25,6 +24,7 @@ use Rattle.ttp_world.specs.Past.{NodePast}
 use Rattle.ttp_world.specs.Reception.{Expected, Hearing, candidates, entry_deviation, expected_of, heard_deviation}
 use Rattle.ttp_world.specs.Reception.{is_first_view, is_taken_from_a, verdict_of, view_of, expected_length}
 use Rattle.ttp_world.specs.Reception.{payload_heard}
+use Rattle.ttp_world.proofs.EntriesMade.{listening_entry-holds}
 use Rattle.medium.specs.Shows.{Shows}
 use Rattle.medium.specs.declared.arrival.Arrival.{Arrival}
 use Rattle.medium.specs.declared.arrival.Arrival.TheVariants as arrival
@@ -74,19 +74,6 @@ silence-shown (arrival.Bits came offset) (Bits sender bytes) clock shows = refl
 
 -- What came on a channel tells what was heard there.
 
--- silence and noise show themselves alone
-silence-shows : (P : Signal → (ℕ → ℤ) → Type 0) (own error : ℤ) → ((deviation : ℕ → ℤ) → P Silence deviation)
-    → ForSignals arrival.Silence own error P
-silence-shows P own error here Silence clock shows = here (deviation_by clock own error)
-silence-shows P own error here Noise clock shows = cc
-silence-shows P own error here (Bits sender sent) clock shows = absurd shows
-
-noise-shows : (P : Signal → (ℕ → ℤ) → Type 0) (own error : ℤ) → ((deviation : ℕ → ℤ) → P Noise deviation)
-    → ForSignals arrival.Noise own error P
-noise-shows P own error here Silence clock shows = cc
-noise-shows P own error here Noise clock shows = here (deviation_by clock own error)
-noise-shows P own error here (Bits sender sent) clock shows = absurd shows
-
 -- bits show themselves, and how late they are, by whatever node sent them
 bits-show : (P : Signal → (ℕ → ℤ) → Type 0) (own error : ℤ) (bytes : Bor (List ℕ)) (offset : ℤ)
     → ((sender : ℕ) (deviation : ℕ → ℤ) → deviation sender ≡ (offset -ℤ own) +ℤ error
@@ -97,16 +84,6 @@ bits-show P own error bytes offset here Noise clock shows = cc
 bits-show P own error bytes offset here (Bits sender sent) clock shows =
     subst (λ (bs : List ℕ). P (Bits sender bs) (deviation_by clock own error)) shows.0
     (here sender (deviation_by clock own error) (ap (λ (ahead : ℤ). (ahead -ℤ own) +ℤ error) (sym shows.1)))
-
-pub of_silence : (P : Signal → (ℕ → ℤ) → Type 0) (own error : ℤ) (came : Arrival) → came ≡ arrival.Silence
-    → ((deviation : ℕ → ℤ) → P Silence deviation) → ForSignals came own error P
-of_silence P own error came is here =
-    subst (λ (a : Arrival). ForSignals a own error P) (sym is) (silence-shows P own error here)
-
-pub of_noise : (P : Signal → (ℕ → ℤ) → Type 0) (own error : ℤ) (came : Arrival) → came ≡ arrival.Noise
-    → ((deviation : ℕ → ℤ) → P Noise deviation) → ForSignals came own error P
-of_noise P own error came is here =
-    subst (λ (a : Arrival). ForSignals a own error P) (sym is) (noise-shows P own error here)
 
 pub of_bits : (P : Signal → (ℕ → ℤ) → Type 0) (own error : ℤ) (came : Arrival) (bytes : Bor (List ℕ)) (offset : ℤ)
     → came ≡ arrival.Bits bytes offset
@@ -252,26 +229,13 @@ delivered_correct list k past h found sender payload is correct carries sends ta
 abbrev DeliversNone : Medl → ℕ → NodePast → Hearing → Entry → Type 0
 DeliversNone list k past h e = delivery list k past h e ≡ None
 
-first_none : (list : Medl) (k : ℕ) (past : NodePast) (h : Hearing) (x y : Option Entry)
-    → IfSome x (DeliversNone list k past h) → IfSome y (DeliversNone list k past h)
-    → DeliversNone list k past h (unwrap_or (option_or x y) entry.Waited)
-first_none list k past h None None p q = refl
-first_none list k past h None (Some e) p q = q
-first_none list k past h (Some e) y p q = p
-
-join_none : (list : Medl) (k : ℕ) (past : NodePast) (h : Hearing) (deviation : ℤ) (c : Option CState)
-    → IfSome (join_entry deviation c) (DeliversNone list k past h)
-join_none list k past h deviation None = tt
-join_none list k past h deviation (Some c) = refl
-
-channel_none : (list : Medl) (k : ℕ) (past : NodePast) (h : Hearing) (signal : Signal)
-    → IfSome (channel_join list h.deviation signal) (DeliversNone list k past h)
-channel_none list k past h Silence = tt
-channel_none list k past h Noise = tt
-channel_none list k past h (Bits sender bytes) = join_none list k past h (h.deviation sender) (joinable list bytes)
+join_none : (list : Medl) (k : ℕ) (past : NodePast) (h : Hearing) (c : Option CState)
+    → IfSome c (λ c. (d : ℤ) → DeliversNone list k past h (entry.Joined c.slot c d))
+join_none list k past h None = tt
+join_none list k past h (Some c) = λ d. refl
 
 pub listening-none : (list : Medl) (k : ℕ) (past : NodePast) (h : Hearing)
     → delivery list k past h (listening_entry list h) ≡ None
 listening-none list k past h =
-    first_none list k past h (channel_join list h.deviation h.a) (channel_join list h.deviation h.b)
-    (channel_none list k past h h.a) (channel_none list k past h h.b)
+    listening_entry-holds (DeliversNone list k past h) list h refl
+    (λ bytes. join_none list k past h (joinable list bytes))

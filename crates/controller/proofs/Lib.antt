@@ -12,5 +12,4 @@ pub mod Sets
 pub mod Standing
 pub mod StatusLaws
 pub mod Stints
-mod Walks
 pub mod WholeSlot

@@ -1,7 +1,7 @@
 -- What a controller stands for at each turn of a slot: what it keeps is all that the rules ask of its node's past.
-use Rattle.std.proofs.Common.{◌≡◌, ℕ, ◌+◌, ◌≤◌, min, ℤ, pos, ◌+ℤ◌, Bool, true, false, cond, ◌&&◌, List, [], ◌∷◌, ◌++◌}
+use Rattle.std.proofs.Common.{◌≡◌, ℕ, zero, ◌+◌, ◌≤◌, min, ℤ, pos, ◌+ℤ◌, Bool, true, false, cond, ◌&&◌, List, [], ◌∷◌}
 use Rattle.std.proofs.Common.{length, take, refl, ap, sym, ◌∙◌, inl, inr, arith, ◌<◌, Some, None, Option, subst, suc}
-use Rattle.std.proofs.Common.{is_some}
+use Rattle.std.proofs.Common.{is_some, ◌++◌}
 use Rattle.std.specs.Prelude.{nat_le}
 use Rattle.std.proofs.lemmas.Bool.{cases_lt, le-leb, lt-leb}
 use Rattle.ttp_world.specs.declared.medl.Medl.{Medl}
@@ -16,12 +16,12 @@ use Rattle.ttp_world.specs.declared.node.Phase.TheVariants as phase
 use Rattle.ttp_world.specs.Act.{act, phase_act, coming_place}
 use Rattle.ttp_world.specs.After.{past_after, silent_slots_after, notes_after, is_active_entry, correction_after}
 use Rattle.ttp_world.specs.After.{place_after}
-use Rattle.ttp_world.specs.Clock.{notes_in, begins_round, is_corrected, slot_change, join_deviation}
+use Rattle.ttp_world.specs.Clock.{notes_in, begins_round, slot_change, join_deviation}
 use Rattle.ttp_world.specs.Conduct.{node_frames, new_entry, delivery, carries_payload}
 use Rattle.ttp_world.specs.Diary.{Place, SlotSurroundings, Diary, Surroundings, may_follow}
 use Rattle.ttp_world.specs.Medl.{may_start, IsValid}
-use Rattle.ttp_world.specs.Messages.{has_averaged, status_words}
-use Rattle.ttp_world.specs.Past.{NodePast, state_of, past_of}
+use Rattle.ttp_world.specs.Messages.{status_words}
+use Rattle.ttp_world.specs.Past.{NodePast, past_of}
 use Rattle.ttp_world.specs.Reception.{Hearing}
 use Rattle.ttp_world.specs.World.{jump_taken}
 use Rattle.ttp_world.proofs.Entries.{new_entry-follows}
@@ -57,28 +57,20 @@ silent_slots_after-kept count _ silent = refl
 
 -- Notes.
 
--- the last four of some notes put before the last four of others
-take-put : (more notes : List ℤ) → take 4 (more ++ take 4 notes) ≡ take 4 (more ++ notes)
-take-put [] [] = refl
-take-put [] (a ∷ []) = refl
-take-put [] (a ∷ b ∷ []) = refl
-take-put [] (a ∷ b ∷ c ∷ []) = refl
-take-put [] (a ∷ b ∷ c ∷ d ∷ notes) = refl
-take-put (x ∷ []) [] = refl
-take-put (x ∷ []) (a ∷ []) = refl
-take-put (x ∷ []) (a ∷ b ∷ []) = refl
-take-put (x ∷ []) (a ∷ b ∷ c ∷ notes) = refl
-take-put (x ∷ y ∷ []) [] = refl
-take-put (x ∷ y ∷ []) (a ∷ []) = refl
-take-put (x ∷ y ∷ []) (a ∷ b ∷ notes) = refl
-take-put (x ∷ y ∷ z ∷ []) [] = refl
-take-put (x ∷ y ∷ z ∷ []) (a ∷ notes) = refl
-take-put (x ∷ y ∷ z ∷ w ∷ more) notes = refl
+-- the last of some notes put before the last of others, of which as many or more are kept
+take-put : (n m : ℕ) (more notes : List ℤ) → n ≤ m → take n (more ++ take m notes) ≡ take n (more ++ notes)
+take-put zero m more notes few = refl
+take-put (suc n) m (x ∷ more) notes few =
+    ap (λ (xs : List ℤ). x ∷ xs) (take-put n m more notes (omega (arith, few)))
+take-put (suc n) zero [] notes few = absurd (omega (arith, few))
+take-put (suc n) (suc m) [] [] few = refl
+take-put (suc n) (suc m) [] (y ∷ notes) few =
+    ap (λ (xs : List ℤ). y ∷ xs) (take-put n m [] notes (omega (arith, few)))
 
 take-noted : (more notes : List ℤ) (begins : Bool)
     → take 4 (more ++ cond begins [] (take 4 notes)) ≡ take 4 (more ++ cond begins [] notes)
 take-noted more notes true = refl
-take-noted more notes false = take-put more notes
+take-noted more notes false = take-put 4 4 more notes (omega arith)
 
 take-noted_active : (more notes : List ℤ) (begins active : Bool)
     → take 4 (cond active (more ++ cond begins [] (take 4 notes)) [])
@@ -155,18 +147,12 @@ delivery-kept list k past h _ = refl
 
 -- What is shown and published.
 
-pub state_of-kept : (past : NodePast) → state_of (kept past) ≡ state_of past
-state_of-kept past = refl
-
 enough-kept : (notes : List ℤ) → nat_le 4 (length (take 4 notes)) ≡ nat_le 4 (length notes)
 enough-kept [] = refl
 enough-kept (a ∷ []) = refl
 enough-kept (a ∷ b ∷ []) = refl
 enough-kept (a ∷ b ∷ c ∷ []) = refl
 enough-kept (a ∷ b ∷ c ∷ d ∷ notes) = sym (le-leb 4 (length (a ∷ b ∷ c ∷ d ∷ notes)) (omega arith))
-
-pub has_averaged-kept : (list : Medl) (past : NodePast) → has_averaged list (kept past) ≡ has_averaged list past
-has_averaged-kept list past = ap (λ b. is_corrected list past.phase past.place && b) (enough-kept past.notes)
 
 pub status_words-kept : (list : Medl) (slot : ℕ) (past : NodePast) (delivers : Bool)
     → status_words list slot (kept past) delivers ≡ status_words list slot past delivers

@@ -1,12 +1,8 @@
 -- The parts of a status, as the code puts them together.
-use Rattle.std.proofs.Common.{◌≡◌, ℕ, ◌+◌, ◌*◌, ◌<◌, Bool, true, false, ◌&&◌, refl, bit_or, arith}
+use Rattle.std.proofs.Common.{◌≡◌, ℕ, ◌+◌, Bool, true, false, ◌&&◌, refl, bit_or}
 use Rattle.std.specs.Prelude.{◌==◌}
 use Rattle.std.proofs.lemmas.Bool.{and_parts, eqb-true}
-use Rattle.ttp_world.specs.declared.node.CState.{CState}
-use Rattle.ttp_world.specs.Fitting.{number_in}
-use Rattle.ttp_world.specs.Frame.{cstate_bytes}
 use Rattle.ttp_world.specs.Messages.{flag}
-use Rattle.ttp_base.specs.NodeSet.{set_bits}
 
 -- What holds of both truth values, by computing.
 
@@ -49,13 +45,3 @@ flags_word-sum a b c d e f g h =
     let at_f = both-at (λ f. both (λ g. both (λ h. is_sum a b c d e f g h))) at_e f in
     let at_g = both-at (λ g. both (λ h. is_sum a b c d e f g h)) at_f g in
     eqb-true _ _ (both-at (λ h. is_sum a b c d e f g h) at_g h)
-
--- A C-state as a number.
-
-pub number_in-narrow : (c : CState) → c.time < 65536 → c.round < 256 → c.slot < 256 → set_bits c.members < 65536
-    → ((c.time * 256 + c.round) * 256 + c.slot) * 65536 + set_bits c.members ≡ number_in (cstate_bytes 2 c)
-number_in-narrow c time round slot members = omega arith
-
-pub number_in-wide : (c : CState) → c.time < 65536 → c.round < 256 → c.slot < 256 → set_bits c.members < 16777216
-    → ((c.time * 256 + c.round) * 256 + c.slot) * 16777216 + set_bits c.members ≡ number_in (cstate_bytes 3 c)
-number_in-wide c time round slot members = omega arith

@@ -29,7 +29,7 @@ use Rattle.ttp_world.specs.Counts.{is_rejection}
 use Rattle.ttp_world.specs.Diary.{Place, start_place, joined_place, next_place, Diary, SlotSurroundings, phase_after}
 use Rattle.ttp_world.specs.Medl.{IsValid, plan_at}
 use Rattle.ttp_world.specs.Membership.{AreNodes}
-use Rattle.ttp_world.specs.Past.{NodePast, retried_of, limit_of, no_past}
+use Rattle.ttp_world.specs.Past.{NodePast, retried_of, limit_of}
 use Rattle.ttp_world.proofs.Lists.{nodes-most}
 use Rattle.ttp_world.proofs.MemberSets.{members_after-Judged}
 use Rattle.ack_check.specs.Moves.{moved_members, IsDoubtElsewhere, IsMoveOf}
@@ -237,10 +237,6 @@ begun list k past node phase place members accepted rejected acked limit notes =
       few = notes.few;
       notes = notes.near;
     }
-
-pub no_past-within : (list : Medl) (k : ℕ) → IsValid list → k < length list.slots → IsWithin list k (no_past list k)
-no_past-within list k valid node =
-    idle list k (no_past list k) valid node refl refl refl refl refl refl refl (omega arith) refl
 
 -- with one more entry, a node's past stays within what it can keep of it
 pub kept_after-within : (list : Medl) (k : ℕ) (past : NodePast) (e : Entry) (s : SlotSurroundings) → IsValid list

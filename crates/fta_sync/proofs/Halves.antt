@@ -46,9 +46,6 @@ without_first low high a b c d p q r =
     (omega (arith, ints, clamps, q.0, r.0), omega (arith, ints, clamps, p.1, q.1))
     (omega (arith, ints, clamps, p.0, q.0), omega (arith, ints, clamps, q.1, r.1))
 
-le_of_both : (x y : ℤ) (b : Bool) → (int_le x y && b) ≡ true → x ≤ℤ y
-le_of_both x y b h = grind (arith, ints)
-
 both_of_test : (low high z : ℤ) → is_between low high z ≡ true → Between low high z
 both_of_test low high z h = (grind (arith, ints), grind (arith, ints))
 

@@ -10,5 +10,5 @@ pub mod Numerals
 pub mod Outputs
 pub mod Room
 pub mod SetWords
-mod Walks
+pub mod Walks
 mod Written

@@ -1,4 +1,4 @@
--- A step that the walks of `src/asked.rt` and `src/pieces.rt` share. Assumes `Logic`.
+-- A step of the walks that make a value of no bytes. Assumes `Logic`.
 use Rattle.std.proofs.Common.{List, [], ◌∷◌, refl}
 use seplogic.Ra.Ura.{Ura}
 use mir.Val.{Val, vstruct, vnil}

@@ -26,7 +26,7 @@ use denote.Triple.Entry.{alive}
 use denote.Triple.Spec.{Meets, triple_of}
 use denote.Triple.Table.{entered}
 use denote.Triple.Walked.{says, Stays, stay_dropped, walk_of, ends_at, walk_Meets, Goes-dropped}
-use Rattle.controller.proofs.Walks.{none, none_made}
+use Rattle.ttp_base.proofs.Walks.{none, none_made}
 use Rattle.ttp_world.specs.contracts.medl.Medl as Medl
 use Rattle.controller.specs.contracts.given_list.GivenList as GivenList
 use Rattle.controller.specs.contracts.given_list.GivenList.of as F
