@@ -164,8 +164,7 @@ module _ (shape : Shape) where
             (writer_beside s r id me.0 (Reader (with_first c y)) y is at),
         (
           (λ k. (as_reader (with_first c) (sym is k), me.1)),
-          subst (Follows c)
-              (sym is) record { above_floor = omega arith; above_seen = e; small = counter_small s r },
+          subst (Follows c) (sym is) record { above_floor = omega arith; above_seen = e; small = counter_small s r },
         ),
       )
 
@@ -263,8 +262,7 @@ module _ (shape : Shape) where
             (writer_beside s r id me.0 (Reader (with_last c y)) y is at),
         (
           (λ k. (as_reader (with_last c) (sym is k), me.1)),
-          subst (Follows c)
-              (sym is) record { above_floor = omega arith; above_seen = e; small = counter_small s r },
+          subst (Follows c) (sym is) record { above_floor = omega arith; above_seen = e; small = counter_small s r },
         ),
       )
 
@@ -305,8 +303,7 @@ module _ (shape : Shape) where
               (seats_stay (Knows shape new r.writer (with_open r.writing)) s.views id (Writer (with_open w)) (
                 known.0,
                 ap with_open same,
-                settled_stays c new w.messages w.messages w.joined (omega arith)
-                    (λ p m. m) known.2,
+                settled_stays c new w.messages w.messages w.joined (omega arith) (λ p m. m) known.2,
               )
               (λ j d other there. others_stay c new r.writer r.writing (with_open r.writing) j
               (λ e. other (e ∙ sym known.0))
@@ -524,8 +521,7 @@ module _ (shape : Shape) where
             (subst (K id) (sym both_is) (
               known.0,
               ap (with_settled y) same,
-              All-push (IsSettled w.messages c) w.joined
-                  (reading_settlement y) known.2 fresh,
+              All-push (IsSettled w.messages c) w.joined (reading_settlement y) known.2 fresh,
             ))
             stays j d);
       }

@@ -24,8 +24,7 @@ length-bits_of_bytes [] = refl
 length-bits_of_bytes (byte ∷ bytes) =
     omega (
       arith,
-      length-append (bits_of_byte byte)
-          (bits_of_bytes bytes),
+      length-append (bits_of_byte byte) (bits_of_bytes bytes),
       length-bits_of 8 byte,
       length-bits_of_bytes bytes,
     )

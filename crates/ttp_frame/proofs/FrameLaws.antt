@@ -161,8 +161,7 @@ words_told wide true start v w place bytes fit fit_too word word_too carried car
     omega (
       arith,
       length-append place (big_endian width v),
-      length-append place
-          (big_endian width w),
+      length-append place (big_endian width w),
       length-big_endian width v,
       length-big_endian width w,
     ) in

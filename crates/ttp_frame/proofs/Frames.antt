@@ -131,8 +131,7 @@ AreParts-ended header size start piece before payload bytes is place = record {
           arith,
           length-append all word,
           length-append piece payload,
-          length-big_endian 3
-              (check_word start (before ++ all)),
+          length-big_endian 3 (check_word start (before ++ all)),
         )
 
     few : length payload ≡ min size (length bytes - (1 + length piece))

@@ -47,8 +47,7 @@ returns-clause-joined c =
     omega (
       arith,
       length-xor_bytes bytes flips,
-      length-frame
-          (member_bytes f.wide) f.header f.cstate f.payload.now c.args.start,
+      length-frame (member_bytes f.wide) f.header f.cstate f.payload.now c.args.start,
     ) in
     λ list valid wide start.
     joinable-alike list f.header one two some
