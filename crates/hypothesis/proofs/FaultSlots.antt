@@ -14,13 +14,16 @@ use Rattle.hypothesis.specs.Walks.{earliest_after, fault_slots_before}
 use Rattle.hypothesis.proofs.Firsts.{or-head}
 
 pub first_too_early-append : (gap earliest : ℕ) (xs ys : List ℕ)
-    → first_too_early gap earliest (xs ++ ys) ≡ option_or (first_too_early gap earliest xs) (first_too_early gap (earliest_after gap earliest xs) ys)
+    → first_too_early gap earliest (xs ++ ys)
+    ≡ option_or (first_too_early gap earliest xs) (first_too_early gap (earliest_after gap earliest xs) ys)
 first_too_early-append gap earliest [] ys = refl
 first_too_early-append gap earliest (x ∷ xs) ys =
-    or-head (nat_lt x earliest) x (first_too_early gap (x + gap) (xs ++ ys)) (first_too_early gap (x + gap) xs) (first_too_early gap (earliest_after gap (x + gap) xs) ys)
+    or-head (nat_lt x earliest) x (first_too_early gap (x + gap) (xs ++ ys)) (first_too_early gap (x + gap) xs)
+    (first_too_early gap (earliest_after gap (x + gap) xs) ys)
     (first_too_early-append gap (x + gap) xs ys)
 
-pub earliest_after-append : (gap earliest : ℕ) (xs ys : List ℕ) → earliest_after gap earliest (xs ++ ys) ≡ earliest_after gap (earliest_after gap earliest xs) ys
+pub earliest_after-append : (gap earliest : ℕ) (xs ys : List ℕ)
+    → earliest_after gap earliest (xs ++ ys) ≡ earliest_after gap (earliest_after gap earliest xs) ys
 earliest_after-append gap earliest [] ys = refl
 earliest_after-append gap earliest (x ∷ xs) ys = earliest_after-append gap (x + gap) xs ys
 
@@ -34,7 +37,8 @@ pub earliest-some : (gap earliest slot n : ℕ) → 0 < n → earliest_after gap
 earliest-some gap earliest slot zero some = absurd (omega arith)
 earliest-some gap earliest slot (suc n) some = earliest-again gap slot n
 
-pub too_early-soon : (gap earliest slot n : ℕ) → 0 < n → slot < earliest → first_too_early gap earliest (replicate n slot) ≡ Some slot
+pub too_early-soon : (gap earliest slot n : ℕ) → 0 < n → slot < earliest
+    → first_too_early gap earliest (replicate n slot) ≡ Some slot
 too_early-soon gap earliest slot zero some soon = absurd (omega arith)
 too_early-soon gap earliest slot (suc n) some soon =
     ap (λ b. cond b (Some slot) (first_too_early gap (slot + gap) (replicate n slot))) (lt-ltb slot earliest soon)
@@ -43,10 +47,12 @@ either-way : (b : Bool) (slot : ℕ) (rest : Option ℕ) → rest ≡ Some slot 
 either-way true slot rest is = refl
 either-way false slot rest is = is
 
-pub too_early-many : (gap earliest slot n : ℕ) → 0 < gap → 1 < n → first_too_early gap earliest (replicate n slot) ≡ Some slot
+pub too_early-many : (gap earliest slot n : ℕ) → 0 < gap → 1 < n
+    → first_too_early gap earliest (replicate n slot) ≡ Some slot
 too_early-many gap earliest slot zero wide many = absurd (omega arith)
 too_early-many gap earliest slot (suc n) wide many =
-    either-way (nat_lt slot earliest) slot (first_too_early gap (slot + gap) (replicate n slot)) (too_early-soon gap (slot + gap) slot n (omega arith) (omega arith))
+    either-way (nat_lt slot earliest) slot (first_too_early gap (slot + gap) (replicate n slot))
+    (too_early-soon gap (slot + gap) slot n (omega arith) (omega arith))
 
 -- The slots of faults.
 
@@ -64,32 +70,42 @@ reverse-replicate : (n slot : ℕ) → reverse (replicate n slot) ≡ replicate 
 reverse-replicate zero slot = refl
 reverse-replicate (suc n) slot =
     let next : n + 1 ≡ suc n = omega arith in
-    reverse_onto (replicate n slot) slot [] ∙ ap (λ rest. rest ++ slot ∷ []) (reverse-replicate n slot) ∙ replicate_more n slot
+    reverse_onto (replicate n slot) slot [] ∙ ap (λ rest. rest ++ slot ∷ []) (reverse-replicate n slot)
+    ∙ replicate_more n slot
     ∙ ap (λ m. replicate m slot) next
 
-slots-later : (slot : ℕ) (ks : List ℕ) (faulty : List FaultyNode) → reverse (slots_of (all_in slot ks ++ faulty)) ≡ reverse (slots_of faulty) ++ replicate (length (all_in slot ks)) slot
+slots-later : (slot : ℕ) (ks : List ℕ) (faulty : List FaultyNode)
+    → reverse (slots_of (all_in slot ks ++ faulty))
+    ≡ reverse (slots_of faulty) ++ replicate (length (all_in slot ks)) slot
 slots-later slot ks faulty =
-    ap reverse (map-append (λ (f : FaultyNode). f.slot) (all_in slot ks) faulty) ∙ reverse-append (slots_of (all_in slot ks)) (slots_of faulty)
+    ap reverse (map-append (λ (f : FaultyNode). f.slot) (all_in slot ks) faulty)
+    ∙ reverse-append (slots_of (all_in slot ks)) (slots_of faulty)
     ∙ ap (λ slots. reverse (slots_of faulty) ++ reverse slots) (slots-all_in slot ks)
     ∙ ap (λ slots. reverse (slots_of faulty) ++ slots) (reverse-replicate (length ks) slot)
-    ∙ ap (λ n. reverse (slots_of faulty) ++ replicate n slot) (sym (length-map ks (λ (k : ℕ). let f : FaultyNode = record { slot = slot; node = k } in f)))
+    ∙ ap (λ n. reverse (slots_of faulty) ++ replicate n slot)
+    (sym (length-map ks (λ (k : ℕ). let f : FaultyNode = record { slot = slot; node = k } in f)))
 
-pub fault_slots-none : (list : Medl) (script : Script) (start : ClusterStart) → fault_slots_before list script start 0 ≡ []
+pub fault_slots-none : (list : Medl) (script : Script) (start : ClusterStart)
+    → fault_slots_before list script start 0 ≡ []
 fault_slots-none list script start =
     let none : min 0 script.slots ≡ 0 = omega arith in
     ap (λ t. reverse (slots_of (faulty_nodes_before list script start t))) none
 
 -- the faults of a slot of the run come after those of the slots before it
 pub fault_slots-next : (list : Medl) (script : Script) (start : ClusterStart) (slot count : ℕ)
-    → (slot < script.slots → count ≡ length (faulty_nodes_in list script start slot (faulty_nodes_before list script start slot)))
+    → (slot < script.slots
+    → count ≡ length (faulty_nodes_in list script start slot (faulty_nodes_before list script start slot)))
     → (script.slots ≤ slot → count ≡ 0)
-    → fault_slots_before list script start (slot + 1) ≡ fault_slots_before list script start slot ++ replicate count slot
+    → fault_slots_before list script start (slot + 1)
+    ≡ fault_slots_before list script start slot ++ replicate count slot
 fault_slots-next list script start slot count within past = elim (cases_lt slot script.slots) [
   | inl less ↦
       let next : min (slot + 1) script.slots ≡ suc slot = omega arith in
       let now : slot ≡ min slot script.slots = omega arith in
       let before = faulty_nodes_before list script start slot in
-      let made = nodes_made (loss_in list script start (numbers_of before) slot) ++ jumpers_in list script (numbers_of before) slot in
+      let made =
+      nodes_made (loss_in list script start (numbers_of before) slot)
+      ++ jumpers_in list script (numbers_of before) slot in
       ap (λ t. reverse (slots_of (faulty_nodes_before list script start t))) next
       ∙ slots-later slot made before
       ∙ ap (λ n. reverse (slots_of before) ++ replicate n slot) (sym (within less))

@@ -6,39 +6,47 @@ use Rattle.std.proofs.lemmas.Bool.{cases_lt, lt-ltb, le-ltb}
 use Rattle.std.specs.Option.{option_or}
 use Rattle.hypothesis.specs.Walks.{first_lack}
 
-pub or-head : (b : Bool) (k : ℕ) (rest first second : Option ℕ) → rest ≡ option_or first second → cond b (Some k) rest ≡ option_or (cond b (Some k) first) second
+pub or-head : (b : Bool) (k : ℕ) (rest first second : Option ℕ) → rest ≡ option_or first second
+    → cond b (Some k) rest ≡ option_or (cond b (Some k) first) second
 or-head true k rest first second is = refl
 or-head false k rest first second is = is
 
 abbrev if_lacks : (ℕ → Bool) → ℕ → Option ℕ
 if_lacks lacks k = cond (lacks k) (Some k) None
 
-find-next : (lacks : ℕ → Bool) (a n : ℕ) → find lacks (range_with_len a (suc n)) ≡ option_or (find lacks (range_with_len a n)) (if_lacks lacks (a + n))
+find-next : (lacks : ℕ → Bool) (a n : ℕ)
+    → find lacks (range_with_len a (suc n)) ≡ option_or (find lacks (range_with_len a n)) (if_lacks lacks (a + n))
 find-next lacks a zero = let here : a ≡ a + 0 = omega arith in ap (if_lacks lacks) here
 find-next lacks a (suc n) =
     let there : (a + 1) + n ≡ a + suc n = omega arith in
-    or-head (lacks a) a (find lacks (range_with_len (a + 1) (suc n))) (find lacks (range_with_len (a + 1) n)) (if_lacks lacks (a + suc n))
+    or-head (lacks a) a (find lacks (range_with_len (a + 1) (suc n))) (find lacks (range_with_len (a + 1) n))
+    (if_lacks lacks (a + suc n))
     (find-next lacks (a + 1) n ∙ ap (λ k. option_or (find lacks (range_with_len (a + 1) n)) (if_lacks lacks k)) there)
 
 -- The first lack.
 
-pub lack-before : (enough : Bool) (lacks : ℕ → Bool) (from slot : ℕ) → slot < from → first_lack enough lacks from slot ≡ None
+pub lack-before : (enough : Bool) (lacks : ℕ → Bool) (from slot : ℕ) → slot < from
+    → first_lack enough lacks from slot ≡ None
 lack-before enough lacks from slot less =
-    ap (λ b. cond b None (cond enough (find lacks (range_with_len from (slot - from))) (Some from))) (lt-ltb slot from less)
+    ap (λ b. cond b None (cond enough (find lacks (range_with_len from (slot - from))) (Some from)))
+    (lt-ltb slot from less)
 
 pub lack-since : (enough : Bool) (lacks : ℕ → Bool) (from slot n : ℕ) → from ≤ slot → slot - from ≡ n
     → first_lack enough lacks from slot ≡ cond enough (find lacks (range_with_len from n)) (Some from)
 lack-since enough lacks from slot n since size =
-    ap (λ b. cond b None (cond enough (find lacks (range_with_len from (slot - from))) (Some from))) (le-ltb slot from since)
+    ap (λ b. cond b None (cond enough (find lacks (range_with_len from (slot - from))) (Some from)))
+    (le-ltb slot from since)
     ∙ ap (λ m. cond enough (find lacks (range_with_len from m)) (Some from)) size
 
 lack-more : (enough : Bool) (lacks : ℕ → Bool) (from slot : ℕ) → from ≤ slot
-    → first_lack enough lacks from (slot + 1) ≡ cond enough (option_or (find lacks (range_with_len from (slot - from))) (if_lacks lacks slot)) (Some from)
+    → first_lack enough lacks from (slot + 1)
+    ≡ cond enough (option_or (find lacks (range_with_len from (slot - from))) (if_lacks lacks slot)) (Some from)
 lack-more enough lacks from slot since =
     let here : from + (slot - from) ≡ slot = omega arith in
     lack-since enough lacks from (slot + 1) (suc (slot - from)) (omega arith) (omega arith)
     ∙ ap (λ found. cond enough found (Some from)) (find-next lacks from (slot - from))
-    ∙ ap (λ k. cond enough (option_or (find lacks (range_with_len from (slot - from))) (if_lacks lacks k)) (Some from)) here
+    ∙ ap (λ k. cond enough (option_or (find lacks (range_with_len from (slot - from))) (if_lacks lacks k))
+    (Some from)) here
 
 stays : (enough : Bool) (found more : Option ℕ) (from : ℕ) → is_some (cond enough found (Some from)) ≡ true
     → cond enough found (Some from) ≡ cond enough (option_or found more) (Some from)
@@ -55,15 +63,18 @@ lack-found enough lacks from slot some = elim (cases_lt slot from) [
       grind arith
   | inr since ↦
       let now = lack-since enough lacks from slot (slot - from) since refl in
-      now ∙ stays enough (find lacks (range_with_len from (slot - from))) (if_lacks lacks slot) from (ap is_some (sym now) ∙ some)
+      now ∙ stays enough (find lacks (range_with_len from (slot - from))) (if_lacks lacks slot) from
+      (ap is_some (sym now) ∙ some)
       ∙ sym (lack-more enough lacks from slot since)
 ]
 
-pub lack-early : (enough : Bool) (lacks : ℕ → Bool) (from slot : ℕ) → slot + 1 < from → first_lack enough lacks from slot ≡ first_lack enough lacks from (slot + 1)
+pub lack-early : (enough : Bool) (lacks : ℕ → Bool) (from slot : ℕ) → slot + 1 < from
+    → first_lack enough lacks from slot ≡ first_lack enough lacks from (slot + 1)
 lack-early enough lacks from slot less =
     lack-before enough lacks from slot (omega arith) ∙ sym (lack-before enough lacks from (slot + 1) less)
 
-nothing-yet : (enough : Bool) (found more : Option ℕ) (from : ℕ) → cond enough found (Some from) ≡ None → cond enough (option_or found more) (Some from) ≡ more
+nothing-yet : (enough : Bool) (found more : Option ℕ) (from : ℕ) → cond enough found (Some from) ≡ None
+    → cond enough (option_or found more) (Some from) ≡ more
 nothing-yet true None more from none = refl
 nothing-yet true (Some k) more from none = grind arith
 nothing-yet false found more from none = grind arith
@@ -77,19 +88,22 @@ told-by true k = refl
 told-by false k = refl
 
 -- where nothing was found, the answer of one slot more decides
-pub lack-next : (enough fine : Bool) (lacks : ℕ → Bool) (from slot : ℕ) → from ≤ slot + 1 → is_some (first_lack enough lacks from slot) ≡ false
+pub lack-next : (enough fine : Bool) (lacks : ℕ → Bool) (from slot : ℕ) → from ≤ slot + 1
+    → is_some (first_lack enough lacks from slot) ≡ false
     → (slot + 1 ≡ from → enough ≡ fine) → lacks slot ≡ not fine
     → first_lack enough lacks from (slot + 1) ≡ cond fine None (Some (max slot from))
 lack-next enough fine lacks from slot near none at_start after = elim (cases_lt slot from) [
   | inl less ↦
       let top : from ≡ max slot from = omega arith in
-      lack-since enough lacks from (slot + 1) 0 near (omega arith) ∙ ap (λ b. cond b None (Some from)) (at_start (omega arith))
+      lack-since enough lacks from (slot + 1) 0 near (omega arith)
+      ∙ ap (λ b. cond b None (Some from)) (at_start (omega arith))
       ∙ ap (λ k. cond fine None (Some k)) top
   | inr since ↦
       let top : slot ≡ max slot from = omega arith in
       let found = find lacks (range_with_len from (slot - from)) in
       let missing = nothing (first_lack enough lacks from slot) none in
       lack-more enough lacks from slot since
-      ∙ nothing-yet enough found (if_lacks lacks slot) from (sym (lack-since enough lacks from slot (slot - from) since refl) ∙ missing)
+      ∙ nothing-yet enough found (if_lacks lacks slot) from
+      (sym (lack-since enough lacks from slot (slot - from) since refl) ∙ missing)
       ∙ ap (λ b. cond b (Some slot) None) after ∙ told-by fine slot ∙ ap (λ k. cond fine None (Some k)) top
 ]

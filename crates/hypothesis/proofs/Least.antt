@@ -19,12 +19,14 @@ lesser-turns n (Some m) None = ap Some (omega arith)
 lesser-turns n (Some m) (Some l) = ap Some (omega arith)
 
 found-next : {X : Type 0} (f : X → Option ℕ) (xs : List X) (least found : Option ℕ) (x : X) → f x ≡ found
-    → lesser_of (with_found found least) (least_of (filter_map f xs)) ≡ lesser_of least (least_of (filter_map f (x ∷ xs)))
+    → lesser_of (with_found found least) (least_of (filter_map f xs))
+    ≡ lesser_of least (least_of (filter_map f (x ∷ xs)))
 found-next f xs least None x is = rw is refl
 found-next f xs least (Some n) x is = rw is (lesser-turns n least (least_of (filter_map f xs)))
 
 pub least-next : {X : Type 0} (f : X → Option ℕ) (x : X) (xs : List X) (least total : Option ℕ)
-    → lesser_of least (least_of (filter_map f (x ∷ xs))) ≡ total → lesser_of (with_found (f x) least) (least_of (filter_map f xs)) ≡ total
+    → lesser_of least (least_of (filter_map f (x ∷ xs))) ≡ total
+    → lesser_of (with_found (f x) least) (least_of (filter_map f xs)) ≡ total
 least-next f x xs least total so_far = found-next f xs least (f x) x refl ∙ so_far
 
 pub range-next : (k n : ℕ) → k < n → range_with_len k (n - k) ≡ k ∷ range_with_len (k + 1) (n - (k + 1))

@@ -17,23 +17,28 @@ use Rattle.ttp_world.specs.Medl.{plan_at}
 use Rattle.ttp_world.specs.Script.{is_on, is_ever_on, has_jump}
 use Rattle.hypothesis.specs.Standing.{HaveSameNodes}
 
-pub same_jumpers : (list : Medl) (script : Script) (s t : List ℕ) (slot : ℕ) → length list.slots ≤ most_nodes → HaveSameNodes s t
+pub same_jumpers : (list : Medl) (script : Script) (s t : List ℕ) (slot : ℕ) → length list.slots ≤ most_nodes
+    → HaveSameNodes s t
     → jumpers_in list script s slot ≡ jumpers_in list script t slot
 same_jumpers list script s t slot few same =
     same_sieve (jumps_now script s slot) (jumps_now script t slot) (length list.slots)
     (λ j less. ap (λ b. is_on script j slot && (not b && has_jump script j slot)) (same j (omega arith)))
 
-same_others : (list : Medl) (script : Script) (s t : List ℕ) (sender slot : ℕ) → length list.slots ≤ most_nodes → HaveSameNodes s t
+same_others : (list : Medl) (script : Script) (s t : List ℕ) (sender slot : ℕ) → length list.slots ≤ most_nodes
+    → HaveSameNodes s t
     → others_in list script s sender slot ≡ others_in list script t sender slot
 same_others list script s t sender slot few same =
     same_sieve (is_other script s sender slot) (is_other script t sender slot) (length list.slots)
     (λ j less. ap (λ b. is_on script j slot && (not b && not (j == sender))) (same j (omega arith)))
 
-same_sender_loss : (list : Medl) (script : Script) (s t : List ℕ) (slot sender : ℕ) → length list.slots ≤ most_nodes → sender < most_nodes → HaveSameNodes s t
+same_sender_loss : (list : Medl) (script : Script) (s t : List ℕ) (slot sender : ℕ) → length list.slots ≤ most_nodes
+    → sender < most_nodes → HaveSameNodes s t
     → sender_loss list script s slot sender ≡ sender_loss list script t slot sender
 same_sender_loss list script s t slot sender few small same =
-    ap (λ b. if not (is_ever_on script sender) || b then Harmless else receivers_loss script sender slot (others_in list script s sender slot)) (same sender small)
-    ∙ ap (λ others. if not (is_ever_on script sender) || has_node t sender then Harmless else receivers_loss script sender slot others)
+    ap (λ b. if not (is_ever_on script sender) || b then Harmless
+    else receivers_loss script sender slot (others_in list script s sender slot)) (same sender small)
+    ∙ ap (λ others. if not (is_ever_on script sender) || has_node t sender then Harmless
+    else receivers_loss script sender slot others)
     (same_others list script s t sender slot few same)
 
 has_node-append : (xs ys : List ℕ) (k : ℕ) → has_node (xs ++ ys) k ≡ (has_node xs k || has_node ys k)
@@ -41,49 +46,67 @@ has_node-append xs ys k = list_any-append (λ j. j == k) xs ys
 
 same-append : (s t xs ys : List ℕ) → s ≡ t → HaveSameNodes xs ys → HaveSameNodes (s ++ xs) (t ++ ys)
 same-append s t xs ys is same k small =
-    has_node-append s xs k ∙ ap (λ members. has_node members k || has_node xs k) is ∙ ap (λ b. has_node t k || b) (same k small) ∙ sym (has_node-append t ys k)
+    has_node-append s xs k ∙ ap (λ members. has_node members k || has_node xs k) is
+    ∙ ap (λ b. has_node t k || b) (same k small) ∙ sym (has_node-append t ys k)
 
-numbers-of_slot : (slot : ℕ) (ks : List ℕ) (faulty : List FaultyNode) → numbers_of (map (λ k. record { slot = slot; node = k }) ks ++ faulty) ≡ ks ++ numbers_of faulty
+numbers-of_slot : (slot : ℕ) (ks : List ℕ) (faulty : List FaultyNode)
+    → numbers_of (map (λ k. record { slot = slot; node = k }) ks ++ faulty) ≡ ks ++ numbers_of faulty
 numbers-of_slot slot [] faulty = refl
 numbers-of_slot slot (k ∷ ks) faulty = ap (λ rest. k ∷ rest) (numbers-of_slot slot ks faulty)
 
 -- those of a slot come before the others
 numbers-next : (list : Medl) (script : Script) (start : ClusterStart) (slot : ℕ) (faulty : List FaultyNode)
     → numbers_of (faulty_nodes_in list script start slot faulty ++ faulty)
-    ≡ (nodes_made (loss_in list script start (numbers_of faulty) slot) ++ jumpers_in list script (numbers_of faulty) slot) ++ numbers_of faulty
+    ≡ (nodes_made (loss_in list script start (numbers_of faulty) slot)
+    ++ jumpers_in list script (numbers_of faulty) slot) ++ numbers_of faulty
 numbers-next list script start slot faulty =
-    numbers-of_slot slot (nodes_made (loss_in list script start (numbers_of faulty) slot) ++ jumpers_in list script (numbers_of faulty) slot) faulty
+    numbers-of_slot slot
+    (nodes_made (loss_in list script start (numbers_of faulty) slot)
+    ++ jumpers_in list script (numbers_of faulty) slot) faulty
 
 -- the faulty nodes once their clocks have jumped
-pub fallen-same : (list : Medl) (script : Script) (s t jumpers fallen : List ℕ) (slot : ℕ) → length list.slots ≤ most_nodes → HaveSameNodes s t
-    → jumpers ≡ jumpers_in list script s slot → HaveSameNodes fallen (jumpers ++ s) → HaveSameNodes fallen (jumpers_in list script t slot ++ t)
+pub fallen-same : (list : Medl) (script : Script) (s t jumpers fallen : List ℕ) (slot : ℕ)
+    → length list.slots ≤ most_nodes → HaveSameNodes s t
+    → jumpers ≡ jumpers_in list script s slot → HaveSameNodes fallen (jumpers ++ s)
+    → HaveSameNodes fallen (jumpers_in list script t slot ++ t)
 fallen-same list script s t jumpers fallen slot few same is fell k small =
-    fell k small ∙ same-append jumpers (jumpers_in list script t slot) s t (is ∙ same_jumpers list script s t slot few same) same k small
+    fell k small
+    ∙ same-append jumpers (jumpers_in list script t slot) s t
+    (is ∙ same_jumpers list script s t slot few same) same k small
 
-pub same_loss : (list : Medl) (script : Script) (start : ClusterStart) (t fallen : List ℕ) (slot : ℕ) → length list.slots ≤ most_nodes
+pub same_loss : (list : Medl) (script : Script) (start : ClusterStart) (t fallen : List ℕ) (slot : ℕ)
+    → length list.slots ≤ most_nodes
     → expected_sender list start slot < most_nodes → HaveSameNodes fallen (jumpers_in list script t slot ++ t)
-    → (if nat_lt slot start.slot then Harmless else sender_loss list script fallen slot (expected_sender list start slot)) ≡ loss_in list script start t slot
+    → (if nat_lt slot start.slot then Harmless
+    else sender_loss list script fallen slot (expected_sender list start slot)) ≡ loss_in list script start t slot
 same_loss list script start t fallen slot few small same =
     ap (λ loss. if nat_lt slot start.slot then Harmless else loss)
-    (same_sender_loss list script fallen (jumpers_in list script t slot ++ t) slot (expected_sender list start slot) few small same)
+    (same_sender_loss list script fallen (jumpers_in list script t slot ++ t) slot
+    (expected_sender list start slot) few small same)
 
-pub faulty-next : (list : Medl) (script : Script) (start : ClusterStart) (slot : ℕ) (faulty : List FaultyNode) (made fallen all : List ℕ)
+pub faulty-next : (list : Medl) (script : Script) (start : ClusterStart) (slot : ℕ) (faulty : List FaultyNode)
+    (made fallen all : List ℕ)
     → made ≡ nodes_made (loss_in list script start (numbers_of faulty) slot)
-    → HaveSameNodes fallen (jumpers_in list script (numbers_of faulty) slot ++ numbers_of faulty) → HaveSameNodes all (made ++ fallen)
+    → HaveSameNodes fallen (jumpers_in list script (numbers_of faulty) slot ++ numbers_of faulty)
+    → HaveSameNodes all (made ++ fallen)
     → HaveSameNodes all (numbers_of (faulty_nodes_in list script start slot faulty ++ faulty))
 faulty-next list script start slot faulty made fallen all is fell union k small =
     let M = nodes_made (loss_in list script start (numbers_of faulty) slot) in
     let J = jumpers_in list script (numbers_of faulty) slot in
     union k small ∙ same-append made M fallen (J ++ numbers_of faulty) is fell k small
-    ∙ ap (λ members. has_node members k) (sym (append_assoc M J (numbers_of faulty)) ∙ sym (numbers-next list script start slot faulty))
+    ∙ ap (λ members. has_node members k)
+    (sym (append_assoc M J (numbers_of faulty)) ∙ sym (numbers-next list script start slot faulty))
 
-pub count-next : (list : Medl) (script : Script) (start : ClusterStart) (slot : ℕ) (faulty : List FaultyNode) (made jumpers : List ℕ)
-    → made ≡ nodes_made (loss_in list script start (numbers_of faulty) slot) → jumpers ≡ jumpers_in list script (numbers_of faulty) slot
+pub count-next : (list : Medl) (script : Script) (start : ClusterStart) (slot : ℕ) (faulty : List FaultyNode)
+    (made jumpers : List ℕ)
+    → made ≡ nodes_made (loss_in list script start (numbers_of faulty) slot)
+    → jumpers ≡ jumpers_in list script (numbers_of faulty) slot
     → length made + length jumpers ≡ length (faulty_nodes_in list script start slot faulty)
 count-next list script start slot faulty made jumpers is jump =
     let M = nodes_made (loss_in list script start (numbers_of faulty) slot) in
     let J = jumpers_in list script (numbers_of faulty) slot in
-    (λ i. length (is i) + length (jump i)) ∙ sym (length-append M J) ∙ sym (length-map (M ++ J) (λ k. record { slot = slot; node = k }))
+    (λ i. length (is i) + length (jump i)) ∙ sym (length-append M J)
+    ∙ sym (length-map (M ++ J) (λ k. record { slot = slot; node = k }))
 
 few_made : (loss : Loss) → length (nodes_made loss) ≤ 1
 few_made Harmless = omega arith
@@ -98,7 +121,8 @@ few_left : (p : ℕ → Bool) (xs : List ℕ) → length (filter p xs) ≤ lengt
 few_left p [] = omega arith
 few_left p (x ∷ xs) = left-step x (length xs) (filter p xs) (p x) (few_left p xs)
 
-pub count-fits : (list : Medl) (script : Script) (s made jumpers : List ℕ) (slot : ℕ) (loss : Loss) → length list.slots ≤ most_nodes → made ≡ nodes_made loss
+pub count-fits : (list : Medl) (script : Script) (s made jumpers : List ℕ) (slot : ℕ) (loss : Loss)
+    → length list.slots ≤ most_nodes → made ≡ nodes_made loss
     → jumpers ≡ jumpers_in list script s slot → length made + length jumpers ≤ 25
 count-fits list script s made jumpers slot loss few is jump =
     let one : length made ≤ 1 = subst (λ nodes. length nodes ≤ 1) (sym is) (few_made loss) in
@@ -109,7 +133,8 @@ count-fits list script s made jumpers slot loss few is jump =
 
 -- as many nodes to measure
 pub same_steady : (list : Medl) (script : Script) (s t : List ℕ) → length list.slots ≤ most_nodes → HaveSameNodes s t
-    → filter (is_steady list script s) (below (length list.slots)) ≡ filter (is_steady list script t) (below (length list.slots))
+    → filter (is_steady list script s) (below (length list.slots))
+    ≡ filter (is_steady list script t) (below (length list.slots))
 same_steady list script s t few same =
     same_sieve (is_steady list script s) (is_steady list script t) (length list.slots)
     (λ j less. ap (λ b. (plan_at list j).sync && (is_ever_on script j && not b)) (same j (omega arith)))

@@ -12,21 +12,31 @@ use Rattle.hypothesis.proofs.Firsts.{lack-since}
 use Rattle.hypothesis.proofs.Ranges.{none-below, first-below}
 
 pub broken-keep : (list : Medl) (script : Script) (start : ClusterStart) (slot : ℕ) (walk : Walk) → slot < script.slots
-    → HasWalked list script start slot walk → breaks_in list script start slot ≡ true → keep.No 5 slot ≡ started_keep list script (Some start)
+    → HasWalked list script start slot walk → breaks_in list script start slot ≡ true
+    → keep.No 5 slot ≡ started_keep list script (Some start)
 broken-keep list script start slot walk within walked breaks =
     let loss : loss_broken list script start ≡ Some slot =
-    first-below (breaks_in list script start) script.slots slot within (λ k less. walked.whole k less (omega arith)) breaks in
-    sym (ap (λ broken. unless 5 broken (unless 6 (distance_broken list script start) (unless 7 (sync_broken list script start) (keep.Yes start.slot)))) loss)
+    first-below (breaks_in list script start) script.slots slot within
+    (λ k less. walked.whole k less (omega arith)) breaks in
+    sym (ap (λ broken. unless 5 broken
+    (unless 6 (distance_broken list script start)
+    (unless 7 (sync_broken list script start) (keep.Yes start.slot)))) loss)
 
-pub walked-keep : (list : Medl) (script : Script) (start : ClusterStart) (slot : ℕ) (walk : Walk) → slot ≡ max script.slots start.slot
-    → HasWalked list script start slot walk → unless 6 walk.early (unless 7 walk.unsteady (keep.Yes start.slot)) ≡ started_keep list script (Some start)
+pub walked-keep : (list : Medl) (script : Script) (start : ClusterStart) (slot : ℕ) (walk : Walk)
+    → slot ≡ max script.slots start.slot
+    → HasWalked list script start slot walk
+    → unless 6 walk.early (unless 7 walk.unsteady (keep.Yes start.slot)) ≡ started_keep list script (Some start)
 walked-keep list script start slot walk whole walked =
     let loss : loss_broken list script start ≡ None =
     none-below (breaks_in list script start) script.slots (λ k less. walked.whole k (omega arith) less) in
     let run : min slot script.slots ≡ script.slots = omega arith in
     let early : walk.early ≡ distance_broken list script start = walked.early
-    ∙ ap (λ n. first_too_early (two_rounds list) (start.slot + two_rounds list) (reverse (map (λ f. f.slot) (faulty_nodes_before list script start n)))) run in
+    ∙ ap (λ n. first_too_early (two_rounds list) (start.slot + two_rounds list)
+    (reverse (map (λ f. f.slot) (faulty_nodes_before list script start n)))) run in
     let unsteady : walk.unsteady ≡ sync_broken list script start = walked.unsteady
-    ∙ lack-since (has_four_steady list script (faulty_nodes_before list script start start.slot)) (lacks_steady_after list script start) start.slot slot (script.slots - start.slot) (omega arith) (omega arith) in
+    ∙ lack-since (has_four_steady list script (faulty_nodes_before list script start start.slot))
+    (lacks_steady_after list script start) start.slot slot (script.slots - start.slot) (omega arith) (omega arith) in
     (λ i. unless 6 (early i) (unless 7 (unsteady i) (keep.Yes start.slot)))
-    ∙ sym (ap (λ broken. unless 5 broken (unless 6 (distance_broken list script start) (unless 7 (sync_broken list script start) (keep.Yes start.slot)))) loss)
+    ∙ sym (ap (λ broken. unless 5 broken
+    (unless 6 (distance_broken list script start)
+    (unless 7 (sync_broken list script start) (keep.Yes start.slot)))) loss)

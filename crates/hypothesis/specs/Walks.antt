@@ -30,7 +30,8 @@ first_lack enough lacks from slot =
 -- the first slot from that of the start on, and before another, after which there are too few nodes to measure
 abbrev pub first_unsteady : Medl → Script → ClusterStart → ℕ → Option ℕ
 first_unsteady list script start slot =
-    first_lack (has_four_steady list script (faulty_nodes_before list script start start.slot)) (lacks_steady_after list script start) start.slot slot
+    first_lack (has_four_steady list script (faulty_nodes_before list script start start.slot))
+    (lacks_steady_after list script start) start.slot slot
 
 -- a walk has gone over the slots before a slot, and met none whose losses are those of more than one fault
 pub record HasWalked (list : Medl) (script : Script) (start : ClusterStart) (slot : ℕ) (walk : Walk) : Type 0 where

@@ -46,15 +46,18 @@ pub lines_of-cut : (text : List ℕ) (i : ℕ) → position is_line_feed text �
     → lines_of text ≡ without_return (take i text) ∷ lines_of (drop (i + 1) text)
 unfolding lines_of
 lines_of-cut text i here =
-    ap (λ (pieces : List (List ℕ)). without_empty_end (map without_return pieces)) (slice_split_position is_line_feed text i 0 here)
-    ∙ without_empty_end-cons (without_return (take i text)) _ (has_pieces without_return is_line_feed (drop (i + 1) text))
+    ap (λ (pieces : List (List ℕ)). without_empty_end (map without_return pieces))
+    (slice_split_position is_line_feed text i 0 here)
+    ∙ without_empty_end-cons (without_return (take i text)) _
+    (has_pieces without_return is_line_feed (drop (i + 1) text))
 
 -- with no line feed, what is left is a line where it is not empty
 pub lines_of-rest : (text : List ℕ) → position is_line_feed text ≡ None
     → lines_of text ≡ without_empty_end (without_return text ∷ [])
 unfolding lines_of
 lines_of-rest text here =
-    ap (λ (pieces : List (List ℕ)). without_empty_end (map without_return pieces)) (slice_split_nowhere is_line_feed text here)
+    ap (λ (pieces : List (List ℕ)). without_empty_end (map without_return pieces))
+    (slice_split_nowhere is_line_feed text here)
 
 pub lines_of-empty : lines_of [] ≡ []
 unfolding lines_of
@@ -127,7 +130,8 @@ pub words_of-cut : (line : List ℕ) (i : ℕ) → position is_part line ≡ Som
 unfolding words_of
 words_of-cut line i front here =
     ap (filter has_bytes) (slice_split_position is_blank line i 0 here)
-    ∙ ap (λ (b : Bool). cond b (take i line ∷ words_of (drop (i + 1) line)) (words_of (drop (i + 1) line))) (front-has_bytes line i front here)
+    ∙ ap (λ (b : Bool). cond b (take i line ∷ words_of (drop (i + 1) line)) (words_of (drop (i + 1) line)))
+    (front-has_bytes line i front here)
 
 -- or it is what is left
 pub words_of-rest : (line : List ℕ) → position is_part line ≡ Some 0 → position is_blank line ≡ None
@@ -147,5 +151,14 @@ position-start line i here =
     ap (position is_part) (drop-cons line i 0 first.0)
     ∙ position-now is_part (get_or line i 0) (drop (suc i) line) first.1
 
-pub ruleset cuts =
-    (lines_of-cut, lines_of-rest, lines_of-empty, words_of-empty, words_of-start, words_of-blanks, words_of-cut, words_of-rest, position-start)
+pub ruleset cuts = (
+  lines_of-cut,
+  lines_of-rest,
+  lines_of-empty,
+  words_of-empty,
+  words_of-start,
+  words_of-blanks,
+  words_of-cut,
+  words_of-rest,
+  position-start,
+)

@@ -233,5 +233,14 @@ keyword_faults-too_long built list before words None long = refl
 keyword_faults-too_long built list before words (Some form) long =
     form_faults-word built list before words form (not_spelled form words long)
 
-pub ruleset kept =
-    (form_faults-word, form_faults-no_slots, form_faults-not_built, form_faults-stated, stated_faults-slots, stated_faults-on, stated_faults-drift, stated_faults-event, keyword_faults-too_long)
+pub ruleset kept = (
+  form_faults-word,
+  form_faults-no_slots,
+  form_faults-not_built,
+  form_faults-stated,
+  stated_faults-slots,
+  stated_faults-on,
+  stated_faults-drift,
+  stated_faults-event,
+  keyword_faults-too_long,
+)

@@ -55,7 +55,8 @@ faults-more : (list : Medl) (number : ℕ) (before : List Statement) (lines : Li
 faults-more list number before lines line more cut none =
     ap (file_faults is_built list number before) cut
     ∙ ap (λ (found : List LineFault).
-    errors_at number found ++ file_faults is_built list (suc number) (statements_after before (words_of line)) more) none
+    errors_at number found
+    ++ file_faults is_built list (suc number) (statements_after before (words_of line)) more) none
     ∙ ap (λ (n : ℕ). file_faults is_built list n (statements_after before (words_of line)) more) (sym (add-one number))
 
 pub IsReading-more : (list : Medl) (text : List ℕ) (old new : SoFar) (number : ℕ) (rest line more : List ℕ)
@@ -69,7 +70,8 @@ IsReading-more list text old new number rest line more reading cut shorter takes
       before = statements_after before (words_of line);
       stands = takes.after before reading.stands;
       faults = reading.faults
-          ∙ faults-more list number before (lines_of rest) line (lines_of more) cut (takes.faults before reading.stands);
+          ∙ faults-more list number before (lines_of rest) line (lines_of more) cut
+          (takes.faults before reading.stands);
       said = reading.said ∙ ap (statements_of before) cut;
       nodes = nodes;
       valid = right.0;
@@ -93,9 +95,11 @@ pub script_of-refused : (list : Medl) (text : List ℕ) (so_far : SoFar) (number
 unfolding script_of file_script lines_script
 script_of-refused list text so_far number rest line more (refusals.Fault fault) reading cut refuses =
     let before = reading.before in
-    inr (ap (λ (found : List ScriptError). script_or_fault found (stated_script list (statements_of [] (lines_of text))))
+    inr (ap (λ (found : List ScriptError). script_or_fault found
+    (stated_script list (statements_of [] (lines_of text))))
     (reading.faults ∙ ap (file_faults is_built list number before) cut)
-    ∙ script_or_fault-first number (line_faults is_built list before (words_of line)) fault _ _ (refuses before reading.stands))
+    ∙ script_or_fault-first number (line_faults is_built list before (words_of line)) fault _ _
+    (refuses before reading.stands))
 script_of-refused list text so_far number rest line more refusals.Memory reading cut refuses = inl refl
 
 -- no line is left
@@ -127,7 +131,8 @@ values-end list text so_far number rest reading =
 pub script_of-read : (list : Medl) (text : List ℕ) (number : ℕ) (result : Result Script ScriptError)
     → file_faults is_built list 1 [] (lines_of text) ≡ end_faults number (statements_of [] (lines_of text))
     → (result ≡ Err errors.Memory)
-    ⊎ (result ≡ script_or_fault (end_faults number (statements_of [] (lines_of text))) (stated_script list (statements_of [] (lines_of text))))
+    ⊎ (result ≡ script_or_fault (end_faults number (statements_of [] (lines_of text)))
+    (stated_script list (statements_of [] (lines_of text))))
     → (result ≡ Err errors.Memory) ⊎ (result ≡ script_of list text)
 unfolding script_of file_script lines_script
 script_of-read list text number result found (inl refused) = inl refused

@@ -74,7 +74,8 @@ size-filter-cond false piece kept size less = omega arith
 
 size-filter : (p : List ℕ → Bool) (pieces : List (List ℕ)) → size_of (filter p pieces) ≤ size_of pieces
 size-filter p [] = lit≤ tt
-size-filter p (piece ∷ pieces) = size-filter-cond (p piece) piece (filter p pieces) (size_of pieces) (size-filter p pieces)
+size-filter p (piece ∷ pieces) =
+    size-filter-cond (p piece) piece (filter p pieces) (size_of pieces) (size-filter p pieces)
 
 size-words_of : (line : List ℕ) → size_of (words_of line) ≤ length line + 1
 unfolding words_of
@@ -95,7 +96,11 @@ has_bytes-length (x ∷ xs) has = omega arith
 size-two_each : (words : List (List ℕ)) → All HasBytes words → 2 * length words ≤ size_of words
 size-two_each [] has = lit≤ tt
 size-two_each (word ∷ words) has =
-    omega (arith, has_bytes-length word (All-head HasBytes word words has), size-two_each words (All-tail HasBytes word words has))
+    omega (
+      arith,
+      has_bytes-length word (All-head HasBytes word words has),
+      size-two_each words (All-tail HasBytes word words has),
+    )
 
 -- Lines that say what happens in slots.
 
@@ -137,4 +142,8 @@ pub size-event_line : (line : List ℕ) (form : Keyword) → keyword_of (word_at
     → is_event_form form ≡ true → is_spelled form (words_of line) ≡ true
     → 8 ≤ with_end line
 size-event_line line form names of_event spelled =
-    omega (arith, size-event_words (words_of line) form (all-have_bytes line) names of_event spelled, size-words_of line)
+    omega (
+      arith,
+      size-event_words (words_of line) form (all-have_bytes line) names of_event spelled,
+      size-words_of line,
+    )

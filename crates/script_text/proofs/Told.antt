@@ -19,7 +19,8 @@ each_said : {X : Type 0} (said : ℕ → Option X) (kept : List (Option X)) (n :
     → map said (below n) ≡ kept
 each_said said kept n stands nodes = ext_get_or None (map said (below n)) kept
     (length-map-range_with_len said 0 n ∙ sym nodes)
-    (λ k within. get_or-map-range_with_len said 0 n k k None (omega (arith, length-map-range_with_len said 0 n)) (omega arith) ∙ sym (stands k))
+    (λ k within. get_or-map-range_with_len said 0 n k k None (omega (arith, length-map-range_with_len said 0 n))
+    (omega arith) ∙ sym (stands k))
 
 pub stated_script-kept : (list : Medl) (so_far : SoFar) (said : List Statement) (number slots : ℕ)
     (on : List (Option ℕ)) (drift : List ℤ) (events : List Event)
@@ -34,7 +35,8 @@ stated_script-kept list so_far said number slots on drift events stands nodes so
       sym stands.slots ∙ some,
       each_said (on_of said) so_far.on.items (length list.slots) stands.on (omega (arith, nodes.on, so_far.on.ok)),
       sym (map-map (λ (d : Option ℤ). unwrap_or d (pos 0)) (drift_of said) (below (length list.slots))),
-      each_said (drift_of said) so_far.drift.items (length list.slots) stands.drift (omega (arith, nodes.drift, so_far.drift.ok)),
+      each_said (drift_of said) so_far.drift.items (length list.slots) stands.drift
+          (omega (arith, nodes.drift, so_far.drift.ok)),
       sym stands.events,
       on_is,
       drift_is,

@@ -77,8 +77,11 @@ slots_valid : (list : Medl) (words : List (List ℕ)) (said : List Statement)
     → stated_faults list said words keyword.Slots ≡ []
     → (slots_of said ≡ None) × (1 ≤ number_at words 1) × (number_at words 1 ≤ SLOT_LIMIT)
 unfolding stated_faults statement_faults
-slots_valid list words said none =
-    (grind (arith, common_steps, nat_tests), grind (arith, common_steps, nat_tests), grind (arith, common_steps, nat_tests))
+slots_valid list words said none = (
+  grind (arith, common_steps, nat_tests),
+  grind (arith, common_steps, nat_tests),
+  grind (arith, common_steps, nat_tests),
+)
 
 AreValid-slots : (list : Medl) (words : List (List ℕ)) (said : List Statement)
     → stated_faults list said words keyword.Slots ≡ [] → AreValid list said
@@ -88,7 +91,8 @@ AreValid-slots list words said none valid =
     let no_events = valid.after_slots right.0 in
     record {
       slots = (right.1, right.2);
-      on = λ k. before_end (on_of said k) (run_slots said) (number_at words 1) (ap (λ (slots : Option ℕ). unwrap_or slots 0) right.0) (valid.on k);
+      on = λ k. before_end (on_of said k) (run_slots said) (number_at words 1)
+          (ap (λ (slots : Option ℕ). unwrap_or slots 0) right.0) (valid.on k);
       drift = valid.drift;
       events = λ script same. rw no_events (All-nil (IsValidEvent list script));
       after_slots = λ none. cc;
@@ -131,7 +135,8 @@ AreValid-on list words said none valid =
     let right = statement_right list said words keyword.On none in
     record {
       slots = valid.slots;
-      on = λ k. said_or (λ slot. slot < run_slots said) (number_at words 1 == k) (number_at words 2) (on_of said k) (leb-true _ _ right.1) (valid.on k);
+      on = λ k. said_or (λ slot. slot < run_slots said) (number_at words 1 == k) (number_at words 2) (on_of said k)
+          (leb-true _ _ right.1) (valid.on k);
       drift = valid.drift;
       events = λ script same. rw append-nil (valid.events script same);
       after_slots = λ none. append-nil _ ∙ valid.after_slots none;
@@ -146,7 +151,8 @@ AreValid-drift list words said none valid =
     record {
       slots = valid.slots;
       on = valid.on;
-      drift = λ k. said_or (IsWithinSpan DRIFT_LIMIT) (number_at words 1 == k) (value_in (word_at words 2)) (drift_of said k) (within_span DRIFT_LIMIT _ right.1) (valid.drift k);
+      drift = λ k. said_or (IsWithinSpan DRIFT_LIMIT) (number_at words 1 == k) (value_in (word_at words 2))
+          (drift_of said k) (within_span DRIFT_LIMIT _ right.1) (valid.drift k);
       events = λ script same. rw append-nil (valid.events script same);
       after_slots = λ none. append-nil _ ∙ valid.after_slots none;
       hosts = rw append-nil valid.hosts;
@@ -154,7 +160,8 @@ AreValid-drift list words said none valid =
 
 span_valid : (script : Script) (slots from to : ℕ) → script.slots ≡ slots → is_span slots from to ≡ true
     → IsSpan script from to
-span_valid script slots from to same span = (grind (arith, common_steps, nat_tests), grind (arith, common_steps, nat_tests))
+span_valid script slots from to same span =
+    (grind (arith, common_steps, nat_tests), grind (arith, common_steps, nat_tests))
 
 -- an event with its nodes and numbers right is valid
 event_valid : (list : Medl) (script : Script) (slots : ℕ) (words : List (List ℕ)) (e : Event) → script.slots ≡ slots
@@ -194,8 +201,11 @@ AreValid-event list words said form of_event after none valid =
       slots = valid.slots;
       on = valid.on;
       drift = valid.drift;
-      events = λ script same. All-append (IsValidEvent list script) (events_of said) (stated.event ∷ []) (valid.events script same)
-          (All-cons (IsValidEvent list script) stated.event [] (event_valid list script (run_slots said) words stated.event same stated.of_no_host (rw stated.says at right.0) (rw stated.says at right.1)) (All-nil (IsValidEvent list script)));
+      events = λ script same. All-append (IsValidEvent list script) (events_of said) (stated.event ∷ [])
+          (valid.events script same)
+          (All-cons (IsValidEvent list script) stated.event []
+          (event_valid list script (run_slots said) words stated.event same stated.of_no_host
+          (rw stated.says at right.0) (rw stated.says at right.1)) (All-nil (IsValidEvent list script)));
       after_slots = λ none. cc;
       hosts = sum_by-append _ (events_of said) (stated.event ∷ []) ∙ rw (valid.hosts, stated.of_no_host) refl;
     })
@@ -271,7 +281,11 @@ at_most_one (Some x) = lit≤ tt
 one_event_more : (statement : Statement) (said : List Statement)
     → length (events_of (statement ∷ said)) ≤ length (events_of said) + 1
 one_event_more statement said =
-    omega (arith, length-append (events_of said) (option_to_list (event_said statement)), at_most_one (event_said statement))
+    omega (
+      arith,
+      length-append (events_of said) (option_to_list (event_said statement)),
+      at_most_one (event_said statement),
+    )
 
 form_size : (list : Medl) (line : List ℕ) (said : List Statement) (form : Keyword) (of_event : Bool)
     → keyword_of (word_at (words_of line) 0) ≡ Some form → IsRightLine list said (words_of line) form
@@ -296,15 +310,18 @@ line_size list line said false (Some form) names none =
     form_size list line said form (is_event_form form) names (form_right list said (words_of line) form none) refl
 
 -- one line more
-pub line_right : (list : Medl) (said : List Statement) (line : List ℕ) → line_faults is_built list said (words_of line) ≡ []
+pub line_right : (list : Medl) (said : List Statement) (line : List ℕ)
+    → line_faults is_built list said (words_of line) ≡ []
     → AreValid list said
     → AreValid list (statements_after said (words_of line))
     × (8 * length (events_of (statements_after said (words_of line))) ≤ 8 * length (events_of said) + with_end line)
 unfolding line_faults statements_after
 line_right list said line none valid =
     let words = words_of line in
-    let form = keyword_of (word_at words 0) in
-    (line_valid list words said (says_nothing words) form none valid, line_size list line said (says_nothing words) form refl none)
+    let form = keyword_of (word_at words 0) in (
+      line_valid list words said (says_nothing words) form none valid,
+      line_size list line said (says_nothing words) form refl none,
+    )
 
 -- all lines without a fault: what they state is valid, and has no more events than fit into their bytes
 record IsRightFile (list : Medl) (said : List Statement) (lines : List (List ℕ)) : Type 0 where
@@ -348,7 +365,8 @@ slots_within : (slots : Option ℕ) → is_some slots ≡ true → IfSome slots 
 slots_within None some within = cc
 slots_within (Some count) some within = within
 
-drift_within : (drift : Option ℤ) → IfSome drift (IsWithinSpan DRIFT_LIMIT) → IsWithinSpan DRIFT_LIMIT (unwrap_or drift (pos 0))
+drift_within : (drift : Option ℤ) → IfSome drift (IsWithinSpan DRIFT_LIMIT)
+    → IsWithinSpan DRIFT_LIMIT (unwrap_or drift (pos 0))
 drift_within None within = within_span DRIFT_LIMIT (pos 0) refl
 drift_within (Some value) within = within
 
@@ -364,10 +382,14 @@ count_none e es none = omega (arith, sum_by-cons (λ (x : Event). cond (is_host_
 -- no host writes
 no_writes : (slot : ℕ) (es : List Event) → count_by is_host_event es ≡ 0 → filter_map (write_in slot) es ≡ []
 no_writes slot [] none = refl
-no_writes slot (event.Send node channels kind from to ∷ es) none = no_writes slot es (count_none (event.Send node channels kind from to) es none)
-no_writes slot (event.Receive node channels kind from to ∷ es) none = no_writes slot es (count_none (event.Receive node channels kind from to) es none)
-no_writes slot (event.Flip node channels bit at ∷ es) none = no_writes slot es (count_none (event.Flip node channels bit at) es none)
-no_writes slot (event.Error node value from to ∷ es) none = no_writes slot es (count_none (event.Error node value from to) es none)
+no_writes slot (event.Send node channels kind from to ∷ es) none =
+    no_writes slot es (count_none (event.Send node channels kind from to) es none)
+no_writes slot (event.Receive node channels kind from to ∷ es) none =
+    no_writes slot es (count_none (event.Receive node channels kind from to) es none)
+no_writes slot (event.Flip node channels bit at ∷ es) none =
+    no_writes slot es (count_none (event.Flip node channels bit at) es none)
+no_writes slot (event.Error node value from to ∷ es) none =
+    no_writes slot es (count_none (event.Error node value from to) es none)
 no_writes slot (event.Jump node value at ∷ es) none = no_writes slot es (count_none (event.Jump node value at) es none)
 no_writes slot (event.Arm node at ∷ es) none = no_writes slot es (count_none (event.Arm node at) es none)
 no_writes slot (event.Write node at payload ∷ es) none = absurd (count_one (event.Write node at payload) es refl none)

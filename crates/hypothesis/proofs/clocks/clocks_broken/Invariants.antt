@@ -4,4 +4,6 @@ use Rattle.hypothesis.proofs.clocks.clocks_broken.Given as goal
 
 -- the drifts are within their bound, and so are the errors of the slots so far
 abbrev pub invariant-loop-slot : goal.invariant-loop-slot
-invariant-loop-slot l = (drifts_hold l.list l.script ≡ true) × ((slot : ℕ) → slot < l.slot → not (errors_hold_in l.list l.script slot) ≡ false)
+invariant-loop-slot l =
+    (drifts_hold l.list l.script ≡ true)
+    × ((slot : ℕ) → slot < l.slot → not (errors_hold_in l.list l.script slot) ≡ false)

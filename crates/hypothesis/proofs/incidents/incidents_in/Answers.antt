@@ -16,17 +16,25 @@ told-more : (nodes : List Incidents) (of : ℕ → Incidents) (n : ℕ) (new : I
     → ((k : ℕ) (nothing : Incidents) → k < n → get_or nodes k nothing ≡ of k) → new ≡ of n
     → (k : ℕ) (nothing : Incidents) → k < n + 1 → get_or (set nodes n new) k nothing ≡ of k
 told-more nodes of n new within told is k nothing less = elim (cases_eq k n) [
-  | inl same ↦ ap (λ j. get_or (set nodes n new) j nothing) same ∙ get_or-set_same nodes n new nothing within ∙ is ∙ ap of (sym same)
+  | inl same ↦
+      ap (λ j. get_or (set nodes n new) j nothing) same ∙ get_or-set_same nodes n new nothing within ∙ is
+      ∙ ap of (sym same)
   | inr other ↦ get_or-set_other nodes n k new nothing other ∙ told k nothing (omega (arith, other))
 ]
 
 pub loop-node-init : goal.loop-node-init
-loop-node-init c = (refl, told-first (replicate 24 c.incidents-nodes.result) (λ k. incidents_of c.args.script.now k c.args.slot) (λ nothing. c.incidents-nodes.ensures.value))
+loop-node-init c = (
+  refl,
+  told-first (replicate 24 c.incidents-nodes.result) (λ k. incidents_of c.args.script.now k c.args.slot)
+      (λ nothing. c.incidents-nodes.ensures.value),
+)
 
 pub loop-node-preserved : goal.loop-node-preserved
 loop-node-preserved c =
     let kept = c.loop-node.invariant in
     let within : c.loop-node.node < length c.loop-node.nodes = search rules in (
       length-set c.loop-node.nodes c.loop-node.node c.incidents.result ∙ kept.0,
-      told-more c.loop-node.nodes (λ k. incidents_of c.args.script.now k c.args.slot) c.loop-node.node c.incidents.result within kept.1 c.incidents.ensures.value,
+      told-more c.loop-node.nodes
+          (λ k. incidents_of c.args.script.now k c.args.slot) c.loop-node.node c.incidents.result within kept.1
+          c.incidents.ensures.value,
     )

@@ -6,4 +6,5 @@ use Rattle.hypothesis.proofs.incidents.incidents_in.Given as goal
 -- there is room for all nodes, and the nodes so far are looked up
 abbrev pub invariant-loop-node : goal.invariant-loop-node
 invariant-loop-node l =
-    (length l.nodes ≡ 24) × ((k : ℕ) (nothing : Incidents) → k < l.node → get_or l.nodes k nothing ≡ incidents_of l.script k l.slot)
+    (length l.nodes ≡ 24)
+    × ((k : ℕ) (nothing : Incidents) → k < l.node → get_or l.nodes k nothing ≡ incidents_of l.script k l.slot)

@@ -21,15 +21,21 @@ loop-node-preserved c =
     elim c.if-is_other.branch [
       | then-is_other+then-is_lost w ↦
           let heard : hears node ≡ true = search rules in
-          let lost = w.is_lost.ensures script c.args.sender c.args.slot node (c.requires.incidents c.args.sender _ c.requires.sender) (c.requires.incidents node _ within) in (
-            w.others-is ∙ w.with-others.ensures ∙ ap (λ s. with_node s node) kept.0 ∙ with_node-next hears node small heard,
+          let lost =
+          w.is_lost.ensures script c.args.sender c.args.slot node
+          (c.requires.incidents c.args.sender _ c.requires.sender) (c.requires.incidents node _ within) in (
+            w.others-is ∙ w.with-others.ensures ∙ ap (λ s. with_node s node) kept.0
+                ∙ with_node-next hears node small heard,
             w.lost-is ∙ w.with-lost.ensures ∙ ap (λ s. with_node s node) kept.1
                 ∙ with_node-next misses node small (λ i. heard i && (sym lost ∙ w.if-is_lost.true) i),
           )
       | then-is_other+else-is_lost w ↦
           let heard : hears node ≡ true = search rules in
-          let lost = w.is_lost.ensures script c.args.sender c.args.slot node (c.requires.incidents c.args.sender _ c.requires.sender) (c.requires.incidents node _ within) in (
-            w.others-is ∙ w.with-others.ensures ∙ ap (λ s. with_node s node) kept.0 ∙ with_node-next hears node small heard,
+          let lost =
+          w.is_lost.ensures script c.args.sender c.args.slot node
+          (c.requires.incidents c.args.sender _ c.requires.sender) (c.requires.incidents node _ within) in (
+            w.others-is ∙ w.with-others.ensures ∙ ap (λ s. with_node s node) kept.0
+                ∙ with_node-next hears node small heard,
             w.lost-is ∙ kept.1 ∙ filter-next misses node small (λ i. heard i && (sym lost ∙ w.if-is_lost.false) i),
           )
       | else-is_other w ↦ (

@@ -7,4 +7,5 @@ use Rattle.hypothesis.proofs.losses.hearers_in.Given as goal
 -- those of the nodes so far
 abbrev pub invariant-loop-node : goal.invariant-loop-node
 invariant-loop-node l = (l.others ≡ filter (is_other l.script l.faulty l.sender l.slot) (below l.node))
-    × (l.lost ≡ filter (λ k. is_other l.script l.faulty l.sender l.slot k && loses l.script l.sender l.slot k) (below l.node))
+    × (l.lost ≡ filter (λ k. is_other l.script l.faulty l.sender l.slot k && loses l.script l.sender l.slot k)
+    (below l.node))

@@ -12,6 +12,7 @@ loop-node-preserved c =
     let small : node < most_nodes = search rules in
     elim c.if-jumps_now.branch [
       | then-jumps_now w ↦
-          w.jumpers-is ∙ w.with-jumpers.ensures ∙ ap (λ s. with_node s node) c.loop-node.invariant ∙ with_node-next is_in node small (search rules)
+          w.jumpers-is ∙ w.with-jumpers.ensures ∙ ap (λ s. with_node s node) c.loop-node.invariant
+          ∙ with_node-next is_in node small (search rules)
       | else-jumps_now w ↦ w.jumpers-is ∙ c.loop-node.invariant ∙ filter-next is_in node small (search rules)
     ]

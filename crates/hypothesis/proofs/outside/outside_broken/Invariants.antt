@@ -7,4 +7,5 @@ use Rattle.hypothesis.proofs.outside.outside_broken.Given as goal
 -- the least so far and that of the events that are left is that of all
 abbrev pub invariant-loop-event : goal.invariant-loop-event
 invariant-loop-event l =
-    lesser_of l.least (least_of (filter_map (outside_slot l.list l.script) (drop l.event-index l.script.events))) ≡ outside_broken l.list l.script
+    lesser_of l.least (least_of (filter_map (outside_slot l.list l.script) (drop l.event-index l.script.events)))
+    ≡ outside_broken l.list l.script

@@ -16,9 +16,13 @@ loop-node-preserved c =
     let rest = range_with_len (node + 1) (n - (node + 1)) in
     let all = least_of (filter_map start (nodes_of c.args.list.now)) in
     let so_far : lesser_of c.loop-node.least (least_of (filter_map start (node ∷ rest))) ≡ all =
-    ap (λ nodes. lesser_of c.loop-node.least (least_of (filter_map start nodes))) (sym (range-next node n (omega arith))) ∙ c.loop-node.invariant.0 in
+    ap (λ nodes. lesser_of c.loop-node.least (least_of (filter_map start nodes)))
+    (sym (range-next node n (omega arith))) ∙ c.loop-node.invariant.0 in
     let found : c.match-start_slot.least ≡ with_found (start node) c.loop-node.least =
     elim c.match-start_slot.branch [ in-Some w ↦ search rules | in_default w ↦ search rules ] in
     let small : IfSome c.match-start_slot.least (λ slot. slot < SLOT_LIMIT + 3 * most_nodes) =
-    elim c.match-start_slot.branch [ in-Some w ↦ search rules | in_default w ↦ search rules ] in
-    (ap (λ least. lesser_of least (least_of (filter_map start rest))) found ∙ least-next start node rest c.loop-node.least all so_far, small)
+    elim c.match-start_slot.branch [ in-Some w ↦ search rules | in_default w ↦ search rules ] in (
+      ap (λ least. lesser_of least (least_of (filter_map start rest))) found
+          ∙ least-next start node rest c.loop-node.least all so_far,
+      small,
+    )

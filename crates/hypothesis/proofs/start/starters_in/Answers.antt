@@ -12,6 +12,7 @@ loop-node-preserved c =
     let small : node < most_nodes = search rules in
     elim c.if-starts_in.branch [
       | then-starts_in w ↦
-          w.starters-is ∙ w.with-starters.ensures ∙ ap (λ s. with_node s node) c.loop-node.invariant ∙ with_node-next is_in node small (search rules)
+          w.starters-is ∙ w.with-starters.ensures ∙ ap (λ s. with_node s node) c.loop-node.invariant
+          ∙ with_node-next is_in node small (search rules)
       | else-starts_in w ↦ w.starters-is ∙ c.loop-node.invariant ∙ filter-next is_in node small (search rules)
     ]

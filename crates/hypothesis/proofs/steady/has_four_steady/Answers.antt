@@ -12,6 +12,7 @@ loop-node-preserved c =
     let small : node < most_nodes = search rules in
     elim c.if-is_steady.branch [
       | then-is_steady w ↦
-          w.steady-is ∙ w.with-steady.ensures ∙ ap (λ s. with_node s node) c.loop-node.invariant ∙ with_node-next is_in node small (search rules)
+          w.steady-is ∙ w.with-steady.ensures ∙ ap (λ s. with_node s node) c.loop-node.invariant
+          ∙ with_node-next is_in node small (search rules)
       | else-is_steady w ↦ w.steady-is ∙ c.loop-node.invariant ∙ filter-next is_in node small (search rules)
     ]

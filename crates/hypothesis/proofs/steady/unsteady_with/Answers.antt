@@ -15,8 +15,10 @@ use Rattle.hypothesis.proofs.steady.unsteady_with.Goals as goal
 use Rattle.hypothesis.proofs.steady.unsteady_with.Goals.{then-is_some-via-then-is_some}
 use Rattle.hypothesis.proofs.steady.unsteady_with.Goals.{then-is_some-via-else-is_some+then-slot-start}
 
-unsteady-next : (list : Medl) (script : Script) (start : ClusterStart) (slot : ℕ) (faulty : List ℕ) (fine : Bool) → IsValid list
-    → AreFaultyBefore list script start (slot + 1) faulty → fine ≡ nat_le 4 (length (filter (is_steady list script faulty) (nodes_of list)))
+unsteady-next : (list : Medl) (script : Script) (start : ClusterStart) (slot : ℕ) (faulty : List ℕ) (fine : Bool)
+    → IsValid list
+    → AreFaultyBefore list script start (slot + 1) faulty
+    → fine ≡ nat_le 4 (length (filter (is_steady list script faulty) (nodes_of list)))
     → start.slot ≤ slot + 1 → is_some (first_unsteady list script start slot) ≡ false
     → first_unsteady list script start (slot + 1) ≡ cond fine None (Some (max slot start.slot))
 unsteady-next list script start slot faulty fine valid are is near none =
@@ -24,7 +26,8 @@ unsteady-next list script start slot faulty fine valid are is near none =
     let enough : ℕ → Bool = λ t. has_four_steady list script (faulty_nodes_before list script start t) in
     let next : suc slot ≡ slot + 1 = omega arith in
     let now : fine ≡ enough (slot + 1) = is
-    ∙ ap (λ nodes. nat_le 4 (length nodes)) (same_steady list script faulty (numbers_of (faulty_nodes_before list script start (slot + 1))) few are) in
+    ∙ ap (λ nodes. nat_le 4 (length nodes))
+    (same_steady list script faulty (numbers_of (faulty_nodes_before list script start (slot + 1))) few are) in
     lack-next (enough start.slot) fine (lacks_steady_after list script start) start.slot slot near none
     (λ here. ap enough (sym here) ∙ sym now) (ap (λ t. not (enough t)) next ∙ ap not (sym now))
 
@@ -38,7 +41,9 @@ returns-then-is_some c =
     elim c.then-is_some.branch [
       | then-is_some-via-then-is_some w ↦
           let found : is_some c.args.unsteady ≡ true = search rules in
-          c.requires.unsteady ∙ lack-found enough (lacks_steady_after list script start) start.slot slot (ap is_some (sym c.requires.unsteady) ∙ found)
+          c.requires.unsteady
+          ∙ lack-found enough (lacks_steady_after list script start) start.slot slot
+          (ap is_some (sym c.requires.unsteady) ∙ found)
       | then-is_some-via-else-is_some+then-slot-start w ↦
           c.requires.unsteady ∙ lack-early enough (lacks_steady_after list script start) start.slot slot (omega arith)
     ]
@@ -47,7 +52,8 @@ pub returns-then-has_four_steady : goal.returns-then-has_four_steady
 returns-then-has_four_steady c =
     let none : is_some c.args.unsteady ≡ false = search rules in
     let fine : c.has_four_steady.result ≡ true = search rules in
-    sym (unsteady-next c.args.list.now c.args.script.now (told_start c.args.start) c.args.slot c.args.faulty c.has_four_steady.result c.requires.valid
+    sym (unsteady-next c.args.list.now c.args.script.now
+    (told_start c.args.start) c.args.slot c.args.faulty c.has_four_steady.result c.requires.valid
     c.requires.faulty c.has_four_steady.ensures (omega arith) (ap is_some (sym c.requires.unsteady) ∙ none)
     ∙ ap (λ b. cond b None (Some (max c.args.slot c.args.start.slot))) fine)
 
@@ -56,6 +62,7 @@ returns-else-has_four_steady c =
     let none : is_some c.args.unsteady ≡ false = search rules in
     let few : c.has_four_steady.result ≡ false = search rules in
     let last : max c.args.slot c.args.start.slot ≡ c.max.result = search rules in
-    sym (unsteady-next c.args.list.now c.args.script.now (told_start c.args.start) c.args.slot c.args.faulty c.has_four_steady.result c.requires.valid
+    sym (unsteady-next c.args.list.now c.args.script.now
+    (told_start c.args.start) c.args.slot c.args.faulty c.has_four_steady.result c.requires.valid
     c.requires.faulty c.has_four_steady.ensures (omega arith) (ap is_some (sym c.requires.unsteady) ∙ none)
     ∙ ap (λ b. cond b None (Some (max c.args.slot c.args.start.slot))) few ∙ ap Some last)

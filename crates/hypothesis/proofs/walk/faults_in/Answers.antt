@@ -9,9 +9,11 @@ use Rattle.hypothesis.specs.Standing.{told_start, told_loss, HaveSameNodes}
 use Rattle.hypothesis.proofs.SlotSteps.{fallen-same, same_jumpers, same_loss, faulty-next, count-next, count-fits}
 use Rattle.hypothesis.proofs.walk.faults_in.Goals as goal
 
-sender-small : (list : Medl) (start : ClusterStart) (slot : ℕ) → IsValid list → expected_sender list start slot < most_nodes
+sender-small : (list : Medl) (start : ClusterStart) (slot : ℕ) → IsValid list
+    → expected_sender list start slot < most_nodes
 sender-small list start slot valid =
-    let below : (start.node + (slot - start.slot)) % length list.slots < length list.slots = mod-lt (start.node + (slot - start.slot)) (omega (arith, valid.count)) in
+    let below : (start.node + (slot - start.slot)) % length list.slots < length list.slots =
+    mod-lt (start.node + (slot - start.slot)) (omega (arith, valid.count)) in
     let few = nodes-most list valid in
     omega (arith, below, few)
 
@@ -19,7 +21,9 @@ pub overflow_add-result : goal.overflow_add-result
 overflow_add-result c =
     let list = c.args.list.now in
     let few : length list.slots ≤ most_nodes = nodes-most list c.requires.valid in
-    let fits = count-fits list c.args.script.now c.args.faulty c.nodes_made-made.result c.jumpers_in-jumpers.result c.args.slot (told_loss c.loss_in-loss.result) few c.nodes_made-made.ensures c.jumpers_in-jumpers.ensures in
+    let fits =
+    count-fits list c.args.script.now c.args.faulty c.nodes_made-made.result c.jumpers_in-jumpers.result c.args.slot
+    (told_loss c.loss_in-loss.result) few c.nodes_made-made.ensures c.jumpers_in-jumpers.ensures in
     omega (arith, fits, c.count.ensures, c.count-2.ensures)
 
 pub returns-clause-breaks : goal.returns-clause-breaks
@@ -29,9 +33,13 @@ returns-clause-breaks c =
     let start = told_start c.args.start in
     let before = numbers_of (faulty_nodes_before list script start c.args.slot) in
     let few : length list.slots ≤ most_nodes = nodes-most list c.requires.valid in
-    let fell = fallen-same list script c.args.faulty before c.jumpers_in-jumpers.result c.united-fallen.result c.args.slot few c.requires.faulty c.jumpers_in-jumpers.ensures c.united-fallen.ensures in
+    let fell =
+    fallen-same list script c.args.faulty before c.jumpers_in-jumpers.result c.united-fallen.result c.args.slot few
+    c.requires.faulty c.jumpers_in-jumpers.ensures c.united-fallen.ensures in
     let loss : told_loss c.loss_in-loss.result ≡ loss_in list script start before c.args.slot =
-    c.loss_in-loss.ensures.value ∙ same_loss list script start before c.united-fallen.result c.args.slot few (sender-small list start c.args.slot c.requires.valid) fell in
+    c.loss_in-loss.ensures.value
+    ∙ same_loss list script start before c.united-fallen.result c.args.slot few
+    (sender-small list start c.args.slot c.requires.valid) fell in
     c.is_breaking.ensures ∙ ap is_breaking loss
 
 pub returns-clause-faulty : goal.returns-clause-faulty
@@ -42,12 +50,17 @@ returns-clause-faulty c =
     let so_far = faulty_nodes_before list script start c.args.slot in
     let before = numbers_of so_far in
     let few : length list.slots ≤ most_nodes = nodes-most list c.requires.valid in
-    let fell = fallen-same list script c.args.faulty before c.jumpers_in-jumpers.result c.united-fallen.result c.args.slot few c.requires.faulty c.jumpers_in-jumpers.ensures c.united-fallen.ensures in
+    let fell =
+    fallen-same list script c.args.faulty before c.jumpers_in-jumpers.result c.united-fallen.result c.args.slot few
+    c.requires.faulty c.jumpers_in-jumpers.ensures c.united-fallen.ensures in
     let loss : told_loss c.loss_in-loss.result ≡ loss_in list script start before c.args.slot =
-    c.loss_in-loss.ensures.value ∙ same_loss list script start before c.united-fallen.result c.args.slot few (sender-small list start c.args.slot c.requires.valid) fell in
+    c.loss_in-loss.ensures.value
+    ∙ same_loss list script start before c.united-fallen.result c.args.slot few
+    (sender-small list start c.args.slot c.requires.valid) fell in
     let next : c.args.slot + 1 ≡ suc c.args.slot = omega arith in
     subst (λ slot. HaveSameNodes c.united.result (numbers_of (faulty_nodes_before list script start slot))) (sym next)
-    (faulty-next list script start c.args.slot so_far c.nodes_made-made.result c.united-fallen.result c.united.result (c.nodes_made-made.ensures ∙ ap nodes_made loss) fell c.united.ensures)
+    (faulty-next list script start c.args.slot so_far c.nodes_made-made.result c.united-fallen.result c.united.result
+    (c.nodes_made-made.ensures ∙ ap nodes_made loss) fell c.united.ensures)
 
 pub returns-clause-count : goal.returns-clause-count
 returns-clause-count c =
@@ -57,9 +70,14 @@ returns-clause-count c =
     let so_far = faulty_nodes_before list script start c.args.slot in
     let before = numbers_of so_far in
     let few : length list.slots ≤ most_nodes = nodes-most list c.requires.valid in
-    let fell = fallen-same list script c.args.faulty before c.jumpers_in-jumpers.result c.united-fallen.result c.args.slot few c.requires.faulty c.jumpers_in-jumpers.ensures c.united-fallen.ensures in
+    let fell =
+    fallen-same list script c.args.faulty before c.jumpers_in-jumpers.result c.united-fallen.result c.args.slot few
+    c.requires.faulty c.jumpers_in-jumpers.ensures c.united-fallen.ensures in
     let loss : told_loss c.loss_in-loss.result ≡ loss_in list script start before c.args.slot =
-    c.loss_in-loss.ensures.value ∙ same_loss list script start before c.united-fallen.result c.args.slot few (sender-small list start c.args.slot c.requires.valid) fell in
+    c.loss_in-loss.ensures.value
+    ∙ same_loss list script start before c.united-fallen.result c.args.slot few
+    (sender-small list start c.args.slot c.requires.valid) fell in
     (λ i. c.count.ensures i + c.count-2.ensures i)
-    ∙ count-next list script start c.args.slot so_far c.nodes_made-made.result c.jumpers_in-jumpers.result (c.nodes_made-made.ensures ∙ ap nodes_made loss)
+    ∙ count-next list script start c.args.slot so_far c.nodes_made-made.result c.jumpers_in-jumpers.result
+    (c.nodes_made-made.ensures ∙ ap nodes_made loss)
     (c.jumpers_in-jumpers.ensures ∙ same_jumpers list script c.args.faulty before c.args.slot few c.requires.faulty)

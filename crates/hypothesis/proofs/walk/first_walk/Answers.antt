@@ -15,7 +15,8 @@ returns c = λ script starts.
     let start = told_start c.args.start in
     let gap = two_rounds list in
     let none = fault_slots-none list script start in
-    let later : 0 < start.slot = subst (λ found. IfSome found (λ start. 0 < start.slot)) starts (start_of-later list script c.requires.valid) in
+    let later : 0 < start.slot =
+    subst (λ found. IfSome found (λ start. 0 < start.slot)) starts (start_of-later list script c.requires.valid) in
     let size : c.args.start.slot + 2 * c.from.result ≡ start.slot + gap = search rules in
     record {
       whole = λ k less within. absurd (omega arith);
@@ -23,5 +24,6 @@ returns c = λ script starts.
       earliest = size ∙ sym (ap (earliest_after gap (start.slot + gap)) none);
       early = sym (ap (first_too_early gap (start.slot + gap)) none);
       unsteady =
-          sym (lack-before (has_four_steady list script (faulty_nodes_before list script start start.slot)) (lacks_steady_after list script start) start.slot 0 later);
+          sym (lack-before (has_four_steady list script (faulty_nodes_before list script start start.slot))
+          (lacks_steady_after list script start) start.slot 0 later);
     }

@@ -5,11 +5,13 @@ use Rattle.hypothesis.proofs.walk.started_keep.Goals as goal
 
 pub returns-in-None : goal.returns-in-None
 returns-in-None c =
-    broken-keep c.args.list.now c.args.script.now (told_start c.args.start) c.loop-slot.slot c.loop-slot.walk c.in-None.ensures.0 c.loop-slot.invariant
+    broken-keep c.args.list.now c.args.script.now
+    (told_start c.args.start) c.loop-slot.slot c.loop-slot.walk c.in-None.ensures.0 c.loop-slot.invariant
     c.in-None.ensures.1
 
 pub returns : goal.returns
 returns c =
     let last : c.max-slot-end.result ≡ max c.args.script.now.slots c.args.start.slot = search rules in
     c.walk_keep.ensures
-    ∙ walked-keep c.args.list.now c.args.script.now (told_start c.args.start) c.loop-slot.slot c.loop-slot.walk (omega (arith, last)) c.loop-slot.invariant
+    ∙ walked-keep c.args.list.now c.args.script.now (told_start c.args.start) c.loop-slot.slot c.loop-slot.walk
+    (omega (arith, last)) c.loop-slot.invariant

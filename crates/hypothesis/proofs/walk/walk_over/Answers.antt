@@ -20,7 +20,9 @@ returns c =
     let from = start.slot + gap in
     let count = c.if-is_within_run-2.count in
     let before = fault_slots_before list script start slot in
-    let within : slot < script.slots → count ≡ length (faulty_nodes_in list script start slot (faulty_nodes_before list script start slot)) = λ less.
+    let within : slot < script.slots
+    → count ≡ length (faulty_nodes_in list script start slot (faulty_nodes_before list script start slot)) =
+    λ less.
     elim c.if-is_within_run-2.branch [
       | then-is_within_run-2 w ↦ w.count-is ∙ c.faults_in-faults.ensures.count
       | else-is_within_run-2 w ↦ absurd (omega arith)
@@ -29,7 +31,8 @@ returns c =
       | then-is_within_run-2 w ↦ absurd (omega arith)
       | else-is_within_run-2 w ↦ w.count-is
     ] in
-    let fine : slot < script.slots → breaks_in list script start slot ≡ false = λ less. elim c.else-is_within_run.branch [
+    let fine : slot < script.slots → breaks_in list script start slot ≡ false =
+    λ less. elim c.else-is_within_run.branch [
       | else-is_within_run-via-then-is_within_run+else-faults w ↦ search rules
       | else-is_within_run-via-else-is_within_run w ↦ absurd (omega arith)
     ] in
@@ -40,9 +43,11 @@ returns c =
       whole = below_more (λ k. k < script.slots → breaks_in list script start k ≡ false) slot walked.whole fine;
       faulty = c.faults_in-faults.ensures.faulty;
       earliest = c.earliest_with.ensures ∙ (λ i. earliest_after (size i) (walked.earliest i) (replicate count slot))
-          ∙ sym (earliest_after-append gap from before (replicate count slot)) ∙ sym (ap (earliest_after gap from) next);
+          ∙ sym (earliest_after-append gap from before (replicate count slot))
+          ∙ sym (ap (earliest_after gap from) next);
       early = c.early_with.ensures gap (omega (arith, size, some))
           ∙ (λ i. option_or (walked.early i) (first_too_early gap (walked.earliest i) (replicate count slot)))
-          ∙ sym (first_too_early-append gap from before (replicate count slot)) ∙ sym (ap (first_too_early gap from) next);
+          ∙ sym (first_too_early-append gap from before (replicate count slot))
+          ∙ sym (ap (first_too_early gap from) next);
       unsteady = c.unsteady_with.ensures;
     }

@@ -9,12 +9,15 @@ returns-in_ok-take_slots-in-Slots-clause-ok c = TakesForm-slots _ _ _ _ _ c.in-S
 
 pub returns-in_ok-take_on-in-On-clause-ok : goal.returns-in_ok-take_on-in-On-clause-ok
 returns-in_ok-take_on-in-On-clause-ok c = TakesForm-on _ _ _ _ _ c.in-On.is
-    (sym c.is_spelled.ensures ∙ c.if-not-is_spelled.false) (sym c.is_after_slots.ensures ∙ c.if-not-is_after_slots.false)
+    (sym c.is_spelled.ensures ∙ c.if-not-is_spelled.false)
+    (sym c.is_after_slots.ensures ∙ c.if-not-is_after_slots.false)
     c.requires.nodes
     c.in_ok-take_on-in-On.ensures.ok c.in_ok-take_on-in-On.ensures.value c.in_ok-take_on-in-On.ensures.on
 
 pub returns-in_ok-take_drift-in-Drift-clause-ok : goal.returns-in_ok-take_drift-in-Drift-clause-ok
 returns-in_ok-take_drift-in-Drift-clause-ok c = TakesForm-drift _ _ _ _ _ c.in-Drift.is
-    (sym c.is_spelled.ensures ∙ c.if-not-is_spelled.false) (sym c.is_after_slots.ensures ∙ c.if-not-is_after_slots.false)
+    (sym c.is_spelled.ensures ∙ c.if-not-is_spelled.false)
+    (sym c.is_after_slots.ensures ∙ c.if-not-is_after_slots.false)
     c.requires.nodes
-    c.in_ok-take_drift-in-Drift.ensures.ok c.in_ok-take_drift-in-Drift.ensures.value c.in_ok-take_drift-in-Drift.ensures.drift
+    c.in_ok-take_drift-in-Drift.ensures.ok c.in_ok-take_drift-in-Drift.ensures.value
+    c.in_ok-take_drift-in-Drift.ensures.drift

@@ -3,7 +3,8 @@ use Rattle.script_text.proofs.read.take_lines.Goals as goal
 
 pub returns-in-Err-clause-err : goal.returns-in-Err-clause-err
 returns-in-Err-clause-err c = rw c.at_line.ensures (
-    script_of-refused c.args.list.now c.args.text.now c.loop-cut.so_far c.loop-cut.number c.loop-cut.rest.now c.in-Some.cut.piece.now c.in-Some.cut.rest.now
+    script_of-refused c.args.list.now c.args.text.now c.loop-cut.so_far c.loop-cut.number c.loop-cut.rest.now
+    c.in-Some.cut.piece.now c.in-Some.cut.rest.now
     c.in-Err.refusal c.loop-cut.invariant c.in-Some.ensures.some c.in-Err.ensures.err)
 
 pub returns-clause-values : goal.returns-clause-values
