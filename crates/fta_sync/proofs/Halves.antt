@@ -1,7 +1,7 @@
 -- Where three of four numbers lie between two bounds, half the sum of the middle two does too.
 use Rattle.std.proofs.Common.{◌≡◌, ◌+◌, ◌≤◌, ℤ, pos, neg_ℤ, ◌+ℤ◌, FitsSigned, w64, ◌≤ℤ◌, Bool, true}
-use Rattle.std.proofs.Common.{false, cond, ◌&&◌, [], ◌∷◌, refl, sym, subst, arith}
-use Rattle.std.specs.Prelude.{int_le, int_div, count_by}
+use Rattle.std.proofs.Common.{false, cond, [], ◌∷◌, refl, sym, subst, arith}
+use Rattle.std.specs.Prelude.{int_div, count_by}
 use Rattle.std.specs.Int.{int_min, int_max}
 use Rattle.std.proofs.lemmas.Int.{ints, clamps}
 use Rattle.ttp_world.specs.Clock.{middle_half}
