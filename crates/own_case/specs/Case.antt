@@ -11,7 +11,8 @@ use Rattle.ttp_world.specs.Diary.{History}
 use Rattle.ttp_world.specs.Trace.{node_line_of}
 use Rattle.ttp_world.specs.World.{SlotNumbers, Numbers, world}
 
--- A slot's kinds are kind.I, kind.N or kind.X, one for each round. Bit m of `live`, the least significant first, is mode m.
+-- A slot's kinds are kind.I, kind.N or kind.X, one for each round. Bit m of `live`, the least significant first, is
+-- mode m.
 
 abbrev pub starting : SlotPlan
 starting = record { kinds = kind.I ∷ []; payload = 0; sync = true; start = true; requests = false; live = 1 }

@@ -16,7 +16,8 @@ use Rattle.controller.specs.PlantView.{PlantView}
 use Rattle.plant_run.specs.Deliveries.{count_of, count_at, Tally, Tells}
 use Rattle.plant_run.specs.FirstNumbers.{all_zeros, zeros_row, first_world}
 use Rattle.plant_run.specs.RunAfter.{HoldsDelivered}
-use Rattle.plant_run.proofs.FirstRows.{chosen_of-all_zeros, length-first_world, first_world-more, delivered_of-zeros_row}
+use Rattle.plant_run.proofs.FirstRows.{chosen_of-all_zeros, length-first_world, first_world-more}
+use Rattle.plant_run.proofs.FirstRows.{delivered_of-zeros_row}
 use Rattle.plant_run.proofs.FirstRows.{zeros_row-senders}
 use Rattle.plant_run.proofs.Received.{received-next, received-few}
 

@@ -79,8 +79,10 @@ half_of c y z q r p s is was small few below = omega (arith, ints, is, was, smal
 
 half_below : (c y z : ℤ) → y ≤ℤ (z +ℤ (c +ℤ c)) → int_div y (pos 2) ≤ℤ (int_div z (pos 2) +ℤ (c +ℤ pos 1))
 half_below c y z below =
-    half_of c y z (int_div y (pos 2)) (int_rem y (pos 2)) (int_div z (pos 2)) (int_rem z (pos 2)) (quot-rem y (pos 2)) (quot-rem z (pos 2))
-    (small_rem (int_rem y (pos 2)) (rem_below y (pos 2) (omega arith))) (small_rem (int_rem z (pos 2)) (rem_below z (pos 2) (omega arith))) below
+    half_of c y z (int_div y (pos 2)) (int_rem y (pos 2)) (int_div z (pos 2)) (int_rem z (pos 2)) (quot-rem y (pos 2))
+    (quot-rem z (pos 2))
+    (small_rem (int_rem y (pos 2)) (rem_below y (pos 2) (omega arith)))
+    (small_rem (int_rem z (pos 2)) (rem_below z (pos 2) (omega arith))) below
 
 -- Averages.
 
@@ -97,8 +99,10 @@ fta-few notes few =
 middle_half-below : (c : ℤ) (ds es : List ℤ) → AreBelow c ds es → 4 ≤ length ds
     → middle_half (take 4 ds) ≤ℤ (middle_half (take 4 es) +ℤ (c +ℤ pos 1))
 middle_half-below c ds es below enough =
-    let sums : sum_ℤ (take 2 (drop 1 (sorted (take 4 ds)))) ≤ℤ (sum_ℤ (take 2 (drop 1 (sorted (take 4 es)))) +ℤ (c +ℤ c)) =
-    middle_below c (sorted (take 4 ds)) (sorted (take 4 es)) (AreBelow-sorted c (take 4 ds) (take 4 es) (AreBelow-take c 4 ds es below))
+    let sums : sum_ℤ (take 2 (drop 1 (sorted (take 4 ds))))
+    ≤ℤ (sum_ℤ (take 2 (drop 1 (sorted (take 4 es)))) +ℤ (c +ℤ c)) =
+    middle_below c (sorted (take 4 ds)) (sorted (take 4 es))
+    (AreBelow-sorted c (take 4 ds) (take 4 es) (AreBelow-take c 4 ds es below))
     (length-sorted (take 4 ds) ∙ length-take-le 4 ds enough) in
     half_below c (sum_ℤ (take 2 (drop 1 (sorted (take 4 ds))))) (sum_ℤ (take 2 (drop 1 (sorted (take 4 es))))) sums
 

@@ -68,13 +68,14 @@ abbrev pub HaveNoted : (ℕ → Type 0) → ℤ → (ℕ → ℤ) → (ℕ → L
 HaveNoted group width clock notes frames = (k : ℕ) → group k → Locate width (clock k) (notes k) frames
 
 -- after slot m of a round, where that is not its last or the clocks are not corrected yet
-pub record Uncorrected (list : Medl) (group : ℕ → Type 0) (s t m : ℕ) (clock : ℕ → ℤ) (notes : ℕ → List ℤ) : Type 0 where
-  pub apart : AreWithin group clock (drifted list (after_average list) m)
-  -- in the round in which the group began
-  pub first : t ≤ s + suc m → AreWithin group clock (drifted list (list.error +ℤ list.error) m)
-  -- where the frames were that were noted in the round
-  pub frames : List ℤ
-  pub located : HaveNoted group (list.error +ℤ drift_in list (suc m)) clock notes frames
+pub record Uncorrected (list : Medl) (group : ℕ → Type 0) (s t m : ℕ) (clock : ℕ → ℤ) (notes : ℕ → List ℤ) : Type 0
+  where
+    pub apart : AreWithin group clock (drifted list (after_average list) m)
+    -- in the round in which the group began
+    pub first : t ≤ s + suc m → AreWithin group clock (drifted list (list.error +ℤ list.error) m)
+    -- where the frames were that were noted in the round
+    pub frames : List ℤ
+    pub located : HaveNoted group (list.error +ℤ drift_in list (suc m)) clock notes frames
 
 -- after each slot
 pub data Held (list : Medl) (group : ℕ → Type 0) (s t m : ℕ) (clock : ℕ → ℤ) (notes : ℕ → List ℤ) : Type 0 where
@@ -126,31 +127,39 @@ add_below : (e p q : ℤ) → p ≤ℤ q → (e +ℤ p) ≤ℤ (e +ℤ q)
 add_below e p q below = omega (arith, ints, below)
 
 -- within a round the notes of the slot come to those that there are
-pub inside_round : (list : Medl) (group : ℕ → Type 0) (s t m : ℕ) (clock later : ℕ → ℤ) (notes added all : ℕ → List ℤ) (new : List ℤ) → pos 0 ≤ℤ list.drift
+pub inside_round : (list : Medl) (group : ℕ → Type 0) (s t m : ℕ) (clock later : ℕ → ℤ) (notes added all : ℕ → List ℤ)
+    (new : List ℤ) → pos 0 ≤ℤ list.drift
     → Uncorrected list group s t m clock notes → HaveDrifted list group clock later
     → HaveNoted group (list.error +ℤ list.drift) later added new
     → ((k : ℕ) → group k → all k ≡ added k ++ notes k) → Uncorrected list group s (suc t) (suc m) later all
 inside_round list group s t m clock later notes added all new up before moved noted is = record {
-  apart = λ j k p q. apart_more (after_average list) list.drift (drift_in list (suc m)) (drift_in list (suc (suc m))) (clock j) (clock k) (later j) (later k)
+  apart = λ j k p q. apart_more (after_average list) list.drift (drift_in list (suc m)) (drift_in list (suc (suc m)))
+      (clock j) (clock k) (later j) (later k)
       (before.apart j k p q) (moved j p) (moved k q) (product_more list.drift (suc m) up);
-  first = λ early j k p q. apart_more (list.error +ℤ list.error) list.drift (drift_in list (suc m)) (drift_in list (suc (suc m))) (clock j) (clock k) (later j) (later k)
+  first = λ early j k p q. apart_more (list.error +ℤ list.error) list.drift (drift_in list (suc m))
+      (drift_in list (suc (suc m))) (clock j) (clock k) (later j) (later k)
       (before.first (omega (arith, early)) j k p q) (moved j p) (moved k q) (product_more list.drift (suc m) up);
   frames = new ++ before.frames;
-  located = λ k p. subst (λ ns. Locate (list.error +ℤ drift_in list (suc (suc m))) (later k) ns (new ++ before.frames)) (sym (is k p))
+  located = λ k p. subst (λ ns. Locate (list.error +ℤ drift_in list (suc (suc m))) (later k) ns
+      (new ++ before.frames)) (sym (is k p))
       (Locate-append (list.error +ℤ drift_in list (suc (suc m))) (later k) (added k) new (notes k) before.frames
       (Locate-wider (list.error +ℤ list.drift) (list.error +ℤ drift_in list (suc (suc m))) (later k) (added k) new
       (add_below list.error list.drift (drift_in list (suc (suc m))) (product_once list.drift (suc m) up)) (noted k p))
-      (Locate-later (list.error +ℤ drift_in list (suc m)) list.drift (list.error +ℤ drift_in list (suc (suc m))) (clock k) (later k) (notes k) before.frames (moved k p)
-      (add_drift list.error (drift_in list (suc m)) (drift_in list (suc (suc m))) list.drift (product_more list.drift (suc m) up)) (before.located k p)));
+      (Locate-later (list.error +ℤ drift_in list (suc m)) list.drift (list.error +ℤ drift_in list (suc (suc m)))
+      (clock k) (later k) (notes k) before.frames (moved k p)
+      (add_drift list.error (drift_in list (suc m)) (drift_in list (suc (suc m))) list.drift
+      (product_more list.drift (suc m) up)) (before.located k p)));
 }
 
 -- after the end of a round they are the first
-pub new_round : (list : Medl) (group : ℕ → Type 0) (s t : ℕ) (clock later : ℕ → ℤ) (added all : ℕ → List ℤ) (new : List ℤ) → pos 0 ≤ℤ list.drift → s < t
+pub new_round : (list : Medl) (group : ℕ → Type 0) (s t : ℕ) (clock later : ℕ → ℤ) (added all : ℕ → List ℤ)
+    (new : List ℤ) → pos 0 ≤ℤ list.drift → s < t
     → AreWithin group clock (after_average list) → HaveDrifted list group clock later
     → HaveNoted group (list.error +ℤ list.drift) later added new
     → ((k : ℕ) → group k → all k ≡ added k) → Uncorrected list group s (suc t) 0 later all
 new_round list group s t clock later added all new up began before moved noted is = record {
-  apart = λ j k p q. apart_anew (after_average list) list.drift (drift_in list 1) (clock j) (clock k) (later j) (later k)
+  apart = λ j k p q. apart_anew (after_average list) list.drift (drift_in list 1) (clock j) (clock k) (later j)
+      (later k)
       (before j k p q) (moved j p) (moved k q) (product_one list.drift up);
   first = λ early. absurd (omega (arith, early, began));
   frames = new;
@@ -170,19 +179,24 @@ average_more : (e n : ℤ) → pos 0 ≤ℤ n → (e +ℤ e) ≤ℤ ((n +ℤ n) 
 average_more e n up = omega (arith, ints, up)
 
 -- after the slot in which the group began, on one frame
-pub begun_round : (list : Medl) (group : ℕ → Type 0) (s t m : ℕ) (frame : ℤ) (clock : ℕ → ℤ) (notes : ℕ → List ℤ) (new : List ℤ) → pos 0 ≤ℤ list.drift
+pub begun_round : (list : Medl) (group : ℕ → Type 0) (s t m : ℕ) (frame : ℤ) (clock : ℕ → ℤ) (notes : ℕ → List ℤ)
+    (new : List ℤ) → pos 0 ≤ℤ list.drift
     → ((k : ℕ) → group k → IsUpTo (list.error +ℤ list.drift) (clock k -ℤ frame))
     → HaveNoted group (list.error +ℤ list.drift) clock notes new
     → Uncorrected list group s t m clock notes
 begun_round list group s t m frame clock notes new up near noted =
     let wide : list.drift ≤ℤ drift_in list (suc m) = product_once list.drift m up in
-    let start : AreWithin group clock (drifted list (list.error +ℤ list.error) m) = λ j k p q. begun_apart list.error (drift_in list (suc m)) list.drift frame (clock j) (clock k) (near j p) (near k q) wide in
+    let start : AreWithin group clock (drifted list (list.error +ℤ list.error) m) =
+    λ j k p q. begun_apart list.error (drift_in list (suc m)) list.drift frame (clock j) (clock k) (near j p)
+    (near k q) wide in
     record {
-      apart = λ j k p q. wider_apart (list.error +ℤ list.error) (after_average list) (drift_in list (suc m) +ℤ drift_in list (suc m)) (clock j -ℤ clock k) (start j k p q)
+      apart = λ j k p q. wider_apart (list.error +ℤ list.error) (after_average list)
+          (drift_in list (suc m) +ℤ drift_in list (suc m)) (clock j -ℤ clock k) (start j k p q)
           (average_more list.error (drift_in list (length list.slots)) (product_up list.drift (length list.slots) up));
       first = λ early. start;
       frames = new;
-      located = λ k p. Locate-wider (list.error +ℤ list.drift) (list.error +ℤ drift_in list (suc m)) (clock k) (notes k) new
+      located = λ k p. Locate-wider (list.error +ℤ list.drift) (list.error +ℤ drift_in list (suc m)) (clock k)
+          (notes k) new
           (add_below list.error list.drift (drift_in list (suc m)) wide) (noted k p);
     }
 
@@ -217,13 +231,17 @@ averaged list group s t m clock notes ends held enough j k p q =
     let slots : drift_in list (suc m) ≡ drift_in list (length list.slots) = ap (drift_in list) ends in
     elim (few_or_many (length (notes j))) [
       | inl few ↦ elim (early_or_late t (s + suc m)) [
-        | inl early ↦ unaveraged_bound list.error (drift_in list (length list.slots)) (drift_in list (suc m)) (clock j) (clock k) (fta (notes j)) (fta (notes k))
+        | inl early ↦ unaveraged_bound list.error (drift_in list (length list.slots)) (drift_in list (suc m))
+            (clock j) (clock k) (fta (notes j)) (fta (notes k))
             slots (fta-few (notes j) few) (fta-few (notes k) (omega (arith, few, same))) (held.first early j k p q)
         | inr late ↦ absurd (omega (arith, few, enough (omega (arith, late, ends)) j p))
       ]
-      | inr many ↦ averaged_bound (list.error +ℤ drift_in list (suc m)) ((clock j +ℤ fta (notes j)) -ℤ (clock k +ℤ fta (notes k))) list.error (drift_in list (length list.slots)) (after_average list)
+      | inr many ↦ averaged_bound (list.error +ℤ drift_in list (suc m))
+          ((clock j +ℤ fta (notes j)) -ℤ (clock k +ℤ fta (notes k))) list.error (drift_in list (length list.slots))
+          (after_average list)
           (ap (λ z. list.error +ℤ z) slots) refl
-          (corrected_apart (list.error +ℤ drift_in list (suc m)) (clock j) (clock k) (notes j) (notes k) held.frames (held.located j p) (held.located k q) many (omega (arith, same, many)))
+          (corrected_apart (list.error +ℤ drift_in list (suc m)) (clock j) (clock k) (notes j) (notes k) held.frames
+          (held.located j p) (held.located k q) many (omega (arith, same, many)))
     ]
 
 -- clocks that are these are as far apart
@@ -242,7 +260,8 @@ Uncorrected-same list group s t m clock same notes is held = record {
   apart = AreWithin-same group clock same (drifted list (after_average list) m) is held.apart;
   first = λ early. AreWithin-same group clock same (drifted list (list.error +ℤ list.error) m) is (held.first early);
   frames = held.frames;
-  located = λ k p. subst (λ z. Locate (list.error +ℤ drift_in list (suc m)) z (notes k) held.frames) (sym (is k p)) (held.located k p);
+  located = λ k p. subst (λ z. Locate (list.error +ℤ drift_in list (suc m)) z (notes k) held.frames) (sym (is k p))
+      (held.located k p);
 }
 
 -- what the end of a slot corrects: the average of the notes in the last slot of a round
@@ -268,11 +287,14 @@ held_after list group s t m clock after notes inside held enough is = by_test (s
     by_test : (b : Bool) → (suc m == length list.slots) ≡ b → Held list group s t m after notes
     by_test true last =
         let ends : suc m ≡ length list.slots = eqb-true (suc m) (length list.slots) last in
-        Corrected ends (AreWithin-same group (λ k. clock k +ℤ fta (notes k)) after (after_average list) (λ k p. corrected_last list m (notes k) (clock k) (after k) last (is k p))
+        Corrected ends (AreWithin-same group (λ k. clock k +ℤ fta (notes k)) after (after_average list)
+        (λ k p. corrected_last list m (notes k) (clock k) (after k) last (is k p))
         (averaged list group s t m clock notes ends held (enough ends)))
     by_test false before =
         let other : suc m ≢ length list.slots = eqb-false (suc m) (length list.slots) before in
-        Running (omega (arith, inside, other)) (Uncorrected-same list group s t m clock after notes (λ k p. corrected_inside list m (notes k) (clock k) (after k) before (is k p)) held)
+        Running (omega (arith, inside, other))
+        (Uncorrected-same list group s t m clock after notes
+        (λ k p. corrected_inside list m (notes k) (clock k) (after k) before (is k p)) held)
 
 -- The spread.
 
@@ -294,8 +316,10 @@ pub held_within : (list : Medl) (group : ℕ → Type 0) (s t m : ℕ) (clock : 
     → AreWithin group clock (spread list)
 held_within list group s t m clock notes up (Corrected ends apart) =
     λ j k p q. share_bound list.drift (length list.slots) list.error (clock j -ℤ clock k) up
-    (corrected_bound (clock j -ℤ clock k) (drift_in list (length list.slots)) list.error (apart j k p q) (product_up list.drift (length list.slots) up))
+    (corrected_bound (clock j -ℤ clock k) (drift_in list (length list.slots)) list.error (apart j k p q)
+    (product_up list.drift (length list.slots) up))
 held_within list group s t m clock notes up (Running inside held) =
     λ j k p q. share_bound list.drift (length list.slots) list.error (clock j -ℤ clock k) up
-    (running_bound (clock j -ℤ clock k) (drift_in list (length list.slots)) (drift_in list (suc m)) list.error (held.apart j k p q)
+    (running_bound (clock j -ℤ clock k) (drift_in list (length list.slots)) (drift_in list (suc m)) list.error
+    (held.apart j k p q)
     (product_upto list.drift (suc m) (length list.slots) up (omega (arith, inside))))

@@ -1,4 +1,5 @@
--- Sorting keeps lists near one another: where each number of one list exceeds that of another by no more than c, so it is
+-- Sorting keeps lists near one another: where each number of one list exceeds that of another by no more than c, so it
+-- is
 -- with both in ascending order.
 use Rattle.std.proofs.Common.{◌≡◌, suc, ℤ, ◌+ℤ◌, ◌≤ℤ◌, true, false, cond, List, [], ◌∷◌, length, refl, ap, ◌∙◌, arith}
 use Rattle.std.specs.Prelude.{int_le}
@@ -77,17 +78,20 @@ AreBelow-insert c x y [] [] p q near rest = (near, tt)
 AreBelow-insert c x y [] (v ∷ ys) p q near rest = absurd rest
 AreBelow-insert c x y (u ∷ xs) [] p q near rest = absurd rest
 AreBelow-insert c x y (u ∷ xs) (v ∷ ys) p q near rest =
-    cond_both (int_le x u) (x ∷ u ∷ xs) (u ∷ insert_sorted x xs) (λ zs. AreBelow c zs (cond (int_le y v) (y ∷ v ∷ ys) (v ∷ insert_sorted y ys)))
+    cond_both (int_le x u) (x ∷ u ∷ xs) (u ∷ insert_sorted x xs)
+    (λ zs. AreBelow c zs (cond (int_le y v) (y ∷ v ∷ ys) (v ∷ insert_sorted y ys)))
     (λ xu. cond_both (int_le y v) (y ∷ v ∷ ys) (v ∷ insert_sorted y ys) (AreBelow c (x ∷ u ∷ xs))
     (λ yv. (near, rest))
     (λ yv. (
       below_trans c x u v (le_of_test x u xu) rest.0,
-      AreBelow-front c u xs (insert_sorted y ys) p.0 (AreBelow-insert c u y xs ys p.1 q.1 (below_up c u v y rest.0 (ge_of_test y v yv)) rest.1),
+      AreBelow-front c u xs (insert_sorted y ys) p.0
+          (AreBelow-insert c u y xs ys p.1 q.1 (below_up c u v y rest.0 (ge_of_test y v yv)) rest.1),
     )))
     (λ xu. cond_both (int_le y v) (y ∷ v ∷ ys) (v ∷ insert_sorted y ys) (AreBelow c (u ∷ insert_sorted x xs))
     (λ yv. (
       below_trans c u x y (ge_of_test x u xu) near,
-      AreBelow-back c v ys (insert_sorted x xs) q.0 (AreBelow-insert c x v xs ys p.1 q.1 (below_up c x y v near (le_of_test y v yv)) rest.1),
+      AreBelow-back c v ys (insert_sorted x xs) q.0
+          (AreBelow-insert c x v xs ys p.1 q.1 (below_up c x y v near (le_of_test y v yv)) rest.1),
     ))
     (λ yv. (rest.0, AreBelow-insert c x y xs ys p.1 q.1 near rest.1)))
 
@@ -96,14 +100,16 @@ AreBelow-sorted c [] [] below = tt
 AreBelow-sorted c [] (y ∷ ys) below = absurd below
 AreBelow-sorted c (x ∷ xs) [] below = absurd below
 AreBelow-sorted c (x ∷ xs) (y ∷ ys) below =
-    AreBelow-insert c x y (sorted xs) (sorted ys) (IsAscending-sorted xs) (IsAscending-sorted ys) below.0 (AreBelow-sorted c xs ys below.1)
+    AreBelow-insert c x y (sorted xs) (sorted ys) (IsAscending-sorted xs) (IsAscending-sorted ys) below.0
+    (AreBelow-sorted c xs ys below.1)
 
 -- Lengths.
 
 length-insert : (z : ℤ) (xs : List ℤ) → length (insert_sorted z xs) ≡ suc (length xs)
 length-insert z [] = refl
 length-insert z (y ∷ ys) =
-    cond_both (int_le z y) (z ∷ y ∷ ys) (y ∷ insert_sorted z ys) (λ xs. length xs ≡ suc (suc (length ys))) (λ h. refl) (λ h. ap suc (length-insert z ys))
+    cond_both (int_le z y) (z ∷ y ∷ ys) (y ∷ insert_sorted z ys) (λ xs. length xs ≡ suc (suc (length ys))) (λ h. refl)
+    (λ h. ap suc (length-insert z ys))
 
 pub length-sorted : (xs : List ℤ) → length (sorted xs) ≡ length xs
 length-sorted [] = refl

@@ -36,4 +36,5 @@ late_nodes_keep slots on events = keeps (bare_list 6) (script_on slots on events
 -- the same where the window is five microticks, and node 3 jumps so far in slot 26
 abbrev pub wide_window_keeps : ℤ → Keep
 wide_window_keeps value =
-    keeps (list_with (pos 0) (pos 0) (pos 5) (map (bare_slot (0 ∷ [])) (below 6))) (script_of 6 27 (event.Jump 3 value 26 ∷ []))
+    keeps (list_with (pos 0) (pos 0) (pos 5) (map (bare_slot (0 ∷ [])) (below 6)))
+    (script_of 6 27 (event.Jump 3 value 26 ∷ []))

@@ -6,5 +6,6 @@ use Rattle.script_text.specs.ScriptFile.{stated_script, lines_script, file_scrip
 use Rattle.script_rows.proofs.busy_hosts.Goals as goal
 
 pub returns : goal.returns
-unfolding digits lines_of words_of statement_faults stated_faults form_faults line_faults statements_after stated_script lines_script file_script
+unfolding digits lines_of words_of statement_faults stated_faults form_faults line_faults statements_after
+    stated_script lines_script file_script
 returns c = record { script = refl }

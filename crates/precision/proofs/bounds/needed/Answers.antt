@@ -8,4 +8,5 @@ returns-clause-value c = search rules
 
 pub returns-clause-deviations : goal.returns-clause-deviations
 returns-clause-deviations c =
-    subst (HoldsDeviationsWithin c.args.list.now) (sym (returns-clause-value c)) (deviations_within c.args.list.now c.requires)
+    subst (HoldsDeviationsWithin c.args.list.now) (sym (returns-clause-value c))
+    (deviations_within c.args.list.now c.requires)
