@@ -1,5 +1,5 @@
 -- One slot takes a run to the world of one slot more.
-use Rattle.std.proofs.Common.{◌≡◌, ℕ, ◌+◌, ◌<◌, true, List, ◌∷◌, length, IfSome, ap, sym, subst, ◌∙◌, ◌^◌, arith}
+use Rattle.std.proofs.Common.{◌≡◌, ℕ, ◌+◌, ◌<◌, List, ◌∷◌, length, IfSome, ap, sym, subst, ◌∙◌, ◌^◌, arith}
 use Rattle.std.proofs.lemmas.List.{length-replicate}
 use Rattle.ttp_world.specs.declared.medl.Medl.{Medl}
 use Rattle.ttp_world.specs.declared.node.Chosen.{Chosen}
