@@ -148,8 +148,7 @@ PutsFrames list script k old chosen before after =
     HasBegun s k old → Carries s frames before → Carries s (frames ++ frames_by s chosen k) after
 
 -- whatever slot it has planned, and whatever was chosen in it, if this medium carries the frames of that slot, it
--- stands
--- for its diary after it, and leaves what its host is to get
+-- stands for its diary after it, and leaves what its host is to get
 abbrev pub EndsSlot : Medl → Script → Carried → ℕ → Seat → Seat → Outcome → Type 0
 EndsSlot list script carried k old new outcome =
     (history : History) (chosen : List Chosen) →

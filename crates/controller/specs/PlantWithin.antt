@@ -1,6 +1,5 @@
 -- What is so of a cluster's controllers, whatever they stand for: whose they are, and that no clock is further from 0
--- than
--- all that the script's limits allow so many slots.
+-- than all that the script's limits allow so many slots.
 use Rattle.std.specs.Prelude.{◌≡◌, ℕ, ◌+◌, ◌*◌, ◌^◌, ◌≤◌, ℤ, unsigned_abs, List, length}
 use Rattle.ttp_world.specs.declared.events.Incidents.{Incidents}
 use Rattle.ttp_world.specs.declared.medl.Medl.{Medl}
