@@ -1,6 +1,6 @@
 -- What a node hears, judges and delivers, by what comes to it.
 use Rattle.std.proofs.Common.{◌≡◌, ℕ, zero, suc, ℤ, refl, ◌+ℤ◌, ◌-ℤ◌, List, ap, sym, subst, ◌<◌, pos, Bool, true}
-use Rattle.std.proofs.Common.{length, Option, Some, None, unwrap_or, ◌∙◌, false, not, cond, IfSome}
+use Rattle.std.proofs.Common.{length, Option, Some, None, unwrap_or, ◌∙◌, not, cond, IfSome}
 use Rattle.std.specs.Borrow.{Bor}
 use Rattle.std.specs.Prelude.{◌==◌}
 use Rattle.std.proofs.lemmas.Bool.{ne_eqb}
@@ -63,14 +63,10 @@ shows_b a (arrival.Bits bytes offset) = (refl, refl)
 pub silence-shown : (came : Arrival) (sent : Signal) (clock : ℕ → ℤ) → Shows came sent clock
     → is_silent_arrival came ≡ is_silence sent
 silence-shown arrival.Silence Silence clock shows = refl
-silence-shown arrival.Noise Silence clock shows = cc
-silence-shown (arrival.Bits bytes offset) Silence clock shows = cc
-silence-shown arrival.Silence Noise clock shows = cc
 silence-shown arrival.Noise Noise clock shows = refl
-silence-shown (arrival.Bits bytes offset) Noise clock shows = cc
-silence-shown arrival.Silence (Bits sender bytes) clock shows = absurd shows
-silence-shown arrival.Noise (Bits sender bytes) clock shows = absurd shows
 silence-shown (arrival.Bits came offset) (Bits sender bytes) clock shows = refl
+silence-shown _ (Bits sender bytes) clock shows = absurd shows
+silence-shown _ _ clock shows = cc
 
 -- What came on a channel tells what was heard there.
 
@@ -186,19 +182,12 @@ IsReceiver-within list k past receiver node number within is = record {
 -- What a correct verdict delivers.
 
 -- the payload is that of channel A where A's frame is of the first candidate, and else that of B
-pub payload_from_a : (list : Medl) (e : Expected) (h : Hearing) (place : Place) (payload : List ℕ) → place ≡ e.place
-    → payload ≡ payload_heard list place h.a
-    → true ≡ is_first_view (view_of list e h.deviation h.a) → payload ≡ payload_taken list e h
-payload_from_a list e h place payload at heard first =
-    heard ∙ ap (λ (p : Place). payload_heard list p h.a) at
-    ∙ ap (λ (b : Bool). cond b (payload_heard list e.place h.a) (payload_heard list e.place h.b)) first
-
-pub payload_from_b : (list : Medl) (e : Expected) (h : Hearing) (place : Place) (payload : List ℕ) → place ≡ e.place
-    → payload ≡ payload_heard list place h.b
-    → false ≡ is_first_view (view_of list e h.deviation h.a) → payload ≡ payload_taken list e h
-payload_from_b list e h place payload at heard other =
-    heard ∙ ap (λ (p : Place). payload_heard list p h.b) at
-    ∙ ap (λ (b : Bool). cond b (payload_heard list e.place h.a) (payload_heard list e.place h.b)) other
+pub payload_from : (list : Medl) (e : Expected) (h : Hearing) (place : Place) (from_a : Bool) (payload : List ℕ)
+    → place ≡ e.place → from_a ≡ is_first_view (view_of list e h.deviation h.a)
+    → payload ≡ cond from_a (payload_heard list place h.a) (payload_heard list place h.b)
+    → payload ≡ payload_taken list e h
+payload_from list e h place from_a payload at first heard =
+    heard ∙ (λ i. cond (first i) (payload_heard list (at i) h.a) (payload_heard list (at i) h.b))
 
 -- a frame of some length carries payload
 pub carries_some : (list : Medl) (place there : Place) (size : ℕ) → (size ≡ 0 → ⊥) → size ≡ expected_length list place

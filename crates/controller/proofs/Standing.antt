@@ -1,5 +1,5 @@
 -- What a controller stands for at each turn of a slot: what it keeps is all that the rules ask of its node's past.
-use Rattle.std.proofs.Common.{◌≡◌, ℕ, zero, ◌+◌, ◌≤◌, min, ℤ, pos, ◌+ℤ◌, Bool, true, false, cond, ◌&&◌, List, [], ◌∷◌}
+use Rattle.std.proofs.Common.{◌≡◌, ℕ, zero, ◌+◌, ◌≤◌, min, ℤ, ◌+ℤ◌, Bool, true, false, cond, ◌&&◌, List, [], ◌∷◌}
 use Rattle.std.proofs.Common.{length, take, refl, ap, sym, ◌∙◌, inl, inr, arith, ◌<◌, Some, None, Option, subst, suc}
 use Rattle.std.proofs.Common.{is_some, ◌++◌}
 use Rattle.std.specs.Prelude.{nat_le}
@@ -162,31 +162,6 @@ status_words-kept list slot past delivers = rw (enough-kept past.notes) refl
 abbrev pub seat_at : Medl → ℕ → NodePast → ℕ → Turn → Seat
 seat_at list k past slots now = record { list = list; node = k; past = past; slots = slots; turn = now }
 
--- what a turn knows of the slot
-abbrev act_in : Turn → Act
-act_in Ended = Off
-act_in (Begun does jump) = does
-act_in (Planned does jump message) = does
-
-abbrev jump_in : Turn → ℤ
-jump_in Ended = pos 0
-jump_in (Begun does jump) = jump
-jump_in (Planned does jump message) = jump
-
-abbrev message_in : Turn → Option ℕ
-message_in Ended = None
-message_in (Begun does jump) = None
-message_in (Planned does jump message) = message
-
-pub same_act : (now there : Turn) → now ≡ there → act_in now ≡ act_in there
-same_act now there same = ap act_in same
-
-pub same_jump : (now there : Turn) → now ≡ there → jump_in now ≡ jump_in there
-same_jump now there same = ap jump_in same
-
-pub same_message : (now there : Turn) → now ≡ there → message_in now ≡ message_in there
-same_message now there same = ap message_in same
-
 -- The beginning.
 
 limit-small : (list : Medl) (k : ℕ) (diary : Diary) (surroundings : Surroundings) → IsValid list → k < length list.slots
@@ -246,7 +221,8 @@ Plans-turn list k past slots now does jumped again number payload message planne
     λ diary surroundings a jump chosen stands numbered paid.
     let read = past_of list k diary surroundings in
     let turns = sym begun ∙ stands.turn in
-    let acts = same_act (Begun does jumped) (Begun a jump) turns in
+    let acts : does ≡ a = cc in
+    let jumps : jumped ≡ jump = cc in
     let alike = decides-alike list k read chosen a in
     let carried =
     carries
@@ -265,7 +241,7 @@ Plans-turn list k past slots now does jumped again number payload message planne
       stands = record {
         past = stands.past;
         slots = stands.slots;
-        turn = λ i. Planned (acts i) ((same ∙ same_jump (Begun does jumped) (Begun a jump) turns) i) (carried i);
+        turn = λ i. Planned (acts i) ((same ∙ jumps) i) (carried i);
       };
     }
 
@@ -332,14 +308,13 @@ Ends-seat list k past slots t new ended outcome made handed does jump message a 
     λ diary surroundings there jumped chosen sent_a sent_b clock s stands shown_a shown_b around.
     let read = past_of list k diary surroundings in
     let turns = sym turn ∙ stands.turn in
-    let now = Planned does jump message in
-    let then = Planned there jumped (message_planned list read chosen there) in
-    let acts = same_act now then turns in
+    let acts : does ≡ there = cc in
     let alike = decides-alike list k read chosen there in
-    let same = same_jump now then turns in
+    let same : jump ≡ jumped = cc in
+    let carried : message ≡ message_planned list read chosen there = cc in
     let own : (past.offset +ℤ jump) ≡ (read.offset +ℤ jumped) = λ i. (stands.past i).offset +ℤ same i in
     let h = hearing_of sent_a sent_b clock (read.offset +ℤ jumped) error in
-    let carries = same_message now then turns ∙ sym (alike.message)
+    let carries = carried ∙ sym (alike.message)
     ∙ (λ i. message_planned list (sym stands.past i) chosen (sym acts i)) in
     let is = ends chosen carries sent_a sent_b clock shown_a shown_b in
     let from_kept = (λ i. new_entry list k (stands.past i) chosen (hearing_of sent_a sent_b clock (own i) error)

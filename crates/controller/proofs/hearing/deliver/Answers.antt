@@ -1,12 +1,12 @@
 -- A correct frame delivers the payload of the channel that the judgement names.
-use Rattle.std.proofs.Common.{◌≡◌, sym, ◌∙◌, ap, rules}
+use Rattle.std.proofs.Common.{◌≡◌, true, false, sym, ◌∙◌, ap, rules}
 use Rattle.ttp_world.specs.declared.node.Verdict.TheVariants.{Correct}
 use Rattle.ttp_world.specs.Act.{coming_place}
 use Rattle.ttp_world.specs.Conduct.{payload_taken}
 use Rattle.ttp_world.specs.Diary.{Place}
 use Rattle.ttp_world.specs.Reception.{expected_of}
 use Rattle.controller.specs.Hearing.{hearing_of}
-use Rattle.controller.proofs.Heard.{payload_from_a, payload_from_b, carries_some, delivered_correct}
+use Rattle.controller.proofs.Heard.{payload_from, carries_some, delivered_correct}
 use Rattle.controller.proofs.hearing.deliver.Goals as goal
 use Rattle.controller.proofs.hearing.deliver.Goals.{then-judgement, else-judgement}
 
@@ -16,15 +16,12 @@ returns c k past own error coming sent_a sent_b clock shows_a shows_b is =
     let h = hearing_of sent_a sent_b clock own error in
     let correct : c.args.judgement.now.verdict ≡ Correct = search rules in
     let taken : c.if-judgement.payload ≡ payload_taken list (expected_of list k past) h =
+    let from = payload_from list (expected_of list k past) h c.args.coming.now.place in
     elim c.if-judgement.branch [
-      | then-judgement w ↦ payload_from_a list (expected_of list k past) h c.args.coming.now.place
-          c.if-judgement.payload coming.place
+      | then-judgement w ↦ from true _ coming.place (sym w.if-judgement.true ∙ is.from_a)
           (w.payload-is ∙ w.payload_heard-payload.ensures own error sent_a clock shows_a)
-          (sym w.if-judgement.true ∙ is.from_a)
-      | else-judgement w ↦ payload_from_b list (expected_of list k past) h c.args.coming.now.place
-          c.if-judgement.payload coming.place
+      | else-judgement w ↦ from false _ coming.place (sym w.if-judgement.false ∙ is.from_a)
           (w.payload-is ∙ w.payload_heard-payload-else-judgement.ensures own error sent_b clock shows_b)
-          (sym w.if-judgement.false ∙ is.from_a)
     ] in
     delivered_correct list k past h c.args.judgement.now c.sender.result c.if-judgement.payload is correct
     (carries_some list c.args.coming.now.place (coming_place list past) c.form_of.result.payload c.if-form_of-eq0.false

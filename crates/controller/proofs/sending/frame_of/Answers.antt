@@ -2,7 +2,7 @@ use Rattle.std.proofs.Common.{sym, ap, ◌∙◌}
 use Rattle.ttp_world.specs.Act.{coming_place}
 use Rattle.ttp_world.specs.Medl.{payload_length}
 use Rattle.controller.specs.Limits.{intent_by, loaded_length}
-use Rattle.controller.proofs.SendingLaws.{sends-own, loaded_length-own}
+use Rattle.controller.proofs.Endings.{sends-own, loaded_length-own}
 use Rattle.controller.proofs.sending.frame_of.Goals as goal
 
 pub own_frame-requires-clause-payload : goal.own_frame-requires-clause-payload

@@ -3,7 +3,7 @@ use Rattle.std.proofs.lemmas.Int.{ints, to_z-of_z}
 use Rattle.ttp_world.specs.declared.node.Entry.TheVariants as entry
 use Rattle.ttp_world.specs.Clock.{join_deviation}
 use Rattle.controller.specs.Within.{AreChangesWithin}
-use Rattle.controller.proofs.Clocks.{slot_change-on}
+use Rattle.controller.proofs.Endings.{slot_change-on}
 use Rattle.controller.proofs.node.Node.clock_change.Goals as goal
 
 pub returns-in_default-clause-value : goal.returns-in_default-clause-value

@@ -3,8 +3,7 @@ use Rattle.std.proofs.lemmas.Int.{ints}
 use Rattle.ttp_world.specs.After.{silent_slots_after}
 use Rattle.fta_sync.specs.StandsFor.{IsDeviation}
 use Rattle.controller.specs.Within.{IsWithin}
-use Rattle.controller.proofs.Stints.{entered}
-use Rattle.controller.proofs.Stints.{kept_after-within}
+use Rattle.controller.proofs.Stints.{entered, kept_after-within}
 use Rattle.controller.proofs.node.Node.enter.Goals as goal
 
 pub returns-clause-value : goal.returns-clause-value
