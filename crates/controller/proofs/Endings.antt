@@ -312,47 +312,17 @@ past_after-corrected list k past e s valid node within next =
 abbrev pub furthest : ℤ → ℤ → ℤ → ℕ
 furthest own a b = max (unsigned_abs own) (max (unsigned_abs a) (unsigned_abs b))
 
-off_near : (offset jump a b : ℤ) (more : ℕ) → jump ≡ pos 0
-    → unsigned_abs (offset +ℤ pos 0) ≤ furthest (offset +ℤ jump) a b + more
-off_near offset jump a b more still = omega (arith, ints, still)
-
-stayed : (own a b error : ℤ) → unsigned_abs (own +ℤ pos 0) ≤ furthest own a b + unsigned_abs error
-stayed own a b error = omega (arith, ints)
-
-landed-a : (own a b error deviation : ℤ) → deviation ≡ (a -ℤ own) +ℤ error
-    → unsigned_abs (own +ℤ deviation) ≤ furthest own a b + unsigned_abs error
-landed-a own a b error deviation is = omega (arith, ints, is)
-
-landed-b : (own a b error deviation : ℤ) → deviation ≡ (b -ℤ own) +ℤ error
-    → unsigned_abs (own +ℤ deviation) ≤ furthest own a b + unsigned_abs error
-landed-b own a b error deviation is = omega (arith, ints, is)
-
-moved_near : (offset jump drift joined corrected w : ℤ) (far : ℕ) → (neg_ℤ w ≤ℤ corrected) × (corrected ≤ℤ w)
-    → unsigned_abs ((offset +ℤ jump) +ℤ joined) ≤ far
-    → unsigned_abs (offset +ℤ (jump +ℤ (drift +ℤ (joined +ℤ corrected)))) ≤ far + unsigned_abs drift + unsigned_abs w
-moved_near offset jump drift joined corrected w far near landed = omega (arith, ints, near.0, near.1, landed)
-
 change_near : (e : Entry) (offset : ℤ) (s : SlotSurroundings) (corrected w : ℤ) (a b : Arrival) (error : ℤ)
     → (neg_ℤ w ≤ℤ corrected) × (corrected ≤ℤ w) → Lands a b (offset +ℤ s.jump) error s.jump e
     → unsigned_abs (offset +ℤ slot_change e s corrected)
     ≤ furthest (offset +ℤ s.jump) (offset_of_arrival a) (offset_of_arrival b) + unsigned_abs error
     + unsigned_abs s.drift + unsigned_abs w
-change_near entry.Off offset s corrected w a b error near lands =
-    let three = furthest (offset +ℤ s.jump) (offset_of_arrival a) (offset_of_arrival b) in
-    omega (
-      arith,
-      off_near offset s.jump (offset_of_arrival a) (offset_of_arrival b)
-          (unsigned_abs error + unsigned_abs s.drift + unsigned_abs w) lands,
-    )
+change_near entry.Off offset s corrected w a b error near lands = omega (arith, ints, lands)
 change_near (entry.Joined sender cstate deviation) offset s corrected w a b error near (inl is) =
-    moved_near offset s.jump s.drift deviation corrected w _ near
-    (landed-a (offset +ℤ s.jump) (offset_of_arrival a) (offset_of_arrival b) error deviation is)
+    omega (arith, ints, near.0, near.1, is)
 change_near (entry.Joined sender cstate deviation) offset s corrected w a b error near (inr is) =
-    moved_near offset s.jump s.drift deviation corrected w _ near
-    (landed-b (offset +ℤ s.jump) (offset_of_arrival a) (offset_of_arrival b) error deviation is)
-change_near _ offset s corrected w a b error near lands =
-    moved_near offset s.jump s.drift (pos 0) corrected w _ near
-    (stayed (offset +ℤ s.jump) (offset_of_arrival a) (offset_of_arrival b) error)
+    omega (arith, ints, near.0, near.1, is)
+change_near _ offset s corrected w a b error near lands = omega (arith, ints, near.0, near.1)
 
 pub past_after-near : (list : Medl) (k : ℕ) (past : NodePast) (e : Entry) (s : SlotSurroundings) (a b : Arrival)
     (error : ℤ) → IsValid list → k < length list.slots → IsWithin list k past

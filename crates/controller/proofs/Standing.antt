@@ -1,9 +1,10 @@
 -- What a controller stands for at each turn of a slot: what it keeps is all that the rules ask of its node's past.
 use Rattle.std.proofs.Common.{◌≡◌, ℕ, zero, ◌+◌, ◌≤◌, min, ℤ, ◌+ℤ◌, Bool, true, false, cond, ◌&&◌, List, [], ◌∷◌}
-use Rattle.std.proofs.Common.{length, take, refl, ap, sym, ◌∙◌, inl, inr, arith, ◌<◌, Some, None, Option, subst, suc}
-use Rattle.std.proofs.Common.{is_some, ◌++◌}
+use Rattle.std.proofs.Common.{length, take, refl, ap, sym, ◌∙◌, arith, ◌<◌, Some, None, Option, subst, suc, is_some}
+use Rattle.std.proofs.Common.{◌++◌}
 use Rattle.std.specs.Prelude.{nat_le}
-use Rattle.std.proofs.lemmas.Bool.{cases_lt, le-leb, lt-leb}
+use Rattle.std.proofs.lemmas.Bool.Decides.{nat_tests}
+use Rattle.std.proofs.lemmas.List.{length-take}
 use Rattle.ttp_world.specs.declared.medl.Medl.{Medl}
 use Rattle.ttp_world.specs.declared.node.Act.{Act}
 use Rattle.ttp_world.specs.declared.node.Act.TheVariants.{Start, Listen, Send, Off}
@@ -110,10 +111,7 @@ kept_after-kept list k past e s =
 -- What a node does.
 
 due-kept : (limit count : ℕ) → limit ≤ 65535 → nat_le limit (min count 65535) ≡ nat_le limit count
-due-kept limit count few = elim (cases_lt count limit) [
-  | inl early ↦ lt-leb limit (min count 65535) (omega arith) ∙ sym (lt-leb limit count early)
-  | inr due ↦ le-leb limit (min count 65535) (omega arith) ∙ sym (le-leb limit count due)
-]
+due-kept limit count few = grind (arith, nat_tests)
 
 phase_act-kept : (p : Phase) (list : Medl) (k : ℕ) (on armed : Bool) (past : NodePast) → past.limit ≤ most_silent
     → phase_act p list k on armed (kept past) ≡ phase_act p list k on armed past
@@ -148,11 +146,7 @@ delivery-kept list k past h _ = refl
 -- What is shown and published.
 
 enough-kept : (notes : List ℤ) → nat_le 4 (length (take 4 notes)) ≡ nat_le 4 (length notes)
-enough-kept [] = refl
-enough-kept (a ∷ []) = refl
-enough-kept (a ∷ b ∷ []) = refl
-enough-kept (a ∷ b ∷ c ∷ []) = refl
-enough-kept (a ∷ b ∷ c ∷ d ∷ notes) = sym (le-leb 4 (length (a ∷ b ∷ c ∷ d ∷ notes)) (omega arith))
+enough-kept notes = grind (arith, nat_tests, length-take)
 
 pub status_words-kept : (list : Medl) (slot : ℕ) (past : NodePast) (delivers : Bool)
     → status_words list slot (kept past) delivers ≡ status_words list slot past delivers

@@ -51,13 +51,6 @@ nearer : (list : Medl) (k : ℕ) (place : Place) → place.slot < length list.sl
     → slots_to_own list k (next_place list place).slot + 1 ≡ slots_to_own list k place.slot
 nearer list k place within node other = grind (arith, nat_tests)
 
--- a doubt is not about the coming sender
-pub doubt_elsewhere : (list : Medl) (k : ℕ) (place : Place) (x : ℕ) → place.slot < length list.slots
-    → k < length list.slots → (next_place list place).slot ≢ k
-    → slots_to_own list k place.slot ≤ slots_to_own list k x → x ≢ (next_place list place).slot
-doubt_elsewhere list k place x within node other since same =
-    omega (arith, since, nearer list k place within node other, ap (slots_to_own list k) same)
-
 -- Sets.
 
 AreNodes-filter : (list : Medl) (p : ℕ → Bool) → AreNodes list (filter p (below (length list.slots)))
@@ -239,7 +232,7 @@ doubt_of_another : (list : Medl) (k : ℕ) (place : Place) (a : Ack) → place.s
 doubt_of_another list k place ack.Closed slot node another within = tt
 doubt_of_another list k place ack.First slot node another within = tt
 doubt_of_another list k place (ack.Doubt x) slot node another within =
-    doubt_elsewhere list k place x slot node another within.1
+    λ same. omega (arith, within.1, nearer list k place slot node another, ap (slots_to_own list k) same)
 
 -- the move of a judgement leads to the members after it
 pub moved_members-after : (list : Medl) (k : ℕ) (past : NodePast) (sender : ℕ) (v : Verdict) (deviation : ℤ)

@@ -1,5 +1,5 @@
 -- Three of four nodes are nodes of the list.
-use Rattle.std.proofs.Common.{◌≡◌, ℕ, ◌<◌, false, [], ◌∷◌, length, refl, ap, sym, subst, arith}
+use Rattle.std.proofs.Common.{◌≡◌, ℕ, ◌<◌, false, [], ◌∷◌, length, refl, ap, sym, arith}
 use Rattle.std.specs.List.{filter}
 use Rattle.ttp_base.specs.NodeSet.{below, has_node}
 use Rattle.ttp_world.specs.declared.medl.Medl.{Medl}
@@ -22,6 +22,5 @@ returns c = record {
   number = omega arith;
   coming = record { place = refl; rounds = c.at.ensures.rounds; slots = c.at.ensures.slots };
   doubt = no_doubt (length c.args.list.now.slots) c.ack_of.result c.ack_of.ensures;
-  members = subst (AreNodes c.args.list.now) (sym c.three_members.ensures)
-      (three_of_four c.args.list.now c.requires.four);
+  members = rw c.three_members.ensures (three_of_four c.args.list.now c.requires.four);
 }
