@@ -1,10 +1,9 @@
 -- The end of a slot: the entry that a node makes by what comes to it, and how far it takes the node's clock.
 use Rattle.std.proofs.Common.{◌≡◌, ◌≢◌, arith, ℕ, zero, suc, Bool, true, false, cond, not, refl, sym, ap, subst, ◌∙◌}
 use Rattle.std.proofs.Common.{◌⊎◌, inl, inr, ◌+◌, ◌≤◌, ℤ, pos, neg_ℤ, ◌≤ℤ◌, ◌+ℤ◌, ◌-ℤ◌, ◌&&◌, Option, Some, None}
-use Rattle.std.proofs.Common.{IfSome, IsTrue, unwrap_or, unsigned_abs, ◌<◌, max, FitsSigned, w64, to_z, of_z, List}
-use Rattle.std.proofs.Common.{length}
+use Rattle.std.proofs.Common.{IfSome, IsTrue, unwrap_or, unsigned_abs, ◌<◌, max, FitsSigned, w64, to_z, of_z, length}
 use Rattle.std.specs.Option.{option_or}
-use Rattle.std.specs.Prelude.{◌==◌, nat_le, int_le, All}
+use Rattle.std.specs.Prelude.{◌==◌, nat_le, int_le}
 use Rattle.std.proofs.lemmas.Bool.{cond_both, eqb-true, eqb-false, ne_eqb, and_parts}
 use Rattle.std.proofs.lemmas.Int.{ints, to_z-of_z}
 use Rattle.ttp_world.specs.declared.medl.Medl.{Medl}
@@ -27,7 +26,7 @@ use Rattle.ttp_world.specs.declared.node.Verdict.TheVariants as verdict
 use Rattle.ttp_world.specs.Acknowledgement.{is_open, is_correct}
 use Rattle.ttp_world.specs.Act.{coming_place, is_start_due, own_act, phase_act, unacknowledged_act}
 use Rattle.ttp_world.specs.After.{past_after, correction_after}
-use Rattle.ttp_world.specs.Clock.{fta, is_corrected, join_deviation, slot_change}
+use Rattle.ttp_world.specs.Clock.{is_corrected, join_deviation, slot_change}
 use Rattle.ttp_world.specs.Conduct.{carries_payload, channel_join, join_entry, judging_entry, new_entry, verdict_entry}
 use Rattle.ttp_world.specs.Diary.{Place, SlotSurroundings, phase_after}
 use Rattle.ttp_world.specs.Fitting.{carried, is_joinable_state}
@@ -204,23 +203,16 @@ first_is_near list e late (Bits sender bytes) is =
     (not_bad (is_within_window list (late sender) && is_expected_form list e bytes) (view_of_frame list e bytes) is)).0
 
 -- the deviation of the entry is that of the channel that is taken
-near_on_a : (list : Medl) (a b : Option ℤ) → IsHeardNear list a → IsNearEnough list (entry_deviation true a b)
-unfolding IsHeardNear
-near_on_a list None b near = absurd near
-near_on_a list (Some d) None near = near
-near_on_a list (Some d) (Some other) near = near
-
-near_on_b : (list : Medl) (a b : Option ℤ) → IsHeardNear list b → IsNearEnough list (entry_deviation false a b)
-unfolding IsHeardNear
-near_on_b list a None near = absurd near
-near_on_b list None (Some d) near = near
-near_on_b list (Some other) (Some d) near = near
-
 taken_is_near : (list : Medl) (from_a : Bool) (va vb : ChannelView) (a b : Option ℤ) → cond from_a va vb ≡ view.First
     → (va ≡ view.First → IsHeardNear list a) → (vb ≡ view.First → IsHeardNear list b)
     → IsNearEnough list (entry_deviation from_a a b)
-taken_is_near list true va vb a b is near_a near_b = near_on_a list a b (near_a is)
-taken_is_near list false va vb a b is near_a near_b = near_on_b list a b (near_b is)
+unfolding IsHeardNear
+taken_is_near list true va vb None b is near_a near_b = absurd (near_a is)
+taken_is_near list true va vb (Some d) None is near_a near_b = near_a is
+taken_is_near list true va vb (Some d) (Some other) is near_a near_b = near_a is
+taken_is_near list false va vb a None is near_a near_b = absurd (near_b is)
+taken_is_near list false va vb None (Some d) is near_a near_b = near_b is
+taken_is_near list false va vb (Some other) (Some d) is near_a near_b = near_b is
 
 -- a node that is denied leaves
 of_verdict : (P : Entry → Type 0) (sender : ℕ) (v : Verdict) (deviation : ℤ) → P (entry.Left reason.Denied sender)
@@ -283,27 +275,17 @@ slot_change-on _ s corrected on = refl
 
 -- A correction lies within the window.
 
-fta-near : (list : Medl) (notes : List ℤ) → IsValid list → All (IsNearEnough list) notes
-    → IsNearEnough list (fta notes)
-fta-near list notes valid near =
-    let zero = zero_near list valid in
-    fta-between (neg_ℤ list.window) list.window notes zero.0 zero.1 near
-
-correction_after-near : (list : Medl) (place : Place) (notes : List ℤ) (e : Entry) → IsValid list
-    → All (IsNearEnough list) notes → IsNearEnough list (correction_after list place notes e)
-correction_after-near list place notes e valid near =
-    cond_both (is_corrected list (phase_after e) place) (fta notes) (pos 0) (IsNearEnough list)
-    (λ is. fta-near list notes valid near) (λ not. zero_near list valid)
-
--- what an entry corrects lies within the window
+-- what an entry corrects
 past_after-corrected : (list : Medl) (k : ℕ) (past : NodePast) (e : Entry) (s : SlotSurroundings) → IsValid list
     → k < length list.slots → IsWithin list k past → IsEntryWithin list k past e
     → IsNearEnough list (correction_after list (past_after list k past e s).place (past_after list k past e s).notes e)
 past_after-corrected list k past e s valid node within next =
     let after = past_after list k past e s in
+    let near = (kept_after-within list k past e s valid node within next).notes in
+    let zero = zero_near list valid in
     subst (IsNearEnough list) (correction_after-take list after.place after.notes e)
-    (correction_after-near list after.place (kept after).notes e valid
-    (kept_after-within list k past e s valid node within next).notes)
+    (cond_both (is_corrected list (phase_after e) after.place) _ _ (IsNearEnough list)
+    (λ is. fta-between (neg_ℤ list.window) list.window (kept after).notes zero.0 zero.1 near) (λ not. zero))
 
 -- The clock comes no further from 0 than it jumped, or than the clocks of those it hears, but for a reading error, its
 -- drift and a correction, which is within the window.

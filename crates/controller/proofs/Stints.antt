@@ -1,11 +1,10 @@
 -- What an entry makes of an active node's past: it stays within the numbers of the list.
 use Rattle.std.proofs.Common.{◌≡◌, ◌≢◌, ℕ, ◌+◌, ◌-◌, ◌*◌, ◌<◌, ◌≤◌, ℤ, pos, Bool, true, false, cond, List, [], ◌++◌}
-use Rattle.std.proofs.Common.{length, take, Option, Some, None, refl, sym, subst, ◌∙◌, ap, arith, min, ◌+ℤ◌}
+use Rattle.std.proofs.Common.{length, take, Option, Some, None, refl, sym, subst, ◌∙◌, ap, arith}
 use Rattle.std.specs.List.{filter}
 use Rattle.std.specs.Option.{option_to_list}
 use Rattle.std.specs.Prelude.{All, IfSome}
 use Rattle.std.proofs.lemmas.Bool.Decides.{nat_tests}
-use Rattle.std.proofs.lemmas.Bool.{cond-false}
 use Rattle.std.proofs.lemmas.Int.{ints}
 use Rattle.std.proofs.lemmas.List.{length-take}
 use Rattle.std.proofs.lemmas.List.Elements.{All-nil, All-cons, All-take}
@@ -20,9 +19,8 @@ use Rattle.ttp_world.specs.declared.node.Entry.TheVariants as entry
 use Rattle.ttp_world.specs.declared.node.Verdict.{Verdict}
 use Rattle.ttp_world.specs.declared.node.Verdict.TheVariants as verdict
 use Rattle.ttp_world.specs.Acknowledgement.{is_correct}
-use Rattle.ttp_world.specs.After.{ack_answered, past_after, members_after, limit_after, silent_slots_after}
-use Rattle.ttp_world.specs.After.{correction_after}
-use Rattle.ttp_world.specs.Clock.{is_corrected, slot_change}
+use Rattle.ttp_world.specs.After.{ack_answered, past_after, members_after, correction_after}
+use Rattle.ttp_world.specs.Clock.{is_corrected}
 use Rattle.ttp_world.specs.Counts.{is_rejection}
 use Rattle.ttp_world.specs.Diary.{Place, start_place, joined_place, next_place, Diary, SlotSurroundings, phase_after}
 use Rattle.ttp_world.specs.Medl.{IsValid, plan_at}
@@ -32,10 +30,8 @@ use Rattle.ttp_world.proofs.Lists.{IsPlaceOf, IsPlaceOf-next, nodes-most}
 use Rattle.ttp_world.proofs.MemberSets.{members_after-Judged}
 use Rattle.ack_check.specs.Moves.{moved_members, IsDoubtElsewhere, IsMoveOf}
 use Rattle.ack_check.specs.declared.moves.AckMove.{AckMove}
-use Rattle.cold_start.specs.Listening.{most_silent}
 use Rattle.fta_sync.specs.StandsFor.{kept_notes}
 use Rattle.controller.specs.Kept.{kept}
-use Rattle.controller.specs.Stint.{stint_after}
 use Rattle.controller.specs.Within.{slots_to_own, IsAckWithin, IsNearEnough, IsWithin, IsEntryWithin, IsJudgedWithin}
 use Rattle.ttp_world.proofs.Averages.{fta-take}
 
@@ -250,16 +246,6 @@ moved_members-after list k past sender v deviation move valid node within judged
     (doubt_of_another list k past.place past.ack within.slot node another within.ack))
     ∙ members_after-Judged list k past.members past.ack sender v deviation within.members exists (nodes-most list valid)
 
--- Notes.
-
--- a verdict that is not correct
-is_correct-other : (v : Verdict) → v ≢ verdict.Correct → is_correct v ≡ false
-is_correct-other verdict.Correct other = absurd (other refl)
-is_correct-other _ other = refl
-
-pub not_noted : (v : Verdict) (deviation : ℤ) → v ≢ verdict.Correct → None ≡ cond (is_correct v) (Some deviation) None
-not_noted v deviation other = sym (cond-false (is_correct v) (Some deviation) None (is_correct-other v other))
-
 -- Corrections.
 
 -- the last four settle the correction
@@ -267,27 +253,3 @@ pub correction_after-take : (list : Medl) (place : Place) (notes : List ℤ) (e 
     → correction_after list place (take kept_notes notes) e ≡ correction_after list place notes e
 correction_after-take list place notes e =
     ap (λ z. cond (is_corrected list (phase_after e) place) z (pos 0)) (fta-take notes)
-
--- The whole past.
-
--- a stint with its new entry, listening and clock
-pub entered : (list : Medl) (k : ℕ) (past : NodePast) (e : Entry) (s : SlotSurroundings) (stint : NodePast)
-    (limit silent : ℕ) (offset : ℤ)
-    → stint ≡ stint_after list k past e
-    → limit ≡ limit_after list k stint.limit e
-    → silent ≡ min (silent_slots_after stint.silent_slots e s.is_silent) most_silent
-    → offset ≡ stint.offset +ℤ slot_change e s (correction_after list stint.place stint.notes e)
-    → record stint { phase = phase_after e; entry = e; limit = limit; silent_slots = silent; offset = offset }
-    ≡ kept (past_after list k past e s)
-entered list k past e s stint limit silent offset is =
-    let after = past_after list k past e s in
-    let P : NodePast → Type 0 = λ p.
-    limit ≡ limit_after list k p.limit e
-    → silent ≡ min (silent_slots_after p.silent_slots e s.is_silent) most_silent
-    → offset ≡ p.offset +ℤ slot_change e s (correction_after list p.place p.notes e)
-    → record p { phase = phase_after e; entry = e; limit = limit; silent_slots = silent; offset = offset }
-    ≡ kept after in
-    let corrected = correction_after-take list after.place after.notes e in
-    subst P (sym is) (λ limits silents offsets.
-    let clock = offsets ∙ ap (λ z. past.offset +ℤ slot_change e s z) corrected in
-    λ i. record (kept after) { limit = limits i; silent_slots = silents i; offset = clock i })

@@ -15,17 +15,11 @@ returns-in_default-clause-value c =
     let changes = subst AreChangesWithin (sym c.outside.view_is) c.requires.changes in
     let jump : FitsSigned w64 inside.jump = omega (arith, ints, changes.jump) in
     let drift : FitsSigned w64 inside.drift = omega (arith, ints, changes.drift) in
-    let joined : FitsSigned w64 c.join_deviation.result = search rules in
-    let corrected : FitsSigned w64 c.correction.result = search rules in
-    let sum : FitsSigned w64 c.sum_of_changes.result = search rules in
     let on : node.entry ≢ entry.Off = λ off. c.in_default.not-Off (ap (λ (p : NodePast). p.entry) c.self.view_is ∙ off) in
     search (
       rules,
-      to_z-of_z w64 c.sum_of_changes.result sum,
-      to_z-of_z w64 inside.jump jump,
-      to_z-of_z w64 inside.drift drift,
-      to_z-of_z w64 c.join_deviation.result joined,
-      to_z-of_z w64 c.correction.result corrected,
-      slot_change-on node.entry s
-          (correction_after c.args.list.now node.place node.notes node.entry) on,
+      to_z-of_z,
+      jump,
+      drift,
+      slot_change-on node.entry s (correction_after c.args.list.now node.place node.notes node.entry) on,
     )
