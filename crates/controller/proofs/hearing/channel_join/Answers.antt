@@ -9,14 +9,9 @@ pub returns-in-Bits : goal.returns-in-Bits
 returns-in-Bits c =
     let fits : FitsSigned w64 c.in-Bits.offset = search rules in
     let late_fits : FitsSigned w64 c.deviation_of.result = search rules in
-    let measured = rw (
-      to_z-of_z w64 c.args.own c.ranges.own,
-      to_z-of_z w64 c.args.error c.ranges.error,
-      to_z-of_z w64
-          c.in-Bits.offset fits,
-    ) at c.deviation_of.ensures in
+    let measured = rw (to_z-of_z w64 c.in-Bits.offset fits) at c.deviation_of.ensures in
     let joins = rw (to_z-of_z w64 c.deviation_of.result late_fits) at c.join_entry.ensures in
-    of_bits (λ sent deviation. c.join_entry.result ≡ channel_join c.args.list.now deviation sent) c.args.own
-    c.args.error c.args.came.now c.in-Bits.bytes c.in-Bits.offset c.in-Bits.is
+    of_bits (λ sent deviation. c.join_entry.result ≡ channel_join c.args.list.now deviation sent) c.args.reading.now.own
+    c.args.reading.now.error c.args.came.now c.in-Bits.bytes c.in-Bits.offset c.in-Bits.is
     (λ sender deviation is. let late : c.deviation_of.result ≡ deviation sender = measured ∙ sym is in
     joins ∙ (λ i. join_entry (late i) (c.read_explicit.ensures i)))
