@@ -1,10 +1,11 @@
 -- The end of a slot: the entry that a node makes by what comes to it, and how far it takes the node's clock.
-use Rattle.std.proofs.Common.{◌≡◌, ◌≢◌, arith, ℕ, zero, suc, Bool, true, false, cond, not, refl, sym, ap, subst, ◌∙◌}
-use Rattle.std.proofs.Common.{◌⊎◌, inl, inr, ◌+◌, ◌≤◌, ℤ, pos, neg_ℤ, ◌≤ℤ◌, ◌+ℤ◌, ◌-ℤ◌, ◌&&◌, Option, Some, None}
-use Rattle.std.proofs.Common.{IfSome, IsTrue, unwrap_or, unsigned_abs, ◌<◌, max, FitsSigned, w64, to_z, of_z, length}
+use Rattle.std.proofs.Common.{◌≡◌, ◌≢◌, arith, ℕ, zero, Bool, true, false, cond, not, refl, sym, subst, ◌∙◌, ◌⊎◌, inl}
+use Rattle.std.proofs.Common.{inr, ◌+◌, ◌≤◌, ℤ, pos, neg_ℤ, ◌≤ℤ◌, ◌+ℤ◌, ◌-ℤ◌, ◌&&◌, Option, Some, None, IfSome, IsTrue}
+use Rattle.std.proofs.Common.{unwrap_or, unsigned_abs, ◌<◌, max, FitsSigned, w64, to_z, of_z, length}
 use Rattle.std.specs.Option.{option_or}
 use Rattle.std.specs.Prelude.{◌==◌, nat_le, int_le}
-use Rattle.std.proofs.lemmas.Bool.{cond_both, eqb-true, eqb-false, ne_eqb, and_parts}
+use Rattle.std.proofs.lemmas.Bool.Decides.{nat_tests}
+use Rattle.std.proofs.lemmas.Bool.{cond_both, eqb-true, eqb-false, and_parts}
 use Rattle.std.proofs.lemmas.Int.{ints, to_z-of_z}
 use Rattle.ttp_world.specs.declared.medl.Medl.{Medl}
 use Rattle.ttp_world.specs.declared.node.Ack.{Ack}
@@ -93,11 +94,7 @@ sends-own list k past does possible sends =
 -- so its payload has the length that the list gives for its place
 
 loaded-bare : (bare : Bool) (size : ℕ) → cond (not (cond bare 0 size == 0)) size 0 ≡ cond bare 0 size
-loaded-bare true size = refl
-loaded-bare false zero = refl
-loaded-bare false (suc size) =
-    let some : suc size ≢ 0 = omega arith in
-    ap (λ none. cond (not none) (suc size) 0) (ne_eqb (suc size) 0 some)
+loaded-bare bare size = grind (arith, nat_tests)
 
 loaded_length-cond : (list : Medl) (k : ℕ) (loads : Bool)
     → loaded_length list k (cond loads intent.Loaded intent.Bare) ≡ cond loads (plan_at list k).payload 0

@@ -25,7 +25,7 @@ use Rattle.ttp_world.specs.Counts.{is_rejection}
 use Rattle.ttp_world.specs.Diary.{Place, start_place, joined_place, next_place, Diary, SlotSurroundings, phase_after}
 use Rattle.ttp_world.specs.Medl.{IsValid, plan_at}
 use Rattle.ttp_world.specs.Membership.{AreNodes}
-use Rattle.ttp_world.specs.Past.{NodePast, retried_of, limit_of}
+use Rattle.ttp_world.specs.Past.{NodePast, limit_of}
 use Rattle.ttp_world.proofs.Lists.{IsPlaceOf, IsPlaceOf-next, nodes-most}
 use Rattle.ttp_world.proofs.MemberSets.{members_after-Judged}
 use Rattle.ack_check.specs.Moves.{moved_members, IsDoubtElsewhere, IsMoveOf}
@@ -70,11 +70,9 @@ IsAckWithin-later list k slot later (ack.Doubt x) less within = (within.0, omega
 ack_answered-within : (list : Medl) (k slot : ℕ) (a : Ack) (v : Verdict) → slot < length list.slots
     → IsAckWithin list k slot a → IsAckWithin list k slot (ack_answered a v slot)
 ack_answered-within list k slot ack.Closed v exists within = tt
-ack_answered-within list k slot ack.First verdict.Correct exists within = tt
-ack_answered-within list k slot ack.First verdict.Tentative exists within = (exists, omega arith)
+ack_answered-within list k slot _ verdict.Correct exists within = tt
+ack_answered-within list k slot _ verdict.Tentative exists within = (exists, omega arith)
 ack_answered-within list k slot ack.First _ exists within = tt
-ack_answered-within list k slot (ack.Doubt x) verdict.Correct exists within = tt
-ack_answered-within list k slot (ack.Doubt x) verdict.Tentative exists within = (exists, omega arith)
 ack_answered-within list k slot (ack.Doubt x) _ exists within = within
 
 -- Notes.
@@ -212,13 +210,9 @@ kept_after-within list k past (entry.Judged sender v deviation) s valid node wit
     }
 
 -- the limit that is read of any diary of node k
-limit-by : (b : Bool) (n k : ℕ) → k < n → cond b (n + k) (2 * n + k) ≤ 3 * n
-limit-by true n k node = omega arith
-limit-by false n k node = omega arith
-
 pub limit_of-within : (list : Medl) (k : ℕ) (diary : Diary) → k < length list.slots
     → limit_of list k diary ≤ 3 * length list.slots
-limit_of-within list k diary node = limit-by (retried_of diary) (length list.slots) k node
+limit_of-within list k diary node = grind (arith, nat_tests)
 
 -- Judged slots.
 

@@ -1,4 +1,4 @@
-use Rattle.std.proofs.Common.{◌≡◌, w64, FitsSigned, rules, ◌+◌, ◌≤◌, ◌+ℤ◌, sym, ap, subst, refl, ◌∙◌, unsigned_abs}
+use Rattle.std.proofs.Common.{◌≡◌, w64, rules, ◌+◌, ◌≤◌, ◌+ℤ◌, sym, ap, subst, refl, ◌∙◌, unsigned_abs}
 use Rattle.std.proofs.lemmas.Int.{to_z-of_z}
 use Rattle.ttp_world.specs.declared.medl.Medl.{Medl}
 use Rattle.ttp_world.specs.After.{past_after}
@@ -50,9 +50,7 @@ entered : (c : goal.After-self-2-1) → c.enter.new.self
 entered c =
     let n = c.self.inside in
     let same = c.requires.list ∙ ap (λ (seat : Seat). seat.list) (sym c.self.view_is) in
-    let jump : FitsSigned w64 c.args.jump = search rules in
-    let drift : FitsSigned w64 c.args.drift = search rules in
-    (rw (to_z-of_z w64 c.args.jump jump, to_z-of_z w64 c.args.drift drift) at c.enter.ensures.value)
+    (rw (to_z-of_z w64 c.args.jump (search rules), to_z-of_z w64 c.args.drift (search rules)) at c.enter.ensures.value)
     ∙ (λ i. kept (past_after (same i) n.number n.node c.ending_of-entry.result (around c)))
 
 -- how far from 0 the clock is after the slot
