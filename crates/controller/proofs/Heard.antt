@@ -1,6 +1,6 @@
 -- What a node hears, judges and delivers, by what comes to it.
 use Rattle.std.proofs.Common.{◌≡◌, ℕ, zero, suc, ℤ, refl, ◌+ℤ◌, ◌-ℤ◌, List, ap, sym, subst, pos, Bool, true, length}
-use Rattle.std.proofs.Common.{Option, Some, None, unwrap_or, ◌∙◌, not, cond, IfSome}
+use Rattle.std.proofs.Common.{Option, Some, None, unwrap_or, ◌∙◌, not, IfSome}
 use Rattle.std.specs.Borrow.{Bor}
 use Rattle.std.specs.Prelude.{◌==◌}
 use Rattle.std.proofs.lemmas.Bool.{ne_eqb}
@@ -12,14 +12,13 @@ use Rattle.ttp_world.specs.declared.node.ChannelView.TheVariants.{First}
 use Rattle.ttp_world.specs.declared.node.Entry.{Entry}
 use Rattle.ttp_world.specs.declared.node.Entry.TheVariants as entry
 use Rattle.ttp_world.specs.declared.node.Verdict.TheVariants.{Correct}
-use Rattle.ttp_world.specs.Conduct.{carries_payload, delivery, payload_taken, listening_entry}
+use Rattle.ttp_world.specs.Conduct.{carries_payload, delivery, listening_entry}
 use Rattle.ttp_world.specs.Diary.{Place}
 use Rattle.ttp_world.specs.Fitting.{joinable}
 use Rattle.ttp_world.specs.Medium.{Signal, Silence, Noise, Bits, is_silence}
 use Rattle.ttp_world.specs.Past.{NodePast}
-use Rattle.ttp_world.specs.Reception.{Expected, Hearing, candidates, entry_deviation, expected_of, heard_deviation}
-use Rattle.ttp_world.specs.Reception.{is_first_view, is_taken_from_a, verdict_of, view_of, expected_length}
-use Rattle.ttp_world.specs.Reception.{payload_heard}
+use Rattle.ttp_world.specs.Reception.{Expected, Hearing, entry_deviation, expected_of, heard_deviation, is_first_view}
+use Rattle.ttp_world.specs.Reception.{is_taken_from_a, verdict_of, view_of, expected_length}
 use Rattle.ttp_world.proofs.EntriesMade.{listening_entry-holds}
 use Rattle.medium.specs.Shows.{Shows}
 use Rattle.medium.specs.declared.arrival.Arrival.{Arrival}
@@ -135,10 +134,7 @@ IsJudgement-first list e a h seen deviation is first late =
 
 received : (list : Medl) (past : NodePast) (receiver : Receiver) → Receives list past receiver
     → awaited_by receiver ≡ expected_of list receiver.number past
-received list past receiver is = λ i. record {
-  place = is.coming.place i;
-  candidates = candidates (is.ack i) receiver.number (is.members i) (is.coming.place i).slot;
-}
+received list past receiver is = cc
 
 pub IsJudgement-received : (list : Medl) (past : NodePast) (receiver : Receiver) (h : Hearing) (found : Judgement)
     (e : Expected) (a : Ack)
@@ -149,14 +145,6 @@ IsJudgement-received list past receiver h found e a is expects acks judges =
     (subst (λ (x : Ack). IsJudgement found list e x h) (acks ∙ is.ack) judges)
 
 -- What a correct verdict delivers.
-
--- the payload is that of channel A where A's frame is of the first candidate, and else that of B
-pub payload_from : (list : Medl) (e : Expected) (h : Hearing) (place : Place) (from_a : Bool) (payload : List ℕ)
-    → place ≡ e.place → from_a ≡ is_first_view (view_of list e h.deviation h.a)
-    → payload ≡ cond from_a (payload_heard list place h.a) (payload_heard list place h.b)
-    → payload ≡ payload_taken list e h
-payload_from list e h place from_a payload at first heard =
-    heard ∙ (λ i. cond (first i) (payload_heard list (at i) h.a) (payload_heard list (at i) h.b))
 
 -- a frame of some length carries payload
 pub carries_some : (list : Medl) (place there : Place) (size : ℕ) → (size ≡ 0 → ⊥) → size ≡ expected_length list place

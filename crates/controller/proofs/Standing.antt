@@ -158,11 +158,6 @@ seat_at list k past slots now = record { list = list; node = k; past = past; slo
 
 -- The beginning.
 
-limit-small : (list : Medl) (k : ℕ) (diary : Diary) (surroundings : Surroundings) → IsValid list → k < length list.slots
-    → (past_of list k diary surroundings).limit ≤ most_silent
-limit-small list k diary surroundings valid node =
-    omega (arith, limit_of-within list k diary node, nodes-most list valid)
-
 -- what a node does by what its controller keeps is what it does by its diary
 pub act_kept-of : (list : Medl) (k : ℕ) (on armed : Bool) (past : NodePast) (diary : Diary)
     (surroundings : Surroundings) → IsValid list → k < length list.slots
@@ -170,7 +165,8 @@ pub act_kept-of : (list : Medl) (k : ℕ) (on armed : Bool) (past : NodePast) (d
     → act list k on armed past ≡ act list k on armed (past_of list k diary surroundings)
 act_kept-of list k on armed past diary surroundings valid node is =
     ap (act list k on armed) is
-    ∙ act-kept list k on armed (past_of list k diary surroundings) (limit-small list k diary surroundings valid node)
+    ∙ act-kept list k on armed (past_of list k diary surroundings)
+    (omega (arith, limit_of-within list k diary node, nodes-most list valid))
 
 pub Begins-turn : (list : Medl) (k : ℕ) (past : NodePast) (slots : ℕ) (now : Turn) (on armed : Bool) (jump : ℤ)
     (does : Act) (jumped : ℤ) → IsValid list → k < length list.slots
@@ -270,9 +266,6 @@ taken_change list k past chosen h does x s corrected jump drift =
 one_slot : (slots n most : ℕ) → slots ≡ min n most → min (slots + 1) most ≡ min (suc n) most
 one_slot slots n most is = omega (arith, is)
 
-few_slots : (slots n most : ℕ) → slots ≡ min n most → n ≤ most → slots ≡ n
-few_slots slots n most is few = omega (arith, is, few)
-
 -- The diary with one more entry.
 
 read_next : (list : Medl) (k : ℕ) (past : NodePast) (diary : Diary) (surroundings : Surroundings) (does : Act)
@@ -342,8 +335,9 @@ Ends-seat list k past slots t new ended outcome made handed does jump message a 
       };
       delivered = delivered ∙ hands;
       status = λ few.
+          let all : slots ≡ length diary = omega (arith, stands.slots, few) in
           status
-          ∙ (λ i. status_words list (few_slots slots (length diary) most_slots stands.slots few i) (kept_new i)
+          ∙ (λ i. status_words list (all i) (kept_new i)
           (is_some (hands i)))
           ∙ status_words-kept list (length diary) (past_of list k (e ∷ diary) (s ∷ surroundings))
           (is_some (delivery list k read h e));

@@ -1,11 +1,11 @@
 -- A correct frame delivers the payload of the channel that the judgement names.
-use Rattle.std.proofs.Common.{◌≡◌, true, false, sym, ◌∙◌, rules}
+use Rattle.std.proofs.Common.{◌≡◌, sym, ◌∙◌, rules}
 use Rattle.ttp_world.specs.declared.node.Verdict.TheVariants.{Correct}
 use Rattle.ttp_world.specs.Act.{coming_place}
 use Rattle.ttp_world.specs.Conduct.{payload_taken}
 use Rattle.ttp_world.specs.Reception.{expected_of, verdict_of, view_of}
 use Rattle.controller.specs.Hearing.{hearing_of}
-use Rattle.controller.proofs.Heard.{payload_from, carries_some}
+use Rattle.controller.proofs.Heard.{carries_some}
 use Rattle.controller.proofs.hearing.deliver.Goals as goal
 use Rattle.controller.proofs.hearing.deliver.Goals.{then-judgement, else-judgement}
 
@@ -15,12 +15,19 @@ returns c k past own error coming sent_a sent_b clock shows_a shows_b is =
     let h = hearing_of sent_a sent_b clock own error in
     let correct : c.args.judgement.now.verdict ≡ Correct = search rules in
     let taken : c.if-judgement.payload ≡ payload_taken list (expected_of list k past) h =
-    let from = payload_from list (expected_of list k past) h c.args.coming.now.place in
     elim c.if-judgement.branch [
-      | then-judgement w ↦ from true _ coming.place (sym w.if-judgement.true ∙ is.from_a)
-          (w.payload-is ∙ w.payload_heard-payload.ensures own error sent_a clock shows_a)
-      | else-judgement w ↦ from false _ coming.place (sym w.if-judgement.false ∙ is.from_a)
-          (w.payload-is ∙ w.payload_heard-payload-else-judgement.ensures own error sent_b clock shows_b)
+      | then-judgement w ↦ search (
+        rules,
+        sym is.from_a ∙ w.if-judgement.true,
+        coming.place,
+        w.payload-is ∙ w.payload_heard-payload.ensures own error sent_a clock shows_a,
+      )
+      | else-judgement w ↦ search (
+        rules,
+        sym is.from_a ∙ w.if-judgement.false,
+        coming.place,
+        w.payload-is ∙ w.payload_heard-payload-else-judgement.ensures own error sent_b clock shows_b,
+      )
     ] in
     let view_a = view_of list (expected_of list k past) h.deviation h.a in
     let view_b = view_of list (expected_of list k past) h.deviation h.b in

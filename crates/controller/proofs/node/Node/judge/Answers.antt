@@ -1,9 +1,7 @@
-use Rattle.std.proofs.Common.{◌≡◌, ap, ◌∙◌, rules}
+use Rattle.std.proofs.Common.{ap, rules}
 use Rattle.std.proofs.Math.Bool.{or-false}
-use Rattle.ttp_world.specs.declared.node.Entry.TheVariants as entry
-use Rattle.ttp_world.specs.After.{members_after}
 use Rattle.ttp_world.specs.Past.{NodePast}
-use Rattle.ack_check.specs.Moves.{moved_members, IsMoveOf}
+use Rattle.ack_check.specs.Moves.{IsMoveOf}
 use Rattle.controller.proofs.Stints.{moved_members-after}
 use Rattle.controller.proofs.node.Node.judge.Goals as goal
 
@@ -15,11 +13,13 @@ returns c =
     let judged = c.requires.judged in
     let moves : IsMoveOf c.step-asked.result past.ack a.verdict a.sender =
     rw (ap (λ (p : NodePast). p.ack) c.self.view_is, judged.possible) at c.step-asked.ensures.means in
-    let members : c.set.result
-    ≡ members_after list a.k past.members past.ack (entry.Judged a.sender a.verdict a.deviation) = c.set.ensures
-    ∙ c.apply.ensures
-    ∙ ap (λ s. moved_members c.step-asked.result s a.sender)
-    (c.of-members.ensures ∙ ap (λ (p : NodePast). p.members) c.self.view_is)
-    ∙ moved_members-after list a.k past a.sender a.verdict a.deviation c.step-asked.result c.requires.valid
-    c.requires.node c.requires.within judged moves in
-    search (rules, or-false, moves.accepts, moves.rejects, judged.possible, judged.coming)
+    search (
+      rules,
+      or-false,
+      moves.accepts,
+      moves.rejects,
+      judged.possible,
+      judged.coming,
+      moved_members-after list a.k past a.sender a.verdict a.deviation c.step-asked.result c.requires.valid
+          c.requires.node c.requires.within judged moves,
+    )
