@@ -68,22 +68,18 @@ take-put (suc n) (suc m) [] [] few = refl
 take-put (suc n) (suc m) [] (y ∷ notes) few =
     ap (λ (xs : List ℤ). y ∷ xs) (take-put n m [] notes (omega (arith, few)))
 
-take-noted : (more notes : List ℤ) (begins : Bool)
-    → take 4 (more ++ cond begins [] (take 4 notes)) ≡ take 4 (more ++ cond begins [] notes)
-take-noted more notes true = refl
-take-noted more notes false = take-put 4 4 more notes (omega arith)
-
-take-noted_active : (more notes : List ℤ) (begins active : Bool)
+take-noted : (more notes : List ℤ) (begins active : Bool)
     → take 4 (cond active (more ++ cond begins [] (take 4 notes)) [])
     ≡ take 4 (cond active (more ++ cond begins [] notes) [])
-take-noted_active more notes begins true = take-noted more notes begins
-take-noted_active more notes begins false = refl
+take-noted more notes begins false = refl
+take-noted more notes true true = refl
+take-noted more notes false true = take-put 4 4 more notes (omega arith)
 
 pub notes_after-kept : (list : Medl) (notes : List ℤ) (place : Place) (e : Entry)
     → take kept_notes (notes_after list (take kept_notes notes) place e)
     ≡ take kept_notes (notes_after list notes place e)
 notes_after-kept list notes place e =
-    take-noted_active (notes_in list place e) notes (begins_round place e) (is_active_entry e)
+    take-noted (notes_in list place e) notes (begins_round place e) (is_active_entry e)
 
 correction_after-kept : (list : Medl) (place : Place) (notes : List ℤ) (e : Entry)
     → correction_after list place (notes_after list (take kept_notes notes) place e) e
@@ -99,13 +95,10 @@ pub kept_after-kept : (list : Medl) (k : ℕ) (past : NodePast) (e : Entry) (s :
     → kept (past_after list k (kept past) e s) ≡ kept (past_after list k past e s)
 kept_after-kept list k past e s =
     let place = place_after list k past.place e in
-    let silent = silent_slots_after-kept past.silent_slots e s.is_silent in
-    let notes = notes_after-kept list past.notes place e in
-    let corrected = correction_after-kept list place past.notes e in
     λ i. record (kept (past_after list k past e s)) {
-      silent_slots = silent i;
-      offset = past.offset +ℤ slot_change e s (corrected i);
-      notes = notes i;
+      silent_slots = silent_slots_after-kept past.silent_slots e s.is_silent i;
+      offset = past.offset +ℤ slot_change e s (correction_after-kept list place past.notes e i);
+      notes = notes_after-kept list past.notes place e i;
     }
 
 -- What a node does.
