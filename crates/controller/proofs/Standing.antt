@@ -4,7 +4,7 @@ use Rattle.std.proofs.Common.{length, take, refl, ap, sym, ◌∙◌, arith, ◌
 use Rattle.std.proofs.Common.{◌++◌}
 use Rattle.std.specs.Prelude.{nat_le}
 use Rattle.std.proofs.lemmas.Bool.Decides.{nat_tests}
-use Rattle.std.proofs.lemmas.List.{length-take}
+use Rattle.std.proofs.lemmas.List.{length-take, take-take}
 use Rattle.ttp_world.specs.declared.medl.Medl.{Medl}
 use Rattle.ttp_world.specs.declared.node.Act.{Act}
 use Rattle.ttp_world.specs.declared.node.Act.TheVariants.{Start, Listen, Send, Off}
@@ -46,14 +46,11 @@ use Rattle.controller.proofs.Stints.{limit_of-within, correction_after-take}
 
 -- Silent slots.
 
-silent-kept : (b : Bool) (count : ℕ) → min (cond b (1 + min count 65535) 0) 65535 ≡ min (cond b (1 + count) 0) 65535
-silent-kept true count = omega arith
-silent-kept false count = refl
-
 silent_slots_after-kept : (count : ℕ) (e : Entry) (silent : Bool)
     → min (silent_slots_after (min count most_silent) e silent) most_silent
     ≡ min (silent_slots_after count e silent) most_silent
-silent_slots_after-kept count entry.Waited silent = silent-kept silent count
+silent_slots_after-kept count entry.Waited true = omega arith
+silent_slots_after-kept count entry.Waited false = refl
 silent_slots_after-kept count _ silent = refl
 
 -- Notes.
@@ -63,10 +60,7 @@ take-put : (n m : ℕ) (more notes : List ℤ) → n ≤ m → take n (more ++ t
 take-put zero m more notes few = refl
 take-put (suc n) m (x ∷ more) notes few =
     ap (λ (xs : List ℤ). x ∷ xs) (take-put n m more notes (omega (arith, few)))
-take-put (suc n) zero [] notes few = absurd (omega (arith, few))
-take-put (suc n) (suc m) [] [] few = refl
-take-put (suc n) (suc m) [] (y ∷ notes) few =
-    ap (λ (xs : List ℤ). y ∷ xs) (take-put n m [] notes (omega (arith, few)))
+take-put n m [] notes few = take-take n m notes few
 
 take-noted : (more notes : List ℤ) (begins active : Bool)
     → take 4 (cond active (more ++ cond begins [] (take 4 notes)) [])
