@@ -1,6 +1,6 @@
 -- What a node hears, judges and delivers, by what comes to it.
-use Rattle.std.proofs.Common.{◌≡◌, ℕ, zero, suc, ℤ, refl, ◌+ℤ◌, ◌-ℤ◌, List, ap, sym, subst, ◌<◌, pos, Bool, true}
-use Rattle.std.proofs.Common.{length, Option, Some, None, unwrap_or, ◌∙◌, false, not, cond, IfSome}
+use Rattle.std.proofs.Common.{◌≡◌, ℕ, zero, suc, ℤ, refl, ◌+ℤ◌, ◌-ℤ◌, List, ap, sym, subst, pos, Bool, true, length}
+use Rattle.std.proofs.Common.{Option, Some, None, unwrap_or, ◌∙◌, not, IfSome}
 use Rattle.std.specs.Borrow.{Bor}
 use Rattle.std.specs.Prelude.{◌==◌}
 use Rattle.std.proofs.lemmas.Bool.{ne_eqb}
@@ -11,19 +11,14 @@ use Rattle.ttp_world.specs.declared.node.ChannelView.{ChannelView}
 use Rattle.ttp_world.specs.declared.node.ChannelView.TheVariants.{First}
 use Rattle.ttp_world.specs.declared.node.Entry.{Entry}
 use Rattle.ttp_world.specs.declared.node.Entry.TheVariants as entry
-use Rattle.ttp_world.specs.declared.node.Verdict.{Verdict}
 use Rattle.ttp_world.specs.declared.node.Verdict.TheVariants.{Correct}
-use Rattle.ttp_world.specs.Act.{coming_place}
-use Rattle.ttp_world.specs.Conduct.{carries_payload, delivery, judging_entry, payload_taken, verdict_entry}
-use Rattle.ttp_world.specs.Conduct.{listening_entry}
+use Rattle.ttp_world.specs.Conduct.{carries_payload, delivery, listening_entry}
 use Rattle.ttp_world.specs.Diary.{Place}
 use Rattle.ttp_world.specs.Fitting.{joinable}
 use Rattle.ttp_world.specs.Medium.{Signal, Silence, Noise, Bits, is_silence}
-use Rattle.ttp_world.specs.Membership.{AreNodes}
 use Rattle.ttp_world.specs.Past.{NodePast}
-use Rattle.ttp_world.specs.Reception.{Expected, Hearing, candidates, entry_deviation, expected_of, heard_deviation}
-use Rattle.ttp_world.specs.Reception.{is_first_view, is_taken_from_a, verdict_of, view_of, expected_length}
-use Rattle.ttp_world.specs.Reception.{payload_heard}
+use Rattle.ttp_world.specs.Reception.{Expected, Hearing, entry_deviation, expected_of, heard_deviation, is_first_view}
+use Rattle.ttp_world.specs.Reception.{is_taken_from_a, verdict_of, view_of, expected_length}
 use Rattle.ttp_world.proofs.EntriesMade.{listening_entry-holds}
 use Rattle.medium.specs.Shows.{Shows}
 use Rattle.medium.specs.declared.arrival.Arrival.{Arrival}
@@ -31,10 +26,9 @@ use Rattle.medium.specs.declared.arrival.Arrival.TheVariants as arrival
 use Rattle.controller.specs.declared.hearing.Judgement.{Judgement}
 use Rattle.controller.specs.declared.hearing.Receiver.{Receiver}
 use Rattle.controller.specs.declared.hearing.Seen.{Seen}
-use Rattle.controller.specs.Hearing.{is_silent_arrival, ForSignals, deviation_by, IsReceiver, Receives, awaited_by}
-use Rattle.controller.specs.Hearing.{IsSeen, IsJudgement}
+use Rattle.controller.specs.Hearing.{is_silent_arrival, ForSignals, deviation_by, Receives, awaited_by, IsSeen}
+use Rattle.controller.specs.Hearing.{IsJudgement}
 use Rattle.controller.specs.Limits.{offset_of_arrival}
-use Rattle.controller.specs.Within.{IsAckWithin, IsWithin}
 
 -- Whatever comes to a node shows some signals.
 
@@ -63,14 +57,10 @@ shows_b a (arrival.Bits bytes offset) = (refl, refl)
 pub silence-shown : (came : Arrival) (sent : Signal) (clock : ℕ → ℤ) → Shows came sent clock
     → is_silent_arrival came ≡ is_silence sent
 silence-shown arrival.Silence Silence clock shows = refl
-silence-shown arrival.Noise Silence clock shows = cc
-silence-shown (arrival.Bits bytes offset) Silence clock shows = cc
-silence-shown arrival.Silence Noise clock shows = cc
 silence-shown arrival.Noise Noise clock shows = refl
-silence-shown (arrival.Bits bytes offset) Noise clock shows = cc
-silence-shown arrival.Silence (Bits sender bytes) clock shows = absurd shows
-silence-shown arrival.Noise (Bits sender bytes) clock shows = absurd shows
 silence-shown (arrival.Bits came offset) (Bits sender bytes) clock shows = refl
+silence-shown _ (Bits sender bytes) clock shows = absurd shows
+silence-shown _ _ clock shows = cc
 
 -- What came on a channel tells what was heard there.
 
@@ -140,29 +130,11 @@ IsJudgement-first list e a h seen deviation is first late =
       from_a = sym (ap is_first_view view_a);
     }
 
--- Both channels.
-
-pub IsJudgement-both : (list : Medl) (e : Expected) (a : Ack) (h : Hearing) (seen_a seen_b : Seen) (found : Judgement)
-    → IsSeen seen_a list e h.a h.deviation → IsSeen seen_b list e h.b h.deviation
-    → found.verdict ≡ verdict_of seen_a.view seen_b.view a
-    → found.deviation ≡ entry_deviation (is_taken_from_a seen_a.view seen_b.view) seen_a.deviation seen_b.deviation
-    → found.from_a ≡ is_first_view seen_a.view
-    → IsJudgement found list e a h
-IsJudgement-both list e a h seen_a seen_b found is_a is_b verdict deviation from_a = record {
-  verdict = verdict ∙ (λ i. verdict_of (is_a.view i) (is_b.view i) a);
-  deviation = deviation
-      ∙ (λ i. entry_deviation (is_taken_from_a (is_a.view i) (is_b.view i)) (is_a.deviation i) (is_b.deviation i));
-  from_a = from_a ∙ ap is_first_view is_a.view;
-}
-
 -- What a receiver expects is what the node expects by its past.
 
 received : (list : Medl) (past : NodePast) (receiver : Receiver) → Receives list past receiver
     → awaited_by receiver ≡ expected_of list receiver.number past
-received list past receiver is = λ i. record {
-  place = is.coming.place i;
-  candidates = candidates (is.ack i) receiver.number (is.members i) (is.coming.place i).slot;
-}
+received list past receiver is = cc
 
 pub IsJudgement-received : (list : Medl) (past : NodePast) (receiver : Receiver) (h : Hearing) (found : Judgement)
     (e : Expected) (a : Ack)
@@ -172,33 +144,7 @@ IsJudgement-received list past receiver h found e a is expects acks judges =
     subst (λ (x : Expected). IsJudgement found list x past.ack h) (expects ∙ received list past receiver is)
     (subst (λ (x : Ack). IsJudgement found list e x h) (acks ∙ is.ack) judges)
 
--- and such a receiver is within the list where the node's past is
-pub IsReceiver-within : (list : Medl) (k : ℕ) (past : NodePast) (receiver : Receiver) → k < length list.slots
-    → receiver.number ≡ k → IsWithin list k past
-    → Receives list past receiver → IsReceiver list receiver
-IsReceiver-within list k past receiver node number within is = record {
-  number = subst (λ (n : ℕ). n < length list.slots) (sym number) node;
-  coming = record { place = refl; rounds = is.coming.rounds; slots = is.coming.slots };
-  doubt = λ x doubts. (subst (IsAckWithin list k past.place.slot) (sym is.ack ∙ doubts) within.ack).0;
-  members = subst (AreNodes list) (sym is.members) within.members;
-}
-
 -- What a correct verdict delivers.
-
--- the payload is that of channel A where A's frame is of the first candidate, and else that of B
-pub payload_from_a : (list : Medl) (e : Expected) (h : Hearing) (place : Place) (payload : List ℕ) → place ≡ e.place
-    → payload ≡ payload_heard list place h.a
-    → true ≡ is_first_view (view_of list e h.deviation h.a) → payload ≡ payload_taken list e h
-payload_from_a list e h place payload at heard first =
-    heard ∙ ap (λ (p : Place). payload_heard list p h.a) at
-    ∙ ap (λ (b : Bool). cond b (payload_heard list e.place h.a) (payload_heard list e.place h.b)) first
-
-pub payload_from_b : (list : Medl) (e : Expected) (h : Hearing) (place : Place) (payload : List ℕ) → place ≡ e.place
-    → payload ≡ payload_heard list place h.b
-    → false ≡ is_first_view (view_of list e h.deviation h.a) → payload ≡ payload_taken list e h
-payload_from_b list e h place payload at heard other =
-    heard ∙ ap (λ (p : Place). payload_heard list p h.b) at
-    ∙ ap (λ (b : Bool). cond b (payload_heard list e.place h.a) (payload_heard list e.place h.b)) other
 
 -- a frame of some length carries payload
 pub carries_some : (list : Medl) (place there : Place) (size : ℕ) → (size ≡ 0 → ⊥) → size ≡ expected_length list place
@@ -206,23 +152,6 @@ pub carries_some : (list : Medl) (place there : Place) (size : ℕ) → (size �
     → true ≡ carries_payload list there
 carries_some list place there size some is at =
     sym (ap not (ne_eqb size 0 some)) ∙ ap (λ (n : ℕ). not (n == 0)) (is ∙ ap (expected_length list) at)
-
-pub delivered_correct : (list : Medl) (k : ℕ) (past : NodePast) (h : Hearing) (found : Judgement) (sender : ℕ)
-    (payload : List ℕ)
-    → IsJudgement found list (expected_of list k past) past.ack h → found.verdict ≡ Correct
-    → true ≡ carries_payload list (coming_place list past)
-    → sender ≡ (coming_place list past).slot → payload ≡ payload_taken list (expected_of list k past) h
-    → Some (record { sender = sender; payload = payload }) ≡ delivery list k past h (judging_entry list k past h)
-delivered_correct list k past h found sender payload is correct carries sends taken =
-    let e = expected_of list k past in
-    let view_a = view_of list e h.deviation h.a in
-    let view_b = view_of list e h.deviation h.b in
-    let late = entry_deviation (is_taken_from_a view_a view_b) (heard_deviation h.deviation h.a)
-    (heard_deviation h.deviation h.b) in
-    let slot = (coming_place list past).slot in
-    (λ i. Some (record { sender = sends i; payload = taken i }))
-    ∙ ap (λ (b : Bool). cond b (Some (record { sender = slot; payload = payload_taken list e h })) None) carries
-    ∙ ap (λ (v : Verdict). delivery list k past h (verdict_entry slot v late)) (sym correct ∙ is.verdict)
 
 -- A listening node delivers nothing.
 

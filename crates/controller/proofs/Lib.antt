@@ -1,15 +1,12 @@
-pub mod Clocks
+pub mod Endings
 pub mod Heard
 pub mod InSlot
-pub mod MadeEntries
 pub mod Near
 pub mod Parts
 pub mod Passed
 pub mod Payloads
-pub mod SendingLaws
 pub mod Sends
 pub mod Sets
 pub mod Standing
-pub mod StatusLaws
 pub mod Stints
 pub mod WholeSlot

@@ -1,11 +1,11 @@
 -- Sets of a list's nodes: they have room in its frames, and those on which a node joins are such.
-use Rattle.std.proofs.Common.{ℕ, ◌<◌, Bool, true, false, ◌∷◌, [], List, length, subst, sym, arith, ◌≡◌, refl}
-use Rattle.std.proofs.Common.{IfSome, ◌&&◌, ◌||◌, ap, ◌∙◌}
+use Rattle.std.proofs.Common.{ℕ, ◌<◌, Bool, true, false, ◌∷◌, [], List, length, subst, sym, arith, ◌≡◌, refl, IfSome}
+use Rattle.std.proofs.Common.{◌&&◌, ◌||◌, ap, ◌∙◌}
 use Rattle.std.specs.Int.{bit_at}
 use Rattle.std.specs.List.{list_all}
 use Rattle.std.specs.Prelude.{◌==◌, nat_lt}
 use Rattle.std.proofs.lemmas.Bool.{and_parts, eqb-true, ltb-true}
-use Rattle.ttp_base.proofs.NodeLists.{filter-below}
+use Rattle.ttp_base.proofs.NodeLists.{filter-below, with_node-nil}
 use Rattle.ttp_base.proofs.NodeSets.{has_node-sieve, same_sieve}
 use Rattle.ttp_base.proofs.SetWords.{HasWord, HasWord-filter, HasWord-only, HasWord-with, HasWord-without}
 use Rattle.ttp_base.proofs.SetWords.{set_bits-small}
@@ -56,6 +56,8 @@ pub only-room : (list : Medl) (k : ℕ) → IsValid list → k < length list.slo
 only-room list k valid node =
     has_room list _ (HasWord-only (node_limit list) k (omega (arith, valid.count))
     (omega (arith, nodes-most list valid)))
+
+pub ruleset rooms = (nodes-room, with_node-room, only-room, with_node-nil, nodes-most)
 
 -- The candidates for a sender's members, where they are made of nodes of the list.
 

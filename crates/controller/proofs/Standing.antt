@@ -1,9 +1,10 @@
 -- What a controller stands for at each turn of a slot: what it keeps is all that the rules ask of its node's past.
-use Rattle.std.proofs.Common.{◌≡◌, ℕ, zero, ◌+◌, ◌≤◌, min, ℤ, pos, ◌+ℤ◌, Bool, true, false, cond, ◌&&◌, List, [], ◌∷◌}
-use Rattle.std.proofs.Common.{length, take, refl, ap, sym, ◌∙◌, inl, inr, arith, ◌<◌, Some, None, Option, subst, suc}
-use Rattle.std.proofs.Common.{is_some, ◌++◌}
+use Rattle.std.proofs.Common.{◌≡◌, ℕ, zero, ◌+◌, ◌≤◌, min, ℤ, ◌+ℤ◌, Bool, true, false, cond, ◌&&◌, List, [], ◌∷◌}
+use Rattle.std.proofs.Common.{length, take, refl, ap, sym, ◌∙◌, arith, ◌<◌, Some, None, Option, subst, suc, is_some}
+use Rattle.std.proofs.Common.{◌++◌}
 use Rattle.std.specs.Prelude.{nat_le}
-use Rattle.std.proofs.lemmas.Bool.{cases_lt, le-leb, lt-leb}
+use Rattle.std.proofs.lemmas.Bool.Decides.{nat_tests}
+use Rattle.std.proofs.lemmas.List.{length-take, take-take}
 use Rattle.ttp_world.specs.declared.medl.Medl.{Medl}
 use Rattle.ttp_world.specs.declared.node.Act.{Act}
 use Rattle.ttp_world.specs.declared.node.Act.TheVariants.{Start, Listen, Send, Off}
@@ -45,14 +46,11 @@ use Rattle.controller.proofs.Stints.{limit_of-within, correction_after-take}
 
 -- Silent slots.
 
-silent-kept : (b : Bool) (count : ℕ) → min (cond b (1 + min count 65535) 0) 65535 ≡ min (cond b (1 + count) 0) 65535
-silent-kept true count = omega arith
-silent-kept false count = refl
-
 silent_slots_after-kept : (count : ℕ) (e : Entry) (silent : Bool)
     → min (silent_slots_after (min count most_silent) e silent) most_silent
     ≡ min (silent_slots_after count e silent) most_silent
-silent_slots_after-kept count entry.Waited silent = silent-kept silent count
+silent_slots_after-kept count entry.Waited true = omega arith
+silent_slots_after-kept count entry.Waited false = refl
 silent_slots_after-kept count _ silent = refl
 
 -- Notes.
@@ -62,27 +60,20 @@ take-put : (n m : ℕ) (more notes : List ℤ) → n ≤ m → take n (more ++ t
 take-put zero m more notes few = refl
 take-put (suc n) m (x ∷ more) notes few =
     ap (λ (xs : List ℤ). x ∷ xs) (take-put n m more notes (omega (arith, few)))
-take-put (suc n) zero [] notes few = absurd (omega (arith, few))
-take-put (suc n) (suc m) [] [] few = refl
-take-put (suc n) (suc m) [] (y ∷ notes) few =
-    ap (λ (xs : List ℤ). y ∷ xs) (take-put n m [] notes (omega (arith, few)))
+take-put n m [] notes few = take-take n m notes few
 
-take-noted : (more notes : List ℤ) (begins : Bool)
-    → take 4 (more ++ cond begins [] (take 4 notes)) ≡ take 4 (more ++ cond begins [] notes)
-take-noted more notes true = refl
-take-noted more notes false = take-put 4 4 more notes (omega arith)
-
-take-noted_active : (more notes : List ℤ) (begins active : Bool)
+take-noted : (more notes : List ℤ) (begins active : Bool)
     → take 4 (cond active (more ++ cond begins [] (take 4 notes)) [])
     ≡ take 4 (cond active (more ++ cond begins [] notes) [])
-take-noted_active more notes begins true = take-noted more notes begins
-take-noted_active more notes begins false = refl
+take-noted more notes begins false = refl
+take-noted more notes true true = refl
+take-noted more notes false true = take-put 4 4 more notes (omega arith)
 
 pub notes_after-kept : (list : Medl) (notes : List ℤ) (place : Place) (e : Entry)
     → take kept_notes (notes_after list (take kept_notes notes) place e)
     ≡ take kept_notes (notes_after list notes place e)
 notes_after-kept list notes place e =
-    take-noted_active (notes_in list place e) notes (begins_round place e) (is_active_entry e)
+    take-noted (notes_in list place e) notes (begins_round place e) (is_active_entry e)
 
 correction_after-kept : (list : Medl) (place : Place) (notes : List ℤ) (e : Entry)
     → correction_after list place (notes_after list (take kept_notes notes) place e) e
@@ -98,22 +89,16 @@ pub kept_after-kept : (list : Medl) (k : ℕ) (past : NodePast) (e : Entry) (s :
     → kept (past_after list k (kept past) e s) ≡ kept (past_after list k past e s)
 kept_after-kept list k past e s =
     let place = place_after list k past.place e in
-    let silent = silent_slots_after-kept past.silent_slots e s.is_silent in
-    let notes = notes_after-kept list past.notes place e in
-    let corrected = correction_after-kept list place past.notes e in
     λ i. record (kept (past_after list k past e s)) {
-      silent_slots = silent i;
-      offset = past.offset +ℤ slot_change e s (corrected i);
-      notes = notes i;
+      silent_slots = silent_slots_after-kept past.silent_slots e s.is_silent i;
+      offset = past.offset +ℤ slot_change e s (correction_after-kept list place past.notes e i);
+      notes = notes_after-kept list past.notes place e i;
     }
 
 -- What a node does.
 
 due-kept : (limit count : ℕ) → limit ≤ 65535 → nat_le limit (min count 65535) ≡ nat_le limit count
-due-kept limit count few = elim (cases_lt count limit) [
-  | inl early ↦ lt-leb limit (min count 65535) (omega arith) ∙ sym (lt-leb limit count early)
-  | inr due ↦ le-leb limit (min count 65535) (omega arith) ∙ sym (le-leb limit count due)
-]
+due-kept limit count few = grind (arith, nat_tests)
 
 phase_act-kept : (p : Phase) (list : Medl) (k : ℕ) (on armed : Bool) (past : NodePast) → past.limit ≤ most_silent
     → phase_act p list k on armed (kept past) ≡ phase_act p list k on armed past
@@ -148,11 +133,7 @@ delivery-kept list k past h _ = refl
 -- What is shown and published.
 
 enough-kept : (notes : List ℤ) → nat_le 4 (length (take 4 notes)) ≡ nat_le 4 (length notes)
-enough-kept [] = refl
-enough-kept (a ∷ []) = refl
-enough-kept (a ∷ b ∷ []) = refl
-enough-kept (a ∷ b ∷ c ∷ []) = refl
-enough-kept (a ∷ b ∷ c ∷ d ∷ notes) = sym (le-leb 4 (length (a ∷ b ∷ c ∷ d ∷ notes)) (omega arith))
+enough-kept notes = grind (arith, nat_tests, length-take)
 
 pub status_words-kept : (list : Medl) (slot : ℕ) (past : NodePast) (delivers : Bool)
     → status_words list slot (kept past) delivers ≡ status_words list slot past delivers
@@ -162,37 +143,7 @@ status_words-kept list slot past delivers = rw (enough-kept past.notes) refl
 abbrev pub seat_at : Medl → ℕ → NodePast → ℕ → Turn → Seat
 seat_at list k past slots now = record { list = list; node = k; past = past; slots = slots; turn = now }
 
--- what a turn knows of the slot
-abbrev act_in : Turn → Act
-act_in Ended = Off
-act_in (Begun does jump) = does
-act_in (Planned does jump message) = does
-
-abbrev jump_in : Turn → ℤ
-jump_in Ended = pos 0
-jump_in (Begun does jump) = jump
-jump_in (Planned does jump message) = jump
-
-abbrev message_in : Turn → Option ℕ
-message_in Ended = None
-message_in (Begun does jump) = None
-message_in (Planned does jump message) = message
-
-pub same_act : (now there : Turn) → now ≡ there → act_in now ≡ act_in there
-same_act now there same = ap act_in same
-
-pub same_jump : (now there : Turn) → now ≡ there → jump_in now ≡ jump_in there
-same_jump now there same = ap jump_in same
-
-pub same_message : (now there : Turn) → now ≡ there → message_in now ≡ message_in there
-same_message now there same = ap message_in same
-
 -- The beginning.
-
-limit-small : (list : Medl) (k : ℕ) (diary : Diary) (surroundings : Surroundings) → IsValid list → k < length list.slots
-    → (past_of list k diary surroundings).limit ≤ most_silent
-limit-small list k diary surroundings valid node =
-    omega (arith, limit_of-within list k diary node, nodes-most list valid)
 
 -- what a node does by what its controller keeps is what it does by its diary
 pub act_kept-of : (list : Medl) (k : ℕ) (on armed : Bool) (past : NodePast) (diary : Diary)
@@ -201,7 +152,8 @@ pub act_kept-of : (list : Medl) (k : ℕ) (on armed : Bool) (past : NodePast) (d
     → act list k on armed past ≡ act list k on armed (past_of list k diary surroundings)
 act_kept-of list k on armed past diary surroundings valid node is =
     ap (act list k on armed) is
-    ∙ act-kept list k on armed (past_of list k diary surroundings) (limit-small list k diary surroundings valid node)
+    ∙ act-kept list k on armed (past_of list k diary surroundings)
+    (omega (arith, limit_of-within list k diary node, nodes-most list valid))
 
 pub Begins-turn : (list : Medl) (k : ℕ) (past : NodePast) (slots : ℕ) (now : Turn) (on armed : Bool) (jump : ℤ)
     (does : Act) (jumped : ℤ) → IsValid list → k < length list.slots
@@ -246,7 +198,8 @@ Plans-turn list k past slots now does jumped again number payload message planne
     λ diary surroundings a jump chosen stands numbered paid.
     let read = past_of list k diary surroundings in
     let turns = sym begun ∙ stands.turn in
-    let acts = same_act (Begun does jumped) (Begun a jump) turns in
+    let acts : does ≡ a = cc in
+    let jumps : jumped ≡ jump = cc in
     let alike = decides-alike list k read chosen a in
     let carried =
     carries
@@ -265,7 +218,7 @@ Plans-turn list k past slots now does jumped again number payload message planne
       stands = record {
         past = stands.past;
         slots = stands.slots;
-        turn = λ i. Planned (acts i) ((same ∙ same_jump (Begun does jumped) (Begun a jump) turns) i) (carried i);
+        turn = λ i. Planned (acts i) ((same ∙ jumps) i) (carried i);
       };
     }
 
@@ -300,9 +253,6 @@ taken_change list k past chosen h does x s corrected jump drift =
 one_slot : (slots n most : ℕ) → slots ≡ min n most → min (slots + 1) most ≡ min (suc n) most
 one_slot slots n most is = omega (arith, is)
 
-few_slots : (slots n most : ℕ) → slots ≡ min n most → n ≤ most → slots ≡ n
-few_slots slots n most is few = omega (arith, is, few)
-
 -- The diary with one more entry.
 
 read_next : (list : Medl) (k : ℕ) (past : NodePast) (diary : Diary) (surroundings : Surroundings) (does : Act)
@@ -332,14 +282,13 @@ Ends-seat list k past slots t new ended outcome made handed does jump message a 
     λ diary surroundings there jumped chosen sent_a sent_b clock s stands shown_a shown_b around.
     let read = past_of list k diary surroundings in
     let turns = sym turn ∙ stands.turn in
-    let now = Planned does jump message in
-    let then = Planned there jumped (message_planned list read chosen there) in
-    let acts = same_act now then turns in
+    let acts : does ≡ there = cc in
     let alike = decides-alike list k read chosen there in
-    let same = same_jump now then turns in
+    let same : jump ≡ jumped = cc in
+    let carried : message ≡ message_planned list read chosen there = cc in
     let own : (past.offset +ℤ jump) ≡ (read.offset +ℤ jumped) = λ i. (stands.past i).offset +ℤ same i in
     let h = hearing_of sent_a sent_b clock (read.offset +ℤ jumped) error in
-    let carries = same_message now then turns ∙ sym (alike.message)
+    let carries = carried ∙ sym (alike.message)
     ∙ (λ i. message_planned list (sym stands.past i) chosen (sym acts i)) in
     let is = ends chosen carries sent_a sent_b clock shown_a shown_b in
     let from_kept = (λ i. new_entry list k (stands.past i) chosen (hearing_of sent_a sent_b clock (own i) error)
@@ -373,8 +322,9 @@ Ends-seat list k past slots t new ended outcome made handed does jump message a 
       };
       delivered = delivered ∙ hands;
       status = λ few.
+          let all : slots ≡ length diary = omega (arith, stands.slots, few) in
           status
-          ∙ (λ i. status_words list (few_slots slots (length diary) most_slots stands.slots few i) (kept_new i)
+          ∙ (λ i. status_words list (all i) (kept_new i)
           (is_some (hands i)))
           ∙ status_words-kept list (length diary) (past_of list k (e ∷ diary) (s ∷ surroundings))
           (is_some (delivery list k read h e));

@@ -1,12 +1,10 @@
 -- What an entry makes of an active node's past: it stays within the numbers of the list.
-use Rattle.std.proofs.Common.{◌≡◌, ◌≢◌, ℕ, suc, ◌+◌, ◌-◌, ◌*◌, ◌%◌, ◌<◌, ◌≤◌, ℤ, pos, Bool, true, false, cond, List, []}
-use Rattle.std.proofs.Common.{◌++◌, length, take, Option, Some, None, mod-lt, refl, sym, subst, ◌∙◌, ap, inl, inr}
-use Rattle.std.proofs.Common.{arith, min, ◌+ℤ◌, ◌||◌}
+use Rattle.std.proofs.Common.{◌≡◌, ◌≢◌, ℕ, ◌+◌, ◌-◌, ◌*◌, ◌<◌, ◌≤◌, ℤ, pos, Bool, true, false, cond, List, [], ◌++◌}
+use Rattle.std.proofs.Common.{length, take, Option, Some, None, refl, sym, subst, ◌∙◌, ap, arith}
 use Rattle.std.specs.List.{filter}
 use Rattle.std.specs.Option.{option_to_list}
-use Rattle.std.specs.Prelude.{◌==◌, nat_lt, All, IfSome}
-use Rattle.std.proofs.Math.Bool.{or-true, or-false}
-use Rattle.std.proofs.lemmas.Bool.{cond_both, cases_lt, cond-true, cond-false, lt-ltb, le-ltb, eqb-false, eqb-true}
+use Rattle.std.specs.Prelude.{All, IfSome}
+use Rattle.std.proofs.lemmas.Bool.Decides.{nat_tests}
 use Rattle.std.proofs.lemmas.Int.{ints}
 use Rattle.std.proofs.lemmas.List.{length-take}
 use Rattle.std.proofs.lemmas.List.Elements.{All-nil, All-cons, All-take}
@@ -21,106 +19,33 @@ use Rattle.ttp_world.specs.declared.node.Entry.TheVariants as entry
 use Rattle.ttp_world.specs.declared.node.Verdict.{Verdict}
 use Rattle.ttp_world.specs.declared.node.Verdict.TheVariants as verdict
 use Rattle.ttp_world.specs.Acknowledgement.{is_correct}
-use Rattle.ttp_world.specs.After.{ack_answered, past_after, place_after, members_after, accepted_after, rejected_after}
-use Rattle.ttp_world.specs.After.{ack_after, cold_start_after, limit_after, silent_slots_after, notes_after}
-use Rattle.ttp_world.specs.After.{correction_after}
-use Rattle.ttp_world.specs.Clock.{is_corrected, slot_change}
+use Rattle.ttp_world.specs.After.{ack_answered, past_after, members_after, correction_after}
+use Rattle.ttp_world.specs.Clock.{is_corrected}
 use Rattle.ttp_world.specs.Counts.{is_rejection}
 use Rattle.ttp_world.specs.Diary.{Place, start_place, joined_place, next_place, Diary, SlotSurroundings, phase_after}
 use Rattle.ttp_world.specs.Medl.{IsValid, plan_at}
 use Rattle.ttp_world.specs.Membership.{AreNodes}
-use Rattle.ttp_world.specs.Past.{NodePast, retried_of, limit_of}
-use Rattle.ttp_world.proofs.Lists.{nodes-most}
+use Rattle.ttp_world.specs.Past.{NodePast, limit_of}
+use Rattle.ttp_world.proofs.Lists.{IsPlaceOf, IsPlaceOf-next, nodes-most}
 use Rattle.ttp_world.proofs.MemberSets.{members_after-Judged}
 use Rattle.ack_check.specs.Moves.{moved_members, IsDoubtElsewhere, IsMoveOf}
 use Rattle.ack_check.specs.declared.moves.AckMove.{AckMove}
-use Rattle.cold_start.specs.Listening.{most_silent}
 use Rattle.fta_sync.specs.StandsFor.{kept_notes}
 use Rattle.controller.specs.Kept.{kept}
-use Rattle.controller.specs.Stint.{stint_after}
 use Rattle.controller.specs.Within.{slots_to_own, IsAckWithin, IsNearEnough, IsWithin, IsEntryWithin, IsJudgedWithin}
 use Rattle.ttp_world.proofs.Averages.{fta-take}
 
 -- How far a node's own slot is.
 
-to_own-before : (list : Medl) (k slot : ℕ) → slot < k → slots_to_own list k slot ≡ k - slot
-to_own-before list k slot less =
-    cond-true (nat_lt slot k) (k - slot) (length list.slots + k - slot) (lt-ltb slot k less)
-
-to_own-after : (list : Medl) (k slot : ℕ) → k ≤ slot → slots_to_own list k slot ≡ length list.slots + k - slot
-to_own-after list k slot more =
-    cond-false (nat_lt slot k) (k - slot) (length list.slots + k - slot) (le-ltb slot k more)
-
 -- at most a round
 to_own-round : (list : Medl) (k slot : ℕ) → k < length list.slots → slots_to_own list k slot ≤ length list.slots
-to_own-round list k slot node = elim (cases_lt slot k) [
-  | inl less ↦ omega (arith, to_own-before list k slot less)
-  | inr more ↦ omega (arith, to_own-after list k slot more)
-]
+to_own-round list k slot node = grind (arith, nat_tests)
 
 -- one slot later it is one slot nearer, unless that slot is it
-nearer_by : (list : Medl) (k slot : ℕ) (last : Bool) → (suc slot == length list.slots) ≡ last → slot < length list.slots
-    → k < length list.slots
-    → cond last 0 (slot + 1) ≢ k → slots_to_own list k (cond last 0 (slot + 1)) + 1 ≡ slots_to_own list k slot
-nearer_by list k slot true last within node other =
-    let here = eqb-true (suc slot) (length list.slots) last in
-    let some : 0 < k = omega (arith, other) in
-    omega (arith, to_own-before list k 0 some, to_own-after list k slot (omega arith))
-nearer_by list k slot false inside within node other = elim (cases_lt slot k) [
-  | inl less ↦
-      let more : slot + 1 < k = omega (arith, other) in
-      omega (arith, to_own-before list k (slot + 1) more, to_own-before list k slot less)
-  | inr more ↦ omega (arith, to_own-after list k (slot + 1) (omega arith), to_own-after list k slot more)
-]
-
-next_slot-by : (list : Medl) (place : Place) (b : Bool)
-    → (cond {A = Place} b
-    (record { time = (place.time + 1) % 65536; round = (place.round + 1) % list.rounds; slot = 0 })
-    (record { time = (place.time + 1) % 65536; round = place.round; slot = place.slot + 1 })).slot
-    ≡ cond b 0 (place.slot + 1)
-next_slot-by list place true = refl
-next_slot-by list place false = refl
-
-next_slot-is : (list : Medl) (place : Place)
-    → (next_place list place).slot ≡ cond (suc place.slot == length list.slots) 0 (place.slot + 1)
-next_slot-is list place = next_slot-by list place (suc place.slot == length list.slots)
-
 nearer : (list : Medl) (k : ℕ) (place : Place) → place.slot < length list.slots → k < length list.slots
     → (next_place list place).slot ≢ k
     → slots_to_own list k (next_place list place).slot + 1 ≡ slots_to_own list k place.slot
-nearer list k place within node other =
-    let is = next_slot-is list place in
-    ap (λ slot. slots_to_own list k slot + 1) is
-    ∙ nearer_by list k place.slot (suc place.slot == length list.slots) refl within node (λ same. other (is ∙ same))
-
--- a doubt is not about the coming sender
-pub doubt_elsewhere : (list : Medl) (k : ℕ) (place : Place) (x : ℕ) → place.slot < length list.slots
-    → k < length list.slots → (next_place list place).slot ≢ k
-    → slots_to_own list k place.slot ≤ slots_to_own list k x → x ≢ (next_place list place).slot
-doubt_elsewhere list k place x within node other since same =
-    omega (arith, since, nearer list k place within node other, ap (slots_to_own list k) same)
-
--- Places.
-
--- a place of the list's cycle
-pub record IsPlaceOf (list : Medl) (place : Place) : Type 0 where
-  pub round : place.round < list.rounds
-  pub slot : place.slot < length list.slots
-
-lt_of_ne : (m n : ℕ) → m ≤ n → m ≢ n → m < n
-lt_of_ne m n few other = omega arith
-
-pub IsPlaceOf-next : (list : Medl) (place : Place) → IsValid list → place.round < list.rounds
-    → place.slot < length list.slots → IsPlaceOf list (next_place list place)
-IsPlaceOf-next list place valid round slot =
-    let next : (place.round + 1) % list.rounds < list.rounds = mod-lt (place.round + 1) (omega (arith, valid.rounds)) in
-    cond_both (suc place.slot == length list.slots) _ _ (IsPlaceOf list)
-    (λ last. record { round = next; slot = omega (arith, valid.count) })
-    (λ inside. record {
-      round = round;
-      slot = lt_of_ne (place.slot + 1) (length list.slots) (omega (arith, slot))
-          (λ same. eqb-false (suc place.slot) (length list.slots) inside (omega arith));
-    })
+nearer list k place within node other = grind (arith, nat_tests)
 
 -- Sets.
 
@@ -145,11 +70,9 @@ IsAckWithin-later list k slot later (ack.Doubt x) less within = (within.0, omega
 ack_answered-within : (list : Medl) (k slot : ℕ) (a : Ack) (v : Verdict) → slot < length list.slots
     → IsAckWithin list k slot a → IsAckWithin list k slot (ack_answered a v slot)
 ack_answered-within list k slot ack.Closed v exists within = tt
-ack_answered-within list k slot ack.First verdict.Correct exists within = tt
-ack_answered-within list k slot ack.First verdict.Tentative exists within = (exists, omega arith)
+ack_answered-within list k slot _ verdict.Correct exists within = tt
+ack_answered-within list k slot _ verdict.Tentative exists within = (exists, omega arith)
 ack_answered-within list k slot ack.First _ exists within = tt
-ack_answered-within list k slot (ack.Doubt x) verdict.Correct exists within = tt
-ack_answered-within list k slot (ack.Doubt x) verdict.Tentative exists within = (exists, omega arith)
 ack_answered-within list k slot (ack.Doubt x) _ exists within = within
 
 -- Notes.
@@ -287,51 +210,9 @@ kept_after-within list k past (entry.Judged sender v deviation) s valid node wit
     }
 
 -- the limit that is read of any diary of node k
-limit-by : (b : Bool) (n k : ℕ) → k < n → cond b (n + k) (2 * n + k) ≤ 3 * n
-limit-by true n k node = omega arith
-limit-by false n k node = omega arith
-
 pub limit_of-within : (list : Medl) (k : ℕ) (diary : Diary) → k < length list.slots
     → limit_of list k diary ≤ 3 * length list.slots
-limit_of-within list k diary node = limit-by (retried_of diary) (length list.slots) k node
-
--- one past is another after an entry, as to its stint
-pub record IsStintAfter (list : Medl) (k : ℕ) (past : NodePast) (e : Entry) (after : NodePast) : Type 0 where
-  pub phase : after.phase ≡ past.phase
-  pub entry : after.entry ≡ past.entry
-  pub place : after.place ≡ place_after list k past.place e
-  pub members : after.members ≡ members_after list k past.members past.ack e
-  pub accepted : after.accepted ≡ accepted_after past.accepted e
-  pub rejected : after.rejected ≡ rejected_after past.rejected past.ack e
-  pub ack : after.ack ≡ ack_after past.ack e
-  pub cold_start : after.cold_start ≡ cold_start_after past.cold_start e
-  pub limit : after.limit ≡ past.limit
-  pub silent_slots : after.silent_slots ≡ past.silent_slots
-  pub offset : after.offset ≡ past.offset
-  pub notes : after.notes ≡ take kept_notes (notes_after list past.notes (place_after list k past.place e) e)
-
-stint_after-fields : (list : Medl) (k : ℕ) (past : NodePast) (e : Entry) (after : NodePast)
-    → IsStintAfter list k past e after → after ≡ stint_after list k past e
-stint_after-fields list k past e after is = λ i. record {
-  phase = is.phase i;
-  entry = is.entry i;
-  place = is.place i;
-  members = is.members i;
-  accepted = is.accepted i;
-  rejected = is.rejected i;
-  ack = is.ack i;
-  cold_start = is.cold_start i;
-  limit = is.limit i;
-  silent_slots = is.silent_slots i;
-  offset = is.offset i;
-  notes = is.notes i;
-}
-
--- where the past is what a node's fields show
-pub stint_after-of : (list : Medl) (k : ℕ) (view past : NodePast) (e : Entry) (after : NodePast) → view ≡ past
-    → IsStintAfter list k view e after → after ≡ stint_after list k past e
-stint_after-of list k view past e after shows is =
-    subst (λ p. after ≡ stint_after list k p e) shows (stint_after-fields list k view e after is)
+limit_of-within list k diary node = grind (arith, nat_tests)
 
 -- Judged slots.
 
@@ -341,7 +222,7 @@ doubt_of_another : (list : Medl) (k : ℕ) (place : Place) (a : Ack) → place.s
 doubt_of_another list k place ack.Closed slot node another within = tt
 doubt_of_another list k place ack.First slot node another within = tt
 doubt_of_another list k place (ack.Doubt x) slot node another within =
-    doubt_elsewhere list k place x slot node another within.1
+    λ same. omega (arith, within.1, nearer list k place slot node another, ap (slots_to_own list k) same)
 
 -- the move of a judgement leads to the members after it
 pub moved_members-after : (list : Medl) (k : ℕ) (past : NodePast) (sender : ℕ) (v : Verdict) (deviation : ℤ)
@@ -359,38 +240,6 @@ moved_members-after list k past sender v deviation move valid node within judged
     (doubt_of_another list k past.place past.ack within.slot node another within.ack))
     ∙ members_after-Judged list k past.members past.ack sender v deviation within.members exists (nodes-most list valid)
 
--- Notes.
-
--- those of a slot at which no stint begins
-pub noted : (list : Medl) (slot there : ℕ) (told said : Option ℤ) (notes new : List ℤ) → slot ≡ there → told ≡ said
-    → new ≡ take 4 (cond (plan_at list slot).sync (option_to_list told) [] ++ cond (slot == 0) [] notes)
-    → new ≡ take 4 (cond (plan_at list there).sync (option_to_list said) [] ++ cond ((there == 0) || false) [] notes)
-noted list slot there told said notes new same says is =
-    is
-    ∙ (λ i. take 4 (cond (plan_at list (same i)).sync (option_to_list (says i)) [] ++ cond (same i == 0) [] notes))
-    ∙ ap (λ b. take 4 (cond (plan_at list there).sync (option_to_list said) [] ++ cond b [] notes))
-    (sym (or-false (there == 0)))
-
--- a verdict that is not correct
-is_correct-other : (v : Verdict) → v ≢ verdict.Correct → is_correct v ≡ false
-is_correct-other verdict.Correct other = absurd (other refl)
-is_correct-other _ other = refl
-
-pub not_noted : (v : Verdict) (deviation : ℤ) → v ≢ verdict.Correct → None ≡ cond (is_correct v) (Some deviation) None
-not_noted v deviation other = sym (cond-false (is_correct v) (Some deviation) None (is_correct-other v other))
-
-cond-same : (b : Bool) → cond {A = List ℤ} b [] [] ≡ []
-cond-same true = refl
-cond-same false = refl
-
--- and of one at which a stint begins
-pub noted-first : (list : Medl) (slot : ℕ) (deviation : Option ℤ) (notes : List ℤ) (begins : Bool)
-    → take 4 (cond (plan_at list slot).sync (option_to_list deviation) [] ++ cond begins [] [])
-    ≡ take 4 (cond (plan_at list slot).sync (option_to_list deviation) [] ++ cond ((slot == 0) || true) [] notes)
-noted-first list slot deviation notes begins =
-    ap (λ (before : List ℤ). take 4 (cond (plan_at list slot).sync (option_to_list deviation) [] ++ before))
-    (cond-same begins ∙ sym (cond-true ((slot == 0) || true) [] notes (or-true (slot == 0))))
-
 -- Corrections.
 
 -- the last four settle the correction
@@ -398,27 +247,3 @@ pub correction_after-take : (list : Medl) (place : Place) (notes : List ℤ) (e 
     → correction_after list place (take kept_notes notes) e ≡ correction_after list place notes e
 correction_after-take list place notes e =
     ap (λ z. cond (is_corrected list (phase_after e) place) z (pos 0)) (fta-take notes)
-
--- The whole past.
-
--- a stint with its new entry, listening and clock
-pub entered : (list : Medl) (k : ℕ) (past : NodePast) (e : Entry) (s : SlotSurroundings) (stint : NodePast)
-    (limit silent : ℕ) (offset : ℤ)
-    → stint ≡ stint_after list k past e
-    → limit ≡ limit_after list k stint.limit e
-    → silent ≡ min (silent_slots_after stint.silent_slots e s.is_silent) most_silent
-    → offset ≡ stint.offset +ℤ slot_change e s (correction_after list stint.place stint.notes e)
-    → record stint { phase = phase_after e; entry = e; limit = limit; silent_slots = silent; offset = offset }
-    ≡ kept (past_after list k past e s)
-entered list k past e s stint limit silent offset is =
-    let after = past_after list k past e s in
-    let P : NodePast → Type 0 = λ p.
-    limit ≡ limit_after list k p.limit e
-    → silent ≡ min (silent_slots_after p.silent_slots e s.is_silent) most_silent
-    → offset ≡ p.offset +ℤ slot_change e s (correction_after list p.place p.notes e)
-    → record p { phase = phase_after e; entry = e; limit = limit; silent_slots = silent; offset = offset }
-    ≡ kept after in
-    let corrected = correction_after-take list after.place after.notes e in
-    subst P (sym is) (λ limits silents offsets.
-    let clock = offsets ∙ ap (λ z. past.offset +ℤ slot_change e s z) corrected in
-    λ i. record (kept after) { limit = limits i; silent_slots = silents i; offset = clock i })

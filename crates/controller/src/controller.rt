@@ -10,6 +10,7 @@ ghost use Rattle.controller.specs.Turn.{Ended};
 
 use crate::ending::ending_of;
 use crate::given_list::GivenList;
+use crate::hearing::Reading;
 use crate::node::{Node, Outside};
 use crate::sending::{frame_of, intent_of, message_of};
 use crate::status::status_words;
@@ -229,8 +230,7 @@ impl Controller {
             &self.node,
             act,
             message,
-            own,
-            error,
+            &Reading { own, error },
             a,
             b,
             &mut outcome.delivered,

@@ -5,7 +5,7 @@ ghost use Rattle.controller.specs.Ending.{EndsAs};
 ghost use Rattle.controller.specs.Hearing.{ReadingFits};
 ghost use Rattle.controller.specs.Within.{IsWithin};
 
-use crate::hearing::{deliver, judged_entry, judging, listening_entry, receiver_of};
+use crate::hearing::{Reading, deliver, judged_entry, judging, listening_entry, receiver_of};
 use crate::node::Node;
 use medium::Arrival;
 use ttp_world::{Act, Delivered, Entry, Medl};
@@ -15,8 +15,7 @@ fn judged(
     list: &Medl,
     k: u8,
     node: &Node,
-    own: i64,
-    error: i64,
+    reading: &Reading,
     a: &Arrival,
     b: &Arrival,
     delivered: &mut Option<Delivered>,
@@ -24,27 +23,27 @@ fn judged(
     requires valid { IsValid list.now }
     requires node { k < length list.now.slots }
     requires within { IsWithin list.now k node.now }
-    requires a { ReadingFits own a.now error }
-    requires b { ReadingFits own b.now error }
-    ensures { EndsAs result delivered.new list.now k node.now Act.Judge None a.now b.now own error }
+    requires a { ReadingFits reading.now.own a.now reading.now.error }
+    requires b { ReadingFits reading.now.own b.now reading.now.error }
+    ensures { EndsAs result delivered.new list.now k node.now Act.Judge None a.now b.now
+        reading.now.own reading.now.error }
 {
     let receiver = receiver_of(list, k, node);
-    let judgement = judging(list, &receiver, own, error, a, b);
+    let judgement = judging(list, &receiver, reading, a, b);
     deliver(list, &receiver.coming, &judgement, a, b, delivered);
     judged_entry(receiver.coming.sender(), &judgement)
 }
 
 /// How a slot ends for node k, by what it does in it and by what came on both channels: its entry is
 /// the answer, and what it hands to its host is written in place. `message` is that of its own frame,
-/// if that carries one; `own` is its clock and `error` its reading error.
+/// if that carries one.
 pub(crate) fn ending_of(
     list: &Medl,
     k: u8,
     node: &Node,
     act: Act,
     message: Option<u64>,
-    own: i64,
-    error: i64,
+    reading: &Reading,
     a: &Arrival,
     b: &Arrival,
     delivered: &mut Option<Delivered>,
@@ -52,9 +51,10 @@ pub(crate) fn ending_of(
     requires valid { IsValid list.now }
     requires node { k < length list.now.slots }
     requires within { IsWithin list.now k node.now }
-    requires a { ReadingFits own a.now error }
-    requires b { ReadingFits own b.now error }
-    ensures { EndsAs result delivered.new list.now k node.now act message a.now b.now own error }
+    requires a { ReadingFits reading.now.own a.now reading.now.error }
+    requires b { ReadingFits reading.now.own b.now reading.now.error }
+    ensures { EndsAs result delivered.new list.now k node.now act message a.now b.now
+        reading.now.own reading.now.error }
 {
     *delivered = None;
     match act {
@@ -64,7 +64,7 @@ pub(crate) fn ending_of(
         Act::Retry => Entry::Retried,
         Act::Leave(reason) => Entry::Left { reason, peer: k },
         Act::Send => Entry::Sent { message },
-        Act::Listen => listening_entry(list, own, error, a, b),
-        Act::Judge => judged(list, k, node, own, error, a, b, delivered),
+        Act::Listen => listening_entry(list, reading, a, b),
+        Act::Judge => judged(list, k, node, reading, a, b, delivered),
     }
 }

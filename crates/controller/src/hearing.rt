@@ -27,6 +27,14 @@ use ttp_base::NodeSet;
 use ttp_frame::{Expect, FrameMatch, judge, read_explicit};
 use ttp_world::{Ack, CState, ChannelView, Delivered, Entry, Medl, Payload, Reason, Verdict};
 
+/// What a node measures by how late a frame comes to it: its clock in this slot, and its reading error, in
+/// microticks.
+#[derive(Clone, Copy, Debug)]
+pub(crate) struct Reading {
+    pub(crate) own: i64,
+    pub(crate) error: i64,
+}
+
 /// What an active node judges the slot of another node by.
 #[derive(Clone, Copy, Debug)]
 pub(crate) struct Receiver {
@@ -63,12 +71,12 @@ struct Seen {
     deviation: Option<i64>,
 }
 
-// How late bits came whose sender's clock is so far ahead, by a receiver's own clock and reading
-// error.
-fn deviation_of(offset: i64, own: i64, error: i64) -> i64
-    requires { unsigned_abs own + unsigned_abs offset + unsigned_abs error ≤ most_clock }
-    ensures { result ≡ (offset -ℤ own) +ℤ error }
+// How late bits came whose sender's clock is so far ahead.
+fn deviation_of(offset: i64, reading: &Reading) -> i64
+    requires { unsigned_abs reading.now.own + unsigned_abs offset + unsigned_abs reading.now.error ≤ most_clock }
+    ensures { result ≡ (offset -ℤ reading.now.own) +ℤ reading.now.error }
 {
+    let Reading { own, error } = *reading;
     offset - own + error
 }
 
@@ -89,34 +97,30 @@ fn join_entry(deviation: i64, joinable: Option<CState>) -> Option<Entry>
 }
 
 // The entry by which a node joins on what came on a channel, if it can.
-fn channel_join(list: &Medl, own: i64, error: i64, came: &Arrival) -> Option<Entry>
+fn channel_join(list: &Medl, reading: &Reading, came: &Arrival) -> Option<Entry>
     requires valid { IsValid list.now }
-    requires fits { ReadingFits own came.now error }
-    ensures { ForSignals came.now own error (λ sent deviation. result ≡ channel_join list.now deviation sent) }
+    requires fits { ReadingFits reading.now.own came.now reading.now.error }
+    ensures { ForSignals came.now reading.now.own reading.now.error (λ sent deviation.
+        result ≡ channel_join list.now deviation sent) }
 {
     match came {
         Arrival::Silence | Arrival::Noise => None,
         Arrival::Bits { bytes, offset } => {
-            join_entry(
-                deviation_of(*offset, own, error),
-                read_explicit(bytes, list),
-            )
+            join_entry(deviation_of(*offset, reading), read_explicit(bytes, list))
         }
     }
 }
 
 /// The entry of a listening node: it joins on what came on channel A, or else on B, or waits.
-///
-/// `own` is the node's clock and `error` its reading error in this slot, in microticks.
-pub(crate) fn listening_entry(list: &Medl, own: i64, error: i64, a: &Arrival, b: &Arrival) -> Entry
+pub(crate) fn listening_entry(list: &Medl, reading: &Reading, a: &Arrival, b: &Arrival) -> Entry
     requires valid { IsValid list.now }
-    requires a { ReadingFits own a.now error }
-    requires b { ReadingFits own b.now error }
-    ensures { ForHearings a.now b.now own error (λ h. result ≡ listening_entry list.now h) }
+    requires a { ReadingFits reading.now.own a.now reading.now.error }
+    requires b { ReadingFits reading.now.own b.now reading.now.error }
+    ensures { ForHearings a.now b.now reading.now.own reading.now.error (λ h. result ≡ listening_entry list.now h) }
 {
-    match channel_join(list, own, error, a) {
+    match channel_join(list, reading, a) {
         Some(entry) => entry,
-        None => channel_join(list, own, error, b).unwrap_or(Entry::Waited),
+        None => channel_join(list, reading, b).unwrap_or(Entry::Waited),
     }
 }
 
@@ -224,11 +228,11 @@ fn view_of_bits(list: &Medl, expected: &Expected, bytes: &[u8], deviation: i64) 
 }
 
 // What a receiver sees on a channel.
-fn see(list: &Medl, expected: &Expected, own: i64, error: i64, came: &Arrival) -> Seen
+fn see(list: &Medl, expected: &Expected, reading: &Reading, came: &Arrival) -> Seen
     requires valid { IsValid list.now }
     requires expected { IsExpected list.now expected.now }
-    requires fits { ReadingFits own came.now error }
-    ensures { ForSignals came.now own error (λ sent deviation.
+    requires fits { ReadingFits reading.now.own came.now reading.now.error }
+    ensures { ForSignals came.now reading.now.own reading.now.error (λ sent deviation.
         IsSeen result list.now (awaited_meant expected.now) sent deviation) }
 {
     match came {
@@ -241,7 +245,7 @@ fn see(list: &Medl, expected: &Expected, own: i64, error: i64, came: &Arrival) -
             deviation: None,
         },
         Arrival::Bits { bytes, offset } => {
-            let deviation = deviation_of(*offset, own, error);
+            let deviation = deviation_of(*offset, reading);
             Seen {
                 view: view_of_bits(list, expected, bytes, deviation),
                 deviation: Some(deviation),
@@ -272,18 +276,18 @@ fn judged_by(
     list: &Medl,
     expected: &Expected,
     ack: Ack,
-    own: i64,
-    error: i64,
+    reading: &Reading,
     a: &Arrival,
     b: &Arrival,
 ) -> Judgement
     requires valid { IsValid list.now }
     requires expected { IsExpected list.now expected.now }
-    requires a { ReadingFits own a.now error }
-    requires b { ReadingFits own b.now error }
-    ensures { ForHearings a.now b.now own error (λ h. IsJudgement result list.now (awaited_meant expected.now) ack h) }
+    requires a { ReadingFits reading.now.own a.now reading.now.error }
+    requires b { ReadingFits reading.now.own b.now reading.now.error }
+    ensures { ForHearings a.now b.now reading.now.own reading.now.error (λ h.
+        IsJudgement result list.now (awaited_meant expected.now) ack h) }
 {
-    let on_a = see(list, expected, own, error, a);
+    let on_a = see(list, expected, reading, a);
     if is_first_view(on_a.view) {
         return Judgement {
             verdict: Verdict::Correct,
@@ -291,7 +295,7 @@ fn judged_by(
             from_a: true,
         };
     }
-    let on_b = see(list, expected, own, error, b);
+    let on_b = see(list, expected, reading, b);
     let taken_from_a = is_taken_from_a(on_a.view, on_b.view);
     Judgement {
         verdict: slot_verdict(on_a.view, on_b.view, ack),
@@ -302,26 +306,24 @@ fn judged_by(
 
 /// What a receiver makes of what came on both channels: the verdict and the deviation of its entry.
 ///
-/// `own` is its clock and `error` its reading error in this slot, in microticks. It costs at most two
-/// check words for each channel.
+/// It costs at most two check words for each channel.
 pub(crate) fn judging(
     list: &Medl,
     receiver: &Receiver,
-    own: i64,
-    error: i64,
+    reading: &Reading,
     a: &Arrival,
     b: &Arrival,
 ) -> Judgement
     requires valid { IsValid list.now }
     requires receiver { IsReceiver list.now receiver.now }
-    requires a { ReadingFits own a.now error }
-    requires b { ReadingFits own b.now error }
+    requires a { ReadingFits reading.now.own a.now reading.now.error }
+    requires b { ReadingFits reading.now.own b.now reading.now.error }
     ensures { (past : NodePast) → Receives list.now past receiver.now
-        → ForHearings a.now b.now own error (λ h.
+        → ForHearings a.now b.now reading.now.own reading.now.error (λ h.
         IsJudgement result list.now (expected_of list.now receiver.now.number past) past.ack h) }
 {
     let expected = expected_of(list, receiver);
-    judged_by(list, &expected, receiver.ack.value(), own, error, a, b)
+    judged_by(list, &expected, receiver.ack.value(), reading, a, b)
 }
 
 /// The entry of a verdict on this sender. A node that is denied leaves.

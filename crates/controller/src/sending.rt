@@ -38,6 +38,7 @@ fn outgoing(frame: &FrameIn, start: u32) -> Outgoing
 }
 
 // The cold-start frame of node k.
+#[tactic(auto, using(crate::proofs::Sets::rooms))]
 fn cold_start(list: &Medl, k: u8) -> Outgoing
     requires valid { IsValid list.now }
     requires node { k < length list.now.slots }
@@ -59,6 +60,7 @@ fn cold_start(list: &Medl, k: u8) -> Outgoing
 }
 
 // The frame of node k in its own slot, with this payload, where `members` are those that it holds.
+#[tactic(auto, using(crate::proofs::Sets::rooms))]
 fn own_frame(list: &Medl, k: u8, coming: &SlotClock, members: NodeSet, payload: &[u8]) -> Outgoing
     requires valid { IsValid list.now }
     requires node { k < length list.now.slots }

@@ -137,6 +137,7 @@ fn cstate_number(list: &Medl, c: CState) -> u64
 
 /// The status words of a node after a slot: the slot's number, the flags, the C-state of an active
 /// node, and the counts.
+#[tactic(auto, using(crate::proofs::Sets::rooms))]
 pub(crate) fn status_words(
     list: &Medl,
     k: u8,

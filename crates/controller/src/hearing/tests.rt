@@ -5,7 +5,7 @@ ghost use Rattle.ttp_world.specs.Medl.{IsValid};
 ghost use Rattle.controller.specs.Hearing.{ReadingFits, IsReceiver};
 ghost use Rattle.slot_clock.specs.StandsFor.{StandsFor};
 
-use super::{Judgement, Receiver, deliver, judged_entry, judging, listening_entry};
+use super::{Judgement, Reading, Receiver, deliver, judged_entry, judging, listening_entry};
 use ack_check::AckState;
 use medium::{Arrival, Outgoing};
 use slot_clock::SlotClock;
@@ -62,6 +62,7 @@ fn four_nodes(alloc: Global) -> Result<Medl, Memory>
 }
 
 // Nodes 0, 1 and 3.
+#[tactic(auto, unfolding(ttp_base::specs::NodeSet::with_node))]
 fn three_members() -> NodeSet
     ensures { result ≡ 0 ∷ 1 ∷ 3 ∷ [] }
 {
@@ -207,7 +208,7 @@ fn better_channel_decides(rt: HostRuntime) -> Result<(), Fail> {
         let receiver = receiver_of(&list, answered);
         let a = arrival_of(on_a, right_a.as_slice(), wrong_a.as_slice());
         let b = arrival_of(on_b, right_b.as_slice(), wrong_b.as_slice());
-        let judgement = judging(&list, &receiver, 4, 1, &a, &b);
+        let judgement = judging(&list, &receiver, &Reading { own: 4, error: 1 }, &a, &b);
         assert!(rt; judgement.verdict == verdict, "{on_a:?} {on_b:?}");
         assert!(rt; judgement.deviation == deviation, "{on_a:?} {on_b:?}");
         let mut handed = None;
@@ -238,7 +239,7 @@ fn nodes_join_on_either_channel(rt: HostRuntime) -> Result<(), Fail> {
         let a = arrival_of(on_a, right.as_slice(), b"\x02");
         let b = arrival_of(on_b, right.as_slice(), b"\x02");
         assert!(rt;
-            listening_entry(&list, 4, 1, &a, &b) == entry,
+            listening_entry(&list, &Reading { own: 4, error: 1 }, &a, &b) == entry,
             "{on_a:?} {on_b:?}"
         );
     }

@@ -1,8 +1,9 @@
 //! What one more entry makes of an active node's place, members, counts, acknowledgement and notes.
 ghost use Rattle.std.specs.Prelude.{◌≡◌, ℕ, ℤ, Option, ◌<◌, ◌≤◌, ◌++◌, ◌==◌, false, [], take, length, IfSome};
-ghost use Rattle.std.specs.Prelude.{if◌then◌else◌};
+ghost use Rattle.std.specs.Prelude.{Some, None, if◌then◌else◌};
 ghost use Rattle.std.specs.Option.{option_to_list};
 ghost use Rattle.ttp_world.specs.declared.node.Ack.TheVariants as ack;
+ghost use Rattle.ttp_world.specs.Acknowledgement.{is_correct};
 ghost use Rattle.ttp_world.specs.Diary.{no_place, joined_place, next_place};
 ghost use Rattle.ttp_world.specs.Medl.{IsValid, plan_at};
 ghost use Rattle.slot_clock.specs.StandsFor.{StandsFor};
@@ -55,6 +56,16 @@ fn note(measures: &mut Measures, list: &Medl, slot: u8, deviation: Option<i64>)
         && is_measured(list, slot)
     {
         measures.note(deviation);
+    }
+}
+
+// The deviation that is noted of a frame with this verdict.
+fn deviation_noted(verdict: Verdict, deviation: i64) -> Option<i64>
+    ensures { result ≡ if is_correct verdict then Some deviation else None }
+{
+    match verdict {
+        Verdict::Correct => Some(deviation),
+        _ => None,
     }
 }
 
@@ -147,11 +158,12 @@ impl Node {
         members.apply(asked, sender);
         self.cstate = clock.cstate(members.set());
         self.counts.count(asked);
-        let noted = match verdict {
-            Verdict::Correct => Some(deviation),
-            _ => None,
-        };
-        note(&mut self.measures, list, sender, noted);
+        note(
+            &mut self.measures,
+            list,
+            sender,
+            deviation_noted(verdict, deviation),
+        );
     }
 
     /// What one more entry makes of its stint. A C-state that it joins by is adopted as it is.

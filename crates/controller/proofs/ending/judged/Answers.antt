@@ -1,20 +1,16 @@
-use Rattle.std.proofs.Common.{w64, FitsSigned, rules, ◌∙◌}
-use Rattle.std.proofs.lemmas.Int.{to_z-of_z}
+use Rattle.std.proofs.Common.{◌∙◌}
 use Rattle.controller.proofs.ending.judged.Goals as goal
 
 pub returns : goal.returns
 returns c = λ chosen is sent_a sent_b clock shows_a shows_b.
     let k = c.args.k in
     let past = c.args.node.now in
-    let own : FitsSigned w64 c.args.own = search rules in
-    let error : FitsSigned w64 c.args.error = search rules in
-    let judges = rw (to_z-of_z w64 c.args.own own, to_z-of_z w64 c.args.error error) at c.judging-judgement.ensures in
     let received = c.receiver_of-receiver.ensures in
-    let judgement = judges past received.receives sent_a sent_b clock shows_a shows_b in
+    let judgement = c.judging-judgement.ensures past received.receives sent_a sent_b clock shows_a shows_b in
     let judged = rw received.number at judgement in
     let sender = c.sender.ensures.value ∙ (λ i. (received.receives.coming.place i).slot) in
     record {
       entry = c.judged_entry.ensures.judging c.args.list.now k past _ sender judged;
-      delivered = c.deliver.ensures k past c.args.own c.args.error received.receives.coming sent_a sent_b clock shows_a
-          shows_b judged;
+      delivered = c.deliver.ensures k past c.args.reading.now.own
+          c.args.reading.now.error received.receives.coming sent_a sent_b clock shows_a shows_b judged;
     }

@@ -1,7 +1,7 @@
 -- A join tells how late the frame is, by the node that sent it.
-use Rattle.std.proofs.Common.{◌≡◌, sym, ◌∙◌, w64, FitsSigned, rules}
+use Rattle.std.proofs.Common.{◌≡◌, w64, FitsSigned, rules}
 use Rattle.std.proofs.lemmas.Int.{to_z-of_z}
-use Rattle.ttp_world.specs.Conduct.{channel_join, join_entry}
+use Rattle.ttp_world.specs.Conduct.{channel_join}
 use Rattle.controller.proofs.Heard.{of_bits}
 use Rattle.controller.proofs.hearing.channel_join.Goals as goal
 
@@ -9,14 +9,6 @@ pub returns-in-Bits : goal.returns-in-Bits
 returns-in-Bits c =
     let fits : FitsSigned w64 c.in-Bits.offset = search rules in
     let late_fits : FitsSigned w64 c.deviation_of.result = search rules in
-    let measured = rw (
-      to_z-of_z w64 c.args.own c.ranges.own,
-      to_z-of_z w64 c.args.error c.ranges.error,
-      to_z-of_z w64
-          c.in-Bits.offset fits,
-    ) at c.deviation_of.ensures in
-    let joins = rw (to_z-of_z w64 c.deviation_of.result late_fits) at c.join_entry.ensures in
-    of_bits (λ sent deviation. c.join_entry.result ≡ channel_join c.args.list.now deviation sent) c.args.own
-    c.args.error c.args.came.now c.in-Bits.bytes c.in-Bits.offset c.in-Bits.is
-    (λ sender deviation is. let late : c.deviation_of.result ≡ deviation sender = measured ∙ sym is in
-    joins ∙ (λ i. join_entry (late i) (c.read_explicit.ensures i)))
+    of_bits (λ sent deviation. c.join_entry.result ≡ channel_join c.args.list.now deviation sent) c.args.reading.now.own
+    c.args.reading.now.error c.args.came.now c.in-Bits.bytes c.in-Bits.offset c.in-Bits.is
+    (λ sender deviation is. search (rules, to_z-of_z, fits, late_fits, is))

@@ -1,12 +1,11 @@
 -- A correct frame delivers the payload of the channel that the judgement names.
-use Rattle.std.proofs.Common.{◌≡◌, sym, ◌∙◌, ap, rules}
+use Rattle.std.proofs.Common.{◌≡◌, sym, ◌∙◌, rules}
 use Rattle.ttp_world.specs.declared.node.Verdict.TheVariants.{Correct}
 use Rattle.ttp_world.specs.Act.{coming_place}
 use Rattle.ttp_world.specs.Conduct.{payload_taken}
-use Rattle.ttp_world.specs.Diary.{Place}
-use Rattle.ttp_world.specs.Reception.{expected_of}
+use Rattle.ttp_world.specs.Reception.{expected_of, verdict_of, view_of}
 use Rattle.controller.specs.Hearing.{hearing_of}
-use Rattle.controller.proofs.Heard.{payload_from_a, payload_from_b, carries_some, delivered_correct}
+use Rattle.controller.proofs.Heard.{carries_some}
 use Rattle.controller.proofs.hearing.deliver.Goals as goal
 use Rattle.controller.proofs.hearing.deliver.Goals.{then-judgement, else-judgement}
 
@@ -17,16 +16,22 @@ returns c k past own error coming sent_a sent_b clock shows_a shows_b is =
     let correct : c.args.judgement.now.verdict ≡ Correct = search rules in
     let taken : c.if-judgement.payload ≡ payload_taken list (expected_of list k past) h =
     elim c.if-judgement.branch [
-      | then-judgement w ↦ payload_from_a list (expected_of list k past) h c.args.coming.now.place
-          c.if-judgement.payload coming.place
-          (w.payload-is ∙ w.payload_heard-payload.ensures own error sent_a clock shows_a)
-          (sym w.if-judgement.true ∙ is.from_a)
-      | else-judgement w ↦ payload_from_b list (expected_of list k past) h c.args.coming.now.place
-          c.if-judgement.payload coming.place
-          (w.payload-is ∙ w.payload_heard-payload-else-judgement.ensures own error sent_b clock shows_b)
-          (sym w.if-judgement.false ∙ is.from_a)
+      | then-judgement w ↦ search (
+        rules,
+        sym is.from_a ∙ w.if-judgement.true,
+        coming.place,
+        w.payload-is ∙ w.payload_heard-payload.ensures own error sent_a clock shows_a,
+      )
+      | else-judgement w ↦ search (
+        rules,
+        sym is.from_a ∙ w.if-judgement.false,
+        coming.place,
+        w.payload-is ∙ w.payload_heard-payload-else-judgement.ensures own error sent_b clock shows_b,
+      )
     ] in
-    delivered_correct list k past h c.args.judgement.now c.sender.result c.if-judgement.payload is correct
-    (carries_some list c.args.coming.now.place (coming_place list past) c.form_of.result.payload c.if-form_of-eq0.false
-    c.form_of.ensures.payload coming.place)
-    (c.sender.ensures.value ∙ ap (λ (p : Place). p.slot) coming.place) taken
+    let view_a = view_of list (expected_of list k past) h.deviation h.a in
+    let view_b = view_of list (expected_of list k past) h.deviation h.b in
+    let verdict : verdict_of view_a view_b past.ack ≡ Correct = sym is.verdict ∙ correct in
+    let carries = sym (carries_some list c.args.coming.now.place (coming_place list past) c.form_of.result.payload
+    c.if-form_of-eq0.false c.form_of.ensures.payload coming.place) in
+    search (rules, verdict, carries, taken, coming.place)

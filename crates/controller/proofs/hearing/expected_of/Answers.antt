@@ -1,7 +1,5 @@
 -- The candidates have room, as sets of nodes of the list.
-use Rattle.std.proofs.Common.{ℕ, ◌<◌, List, length, sym, subst, Option, IfSome, arith}
-use Rattle.ttp_frame.specs.Shape.{HaveRoom}
-use Rattle.ttp_world.specs.Medl.{is_wide}
+use Rattle.std.proofs.Common.{◌<◌, length, rules, arith}
 use Rattle.controller.proofs.Sets.{candidates-room}
 use Rattle.controller.proofs.hearing.expected_of.Goals as goal
 
@@ -14,9 +12,4 @@ returns-clause-expected c =
     omega (arith, c.sender-sender.ensures.exists, is.coming.slots) in
     let rooms = candidates-room list receiver.ack receiver.number receiver.members c.sender-sender.result
     c.requires.valid is.number sends is.doubt is.members in
-    record {
-      place = is.coming;
-      first = subst (HaveRoom (is_wide list)) (sym c.candidates-first.ensures.first) rooms.first;
-      second = subst (λ (o : Option (List ℕ)). IfSome o (HaveRoom (is_wide list)))
-          (sym c.candidates-first.ensures.second) rooms.second;
-    }
+    record { place = is.coming; first = search (rules, rooms.first); second = search (rules, rooms.second) }

@@ -1,29 +1,15 @@
 -- A join on channel A comes before one on B.
-use Rattle.std.proofs.Common.{◌≡◌, Option, Some, None, unwrap_or, ap, sym, ◌∙◌, w64}
-use Rattle.std.proofs.lemmas.Int.{to_z-of_z}
-use Rattle.std.specs.Option.{option_or}
-use Rattle.ttp_world.specs.declared.node.Entry.{Entry}
-use Rattle.ttp_world.specs.declared.node.Entry.TheVariants.{Waited}
+use Rattle.std.proofs.Common.{sym, ◌∙◌, rules}
 use Rattle.controller.proofs.hearing.listening_entry.Goals as goal
-
-first_of : (x y : Option Entry) (e : Entry) → x ≡ Some e → e ≡ unwrap_or (option_or x y) Waited
-first_of x y e is = sym (ap (λ (o : Option Entry). unwrap_or (option_or o y) Waited) is)
-
-second_of : (x y : Option Entry) → x ≡ None → unwrap_or y Waited ≡ unwrap_or (option_or x y) Waited
-second_of x y is = sym (ap (λ (o : Option Entry). unwrap_or (option_or o y) Waited) is)
 
 pub returns-in-Some : goal.returns-in-Some
 returns-in-Some c sent_a sent_b clock shows_a shows_b =
-    let joins = rw (to_z-of_z w64 c.args.own c.ranges.own, to_z-of_z w64 c.args.error c.ranges.error) at
-    c.channel_join.ensures in
-    first_of _ _ c.in-Some.entry (sym (joins sent_a clock shows_a) ∙ c.in-Some.is)
+    search (rules, sym (c.channel_join.ensures sent_a clock shows_a) ∙ c.in-Some.is)
 
 pub returns-in-None : goal.returns-in-None
 returns-in-None c sent_a sent_b clock shows_a shows_b =
-    let joins_a = rw (to_z-of_z w64 c.args.own c.ranges.own, to_z-of_z w64 c.args.error c.ranges.error) at
-    c.channel_join.ensures in
-    let joins_b = rw (to_z-of_z w64 c.args.own c.ranges.own, to_z-of_z w64 c.args.error c.ranges.error) at
-    c.channel_join-in-None.ensures in
-    c.unwrap_or.ensures
-    ∙ ap (λ (o : Option Entry). unwrap_or o Waited) (joins_b sent_b clock shows_b)
-    ∙ second_of _ _ (sym (joins_a sent_a clock shows_a) ∙ c.in-None.is)
+    search (
+      rules,
+      sym (c.channel_join.ensures sent_a clock shows_a) ∙ c.in-None.is,
+      c.channel_join-in-None.ensures sent_b clock shows_b,
+    )

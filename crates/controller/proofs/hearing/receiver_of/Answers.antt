@@ -1,9 +1,15 @@
 -- The node's past is within the list.
-use Rattle.std.proofs.Common.{refl}
-use Rattle.controller.proofs.Heard.{IsReceiver-within}
+use Rattle.std.proofs.Common.{refl, sym, subst, ◌∙◌, rules}
+use Rattle.controller.specs.Within.{IsAckWithin}
 use Rattle.controller.proofs.hearing.receiver_of.Goals as goal
 
 pub returns-clause-receiver : goal.returns-clause-receiver
 returns-clause-receiver c =
-    IsReceiver-within c.args.list.now c.args.k c.args.node.now _ c.requires.number refl c.requires.within
-    (record { coming = c.coming.ensures; ack = c.acknowledgement.ensures; members = c.members.ensures })
+    let slot = c.args.node.now.place.slot in
+    record {
+      number = c.requires.number;
+      coming = record { place = refl; rounds = c.coming.ensures.rounds; slots = c.coming.ensures.slots };
+      doubt = λ x doubts. (subst (IsAckWithin c.args.list.now c.args.k slot)
+          (sym c.acknowledgement.ensures ∙ doubts) c.requires.within.ack).0;
+      members = search rules;
+    }

@@ -1,29 +1,43 @@
-use Rattle.std.proofs.Common.{◌∙◌, bit_or}
+use Rattle.std.proofs.Common.{◌≡◌, ◌+◌, Bool, true, false, ◌&&◌, refl, bit_or, rules}
+use Rattle.std.specs.Prelude.{◌==◌}
+use Rattle.std.proofs.lemmas.Bool.{and_parts, eqb-true}
 use Rattle.ttp_world.specs.Acknowledgement.{is_open, is_doubt}
 use Rattle.ttp_world.specs.Diary.{is_active_phase}
 use Rattle.ttp_world.specs.Medium.{is_sending}
 use Rattle.ttp_world.specs.Messages.{flag, is_listening_phase, is_left_phase, has_averaged}
-use Rattle.controller.proofs.StatusLaws.{flags_word-sum}
 use Rattle.controller.proofs.status.flags_of.Goals as goal
+
+-- what holds of both truth values
+both : (Bool → Bool) → Bool
+both p = p true && p false
+
+both-at : (p : Bool → Bool) → both p ≡ true → (b : Bool) → p b ≡ true
+unfolding both
+both-at p holds true = (and_parts (p true) (p false) holds).0
+both-at p holds false = (and_parts (p true) (p false) holds).1
+
+-- flags that are put into a word one after the other make their sum
+abbrev is_sum : Bool → Bool → Bool → Bool → Bool → Bool → Bool → Bool → Bool
+is_sum a b c d e f g h =
+    bit_or (bit_or (bit_or
+    (bit_or (bit_or (bit_or (bit_or (bit_or 0 (flag 1 a)) (flag 2 b)) (flag 4 c)) (flag 8 d)) (flag 16 e)) (flag 32 f))
+    (flag 64 g)) (flag 128 h)
+    == flag 1 a + (flag 2 b + (flag 4 c + (flag 8 d + (flag 16 e + (flag 32 f + (flag 64 g + flag 128 h))))))
+
+all_sums : both (λ a. both
+    (λ b. both (λ c. both (λ d. both (λ e. both (λ f. both (λ g. both (λ h. is_sum a b c d e f g h)))))))) ≡ true
+unfolding both
+all_sums = refl
+
+is_sum-at : (a b c d e f g h : Bool) → is_sum a b c d e f g h ≡ true
+is_sum-at a b c d e f g h =
+    both-at _ (both-at _ (both-at _ (both-at _ (both-at _ (both-at _ (both-at _ (both-at _ all_sums a) b) c) d) e) f) g)
+    h
 
 pub returns : goal.returns
 returns c =
     let node = c.args.node.now in
-    let is = c.state-state.ensures in
-    let active = c.is_active.ensures ∙ (λ i. is_active_phase (is i).phase) in
-    let listening = c.is_listening.ensures ∙ (λ i. is_listening_phase (is i).phase) in
-    let left = c.is_left.ensures ∙ (λ i. is_left_phase (is i).phase) in
-    let sent = c.is_sending.ensures ∙ (λ i. is_sending (is i).entry) in
-    let opened = c.is_open.ensures ∙ (λ i. is_open (c.acknowledgement.ensures i)) in
-    let doubt = c.is_doubt.ensures ∙ (λ i. is_doubt (is i).ack) in
-    let first = c.with-flags.ensures ∙ (λ i. bit_or 0 (flag 1 (active i))) in
-    let second = c.with-flags-2.ensures ∙ (λ i. bit_or (first i) (flag 2 (listening i))) in
-    let third = c.with-flags-3.ensures ∙ (λ i. bit_or (second i) (flag 4 (left i))) in
-    let fourth = c.with-flags-4.ensures ∙ (λ i. bit_or (third i) (flag 8 (sent i))) in
-    let fifth = c.with-flags-5.ensures ∙ (λ i. bit_or (fourth i) (flag 16 c.args.delivers)) in
-    let sixth = c.with-flags-6.ensures ∙ (λ i. bit_or (fifth i) (flag 32 (opened i))) in
-    let seventh = c.with-flags-7.ensures ∙ (λ i. bit_or (sixth i) (flag 64 (doubt i))) in
-    c.with.ensures ∙ (λ i. bit_or (seventh i) (flag 128 (c.has_averaged.ensures i)))
-    ∙ flags_word-sum (is_active_phase node.phase) (is_listening_phase node.phase) (is_left_phase node.phase)
-    (is_sending node.entry)
-    c.args.delivers (is_open node.ack) (is_doubt node.ack) (has_averaged c.args.list.now node)
+    let sum = eqb-true _ _ (is_sum-at (is_active_phase node.phase) (is_listening_phase node.phase)
+    (is_left_phase node.phase) (is_sending node.entry) c.args.delivers (is_open node.ack) (is_doubt node.ack)
+    (has_averaged c.args.list.now node)) in
+    search (rules, sum)

@@ -1,4 +1,4 @@
-use Rattle.std.proofs.Common.{w64, FitsSigned, rules, sym, ap, subst, ◌∙◌}
+use Rattle.std.proofs.Common.{w64, rules, sym, ap, subst, ◌∙◌}
 use Rattle.std.proofs.lemmas.Int.{to_z-of_z}
 use Rattle.ttp_world.specs.declared.medl.Medl.{Medl}
 use Rattle.ttp_world.specs.Act.{act}
@@ -19,11 +19,9 @@ pub returns-clause-begins : goal.returns-clause-begins
 returns-clause-begins c =
     let n = c.self.inside in
     let same = c.requires.list ∙ ap (λ (seat : Seat). seat.list) (sym c.self.view_is) in
-    let fits : FitsSigned w64 c.jump_taken.result = search rules in
-    let given : FitsSigned w64 c.args.jump = search rules in
     rw (← c.self.view_is)
     (Begins-turn n.given.list n.number n.node n.slots n.turn c.args.on c.args.armed c.args.jump c.act-act.result _
     c.self.invariant.valid c.self.invariant.node
     (c.act-act.ensures ∙ (λ i. act (same i) n.number c.args.on c.args.armed n.node))
-    (to_z-of_z w64 c.jump_taken.result fits ∙ c.jump_taken.ensures ∙ ap (jump_taken c.act-act.result)
-    (to_z-of_z w64 c.args.jump given)))
+    (to_z-of_z w64 c.jump_taken.result (search rules) ∙ c.jump_taken.ensures ∙ ap (jump_taken c.act-act.result)
+    (to_z-of_z w64 c.args.jump (search rules))))

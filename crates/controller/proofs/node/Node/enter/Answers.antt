@@ -1,10 +1,9 @@
-use Rattle.std.proofs.Common.{◌≡◌, ◌+ℤ◌, ap, sym, subst, ◌∙◌, min, w64, to_z, of_z, arith}
+use Rattle.std.proofs.Common.{◌≡◌, ◌+ℤ◌, ap, sym, subst, ◌∙◌, w64, to_z, of_z, arith, rules}
 use Rattle.std.proofs.lemmas.Int.{ints}
-use Rattle.ttp_world.specs.After.{silent_slots_after}
+use Rattle.ttp_world.specs.After.{notes_after, place_after}
 use Rattle.fta_sync.specs.StandsFor.{IsDeviation}
 use Rattle.controller.specs.Within.{IsWithin}
-use Rattle.controller.proofs.Stints.{entered}
-use Rattle.controller.proofs.Stints.{kept_after-within}
+use Rattle.controller.proofs.Stints.{correction_after-take, kept_after-within}
 use Rattle.controller.proofs.node.Node.enter.Goals as goal
 
 pub returns-clause-value : goal.returns-clause-value
@@ -18,10 +17,11 @@ returns-clause-value c =
     let sum : to_z w64 (of_z w64 (to_z w64 (of_z w64 inside.offset) +ℤ to_z w64 (of_z w64 change)))
     ≡ inside.offset +ℤ change =
     omega (arith, ints, offset, within) in
-    entered a.list.now a.k a.self.now a.entry.now a.outside.now _ _ _ _ stint c.listener_after-self-inside.ensures.limit
-    (c.listener_after-self-inside.ensures.silent
-    ∙ ap (λ o. min (silent_slots_after inside.listener.silent_slots a.entry.now o.is_silent) 65535) c.outside.view_is)
-    (sum ∙ ap (λ z. inside.offset +ℤ z) c.clock_change.ensures.value)
+    let past = a.self.now in
+    let place = place_after a.list.now a.k past.place a.entry.now in
+    let corrected = correction_after-take a.list.now place (notes_after a.list.now past.notes place a.entry.now)
+    a.entry.now in
+    search (rules, sum, stint, corrected, c.outside.view_is)
 
 pub returns-clause-within : goal.returns-clause-within
 returns-clause-within c =
