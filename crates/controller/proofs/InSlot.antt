@@ -136,10 +136,12 @@ loaded-node s k seat begun =
     ∙ ap is_loading (intent_by-kept s.list node.past node.act) ∙ loading_by s.list node.past node.act
 
 -- and the message that is chosen for it is as long as its frame wants it
-pub payload-node : (s : BegunSlot) (k : ℕ) (seat : Seat) (chosen : List Chosen) → k < length s.list.slots
-    → HasBegun s k seat → AreChosen s chosen → IsPayloadFor seat (chosen_of chosen k)
-payload-node s k seat chosen node begun are loading =
-    are k node (sym (loaded-node s k seat begun) ∙ ap is_loading loading)
+pub payload-node : {s : BegunSlot} {k : ℕ} {seat : Seat} {message : Chosen} (chosen : List Chosen)
+    → message ≡ chosen_of chosen k → k < length s.list.slots → HasBegun s k seat → AreChosen s chosen
+    → IsPayloadFor seat message
+payload-node {s = s} {k = k} {seat = seat} chosen is node begun are loading =
+    ap (λ (m : Chosen). length m.payload) is
+    ∙ are k node (sym (loaded-node s k seat begun) ∙ ap is_loading loading)
     ∙ (λ i. (plan_at (sym begun.list i) (sym begun.node i)).payload)
 
 -- The plan.

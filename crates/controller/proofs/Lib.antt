@@ -4,7 +4,6 @@ pub mod InSlot
 pub mod MadeEntries
 pub mod Near
 pub mod Parts
-pub mod Passed
 pub mod Payloads
 pub mod SendingLaws
 pub mod Sends
@@ -12,4 +11,3 @@ pub mod Sets
 pub mod Standing
 pub mod StatusLaws
 pub mod Stints
-pub mod WholeSlot

@@ -1,6 +1,6 @@
 -- Clocks stay near 0: what a slot's jumps, errors and drifts add up to.
-use Rattle.std.proofs.Common.{◌≡◌, ℕ, ◌+◌, ◌^◌, ◌<◌, ◌≤◌, max, ℤ, pos, ◌+ℤ◌, List, length, get_or, Some, unsigned_abs}
-use Rattle.std.proofs.Common.{w64}
+use Rattle.std.proofs.Common.{◌≡◌, ℕ, ◌+◌, ◌^◌, ◌<◌, ◌≤◌, max, ℤ, pos, ◌+ℤ◌, List, [], length, get_or, Some}
+use Rattle.std.proofs.Common.{unsigned_abs, w64}
 use Rattle.std.proofs.Common.{to_z, of_z, refl, ap, sym, ◌∙◌, subst, arith}
 use Rattle.std.specs.Prelude.{slice_get, All}
 use Rattle.std.proofs.lemmas.Int.{ints, to_z-of_z, fits_signed_from_abs}
@@ -24,7 +24,7 @@ use Rattle.controller.specs.Limits.{seat_clock, turn_jump}
 use Rattle.controller.specs.Passes.{IsPlannedFrom}
 use Rattle.controller.specs.PlantWithin.{most_ahead, most_ahead_in, most_error, most_jump, IsEnded, IsSeatOf}
 use Rattle.controller.specs.PlantWithin.{IsFromWithin}
-use Rattle.controller.specs.StandsFor.{IsSameSeat}
+use Rattle.controller.specs.StandsFor.{IsSameSeat, StandsFor}
 use Rattle.controller.specs.Turn.{Ended, Seat}
 
 pub span-abs : (bound : ℕ) (z : ℤ) → IsWithinSpan bound z → unsigned_abs z ≤ bound
@@ -63,13 +63,23 @@ ended-clock seat ended = ap (λ turn. seat.past.offset +ℤ turn_jump turn) ende
     add-nothing z = omega (arith, ints)
 
 -- and one that has planned has the clock with which it began
-pub planned-seat : (list : Medl) (bound k : ℕ) (old new : Seat) → IsPlannedFrom old new
+pub planned-seat : {list : Medl} {bound k : ℕ} {old new : Seat} → IsPlannedFrom old new
     → IsSeatOf list IsBegun bound k old → IsSeatOf list IsPlanned bound k new
-planned-seat list bound k old new planned of = record {
+planned-seat {bound = bound} planned of = record {
   list = planned.same.list ∙ of.list;
   node = planned.same.node ∙ of.node;
   turn = planned.turn;
   clock = subst (λ (z : ℤ). unsigned_abs z ≤ bound) (sym planned.clock) of.clock;
+}
+
+-- before the first slot it is at 0
+pub first-seat : {list : Medl} {k : ℕ} {seat : Seat} → seat.list ≡ list → seat.node ≡ k → StandsFor seat [] []
+    → IsSeatOf list IsEnded (most_ahead 0) k seat
+first-seat list_is node_is stands = record {
+  list = list_is;
+  node = node_is;
+  turn = stands.turn;
+  clock = rw (stands.past, stands.turn) (omega arith);
 }
 
 -- What comes was sent by a node whose clock is near 0.
