@@ -4,7 +4,6 @@ pub mod InSlot
 pub mod MadeEntries
 pub mod Near
 pub mod Parts
-pub mod Payloads
 pub mod SendingLaws
 pub mod Sends
 pub mod Sets

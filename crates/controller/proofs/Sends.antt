@@ -87,7 +87,7 @@ AreSent-near {list = list} {script = script} {bound = bound} {chosen = chosen} {
       near = λ p. ⊎_elim (λ (less : p < n).
           let at = sent.passed.done p less in
           subst near
-          (clock-node list script may.history p at.before (omega (arith, are_nodes)) (each-of may.begun p at.was))
+          (clock-node list script may.history p (omega (arith, are_nodes)) (each-of may.begun p at.was))
           (each-of seats p at.was).clock)
           (λ (beyond : n ≤ p).
           let count = length-map-range_with_len (node_after list script may.history) 0 (length list.slots) in

@@ -13,7 +13,7 @@ returns-in-Some-clause-puts c history frames begun carries =
     let k = c.args.k in
     let of = c.in-Some.ensures in
     let offset = to_z-of_z w64 c.clock.result (record { sfits = c.clock.type_inv }) ∙ c.clock.ensures ∙ of.planned.clock
-    ∙ clock-node list script history k c.args.controller.now c.requires.node begun in
+    ∙ clock-node list script history k c.requires.node begun in
     subst (λ (more : List SentFrame). Carries (slot_after list script history) (frames ++ more) c.put.new.self)
     (of.plans list script history k c.requires.node begun).1
     (c.put.ensures (length history) frames _ offset carries)
