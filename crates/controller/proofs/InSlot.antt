@@ -1,7 +1,13 @@
--- A controller in a slot of the world: what it stands for at each turn is node k of the slot after the history.
+-- Controllers in a slot of the world: what each stands for at each turn is its node of the slot after the history, and
+-- what they send in the second pass is on the medium.
 use Rattle.std.proofs.Common.{◌≡◌, ℕ, ◌<◌, ◌≤◌, ℤ, ◌+ℤ◌, Bool, true, false, cond, List, [], ◌∷◌, length, min, Option}
-use Rattle.std.proofs.Common.{is_some, refl, ap, sym, ◌∙◌, subst, arith}
-use Rattle.std.proofs.lemmas.List.{length-map}
+use Rattle.std.proofs.Common.{is_some, refl, ap, sym, ◌∙◌, subst, arith, ◌+◌, get_or, set, unsigned_abs, ⊎_elim}
+use Rattle.std.proofs.lemmas.List.{length-map, get_or_past}
+use Rattle.std.specs.List.{flat_map}
+use Rattle.std.proofs.lemmas.Bool.{cases_lt}
+use Rattle.std.proofs.lemmas.List.FromFn.{length-map-range_with_len}
+use Rattle.ttp_base.specs.NodeSet.{below}
+use Rattle.ttp_base.proofs.Below.{flat_map-next}
 use Rattle.ttp_world.specs.declared.medl.Medl.{Medl}
 use Rattle.ttp_world.specs.declared.node.Act.{Act}
 use Rattle.ttp_world.specs.declared.node.Act.TheVariants.{Send}
@@ -14,13 +20,13 @@ use Rattle.ttp_world.specs.declared.script.TheConstants.{SLOT_LIMIT}
 use Rattle.ttp_world.specs.Act.{act, coming_place}
 use Rattle.ttp_world.specs.Conduct.{carries_payload, new_entry, delivery, node_frames}
 use Rattle.ttp_world.specs.Diary.{Diary, History, Surroundings, diary_of, entry_of}
-use Rattle.ttp_world.specs.Medium.{heard, surroundings_in, surroundings_of}
+use Rattle.ttp_world.specs.Medium.{heard, surroundings_in, surroundings_of, SentFrame}
 use Rattle.ttp_world.specs.Medl.{plan_at}
 use Rattle.ttp_world.specs.Messages.{status_words}
 use Rattle.ttp_world.specs.Past.{NodePast, past_of}
 use Rattle.ttp_world.specs.Script.{is_on, is_armed, jump_of, reading_error}
-use Rattle.ttp_world.specs.World.{BegunNode, BegunSlot, jump_taken, node_of, slot_after, chosen_of}
-use Rattle.ttp_world.specs.World.{sends_payload, frames_in, hearing_in, row_in}
+use Rattle.ttp_world.specs.World.{BegunNode, BegunSlot, jump_taken, node_of, slot_after, chosen_of, sends_payload}
+use Rattle.ttp_world.specs.World.{frames_in, hearing_in, row_in, node_after, no_node, frames_of}
 use Rattle.ttp_world.proofs.Silences.{is_silent_to-row_in}
 use Rattle.ttp_world.proofs.Slots.{node_of-slot_after, entry_of-row_in}
 use Rattle.medium.specs.declared.arrival.Arrival.{Arrival}
@@ -30,14 +36,17 @@ use Rattle.controller.specs.declared.controller.Intent.{Intent}
 use Rattle.controller.specs.declared.controller.Intent.TheVariants as intent
 use Rattle.controller.specs.declared.controller.Outcome.{Outcome}
 use Rattle.controller.specs.Hearing.{hearing_of}
-use Rattle.controller.specs.Limits.{intent_by, loaded_length, seat_clock, seat_intent, turn_intent, turn_jump}
+use Rattle.controller.specs.Limits.{intent_by, loaded_length, seat_clock, seat_intent, turn_intent, turn_jump, IsBegun}
 use Rattle.controller.specs.Kept.{kept}
 use Rattle.controller.specs.Passes.{StandsAfter, StandsForNode, jump_begun, HasBegun, HasPlanned, frames_by, IsLeft}
-use Rattle.controller.specs.Passes.{AreChosen, Carries, IsPayloadFor, delivered_at, payload_handed}
+use Rattle.controller.specs.Passes.{AreChosen, Carries, IsPayloadFor, payload_handed, HaveBegun, MayPlan}
+use Rattle.controller.specs.Passes.{IsPlannedFrom, PlansIn, PutsFrames}
 use Rattle.controller.specs.StandsFor.{Stands, IsSameSeat, Begins, Plans, Ends, seat_past, frames_planned, most_slots}
 use Rattle.controller.specs.StandsFor.{message_planned, payload_planned, clock_begun}
 use Rattle.controller.specs.Turn.{Turn, Ended, Begun, Planned, Seat}
 use Rattle.controller.proofs.Near.{AreHanded}
+use Rattle.controller.specs.PlantWithin.{AreSeats, IsFromWithin}
+use Rattle.controller.proofs.Parts.{ArePassed, ArePassed-none, ArePassed-more, ArePassed-coming, each-of}
 
 -- What a node sends.
 
@@ -216,16 +225,89 @@ module _ (list : Medl) (script : Script) (history : History) (k : ℕ) (node : k
       ≡ hearing_in s frames k = λ i. hearing_of (on channel.A) (on channel.B) clock (own_is i) (error_is i) in
       let entry_is = (λ i. new_entry (has.list i) (has.node i) (past_is i) message (hearing_is i) does)
       ∙ sym (entry_of-row_in s chosen k node) in
-      let handed_is : delivery planned.list planned.node (seat_past planned diary surroundings)
-      (hearing_of (on channel.A) (on channel.B) clock (clock_begun (seat_past planned diary surroundings) jump) error)
-      _ ≡ delivered_at s chosen k = λ i. delivery (has.list i) (has.node i) (past_is i) (hearing_is i) (entry_is i) in
-      let long = length-diary_of history k in
-      let few : length history ≤ most_slots = omega (arith, carries.slot) in (
+      let long = length-diary_of history k in (
         subst (λ (e : Entry). Stands new (e ∷ diary) (outside ∷ surroundings) Ended) entry_is end.stands,
         record {
-          delivered = end.delivered ∙ handed_is;
-          status = end.status (subst (λ m. m ≤ most_slots) (sym long) few)
+          delivered = end.delivered
+              ∙ (λ i. delivery (has.list i) (has.node i) (past_is i) (hearing_is i) (entry_is i));
+          status = end.status (omega (arith, long, carries.slot))
               ∙ (λ i. status_words (has.list i) (long i)
-              (past_of (has.list i) (has.node i) (entry_is i ∷ diary) (outside ∷ surroundings)) (is_some (handed_is i)));
+              (past_of (has.list i) (has.node i) (entry_is i ∷ diary) (outside ∷ surroundings))
+              (is_some (delivery (has.list i) (has.node i) (past_is i) (hearing_is i) (entry_is i))));
         },
       )
+
+-- The second pass: node by node, controllers plan, and what they send is put on the medium.
+
+-- what a pass makes of node k's controller
+abbrev pub IsSentBy : Medl → Script → List Chosen → ℕ → Seat → Seat → Seat → Type 0
+IsSentBy list script chosen k old new left = IsPlannedFrom old new × PlansIn list script k (chosen_of chosen k) old new
+
+-- the first controllers, so many, have planned, and what they send is on the medium
+pub record AreSent (list : Medl) (script : Script) (slot : ℕ) (chosen : List Chosen) (k : ℕ) (old new : List Seat)
+    (carried : Carried) : Type 0 where
+  pub passed : ArePassed (IsSentBy list script chosen) k old new new
+  pub carries : (history : History) → length history ≡ slot → HaveBegun (slot_after list script history) 0 old
+      → Carries (slot_after list script history)
+      (flat_map (frames_of (slot_after list script history) chosen) (below k)) carried
+
+pub AreSent-none : {list : Medl} {script : Script} {slot : ℕ} {chosen : List Chosen} {seats : List Seat}
+    {carried : Carried} → medium.StandsAtBeginning carried slot → AreSent list script slot chosen 0 seats seats carried
+AreSent-none {list = list} {script = script} {seats = seats} {carried = carried} begins = record {
+  passed = ArePassed-none seats seats (omega arith);
+  carries = λ history long begun.
+      let clock = λ (p : ℕ). (node_of (slot_after list script history) p).clock in
+      subst (λ (t : ℕ). medium.StandsFor carried script t [] clock) (sym long) (begins script clock);
+}
+
+pub AreSent-more : {list : Medl} {script : Script} {slot : ℕ} {chosen : List Chosen} {k : ℕ} {old new : List Seat}
+    {before after : Carried} {message : Chosen} {planned : Seat} (d : Seat)
+    → AreSent list script slot chosen k old new before → k < length old → message ≡ chosen_of chosen k
+    → IsPlannedFrom (get_or new k d) planned → PlansIn list script k message (get_or new k d) planned
+    → PutsFrames list script k (get_or new k d) message before after
+    → AreSent list script slot chosen (k + 1) old (set new k planned) after
+AreSent-more {list = list} {script = script} {chosen = chosen} {k = k} {new = new} {before = before} {after = after}
+    {planned = planned} d sent within is by plans puts =
+    let seat = get_or new k d in
+    record {
+      passed = ArePassed-more d sent.passed within
+          (by, subst (λ (m : Chosen). PlansIn list script k m seat planned) is plans);
+      carries = λ history long begun.
+          let s = slot_after list script history in
+          subst (λ (frames : List SentFrame). Carries s frames after) (sym (flat_map-next (frames_of s chosen) k))
+          (subst (λ (m : Chosen). PutsFrames list script k seat m before after) is puts history _
+          (each-of begun k (ArePassed-coming d sent.passed within)) (sent.carries history long begun));
+    }
+
+-- the medium is in that slot
+pub AreSent-slot : {list : Medl} {script : Script} {slot : ℕ} {chosen : List Chosen} {k : ℕ} {old new : List Seat}
+    {carried : Carried}
+    → AreSent list script slot chosen k old new carried → MayPlan list script slot old chosen → carried.slot ≡ slot
+AreSent-slot sent may = (sent.carries may.history may.slot_is may.begun).slot ∙ may.slot_is
+
+-- When all have planned, what is on the medium was sent by nodes whose clocks are near 0.
+pub AreSent-near : {list : Medl} {script : Script} {slot bound : ℕ} {chosen : List Chosen} {n : ℕ}
+    {old new : List Seat} {carried : Carried}
+    → AreSent list script slot chosen n old new carried → n ≡ length list.slots → MayPlan list script slot old chosen
+    → AreSeats list IsBegun bound 0 old → IsFromWithin carried script bound
+AreSent-near {list = list} {script = script} {bound = bound} {chosen = chosen} {n = n} {carried = carried} sent
+    are_nodes may seats =
+    let s = slot_after list script may.history in
+    let stands = sent.carries may.history may.slot_is may.begun in
+    let frames = flat_map (frames_of s chosen) (below n) in
+    let clock = λ (p : ℕ). (node_of s p).clock in
+    let near = λ (z : ℤ). unsigned_abs z ≤ bound in
+    record {
+      frames = frames;
+      clock = clock;
+      stands = subst (λ (t : ℕ). medium.StandsFor carried script t frames clock) (sym stands.slot) stands;
+      near = λ p. ⊎_elim (λ (less : p < n).
+          let at = sent.passed.done p less in
+          subst near
+          (clock-node list script may.history p (omega (arith, are_nodes)) (each-of may.begun p at.was))
+          (each-of seats p at.was).clock)
+          (λ (beyond : n ≤ p).
+          let count = length-map-range_with_len (node_after list script may.history) 0 (length list.slots) in
+          let nobody = get_or_past s.nodes p (no_node list) (omega (arith, are_nodes, count)) in
+          subst near (ap (λ (b : BegunNode). b.clock) (sym nobody)) (omega arith)) (cases_lt p n);
+    }

@@ -5,7 +5,6 @@ pub mod MadeEntries
 pub mod Near
 pub mod Parts
 pub mod SendingLaws
-pub mod Sends
 pub mod Sets
 pub mod Standing
 pub mod StatusLaws

@@ -1,8 +1,7 @@
 -- A pass over a part of a cluster's nodes: each element is written once, beside a list that gets one for each.
 use Rattle.std.proofs.Common.{◌≡◌, ◌≢◌, ℕ, zero, suc, ◌+◌, ◌<◌, ◌≤◌, List, [], ◌∷◌, ◌++◌, length, get_or, set, Some}
-use Rattle.std.proofs.Common.{refl, sym, ap, ◌∙◌, subst, ⊎_elim, arith}
+use Rattle.std.proofs.Common.{refl, sym, ap, ◌∙◌, subst, below_more, arith}
 use Rattle.std.specs.Prelude.{slice_get}
-use Rattle.std.proofs.lemmas.Bool.{cases_lt}
 use Rattle.std.proofs.lemmas.List.{length-set, get_or-set_same}
 use Rattle.std.proofs.lemmas.Option.{slice_get_within, slice_get-get_or, same_Some, none-some}
 use Rattle.controller.specs.Parts.{EachFrom}
@@ -57,7 +56,7 @@ pub ArePassed-more : {X Z : Type 0} {R : ℕ → X → X → Z → Type 0} {i : 
 ArePassed-more {R = R} {i = i} {old = old} {new = new} {out = out} {y = y} {z = z} d passed within by = record {
   count = length-set new i y ∙ passed.count;
   room = omega (arith, length-set out i z, passed.room);
-  done = λ k less. ⊎_elim (λ (earlier : k < i).
+  done = below_more (λ k. IsPassed R k old (set new i y) (set out i z)) i (λ k earlier.
       let at = passed.done k earlier in record {
         before = at.before;
         after = at.after;
@@ -66,17 +65,15 @@ ArePassed-more {R = R} {i = i} {old = old} {new = new} {out = out} {y = y} {z = 
         by = at.by;
         is = slice_get-set_other new i k y (omega arith) ∙ at.is;
         leaves = slice_get-set_other out i k z (omega arith) ∙ at.leaves;
-      })
-      (λ (later : i ≤ k). let same : i ≡ k = omega arith in
-      subst (λ (n : ℕ). IsPassed R n old (set new i y) (set out i z)) same record {
+      }) (record {
         before = get_or new i d;
         after = y;
         left = z;
         was = ArePassed-coming d passed within;
-        by = by;
         is = slice_get-set_same new i y (omega (arith, passed.count));
         leaves = slice_get-set_same out i z (omega (arith, passed.room));
-      }) (cases_lt k i);
+        by = by;
+      });
   rest = λ k later. slice_get-set_other new i k y (omega arith) ∙ passed.rest k (omega arith);
 }
 

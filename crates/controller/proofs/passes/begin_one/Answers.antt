@@ -7,7 +7,8 @@ use Rattle.controller.proofs.Near.{jump_same, jump_fits, begun-seat}
 use Rattle.controller.proofs.passes.begin_one.Goals as goal
 
 pub begin-requires-clause-clock : goal.begin-requires-clause-clock
-begin-requires-clause-clock c = jump_fits c.args.slot c.requires.slot c.requires.seat c.incidents-incidents.ensures.bounds
+begin-requires-clause-clock c =
+    jump_fits c.args.slot c.requires.slot c.requires.seat c.incidents-incidents.ensures.bounds
 
 pub returns-clause-seat : goal.returns-clause-seat
 returns-clause-seat c =

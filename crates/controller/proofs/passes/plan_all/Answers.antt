@@ -3,22 +3,14 @@ use Rattle.std.specs.List.{flat_map}
 use Rattle.std.proofs.lemmas.List.{get_or_read}
 use Rattle.std.proofs.lemmas.Option.{slice_get-get_or}
 use Rattle.ttp_base.specs.NodeSet.{below}
-use Rattle.ttp_world.specs.declared.events.Incidents.{Incidents}
-use Rattle.ttp_world.specs.declared.script.Script.{Script}
 use Rattle.ttp_world.specs.Outgoing.{nothing_chosen}
 use Rattle.ttp_world.specs.World.{slot_after, frames_of}
 use Rattle.controller.specs.Passes.{Carries}
-use Rattle.controller.specs.PlantWithin.{IsIncidentsOf}
 use Rattle.controller.proofs.InSlot.{payload-node}
 use Rattle.controller.proofs.Near.{planned-seat}
 use Rattle.controller.proofs.Parts.{ArePassed-coming, each-of, all-new}
-use Rattle.controller.proofs.Sends.{AreSent-none, AreSent-more, AreSent-slot, AreSent-near}
+use Rattle.controller.proofs.InSlot.{AreSent-none, AreSent-more, AreSent-slot, AreSent-near}
 use Rattle.controller.proofs.passes.plan_all.Goals as goal
-
-happens-at : {script : Script} {slot t k : ℕ} {incidents : Incidents} → t ≡ slot
-    → IsIncidentsOf script slot k incidents → IsIncidentsOf script t k incidents
-happens-at {script = script} {k = k} {incidents = incidents} same of =
-    subst (λ (n : ℕ). IsIncidentsOf script n k incidents) (sym same) of
 
 pub loop-k-init : goal.loop-k-init
 loop-k-init c = AreSent-none c.begin.ensures
@@ -44,7 +36,7 @@ send_one-requires-clause-payload c =
 pub send_one-requires-clause-incidents : goal.send_one-requires-clause-incidents
 send_one-requires-clause-incidents c =
     let k = c.loop-k.k in
-    happens-at (AreSent-slot c.loop-k.invariant c.requires.chosen) (each-of c.requires.incidents k
+    rw (AreSent-slot c.loop-k.invariant c.requires.chosen) (each-of c.requires.incidents k
     (slice_get-get_or c.args.incidents.now k _ (omega (arith, c.requires.looked_up, c.requires.nodes))))
 
 pub loop-k-preserved : goal.loop-k-preserved
