@@ -2,9 +2,9 @@
 -- what they send in the second pass is on the medium.
 use Rattle.std.proofs.Common.{◌≡◌, ℕ, ◌<◌, ◌≤◌, ℤ, ◌+ℤ◌, Bool, true, false, cond, List, [], ◌∷◌, length, min, Option}
 use Rattle.std.proofs.Common.{is_some, refl, ap, sym, ◌∙◌, subst, arith, ◌+◌, get_or, set, unsigned_abs, ⊎_elim}
-use Rattle.std.proofs.lemmas.List.{length-map, get_or_past}
 use Rattle.std.specs.List.{flat_map}
 use Rattle.std.proofs.lemmas.Bool.{cases_lt}
+use Rattle.std.proofs.lemmas.List.{length-map, get_or_past}
 use Rattle.std.proofs.lemmas.List.FromFn.{length-map-range_with_len}
 use Rattle.ttp_base.specs.NodeSet.{below}
 use Rattle.ttp_base.proofs.Below.{flat_map-next}
@@ -44,8 +44,8 @@ use Rattle.controller.specs.Passes.{IsPlannedFrom, PlansIn, PutsFrames}
 use Rattle.controller.specs.StandsFor.{Stands, IsSameSeat, Begins, Plans, Ends, seat_past, frames_planned, most_slots}
 use Rattle.controller.specs.StandsFor.{message_planned, payload_planned, clock_begun}
 use Rattle.controller.specs.Turn.{Turn, Ended, Begun, Planned, Seat}
-use Rattle.controller.proofs.Near.{AreHanded}
 use Rattle.controller.specs.PlantWithin.{AreSeats, IsFromWithin}
+use Rattle.controller.proofs.Near.{AreHanded}
 use Rattle.controller.proofs.Parts.{ArePassed, ArePassed-none, ArePassed-more, ArePassed-coming, each-of}
 
 -- What a node sends.
@@ -146,19 +146,19 @@ module _ (list : Medl) (script : Script) (history : History) (k : ℕ) (node : k
   }
 
   -- the beginning
-  pub begun-node : {old new : Seat} → old.list ≡ list → old.node ≡ k → IsSameSeat old new
-      → Begins old new (is_on script k (length history)) (is_armed script k (length history))
-      (jump_of script k (length history))
+  pub begun-node : {old new : Seat} {on armed : Bool} {jump : ℤ} → on ≡ is_on script k (length history)
+      → armed ≡ is_armed script k (length history) → jump ≡ jump_of script k (length history)
+      → old.list ≡ list → old.node ≡ k → IsSameSeat old new → Begins old new on armed jump
       → StandsAfter script history k old → HasBegun (slot_after list script history) k new
-  begun-node list_is node_is same begins stands =
+  begun-node on_is armed_is jump_is list_is node_is same begins stands =
       let diary = diary_of history k in
       let surroundings = surroundings_of script history k in
-      let slot = length history in
-      let turn_of = λ (does : Act). Begun does (jump_taken does (jump_of script k slot)) in
+      let turn_of = λ (does : Act) (jump : ℤ). Begun does (jump_taken does jump) in
       stands-node (same.list ∙ list_is) (same.node ∙ node_is)
-      ((λ i. turn_of (act (list_is i) (node_is i) (is_on script k slot) (is_armed script k slot)
-      (past_of (list_is i) (node_is i) diary surroundings)))
-      ∙ ap (λ (n : BegunNode). turn_of n.act) (sym (node_of-slot_after list script history k node)))
+      ((λ i. turn_of (act (list_is i) (node_is i) (on_is i) (armed_is i)
+      (past_of (list_is i) (node_is i) diary surroundings)) (jump_is i))
+      ∙ ap (λ (n : BegunNode). turn_of n.act (jump_of script k (length history)))
+      (sym (node_of-slot_after list script history k node)))
       (begins diary surroundings stands)
 
   -- its clock is what its past tells, with the slot's jump
@@ -251,63 +251,60 @@ pub record AreSent (list : Medl) (script : Script) (slot : ℕ) (chosen : List C
       → Carries (slot_after list script history)
       (flat_map (frames_of (slot_after list script history) chosen) (below k)) carried
 
-pub AreSent-none : {list : Medl} {script : Script} {slot : ℕ} {chosen : List Chosen} {seats : List Seat}
-    {carried : Carried} → medium.StandsAtBeginning carried slot → AreSent list script slot chosen 0 seats seats carried
-AreSent-none {list = list} {script = script} {seats = seats} {carried = carried} begins = record {
-  passed = ArePassed-none seats seats (omega arith);
-  carries = λ history long begun.
-      let clock = λ (p : ℕ). (node_of (slot_after list script history) p).clock in
-      subst (λ (t : ℕ). medium.StandsFor carried script t [] clock) (sym long) (begins script clock);
-}
+module _ {list : Medl} {script : Script} {slot : ℕ} {chosen : List Chosen} where
+  pub AreSent-none : {seats : List Seat} {carried : Carried} → medium.StandsAtBeginning carried slot
+      → AreSent list script slot chosen 0 seats seats carried
+  AreSent-none {seats = seats} {carried = carried} begins = record {
+    passed = ArePassed-none seats seats (omega arith);
+    carries = λ history long begun.
+        let clock = λ (p : ℕ). (node_of (slot_after list script history) p).clock in
+        subst (λ (t : ℕ). medium.StandsFor carried script t [] clock) (sym long) (begins script clock);
+  }
 
-pub AreSent-more : {list : Medl} {script : Script} {slot : ℕ} {chosen : List Chosen} {k : ℕ} {old new : List Seat}
-    {before after : Carried} {message : Chosen} {planned : Seat} (d : Seat)
-    → AreSent list script slot chosen k old new before → k < length old → message ≡ chosen_of chosen k
-    → IsPlannedFrom (get_or new k d) planned → PlansIn list script k message (get_or new k d) planned
-    → PutsFrames list script k (get_or new k d) message before after
-    → AreSent list script slot chosen (k + 1) old (set new k planned) after
-AreSent-more {list = list} {script = script} {chosen = chosen} {k = k} {new = new} {before = before} {after = after}
-    {planned = planned} d sent within is by plans puts =
-    let seat = get_or new k d in
-    record {
-      passed = ArePassed-more d sent.passed within
-          (by, subst (λ (m : Chosen). PlansIn list script k m seat planned) is plans);
-      carries = λ history long begun.
-          let s = slot_after list script history in
-          subst (λ (frames : List SentFrame). Carries s frames after) (sym (flat_map-next (frames_of s chosen) k))
-          (subst (λ (m : Chosen). PutsFrames list script k seat m before after) is puts history _
-          (each-of begun k (ArePassed-coming d sent.passed within)) (sent.carries history long begun));
-    }
+  pub AreSent-more : {k : ℕ} {old new : List Seat} {before after : Carried} {message : Chosen} {planned : Seat}
+      (d : Seat) → AreSent list script slot chosen k old new before → k < length old → message ≡ chosen_of chosen k
+      → IsPlannedFrom (get_or new k d) planned → PlansIn list script k message (get_or new k d) planned
+      → PutsFrames list script k (get_or new k d) message before after
+      → AreSent list script slot chosen (k + 1) old (set new k planned) after
+  AreSent-more {k = k} {new = new} {before = before} {after = after} {planned = planned} d sent within is by plans
+      puts =
+      let seat = get_or new k d in
+      record {
+        passed = ArePassed-more sent.passed d within
+            (by, subst (λ (m : Chosen). PlansIn list script k m seat planned) is plans);
+        carries = λ history long begun.
+            let s = slot_after list script history in
+            subst (λ (frames : List SentFrame). Carries s frames after) (sym (flat_map-next (frames_of s chosen) k))
+            (subst (λ (m : Chosen). PutsFrames list script k seat m before after) is puts history _
+            (each-of begun k (ArePassed-coming sent.passed d within)) (sent.carries history long begun));
+      }
 
--- the medium is in that slot
-pub AreSent-slot : {list : Medl} {script : Script} {slot : ℕ} {chosen : List Chosen} {k : ℕ} {old new : List Seat}
-    {carried : Carried}
-    → AreSent list script slot chosen k old new carried → MayPlan list script slot old chosen → carried.slot ≡ slot
-AreSent-slot sent may = (sent.carries may.history may.slot_is may.begun).slot ∙ may.slot_is
+  -- the medium is in that slot
+  pub AreSent-slot : {k : ℕ} {old new : List Seat} {carried : Carried}
+      → AreSent list script slot chosen k old new carried → MayPlan list script slot old chosen → carried.slot ≡ slot
+  AreSent-slot sent may = (sent.carries may.history may.slot_is may.begun).slot ∙ may.slot_is
 
--- When all have planned, what is on the medium was sent by nodes whose clocks are near 0.
-pub AreSent-near : {list : Medl} {script : Script} {slot bound : ℕ} {chosen : List Chosen} {n : ℕ}
-    {old new : List Seat} {carried : Carried}
-    → AreSent list script slot chosen n old new carried → n ≡ length list.slots → MayPlan list script slot old chosen
-    → AreSeats list IsBegun bound 0 old → IsFromWithin carried script bound
-AreSent-near {list = list} {script = script} {bound = bound} {chosen = chosen} {n = n} {carried = carried} sent
-    are_nodes may seats =
-    let s = slot_after list script may.history in
-    let stands = sent.carries may.history may.slot_is may.begun in
-    let frames = flat_map (frames_of s chosen) (below n) in
-    let clock = λ (p : ℕ). (node_of s p).clock in
-    let near = λ (z : ℤ). unsigned_abs z ≤ bound in
-    record {
-      frames = frames;
-      clock = clock;
-      stands = subst (λ (t : ℕ). medium.StandsFor carried script t frames clock) (sym stands.slot) stands;
-      near = λ p. ⊎_elim (λ (less : p < n).
-          let at = sent.passed.done p less in
-          subst near
-          (clock-node list script may.history p (omega (arith, are_nodes)) (each-of may.begun p at.was))
-          (each-of seats p at.was).clock)
-          (λ (beyond : n ≤ p).
-          let count = length-map-range_with_len (node_after list script may.history) 0 (length list.slots) in
-          let nobody = get_or_past s.nodes p (no_node list) (omega (arith, are_nodes, count)) in
-          subst near (ap (λ (b : BegunNode). b.clock) (sym nobody)) (omega arith)) (cases_lt p n);
-    }
+  -- when all have planned, what is on the medium was sent by nodes whose clocks are near 0
+  pub AreSent-near : {bound n : ℕ} {old new : List Seat} {carried : Carried}
+      → AreSent list script slot chosen n old new carried → n ≡ length list.slots
+      → MayPlan list script slot old chosen → AreSeats list IsBegun bound 0 old → IsFromWithin carried script bound
+  AreSent-near {bound = bound} {n = n} {carried = carried} sent are_nodes may seats =
+      let s = slot_after list script may.history in
+      let stands = sent.carries may.history may.slot_is may.begun in
+      let frames = flat_map (frames_of s chosen) (below n) in
+      let clock = λ (p : ℕ). (node_of s p).clock in
+      let near = λ (z : ℤ). unsigned_abs z ≤ bound in
+      record {
+        frames = frames;
+        clock = clock;
+        stands = subst (λ (t : ℕ). medium.StandsFor carried script t frames clock) (sym stands.slot) stands;
+        near = λ p. ⊎_elim (λ (less : p < n).
+            let at = sent.passed.done p less in
+            subst near
+            (clock-node list script may.history p (omega (arith, are_nodes)) (each-of may.begun p at.was))
+            (each-of seats p at.was).clock)
+            (λ (beyond : n ≤ p).
+            let count = length-map-range_with_len (node_after list script may.history) 0 (length list.slots) in
+            let nobody = get_or_past s.nodes p (no_node list) (omega (arith, are_nodes, count)) in
+            subst near (ap (λ (b : BegunNode). b.clock) (sym nobody)) (omega arith)) (cases_lt p n);
+      }

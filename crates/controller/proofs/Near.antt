@@ -126,45 +126,41 @@ shown-near (Bits sender sent) arrival.Noise clock bound shows near = absurd show
 shown-near (Bits sender sent) (arrival.Bits bytes offset) clock bound shows near =
     subst (λ (z : ℤ). unsigned_abs z ≤ bound) (sym shows.1) (near sender)
 
-heard-near : {carried : Carried} {script : Script} {bound : ℕ} (k : ℕ) (c : Channel) (came : Arrival)
-    → IsFromWithin carried script bound → medium.ShowsHeard carried script k c came
-    → unsigned_abs (offset_of_arrival came) ≤ bound
-heard-near {carried = carried} {script = script} {bound = bound} k c came from shows =
-    shown-near (heard script carried.slot k c from.frames) came from.clock bound
-    (shows carried.slot from.frames from.clock from.stands) from.near
+-- So all that a controller is to add up fits, and its clock stays near 0.
+module _ {carried : Carried} {script : Script} {list : Medl} {k : ℕ} {seat : Seat} {error drift : ℤ}
+    (valid : IsValid list) (from : IsFromWithin carried script (most_ahead_in carried.slot))
+    (of : IsSeatOf list IsPlanned (most_ahead_in carried.slot) k seat)
+    (handed : AreHanded script carried.slot k error drift) where
+  heard-near : (c : Channel) (came : Arrival) → medium.ShowsHeard carried script k c came
+      → unsigned_abs (offset_of_arrival came) ≤ most_ahead_in carried.slot
+  heard-near c came shows =
+      shown-near (heard script carried.slot k c from.frames) came from.clock (most_ahead_in carried.slot)
+      (shows carried.slot from.frames from.clock from.stands) from.near
 
-window-small : {list : Medl} (seat : Seat) → IsValid list → seat.list ≡ list
-    → unsigned_abs seat.list.window ≤ 1000000
-window-small {list = list} seat valid is =
-    subst (λ (l : Medl). unsigned_abs l.window ≤ 1000000) (sym is)
-    (omega (arith, ints, valid.window.0, valid.window.1))
+  window-small : unsigned_abs seat.list.window ≤ 1000000
+  window-small =
+      subst (λ (l : Medl). unsigned_abs l.window ≤ 1000000) (sym of.list)
+      (omega (arith, ints, valid.window.0, valid.window.1))
 
--- so all that it is to add up fits
-pub arrival_fits : {carried : Carried} {script : Script} {list : Medl} {k : ℕ} {seat : Seat} {error drift : ℤ}
-    (c : Channel) (came : Arrival) → IsValid list → carried.slot < SLOT_LIMIT
-    → IsSeatOf list IsPlanned (most_ahead_in carried.slot) k seat
-    → IsFromWithin carried script (most_ahead_in carried.slot) → AreHanded script carried.slot k error drift
-    → medium.ShowsHeard carried script k c came → ArrivalFits seat.list (seat_clock seat) came error drift
-arrival_fits {k = k} {seat = seat} c came valid early of from handed shows =
-    let near = heard-near k c came from shows in
-    let window = window-small seat valid of.list in
-    omega (arith, of.clock, near, handed.few_error, handed.few_drift, window)
+  pub arrival_fits : (c : Channel) (came : Arrival) → carried.slot < SLOT_LIMIT
+      → medium.ShowsHeard carried script k c came → ArrivalFits seat.list (seat_clock seat) came error drift
+  arrival_fits c came early shows =
+      let near = heard-near c came shows in
+      let window = window-small in
+      omega (arith, of.clock, near, handed.few_error, handed.few_drift, window)
 
--- and its clock stays near 0
-pub ended-seat : {carried : Carried} {script : Script} {list : Medl} {k : ℕ} {old new : Seat} {error drift : ℤ}
-    (a b : Arrival) → IsValid list → IsSeatOf list IsPlanned (most_ahead_in carried.slot) k old
-    → IsFromWithin carried script (most_ahead_in carried.slot) → AreHanded script carried.slot k error drift
-    → medium.ShowsHeard carried script k channel.A a → medium.ShowsHeard carried script k channel.B b
-    → IsSameSeat old new → StaysNear new.past.offset old a b error drift → new.turn ≡ Ended
-    → IsSeatOf list IsEnded (most_ahead (carried.slot + 1)) k new
-ended-seat {k = k} {old = old} {new = new} a b valid of from handed on_a on_b same near turn =
-    let own = ap unsigned_abs (ended-clock new turn) in
-    let near_a = heard-near k channel.A a from on_a in
-    let near_b = heard-near k channel.B b from on_b in
-    let window = window-small old valid of.list in
-    record {
-      list = same.list ∙ of.list;
-      node = same.node ∙ of.node;
-      turn = turn;
-      clock = omega (arith, own, of.clock, near_a, near_b, handed.few_error, handed.few_drift, window, near);
-    }
+  pub ended-seat : {new : Seat} (a b : Arrival) → medium.ShowsHeard carried script k channel.A a
+      → medium.ShowsHeard carried script k channel.B b → IsSameSeat seat new
+      → StaysNear new.past.offset seat a b error drift → new.turn ≡ Ended
+      → IsSeatOf list IsEnded (most_ahead (carried.slot + 1)) k new
+  ended-seat {new = new} a b on_a on_b same near turn =
+      let own = ap unsigned_abs (ended-clock new turn) in
+      let near_a = heard-near channel.A a on_a in
+      let near_b = heard-near channel.B b on_b in
+      let window = window-small in
+      record {
+        list = same.list ∙ of.list;
+        node = same.node ∙ of.node;
+        turn = turn;
+        clock = omega (arith, own, of.clock, near_a, near_b, handed.few_error, handed.few_drift, window, near);
+      }

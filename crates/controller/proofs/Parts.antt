@@ -43,71 +43,70 @@ pub ArePassed-none : {X Z : Type 0} {R : ℕ → X → X → Z → Type 0} (xs :
 ArePassed-none xs out room =
     record { count = refl; room = room; done = λ k less. absurd (omega arith); rest = λ k _. refl }
 
--- what an element that is still to come was
-pub ArePassed-coming : {X Z : Type 0} {R : ℕ → X → X → Z → Type 0} {i : ℕ} {old new : List X} {out : List Z} (d : X)
-    → ArePassed R i old new out → i < length old → slice_get old i ≡ Some (get_or new i d)
-ArePassed-coming {i = i} {new = new} d passed within =
-    sym (passed.rest i (omega arith)) ∙ slice_get-get_or new i d (omega (arith, passed.count))
+-- After a pass over the first of them.
+module _ {X Z : Type 0} {R : ℕ → X → X → Z → Type 0} {i : ℕ} {old new : List X} {out : List Z}
+    (passed : ArePassed R i old new out) where
+  -- what an element that is still to come was
+  pub ArePassed-coming : (d : X) → i < length old → slice_get old i ≡ Some (get_or new i d)
+  ArePassed-coming d within =
+      sym (passed.rest i (omega arith)) ∙ slice_get-get_or new i d (omega (arith, passed.count))
 
--- one element more
-pub ArePassed-more : {X Z : Type 0} {R : ℕ → X → X → Z → Type 0} {i : ℕ} {old new : List X} {out : List Z} {y : X}
-    {z : Z} (d : X) → ArePassed R i old new out → i < length old → R i (get_or new i d) y z
-    → ArePassed R (i + 1) old (set new i y) (set out i z)
-ArePassed-more {R = R} {i = i} {old = old} {new = new} {out = out} {y = y} {z = z} d passed within by = record {
-  count = length-set new i y ∙ passed.count;
-  room = omega (arith, length-set out i z, passed.room);
-  done = below_more (λ k. IsPassed R k old (set new i y) (set out i z)) i (λ k earlier.
-      let at = passed.done k earlier in record {
-        before = at.before;
-        after = at.after;
-        left = at.left;
-        was = at.was;
-        by = at.by;
-        is = slice_get-set_other new i k y (omega arith) ∙ at.is;
-        leaves = slice_get-set_other out i k z (omega arith) ∙ at.leaves;
-      }) (record {
-        before = get_or new i d;
-        after = y;
-        left = z;
-        was = ArePassed-coming d passed within;
-        is = slice_get-set_same new i y (omega (arith, passed.count));
-        leaves = slice_get-set_same out i z (omega (arith, passed.room));
-        by = by;
-      });
-  rest = λ k later. slice_get-set_other new i k y (omega arith) ∙ passed.rest k (omega arith);
-}
+  -- one element more
+  pub ArePassed-more : {y : X} {z : Z} (d : X) → i < length old → R i (get_or new i d) y z
+      → ArePassed R (i + 1) old (set new i y) (set out i z)
+  ArePassed-more {y = y} {z = z} d within by = record {
+    count = length-set new i y ∙ passed.count;
+    room = omega (arith, length-set out i z, passed.room);
+    done = below_more (λ k. IsPassed R k old (set new i y) (set out i z)) i (λ k earlier.
+        let at = passed.done k earlier in record {
+          before = at.before;
+          after = at.after;
+          left = at.left;
+          was = at.was;
+          by = at.by;
+          is = slice_get-set_other new i k y (omega arith) ∙ at.is;
+          leaves = slice_get-set_other out i k z (omega arith) ∙ at.leaves;
+        }) (record {
+          before = get_or new i d;
+          after = y;
+          left = z;
+          was = ArePassed-coming d within;
+          is = slice_get-set_same new i y (omega (arith, passed.count));
+          leaves = slice_get-set_same out i z (omega (arith, passed.room));
+          by = by;
+        });
+    rest = λ k later. slice_get-set_other new i k y (omega arith) ∙ passed.rest k (omega arith);
+  }
 
--- What follows of each element that was written, or of what it left, holds of the whole part.
+  -- When all were written, what follows of each, or of what it left, holds of the whole part.
 
-pub each-new : {X Z : Type 0} {R : ℕ → X → X → Z → Type 0} {i first : ℕ} {old new : List X} {out : List Z}
-    {P Q : ℕ → X → Type 0} → ArePassed R i old new out → length old ≤ i → EachFrom first P old
-    → ((j : ℕ) (x y : X) (z : Z) → R j x y z → P (first + j) x → Q (first + j) y) → EachFrom first Q new
-each-new {first = first} {new = new} {Q = Q} passed all was step = record {
-  each = λ j y here.
-      let at = passed.done j (omega (arith, slice_get_within new j y here, passed.count)) in
-      subst (Q (first + j)) (same_Some _ _ (sym at.is ∙ here))
-      (step j at.before at.after at.left at.by (was.each j at.before at.was));
-}
+  pub each-new : {first : ℕ} {P Q : ℕ → X → Type 0} → length old ≤ i → EachFrom first P old
+      → ((j : ℕ) (x y : X) (z : Z) → R j x y z → P (first + j) x → Q (first + j) y) → EachFrom first Q new
+  each-new {first = first} {Q = Q} all was step = record {
+    each = λ j y here.
+        let at = passed.done j (omega (arith, slice_get_within new j y here, passed.count)) in
+        subst (Q (first + j)) (same_Some _ _ (sym at.is ∙ here))
+        (step j at.before at.after at.left at.by (was.each j at.before at.was));
+  }
 
--- where the part begins with node 0
-pub all-new : {X Z : Type 0} {R : ℕ → X → X → Z → Type 0} {i : ℕ} {old new : List X} {out : List Z}
-    {P Q : ℕ → X → Type 0} → ArePassed R i old new out → length old ≤ i → EachFrom 0 P old
-    → ((j : ℕ) (x y : X) (z : Z) → R j x y z → P j x → Q j y) → EachFrom 0 Q new
-all-new {P = P} {Q = Q} passed all was step =
-    each-new passed all was (λ j x y z by. let at : j ≡ 0 + j = omega arith in
-    subst (λ (n : ℕ). P n x → Q n y) at (step j x y z by))
+  -- where the part begins with node 0
+  pub all-new : {P Q : ℕ → X → Type 0} → length old ≤ i → EachFrom 0 P old
+      → ((j : ℕ) (x y : X) (z : Z) → R j x y z → P j x → Q j y) → EachFrom 0 Q new
+  all-new {P = P} {Q = Q} all was step =
+      each-new all was (λ j x y z by. let at : j ≡ 0 + j = omega arith in
+      subst (λ (n : ℕ). P n x → Q n y) at (step j x y z by))
 
-pub each-left : {X Z : Type 0} {R : ℕ → X → X → Z → Type 0} {i first : ℕ} {old new : List X} {out : List Z}
-    {P : ℕ → X → Type 0} {Q : ℕ → Z → Type 0} → ArePassed R i old new out → length old ≤ i → length out ≡ length old
-    → EachFrom first P old → ((j : ℕ) (x y : X) (z : Z) → R j x y z → P (first + j) x → Q (first + j) z)
-    → EachFrom first Q out
-each-left {first = first} {out = out} {Q = Q} passed all count was step = record {
-  each = λ j z here.
-      let at = passed.done j (omega (arith, slice_get_within out j z here)) in
-      subst (Q (first + j)) (same_Some _ _ (sym at.leaves ∙ here))
-      (step j at.before at.after at.left at.by (was.each j at.before at.was));
-}
+  pub each-left : {first : ℕ} {P : ℕ → X → Type 0} {Q : ℕ → Z → Type 0} → length old ≤ i → length out ≡ length old
+      → EachFrom first P old → ((j : ℕ) (x y : X) (z : Z) → R j x y z → P (first + j) x → Q (first + j) z)
+      → EachFrom first Q out
+  each-left {first = first} {Q = Q} all count was step = record {
+    each = λ j z here.
+        let at = passed.done j (omega (arith, slice_get_within out j z here)) in
+        subst (Q (first + j)) (same_Some _ _ (sym at.leaves ∙ here))
+        (step j at.before at.after at.left at.by (was.each j at.before at.was));
+  }
 
+-- What holds of each element holds of the one at a place of a part that begins with node 0.
 pub each-of : {X : Type 0} {P : ℕ → X → Type 0} {xs : List X} {x : X} → EachFrom 0 P xs → (k : ℕ)
     → slice_get xs k ≡ Some x → P k x
 each-of {P = P} {x = x} all k here = subst (λ (n : ℕ). P n x) (omega arith) (all.each k x here)

@@ -8,11 +8,11 @@ loop-j-init c = ArePassed-none c.args.controllers.now c.args.incidents.now (omeg
 pub begin_one-requires-clause-seat : goal.begin_one-requires-clause-seat
 begin_one-requires-clause-seat c =
     c.requires.seats.each c.loop-j.j _
-    (ArePassed-coming c.index-controllers-j.result c.loop-j.invariant (omega arith))
+    (ArePassed-coming c.loop-j.invariant c.index-controllers-j.result (omega arith))
 
 pub loop-j-preserved : goal.loop-j-preserved
 loop-j-preserved c =
-    ArePassed-more c.index-controllers-j.result c.loop-j.invariant (omega arith)
+    ArePassed-more c.loop-j.invariant c.index-controllers-j.result (omega arith)
     (c.begin_one.ensures.incidents, c.begin_one.ensures.seat, c.begin_one.ensures.begins)
 
 pub returns-clause-incidents : goal.returns-clause-incidents

@@ -18,19 +18,19 @@ loop-k-init c = AreSent-none c.begin.ensures
 pub send_one-requires-clause-list : goal.send_one-requires-clause-list
 send_one-requires-clause-list c =
     sym (each-of c.requires.seats c.loop-k.k
-    (ArePassed-coming c.index-controllers-k.result c.loop-k.invariant.passed (omega arith))).list
+    (ArePassed-coming c.loop-k.invariant.passed c.index-controllers-k.result (omega arith))).list
 
 pub send_one-requires-clause-turn : goal.send_one-requires-clause-turn
 send_one-requires-clause-turn c =
     (each-of c.requires.seats c.loop-k.k
-    (ArePassed-coming c.index-controllers-k.result c.loop-k.invariant.passed (omega arith))).turn
+    (ArePassed-coming c.loop-k.invariant.passed c.index-controllers-k.result (omega arith))).turn
 
 pub send_one-requires-clause-payload : goal.send_one-requires-clause-payload
 send_one-requires-clause-payload c =
     payload-node c.args.chosen.now (get_or_read c.args.chosen.now c.loop-k.k c.index-chosen-k.result
     (omega (arith, c.requires.count, c.requires.nodes)) c.index-chosen-k.is nothing_chosen)
     (omega (arith, c.requires.nodes)) (each-of c.requires.chosen.begun c.loop-k.k
-    (ArePassed-coming c.index-controllers-k.result c.loop-k.invariant.passed (omega arith)))
+    (ArePassed-coming c.loop-k.invariant.passed c.index-controllers-k.result (omega arith)))
     c.requires.chosen.chosen_are
 
 pub send_one-requires-clause-incidents : goal.send_one-requires-clause-incidents

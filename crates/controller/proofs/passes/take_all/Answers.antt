@@ -9,7 +9,7 @@ loop-j-init c = ArePassed-none c.args.controllers.now c.args.outcomes.now (omega
 pub take_one-requires-clause-seat : goal.take_one-requires-clause-seat
 take_one-requires-clause-seat c =
     c.requires.seats.each c.loop-j.j _
-    (ArePassed-coming c.index-controllers-j.result c.loop-j.invariant (omega arith))
+    (ArePassed-coming c.loop-j.invariant c.index-controllers-j.result (omega arith))
 
 pub take_one-requires-clause-incidents : goal.take_one-requires-clause-incidents
 take_one-requires-clause-incidents c =
@@ -18,7 +18,7 @@ take_one-requires-clause-incidents c =
 
 pub loop-j-preserved : goal.loop-j-preserved
 loop-j-preserved c =
-    ArePassed-more c.index-controllers-j.result c.loop-j.invariant (omega arith)
+    ArePassed-more c.loop-j.invariant c.index-controllers-j.result (omega arith)
     (c.take_one.ensures.seat, c.take_one.ensures.ends)
 
 pub returns-clause-seats : goal.returns-clause-seats

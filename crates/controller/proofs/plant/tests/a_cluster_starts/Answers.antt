@@ -19,8 +19,8 @@ slot-requires-clause-chosen g c =
       stands = invariant.stands;
       chosen_are = λ k node loaded.
           let slots = ap (λ (l : Medl). length l.slots) invariant.list in
-          ap length (All-get_or (λ (m : Chosen). m.payload ≡ []) c.nothing_for_all.result k nothing_chosen
-          (omega (arith, slots, c.in_ok-list.ensures.slots)) c.nothing_for_all.ensures)
+          ap length (All-get_or (λ (m : Chosen). m.payload ≡ []) c.nothing_for_all-chosen.result k nothing_chosen
+          (omega (arith, slots, c.in_ok-list.ensures.slots)) c.nothing_for_all-chosen.ensures)
           ∙ sym (ap (λ (l : Medl). (plan_at l k).payload) invariant.list ∙ c.in_ok-list.ensures.bare k);
     }
 
