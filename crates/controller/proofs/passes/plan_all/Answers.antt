@@ -1,4 +1,4 @@
-use Rattle.std.proofs.Common.{◌≡◌, ℕ, length, sym, subst, arith}
+use Rattle.std.proofs.Common.{◌≡◌, ℕ, length, subst, arith}
 use Rattle.std.specs.List.{flat_map}
 use Rattle.std.proofs.lemmas.List.{get_or_read}
 use Rattle.std.proofs.lemmas.Option.{slice_get-get_or}
@@ -15,15 +15,10 @@ use Rattle.controller.proofs.passes.plan_all.Goals as goal
 pub loop-k-init : goal.loop-k-init
 loop-k-init c = AreSent-none c.begin.ensures
 
-pub send_one-requires-clause-list : goal.send_one-requires-clause-list
-send_one-requires-clause-list c =
-    sym (each-of c.requires.seats c.loop-k.k
-    (ArePassed-coming c.loop-k.invariant.passed c.index-controllers-k.result (omega arith))).list
-
-pub send_one-requires-clause-turn : goal.send_one-requires-clause-turn
-send_one-requires-clause-turn c =
-    (each-of c.requires.seats c.loop-k.k
-    (ArePassed-coming c.loop-k.invariant.passed c.index-controllers-k.result (omega arith))).turn
+pub send_one-requires-clause-seat : goal.send_one-requires-clause-seat
+send_one-requires-clause-seat c =
+    rw (AreSent-slot c.loop-k.invariant c.requires.chosen) (each-of c.requires.seats c.loop-k.k
+    (ArePassed-coming c.loop-k.invariant.passed c.index-controllers-k.result (omega arith)))
 
 pub send_one-requires-clause-payload : goal.send_one-requires-clause-payload
 send_one-requires-clause-payload c =
