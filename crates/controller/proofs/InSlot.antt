@@ -1,216 +1,310 @@
--- A controller in a slot of the world: what it stands for at each turn is node k of the slot after the history.
-use Rattle.std.proofs.Common.{◌≡◌, ℕ, ◌<◌, ◌≤◌, ℤ, ◌+ℤ◌, Bool, true, false, cond, List, ◌∷◌, length, min, Option}
-use Rattle.std.proofs.Common.{is_some}
-use Rattle.std.proofs.Common.{refl, ap, sym, ◌∙◌, subst}
-use Rattle.std.proofs.lemmas.List.{length-map}
+-- Controllers in a slot of the world: what each stands for at each turn is its node of the slot after the history, and
+-- what they send in the second pass is on the medium.
+use Rattle.std.proofs.Common.{◌≡◌, ℕ, ◌<◌, ◌≤◌, ℤ, ◌+ℤ◌, Bool, true, false, cond, List, [], ◌∷◌, length, min, Option}
+use Rattle.std.proofs.Common.{is_some, refl, ap, sym, ◌∙◌, subst, arith, ◌+◌, get_or, set, unsigned_abs, ⊎_elim}
+use Rattle.std.specs.List.{flat_map}
+use Rattle.std.proofs.lemmas.Bool.{cases_lt}
+use Rattle.std.proofs.lemmas.List.{length-map, get_or_past}
+use Rattle.std.proofs.lemmas.List.FromFn.{length-map-range_with_len}
+use Rattle.ttp_base.specs.NodeSet.{below}
+use Rattle.ttp_base.proofs.Below.{flat_map-next}
 use Rattle.ttp_world.specs.declared.medl.Medl.{Medl}
 use Rattle.ttp_world.specs.declared.node.Act.{Act}
-use Rattle.ttp_world.specs.declared.node.Act.TheVariants.{Off, Gone, Listen, Start, Retry, Leave, Send, Judge}
+use Rattle.ttp_world.specs.declared.node.Act.TheVariants.{Send}
 use Rattle.ttp_world.specs.declared.node.Chosen.{Chosen}
 use Rattle.ttp_world.specs.declared.node.Entry.{Entry}
 use Rattle.ttp_world.specs.declared.script.Channel.{Channel}
 use Rattle.ttp_world.specs.declared.script.Channel.TheVariants as channel
 use Rattle.ttp_world.specs.declared.script.Script.{Script}
+use Rattle.ttp_world.specs.declared.script.TheConstants.{SLOT_LIMIT}
 use Rattle.ttp_world.specs.Act.{act, coming_place}
 use Rattle.ttp_world.specs.Conduct.{carries_payload, new_entry, delivery, node_frames}
-use Rattle.ttp_world.specs.Diary.{History, diary_of, entry_of}
-use Rattle.ttp_world.specs.Medium.{heard, surroundings_in, surroundings_of}
+use Rattle.ttp_world.specs.Diary.{Diary, History, Surroundings, diary_of, entry_of}
+use Rattle.ttp_world.specs.Medium.{heard, surroundings_in, surroundings_of, SentFrame}
 use Rattle.ttp_world.specs.Medl.{plan_at}
 use Rattle.ttp_world.specs.Messages.{status_words}
 use Rattle.ttp_world.specs.Past.{NodePast, past_of}
-use Rattle.ttp_world.specs.Script.{is_on, is_armed, jump_of, drift_of, reading_error}
-use Rattle.ttp_world.specs.World.{BegunNode, BegunSlot, jump_taken, node_of, slot_after, chosen_of}
-use Rattle.ttp_world.specs.World.{sends_payload, is_loaded, frames_in, hearing_in, row_in}
+use Rattle.ttp_world.specs.Script.{is_on, is_armed, jump_of, reading_error}
+use Rattle.ttp_world.specs.World.{BegunNode, BegunSlot, jump_taken, node_of, slot_after, chosen_of, sends_payload}
+use Rattle.ttp_world.specs.World.{frames_in, hearing_in, row_in, node_after, no_node, frames_of}
 use Rattle.ttp_world.proofs.Silences.{is_silent_to-row_in}
 use Rattle.ttp_world.proofs.Slots.{node_of-slot_after, entry_of-row_in}
 use Rattle.medium.specs.declared.arrival.Arrival.{Arrival}
-use Rattle.medium.specs.Shows.{Shows}
+use Rattle.medium.specs.Carried.{Carried}
+use Rattle.medium.specs.StandsFor as medium
 use Rattle.controller.specs.declared.controller.Intent.{Intent}
 use Rattle.controller.specs.declared.controller.Intent.TheVariants as intent
 use Rattle.controller.specs.declared.controller.Outcome.{Outcome}
 use Rattle.controller.specs.Hearing.{hearing_of}
-use Rattle.controller.specs.Limits.{intent_by, seat_clock, seat_intent, turn_intent, turn_jump}
+use Rattle.controller.specs.Limits.{intent_by, loaded_length, seat_clock, seat_intent, turn_intent, turn_jump, IsBegun}
 use Rattle.controller.specs.Kept.{kept}
 use Rattle.controller.specs.Passes.{StandsAfter, StandsForNode, jump_begun, HasBegun, HasPlanned, frames_by, IsLeft}
-use Rattle.controller.specs.Passes.{AreChosen, IsPayloadFor, delivered_at, payload_handed}
+use Rattle.controller.specs.Passes.{AreChosen, Carries, IsPayloadFor, payload_handed, HaveBegun, MayPlan}
+use Rattle.controller.specs.Passes.{IsPlannedFrom, PlansIn, PutsFrames}
 use Rattle.controller.specs.StandsFor.{Stands, IsSameSeat, Begins, Plans, Ends, seat_past, frames_planned, most_slots}
-use Rattle.controller.specs.StandsFor.{message_planned, clock_begun}
+use Rattle.controller.specs.StandsFor.{message_planned, payload_planned, clock_begun}
 use Rattle.controller.specs.Turn.{Turn, Ended, Begun, Planned, Seat}
-use Rattle.controller.proofs.Payloads.{payload_planned-handed, intent_by-kept}
+use Rattle.controller.specs.PlantWithin.{AreSeats, IsFromWithin}
+use Rattle.controller.proofs.Near.{AreHanded}
+use Rattle.controller.proofs.Parts.{ArePassed, ArePassed-none, ArePassed-more, ArePassed-coming, each-of}
 
--- Node k's past in the slot after a history is what is read of its diary.
+-- What a node sends.
 
-length-diary_of : (history : History) (k : ℕ) → length (diary_of history k) ≡ length history
-length-diary_of history k = length-map history (λ row. entry_of row k)
+-- the payload that is handed to a node is as long as it asks for, where that which is chosen for a frame that carries
+-- payload is as long as the list says
+pub length-payload_handed : (list : Medl) (k : ℕ) (wanted : Intent) (chosen : Chosen)
+    → (wanted ≡ intent.Loaded → length chosen.payload ≡ loaded_length list k intent.Loaded)
+    → length (payload_handed wanted chosen) ≡ loaded_length list k wanted
+length-payload_handed list k intent.Loaded chosen whole = whole refl
+length-payload_handed list k _ chosen whole = refl
 
-past-node : (list : Medl) (script : Script) (history : History) (k : ℕ) (seat : Seat) → k < length list.slots
-    → seat.list ≡ list → seat.node ≡ k
-    → seat_past seat (diary_of history k) (surroundings_of script history k)
-    ≡ (node_of (slot_after list script history) k).past
-past-node list script history k seat node list_is node_is =
-    (λ i. past_of (list_is i) (node_is i) (diary_of history k) (surroundings_of script history k))
-    ∙ ap (λ (n : BegunNode). n.past) (sym (node_of-slot_after list script history k node))
+-- what is kept of a past says the same of it
+intent_by-kept : (list : Medl) (past : NodePast) (a : Act) → intent_by list (kept past) a ≡ intent_by list past a
+intent_by-kept list past Send = refl
+intent_by-kept list past _ = refl
 
--- So what a controller stands for may be told by the diary and by the slot.
+-- the payload is the one that the node's frame carries
 
-stands-node : (list : Medl) (script : Script) (history : History) (k : ℕ) (seat : Seat) (now there : Turn)
-    → k < length list.slots → seat.list ≡ list → seat.node ≡ k → now ≡ there
-    → Stands seat (diary_of history k) (surroundings_of script history k) now
-    → StandsForNode (slot_after list script history) k there seat
-stands-node list script history k seat now there node list_is node_is same stands = record {
-  list = list_is;
-  node = node_is;
-  past = stands.past ∙ ap kept (past-node list script history k seat node list_is node_is);
-  slots = stands.slots ∙ ap (λ n. min n most_slots) (length-diary_of history k);
-  turn = stands.turn ∙ same;
-}
+carried_or : (carries : Bool) (chosen : Chosen)
+    → cond carries chosen.payload [] ≡ payload_handed (cond carries intent.Loaded intent.Bare) chosen
+carried_or true chosen = refl
+carried_or false chosen = refl
 
-node-stands : (list : Medl) (script : Script) (history : History) (k : ℕ) (seat : Seat) (now there : Turn)
-    → k < length list.slots → now ≡ there → StandsForNode (slot_after list script history) k now seat
-    → Stands seat (diary_of history k) (surroundings_of script history k) there
-node-stands list script history k seat now there node same stands = record {
-  past = stands.past ∙ ap kept (sym (past-node list script history k seat node stands.list stands.node));
-  slots = stands.slots ∙ ap (λ n. min n most_slots) (sym (length-diary_of history k));
-  turn = stands.turn ∙ same;
-}
+payload_by-intent : (list : Medl) (past : NodePast) (chosen : Chosen) (a : Act)
+    → payload_planned list past chosen a ≡ payload_handed (intent_by list past a) chosen
+payload_by-intent list past chosen Send = carried_or (carries_payload list (coming_place list past)) chosen
+payload_by-intent list past chosen _ = refl
 
--- The beginning.
-
-pub begun-node : (list : Medl) (script : Script) (history : History) (k : ℕ) (old new : Seat) → k < length list.slots
-    → old.list ≡ list → old.node ≡ k → IsSameSeat old new
-    → Begins old new (is_on script k (length history)) (is_armed script k (length history))
-    (jump_of script k (length history))
-    → StandsAfter script history k old → HasBegun (slot_after list script history) k new
-begun-node list script history k old new node list_is node_is same begins stands =
-    let diary = diary_of history k in
-    let surroundings = surroundings_of script history k in
-    let slot = length history in
-    let turn_of = λ (does : Act). Begun does (jump_taken does (jump_of script k slot)) in
-    stands-node list script history k new _ _ node (same.list ∙ list_is) (same.node ∙ node_is)
-    ((λ i. turn_of (act (list_is i) (node_is i) (is_on script k slot) (is_armed script k slot)
-    (past_of (list_is i) (node_is i) diary surroundings)))
-    ∙ ap (λ (n : BegunNode). turn_of n.act) (sym (node_of-slot_after list script history k node)))
-    (begins diary surroundings stands)
-
--- the clock of a node is what its past tells, with the slot's jump
-offset-node : (list : Medl) (script : Script) (history : History) (k : ℕ) → k < length list.slots →
-    let s = slot_after list script history in
-    clock_begun (node_of s k).past (jump_begun s k) ≡ (node_of s k).clock
-offset-node list script history k node =
-    let is = node_of-slot_after list script history k node in
-    ap (λ (n : BegunNode). n.past.offset +ℤ jump_taken n.act (jump_of script k (length history))) is
-    ∙ ap (λ (n : BegunNode). n.clock) (sym is)
-
--- so a controller's clock is its node's
-pub clock-node : (list : Medl) (script : Script) (history : History) (k : ℕ) (seat : Seat) → k < length list.slots
-    → HasBegun (slot_after list script history) k seat
-    → seat_clock seat ≡ (node_of (slot_after list script history) k).clock
-clock-node list script history k seat node begun =
-    (λ i. (begun.past i).offset +ℤ turn_jump (begun.turn i)) ∙ offset-node list script history k node
+payload_planned-handed : {seat : Seat} {diary : Diary} {surroundings : Surroundings} {a : Act} {jump : ℤ}
+    (chosen : Chosen) → Stands seat diary surroundings (Begun a jump)
+    → payload_planned seat.list (seat_past seat diary surroundings) chosen a ≡ payload_handed (seat_intent seat) chosen
+payload_planned-handed {seat = seat} {diary = diary} {surroundings = surroundings} {a = a} chosen stands =
+    let past = seat_past seat diary surroundings in
+    payload_by-intent seat.list past chosen a
+    ∙ ap (λ (wanted : Intent). payload_handed wanted chosen) (sym (intent_by-kept seat.list past a))
+    ∙ (λ i. payload_handed (turn_intent seat.list (sym stands.past i) (sym stands.turn i)) chosen)
 
 -- whether this is to send a frame with payload
 abbrev pub is_loading : Intent → Bool
-is_loading intent.Quiet = false
-is_loading intent.Bare = false
 is_loading intent.Loaded = true
+is_loading _ = false
 
 loading_or : (carries : Bool) → is_loading (cond carries intent.Loaded intent.Bare) ≡ carries
 loading_or true = refl
 loading_or false = refl
 
 loading_by : (list : Medl) (past : NodePast) (a : Act) → is_loading (intent_by list past a) ≡ sends_payload list past a
-loading_by list past Off = refl
-loading_by list past Gone = refl
-loading_by list past Listen = refl
-loading_by list past Start = refl
-loading_by list past Retry = refl
-loading_by list past (Leave why) = refl
 loading_by list past Send = loading_or (carries_payload list (coming_place list past))
-loading_by list past Judge = refl
+loading_by list past _ = refl
 
-pub loaded-node : (s : BegunSlot) (k : ℕ) (seat : Seat) → HasBegun s k seat
-    → is_loading (seat_intent seat) ≡ is_loaded s k
-loaded-node s k seat begun =
-    let node = node_of s k in
-    (λ i. is_loading (turn_intent (begun.list i) (begun.past i) (begun.turn i)))
-    ∙ ap is_loading (intent_by-kept s.list node.past node.act) ∙ loading_by s.list node.past node.act
-
--- and the message that is chosen for it is as long as its frame wants it
-pub payload-node : (s : BegunSlot) (k : ℕ) (seat : Seat) (chosen : List Chosen) → k < length s.list.slots
-    → HasBegun s k seat → AreChosen s chosen → IsPayloadFor seat (chosen_of chosen k)
-payload-node s k seat chosen node begun are loading =
-    are k node (sym (loaded-node s k seat begun) ∙ ap is_loading loading)
+-- so the message that is chosen for a node is as long as its frame wants it
+pub payload-node : {s : BegunSlot} {k : ℕ} {seat : Seat} {message : Chosen} (chosen : List Chosen)
+    → message ≡ chosen_of chosen k → k < length s.list.slots → HasBegun s k seat → AreChosen s chosen
+    → IsPayloadFor seat message
+payload-node {s = s} {k = k} chosen is node begun are loading =
+    let past = (node_of s k).past in
+    let does = (node_of s k).act in
+    let loaded = sym (loading_by s.list past does) ∙ ap is_loading (sym (intent_by-kept s.list past does))
+    ∙ (λ i. is_loading (turn_intent (sym begun.list i) (sym begun.past i) (sym begun.turn i)))
+    ∙ ap is_loading loading in
+    ap (λ (m : Chosen). length m.payload) is ∙ are k node loaded
     ∙ (λ i. (plan_at (sym begun.list i) (sym begun.node i)).payload)
 
--- The plan.
+length-diary_of : (history : History) (k : ℕ) → length (diary_of history k) ≡ length history
+length-diary_of history k = length-map history (λ row. entry_of row k)
 
-pub planned-node : (list : Medl) (script : Script) (history : History) (k : ℕ) (old new : Seat) (payload : List ℕ)
-    (bytes : Option (List ℕ)) (chosen : Chosen)
-    → k < length list.slots → IsSameSeat old new → Plans old new chosen.number payload bytes
-    → payload ≡ payload_handed (seat_intent old) chosen →
-    let s = slot_after list script history in
-    HasBegun s k old → HasPlanned s chosen k new × (frames_planned k bytes ≡ frames_by s chosen k)
-planned-node list script history k old new payload bytes chosen node same plans handed begun =
-    let diary = diary_of history k in
-    let surroundings = surroundings_of script history k in
-    let does = (node_of (slot_after list script history) k).act in
-    let jump = jump_begun (slot_after list script history) k in
-    let stands = node-stands list script history k old _ _ node refl begun in
-    let plan = plans diary surroundings does jump chosen stands refl
-    (payload_planned-handed old diary surroundings does jump chosen stands ∙ sym handed) in
-    let past_is = past-node list script history k old node begun.list begun.node in (
-      stands-node list script history k new _ _ node (same.list ∙ begun.list) (same.node ∙ begun.node)
-          (λ i. Planned does jump (message_planned (begun.list i) (past_is i) chosen does)) plan.stands,
-      (λ i. frames_planned (sym begun.node i) bytes) ∙ plan.frames
-          ∙ (λ i. node_frames (begun.list i) (begun.node i) (past_is i) chosen does),
-    )
+-- Node k of the slot after a history.
+module _ (list : Medl) (script : Script) (history : History) (k : ℕ) (node : k < length list.slots) where
+  -- its past is what is read of its diary
+  past-node : (seat : Seat) → seat.list ≡ list → seat.node ≡ k
+      → seat_past seat (diary_of history k) (surroundings_of script history k)
+      ≡ (node_of (slot_after list script history) k).past
+  past-node seat list_is node_is =
+      (λ i. past_of (list_is i) (node_is i) (diary_of history k) (surroundings_of script history k))
+      ∙ ap (λ (n : BegunNode). n.past) (sym (node_of-slot_after list script history k node))
 
--- The end.
+  -- so what a controller stands for may be told by the diary and by the slot
 
-pub ended-node : (list : Medl) (script : Script) (history : History) (chosen : List Chosen) (k : ℕ)
-    (planned new : Seat) (outcome : Outcome) (a b : Arrival) (error drift : ℤ) →
-    let s = slot_after list script history in
-    let clock = λ (p : ℕ). (node_of s p).clock in
-    k < length list.slots → length history ≤ most_slots → IsSameSeat planned new
-    → Ends planned new outcome a b error drift
-    → error ≡ reading_error script k (length history) → drift ≡ drift_of script k
-    → Shows a (heard script (length history) k channel.A (frames_in s chosen)) clock
-    → Shows b (heard script (length history) k channel.B (frames_in s chosen)) clock
-    → HasPlanned s (chosen_of chosen k) k planned
-    → StandsAfter script (row_in s chosen ∷ history) k new × IsLeft list script history chosen k outcome
-ended-node list script history chosen k planned new outcome a b error drift node few same ends error_is drift_is on_a
-    on_b has =
-    let s = slot_after list script history in
-    let diary = diary_of history k in
-    let surroundings = surroundings_of script history k in
-    let message = chosen_of chosen k in
-    let does = (node_of s k).act in
-    let jump = jump_begun s k in
-    let frames = frames_in s chosen in
-    let on = λ (c : Channel). heard script (length history) k c frames in
-    let clock = λ (p : ℕ). (node_of s p).clock in
-    let outside = surroundings_in script (length history) (row_in s chosen) k in
-    let past_is = past-node list script history k planned node has.list has.node in
-    let stands = node-stands list script history k planned _ _ node
-    (λ i. Planned does jump (message_planned (sym has.list i) (sym past_is i) message does)) has in
-    let end = ends diary surroundings does jump message (on channel.A) (on channel.B) clock outside stands on_a on_b
-    (record { jump = refl; drift = sym drift_is; silent = is_silent_to-row_in s chosen k }) in
-    let own_is = (λ i. clock_begun (past_is i) jump) ∙ offset-node list script history k node in
-    let hearing_is : hearing_of (on channel.A) (on channel.B) clock
-    (clock_begun (seat_past planned diary surroundings) jump)
-    error
-    ≡ hearing_in s frames k = λ i. hearing_of (on channel.A) (on channel.B) clock (own_is i) (error_is i) in
-    let entry_is = (λ i. new_entry (has.list i) (has.node i) (past_is i) message (hearing_is i) does)
-    ∙ sym (entry_of-row_in s chosen k node) in
-    let handed_is : delivery planned.list planned.node (seat_past planned diary surroundings)
-    (hearing_of (on channel.A) (on channel.B) clock (clock_begun (seat_past planned diary surroundings) jump) error) _
-    ≡ delivered_at s chosen k = λ i. delivery (has.list i) (has.node i) (past_is i) (hearing_is i) (entry_is i) in
-    let long = length-diary_of history k in (
-      subst (λ (e : Entry). Stands new (e ∷ diary) (outside ∷ surroundings) Ended) entry_is end.stands,
+  stands-node : {seat : Seat} {now there : Turn} → seat.list ≡ list → seat.node ≡ k → now ≡ there
+      → Stands seat (diary_of history k) (surroundings_of script history k) now
+      → StandsForNode (slot_after list script history) k there seat
+  stands-node {seat = seat} list_is node_is same stands = record {
+    list = list_is;
+    node = node_is;
+    past = stands.past ∙ ap kept (past-node seat list_is node_is);
+    slots = stands.slots ∙ ap (λ n. min n most_slots) (length-diary_of history k);
+    turn = stands.turn ∙ same;
+  }
+
+  node-stands : {seat : Seat} {now there : Turn} → now ≡ there
+      → StandsForNode (slot_after list script history) k now seat
+      → Stands seat (diary_of history k) (surroundings_of script history k) there
+  node-stands {seat = seat} same stands = record {
+    past = stands.past ∙ ap kept (sym (past-node seat stands.list stands.node));
+    slots = stands.slots ∙ ap (λ n. min n most_slots) (sym (length-diary_of history k));
+    turn = stands.turn ∙ same;
+  }
+
+  -- the beginning
+  pub begun-node : {old new : Seat} {on armed : Bool} {jump : ℤ} → on ≡ is_on script k (length history)
+      → armed ≡ is_armed script k (length history) → jump ≡ jump_of script k (length history)
+      → old.list ≡ list → old.node ≡ k → IsSameSeat old new → Begins old new on armed jump
+      → StandsAfter script history k old → HasBegun (slot_after list script history) k new
+  begun-node on_is armed_is jump_is list_is node_is same begins stands =
+      let diary = diary_of history k in
+      let surroundings = surroundings_of script history k in
+      let turn_of = λ (does : Act) (jump : ℤ). Begun does (jump_taken does jump) in
+      stands-node (same.list ∙ list_is) (same.node ∙ node_is)
+      ((λ i. turn_of (act (list_is i) (node_is i) (on_is i) (armed_is i)
+      (past_of (list_is i) (node_is i) diary surroundings)) (jump_is i))
+      ∙ ap (λ (n : BegunNode). turn_of n.act (jump_of script k (length history)))
+      (sym (node_of-slot_after list script history k node)))
+      (begins diary surroundings stands)
+
+  -- its clock is what its past tells, with the slot's jump
+  offset-node : let s = slot_after list script history in
+      clock_begun (node_of s k).past (jump_begun s k) ≡ (node_of s k).clock
+  offset-node =
+      let is = node_of-slot_after list script history k node in
+      ap (λ (n : BegunNode). n.past.offset +ℤ jump_taken n.act (jump_of script k (length history))) is
+      ∙ ap (λ (n : BegunNode). n.clock) (sym is)
+
+  -- so is its controller's
+  pub clock-node : {seat : Seat} → HasBegun (slot_after list script history) k seat
+      → seat_clock seat ≡ (node_of (slot_after list script history) k).clock
+  clock-node begun = (λ i. (begun.past i).offset +ℤ turn_jump (begun.turn i)) ∙ offset-node
+
+  -- the plan
+  pub planned-node : {old new : Seat} {payload : List ℕ} {bytes : Option (List ℕ)} (chosen : Chosen)
+      → IsSameSeat old new → Plans old new chosen.number payload bytes
+      → payload ≡ payload_handed (seat_intent old) chosen →
+      let s = slot_after list script history in
+      HasBegun s k old → HasPlanned s chosen k new × (frames_planned k bytes ≡ frames_by s chosen k)
+  planned-node {old = old} {bytes = bytes} chosen same plans handed begun =
+      let does = (node_of (slot_after list script history) k).act in
+      let jump = jump_begun (slot_after list script history) k in
+      let stands = node-stands {there = Begun does jump} refl begun in
+      let plan = plans (diary_of history k) (surroundings_of script history k) does jump chosen stands refl
+      (payload_planned-handed chosen stands ∙ sym handed) in
+      let past_is = past-node old begun.list begun.node in (
+        stands-node (same.list ∙ begun.list) (same.node ∙ begun.node)
+            (λ i. Planned does jump (message_planned (begun.list i) (past_is i) chosen does)) plan.stands,
+        (λ i. frames_planned (sym begun.node i) bytes) ∙ plan.frames
+            ∙ (λ i. node_frames (begun.list i) (begun.node i) (past_is i) chosen does),
+      )
+
+  -- the end
+  pub ended-node : {planned new : Seat} {outcome : Outcome} {carried : Carried} {error drift : ℤ}
+      (chosen : List Chosen) (a b : Arrival) → carried.slot < SLOT_LIMIT → IsSameSeat planned new
+      → Ends planned new outcome a b error drift → AreHanded script carried.slot k error drift
+      → medium.ShowsHeard carried script k channel.A a → medium.ShowsHeard carried script k channel.B b →
+      let s = slot_after list script history in
+      Carries s (frames_in s chosen) carried → HasPlanned s (chosen_of chosen k) k planned
+      → StandsAfter script (row_in s chosen ∷ history) k new × IsLeft list script history chosen k outcome
+  ended-node {planned = planned} {new = new} {error = error} chosen a b early same ends handed on_a on_b carries has =
+      let s = slot_after list script history in
+      let diary = diary_of history k in
+      let surroundings = surroundings_of script history k in
+      let message = chosen_of chosen k in
+      let does = (node_of s k).act in
+      let jump = jump_begun s k in
+      let frames = frames_in s chosen in
+      let on = λ (c : Channel). heard script (length history) k c frames in
+      let clock = λ (p : ℕ). (node_of s p).clock in
+      let outside = surroundings_in script (length history) (row_in s chosen) k in
+      let past_is = past-node planned has.list has.node in
+      let stands = node-stands
+      (λ i. Planned does jump (message_planned (sym has.list i) (sym past_is i) message does)) has in
+      let end = ends diary surroundings does jump message (on channel.A) (on channel.B) clock outside stands
+      (on_a _ _ _ carries) (on_b _ _ _ carries)
+      (record { jump = refl; drift = sym handed.drift_is; silent = is_silent_to-row_in s chosen k }) in
+      let error_is = handed.error_is ∙ ap (reading_error script k) carries.slot in
+      let own_is = (λ i. clock_begun (past_is i) jump) ∙ offset-node in
+      let hearing_is : hearing_of (on channel.A) (on channel.B) clock
+      (clock_begun (seat_past planned diary surroundings) jump) error
+      ≡ hearing_in s frames k = λ i. hearing_of (on channel.A) (on channel.B) clock (own_is i) (error_is i) in
+      let entry_is = (λ i. new_entry (has.list i) (has.node i) (past_is i) message (hearing_is i) does)
+      ∙ sym (entry_of-row_in s chosen k node) in
+      let long = length-diary_of history k in (
+        subst (λ (e : Entry). Stands new (e ∷ diary) (outside ∷ surroundings) Ended) entry_is end.stands,
+        record {
+          delivered = end.delivered
+              ∙ (λ i. delivery (has.list i) (has.node i) (past_is i) (hearing_is i) (entry_is i));
+          status = end.status (omega (arith, long, carries.slot))
+              ∙ (λ i. status_words (has.list i) (long i)
+              (past_of (has.list i) (has.node i) (entry_is i ∷ diary) (outside ∷ surroundings))
+              (is_some (delivery (has.list i) (has.node i) (past_is i) (hearing_is i) (entry_is i))));
+        },
+      )
+
+-- The second pass: node by node, controllers plan, and what they send is put on the medium.
+
+-- what a pass makes of node k's controller
+abbrev pub IsSentBy : Medl → Script → List Chosen → ℕ → Seat → Seat → Seat → Type 0
+IsSentBy list script chosen k old new left = IsPlannedFrom old new × PlansIn list script k (chosen_of chosen k) old new
+
+-- the first controllers, so many, have planned, and what they send is on the medium
+pub record AreSent (list : Medl) (script : Script) (slot : ℕ) (chosen : List Chosen) (k : ℕ) (old new : List Seat)
+    (carried : Carried) : Type 0 where
+  pub passed : ArePassed (IsSentBy list script chosen) k old new new
+  pub carries : (history : History) → length history ≡ slot → HaveBegun (slot_after list script history) 0 old
+      → Carries (slot_after list script history)
+      (flat_map (frames_of (slot_after list script history) chosen) (below k)) carried
+
+module _ {list : Medl} {script : Script} {slot : ℕ} {chosen : List Chosen} where
+  pub AreSent-none : {seats : List Seat} {carried : Carried} → medium.StandsAtBeginning carried slot
+      → AreSent list script slot chosen 0 seats seats carried
+  AreSent-none {seats = seats} {carried = carried} begins = record {
+    passed = ArePassed-none seats seats (omega arith);
+    carries = λ history long begun.
+        let clock = λ (p : ℕ). (node_of (slot_after list script history) p).clock in
+        subst (λ (t : ℕ). medium.StandsFor carried script t [] clock) (sym long) (begins script clock);
+  }
+
+  pub AreSent-more : {k : ℕ} {old new : List Seat} {before after : Carried} {message : Chosen} {planned : Seat}
+      (d : Seat) → AreSent list script slot chosen k old new before → k < length old → message ≡ chosen_of chosen k
+      → IsPlannedFrom (get_or new k d) planned → PlansIn list script k message (get_or new k d) planned
+      → PutsFrames list script k (get_or new k d) message before after
+      → AreSent list script slot chosen (k + 1) old (set new k planned) after
+  AreSent-more {k = k} {new = new} {before = before} {after = after} {planned = planned} d sent within is by plans
+      puts =
+      let seat = get_or new k d in
       record {
-        delivered = end.delivered ∙ handed_is;
-        status = end.status (subst (λ m. m ≤ most_slots) (sym long) few)
-            ∙ (λ i. status_words (has.list i) (long i)
-            (past_of (has.list i) (has.node i) (entry_is i ∷ diary) (outside ∷ surroundings)) (is_some (handed_is i)));
-      },
-    )
+        passed = ArePassed-more sent.passed d within
+            (by, subst (λ (m : Chosen). PlansIn list script k m seat planned) is plans);
+        carries = λ history long begun.
+            let s = slot_after list script history in
+            subst (λ (frames : List SentFrame). Carries s frames after) (sym (flat_map-next (frames_of s chosen) k))
+            (subst (λ (m : Chosen). PutsFrames list script k seat m before after) is puts history _
+            (each-of begun k (ArePassed-coming sent.passed d within)) (sent.carries history long begun));
+      }
+
+  -- the medium is in that slot
+  pub AreSent-slot : {k : ℕ} {old new : List Seat} {carried : Carried}
+      → AreSent list script slot chosen k old new carried → MayPlan list script slot old chosen → carried.slot ≡ slot
+  AreSent-slot sent may = (sent.carries may.history may.slot_is may.begun).slot ∙ may.slot_is
+
+  -- when all have planned, what is on the medium was sent by nodes whose clocks are near 0
+  pub AreSent-near : {bound n : ℕ} {old new : List Seat} {carried : Carried}
+      → AreSent list script slot chosen n old new carried → n ≡ length list.slots
+      → MayPlan list script slot old chosen → AreSeats list IsBegun bound 0 old → IsFromWithin carried script bound
+  AreSent-near {bound = bound} {n = n} {carried = carried} sent are_nodes may seats =
+      let s = slot_after list script may.history in
+      let stands = sent.carries may.history may.slot_is may.begun in
+      let frames = flat_map (frames_of s chosen) (below n) in
+      let clock = λ (p : ℕ). (node_of s p).clock in
+      let near = λ (z : ℤ). unsigned_abs z ≤ bound in
+      record {
+        frames = frames;
+        clock = clock;
+        stands = subst (λ (t : ℕ). medium.StandsFor carried script t frames clock) (sym stands.slot) stands;
+        near = λ p. ⊎_elim (λ (less : p < n).
+            let at = sent.passed.done p less in
+            subst near
+            (clock-node list script may.history p (omega (arith, are_nodes)) (each-of may.begun p at.was))
+            (each-of seats p at.was).clock)
+            (λ (beyond : n ≤ p).
+            let count = length-map-range_with_len (node_after list script may.history) 0 (length list.slots) in
+            let nobody = get_or_past s.nodes p (no_node list) (omega (arith, are_nodes, count)) in
+            subst near (ap (λ (b : BegunNode). b.clock) (sym nobody)) (omega arith)) (cases_lt p n);
+      }

@@ -3,10 +3,6 @@ pub mod Heard
 pub mod InSlot
 pub mod Near
 pub mod Parts
-pub mod Passed
-pub mod Payloads
-pub mod Sends
 pub mod Sets
 pub mod Standing
 pub mod Stints
-pub mod WholeSlot

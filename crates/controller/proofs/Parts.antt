@@ -1,44 +1,131 @@
--- A part of a cluster's nodes after a pass over it.
-use Rattle.std.proofs.Common.{◌≡◌, ℕ, ◌+◌, ◌≤◌, List, length, Some, subst, arith}
+-- A pass over a part of a cluster's nodes: each element is written once, beside a list that gets one for each.
+use Rattle.std.proofs.Common.{◌≡◌, ◌≢◌, ℕ, zero, suc, ◌+◌, ◌<◌, ◌≤◌, List, [], ◌∷◌, ◌++◌, length, get_or, set, Some}
+use Rattle.std.proofs.Common.{refl, sym, ap, ◌∙◌, subst, below_more, arith}
 use Rattle.std.specs.Prelude.{slice_get}
-use Rattle.std.proofs.lemmas.Option.{slice_get_within}
+use Rattle.std.proofs.lemmas.List.{length-set, get_or-set_same}
+use Rattle.std.proofs.lemmas.Option.{slice_get_within, slice_get-get_or, same_Some, none-some}
 use Rattle.controller.specs.Parts.{EachFrom}
-use Rattle.controller.proofs.Passed.{ArePassed, ArePassed-all, there}
 
--- What follows of each element that was written, or of what it left, holds of the whole part.
+-- what is at a place after a write
 
-pub each-new : {X Z : Type 0} (R : ℕ → X → X → Z → Type 0) (i first : ℕ) (old new : List X) (out : List Z)
-    (P Q : ℕ → X → Type 0)
-    → ArePassed R i old new out → length old ≤ i
-    → ((j : ℕ) (x y : X) (z : Z) → R j x y z → P (first + j) x → Q (first + j) y)
-    → EachFrom first P old → EachFrom first Q new
-each-new R i first old new out P Q passed all step was = record {
-  each = λ j y here.
-      let within = slice_get_within new j y here in
-      let x = there old j (omega (arith, passed.count)) in
-      let z = there out j (omega (arith, passed.count, passed.room)) in
-      step j x.0 y z.0 (ArePassed-all R i old new out passed all j x.0 y z.0 x.1 here z.1) (was.each j x.0 x.1);
-}
+slice_get-set_same : {X : Type 0} (xs : List X) (i : ℕ) (y : X) → i < length xs → slice_get (set xs i y) i ≡ Some y
+slice_get-set_same xs i y within =
+    slice_get-get_or (set xs i y) i y (omega (arith, length-set xs i y)) ∙ ap Some (get_or-set_same xs i y y within)
 
-pub each-left : {X Z : Type 0} (R : ℕ → X → X → Z → Type 0) (i first : ℕ) (old new : List X) (out : List Z)
-    (P : ℕ → X → Type 0) (Q : ℕ → Z → Type 0)
-    → ArePassed R i old new out → length old ≤ i → length out ≡ length old
-    → ((j : ℕ) (x y : X) (z : Z) → R j x y z → P (first + j) x → Q (first + j) z)
-    → EachFrom first P old → EachFrom first Q out
-each-left R i first old new out P Q passed all count step was = record {
-  each = λ j z here.
-      let within = slice_get_within out j z here in
-      let x = there old j (omega (arith, count)) in
-      let y = there new j (omega (arith, count, passed.count)) in
-      step j x.0 y.0 z (ArePassed-all R i old new out passed all j x.0 y.0 z x.1 y.1 here) (was.each j x.0 x.1);
-}
+slice_get-set_other : {X : Type 0} (xs : List X) (i k : ℕ) (y : X) → k ≢ i → slice_get (set xs i y) k ≡ slice_get xs k
+slice_get-set_other [] i k y other = refl
+slice_get-set_other (x ∷ xs) zero zero y other = absurd (other refl)
+slice_get-set_other (x ∷ xs) zero (suc k) y other = refl
+slice_get-set_other (x ∷ xs) (suc i) zero y other = refl
+slice_get-set_other (x ∷ xs) (suc i) (suc k) y other = slice_get-set_other xs i k y (λ same. other (ap suc same))
 
--- A part that begins with node 0.
+-- what was, is and was left at a place that was written
+pub record IsPassed {X Z : Type 0} (R : ℕ → X → X → Z → Type 0) (k : ℕ) (old new : List X) (out : List Z) : Type 0
+  where
+    pub before : X
+    pub after : X
+    pub left : Z
+    pub was : slice_get old k ≡ Some before
+    pub is : slice_get new k ≡ Some after
+    pub leaves : slice_get out k ≡ Some left
+    pub by : R k before after left
 
-pub each-of : {X : Type 0} (P : ℕ → X → Type 0) (xs : List X) → EachFrom 0 P xs
-    → (k : ℕ) (x : X) → slice_get xs k ≡ Some x → P k x
-each-of P xs all k x here = subst (λ (n : ℕ). P n x) (omega arith) (all.each k x here)
+-- the first elements, so many, were written, each with what it left; the others are as they were
+pub record ArePassed {X Z : Type 0} (R : ℕ → X → X → Z → Type 0) (i : ℕ) (old new : List X) (out : List Z) : Type 0
+  where
+    pub count : length new ≡ length old
+    pub room : length old ≤ length out
+    pub done : (k : ℕ) → k < i → IsPassed R k old new out
+    pub rest : (k : ℕ) → i ≤ k → slice_get new k ≡ slice_get old k
 
-pub each-are : {X : Type 0} (P : ℕ → X → Type 0) (xs : List X)
-    → ((k : ℕ) (x : X) → slice_get xs k ≡ Some x → P k x) → EachFrom 0 P xs
-each-are P xs all = record { each = λ k x here. subst (λ (n : ℕ). P n x) (omega arith) (all k x here) }
+pub ArePassed-none : {X Z : Type 0} {R : ℕ → X → X → Z → Type 0} (xs : List X) (out : List Z) → length xs ≤ length out
+    → ArePassed R 0 xs xs out
+ArePassed-none xs out room =
+    record { count = refl; room = room; done = λ k less. absurd (omega arith); rest = λ k _. refl }
+
+-- After a pass over the first of them.
+module _ {X Z : Type 0} {R : ℕ → X → X → Z → Type 0} {i : ℕ} {old new : List X} {out : List Z}
+    (passed : ArePassed R i old new out) where
+  -- what an element that is still to come was
+  pub ArePassed-coming : (d : X) → i < length old → slice_get old i ≡ Some (get_or new i d)
+  ArePassed-coming d within =
+      sym (passed.rest i (omega arith)) ∙ slice_get-get_or new i d (omega (arith, passed.count))
+
+  -- one element more
+  pub ArePassed-more : {y : X} {z : Z} (d : X) → i < length old → R i (get_or new i d) y z
+      → ArePassed R (i + 1) old (set new i y) (set out i z)
+  ArePassed-more {y = y} {z = z} d within by = record {
+    count = length-set new i y ∙ passed.count;
+    room = omega (arith, length-set out i z, passed.room);
+    done = below_more (λ k. IsPassed R k old (set new i y) (set out i z)) i (λ k earlier.
+        let at = passed.done k earlier in record {
+          before = at.before;
+          after = at.after;
+          left = at.left;
+          was = at.was;
+          by = at.by;
+          is = slice_get-set_other new i k y (omega arith) ∙ at.is;
+          leaves = slice_get-set_other out i k z (omega arith) ∙ at.leaves;
+        }) (record {
+          before = get_or new i d;
+          after = y;
+          left = z;
+          was = ArePassed-coming d within;
+          is = slice_get-set_same new i y (omega (arith, passed.count));
+          leaves = slice_get-set_same out i z (omega (arith, passed.room));
+          by = by;
+        });
+    rest = λ k later. slice_get-set_other new i k y (omega arith) ∙ passed.rest k (omega arith);
+  }
+
+  -- When all were written, what follows of each, or of what it left, holds of the whole part.
+
+  pub each-new : {first : ℕ} {P Q : ℕ → X → Type 0} → length old ≤ i → EachFrom first P old
+      → ((j : ℕ) (x y : X) (z : Z) → R j x y z → P (first + j) x → Q (first + j) y) → EachFrom first Q new
+  each-new {first = first} {Q = Q} all was step = record {
+    each = λ j y here.
+        let at = passed.done j (omega (arith, slice_get_within new j y here, passed.count)) in
+        subst (Q (first + j)) (same_Some _ _ (sym at.is ∙ here))
+        (step j at.before at.after at.left at.by (was.each j at.before at.was));
+  }
+
+  -- where the part begins with node 0
+  pub all-new : {P Q : ℕ → X → Type 0} → length old ≤ i → EachFrom 0 P old
+      → ((j : ℕ) (x y : X) (z : Z) → R j x y z → P j x → Q j y) → EachFrom 0 Q new
+  all-new {P = P} {Q = Q} all was step =
+      each-new all was (λ j x y z by. let at : j ≡ 0 + j = omega arith in
+      subst (λ (n : ℕ). P n x → Q n y) at (step j x y z by))
+
+  pub each-left : {first : ℕ} {P : ℕ → X → Type 0} {Q : ℕ → Z → Type 0} → length old ≤ i → length out ≡ length old
+      → EachFrom first P old → ((j : ℕ) (x y : X) (z : Z) → R j x y z → P (first + j) x → Q (first + j) z)
+      → EachFrom first Q out
+  each-left {first = first} {Q = Q} all count was step = record {
+    each = λ j z here.
+        let at = passed.done j (omega (arith, slice_get_within out j z here)) in
+        subst (Q (first + j)) (same_Some _ _ (sym at.leaves ∙ here))
+        (step j at.before at.after at.left at.by (was.each j at.before at.was));
+  }
+
+-- What holds of each element holds of the one at a place of a part that begins with node 0.
+pub each-of : {X : Type 0} {P : ℕ → X → Type 0} {xs : List X} {x : X} → EachFrom 0 P xs → (k : ℕ)
+    → slice_get xs k ≡ Some x → P k x
+each-of {P = P} {x = x} all k here = subst (λ (n : ℕ). P n x) (omega arith) (all.each k x here)
+
+pub each-none : {X : Type 0} {first : ℕ} {P : ℕ → X → Type 0} → EachFrom first P []
+each-none = record { each = λ k x here. absurd (none-some x here) }
+
+-- What holds of each element, and of one more at the end, holds of each of both.
+
+holds-push : {X : Type 0} (P : ℕ → X → Type 0) (xs : List X) (y : X)
+    → ((k : ℕ) (x : X) → slice_get xs k ≡ Some x → P k x) → P (length xs) y
+    → (k : ℕ) (x : X) → slice_get (xs ++ y ∷ []) k ≡ Some x → P k x
+holds-push P [] y each last zero x here = subst (P zero) (same_Some _ _ here) last
+holds-push P [] y each last (suc k) x here = absurd (none-some x here)
+holds-push P (z ∷ xs) y each last zero x here = each zero x here
+holds-push P (z ∷ xs) y each last (suc k) x here =
+    holds-push (λ k x. P (suc k) x) xs y (λ k x there. each (suc k) x there) last k x here
+
+pub each-push : {X : Type 0} {first : ℕ} {P : ℕ → X → Type 0} (xs : List X) (y : X) → EachFrom first P xs
+    → P (first + length xs) y → EachFrom first P (xs ++ y ∷ [])
+each-push {first = first} {P = P} xs y all last =
+    record { each = holds-push (λ k x. P (first + k) x) xs y all.each last }

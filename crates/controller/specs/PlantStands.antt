@@ -1,5 +1,5 @@
 -- What a plant stands for: a history of its cluster under a script.
-use Rattle.std.specs.Prelude.{◌≡◌, ℕ, ◌<◌, List, [], ◌∷◌, length, get_or, replicate, slice_get, Some, None}
+use Rattle.std.specs.Prelude.{◌≡◌, ℕ, ◌<◌, List, [], ◌∷◌, length, get_or, replicate, None}
 use Rattle.ttp_world.specs.declared.medl.Medl.{Medl}
 use Rattle.ttp_world.specs.declared.node.Chosen.{Chosen}
 use Rattle.ttp_world.specs.declared.node.NodeState.{NodeState}
@@ -8,6 +8,7 @@ use Rattle.ttp_world.specs.Diary.{History}
 use Rattle.ttp_world.specs.Past.{state_of}
 use Rattle.ttp_world.specs.World.{slot_after, row_in, node_past}
 use Rattle.controller.specs.declared.controller.Outcome.{Outcome}
+use Rattle.controller.specs.Parts.{EachFrom}
 use Rattle.controller.specs.Passes.{StandAfter, AreChosen, IsLeft}
 use Rattle.controller.specs.PlantView.{PlantView}
 use Rattle.controller.specs.StandsFor.{StandsFor}
@@ -54,7 +55,7 @@ Steps old new script chosen = (history : History) → PlantStandsFor old script 
 
 -- each controller stands for no entry
 abbrev pub AllStandAtFirst : List Seat → Type 0
-AllStandAtFirst seats = (k : ℕ) (seat : Seat) → slice_get seats k ≡ Some seat → StandsFor seat [] []
+AllStandAtFirst seats = EachFrom 0 (λ k seat. StandsFor seat [] []) seats
 
 -- node k's state, whatever history it stands for
 abbrev pub ShowsNode : PlantView → ℕ → NodeState → Type 0

@@ -122,8 +122,7 @@ fn send_one(
     chosen: &Chosen,
 )
     requires node { k < length list.now.slots }
-    requires list { list.now ≡ controller.old.list }
-    requires turn { IsBegun controller.old.turn }
+    requires seat { IsSeatOf list.now IsBegun (most_ahead_in medium.old.slot) k controller.old }
     requires payload { IsPayloadFor controller.old chosen.now }
     requires incidents { IsIncidentsOf script.now medium.old.slot k incidents.now }
     ensures planned { IsPlannedFrom controller.old controller.new }

@@ -42,12 +42,19 @@ fn nothing() -> Chosen
     }
 }
 
+// So for each of four nodes.
+fn nothing_for_all() -> [Chosen; 4]
+    ensures { All (λ message. message.payload ≡ []) result }
+{
+    [nothing(), nothing(), nothing(), nothing()]
+}
+
 #[test]
 fn a_cluster_starts(rt: HostRuntime) -> Result<(), Fail> {
     let alloc = rt.alloc();
     let list = four_nodes(alloc)?;
     let script = quiet_script(alloc)?;
-    let chosen = [nothing(), nothing(), nothing(), nothing()];
+    let chosen = nothing_for_all();
     let mut plant = Plant::new(alloc, &list)?;
     assert!(rt; plant.node(0).phase == Phase::Off);
     assert!(rt; !is_loaded(&Controller::new(alloc, &list, 0)?));

@@ -2,7 +2,7 @@ use Rattle.std.proofs.Common.{◌+◌}
 use Rattle.controller.specs.Limits.{IsBegun}
 use Rattle.controller.specs.Passes.{BeginsSlot}
 use Rattle.controller.specs.PlantWithin.{IsIncidentsOf, IsSeatOf, most_ahead_in}
-use Rattle.controller.proofs.Passed.{ArePassed}
+use Rattle.controller.proofs.Parts.{ArePassed}
 use Rattle.controller.proofs.passes.begin_all.Given as goal
 
 abbrev pub invariant-loop-j : goal.invariant-loop-j

@@ -1,4 +1,4 @@
-use Rattle.controller.proofs.Sends.{AreSent}
+use Rattle.controller.proofs.InSlot.{AreSent}
 use Rattle.controller.proofs.passes.plan_all.Given as goal
 
 abbrev pub invariant-loop-k : goal.invariant-loop-k

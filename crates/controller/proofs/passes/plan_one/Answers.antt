@@ -2,8 +2,7 @@ use Rattle.std.proofs.Common.{length, ap, ◌∙◌}
 use Rattle.controller.specs.declared.controller.Intent.{Intent}
 use Rattle.controller.specs.Limits.{seat_intent}
 use Rattle.controller.specs.Passes.{payload_handed}
-use Rattle.controller.proofs.InSlot.{planned-node}
-use Rattle.controller.proofs.Payloads.{length-payload_handed}
+use Rattle.controller.proofs.InSlot.{length-payload_handed, planned-node}
 use Rattle.controller.proofs.passes.plan_one.Goals as goal
 
 pub plan-requires-clause-payload : goal.plan-requires-clause-payload
@@ -16,7 +15,6 @@ plan-requires-clause-payload c =
 
 pub returns-clause-plans : goal.returns-clause-plans
 returns-clause-plans c list script history k node =
-    let handed = c.payload_for-payload.ensures
-    ∙ ap (λ (wanted : Intent). payload_handed wanted c.args.chosen.now) c.intent.ensures in
-    planned-node list script history k c.args.controller.now c.plan.new.self _ _ c.args.chosen.now node
-    c.plan.ensures.same c.plan.ensures.plans handed
+    planned-node list script history k node c.args.chosen.now c.plan.ensures.same c.plan.ensures.plans
+    (c.payload_for-payload.ensures
+    ∙ ap (λ (wanted : Intent). payload_handed wanted c.args.chosen.now) c.intent.ensures)

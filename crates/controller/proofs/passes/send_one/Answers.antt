@@ -1,8 +1,5 @@
-use Rattle.std.proofs.Common.{◌++◌, List, w64, length, ◌∙◌, subst}
+use Rattle.std.proofs.Common.{w64, ◌∙◌}
 use Rattle.std.proofs.lemmas.Int.{to_z-of_z}
-use Rattle.ttp_world.specs.Medium.{SentFrame}
-use Rattle.ttp_world.specs.World.{slot_after}
-use Rattle.controller.specs.Passes.{Carries}
 use Rattle.controller.proofs.InSlot.{clock-node}
 use Rattle.controller.proofs.passes.send_one.Goals as goal
 
@@ -13,7 +10,5 @@ returns-in-Some-clause-puts c history frames begun carries =
     let k = c.args.k in
     let of = c.in-Some.ensures in
     let offset = to_z-of_z w64 c.clock.result (record { sfits = c.clock.type_inv }) ∙ c.clock.ensures ∙ of.planned.clock
-    ∙ clock-node list script history k c.args.controller.now c.requires.node begun in
-    subst (λ (more : List SentFrame). Carries (slot_after list script history) (frames ++ more) c.put.new.self)
-    (of.plans list script history k c.requires.node begun).1
-    (c.put.ensures (length history) frames _ offset carries)
+    ∙ clock-node list script history k c.requires.node begun in
+    rw (← (of.plans list script history k c.requires.node begun).1) (c.put.ensures _ frames _ offset carries)

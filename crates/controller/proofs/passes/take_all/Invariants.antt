@@ -1,7 +1,7 @@
 use Rattle.std.proofs.Common.{◌+◌}
 use Rattle.controller.specs.Passes.{EndsSlot}
 use Rattle.controller.specs.PlantWithin.{IsEnded, IsSeatOf, most_ahead}
-use Rattle.controller.proofs.Passed.{ArePassed}
+use Rattle.controller.proofs.Parts.{ArePassed}
 use Rattle.controller.proofs.passes.take_all.Given as goal
 
 abbrev pub invariant-loop-j : goal.invariant-loop-j
