@@ -9,8 +9,9 @@ pub returns-then-is_first_view : goal.returns-then-is_first_view
 returns-then-is_first_view c sent_a sent_b clock shows_a shows_b =
     rw (to_z-of_z w64 c.unwrap_or.result (search rules))
     (IsJudgement-first c.args.list.now (awaited_meant c.args.expected.now) c.args.ack
-    (hearing_of sent_a sent_b clock c.args.reading.now.own c.args.reading.now.error) c.see-on_a.result c.unwrap_or.result
-    (c.see-on_a.ensures sent_a clock shows_a) (sym c.is_first_view.ensures ∙ c.if-is_first_view.true) c.unwrap_or.ensures)
+    (hearing_of sent_a sent_b clock c.args.reading.now.own c.args.reading.now.error) c.see-on_a.result
+    c.unwrap_or.result (c.see-on_a.ensures sent_a clock shows_a)
+    (sym c.is_first_view.ensures ∙ c.if-is_first_view.true) c.unwrap_or.ensures)
 
 pub returns : goal.returns
 returns c sent_a sent_b clock shows_a shows_b =

@@ -15,7 +15,8 @@ returns-in_default-clause-value c =
     let changes = subst AreChangesWithin (sym c.outside.view_is) c.requires.changes in
     let jump : FitsSigned w64 inside.jump = omega (arith, ints, changes.jump) in
     let drift : FitsSigned w64 inside.drift = omega (arith, ints, changes.drift) in
-    let on : node.entry ≢ entry.Off = λ off. c.in_default.not-Off (ap (λ (p : NodePast). p.entry) c.self.view_is ∙ off) in
+    let on : node.entry ≢ entry.Off =
+    λ off. c.in_default.not-Off (ap (λ (p : NodePast). p.entry) c.self.view_is ∙ off) in
     search (
       rules,
       to_z-of_z,
