@@ -20,7 +20,7 @@ use ttp_world::{Channel, FlippedBit, Incidents, Medl, Script};
 /// which it seldom moves, and so the medium takes no memory at all.
 #[derive(Debug, Drop)]
 pub struct Medium {
-    slot: u32,
+    pub(crate) slot: u32,
     a: ChannelState,
     b: ChannelState,
 }

@@ -139,6 +139,12 @@ fn outgoing(bytes: [u8; 3]) -> Outgoing {
     frame
 }
 
+// Puts a node's frame on the medium, in its slot.
+fn put_in_slot(medium: &mut Medium, script: &Script, node: u8, frame: &Outgoing, offset: i64) {
+    let incidents = script.incidents(node, medium.slot);
+    medium.put(script, &incidents, node, frame, offset);
+}
+
 #[test]
 fn a_third_node_hears_what_is_left(rt: HostRuntime) -> Result<(), Fail> {
     use Heard::{Bits, Noise, Silence};
@@ -228,8 +234,7 @@ fn a_third_node_hears_what_is_left(rt: HostRuntime) -> Result<(), Fail> {
         for node in 0..2u8 {
             if sends[node as usize] {
                 let (bytes, offset) = SENT[node as usize];
-                let incidents = script.incidents(node, 3);
-                medium.put(&script, &incidents, node, &outgoing(bytes), offset);
+                put_in_slot(&mut medium, &script, node, &outgoing(bytes), offset);
             }
         }
         let incidents = script.incidents(2, 3);
