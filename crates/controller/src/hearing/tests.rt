@@ -62,7 +62,6 @@ fn four_nodes(alloc: Global) -> Result<Medl, Memory>
 }
 
 // Nodes 0, 1 and 3.
-#[tactic(auto, unfolding(ttp_base::specs::NodeSet::with_node))]
 fn three_members() -> NodeSet
     ensures { result ≡ 0 ∷ 1 ∷ 3 ∷ [] }
 {
