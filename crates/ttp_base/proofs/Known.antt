@@ -30,11 +30,6 @@ Appends-Keeps (Some xs) None c x p q = absurd p
 Appends-Keeps (Some xs) (Some ys) None x p q = absurd q
 Appends-Keeps (Some xs) (Some ys) (Some zs) x p q = q ∙ p
 
--- a text that was written whole
-pub AppendsFront-whole : (a b : Option (List ℕ)) (x : List ℕ) → Appends a b x → AppendsFront a b x
-AppendsFront-whole a b x p =
-    (length x, subst (λ (t : List ℕ). Appends a b t) (sym (take_all (length x) x (omega arith))) p)
-
 pub Keeps-Consumes : (a b c : Option (List ℕ)) (x : List ℕ) → Keeps a b → Consumes b c x → Consumes a c x
 Keeps-Consumes None b c x p q = tt
 Keeps-Consumes (Some xs) None c x p q = absurd p

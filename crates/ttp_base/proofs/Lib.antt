@@ -2,6 +2,7 @@ pub mod Below
 mod Decimal
 mod Hex
 mod Known
+mod Told
 pub mod Lines
 pub mod NodeLists
 pub mod NodeSets

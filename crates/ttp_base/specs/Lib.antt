@@ -1,4 +1,5 @@
 pub mod Faults
+pub mod Errors
 pub mod Text
 pub mod Outside
 pub mod MemorySink

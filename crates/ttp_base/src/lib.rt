@@ -22,6 +22,7 @@ mod memory_sink;
 mod node_set;
 mod pieces;
 mod sink;
+mod source;
 mod streams;
 mod system;
 

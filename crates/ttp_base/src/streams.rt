@@ -1,14 +1,16 @@
 //! Whole reads and whole writes, over std's readers and writers.
-ghost use Rattle.std.specs.Prelude.{◌≡◌, ◌<◌, ◌≤◌, ◌↔◌, length, take, vec_len};
-ghost use Rattle.std.specs.Prelude.{IfOk, IfSome, OnOk, OnErr};
-ghost use Rattle.std.specs.IoError.{error_kind};
+ghost use Rattle.std.specs.Prelude.{◌≡◌, ◌≢◌, ◌<◌, ◌≤◌, ◌⊎◌, length, take, vec_len};
+ghost use Rattle.std.specs.Prelude.{IfOk, IfErr, IfSome, OnOk, OnErr};
 ghost use Rattle.std.specs.Io.KnownBytes.{Appends, Keeps, Consumes, IsAtEnd};
+ghost use Rattle.ttp_base.specs.declared.source.Trouble.{Trouble};
+ghost use Rattle.ttp_base.specs.Errors.{ToldNoFault, ToldFault};
 ghost use Rattle.ttp_base.specs.Outside.{AppendsFront};
 
 use crate::fault::Failed;
 use crate::library::LoadError;
+use crate::source::{Source, Trouble};
 use std::alloc::Global;
-use std::io::{self, ErrorKind, Read, Write};
+use std::io::{self, ErrorKind, Write};
 
 /// How often a read or a write is tried again that a signal interrupted.
 const MOST_TRIES: u32 = 1_000_000;
@@ -32,8 +34,9 @@ fn write_some<W: Write>(writer: &mut W, piece: &[u8]) -> Result<usize, Failed>
     Err(Failed)
 }
 
-// Writes a whole piece. A write that takes nothing of what is left is a failure.
-fn write_whole<W: Write>(writer: &mut W, piece: &[u8]) -> Result<(), Failed>
+/// Writes a whole piece. A write that takes nothing of what is left is a failure, after which some first
+/// bytes of the piece were written, or none.
+pub(crate) fn write_whole<W: Write>(writer: &mut W, piece: &[u8]) -> Result<(), Failed>
     ensures ok { OnOk result (Appends (W.contents writer.old) (W.contents writer.new) piece.now) }
     ensures front { OnErr result (AppendsFront (W.contents writer.old) (W.contents writer.new) piece.now) }
 {
@@ -48,63 +51,53 @@ fn write_whole<W: Write>(writer: &mut W, piece: &[u8]) -> Result<(), Failed>
     Ok(())
 }
 
-/// Writes a whole piece and then flushes it. After a failure some first bytes of the piece were
-/// written, or none.
-pub(crate) fn send<W: Write>(writer: &mut W, piece: &[u8]) -> Result<(), Failed>
-    ensures ok { OnOk result (Appends (W.contents writer.old) (W.contents writer.new) piece.now) }
-    ensures front { OnErr result (AppendsFront (W.contents writer.old) (W.contents writer.new) piece.now) }
-{
-    write_whole(writer, piece)?;
-    match writer.flush() {
-        Ok(()) => Ok(()),
-        Err(_) => Err(Failed),
-    }
-}
-
 // One read, tried again where a signal interrupts it. It answers how many bytes were given.
-fn read_some<R: Read>(reader: &mut R, room: &mut [u8]) -> Result<usize, LoadError>
+fn read_some<S: Source>(source: &mut S, room: &mut [u8]) -> Result<usize, Trouble>
     ensures within { IfOk result (λ n. n ≤ length room.new) }
-    ensures ok { IfOk result (λ n. Consumes (R.remaining reader.old) (R.remaining reader.new) (take n room.new)) }
-    ensures end { IfOk result (λ n. n ≡ 0 → 0 < length room.old → IsAtEnd (R.remaining reader.new)) }
-    ensures err { OnErr result (Keeps (R.remaining reader.old) (R.remaining reader.new)) }
+    ensures ok { IfOk result (λ n. Consumes (S.remaining source.old) (S.remaining source.new) (take n room.new)) }
+    ensures end { IfOk result (λ n. n ≡ 0 → 0 < length room.old → IsAtEnd (S.remaining source.new)) }
+    ensures quiet { OnOk result (ToldNoFault (S.told source.old) (S.told source.new)) }
+    ensures told { IfErr result (λ trouble. ToldFault (S.told source.old) (S.told source.new) trouble) }
 {
     for _ in 0..MOST_TRIES {
-        match reader.read(room) {
+        match source.read(room) {
             Ok(count) => return Ok(count),
-            Err(error) if error.kind() == ErrorKind::Interrupted => {}
-            Err(error) => return Err(cause_of(&error)),
+            Err(trouble) => {
+                if !trouble.is_interruption() {
+                    return Err(trouble);
+                }
+            }
         }
     }
-    Err(LoadError::Failed)
+    Err(Trouble::Interrupted)
 }
 
-/// What an error of the system says: want of memory, or that the outside failed.
-pub(crate) fn cause_of(error: &io::Error) -> LoadError
-    ensures { (result ≡ LoadError.Memory) ↔ (error_kind error.now ≡ ErrorKind.OutOfMemory) }
-{
-    if error.kind() == ErrorKind::OutOfMemory {
-        LoadError::Memory
-    } else {
-        LoadError::Failed
-    }
-}
-
-/// The first bytes that a reader gives, `count` of them or all where it gives fewer. It takes no byte
-/// past them from the reader, and an error in the middle is the answer.
-pub(crate) fn read_front<R: Read>(
+/// The first bytes that a source gives, `count` of them or all where it gives fewer. It takes no byte
+/// past them from the source, and an error in the middle is the answer: the outside failed where the
+/// source told an error that is no want of memory, or a million interruptions.
+pub(crate) fn read_front<S: Source>(
     alloc: Global,
-    reader: &mut R,
+    source: &mut S,
     count: usize,
 ) -> Result<Vec<u8>, LoadError>
-    ensures bytes { IfOk result (λ bytes. IfSome (R.remaining reader.old) (λ all. bytes.items ≡ take count all)) }
-    ensures taken { IfOk result (λ bytes. Consumes (R.remaining reader.old) (R.remaining reader.new) bytes.items) }
+    ensures bytes { IfOk result (λ bytes. IfSome (S.remaining source.old) (λ all. bytes.items ≡ take count all)) }
+    ensures taken { IfOk result (λ bytes. Consumes (S.remaining source.old) (S.remaining source.new) bytes.items) }
     ensures within { IfOk result (λ bytes. vec_len bytes ≤ count) }
+    ensures quiet { OnOk result (ToldNoFault (S.told source.old) (S.told source.new)) }
+    ensures failed { IfErr result (λ e. e ≡ LoadError.Failed
+        → ((t : Trouble) × (t ≢ Trouble.Memory) × ToldFault (S.told source.old) (S.told source.new) t)) }
+    ensures memory { IfErr result (λ e. e ≡ LoadError.Memory
+        → (ToldNoFault (S.told source.old) (S.told source.new)
+        ⊎ ToldFault (S.told source.old) (S.told source.new) Trouble.Memory)) }
 {
     let mut bytes = Vec::new(alloc);
     let mut room = [0; CHUNK];
     while bytes.len() < count {
         let want = CHUNK.min(count - bytes.len());
-        let given = read_some(reader, &mut room[..want])?;
+        let given = match read_some(source, &mut room[..want]) {
+            Ok(given) => given,
+            Err(trouble) => return Err(trouble.answer()),
+        };
         if given == 0 {
             return Ok(bytes);
         }

@@ -1,15 +1,17 @@
 //! The real outside: files, and a stream.
-ghost use Rattle.std.specs.Prelude.{◌≡◌, [], vec_len, IfOk, ◌≤◌};
+ghost use Rattle.std.specs.Prelude.{◌≡◌, [], vec_len, take, IfOk, IfErr, IfSome, IsErr, OnErr, ◌≤◌, ◌↔◌};
+ghost use Rattle.std.specs.IoError.{error_kind};
 
 use crate::asked::{Asked, Request};
 use crate::fault::Failed;
 use crate::library::{Library, LoadError};
 use crate::pieces::{Piece, Pieces};
 use crate::sink::Sink;
-use crate::streams::{cause_of, read_front, send};
+use crate::source::{Trouble, Untold};
+use crate::streams::{read_front, write_whole};
 use std::alloc::Global;
 use std::fs;
-use std::io::Write;
+use std::io::{self, BufWriter, ErrorKind, Read, Write};
 use std::rt::Files;
 
 /// Files by their paths. No contract can say what a file holds, so it tells no bytes. One counter
@@ -64,18 +66,34 @@ fn load_front<R: Files>(
 ) -> Result<Vec<u8>, LoadError>
     ensures { IfOk result (λ bytes. vec_len bytes ≤ count) }
 {
-    match fs::open(rt, name) {
-        Ok(mut file) => read_front(alloc, &mut file, count),
-        Err(error) => Err(cause_of(&error)),
+    front_of(alloc, fs::open(rt, name), count)
+}
+
+// The first bytes of what was opened, at most so many, or why it could not be opened.
+fn front_of<R: Read + Drop>(
+    alloc: Global,
+    opened: io::Result<R>,
+    count: usize,
+) -> Result<Vec<u8>, LoadError>
+    ensures within { IfOk result (λ bytes. vec_len bytes ≤ count) }
+    ensures front { IfOk opened (λ r. IfOk result (λ bytes. IfSome (R.remaining r) (λ all. bytes.items ≡ take count all))) }
+    ensures failed { OnErr opened (IsErr result) }
+    ensures cause { IfErr opened (λ e. IfErr result (λ cause. (cause ≡ LoadError.Memory)
+        ↔ (error_kind e ≡ ErrorKind.OutOfMemory))) }
+{
+    match opened {
+        Ok(reader) => read_front(alloc, &mut Untold { reader }, count),
+        Err(error) => Err(Trouble::of(&error).answer()),
     }
 }
 
 /// A stream, as standard output. It tells what its writer tells of its bytes: a writer in memory tells
 /// them, and standard output does not.
 ///
-/// Each piece is written whole and then flushed. A write that takes nothing is a fault, and so is a
-/// failed flush; each raises the count. A write that a signal interrupts is tried again, at most
-/// 1,000,000 times.
+/// Each piece is given to the writer whole, and no piece is flushed: where the writer is std's
+/// `BufWriter`, [`StreamSink::end`] hands on what it still holds. A write that takes nothing is a fault,
+/// and so is one that fails; each raises the count. A write that a signal interrupts is tried again, at
+/// most 1,000,000 times.
 #[derive(Drop)]
 pub struct StreamSink<W> {
     writer: W,
@@ -103,7 +121,7 @@ impl<W: Write> Sink for StreamSink<W> {
     ghost output = { sink_output W.contents };
 
     fn write(&mut self, piece: &[u8]) -> Result<(), Failed> {
-        match send(&mut self.writer, piece) {
+        match write_whole(&mut self.writer, piece) {
             Ok(()) => {
                 self.pieces = Pieces::and(&self.pieces, &Piece { bytes: piece });
                 Ok(())
@@ -112,6 +130,23 @@ impl<W: Write> Sink for StreamSink<W> {
                 self.faults = self.faults.saturating_add(1);
                 Err(Failed)
             }
+        }
+    }
+}
+
+impl<W: Write + Drop> StreamSink<BufWriter<W>> {
+    ghost use Rattle.std.specs.Io.Buffered.{writer_contents};
+    ghost use Rattle.std.specs.Io.KnownBytes.{Keeps};
+    ghost use Rattle.ttp_base.specs.System.{sink_output};
+
+    /// Hands on what the buffer still holds, and gives back the writer behind it, which then has all
+    /// that was written. After `Failed` that writer took only some first bytes of it.
+    pub fn end(self) -> Result<W, Failed>
+        ensures { IfOk result (λ w. Keeps (sink_output (writer_contents W.contents) self).written (W.contents w)) }
+    {
+        match self.writer.into_inner() {
+            Ok(writer) => Ok(writer),
+            Err(_) => Err(Failed),
         }
     }
 }

@@ -1,11 +1,13 @@
 //! Each public call once, and what no clause says of the real outside.
 
+use crate::source::Untold;
 use crate::streams::read_front;
 use crate::{
     Failed, FileLibrary, Gate, Library, Line, List, LoadError, MemoryLibrary, MemorySink, NodeSet,
     OpenGate, Sink, StreamSink,
 };
-use std::io::{Read, Write};
+use std::alloc::Global;
+use std::io::{BufWriter, Read, Write};
 use std::test::Fail;
 use std::{fs, io};
 
@@ -135,17 +137,21 @@ fn a_file_as_it_lies(rt: HostRuntime) -> Result<(), Fail> {
     Ok(())
 }
 
-// A reader that gives at most so many bytes at once, is interrupted at first, and may fail at a place.
+// A source that gives so many bytes, at most so many at once, is interrupted at first, and may fail at a
+// place. It tells no errors, and counts its calls.
 #[derive(Drop)]
 struct Pieces {
+    length: usize,
     at: usize,
     most: usize,
     interrupts: u32,
     fails: Option<(usize, io::ErrorKind)>,
+    calls: u32,
 }
 
 impl Read for Pieces {
     fn read(&mut self, buf: &mut [u8]) -> io::Result<usize> {
+        self.calls = self.calls.saturating_add(1);
         if self.interrupts > 0 {
             self.interrupts -= 1;
             return Err(io::Error::from(io::ErrorKind::Interrupted));
@@ -155,170 +161,143 @@ impl Read for Pieces {
         {
             return Err(io::Error::from(kind));
         }
-        let rest = &b"0123456789"[self.at.min(10)..];
-        let count = rest.len().min(self.most).min(buf.len());
-        buf[..count].copy_from_slice(&rest[..count]);
-        self.at = self.at.min(10) + count;
+        let count = self
+            .most
+            .min(buf.len())
+            .min(self.length.saturating_sub(self.at));
+        buf[..count].fill(b'x');
+        self.at = self.at.saturating_add(count);
         Ok(count)
     }
 }
 
 #[test]
 fn the_front_of_what_a_reader_gives(rt: HostRuntime) {
+    let blocked = Some((6, io::ErrorKind::WouldBlock));
+    let broken = Some((6, io::ErrorKind::BrokenPipe));
+    let refused = Some((6, io::ErrorKind::OutOfMemory));
+    // How many bytes there are and are asked for, how many come at once, interruptions, and where it
+    // fails; how many come or why none do, how many were taken, and the number of calls.
     let cases = [
-        (5, 3, 0, None, Ok(b"01234".as_slice()), 5),
-        (20, 3, 0, None, Ok(b"0123456789".as_slice()), 10),
-        (5, 1, 4, None, Ok(b"01234".as_slice()), 5),
-        (0, 3, 0, None, Ok(b"".as_slice()), 0),
-        (
-            8,
-            3,
-            0,
-            Some((6, io::ErrorKind::BrokenPipe)),
-            Err(LoadError::Failed),
-            6,
-        ),
-        (
-            8,
-            3,
-            0,
-            Some((6, io::ErrorKind::OutOfMemory)),
-            Err(LoadError::Memory),
-            6,
-        ),
-        (
-            6,
-            3,
-            0,
-            Some((6, io::ErrorKind::BrokenPipe)),
-            Ok(b"012345".as_slice()),
-            6,
-        ),
+        (10, 5, 3, 0, None, Ok(5), 5, 2),
+        (10, 20, 3, 0, None, Ok(10), 10, 5),
+        (10, 5, 1, 1000, None, Ok(5), 5, 1005),
+        (10, 0, 3, 0, None, Ok(0), 0, 0),
+        (10, 8, 3, 0, broken, Err(LoadError::Failed), 6, 3),
+        (10, 8, 3, 0, blocked, Err(LoadError::Failed), 6, 3),
+        (10, 8, 3, 0, refused, Err(LoadError::Memory), 6, 3),
+        (10, 6, 3, 0, broken, Ok(6), 6, 2),
+        (100_000, 200_000, 50_000, 0, None, Ok(100_000), 100_000, 26),
+        (100_000, 70_000, 4096, 0, None, Ok(70_000), 70_000, 18),
     ];
-    for (count, most, interrupts, fails, expected, taken) in cases {
-        let mut reader = Pieces {
-            at: 0,
-            most,
-            interrupts,
-            fails,
+    for (length, count, most, interrupts, fails, expected, taken, calls) in cases {
+        let mut reader = Untold {
+            reader: Pieces {
+                length,
+                at: 0,
+                most,
+                interrupts,
+                fails,
+                calls: 0,
+            },
         };
-        match (read_front(rt.alloc(), &mut reader, count), expected) {
-            (Ok(bytes), Ok(expected)) => assert_eq!(rt; bytes.as_slice(), expected),
-            (Err(error), Err(expected)) => assert_eq!(rt; error, expected),
-            _ => assert!(rt; false, "another outcome"),
-        }
-        assert_eq!(rt; reader.at, taken);
+        let given = read_front(rt.alloc(), &mut reader, count).map(|bytes| bytes.len());
+        assert!(rt; given == expected);
+        assert_eq!(rt; reader.reader.at, taken);
+        assert_eq!(rt; reader.reader.calls, calls);
     }
 }
 
-// A writer that takes at most so many bytes of a piece, is interrupted at first, and fails at first to
-// flush. It notes its calls in their order.
+// A writer that takes at most so many bytes at once and so many in all, and is interrupted at first. It
+// counts its calls.
 #[derive(Drop)]
 struct Slow {
     taken: Vec<u8>,
-    calls: Vec<u8>,
+    calls: u32,
     most: usize,
+    room: usize,
     interrupts: u32,
-    unflushed: u32,
+}
+
+impl Slow {
+    fn new(alloc: Global, most: usize, room: usize, interrupts: u32) -> Slow {
+        Slow {
+            taken: Vec::new(alloc),
+            calls: 0,
+            most,
+            room,
+            interrupts,
+        }
+    }
 }
 
 impl Write for Slow {
     fn write(&mut self, buf: &[u8]) -> io::Result<usize> {
-        self.calls.push(b'w')?;
+        self.calls = self.calls.saturating_add(1);
         if self.interrupts > 0 {
             self.interrupts -= 1;
             return Err(io::Error::from(io::ErrorKind::Interrupted));
         }
-        let count = buf.len().min(self.most);
+        let count = buf.len().min(self.most).min(self.room);
         self.taken.extend_from_slice(&buf[..count])?;
+        self.room -= count;
         Ok(count)
     }
 
     fn flush(&mut self) -> io::Result<()> {
-        self.calls.push(b'f')?;
-        if self.unflushed > 0 {
-            self.unflushed -= 1;
-            return Err(io::Error::from(io::ErrorKind::BrokenPipe));
-        }
         Ok(())
     }
 }
 
 #[test]
-fn a_stream_writes_each_piece_whole_and_flushes_it(rt: HostRuntime) {
+fn a_stream_gives_each_piece_whole(rt: HostRuntime) {
     let long = [b'x'; 640];
-    // The most bytes at once, interrupted writes, failed flushes and the piece; whether it is taken, the
-    // bytes, and the calls.
+    // The most bytes at once, the room, interrupted writes and the piece; whether it is taken, how many
+    // of its bytes are, and the number of calls.
     let cases = [
-        (
-            2,
-            0,
-            0,
-            b"abcde".as_slice(),
-            true,
-            b"abcde".as_slice(),
-            b"wwwf".as_slice(),
-        ),
-        (
-            9,
-            2,
-            0,
-            b"abcde".as_slice(),
-            true,
-            b"abcde".as_slice(),
-            b"wwwf".as_slice(),
-        ),
-        (
-            999,
-            0,
-            0,
-            long.as_slice(),
-            true,
-            long.as_slice(),
-            b"wf".as_slice(),
-        ),
-        (
-            0,
-            0,
-            0,
-            b"".as_slice(),
-            true,
-            b"".as_slice(),
-            b"f".as_slice(),
-        ),
-        (
-            0,
-            0,
-            0,
-            b"abcde".as_slice(),
-            false,
-            b"".as_slice(),
-            b"w".as_slice(),
-        ),
-        (
-            9,
-            0,
-            1,
-            b"abcde".as_slice(),
-            false,
-            b"abcde".as_slice(),
-            b"wf".as_slice(),
-        ),
+        (2, 99, 0, b"abcde".as_slice(), true, 5, 3),
+        (9, 99, 2, b"abcde".as_slice(), true, 5, 3),
+        (9, 99, 1000, b"abcde".as_slice(), true, 5, 1001),
+        (999, 999, 0, long.as_slice(), true, 640, 1),
+        (9, 99, 0, b"".as_slice(), true, 0, 0),
+        (0, 99, 0, b"abcde".as_slice(), false, 0, 1),
+        (2, 3, 0, b"abcde".as_slice(), false, 3, 3),
     ];
-    for (most, interrupts, unflushed, piece, is_taken, bytes, calls) in cases {
-        let mut slow = Slow {
-            taken: Vec::new(rt.alloc()),
-            calls: Vec::new(rt.alloc()),
-            most,
-            interrupts,
-            unflushed,
-        };
+    for (most, room, interrupts, piece, is_taken, count, calls) in cases {
+        let mut slow = Slow::new(rt.alloc(), most, room, interrupts);
         let mut sink = StreamSink::new(&mut slow);
         assert_eq!(rt; sink.write(piece).is_ok(), is_taken);
         drop(sink);
-        assert_eq!(rt; slow.taken.as_slice(), bytes);
-        assert_eq!(rt; slow.calls.as_slice(), calls);
+        assert_eq!(rt; slow.taken.as_slice(), &piece[..count]);
+        assert_eq!(rt; slow.calls, calls);
     }
+}
+
+// What is buffered comes to the writer in one call at the end, or as the buffer fills; a writer that is
+// full is told at the latest at the end.
+#[test]
+fn a_buffered_stream_hands_on_all_at_its_end(rt: HostRuntime) -> Result<(), Fail> {
+    // The room of the writer; which of four pieces of 5 bytes are taken, through a buffer of 8, and
+    // whether the end succeeds.
+    let cases = [
+        (99, [true, true, true, true], true),
+        (12, [true, true, true, false], false),
+        (17, [true, true, true, true], false),
+    ];
+    for (room, taken, ends) in cases {
+        let mut slow = Slow::new(rt.alloc(), 99, room, 0);
+        let buffered = BufWriter::with_capacity(rt.alloc(), 8, &mut slow)?;
+        let mut sink = StreamSink::new(buffered);
+        for is_taken in taken {
+            assert_eq!(rt; sink.write(b"line\n").is_ok(), is_taken);
+        }
+        assert_eq!(rt; sink.end().is_ok(), ends);
+        assert_eq!(rt;
+            slow.taken.as_slice(),
+            &b"line\nline\nline\nline\n"[..room.min(20)]
+        );
+    }
+    Ok(())
 }
 
 #[test]
