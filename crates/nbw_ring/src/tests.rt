@@ -160,6 +160,43 @@ fn a_message_is_written_and_read(rt: HostRuntime) -> Result<(), Fail> {
     Ok(())
 }
 
+// Keeps the places that were passed, as decimal digits, the first one first.
+#[derive(Drop)]
+struct Places {
+    digits: AtomicU64,
+}
+
+impl Gate for Places {
+    fn pass(&self, place: u32) {
+        let before = self.digits.load(SeqCst);
+        let digits = before.wrapping_mul(10).wrapping_add(place as u64);
+        self.digits.store(digits, SeqCst);
+    }
+}
+
+impl Places {
+    // Those since the last call.
+    fn told(&self) -> u64 {
+        self.digits.swap(0, SeqCst)
+    }
+}
+
+#[test]
+fn each_step_on_a_word_passes_the_gate(rt: HostRuntime) -> Result<(), Fail> {
+    let places = Places {
+        digits: AtomicU64::new(0),
+    };
+    let (ring, mut writer) = written(rt.alloc(), 3, 2, 4)?;
+    let mut reader = ring.lend(&mut writer, 2)?;
+    write_next(&ring, &mut writer, 3, &places);
+    assert_eq!(rt; places.told(), 12223);
+    assert!(rt; ring.try_read(&mut reader, &places) == Try::Got { number: 5 });
+    assert_eq!(rt; places.told(), 45556);
+    assert_eq!(rt; ring.read(&rt, &mut reader, &places), 5);
+    assert_eq!(rt; places.told(), 45556);
+    Ok(())
+}
+
 // The reader's part of a scene.
 fn attempt(ring: &Ring, mut reader: Reader, scene: &Scene) -> (Try, Reader)
     requires { (reader.ring ≡ ring.now) × (1 ≤ reader.spare) }

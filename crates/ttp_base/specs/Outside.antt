@@ -65,8 +65,7 @@ NoneRose before now = (name : List ℕ) → now.faults name ≡ before.faults na
 -- ---- output
 
 -- the bytes that were written so far, where the sink tells them, the pieces that it took whole, the first one first,
--- and
--- the count of faults
+-- and the count of faults
 pub record Output : Type 0 where
   pub written : Option (List ℕ)
   pub pieces : List (List ℕ)
@@ -87,8 +86,7 @@ abbrev pub WroteLines : Output → Output → Lines → Type 0
 WroteLines before now lines = Wrote before now lines
 
 -- A fault cut a text short: some of its first lines, or none, were written as a piece each, and then some first bytes
--- of
--- the next line, or none, or all of them where it failed after them. The count of faults rose.
+-- of the next line, or none, or all of them where it failed after them. The count of faults rose.
 pub record CutShort (before now : Output) (lines : Lines) : Type 0 where
   pub whole : Lines
   pub next : List ℕ
