@@ -7,7 +7,8 @@ use Rattle.std.proofs.lemmas.Bool.{cases_lt, cases_eq, eqb-true, both_ways, and_
 use Rattle.ttp_base.specs.NodeSet.{below, has_node}
 use Rattle.std.proofs.lemmas.Option.{same_Some}
 use Rattle.fault_plan.specs.Plan.{Change, Incident, Plan, sender, incident_at}
-use Rattle.fault_plan.specs.Fates.{Fate, Absent, Sound, Falling, Fallen, fate_of, is_sound_after, is_good, is_first}
+use Rattle.fault_plan.specs.Fates.{Fate, Absent, Sound, Falling, Fallen, fate_of, is_sound_after, is_good_slot}
+use Rattle.fault_plan.specs.Fates.{is_first_slot}
 use Rattle.fault_plan.specs.Fates.{is_shown_in, is_steady_after, sound_nodes, steady_nodes, tally, is_measured}
 use Rattle.fault_plan.specs.GoodPlan.{IsGoodPlan}
 use Rattle.fault_plan.specs.Ledger.{ledger_of}
@@ -43,13 +44,13 @@ first-is plan slot (Fallen change since shown) told first =
       soon = omega (arith, told.soon, now);
     }
 
-first-of : (plan : Plan) (slot : ℕ) → IsGoodPlan plan → is_first plan slot ≡ true → IsFirstOf plan slot
+first-of : (plan : Plan) (slot : ℕ) → IsGoodPlan plan → is_first_slot plan slot ≡ true → IsFirstOf plan slot
 first-of plan slot good first =
     first-is plan slot (fate_of plan slot (sender plan slot)) (fate-told plan slot (sender plan slot) good) first
 
 -- two of them lie a round apart
 firsts-apart : (plan : Plan) (slot later : ℕ) → IsGoodPlan plan → slot < later → later < slot + plan.nodes
-    → is_first plan slot ≡ true → is_first plan later ≡ true
+    → is_first_slot plan slot ≡ true → is_first_slot plan later ≡ true
     → ⊥
 firsts-apart plan slot later good less near one two =
     let first = first-of plan slot good one in
@@ -82,7 +83,7 @@ bad-own plan slot k good less =
     let ledger = ledger_of plan slot k in
     let told = ledger-told plan slot k good less in
     subst (λ n. n ≤ 1) (sym told.bad)
-    (count-one (is_first plan) (suc ledger.base) (slot - ledger.base)
+    (count-one (is_first_slot plan) (suc ledger.base) (slot - ledger.base)
     (λ u v above before to one two.
     firsts-apart plan u v good before (omega (arith, told.near, told.within)) one two))
 
@@ -103,8 +104,8 @@ bad-first plan slot k good less none =
     let told = ledger-told plan slot k good less in
     let early = own-base plan slot k good less none in
     told.bad
-    ∙ count-none (is_first plan) (suc ledger.base) (slot - ledger.base)
-    (λ u above to. false_from_ne_true (is_first plan u) (λ first.
+    ∙ count-none (is_first_slot plan) (suc ledger.base) (slot - ledger.base)
+    (λ u above to. false_from_ne_true (is_first_slot plan u) (λ first.
     let is = first-of plan u good first in
     omega (arith, is.loss.late, is.from, early, told.within)))
 
@@ -128,7 +129,7 @@ four-measured plan slot from good within is =
     good-round plan (is_steady_after plan slot) (is_measured plan) slot from is (λ u to steady.
     let parts =
     and_parts (has_node plan.measured (sender plan u)) (is_sound_after plan slot (sender plan u)) steady in
-    and_from (is_good plan u) (has_node plan.measured (sender plan u))
+    and_from (is_good_slot plan u) (has_node plan.measured (sender plan u))
     (sound-before plan u slot (sender plan u) to parts.1) parts.0) in
     omega (arith, steady, round)
 
@@ -158,7 +159,7 @@ seen-round plan slot k good less turn own =
     let all = count-round plan p (suc base) in
     let front = count-front (λ u. p (sender plan u)) (suc base) (slot - base) n round in
     let fewer =
-    count-fewer (λ u. p (sender plan u)) (is_good plan) (suc base) (slot - base)
+    count-fewer (λ u. p (sender plan u)) (is_good_slot plan) (suc base) (slot - base)
     (λ u above to sound. sound-before plan u slot (sender plan u) (omega (arith, told.within)) sound) in
     omega (arith, all, front, fewer, told.seen)
 

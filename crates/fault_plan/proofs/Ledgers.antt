@@ -5,7 +5,7 @@ use Rattle.std.specs.Prelude.{◌==◌, if◌then◌else◌}
 use Rattle.std.proofs.lemmas.Bool.{cases_lt, eqb-true, eqb-false, both_ways}
 use Rattle.std.proofs.Math.Nat.{eq-or-lt_of_le}
 use Rattle.fault_plan.specs.Plan.{Plan, sender}
-use Rattle.fault_plan.specs.Fates.{is_good, is_first, tally}
+use Rattle.fault_plan.specs.Fates.{is_good_slot, is_first_slot, tally}
 use Rattle.fault_plan.specs.GoodPlan.{IsGoodPlan}
 use Rattle.fault_plan.specs.Ledger.{Ledger, opened, with_slot, ledger_of}
 use Rattle.fault_plan.specs.Told.{IsLedgerOf}
@@ -30,8 +30,8 @@ opened-told plan slot k good own = record {
   near = omega (arith, good.count);
   owned = λ _. own;
   newest = λ turn within at. (refl, within);
-  seen = none-counted (is_good plan) slot;
-  bad = none-counted (is_first plan) slot;
+  seen = none-counted (is_good_slot plan) slot;
+  bad = none-counted (is_first_slot plan) slot;
 }
 
 -- at another's, or before the first
@@ -48,7 +48,7 @@ kept-near plan slot base k good less within none =
 
 kept-told : (plan : Plan) (slot k : ℕ) (ledger : Ledger) → IsGoodPlan plan → k < plan.nodes
     → sender plan (suc slot) ≢ k → IsLedgerOf plan slot k ledger
-    → IsLedgerOf plan (suc slot) k (with_slot (is_good plan (suc slot)) (is_first plan (suc slot)) ledger)
+    → IsLedgerOf plan (suc slot) k (with_slot (is_good_slot plan (suc slot)) (is_first_slot plan (suc slot)) ledger)
 kept-told plan slot k ledger good less other told =
     let newest : (turn : ℕ) → turn ≤ suc slot → sender plan turn ≡ k → (ledger.own ≡ true) × (turn ≤ ledger.base) =
     λ turn within at. elim (eq-or-lt_of_le within) [
@@ -61,16 +61,17 @@ kept-told plan slot k ledger good less other told =
           (λ turn after within at. let old = (newest turn within at).1 in omega (arith, old));
       owned = told.owned;
       newest = newest;
-      seen = ap (λ n. (if is_good plan (suc slot) then 1 else 0) + n) told.seen
-          ∙ counted-next (is_good plan) ledger.base slot told.within;
-      bad = ap (λ n. (if is_first plan (suc slot) then 1 else 0) + n) told.bad
-          ∙ counted-next (is_first plan) ledger.base slot told.within;
+      seen = ap (λ n. (if is_good_slot plan (suc slot) then 1 else 0) + n) told.seen
+          ∙ counted-next (is_good_slot plan) ledger.base slot told.within;
+      bad = ap (λ n. (if is_first_slot plan (suc slot) then 1 else 0) + n) told.bad
+          ∙ counted-next (is_first_slot plan) ledger.base slot told.within;
     }
 
 next-told : (plan : Plan) (slot k : ℕ) (ledger : Ledger) (own : Bool) → IsGoodPlan plan → k < plan.nodes
     → (sender plan (suc slot) == k) ≡ own → IsLedgerOf plan slot k ledger
     → IsLedgerOf plan (suc slot) k
-    (cond own (opened true (suc slot)) (with_slot (is_good plan (suc slot)) (is_first plan (suc slot)) ledger))
+    (cond own (opened true (suc slot))
+    (with_slot (is_good_slot plan (suc slot)) (is_first_slot plan (suc slot)) ledger))
 next-told plan slot k ledger true good less turn told =
     opened-told plan (suc slot) k good (eqb-true (sender plan (suc slot)) k turn)
 next-told plan slot k ledger false good less turn told =
@@ -86,8 +87,8 @@ first-told plan k false good turn = record {
   newest = λ turn' within at.
       let none : turn' ≡ 0 = omega arith in
       absurd (eqb-false (sender plan 0) k turn (ap (sender plan) (sym none) ∙ at));
-  seen = none-counted (is_good plan) 0;
-  bad = none-counted (is_first plan) 0;
+  seen = none-counted (is_good_slot plan) 0;
+  bad = none-counted (is_first_slot plan) 0;
 }
 
 pub ledger-told : (plan : Plan) (slot k : ℕ) → IsGoodPlan plan → k < plan.nodes

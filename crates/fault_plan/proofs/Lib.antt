@@ -18,3 +18,4 @@ pub mod Tallies
 pub mod Ledgers
 pub mod Members
 pub mod Counts
+pub mod SlotKinds

@@ -1,14 +1,17 @@
 -- Who is a member by a good plan.
-use Rattle.std.proofs.Common.{◌≡◌, ℕ, zero, suc, ◌+◌, ◌%◌, ◌<◌, Bool, true, false, cond, not, ◌&&◌, ◌||◌}
+use Rattle.std.proofs.Common.{◌≡◌, ℕ, zero, suc, ◌+◌, ◌%◌, ◌<◌, ◌≤◌, Bool, true, false, cond, not, ◌&&◌, ◌||◌}
 use Rattle.std.proofs.Common.{refl, ap, sym, subst, ◌∙◌, inl, inr, mod-lt, arith}
 use Rattle.std.specs.Prelude.{◌==◌}
 use Rattle.std.proofs.lemmas.Bool.{cases_eq, eqb-true, eqb-false, eq-eqb, ne_eqb, and_from, and_right}
 use Rattle.std.proofs.Math.Nat.{mod-eq_of_lt}
-use Rattle.ttp_base.specs.NodeSet.{has_node, with_node, without_node}
-use Rattle.ttp_base.proofs.NodeSets.{has_node-with, has_node-without}
+use Rattle.ttp_base.specs.NodeSet.{most_nodes, below, has_node, with_node, without_node}
+use Rattle.ttp_base.proofs.NodeLists.{filter-none, with_node-filter, without_node-filter, with_node-nil}
+use Rattle.std.specs.List.{filter}
+use Rattle.std.proofs.Common.{List, [], ◌∷◌}
+use Rattle.ttp_base.proofs.NodeSets.{has_node-sieve, same_sieve, has_node-with, has_node-without}
 use Rattle.fault_plan.specs.Plan.{Change, Receiving, Plan, sender, incident_at}
 use Rattle.fault_plan.specs.Fates.{Falling, Fallen, fate_of}
-use Rattle.fault_plan.specs.Fates.{is_sound_after, is_good, is_first}
+use Rattle.fault_plan.specs.Fates.{is_sound_after, is_good_slot, is_first_slot}
 use Rattle.fault_plan.specs.GoodPlan.{IsGoodPlan}
 use Rattle.fault_plan.specs.Ledger.{Ledger, opened, with_slot, planned_members, ledger_of}
 use Rattle.fault_plan.specs.Told.{IsLossOf, IsFalling, IsFallen, IsTold, IsSenderLost}
@@ -22,14 +25,14 @@ use Rattle.fault_plan.proofs.Turns.{turns_apart}
 -- A node is a member where its newest own slot was good.
 
 abbrev holds_slot : Plan → Ledger → Bool
-holds_slot plan ledger = ledger.own && is_good plan ledger.base
+holds_slot plan ledger = ledger.own && is_good_slot plan ledger.base
 
 pub first-sender : (plan : Plan) → IsGoodPlan plan → sender plan 0 ≡ plan.starter
 first-sender plan good =
     let none : plan.starter + 0 ≡ plan.starter = omega arith in
     ap (λ t. t % plan.nodes) none ∙ mod-eq_of_lt good.starter.0
 
-first-good : (plan : Plan) → IsGoodPlan plan → is_good plan 0 ≡ true
+first-good : (plan : Plan) → IsGoodPlan plan → is_good_slot plan 0 ≡ true
 first-good plan good =
     ap (is_sound_after plan 0) (first-sender plan good) ∙ sound-first plan plan.starter good ∙ good.starter.1
 
@@ -40,13 +43,14 @@ member-first plan k good =
     ∙ and-true (sender plan 0 == k) ∙ ap (λ b. (sender plan 0 == k) && b) (sym (first-good plan good))
 
 member-next : (plan : Plan) (slot k : ℕ) (ledger : Ledger) (own good : Bool) → k < 24
-    → (sender plan (suc slot) == k) ≡ own → is_good plan (suc slot) ≡ good
+    → (sender plan (suc slot) == k) ≡ own → is_good_slot plan (suc slot) ≡ good
     → has_node (planned_members plan slot) k ≡ holds_slot plan ledger
     → has_node
     (cond good (with_node (planned_members plan slot) (sender plan (suc slot)))
     (without_node (planned_members plan slot) (sender plan (suc slot)))) k
     ≡ holds_slot plan
-    (cond own (opened true (suc slot)) (with_slot (is_good plan (suc slot)) (is_first plan (suc slot)) ledger))
+    (cond own (opened true (suc slot))
+    (with_slot (is_good_slot plan (suc slot)) (is_first_slot plan (suc slot)) ledger))
 member-next plan slot k ledger true true small turn is rest =
     let same : (k == sender plan (suc slot)) ≡ true = eq-eqb k _ (sym (eqb-true (sender plan (suc slot)) k turn)) in
     has_node-with (planned_members plan slot) (sender plan (suc slot)) k small
@@ -68,10 +72,10 @@ member-next plan slot k ledger false false small turn is rest =
 
 pub member-by_slot : (plan : Plan) (slot k : ℕ) → IsGoodPlan plan → k < plan.nodes
     → has_node (planned_members plan slot) k
-    ≡ ((ledger_of plan slot k).own && is_good plan (ledger_of plan slot k).base)
+    ≡ ((ledger_of plan slot k).own && is_good_slot plan (ledger_of plan slot k).base)
 member-by_slot plan zero k good less = member-first plan k good
 member-by_slot plan (suc slot) k good less =
-    member-next plan slot k (ledger_of plan slot k) (sender plan (suc slot) == k) (is_good plan (suc slot))
+    member-next plan slot k (ledger_of plan slot k) (sender plan (suc slot) == k) (is_good_slot plan (suc slot))
     (omega (arith, good.count)) refl refl (member-by_slot plan slot k good less)
 
 -- So a sound node with a slot of its own is a member.
@@ -82,7 +86,7 @@ sound-member plan slot k good less sound own =
     let ledger = ledger_of plan slot k in
     let told = ledger-told plan slot k good less in
     member-by_slot plan slot k good less
-    ∙ and_from ledger.own (is_good plan ledger.base) own
+    ∙ and_from ledger.own (is_good_slot plan ledger.base) own
     (ap (is_sound_after plan ledger.base) (told.owned own) ∙ sound-before plan ledger.base slot k told.within sound)
 
 -- And a fallen one is not.
@@ -96,7 +100,7 @@ fallen-by plan slot k since shown change good less fallen =
     let lost =
     lost-since plan k since ledger.base change good fallen.loss (omega (arith, fallen.from.0, newest.1)) in
     member-by_slot plan slot k good less
-    ∙ and_right ledger.own (is_good plan ledger.base)
+    ∙ and_right ledger.own (is_good_slot plan ledger.base)
     (ap (is_sound_after plan ledger.base) (told.owned newest.0) ∙ lost-unsound (fate_of plan ledger.base k) lost)
 
 pub fallen-member : (plan : Plan) (slot k since shown : ℕ) (change : Change) → IsGoodPlan plan → k < plan.nodes
@@ -149,3 +153,36 @@ pub sender-lost : (plan : Plan) (slot k since : ℕ) → IsGoodPlan plan → fat
     → IsSenderLost plan slot since
 sender-lost plan slot k since good is =
     sender-lost-by plan slot k since good (subst (IsTold plan slot k) is (fate-told plan slot k good))
+
+-- Members are nodes in ascending order.
+
+sieved : (members : List ℕ) (p : ℕ → Bool) (n : ℕ) → members ≡ filter p (below n)
+    → members ≡ filter (has_node members) (below n)
+sieved members p n are =
+    are
+    ∙ same_sieve p (has_node members) n (λ j less.
+    sym (ap (λ ks. has_node ks j) are ∙ has_node-sieve p n j less))
+
+alone-nodes : (n k : ℕ) → k < n → n ≤ most_nodes → k ∷ [] ≡ filter (has_node (k ∷ [])) (below n)
+alone-nodes n k less few =
+    sieved (k ∷ []) (λ j. (j == k) || false) n
+    (sym (with_node-nil k (omega arith)) ∙ ap (λ ks. with_node ks k) (sym (filter-none (λ _. false) 0 n (λ j _. refl)))
+    ∙ with_node-filter (λ _. false) n k less few)
+
+nodes-next : (members : List ℕ) (n k : ℕ) (good : Bool) → k < n → n ≤ most_nodes
+    → members ≡ filter (has_node members) (below n)
+    → cond good (with_node members k) (without_node members k)
+    ≡ filter (has_node (cond good (with_node members k) (without_node members k))) (below n)
+nodes-next members n k true less few are =
+    sieved (with_node members k) (λ j. (j == k) || has_node members j) n
+    (ap (λ ks. with_node ks k) are ∙ with_node-filter (has_node members) n k less few)
+nodes-next members n k false less few are =
+    sieved (without_node members k) (λ j. has_node members j && not (j == k)) n
+    (ap (λ ks. without_node ks k) are ∙ without_node-filter (has_node members) n k)
+
+pub members-nodes : (plan : Plan) (slot : ℕ) → IsGoodPlan plan
+    → planned_members plan slot ≡ filter (has_node (planned_members plan slot)) (below plan.nodes)
+members-nodes plan zero good = alone-nodes plan.nodes plan.starter good.starter.0 good.count.1
+members-nodes plan (suc slot) good =
+    nodes-next (planned_members plan slot) plan.nodes (sender plan (suc slot)) (is_good_slot plan (suc slot))
+    (mod-lt (plan.starter + suc slot) (omega (arith, good.count))) good.count.1 (members-nodes plan slot good)

@@ -68,16 +68,16 @@ may_stay nodes slot _ = false
 -- Slots.
 
 -- the sender is sound, so that its frame is one of the group's
-abbrev pub is_good : Plan → ℕ → Bool
-is_good plan slot = is_sound_after plan slot (sender plan slot)
+abbrev pub is_good_slot : Plan → ℕ → Bool
+is_good_slot plan slot = is_sound_after plan slot (sender plan slot)
 
 abbrev pub is_shown_in : ℕ → Fate → Bool
 is_shown_in slot (Fallen change since shown) = shown == slot
 is_shown_in slot _ = false
 
 -- it is the first own slot of a lost node
-abbrev pub is_first : Plan → ℕ → Bool
-is_first plan slot = is_shown_in slot (fate_of plan slot (sender plan slot))
+abbrev pub is_first_slot : Plan → ℕ → Bool
+is_first_slot plan slot = is_shown_in slot (fate_of plan slot (sender plan slot))
 
 -- Counts.
 
@@ -98,4 +98,4 @@ tally test from (suc many) = (if test (from + many) then 1 else 0) + tally test 
 
 -- a good slot by whose frame clocks are measured
 abbrev pub is_measured : Plan → ℕ → Bool
-is_measured plan slot = is_good plan slot && has_node plan.measured (sender plan slot)
+is_measured plan slot = is_good_slot plan slot && has_node plan.measured (sender plan slot)

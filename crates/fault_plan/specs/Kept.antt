@@ -11,7 +11,7 @@ use Rattle.ttp_world.specs.Hypothesis.{faulty_nodes_after, is_correct_after}
 use Rattle.ttp_world.specs.Script.{is_ever_on, is_on, is_armed, drift_of, reading_error, has_jump, jump_of}
 use Rattle.ttp_world.specs.Script.{flipped_bits}
 use Rattle.fault_plan.specs.Plan.{Sending, Receiving, Jumping, Incident, Plan, sender, incident_at, plan_of}
-use Rattle.fault_plan.specs.Fates.{fate_of, is_sound_after, is_good, lost_since}
+use Rattle.fault_plan.specs.Fates.{fate_of, is_sound_after, is_good_slot, lost_since}
 use Rattle.fault_plan.specs.GoodPlan.{IsGoodPlan}
 
 -- Clocks and bits, in the whole run.
@@ -49,7 +49,7 @@ pub record IsPlanOfFaults (list : Medl) (script : Script) (start : ClusterStart)
 -- Who hears whom in a slot from the start on, and whose clock jumps.
 pub record IsHeardByPlan (script : Script) (start : ClusterStart) (plan : Plan) (slot : ℕ) : Type 0 where
   -- the frame of a sound sender reaches each other sound node undisturbed on some channel
-  pub heard : (r : ℕ) → r < plan.nodes → r ≢ sender plan slot → is_good plan slot ≡ true
+  pub heard : (r : ℕ) → r < plan.nodes → r ≢ sender plan slot → is_good_slot plan slot ≡ true
       → is_sound_after plan slot r ≡ true → loses script (sender plan slot) (start.slot + slot) r ≡ false
   -- that of a sender that is lost by it reaches none
   pub unheard : (r : ℕ) (incident : Incident) → r < plan.nodes → incident_at plan slot ≡ Some incident

@@ -2,13 +2,13 @@
 use Rattle.std.specs.Prelude.{ℕ, zero, suc, ◌+◌, Bool, true, ◌==◌, List, [], ◌∷◌, if◌then◌else◌}
 use Rattle.ttp_base.specs.NodeSet.{with_node, without_node}
 use Rattle.fault_plan.specs.Plan.{Plan, sender}
-use Rattle.fault_plan.specs.Fates.{is_good, is_first}
+use Rattle.fault_plan.specs.Fates.{is_good_slot, is_first_slot}
 
 -- the members after a slot, as every sound node has them that is not in doubt
 abbrev pub planned_members : Plan → ℕ → List ℕ
 planned_members plan zero = plan.starter ∷ []
 planned_members plan (suc slot) =
-    if is_good plan (suc slot) then with_node (planned_members plan slot) (sender plan (suc slot))
+    if is_good_slot plan (suc slot) then with_node (planned_members plan slot) (sender plan (suc slot))
     else without_node (planned_members plan slot) (sender plan (suc slot))
 
 -- what a node saw since its newest own slot, or else since the start
@@ -39,4 +39,4 @@ abbrev pub ledger_of : Plan → ℕ → ℕ → Ledger
 ledger_of plan zero k = opened (sender plan 0 == k) 0
 ledger_of plan (suc slot) k =
     if sender plan (suc slot) == k then opened true (suc slot)
-    else with_slot (is_good plan (suc slot)) (is_first plan (suc slot)) (ledger_of plan slot k)
+    else with_slot (is_good_slot plan (suc slot)) (is_first_slot plan (suc slot)) (ledger_of plan slot k)

@@ -5,3 +5,4 @@ pub mod GoodPlan
 pub mod Kept
 pub mod Told
 pub mod WorkedPlan
+pub mod SlotKind

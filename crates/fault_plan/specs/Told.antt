@@ -2,7 +2,8 @@
 use Rattle.std.specs.Prelude.{◌≡◌, ◌≢◌, ℕ, suc, ◌+◌, ◌-◌, ◌*◌, ◌<◌, ◌≤◌, true, Some}
 use Rattle.fault_plan.specs.Plan.{Change, Sending, Incident, Plan, sender, incident_at}
 use Rattle.ttp_base.specs.NodeSet.{has_node}
-use Rattle.fault_plan.specs.Fates.{Fate, Absent, Sound, Falling, Fallen, is_sound_after, is_good, is_first, tally}
+use Rattle.fault_plan.specs.Fates.{Fate, Absent, Sound, Falling, Fallen, is_sound_after, is_good_slot, is_first_slot}
+use Rattle.fault_plan.specs.Fates.{tally}
 use Rattle.fault_plan.specs.Ledger.{Ledger, planned_members, ledger_of}
 
 -- an incident of a slot loses a node, two rounds or more after the start
@@ -40,8 +41,8 @@ pub record IsLedgerOf (plan : Plan) (slot k : ℕ) (ledger : Ledger) : Type 0 wh
   pub near : slot < ledger.base + plan.nodes
   pub owned : ledger.own ≡ true → sender plan ledger.base ≡ k
   pub newest : (turn : ℕ) → turn ≤ slot → sender plan turn ≡ k → (ledger.own ≡ true) × (turn ≤ ledger.base)
-  pub seen : ledger.seen ≡ tally (is_good plan) (suc ledger.base) (slot - ledger.base)
-  pub bad : ledger.bad ≡ tally (is_first plan) (suc ledger.base) (slot - ledger.base)
+  pub seen : ledger.seen ≡ tally (is_good_slot plan) (suc ledger.base) (slot - ledger.base)
+  pub bad : ledger.bad ≡ tally (is_first_slot plan) (suc ledger.base) (slot - ledger.base)
 
 -- the sender whose frame a falling receiver lost is sound and a member, and had no other slot since
 pub record IsSenderLost (plan : Plan) (slot since : ℕ) : Type 0 where

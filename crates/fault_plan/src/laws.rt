@@ -1,6 +1,6 @@
 //! Laws of plans of faults. The functions do nothing; their contracts are the laws.
-ghost use Rattle.std.specs.Prelude.{◌≡◌, ℕ, suc, ◌+◌, ◌*◌, ◌<◌, ◌≤◌, true, false, not, length, Some};
-ghost use Rattle.ttp_base.specs.NodeSet.{has_node};
+ghost use Rattle.std.specs.Prelude.{◌≡◌, ℕ, suc, ◌+◌, ◌*◌, ◌<◌, ◌≤◌, true, false, not, length, filter, Some, None};
+ghost use Rattle.ttp_base.specs.NodeSet.{below, has_node};
 ghost use Rattle.ttp_world.specs.declared.keep.Keep.TheVariants as keep;
 ghost use Rattle.ttp_world.specs.declared.medl.Medl.{Medl};
 ghost use Rattle.ttp_world.specs.declared.script.Script.{Script};
@@ -13,6 +13,7 @@ ghost use Rattle.fault_plan.specs.Fates.{tally, is_measured};
 ghost use Rattle.fault_plan.specs.Ledger.{planned_members, ledger_of};
 ghost use Rattle.fault_plan.specs.GoodPlan.{IsGoodPlan};
 ghost use Rattle.fault_plan.specs.Kept.{KeepsByPlan};
+ghost use Rattle.fault_plan.specs.SlotKind.{slot_kind, IsKindAfter};
 ghost use Rattle.fault_plan.specs.Told.{IsTold, IsSenderLost, IsLedgerOf};
 
 /// A script whose test says that its cluster starts in a slot keeps to a good plan of faults from
@@ -55,6 +56,15 @@ pub fn lost_one_by_one()
         → is_sound_after plan slot k ≡ true }
 {}
 
+/// What a slot is by the fate of the node whose slot it is, and what that tells of the slot: who was
+/// sound before, and which incidents can come in it. None comes while a lost node may still stay.
+pub fn slots_known()
+    ensures kind { (plan : Plan) (slot : ℕ) → IsGoodPlan plan → IsKindAfter plan slot (slot_kind plan (suc slot)) }
+    ensures quiet { (plan : Plan) (slot k : ℕ) → IsGoodPlan plan
+        → may_stay plan.nodes slot (fate_of plan slot k) ≡ true
+        → incident_at plan (suc slot) ≡ None }
+{}
+
 /// A sound node that has had a slot of its own is a member, and a lost one isn't once its first own
 /// slot has come. Until then the sender whose frame a receiver lost stays sound and a member.
 pub fn members_known()
@@ -67,6 +77,8 @@ pub fn members_known()
     ensures falling { (plan : Plan) (slot k since : ℕ) → IsGoodPlan plan
         → fate_of plan slot k ≡ Falling Receiving since
         → IsSenderLost plan slot since }
+    ensures nodes { (plan : Plan) (slot : ℕ) → IsGoodPlan plan
+        → planned_members plan slot ≡ filter (has_node (planned_members plan slot)) (below plan.nodes) }
 {}
 
 /// What a node has counted since its own slot: at most one first own slot of a lost node, and none in

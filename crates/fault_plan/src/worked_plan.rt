@@ -1,11 +1,12 @@
 //! A plan that was worked out by hand. The function has no code: its contract is the case, and the
 //! check computes it.
-ghost use Rattle.std.specs.Prelude.{◌≡◌, true, false, [], ◌∷◌, Some};
+ghost use Rattle.std.specs.Prelude.{◌≡◌, true, false, [], ◌∷◌, map, Some};
 ghost use Rattle.ttp_world.specs.declared.keep.Keep.TheVariants as keep;
 ghost use Rattle.ttp_world.specs.Hypothesis.{keeps, start_of};
 ghost use Rattle.fault_plan.specs.Plan.{Sending, Receiving, Jumping, plan_of};
-ghost use Rattle.fault_plan.specs.Fates.{Sound, Falling, Fallen, fate_of, sound_nodes, is_good, is_first};
+ghost use Rattle.fault_plan.specs.Fates.{Falling, Fallen, fate_of, sound_nodes};
 ghost use Rattle.fault_plan.specs.Ledger.{planned_members, ledger_of};
+ghost use Rattle.fault_plan.specs.SlotKind.{Idle, Good, Lost, Shown, Last, slot_kind};
 ghost use Rattle.fault_plan.specs.WorkedPlan.{seven_nodes, three_faults, first_start, three_losses};
 
 /// A script with a fault of each kind keeps the hypothesis, and this is its plan. Its slots are counted
@@ -27,6 +28,9 @@ fn one_of_each()
     ensures left { sound_nodes three_losses 49 ≡ 1 ∷ 3 ∷ 4 ∷ 6 ∷ [] }
     ensures members { planned_members three_losses 32 ≡ 0 ∷ 1 ∷ 3 ∷ 4 ∷ 5 ∷ 6 ∷ [] }
     ensures members_then { planned_members three_losses 33 ≡ 0 ∷ 1 ∷ 3 ∷ 4 ∷ 6 ∷ [] }
+    ensures kinds { map (slot_kind three_losses) (15 ∷ 16 ∷ 17 ∷ 23 ∷ 30 ∷ 33 ∷ 46 ∷ 49 ∷ 56 ∷ [])
+        ≡ Good ∷ Lost Sending ∷ Good ∷ Last Sending 16 16 ∷ Idle ∷ Shown Receiving 31 ∷ Good ∷ Shown Jumping 46
+        ∷ Last Jumping 46 49 ∷ [] }
     ensures ledger { ledger_of three_losses 33 3 ≡ record { own = true; base = 31; seen = 1; bad = 1 } }
     ensures first_ledger { ledger_of three_losses 2 3 ≡ record { own = false; base = 0; seen = 2; bad = 0 } }
 {}
