@@ -11,26 +11,15 @@ abbrev pub strikes : Option Incident → ℕ → Bool
 strikes None k = false
 strikes (Some incident) k = incident.node == k
 
-sound-turned : (own : Bool) (slot : ℕ) (fate : Fate) → is_sound (turned own slot fate) ≡ is_sound fate
-sound-turned true slot Absent = refl
-sound-turned true slot Sound = refl
-sound-turned true slot (Falling change since) = refl
-sound-turned true slot (Fallen change since shown) = refl
-sound-turned false slot fate = refl
-
-lost-turned : (own : Bool) (slot : ℕ) (fate : Fate) → is_lost (turned own slot fate) ≡ is_lost fate
-lost-turned true slot Absent = refl
-lost-turned true slot Sound = refl
-lost-turned true slot (Falling change since) = refl
-lost-turned true slot (Fallen change since shown) = refl
-lost-turned false slot fate = refl
-
-since-turned : (own : Bool) (slot : ℕ) (fate : Fate) → lost_since (turned own slot fate) ≡ lost_since fate
-since-turned true slot Absent = refl
-since-turned true slot Sound = refl
-since-turned true slot (Falling change since) = refl
-since-turned true slot (Fallen change since shown) = refl
-since-turned false slot fate = refl
+-- what is read alike of a lost node, whether its own slot has come or not, is the same once it has
+pub turned-same : {X : Type 0} (read : Fate → X) (own : Bool) (slot : ℕ) (fate : Fate)
+    → ((change : Change) (since shown : ℕ) → read (Fallen change since shown) ≡ read (Falling change since))
+    → read (turned own slot fate) ≡ read fate
+turned-same read true slot Absent alike = refl
+turned-same read true slot Sound alike = refl
+turned-same read true slot (Falling change since) alike = alike change since slot
+turned-same read true slot (Fallen change since shown) alike = refl
+turned-same read false slot fate alike = refl
 
 sound-hit : (hit : Bool) (change : Change) (slot : ℕ) (fate : Fate)
     → is_sound (cond hit (Falling change slot) fate) ≡ (is_sound fate && not hit)
@@ -61,13 +50,15 @@ lost-struck slot k fate (Some incident) = lost-hit (incident.node == k) incident
 pub sound-next : (plan : Plan) (slot k : ℕ) (fate : Fate)
     → is_sound (next_fate plan slot k fate) ≡ (is_sound fate && not (strikes (incident_at plan slot) k))
 sound-next plan slot k fate =
-    sound-turned (sender plan slot == k) slot (struck slot k fate (incident_at plan slot))
+    turned-same is_sound (sender plan slot == k) slot (struck slot k fate (incident_at plan slot))
+    (λ change since shown. refl)
     ∙ sound-struck slot k fate (incident_at plan slot)
 
 pub lost-next : (plan : Plan) (slot k : ℕ) (fate : Fate)
     → is_lost (next_fate plan slot k fate) ≡ (strikes (incident_at plan slot) k || is_lost fate)
 lost-next plan slot k fate =
-    lost-turned (sender plan slot == k) slot (struck slot k fate (incident_at plan slot))
+    turned-same is_lost (sender plan slot == k) slot (struck slot k fate (incident_at plan slot))
+    (λ change since shown. refl)
     ∙ lost-struck slot k fate (incident_at plan slot)
 
 since-struck : (slot k : ℕ) (fate : Fate) (found : Option Incident) → strikes found k ≡ false
@@ -83,11 +74,13 @@ since-hit slot k fate (Some incident) hit = rw hit
 pub since-kept : (plan : Plan) (slot k : ℕ) (fate : Fate) → strikes (incident_at plan slot) k ≡ false
     → lost_since (next_fate plan slot k fate) ≡ lost_since fate
 since-kept plan slot k fate missed =
-    since-turned (sender plan slot == k) slot (struck slot k fate (incident_at plan slot))
+    turned-same lost_since (sender plan slot == k) slot (struck slot k fate (incident_at plan slot))
+    (λ change since shown. refl)
     ∙ since-struck slot k fate (incident_at plan slot) missed
 
 pub since-now : (plan : Plan) (slot k : ℕ) (fate : Fate) → strikes (incident_at plan slot) k ≡ true
     → lost_since (next_fate plan slot k fate) ≡ Some slot
 since-now plan slot k fate hit =
-    since-turned (sender plan slot == k) slot (struck slot k fate (incident_at plan slot))
+    turned-same lost_since (sender plan slot == k) slot (struck slot k fate (incident_at plan slot))
+    (λ change since shown. refl)
     ∙ since-hit slot k fate (incident_at plan slot) hit

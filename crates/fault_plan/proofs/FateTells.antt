@@ -12,7 +12,7 @@ use Rattle.fault_plan.specs.Plan.{Change, Sending, Incident, Plan, sender, incid
 use Rattle.fault_plan.specs.Fates.{Fate, Absent, Sound, Falling, Fallen, fate_at_begin, struck, turned, fate_of}
 use Rattle.fault_plan.specs.Fates.{lost_since, may_stay}
 use Rattle.fault_plan.specs.GoodPlan.{IsGoodPlan}
-use Rattle.fault_plan.specs.Told.{IsLossOf, IsTold}
+use Rattle.fault_plan.specs.Told.{IsFallen, IsLossOf, IsTold}
 use Rattle.fault_plan.proofs.Tests.{never-found}
 use Rattle.fault_plan.proofs.Turns.{next_turn}
 
@@ -44,6 +44,16 @@ told-begin plan k true true = tt
 told-begin plan k true false = tt
 told-begin plan k false true = tt
 told-begin plan k false false = tt
+
+fallen-kept : (plan : Plan) (slot k since shown : ℕ) (change : Change) → IsFallen plan slot k change since shown
+    → IsFallen plan (suc slot) k change since shown
+fallen-kept plan slot k since shown change told = record {
+  loss = told.loss;
+  from = (told.from.0, omega (arith, told.from.1));
+  soon = told.soon;
+  own = told.own;
+  sending = told.sending;
+}
 
 -- of a node that no incident loses
 told-kept : (plan : Plan) (slot k : ℕ) (own : Bool) (fate : Fate) → IsGoodPlan plan
@@ -79,20 +89,10 @@ told-kept plan slot k false (Falling change since) good turn told =
       soon = omega (arith, later, next.1.1);
       unshown = unshown;
     }
-told-kept plan slot k true (Fallen change since shown) good turn told = record {
-  loss = told.loss;
-  from = (told.from.0, omega (arith, told.from.1));
-  soon = told.soon;
-  own = told.own;
-  sending = told.sending;
-}
-told-kept plan slot k false (Fallen change since shown) good turn told = record {
-  loss = told.loss;
-  from = (told.from.0, omega (arith, told.from.1));
-  soon = told.soon;
-  own = told.own;
-  sending = told.sending;
-}
+told-kept plan slot k true (Fallen change since shown) good turn told =
+    fallen-kept plan slot k since shown change told
+told-kept plan slot k false (Fallen change since shown) good turn told =
+    fallen-kept plan slot k since shown change told
 
 -- of a node that one loses
 told-lost : (plan : Plan) (slot k : ℕ) (own : Bool) (incident : Incident) → IsGoodPlan plan

@@ -166,7 +166,6 @@ heard-by list script start slot r run after within less other sends hears =
 pub record IsMadeIn (list : Medl) (script : Script) (start : ClusterStart) (slot : ℕ)
     (incident : Incident) : Type 0 where
   pub only : made_in list script start slot ≡ incident.node ∷ []
-  pub at : incident.slot ≡ slot - start.slot
   pub change : incident.change
       ≡ change_of list script start (record { slot = slot; node = incident.node })
 
@@ -178,7 +177,6 @@ made-is list script start slot k incident only is =
     let same : k ≡ incident.node = ap (λ (i : Incident). i.node) is in
     record {
       only = only ∙ ap (λ j. j ∷ []) same;
-      at = sym (ap (λ (i : Incident). i.slot) is);
       change = sym (ap (λ (i : Incident). i.change) is)
           ∙ ap (λ j. change_of list script start (record { slot = slot; node = j })) same;
     }

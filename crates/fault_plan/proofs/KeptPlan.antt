@@ -30,6 +30,7 @@ use Rattle.fault_plan.proofs.FaultySets.{some-rounds, fates-known}
 use Rattle.fault_plan.proofs.Hearing.{on-ever, on-since, origin-of}
 use Rattle.fault_plan.proofs.Incidents.{found-tells, late-found, apart-found}
 use Rattle.fault_plan.proofs.Lone.{lone-start}
+use Rattle.fault_plan.proofs.Persists.{sound-before}
 use Rattle.fault_plan.proofs.Rules.{RulesHold, rules-hold}
 use Rattle.fault_plan.proofs.Sieves.{none-found}
 use Rattle.fault_plan.proofs.SlotFacts.{heard-slot, loss-slot, was-sound}
@@ -244,5 +245,9 @@ kept-plan list script slot valid keeps =
       lone = run.lone;
       good = good-plan list script rules.start run;
       faults = plan-of-faults list script rules.start rules.started run;
+      clocks = λ turn earlier k less within before sound.
+          run.bounds.still k (rules.start.slot + earlier)
+          ((heard-slot list script rules.start earlier run (omega arith)).still k less
+          (sound-before (plan_of list script rules.start) earlier turn k before sound));
       hearing = λ turn within. heard-slot list script rules.start turn run within;
     }

@@ -7,11 +7,11 @@ use Rattle.std.proofs.Math.Nat.{eq-or-lt_of_le}
 use Rattle.ttp_base.specs.NodeSet.{has_node}
 use Rattle.fault_plan.specs.Plan.{Change, Incident, Plan, sender, incident_at}
 use Rattle.fault_plan.specs.Fates.{Fate, Absent, Sound, Falling, Fallen, fate_of, is_sound, is_sound_after, is_lost}
-use Rattle.fault_plan.specs.Fates.{fate_at_begin, struck, turned, is_absent}
+use Rattle.fault_plan.specs.Fates.{fate_at_begin, struck, is_absent}
 use Rattle.fault_plan.specs.GoodPlan.{IsGoodPlan}
 use Rattle.fault_plan.specs.Told.{IsLossOf}
 use Rattle.fault_plan.proofs.FateTells.{none-first}
-use Rattle.fault_plan.proofs.FateSteps.{strikes, sound-next, lost-next}
+use Rattle.fault_plan.proofs.FateSteps.{strikes, turned-same, sound-next, lost-next}
 use Rattle.fault_plan.proofs.Tests.{and-true}
 
 pub lost-unsound : (fate : Fate) → is_lost fate ≡ true → is_sound fate ≡ false
@@ -61,13 +61,6 @@ lost-since plan k (suc since) slot change good loss from =
     ∙ or_left (strikes (incident_at plan (suc since)) k) (is_lost (fate_of plan since k)) hit)
 
 -- a node is absent always or never
-absent-turned : (own : Bool) (slot : ℕ) (fate : Fate) → is_absent (turned own slot fate) ≡ is_absent fate
-absent-turned true slot Absent = refl
-absent-turned true slot Sound = refl
-absent-turned true slot (Falling change since) = refl
-absent-turned true slot (Fallen change since shown) = refl
-absent-turned false slot fate = refl
-
 sound-present : (fate : Fate) → is_sound fate ≡ true → is_absent fate ≡ false
 sound-present Absent sound = sym sound
 sound-present Sound sound = refl
@@ -95,12 +88,13 @@ absent-begin false = refl
 pub absent-always : (plan : Plan) (slot k : ℕ) → IsGoodPlan plan
     → is_absent (fate_of plan slot k) ≡ not (has_node plan.begin k)
 absent-always plan zero k good =
-    absent-turned (sender plan 0 == k) 0 (struck 0 k (fate_at_begin plan k) (incident_at plan 0))
+    turned-same is_absent (sender plan 0 == k) 0 (struck 0 k (fate_at_begin plan k) (incident_at plan 0))
+    (λ change since shown. refl)
     ∙ ap (λ found. is_absent (struck 0 k (fate_at_begin plan k) found)) (none-first plan good)
     ∙ absent-begin (has_node plan.begin k)
 absent-always plan (suc slot) k good =
-    absent-turned (sender plan (suc slot) == k) (suc slot)
-    (struck (suc slot) k (fate_of plan slot k) (incident_at plan (suc slot)))
+    turned-same is_absent (sender plan (suc slot) == k) (suc slot)
+    (struck (suc slot) k (fate_of plan slot k) (incident_at plan (suc slot))) (λ change since shown. refl)
     ∙ absent-struck plan slot k (incident_at plan (suc slot)) good refl ∙ absent-always plan slot k good
 
 -- the nodes that begin are sound at the start

@@ -6,9 +6,10 @@ use Rattle.std.specs.Prelude.{◌==◌}
 use Rattle.std.proofs.lemmas.Bool.{eqb-true, eqb-false, eq-eqb, ne_eqb, both_ways, lt-ltb, le-ltb}
 use Rattle.fault_plan.specs.Plan.{Change, Sending, Receiving, Jumping, Incident, Plan, sender, incident_at}
 use Rattle.fault_plan.specs.Fates.{Fate, Absent, Sound, Falling, Fallen, struck, shown_in, turned, fate_of, is_sound}
-use Rattle.fault_plan.specs.Fates.{is_sound_after, may_stay}
+use Rattle.fault_plan.specs.Fates.{is_sound_after, is_shown_in, is_good_slot, is_first_slot, may_stay}
 use Rattle.fault_plan.specs.GoodPlan.{IsGoodPlan}
 use Rattle.fault_plan.specs.SlotKind.{Idle, Lost, Shown, Last, kind_if_lost, kind_by_fate, slot_kind}
+use Rattle.fault_plan.specs.SlotKind.{is_good_kind, is_first_kind}
 use Rattle.fault_plan.specs.SlotKind.{IsIdle, IsGoodAfter, IsLostAfter, IsShownAfter, IsKindAfter}
 use Rattle.fault_plan.specs.Told.{IsTold}
 use Rattle.fault_plan.proofs.FateSteps.{strikes}
@@ -180,3 +181,50 @@ kind-told plan slot good =
     (kind_by_fate plan.nodes (suc slot) (turned own (suc slot) (struck (suc slot) e fate found))))
     (sym own)
     (struck-told plan slot fate found (strikes found e) good refl refl refl (fate-told plan slot e good))
+
+-- What a slot's kind is for members and counts.
+
+fallen-bad : (first second third : Bool) (change : Change) (since shown : ℕ)
+    → false
+    ≡ is_good_kind
+    (cond first (Lost change) (cond second (Shown change since) (cond third (Last change since shown) Idle)))
+fallen-bad true second third change since shown = refl
+fallen-bad false true third change since shown = refl
+fallen-bad false false true change since shown = refl
+fallen-bad false false false change since shown = refl
+
+good-by : (nodes slot : ℕ) (fate : Fate) → is_sound fate ≡ is_good_kind (kind_by_fate nodes slot fate)
+good-by nodes slot Absent = refl
+good-by nodes slot Sound = refl
+good-by nodes slot (Falling change since) = refl
+good-by nodes slot (Fallen change since shown) =
+    fallen-bad (since == slot) (shown == slot) (shown + nodes == slot) change since shown
+
+pub good-kind : (plan : Plan) (slot : ℕ) → is_good_slot plan slot ≡ is_good_kind (slot_kind plan slot)
+good-kind plan slot = good-by plan.nodes slot (fate_of plan slot (sender plan slot))
+
+fallen-first : (first second third : Bool) (change : Change) (since shown : ℕ) → (first ≡ true → second ≡ true)
+    → second
+    ≡ is_first_kind
+    (cond first (Lost change) (cond second (Shown change since) (cond third (Last change since shown) Idle)))
+fallen-first true second third change since shown both = both refl
+fallen-first false true third change since shown both = refl
+fallen-first false false true change since shown both = refl
+fallen-first false false false change since shown both = refl
+
+first-by : (plan : Plan) (slot k : ℕ) (fate : Fate) → IsTold plan slot k fate
+    → is_shown_in slot fate ≡ is_first_kind (kind_by_fate plan.nodes slot fate)
+first-by plan slot k Absent told = refl
+first-by plan slot k Sound told = refl
+first-by plan slot k (Falling change since) told = refl
+first-by plan slot k (Fallen change since shown) told =
+    fallen-first (since == slot) (shown == slot) (shown + plan.nodes == slot) change since shown
+    (λ now.
+    let same : since ≡ slot = eqb-true since slot now in
+    eq-eqb shown slot (omega (arith, told.from.0, told.from.1)))
+
+pub first-kind : (plan : Plan) (slot : ℕ) → IsGoodPlan plan
+    → is_first_slot plan slot ≡ is_first_kind (slot_kind plan slot)
+first-kind plan slot good =
+    let e = sender plan slot in
+    first-by plan slot e (fate_of plan slot e) (fate-told plan slot e good)

@@ -1,5 +1,5 @@
 -- What a script that keeps the single-fault hypothesis does to a cluster, told by its plan of faults.
-use Rattle.std.specs.Prelude.{◌≡◌, ◌≢◌, ℕ, ◌+◌, ◌-◌, ◌<◌, ◌≤ℤ◌, true, false, [], length, pos, Some, None, IsTrue}
+use Rattle.std.specs.Prelude.{◌≡◌, ◌≢◌, ℕ, ◌+◌, ◌-◌, ◌<◌, ◌≤◌, ◌≤ℤ◌, true, false, [], length, pos, Some, None, IsTrue}
 use Rattle.std.specs.List.{AllByRecursion}
 use Rattle.ttp_base.specs.NodeSet.{has_node}
 use Rattle.ttp_world.specs.declared.medl.Medl.{Medl}
@@ -73,5 +73,9 @@ pub record KeepsByPlan (list : Medl) (script : Script) (slot : ℕ) : Type 0 whe
   pub lone : IsLoneStart list script start
   pub good : IsGoodPlan (plan_of list script start)
   pub faults : IsPlanOfFaults list script start (plan_of list script start)
+  -- the clocks of nodes that are sound after a slot have not jumped since the start
+  pub clocks : (turn earlier k : ℕ) → k < length list.slots → start.slot + turn < script.slots → earlier ≤ turn
+      → is_sound_after (plan_of list script start) turn k ≡ true
+      → jump_of script k (start.slot + earlier) ≡ pos 0
   pub hearing : (turn : ℕ) → start.slot + turn < script.slots
       → IsHeardByPlan script start (plan_of list script start) turn

@@ -1,5 +1,5 @@
 -- What a slot is by the fate of the node whose slot it is.
-use Rattle.std.specs.Prelude.{◌≡◌, ◌≢◌, ℕ, suc, ◌+◌, true, false, ◌==◌, Some, None, if◌then◌else◌}
+use Rattle.std.specs.Prelude.{◌≡◌, ◌≢◌, ℕ, suc, ◌+◌, Bool, true, false, ◌==◌, Some, None, if◌then◌else◌}
 use Rattle.fault_plan.specs.Plan.{Change, Sending, Receiving, Jumping, Incident, Plan, sender, incident_at}
 use Rattle.fault_plan.specs.Fates.{Fate, Sound, Falling, Fallen, fate_of, is_sound_after, may_stay}
 
@@ -28,6 +28,17 @@ kind_by_fate nodes slot _ = Idle
 
 abbrev pub slot_kind : Plan → ℕ → SlotKind
 slot_kind plan slot = kind_by_fate plan.nodes slot (fate_of plan slot (sender plan slot))
+
+-- its node's frame is one of the group's
+abbrev pub is_good_kind : SlotKind → Bool
+is_good_kind Good = true
+is_good_kind _ = false
+
+-- it is the first own slot of a lost node
+abbrev pub is_first_kind : SlotKind → Bool
+is_first_kind (Lost change) = true
+is_first_kind (Shown change since) = true
+is_first_kind _ = false
 
 -- What each kind tells of the slot after this one, by the fates after this one. An incident of another node than the
 -- sender comes only where the sender is sound or not there.

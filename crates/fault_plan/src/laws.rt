@@ -8,12 +8,12 @@ ghost use Rattle.ttp_world.specs.Hypothesis.{keeps};
 ghost use Rattle.ttp_world.specs.Medl.{IsValid};
 ghost use Rattle.fault_plan.specs.Plan.{Change, Receiving, Incident, Plan, sender, incident_at};
 ghost use Rattle.fault_plan.specs.Fates.{Falling, Fallen, fate_of, is_absent, lost_since, may_stay, is_sound_after};
-ghost use Rattle.fault_plan.specs.Fates.{sound_nodes};
+ghost use Rattle.fault_plan.specs.Fates.{sound_nodes, is_good_slot, is_first_slot};
 ghost use Rattle.fault_plan.specs.Fates.{tally, is_measured};
 ghost use Rattle.fault_plan.specs.Ledger.{planned_members, ledger_of};
 ghost use Rattle.fault_plan.specs.GoodPlan.{IsGoodPlan};
 ghost use Rattle.fault_plan.specs.Kept.{KeepsByPlan};
-ghost use Rattle.fault_plan.specs.SlotKind.{slot_kind, IsKindAfter};
+ghost use Rattle.fault_plan.specs.SlotKind.{slot_kind, is_good_kind, is_first_kind, IsKindAfter};
 ghost use Rattle.fault_plan.specs.Told.{IsTold, IsSenderLost, IsLedgerOf};
 
 /// A script whose test says that its cluster starts in a slot keeps to a good plan of faults from
@@ -60,6 +60,9 @@ pub fn lost_one_by_one()
 /// sound before, and which incidents can come in it. None comes while a lost node may still stay.
 pub fn slots_known()
     ensures kind { (plan : Plan) (slot : ℕ) → IsGoodPlan plan → IsKindAfter plan slot (slot_kind plan (suc slot)) }
+    ensures good { (plan : Plan) (slot : ℕ) → is_good_slot plan slot ≡ is_good_kind (slot_kind plan slot) }
+    ensures first { (plan : Plan) (slot : ℕ) → IsGoodPlan plan
+        → is_first_slot plan slot ≡ is_first_kind (slot_kind plan slot) }
     ensures quiet { (plan : Plan) (slot k : ℕ) → IsGoodPlan plan
         → may_stay plan.nodes slot (fate_of plan slot k) ≡ true
         → incident_at plan (suc slot) ≡ None }
