@@ -1,0 +1,162 @@
+-- Clocks and bits of a script that keeps the rules on them.
+use Rattle.std.proofs.Common.{◌≡◌, ℕ, ◌<◌, ℤ, pos, ◌≤ℤ◌, Bool, true, false, cond, not, List, [], ◌∷◌, length}
+use Rattle.std.proofs.Common.{Option, Some, None, inl, inr, refl, sym, arith}
+use Rattle.std.specs.Prelude.{int_le, is_some, find}
+use Rattle.std.specs.List.{AllByRecursion, list_any, filter_map}
+use Rattle.std.proofs.lemmas.Bool.{not-false, and_parts, false_from_ne_true, both_ways, or_cases, or_left, or_right}
+use Rattle.std.proofs.lemmas.Bool.{not-true}
+use Rattle.std.proofs.lemmas.Option.{none-some}
+use Rattle.ttp_base.specs.NodeSet.{below}
+use Rattle.ttp_base.proofs.Below.{each-below}
+use Rattle.ttp_world.specs.declared.medl.Medl.{Medl}
+use Rattle.ttp_world.specs.declared.script.Channel.{Channel}
+use Rattle.ttp_world.specs.declared.script.Event.{Event}
+use Rattle.ttp_world.specs.declared.script.Event.TheVariants as event
+use Rattle.ttp_world.specs.declared.script.Script.{Script}
+use Rattle.ttp_world.specs.Hypothesis.{drifts_hold, errors_hold_in, clocks_broken, window_broken, needed, lesser}
+use Rattle.ttp_world.specs.Hypothesis.{least_of}
+use Rattle.ttp_world.specs.Hypothesis.{outside_slot, outside_broken, is_far_jump, is_allowed_jump, is_within_bound}
+use Rattle.ttp_world.specs.Hypothesis.{has_jumped_before, is_jump_before}
+use Rattle.ttp_world.specs.Script.{arms, flipped_bit, jump_in, jump_of, has_jump, sum_ℤ}
+use Rattle.ttp_world.specs.Script.{drift_of, reading_error}
+use Rattle.fault_plan.specs.Kept.{IsWithinBounds}
+use Rattle.fault_plan.proofs.Sieves.{none-found}
+
+-- Clocks.
+
+both-hold : (drifts : Bool) (found : Option ℕ) → cond drifts found (Some 0) ≡ None → (drifts ≡ true) × (found ≡ None)
+both-hold true found none = (refl, none)
+both-hold false found none = absurd (none-some 0 (sym none))
+
+wide : (fits : Bool) → cond {A = Option ℕ} fits None (Some 0) ≡ None → fits ≡ true
+wide true none = refl
+wide false none = absurd (none-some 0 (sym none))
+
+le_of_test : (x y : ℤ) → int_le x y ≡ true → x ≤ℤ y
+le_of_test x y holds = grind arith
+
+-- Events.
+
+lesser-some : (n : ℕ) (m : Option ℕ) → lesser n m ≡ None → ⊥
+lesser-some n None is = none-some n (sym is)
+lesser-some n (Some m) is = cc
+
+least-none : {X : Type 0} (f : X → Option ℕ) (x : X) (xs : List X) (found : Option ℕ) → f x ≡ found
+    → least_of (filter_map f (x ∷ xs)) ≡ None
+    → (f x ≡ None) × (least_of (filter_map f xs) ≡ None)
+least-none f x xs None is none = (is, grind arith)
+least-none f x xs (Some n) is none = absurd (lesser-some n (least_of (filter_map f xs)) (grind arith))
+
+-- where there is no least value, none has one
+each-none : {X : Type 0} (f : X → Option ℕ) (xs : List X) → least_of (filter_map f xs) ≡ None
+    → AllByRecursion (λ x. f x ≡ None) xs
+each-none f [] none = tt
+each-none f (x ∷ xs) none =
+    let parts = least-none f x xs (f x) refl none in
+    (parts.0, each-none f xs parts.1)
+
+flip-none : (list : Medl) (script : Script) (k slot : ℕ) (c : Channel) (e : Event) → outside_slot list script e ≡ None
+    → flipped_bit k c slot e ≡ None
+flip-none list script k slot c (event.Flip node channels bit at) none = absurd (none-some at (sym none))
+flip-none list script k slot c _ none = refl
+
+arm-none : (list : Medl) (script : Script) (k slot : ℕ) (e : Event) → outside_slot list script e ≡ None
+    → arms k slot e ≡ false
+arm-none list script k slot (event.Arm node at) none = absurd (none-some at (sym none))
+arm-none list script k slot _ none = refl
+
+no_flips : (list : Medl) (script : Script) (k slot : ℕ) (c : Channel) (events : List Event)
+    → AllByRecursion (λ e. outside_slot list script e ≡ None) events
+    → filter_map (flipped_bit k c slot) events ≡ []
+no_flips list script k slot c [] inside = refl
+no_flips list script k slot c (e ∷ events) inside =
+    let here : flipped_bit k c slot e ≡ None = flip-none list script k slot c e inside.0 in
+    rw here (no_flips list script k slot c events inside.1)
+
+no_arms : (list : Medl) (script : Script) (k slot : ℕ) (events : List Event)
+    → AllByRecursion (λ e. outside_slot list script e ≡ None) events
+    → list_any (arms k slot) events ≡ false
+no_arms list script k slot [] inside = refl
+no_arms list script k slot (e ∷ events) inside =
+    let here : arms k slot e ≡ false = arm-none list script k slot e inside.0 in
+    rw here (no_arms list script k slot events inside.1)
+
+-- Jumps.
+
+allowed : (list : Medl) (script : Script) (k slot : ℕ) (e : Event) → outside_slot list script e ≡ None
+    → is_some (jump_in k slot e) ≡ true
+    → is_allowed_jump list script k slot ≡ true
+allowed list script k slot e none here = grind arith
+
+all_allowed : (list : Medl) (script : Script) (k slot : ℕ) (events : List Event)
+    → AllByRecursion (λ e. outside_slot list script e ≡ None) events
+    → list_any (λ e. is_some (jump_in k slot e)) events ≡ true → is_allowed_jump list script k slot ≡ true
+all_allowed list script k slot [] inside has = absurd (both_ways false refl has)
+all_allowed list script k slot (e ∷ events) inside has =
+    elim (or_cases (is_some (jump_in k slot e)) (list_any (λ e. is_some (jump_in k slot e)) events) has) [
+      | inl here ↦ allowed list script k slot e inside.0 here
+      | inr later ↦ all_allowed list script k slot events inside.1 later
+    ]
+
+-- a jump is one before each later slot
+before : (k slot later : ℕ) (e : Event) → slot < later → is_some (jump_in k slot e) ≡ true
+    → is_jump_before k later e ≡ true
+before k slot later e less here = grind arith
+
+has_before : (k slot later : ℕ) (events : List Event) → slot < later
+    → list_any (λ e. is_some (jump_in k slot e)) events ≡ true
+    → list_any (is_jump_before k later) events ≡ true
+has_before k slot later [] less has = absurd (both_ways false refl has)
+has_before k slot later (e ∷ events) less has =
+    elim (or_cases (is_some (jump_in k slot e)) (list_any (λ e. is_some (jump_in k slot e)) events) has) [
+      | inl here ↦ or_left _ _ (before k slot later e less here)
+      | inr there ↦ or_right _ _ (has_before k slot later events less there)
+    ]
+
+no_jumps-step : (k slot : ℕ) (e : Event) (events : List Event) (found : Option ℤ) → jump_in k slot e ≡ found
+    → (list_any (λ e. is_some (jump_in k slot e)) events ≡ false → sum_ℤ (filter_map (jump_in k slot) events) ≡ pos 0)
+    → list_any (λ e. is_some (jump_in k slot e)) (e ∷ events) ≡ false
+    → sum_ℤ (filter_map (jump_in k slot) (e ∷ events)) ≡ pos 0
+no_jumps-step k slot e events None is later none = grind arith
+no_jumps-step k slot e events (Some z) is later none = grind arith
+
+-- where there is none, they add up to nothing
+no_jumps : (k slot : ℕ) (events : List Event) → list_any (λ e. is_some (jump_in k slot e)) events ≡ false
+    → sum_ℤ (filter_map (jump_in k slot) events) ≡ pos 0
+no_jumps k slot [] none = refl
+no_jumps k slot (e ∷ events) none = no_jumps-step k slot e events (jump_in k slot e) refl (no_jumps k slot events) none
+
+-- All of it.
+
+pub within-bounds : (list : Medl) (script : Script) → clocks_broken list script ≡ None → window_broken list ≡ None
+    → outside_broken list script ≡ None
+    → IsWithinBounds list script
+within-bounds list script clocks window outside =
+    let held =
+    both-hold (drifts_hold list script)
+    (find (λ slot. not (errors_hold_in list script slot)) (below script.slots)) clocks in
+    let inside = each-none (outside_slot list script) script.events outside in
+    let allowed : (k slot : ℕ) → has_jump script k slot ≡ true → is_allowed_jump list script k slot ≡ true =
+    λ k slot has. all_allowed list script k slot script.events inside has in
+    record {
+      clocks = clocks;
+      drifts = λ k less.
+          each-below (λ k. is_within_bound list.drift (drift_of script k)) (length list.slots) k held.0 less;
+      errors = λ k slot less within.
+          each-below (λ k. is_within_bound list.error (reading_error script k slot)) (length list.slots) k
+          (not-false _ (none-found (λ slot. not (errors_hold_in list script slot)) 0 script.slots slot held.1
+          (omega arith) (omega arith))) less;
+      window = le_of_test (needed list) list.window (wide (int_le (needed list) list.window) window);
+      flips = λ k slot c. no_flips list script k slot c script.events inside;
+      arms = λ k slot. no_arms list script k slot script.events inside;
+      jumps = λ k slot has.
+          (and_parts (is_far_jump list (jump_of script k slot)) (not (has_jumped_before script k slot))
+          (allowed k slot has)).0;
+      still = λ k slot none. no_jumps k slot script.events none;
+      once = λ k slot later less has. false_from_ne_true (has_jump script k later) (λ again.
+          let first =
+          (and_parts (is_far_jump list (jump_of script k later)) (not (has_jumped_before script k later))
+          (allowed k later again)).1 in
+          both_ways (has_jumped_before script k later) (not-true _ first)
+          (has_before k slot later script.events less has));
+    }

@@ -1,0 +1,180 @@
+-- How much a node of a good plan has seen since its own slot.
+use Rattle.std.proofs.Common.{◌≡◌, ℕ, suc, ◌+◌, ◌-◌, ◌<◌, ◌≤◌, Bool, true, false, length}
+use Rattle.std.proofs.Common.{refl, ap, sym, subst, ◌∙◌, inl, inr, arith}
+use Rattle.std.specs.Prelude.{if◌then◌else◌}
+use Rattle.std.specs.List.{filter}
+use Rattle.std.proofs.lemmas.Bool.{cases_lt, cases_eq, eqb-true, both_ways, and_parts, and_from, false_from_ne_true}
+use Rattle.ttp_base.specs.NodeSet.{below, has_node}
+use Rattle.std.proofs.lemmas.Option.{same_Some}
+use Rattle.fault_plan.specs.Plan.{Change, Incident, Plan, sender, incident_at}
+use Rattle.fault_plan.specs.Fates.{Fate, Absent, Sound, Falling, Fallen, fate_of, is_sound_after, is_good_slot}
+use Rattle.fault_plan.specs.Fates.{is_first_slot}
+use Rattle.fault_plan.specs.Fates.{is_shown_in, is_steady_after, sound_nodes, steady_nodes, tally, is_measured}
+use Rattle.fault_plan.specs.GoodPlan.{IsGoodPlan}
+use Rattle.fault_plan.specs.Ledger.{ledger_of}
+use Rattle.fault_plan.specs.Told.{IsLossOf, IsTold}
+use Rattle.fault_plan.proofs.FateTells.{fate-told}
+use Rattle.fault_plan.proofs.Ledgers.{ledger-told}
+use Rattle.fault_plan.proofs.Persists.{sound-before}
+use Rattle.fault_plan.proofs.Tallies.{count-fewer, count-none, count-one, count-below, count-round}
+use Rattle.fault_plan.proofs.Turns.{next_turn, turns_apart}
+
+-- First own slots of lost nodes.
+
+record IsFirstOf (plan : Plan) (slot : ℕ) : Type 0 where
+  change : Change
+  since : ℕ
+  loss : IsLossOf plan (sender plan slot) change since
+  from : since ≤ slot
+  soon : slot < since + plan.nodes
+
+first-is : (plan : Plan) (slot : ℕ) (fate : Fate) → IsTold plan slot (sender plan slot) fate
+    → is_shown_in slot fate ≡ true
+    → IsFirstOf plan slot
+first-is plan slot Absent told first = absurd (both_ways false refl first)
+first-is plan slot Sound told first = absurd (both_ways false refl first)
+first-is plan slot (Falling change since) told first = absurd (both_ways false refl first)
+first-is plan slot (Fallen change since shown) told first =
+    let now : shown ≡ slot = eqb-true shown slot first in
+    record {
+      change = change;
+      since = since;
+      loss = told.loss;
+      from = omega (arith, told.from.0, now);
+      soon = omega (arith, told.soon, now);
+    }
+
+first-of : (plan : Plan) (slot : ℕ) → IsGoodPlan plan → is_first_slot plan slot ≡ true → IsFirstOf plan slot
+first-of plan slot good first =
+    first-is plan slot (fate_of plan slot (sender plan slot)) (fate-told plan slot (sender plan slot) good) first
+
+-- two of them lie a round apart
+firsts-apart : (plan : Plan) (slot later : ℕ) → IsGoodPlan plan → slot < later → later < slot + plan.nodes
+    → is_first_slot plan slot ≡ true → is_first_slot plan later ≡ true
+    → ⊥
+firsts-apart plan slot later good less near one two =
+    let first = first-of plan slot good one in
+    let second = first-of plan later good two in
+    elim (cases_eq first.since second.since) [
+      | inl same ↦
+          let incident : first.loss.incident ≡ second.loss.incident =
+          same_Some first.loss.incident second.loss.incident
+          (sym first.loss.found ∙ ap (incident_at plan) same ∙ second.loss.found) in
+          let apart =
+          turns_apart plan slot later (omega (arith, good.count)) less
+          (sym first.loss.node ∙ ap (λ (i : Incident). i.node) incident ∙ second.loss.node) in
+          omega (arith, apart)
+      | inr other ↦ elim (cases_lt first.since second.since) [
+        | inl before ↦
+            let apart =
+            good.apart first.since second.since first.loss.incident second.loss.incident first.loss.found
+            second.loss.found before in
+            omega (arith, apart, first.soon, second.from)
+        | inr after ↦
+            let apart =
+            good.apart second.since first.since second.loss.incident first.loss.incident second.loss.found
+            first.loss.found (omega (arith, after, other)) in
+            omega (arith, apart, second.soon, first.from)
+      ]
+    ]
+
+pub bad-own : (plan : Plan) (slot k : ℕ) → IsGoodPlan plan → k < plan.nodes → (ledger_of plan slot k).bad ≤ 1
+bad-own plan slot k good less =
+    let ledger = ledger_of plan slot k in
+    let told = ledger-told plan slot k good less in
+    subst (λ n. n ≤ 1) (sym told.bad)
+    (count-one (is_first_slot plan) (suc ledger.base) (slot - ledger.base)
+    (λ u v above before to one two.
+    firsts-apart plan u v good before (omega (arith, told.near, told.within)) one two))
+
+own-base : (plan : Plan) (slot k : ℕ) → IsGoodPlan plan → k < plan.nodes → (ledger_of plan slot k).own ≡ false
+    → slot < plan.nodes
+own-base plan slot k good less none =
+    let next = next_turn plan 0 k (omega (arith, good.count)) less in
+    let told = ledger-told plan slot k good less in
+    elim (cases_lt slot next.0) [
+      | inl after ↦ omega (arith, after, next.1.1)
+      | inr not ↦ absurd (both_ways (ledger_of plan slot k).own none (told.newest next.0 not next.1.2).0)
+    ]
+
+pub bad-first : (plan : Plan) (slot k : ℕ) → IsGoodPlan plan → k < plan.nodes → (ledger_of plan slot k).own ≡ false
+    → (ledger_of plan slot k).bad ≡ 0
+bad-first plan slot k good less none =
+    let ledger = ledger_of plan slot k in
+    let told = ledger-told plan slot k good less in
+    let early = own-base plan slot k good less none in
+    told.bad
+    ∙ count-none (is_first_slot plan) (suc ledger.base) (slot - ledger.base)
+    (λ u above to. false_from_ne_true (is_first_slot plan u) (λ first.
+    let is = first-of plan u good first in
+    omega (arith, is.loss.late, is.from, early, told.within)))
+
+-- Good slots.
+
+-- in each round there are as many good slots, whose senders pass a test, as sound nodes at its end that pass it
+good-round : (plan : Plan) (p q : ℕ → Bool) (slot from : ℕ) → from + plan.nodes ≡ suc slot
+    → ((u : ℕ) → u ≤ slot → p (sender plan u) ≡ true → q u ≡ true)
+    → length (filter p (below plan.nodes)) ≤ tally q from plan.nodes
+good-round plan p q slot from is tells =
+    let all = count-round plan p from in
+    let fewer =
+    count-fewer (λ u. p (sender plan u)) q from plan.nodes (λ u above to passes. tells u (omega (arith, is)) passes) in
+    omega (arith, all, fewer)
+
+pub four-measured : (plan : Plan) (slot from : ℕ) → IsGoodPlan plan → slot < plan.slots → from + plan.nodes ≡ suc slot
+    → 4 ≤ tally (is_measured plan) from plan.nodes
+four-measured plan slot from good within is =
+    let steady = good.steady slot within in
+    let round =
+    good-round plan (is_steady_after plan slot) (is_measured plan) slot from is (λ u to steady.
+    let parts =
+    and_parts (has_node plan.measured (sender plan u)) (is_sound_after plan slot (sender plan u)) steady in
+    and_from (is_good_slot plan u) (has_node plan.measured (sender plan u))
+    (sound-before plan u slot (sender plan u) to parts.1) parts.0) in
+    omega (arith, steady, round)
+
+one-more : (b : Bool) (n : ℕ) → (if b then 1 else 0) + n ≤ suc n
+one-more true n = omega arith
+one-more false n = omega arith
+
+-- one slot fewer than a round
+count-front : (p : ℕ → Bool) (from many nodes : ℕ) → nodes ≡ suc many → tally p from nodes ≤ suc (tally p from many)
+count-front p from many nodes is =
+    subst (λ n. tally p from n ≤ suc (tally p from many)) (sym is)
+    (one-more (p (from + many)) (tally p from many))
+
+pub seen-round : (plan : Plan) (slot k : ℕ) → IsGoodPlan plan → k < plan.nodes → sender plan (suc slot) ≡ k
+    → (ledger_of plan slot k).own ≡ true
+    → length (sound_nodes plan slot) ≤ suc (ledger_of plan slot k).seen
+seen-round plan slot k good less turn own =
+    let ledger = ledger_of plan slot k in
+    let base = ledger.base in
+    let n = plan.nodes in
+    let told = ledger-told plan slot k good less in
+    let p : ℕ → Bool = is_sound_after plan slot in
+    let apart =
+    turns_apart plan base (suc slot) (omega (arith, good.count)) (omega (arith, told.within))
+    (told.owned own ∙ sym turn) in
+    let round : plan.nodes ≡ suc (slot - ledger.base) = omega (arith, apart, told.near, told.within) in
+    let all = count-round plan p (suc base) in
+    let front = count-front (λ u. p (sender plan u)) (suc base) (slot - base) n round in
+    let fewer =
+    count-fewer (λ u. p (sender plan u)) (is_good_slot plan) (suc base) (slot - base)
+    (λ u above to sound. sound-before plan u slot (sender plan u) (omega (arith, told.within)) sound) in
+    omega (arith, all, front, fewer, told.seen)
+
+-- of which there are four or more
+steady-sound : (plan : Plan) (slot : ℕ) → length (steady_nodes plan slot) ≤ length (sound_nodes plan slot)
+steady-sound plan slot =
+    let few =
+    count-fewer (is_steady_after plan slot) (is_sound_after plan slot) 0 plan.nodes (λ u above to steady.
+    (and_parts (has_node plan.measured u) (is_sound_after plan slot u) steady).1) in
+    let one = count-below (is_steady_after plan slot) plan.nodes in
+    let two = count-below (is_sound_after plan slot) plan.nodes in
+    omega (arith, few, one, two)
+
+pub four-sound : (plan : Plan) (slot : ℕ) → IsGoodPlan plan → slot < plan.slots → 4 ≤ length (sound_nodes plan slot)
+four-sound plan slot good within =
+    let steady = good.steady slot within in
+    let few = steady-sound plan slot in
+    omega (arith, steady, few)

@@ -1,0 +1,243 @@
+-- What the fates of a good plan tell.
+use Rattle.std.proofs.Common.{◌≡◌, ◌≢◌, ℕ, zero, suc, ◌+◌, ◌*◌, ◌<◌, ◌≤◌, Bool, true, false, cond, Option, Some, None}
+use Rattle.std.proofs.Common.{refl}
+use Rattle.std.proofs.Common.{ap, sym, subst, ◌∙◌, inl, inr, arith}
+use Rattle.std.specs.Prelude.{◌==◌}
+use Rattle.std.proofs.lemmas.Bool.{cases_lt, cases_eq, eqb-true, eqb-false, both_ways, ltb-true, le-ltb}
+use Rattle.std.proofs.lemmas.Bool.{false_from_ne_true}
+use Rattle.std.proofs.lemmas.Option.{same_Some}
+use Rattle.std.proofs.Math.Nat.{eq-or-lt_of_le}
+use Rattle.ttp_base.specs.NodeSet.{has_node}
+use Rattle.fault_plan.specs.Plan.{Change, Sending, Incident, Plan, sender, incident_at}
+use Rattle.fault_plan.specs.Fates.{Fate, Absent, Sound, Falling, Fallen, fate_at_begin, struck, turned, fate_of}
+use Rattle.fault_plan.specs.Fates.{lost_since, may_stay}
+use Rattle.fault_plan.specs.GoodPlan.{IsGoodPlan}
+use Rattle.fault_plan.specs.Told.{IsFallen, IsLossOf, IsTold}
+use Rattle.fault_plan.proofs.Tests.{never-found}
+use Rattle.fault_plan.proofs.Turns.{next_turn}
+
+-- no incident comes at the start
+pub none-first : (plan : Plan) → IsGoodPlan plan → incident_at plan 0 ≡ None
+none-first plan good =
+    never-found (incident_at plan 0) (λ incident found.
+    let late = good.late 0 incident found in
+    omega (arith, late, good.count))
+
+-- the losses of a good plan
+pub loss-sending : (plan : Plan) (k since : ℕ) (change : Change) → IsGoodPlan plan → IsLossOf plan k change since
+    → change ≡ Sending
+    → sender plan since ≡ k
+loss-sending plan k zero change good loss is = absurd (omega (arith, loss.late, good.count))
+loss-sending plan k (suc slot) change good loss is =
+    (good.losses slot loss.incident loss.found).sending (loss.how ∙ is) ∙ loss.node
+
+pub loss-node : (plan : Plan) (k since : ℕ) (change : Change) → IsGoodPlan plan → IsLossOf plan k change since
+    → k < plan.nodes
+loss-node plan k zero change good loss = absurd (omega (arith, loss.late, good.count))
+loss-node plan k (suc slot) change good loss =
+    subst (λ j. j < plan.nodes) loss.node (good.losses slot loss.incident loss.found).node
+
+-- One slot.
+
+told-begin : (plan : Plan) (k : ℕ) (own begins : Bool) → IsTold plan 0 k (turned own 0 (cond begins Sound Absent))
+told-begin plan k true true = tt
+told-begin plan k true false = tt
+told-begin plan k false true = tt
+told-begin plan k false false = tt
+
+fallen-kept : (plan : Plan) (slot k since shown : ℕ) (change : Change) → IsFallen plan slot k change since shown
+    → IsFallen plan (suc slot) k change since shown
+fallen-kept plan slot k since shown change told = record {
+  loss = told.loss;
+  from = (told.from.0, omega (arith, told.from.1));
+  soon = told.soon;
+  own = told.own;
+  sending = told.sending;
+}
+
+-- of a node that no incident loses
+told-kept : (plan : Plan) (slot k : ℕ) (own : Bool) (fate : Fate) → IsGoodPlan plan
+    → (sender plan (suc slot) == k) ≡ own → IsTold plan slot k fate
+    → IsTold plan (suc slot) k (turned own (suc slot) fate)
+told-kept plan slot k true Absent good turn told = tt
+told-kept plan slot k false Absent good turn told = tt
+told-kept plan slot k true Sound good turn told = tt
+told-kept plan slot k false Sound good turn told = tt
+told-kept plan slot k true (Falling change since) good turn told = record {
+  loss = told.loss;
+  from = (omega (arith, told.from), omega arith);
+  soon = told.soon;
+  own = eqb-true (sender plan (suc slot)) k turn;
+  sending = λ is.
+      absurd (told.unshown since (omega arith) told.from (loss-sending plan k since change good told.loss is));
+}
+told-kept plan slot k false (Falling change since) good turn told =
+    let less = loss-node plan k since change good told.loss in
+    let next = next_turn plan since k (omega (arith, good.count)) less in
+    let unshown : (t : ℕ) → since ≤ t → t ≤ suc slot → sender plan t ≢ k =
+    λ t from to at. elim (eq-or-lt_of_le to) [
+      | inl same ↦ eqb-false (sender plan (suc slot)) k turn (ap (sender plan) (sym same) ∙ at)
+      | inr before ↦ told.unshown t from (omega arith) at
+    ] in
+    let later : suc slot < next.0 = elim (cases_lt (suc slot) next.0) [
+      | inl less ↦ less
+      | inr not ↦ absurd (unshown next.0 next.1.0 not next.1.2)
+    ] in
+    record {
+      loss = told.loss;
+      from = omega (arith, told.from);
+      soon = omega (arith, later, next.1.1);
+      unshown = unshown;
+    }
+told-kept plan slot k true (Fallen change since shown) good turn told =
+    fallen-kept plan slot k since shown change told
+told-kept plan slot k false (Fallen change since shown) good turn told =
+    fallen-kept plan slot k since shown change told
+
+-- of a node that one loses
+told-lost : (plan : Plan) (slot k : ℕ) (own : Bool) (incident : Incident) → IsGoodPlan plan
+    → (sender plan (suc slot) == k) ≡ own → incident_at plan (suc slot) ≡ Some incident → incident.node ≡ k
+    → IsTold plan (suc slot) k (turned own (suc slot) (Falling incident.change (suc slot)))
+told-lost plan slot k own incident good turn found node =
+    let loss : IsLossOf plan k incident.change (suc slot) =
+    record {
+      incident = incident;
+      found = found;
+      node = node;
+      how = refl;
+      late = good.late (suc slot) incident found;
+    } in
+    by own turn loss
+  where
+    by : (own : Bool) → (sender plan (suc slot) == k) ≡ own → IsLossOf plan k incident.change (suc slot)
+        → IsTold plan (suc slot) k (turned own (suc slot) (Falling incident.change (suc slot)))
+    by true turn loss = record {
+      loss = loss;
+      from = (omega arith, omega arith);
+      soon = omega (arith, good.count);
+      own = eqb-true (sender plan (suc slot)) k turn;
+      sending = λ is. refl;
+    }
+    by false turn loss = record {
+      loss = loss;
+      from = omega arith;
+      soon = omega (arith, good.count);
+      unshown = λ t from to at.
+          let same : t ≡ suc slot = omega arith in
+          eqb-false (sender plan (suc slot)) k turn (ap (sender plan) (sym same) ∙ at);
+    }
+
+told-hit : (plan : Plan) (slot k : ℕ) (fate : Fate) (incident : Incident) (hit : Bool) → IsGoodPlan plan
+    → incident_at plan (suc slot) ≡ Some incident → (incident.node == k) ≡ hit → IsTold plan slot k fate
+    → IsTold plan (suc slot) k
+    (turned (sender plan (suc slot) == k) (suc slot) (cond hit (Falling incident.change (suc slot)) fate))
+told-hit plan slot k fate incident true good found hit told =
+    told-lost plan slot k (sender plan (suc slot) == k) incident good refl found (eqb-true incident.node k hit)
+told-hit plan slot k fate incident false good found hit told =
+    told-kept plan slot k (sender plan (suc slot) == k) fate good refl told
+
+told-next : (plan : Plan) (slot k : ℕ) (fate : Fate) (found : Option Incident) → IsGoodPlan plan
+    → incident_at plan (suc slot) ≡ found → IsTold plan slot k fate
+    → IsTold plan (suc slot) k (turned (sender plan (suc slot) == k) (suc slot) (struck (suc slot) k fate found))
+told-next plan slot k fate None good is told = told-kept plan slot k (sender plan (suc slot) == k) fate good refl told
+told-next plan slot k fate (Some incident) good is told =
+    told-hit plan slot k fate incident (incident.node == k) good is refl told
+
+pub fate-told : (plan : Plan) (slot k : ℕ) → IsGoodPlan plan → IsTold plan slot k (fate_of plan slot k)
+fate-told plan zero k good =
+    let own = sender plan 0 == k in
+    subst (λ found. IsTold plan 0 k (turned own 0 (struck 0 k (fate_at_begin plan k) found)))
+    (sym (none-first plan good)) (told-begin plan k own (has_node plan.begin k))
+fate-told plan (suc slot) k good =
+    told-next plan slot k (fate_of plan slot k) (incident_at plan (suc slot)) good refl (fate-told plan slot k good)
+
+-- A lost node that may still stay after a slot was lost less than two rounds before the next.
+
+pub record StaysSince (plan : Plan) (slot k : ℕ) : Type 0 where
+  pub change : Change
+  pub since : ℕ
+  pub loss : IsLossOf plan k change since
+  pub from : since ≤ slot
+  pub near : suc slot < since + 2 * plan.nodes
+
+stays : (plan : Plan) (slot k : ℕ) (fate : Fate) → IsTold plan slot k fate → may_stay plan.nodes slot fate ≡ true
+    → StaysSince plan slot k
+stays plan slot k Absent told may = absurd (both_ways false refl may)
+stays plan slot k Sound told may = absurd (both_ways false refl may)
+stays plan slot k (Falling change since) told may = record {
+  change = change;
+  since = since;
+  loss = told.loss;
+  from = told.from;
+  near = omega (arith, told.soon);
+}
+stays plan slot k (Fallen change since shown) told may = record {
+  change = change;
+  since = since;
+  loss = told.loss;
+  from = omega (arith, told.from);
+  near = omega (arith, told.soon, ltb-true slot (shown + plan.nodes) may);
+}
+
+-- two losses of one slot are one
+same-loss : (plan : Plan) (j k since : ℕ) (one other : Change) → IsLossOf plan j one since
+    → IsLossOf plan k other since
+    → j ≡ k
+same-loss plan j k since one other first second =
+    let same : first.incident ≡ second.incident =
+    same_Some first.incident second.incident (sym first.found ∙ second.found) in
+    sym first.node ∙ ap (λ (i : Incident). i.node) same ∙ second.node
+
+pub one-stays : (plan : Plan) (slot j k : ℕ) → IsGoodPlan plan
+    → may_stay plan.nodes slot (fate_of plan slot j) ≡ true → may_stay plan.nodes slot (fate_of plan slot k) ≡ true
+    → j ≡ k
+one-stays plan slot j k good first second =
+    let one = stays plan slot j (fate_of plan slot j) (fate-told plan slot j good) first in
+    let two = stays plan slot k (fate_of plan slot k) (fate-told plan slot k good) second in
+    elim (cases_eq one.since two.since) [
+      | inl same ↦
+          same-loss plan j k one.since one.change two.change one.loss
+          (subst (IsLossOf plan k two.change) (sym same) two.loss)
+      | inr other ↦ elim (cases_lt one.since two.since) [
+        | inl before ↦
+            let apart =
+            good.apart one.since two.since one.loss.incident two.loss.incident one.loss.found two.loss.found before in
+            absurd (omega (arith, apart, one.near, two.from))
+        | inr after ↦
+            let apart =
+            good.apart two.since one.since two.loss.incident one.loss.incident two.loss.found one.loss.found
+            (omega (arith, after, other)) in
+            absurd (omega (arith, apart, two.near, one.from))
+      ]
+    ]
+
+-- none that was lost before still stays when another is
+pub none-stays : (plan : Plan) (slot k : ℕ) (incident : Incident) → IsGoodPlan plan
+    → incident_at plan (suc slot) ≡ Some incident
+    → may_stay plan.nodes slot (fate_of plan slot k) ≡ false
+none-stays plan slot k incident good found =
+    false_from_ne_true (may_stay plan.nodes slot (fate_of plan slot k)) (λ may.
+    let one = stays plan slot k (fate_of plan slot k) (fate-told plan slot k good) may in
+    let apart =
+    good.apart one.since (suc slot) one.loss.incident incident one.loss.found found (omega (arith, one.from)) in
+    omega (arith, apart, one.near))
+
+-- Two rounds after its loss it does not stay.
+
+over-by : (plan : Plan) (slot k since : ℕ) (fate : Fate) → IsTold plan slot k fate → lost_since fate ≡ Some since
+    → since + 2 * plan.nodes ≤ suc slot
+    → may_stay plan.nodes slot fate ≡ false
+over-by plan slot k since Absent told is over = refl
+over-by plan slot k since Sound told is over = refl
+over-by plan slot k since (Falling change at) told is over =
+    let same : at ≡ since = same_Some at since is in
+    absurd (omega (arith, told.soon))
+over-by plan slot k since (Fallen change at shown) told is over =
+    let same : at ≡ since = same_Some at since is in
+    le-ltb slot (shown + plan.nodes) (omega (arith, told.soon))
+
+pub over : (plan : Plan) (slot k since : ℕ) → IsGoodPlan plan → lost_since (fate_of plan slot k) ≡ Some since
+    → since + 2 * plan.nodes ≤ suc slot
+    → may_stay plan.nodes slot (fate_of plan slot k) ≡ false
+over plan slot k since good is after =
+    over-by plan slot k since (fate_of plan slot k) (fate-told plan slot k good) is after

@@ -1,0 +1,21 @@
+use Rattle.fault_plan.proofs.Counts.{bad-own, bad-first, seen-round, four-sound, four-measured}
+use Rattle.fault_plan.proofs.Ledgers.{ledger-told}
+use Rattle.fault_plan.proofs.laws.counts_known.Goals as goal
+
+pub returns-clause-ledger : goal.returns-clause-ledger
+returns-clause-ledger c = ledger-told
+
+pub returns-clause-bad : goal.returns-clause-bad
+returns-clause-bad c = bad-own
+
+pub returns-clause-bad_at_first : goal.returns-clause-bad_at_first
+returns-clause-bad_at_first c = bad-first
+
+pub returns-clause-seen : goal.returns-clause-seen
+returns-clause-seen c = seen-round
+
+pub returns-clause-sound : goal.returns-clause-sound
+returns-clause-sound c = four-sound
+
+pub returns-clause-measured : goal.returns-clause-measured
+returns-clause-measured c = four-measured

@@ -1,0 +1,14 @@
+use Rattle.fault_plan.proofs.SlotKinds.{kind-told, good-kind, first-kind, quiet-while}
+use Rattle.fault_plan.proofs.laws.slots_known.Goals as goal
+
+pub returns-clause-kind : goal.returns-clause-kind
+returns-clause-kind c = kind-told
+
+pub returns-clause-good : goal.returns-clause-good
+returns-clause-good c = good-kind
+
+pub returns-clause-first : goal.returns-clause-first
+returns-clause-first c = first-kind
+
+pub returns-clause-quiet : goal.returns-clause-quiet
+returns-clause-quiet c = quiet-while

@@ -1,0 +1,16 @@
+use Rattle.fault_plan.proofs.Members.{first-sender}
+use Rattle.fault_plan.proofs.Persists.{sound-first}
+use Rattle.fault_plan.proofs.Turns.{next_turn, turns_apart}
+use Rattle.fault_plan.proofs.laws.turns_known.Goals as goal
+
+pub returns-clause-next : goal.returns-clause-next
+returns-clause-next c = next_turn
+
+pub returns-clause-apart : goal.returns-clause-apart
+returns-clause-apart c = turns_apart
+
+pub returns-clause-first : goal.returns-clause-first
+returns-clause-first c = first-sender
+
+pub returns-clause-sound : goal.returns-clause-sound
+returns-clause-sound c = sound-first

@@ -1,0 +1,101 @@
+-- What becomes of a node by a plan, slot by slot.
+use Rattle.std.specs.Prelude.{ℕ, zero, suc, ◌+◌, nat_lt, Bool, true, false, ◌&&◌, ◌==◌, List, filter, Option, Some}
+use Rattle.std.specs.Prelude.{None, if◌then◌else◌}
+use Rattle.ttp_base.specs.NodeSet.{below, has_node}
+use Rattle.fault_plan.specs.Plan.{Change, Incident, Plan, sender, incident_at}
+
+pub data Fate : Type 0 where
+  -- it was not sound at the start
+  Absent : Fate
+  Sound : Fate
+  -- lost in a slot, and no slot of its own has come since, that one included
+  Falling : (change : Change) → (since : ℕ) → Fate
+  -- lost in a slot, and its first own slot from there on has come
+  Fallen : (change : Change) → (since : ℕ) → (shown : ℕ) → Fate
+
+abbrev pub fate_at_begin : Plan → ℕ → Fate
+fate_at_begin plan k = if has_node plan.begin k then Sound else Absent
+
+-- by what happens in a slot
+abbrev pub struck : ℕ → ℕ → Fate → Option Incident → Fate
+struck slot k fate None = fate
+struck slot k fate (Some incident) = if incident.node == k then Falling incident.change slot else fate
+
+-- by the turn of a node that is to show it
+abbrev pub shown_in : ℕ → Fate → Fate
+shown_in slot (Falling change since) = Fallen change since slot
+shown_in slot fate = fate
+
+abbrev pub turned : Bool → ℕ → Fate → Fate
+turned own slot fate = if own then shown_in slot fate else fate
+
+abbrev pub next_fate : Plan → ℕ → ℕ → Fate → Fate
+next_fate plan slot k fate = turned (sender plan slot == k) slot (struck slot k fate (incident_at plan slot))
+
+-- the fate of node k after a slot
+abbrev pub fate_of : Plan → ℕ → ℕ → Fate
+fate_of plan zero k = next_fate plan 0 k (fate_at_begin plan k)
+fate_of plan (suc slot) k = next_fate plan (suc slot) k (fate_of plan slot k)
+
+abbrev pub is_sound : Fate → Bool
+is_sound Sound = true
+is_sound _ = false
+
+abbrev pub is_sound_after : Plan → ℕ → ℕ → Bool
+is_sound_after plan slot k = is_sound (fate_of plan slot k)
+
+abbrev pub is_absent : Fate → Bool
+is_absent Absent = true
+is_absent _ = false
+
+abbrev pub is_lost : Fate → Bool
+is_lost (Falling change since) = true
+is_lost (Fallen change since shown) = true
+is_lost _ = false
+
+-- since when a node is lost
+abbrev pub lost_since : Fate → Option ℕ
+lost_since (Falling change since) = Some since
+lost_since (Fallen change since shown) = Some since
+lost_since _ = None
+
+-- a lost node may still stay after a slot: its second own slot since then has not come
+abbrev pub may_stay : ℕ → ℕ → Fate → Bool
+may_stay nodes slot (Falling change since) = true
+may_stay nodes slot (Fallen change since shown) = nat_lt slot (shown + nodes)
+may_stay nodes slot _ = false
+
+-- Slots.
+
+-- the sender is sound, so that its frame is one of the group's
+abbrev pub is_good_slot : Plan → ℕ → Bool
+is_good_slot plan slot = is_sound_after plan slot (sender plan slot)
+
+abbrev pub is_shown_in : ℕ → Fate → Bool
+is_shown_in slot (Fallen change since shown) = shown == slot
+is_shown_in slot _ = false
+
+-- it is the first own slot of a lost node
+abbrev pub is_first_slot : Plan → ℕ → Bool
+is_first_slot plan slot = is_shown_in slot (fate_of plan slot (sender plan slot))
+
+-- Counts.
+
+abbrev pub is_steady_after : Plan → ℕ → ℕ → Bool
+is_steady_after plan slot k = has_node plan.measured k && is_sound_after plan slot k
+
+-- the sound nodes after a slot, and those of them by whose frames clocks are measured
+abbrev pub sound_nodes : Plan → ℕ → List ℕ
+sound_nodes plan slot = filter (is_sound_after plan slot) (below plan.nodes)
+
+abbrev pub steady_nodes : Plan → ℕ → List ℕ
+steady_nodes plan slot = filter (is_steady_after plan slot) (below plan.nodes)
+
+-- how many of some slots in a row, from one on, pass a test
+abbrev pub tally : (ℕ → Bool) → ℕ → ℕ → ℕ
+tally test from zero = 0
+tally test from (suc many) = (if test (from + many) then 1 else 0) + tally test from many
+
+-- a good slot by whose frame clocks are measured
+abbrev pub is_measured : Plan → ℕ → Bool
+is_measured plan slot = is_good_slot plan slot && has_node plan.measured (sender plan slot)

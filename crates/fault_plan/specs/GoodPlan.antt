@@ -1,0 +1,27 @@
+-- What makes a plan good: all that an argument on safety asks of the faults of a run.
+use Rattle.std.specs.Prelude.{◌≡◌, ◌≢◌, ℕ, suc, ◌+◌, ◌*◌, ◌<◌, ◌≤◌, true, length, Some}
+use Rattle.ttp_base.specs.NodeSet.{most_nodes, has_node}
+use Rattle.fault_plan.specs.Plan.{Sending, Receiving, Incident, Plan, sender, incident_at}
+use Rattle.fault_plan.specs.Fates.{is_sound_after, steady_nodes}
+
+-- an incident of the slot after this one loses a node that is sound after this one, by the turn of that slot
+pub record IsLossAfter (plan : Plan) (slot : ℕ) (incident : Incident) : Type 0 where
+  pub node : incident.node < plan.nodes
+  pub was : is_sound_after plan slot incident.node ≡ true
+  -- a sender loses its own frame
+  pub sending : incident.change ≡ Sending → sender plan (suc slot) ≡ incident.node
+  -- and a receiver that of another sound node
+  pub receiving : incident.change ≡ Receiving
+      → (sender plan (suc slot) ≢ incident.node) × (is_sound_after plan slot (sender plan (suc slot)) ≡ true)
+
+pub record IsGoodPlan (plan : Plan) : Type 0 where
+  pub count : (4 ≤ plan.nodes) × (plan.nodes ≤ most_nodes)
+  pub starter : (plan.starter < plan.nodes) × (has_node plan.begin plan.starter ≡ true)
+  -- the first incident comes two rounds after the start, and each next one two rounds after the one before
+  pub late : (slot : ℕ) (incident : Incident) → incident_at plan slot ≡ Some incident → 2 * plan.nodes ≤ slot
+  pub apart : (slot later : ℕ) (first second : Incident) → incident_at plan slot ≡ Some first
+      → incident_at plan later ≡ Some second → slot < later → slot + 2 * plan.nodes ≤ later
+  pub losses : (slot : ℕ) (incident : Incident) → incident_at plan (suc slot) ≡ Some incident
+      → IsLossAfter plan slot incident
+  -- after each slot four sound nodes are measured
+  pub steady : (slot : ℕ) → slot < plan.slots → 4 ≤ length (steady_nodes plan slot)

@@ -1,0 +1,52 @@
+-- What fates and ledgers tell of the slots of a good plan.
+use Rattle.std.specs.Prelude.{◌≡◌, ◌≢◌, ℕ, suc, ◌+◌, ◌-◌, ◌*◌, ◌<◌, ◌≤◌, true, Some}
+use Rattle.fault_plan.specs.Plan.{Change, Sending, Incident, Plan, sender, incident_at}
+use Rattle.ttp_base.specs.NodeSet.{has_node}
+use Rattle.fault_plan.specs.Fates.{Fate, Absent, Sound, Falling, Fallen, is_sound_after, is_good_slot, is_first_slot}
+use Rattle.fault_plan.specs.Fates.{tally}
+use Rattle.fault_plan.specs.Ledger.{Ledger, planned_members, ledger_of}
+
+-- an incident of a slot loses a node, two rounds or more after the start
+pub record IsLossOf (plan : Plan) (k : ℕ) (change : Change) (since : ℕ) : Type 0 where
+  pub incident : Incident
+  pub found : incident_at plan since ≡ Some incident
+  pub node : incident.node ≡ k
+  pub how : incident.change ≡ change
+  pub late : 2 * plan.nodes ≤ since
+
+-- no slot of a falling node has come since it was lost, and one comes before a round is over
+pub record IsFalling (plan : Plan) (slot k : ℕ) (change : Change) (since : ℕ) : Type 0 where
+  pub loss : IsLossOf plan k change since
+  pub from : since ≤ slot
+  pub soon : suc slot < since + plan.nodes
+  pub unshown : (turn : ℕ) → since ≤ turn → turn ≤ slot → sender plan turn ≢ k
+
+-- the first own slot of a fallen node came within a round, and at once where it was lost as a sender
+pub record IsFallen (plan : Plan) (slot k : ℕ) (change : Change) (since shown : ℕ) : Type 0 where
+  pub loss : IsLossOf plan k change since
+  pub from : (since ≤ shown) × (shown ≤ slot)
+  pub soon : shown < since + plan.nodes
+  pub own : sender plan shown ≡ k
+  pub sending : change ≡ Sending → shown ≡ since
+
+abbrev pub IsTold : Plan → ℕ → ℕ → Fate → Type 0
+IsTold plan slot k Absent = Unit {0}
+IsTold plan slot k Sound = Unit {0}
+IsTold plan slot k (Falling change since) = IsFalling plan slot k change since
+IsTold plan slot k (Fallen change since shown) = IsFallen plan slot k change since shown
+
+-- what node k's ledger tells after a slot: all its slots up to then come at its base or before, less than a round ago
+pub record IsLedgerOf (plan : Plan) (slot k : ℕ) (ledger : Ledger) : Type 0 where
+  pub within : ledger.base ≤ slot
+  pub near : slot < ledger.base + plan.nodes
+  pub owned : ledger.own ≡ true → sender plan ledger.base ≡ k
+  pub newest : (turn : ℕ) → turn ≤ slot → sender plan turn ≡ k → (ledger.own ≡ true) × (turn ≤ ledger.base)
+  pub seen : ledger.seen ≡ tally (is_good_slot plan) (suc ledger.base) (slot - ledger.base)
+  pub bad : ledger.bad ≡ tally (is_first_slot plan) (suc ledger.base) (slot - ledger.base)
+
+-- the sender whose frame a falling receiver lost is sound and a member, and had no other slot since
+pub record IsSenderLost (plan : Plan) (slot since : ℕ) : Type 0 where
+  pub sound : is_sound_after plan slot (sender plan since) ≡ true
+  pub member : has_node (planned_members plan slot) (sender plan since) ≡ true
+  pub own : (ledger_of plan slot (sender plan since)).own ≡ true
+  pub base : (ledger_of plan slot (sender plan since)).base ≡ since

@@ -1,0 +1,105 @@
+//! Laws of plans of faults. The functions do nothing; their contracts are the laws.
+ghost use Rattle.std.specs.Prelude.{◌≡◌, ℕ, suc, ◌+◌, ◌*◌, ◌<◌, ◌≤◌, true, false, not, length, filter, Some, None};
+ghost use Rattle.ttp_base.specs.NodeSet.{below, has_node};
+ghost use Rattle.ttp_world.specs.declared.keep.Keep.TheVariants as keep;
+ghost use Rattle.ttp_world.specs.declared.medl.Medl.{Medl};
+ghost use Rattle.ttp_world.specs.declared.script.Script.{Script};
+ghost use Rattle.ttp_world.specs.Hypothesis.{keeps};
+ghost use Rattle.ttp_world.specs.Medl.{IsValid};
+ghost use Rattle.fault_plan.specs.Plan.{Change, Receiving, Incident, Plan, sender, incident_at};
+ghost use Rattle.fault_plan.specs.Fates.{Falling, Fallen, fate_of, is_absent, lost_since, may_stay, is_sound_after};
+ghost use Rattle.fault_plan.specs.Fates.{sound_nodes, is_good_slot, is_first_slot};
+ghost use Rattle.fault_plan.specs.Fates.{tally, is_measured};
+ghost use Rattle.fault_plan.specs.Ledger.{planned_members, ledger_of};
+ghost use Rattle.fault_plan.specs.GoodPlan.{IsGoodPlan};
+ghost use Rattle.fault_plan.specs.Kept.{KeepsByPlan};
+ghost use Rattle.fault_plan.specs.SlotKind.{slot_kind, is_good_kind, is_first_kind, IsKindAfter};
+ghost use Rattle.fault_plan.specs.Told.{IsTold, IsSenderLost, IsLedgerOf};
+
+/// A script whose test says that its cluster starts in a slot keeps to a good plan of faults from
+/// that slot on, which is the plan of the hypothesis's faulty nodes.
+pub fn kept_by_plan()
+    ensures { (list : Medl) (script : Script) (slot : ℕ) → IsValid list → keeps list script ≡ keep.Yes slot
+        → KeepsByPlan list script slot }
+{}
+
+/// Each node has a slot in each round, and its slots are a round apart. The start is the slot of the
+/// starter, which is sound, as are all that begin.
+pub fn turns_known()
+    ensures next { (plan : Plan) (from k : ℕ) → 0 < plan.nodes → k < plan.nodes
+        → (turn : ℕ) × ((from ≤ turn) × (turn < from + plan.nodes) × (sender plan turn ≡ k)) }
+    ensures apart { (plan : Plan) (turn later : ℕ) → 0 < plan.nodes → turn < later
+        → sender plan turn ≡ sender plan later
+        → turn + plan.nodes ≤ later }
+    ensures first { (plan : Plan) → IsGoodPlan plan → sender plan 0 ≡ plan.starter }
+    ensures sound { (plan : Plan) (k : ℕ) → IsGoodPlan plan → is_sound_after plan 0 k ≡ has_node plan.begin k }
+{}
+
+/// What the fate of a node tells. One lost node at most may still stay after a slot, and none that
+/// was lost before when the next incident comes.
+pub fn lost_one_by_one()
+    ensures told { (plan : Plan) (slot k : ℕ) → IsGoodPlan plan → IsTold plan slot k (fate_of plan slot k) }
+    ensures one { (plan : Plan) (slot j k : ℕ) → IsGoodPlan plan
+        → may_stay plan.nodes slot (fate_of plan slot j) ≡ true
+        → may_stay plan.nodes slot (fate_of plan slot k) ≡ true
+        → j ≡ k }
+    ensures none { (plan : Plan) (slot k : ℕ) (incident : Incident) → IsGoodPlan plan
+        → incident_at plan (suc slot) ≡ Some incident
+        → may_stay plan.nodes slot (fate_of plan slot k) ≡ false }
+    ensures over { (plan : Plan) (slot k since : ℕ) → IsGoodPlan plan
+        → lost_since (fate_of plan slot k) ≡ Some since → since + 2 * plan.nodes ≤ suc slot
+        → may_stay plan.nodes slot (fate_of plan slot k) ≡ false }
+    ensures absent { (plan : Plan) (slot k : ℕ) → IsGoodPlan plan
+        → is_absent (fate_of plan slot k) ≡ not (has_node plan.begin k) }
+    ensures sound_before { (plan : Plan) (slot later k : ℕ) → slot ≤ later
+        → is_sound_after plan later k ≡ true
+        → is_sound_after plan slot k ≡ true }
+{}
+
+/// What a slot is by the fate of the node whose slot it is, and what that tells of the slot: who was
+/// sound before, and which incidents can come in it. None comes while a lost node may still stay.
+pub fn slots_known()
+    ensures kind { (plan : Plan) (slot : ℕ) → IsGoodPlan plan → IsKindAfter plan slot (slot_kind plan (suc slot)) }
+    ensures good { (plan : Plan) (slot : ℕ) → is_good_slot plan slot ≡ is_good_kind (slot_kind plan slot) }
+    ensures first { (plan : Plan) (slot : ℕ) → IsGoodPlan plan
+        → is_first_slot plan slot ≡ is_first_kind (slot_kind plan slot) }
+    ensures quiet { (plan : Plan) (slot k : ℕ) → IsGoodPlan plan
+        → may_stay plan.nodes slot (fate_of plan slot k) ≡ true
+        → incident_at plan (suc slot) ≡ None }
+{}
+
+/// A sound node that has had a slot of its own is a member, and a lost one isn't once its first own
+/// slot has come. Until then the sender whose frame a receiver lost stays sound and a member.
+pub fn members_known()
+    ensures sound { (plan : Plan) (slot k : ℕ) → IsGoodPlan plan → k < plan.nodes
+        → is_sound_after plan slot k ≡ true → (ledger_of plan slot k).own ≡ true
+        → has_node (planned_members plan slot) k ≡ true }
+    ensures fallen { (plan : Plan) (slot k since shown : ℕ) (change : Change) → IsGoodPlan plan → k < plan.nodes
+        → fate_of plan slot k ≡ Fallen change since shown
+        → has_node (planned_members plan slot) k ≡ false }
+    ensures falling { (plan : Plan) (slot k since : ℕ) → IsGoodPlan plan
+        → fate_of plan slot k ≡ Falling Receiving since
+        → IsSenderLost plan slot since }
+    ensures nodes { (plan : Plan) (slot : ℕ) → IsGoodPlan plan
+        → planned_members plan slot ≡ filter (has_node (planned_members plan slot)) (below plan.nodes) }
+{}
+
+/// What a node has counted since its own slot: at most one first own slot of a lost node, and none in
+/// its first round; and when its next slot comes, a good slot of each other sound node, of which
+/// there are three or more. In each round four good slots or more are measured.
+pub fn counts_known()
+    ensures ledger { (plan : Plan) (slot k : ℕ) → IsGoodPlan plan → k < plan.nodes
+        → IsLedgerOf plan slot k (ledger_of plan slot k) }
+    ensures bad { (plan : Plan) (slot k : ℕ) → IsGoodPlan plan → k < plan.nodes → (ledger_of plan slot k).bad ≤ 1 }
+    ensures bad_at_first { (plan : Plan) (slot k : ℕ) → IsGoodPlan plan → k < plan.nodes
+        → (ledger_of plan slot k).own ≡ false
+        → (ledger_of plan slot k).bad ≡ 0 }
+    ensures seen { (plan : Plan) (slot k : ℕ) → IsGoodPlan plan → k < plan.nodes → sender plan (suc slot) ≡ k
+        → (ledger_of plan slot k).own ≡ true
+        → length (sound_nodes plan slot) ≤ suc (ledger_of plan slot k).seen }
+    ensures sound { (plan : Plan) (slot : ℕ) → IsGoodPlan plan → slot < plan.slots
+        → 4 ≤ length (sound_nodes plan slot) }
+    ensures measured { (plan : Plan) (slot from : ℕ) → IsGoodPlan plan → slot < plan.slots
+        → from + plan.nodes ≡ suc slot
+        → 4 ≤ tally (is_measured plan) from plan.nodes }
+{}
