@@ -1,0 +1,11 @@
+pub mod Hearing
+pub mod Joins
+pub mod Judging
+pub mod ListedSets
+pub mod NodeSlots
+pub mod OwnSlots
+pub mod Senders
+pub mod StartSlot
+pub mod Verdicts
+pub mod Views
+pub mod Waiting
