@@ -12,7 +12,8 @@ use Rattle.ttp_world.specs.Medium.{flip_bits, heard}
 use Rattle.ttp_world.specs.Reception.{Hearing}
 use Rattle.ttp_world.specs.Script.{has_send_fault, has_receive_fault, flipped_bits}
 use Rattle.ttp_world.specs.World.{BegunSlot, hearing_in}
-use Rattle.safety_laws.specs.Heard.{is_frameless, IsUnflipped, signal_as_sent, HearsFrame, OnBoth, OnA, OnB, HearsNoFrame}
+use Rattle.safety_laws.specs.Heard.{is_frameless, IsUnflipped, signal_as_sent, HearsFrame, OnBoth, OnA, OnB}
+use Rattle.safety_laws.specs.Heard.{HearsNoFrame}
 use Rattle.safety_laws.specs.Heard.{HearsSilence}
 
 -- One channel.

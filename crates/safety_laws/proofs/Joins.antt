@@ -12,7 +12,8 @@ use Rattle.ttp_world.specs.declared.node.CState.{CState}
 use Rattle.ttp_world.specs.declared.node.Entry.{Entry}
 use Rattle.ttp_world.specs.declared.node.Entry.TheVariants as entry
 use Rattle.ttp_world.specs.Conduct.{cold_start_cstate, cold_start_frame, join_entry, channel_join, listening_entry}
-use Rattle.ttp_world.specs.Fitting.{carried, is_joinable_state, is_cold_start, is_listed_explicit, joinable_cstate, joinable}
+use Rattle.ttp_world.specs.Fitting.{carried, is_joinable_state, is_cold_start, is_listed_explicit}
+use Rattle.ttp_world.specs.Fitting.{joinable_cstate, joinable}
 use Rattle.ttp_world.specs.Frame.{cold_start_header}
 use Rattle.ttp_world.specs.Medium.{SentFrame, Signal, Silence, Noise, Bits}
 use Rattle.ttp_world.specs.Medl.{is_wide, member_width, may_start, IsValid}

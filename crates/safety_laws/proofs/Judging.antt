@@ -37,7 +37,8 @@ view_of_bits-seen : (list : Medl) (expected : Expected) (bytes : List ℕ) (devi
 view_of_bits-seen list expected bytes deviation =
     cond_both (is_within_window list deviation && is_expected_form list expected bytes) _ view.Bad
     (λ v. is_seen v ≡ true)
-    (λ formed. seen_frame (fits_members list expected bytes expected.candidates.first) (fits_second list expected bytes))
+    (λ formed. seen_frame (fits_members list expected bytes expected.candidates.first)
+    (fits_second list expected bytes))
     (λ other. refl)
 
 better-same : (v : ChannelView) → better_view v v ≡ v
@@ -76,7 +77,8 @@ module _ (list : Medl) (expected : Expected) (deviation : ℕ → ℤ) (owner : 
       let view_a = view_of list expected deviation on_a in
       let view_b = view_of list expected deviation on_b in
       verdict_entry owner (verdict_of view_a view_b a)
-      (entry_deviation (is_taken_from_a view_a view_b) (heard_deviation deviation on_a) (heard_deviation deviation on_b))
+      (entry_deviation (is_taken_from_a view_a view_b) (heard_deviation deviation on_a)
+      (heard_deviation deviation on_b))
 
   judged_by_view : ChannelView → ℤ → Entry
   judged_by_view v d = verdict_entry owner (verdict_of_view v a) d

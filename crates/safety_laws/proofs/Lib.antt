@@ -1,3 +1,4 @@
+pub mod FourNodes
 pub mod Hearing
 pub mod Joins
 pub mod Judging
@@ -5,6 +6,7 @@ pub mod ListedSets
 pub mod NodeSlots
 pub mod OwnSlots
 pub mod Senders
+pub mod StartOf
 pub mod StartSlot
 pub mod Verdicts
 pub mod Views

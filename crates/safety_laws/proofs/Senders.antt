@@ -32,7 +32,8 @@ flat_map-one f a (suc n) p from to others = elim (cases_eq a p) [
 -- nobody sends
 pub frames_in-none : (s : BegunSlot) (chosen : List Chosen)
     → ((k : ℕ) → k < length s.list.slots → frames_of s chosen k ≡ []) → frames_in s chosen ≡ []
-frames_in-none s chosen none = flat_map-none (frames_of s chosen) 0 (length s.list.slots) (λ k from to. none k (omega arith))
+frames_in-none s chosen none =
+    flat_map-none (frames_of s chosen) 0 (length s.list.slots) (λ k from to. none k (omega arith))
 
 -- node p alone sends
 pub frames_in-one : (s : BegunSlot) (chosen : List Chosen) (p : ℕ) → p < length s.list.slots

@@ -1,6 +1,7 @@
 -- The slot of the start: one node starts, and every other that is on joins on its frame.
 use Rattle.std.proofs.Common.{◌≡◌, ◌≢◌, ℕ, ◌+◌, ◌-◌, ◌*◌, ◌<◌, ◌≤◌, ℤ, Bool, true, false, cond, ◌&&◌, ◌||◌, List, []}
-use Rattle.std.proofs.Common.{◌∷◌, ◌++◌, length, Option, Some, None, option_map, refl, ap, sym, ◌∙◌, subst, inl, inr, arith}
+use Rattle.std.proofs.Common.{◌∷◌, ◌++◌, length, Option, Some, None, option_map, refl, ap, sym, ◌∙◌, subst, inl, inr}
+use Rattle.std.proofs.Common.{arith}
 use Rattle.std.specs.Prelude.{◌==◌, nat_le, if◌then◌else◌}
 use Rattle.std.proofs.Math.Bool.{or-true}
 use Rattle.std.proofs.lemmas.Bool.{cases_eq, le-leb}
@@ -102,7 +103,8 @@ stands-started list k past s valid node =
       phase = refl;
       entry = refl;
       place = refl;
-      members = sym (members_after-Started list k past.members past.ack node few) ∙ with_node-nil k (omega (arith, few));
+      members = sym (members_after-Started list k past.members past.ack node few)
+          ∙ with_node-nil k (omega (arith, few));
       accepted = refl;
       rejected = refl;
       ack = refl;

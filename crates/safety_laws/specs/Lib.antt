@@ -4,3 +4,4 @@ pub mod NodeSlot
 pub mod Standing
 pub mod Turns
 pub mod Start
+pub mod WorkedSlots

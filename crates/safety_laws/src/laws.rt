@@ -21,7 +21,7 @@ ghost use Rattle.ttp_world.specs.Hypothesis.{ClusterStart, loses, start_of};
 ghost use Rattle.ttp_world.specs.Medium.{SentFrame};
 ghost use Rattle.ttp_world.specs.Medl.{may_start, IsValid};
 ghost use Rattle.ttp_world.specs.Reception.{Hearing, expected_of, is_within_window, view_of_bits};
-ghost use Rattle.ttp_world.specs.Script.{is_on};
+ghost use Rattle.ttp_world.specs.Script.{is_ever_on, is_on};
 ghost use Rattle.ttp_world.specs.World.{BegunSlot, Numbers, SlotNumbers, node_past, slot_after, frames_of, frames_in};
 ghost use Rattle.ttp_world.specs.World.{hearing_in, deviation_in, row_in, step, world};
 ghost use Rattle.safety_laws.specs.Heard.{IsUnflipped, HearsFrame, HearsNoFrame, HearsSilence};
@@ -138,7 +138,15 @@ pub fn own_slot()
 /// (`starts`), and each other node that is on joins on its frame (`joins`), where that comes to it as it
 /// was sent; those that are not on stay off (`off`). So all that are on are then active at one place, and
 /// hold the starter alone for a member.
+///
+/// The start that the hypothesis test knows is such a slot (`known`), and each node that is ever on is on
+/// by then (`all_on`).
 pub fn start()
+    ensures known { (list : Medl) (script : Script) (start : ClusterStart) → start_of list script ≡ Some start
+        → StartsAlone list script start }
+    ensures all_on { (list : Medl) (script : Script) (start : ClusterStart) (k : ℕ)
+        → start_of list script ≡ Some start → k < length list.slots → IsTrue (is_ever_on script k)
+        → IsTrue (is_on script k start.slot) }
     ensures waits { (list : Medl) (script : Script) (start : ClusterStart) (numbers : Numbers) → IsValid list
         → StartsAlone list script start → length numbers ≤ start.slot
         → (k : ℕ) → k < length list.slots

@@ -15,3 +15,7 @@
 #![tactic(auto)]
 
 pub mod laws;
+#[cfg(test)]
+mod tests;
+#[cfg(test)]
+mod worked_slots;

@@ -1,5 +1,5 @@
-use Rattle.safety_laws.proofs.Verdicts.{judged-correct, judged-tentative, leaves-denied, judged-incorrect, judged-outside}
-use Rattle.safety_laws.proofs.Verdicts.{judged-none, judged-silent, judged-whatever}
+use Rattle.safety_laws.proofs.Verdicts.{judged-correct, judged-tentative, leaves-denied, judged-incorrect}
+use Rattle.safety_laws.proofs.Verdicts.{judged-outside, judged-none, judged-silent, judged-whatever}
 use Rattle.safety_laws.proofs.laws.judged.Goals as goal
 
 pub returns-clause-correct : goal.returns-clause-correct
