@@ -1,0 +1,13 @@
+pub mod FourNodes
+pub mod Hearing
+pub mod Joins
+pub mod Judging
+pub mod ListedSets
+pub mod NodeSlots
+pub mod OwnSlots
+pub mod Senders
+pub mod StartOf
+pub mod StartSlot
+pub mod Verdicts
+pub mod Views
+pub mod Waiting

@@ -1,0 +1,7 @@
+pub mod SlotFrames
+pub mod Heard
+pub mod NodeSlot
+pub mod Standing
+pub mod Turns
+pub mod Start
+pub mod WorkedSlots

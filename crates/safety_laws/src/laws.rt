@@ -1,0 +1,169 @@
+//! The laws of one slot and of the start. The functions do nothing; their contracts are the laws.
+//!
+//! For proofs to cite, each stands in a file of `proofs/`: `Views`, `Hearing` and `Senders`, `Joins`,
+//! `NodeSlots`, `Verdicts`, `OwnSlots`, `Waiting` and `StartSlot`.
+ghost use Rattle.std.specs.Prelude.{◌≡◌, ◌≢◌, ℕ, ◌<◌, ◌≤◌, ℤ, pos, ◌⊎◌, true, false, List, [], ◌∷◌, length, IsTrue};
+ghost use Rattle.ttp_base.specs.NodeSet.{with_node, without_node};
+ghost use Rattle.ttp_world.specs.declared.medl.Medl.{Medl};
+ghost use Rattle.ttp_world.specs.declared.node.Ack.TheVariants as ack;
+ghost use Rattle.ttp_world.specs.declared.node.ChannelView.TheVariants as view;
+ghost use Rattle.ttp_world.specs.declared.node.Chosen.{Chosen};
+ghost use Rattle.ttp_world.specs.declared.node.Entry.TheVariants as entry;
+ghost use Rattle.ttp_world.specs.declared.node.Phase.TheVariants as phase;
+ghost use Rattle.ttp_world.specs.declared.node.Reason.TheVariants as reason;
+ghost use Rattle.ttp_world.specs.declared.node.Verdict.{Verdict};
+ghost use Rattle.ttp_world.specs.declared.node.Verdict.TheVariants as verdict;
+ghost use Rattle.ttp_world.specs.declared.script.Script.{Script};
+ghost use Rattle.ttp_world.specs.Acknowledgement.{is_open};
+ghost use Rattle.ttp_world.specs.Conduct.{cold_start_frame, own_frame, message_sent, listening_entry};
+ghost use Rattle.ttp_world.specs.Diary.{History, entry_of};
+ghost use Rattle.ttp_world.specs.Hypothesis.{ClusterStart, loses, start_of};
+ghost use Rattle.ttp_world.specs.Medium.{SentFrame};
+ghost use Rattle.ttp_world.specs.Medl.{may_start, IsValid};
+ghost use Rattle.ttp_world.specs.Reception.{Hearing, expected_of, is_within_window, view_of_bits};
+ghost use Rattle.ttp_world.specs.Script.{is_ever_on, is_on};
+ghost use Rattle.ttp_world.specs.World.{BegunSlot, Numbers, SlotNumbers, node_past, slot_after, frames_of, frames_in};
+ghost use Rattle.ttp_world.specs.World.{hearing_in, deviation_in, row_in, step, world};
+ghost use Rattle.safety_laws.specs.Heard.{IsUnflipped, HearsFrame, HearsNoFrame, HearsSilence};
+ghost use Rattle.safety_laws.specs.NodeSlot.{NodeSlot, node_slot, frames_made, entry_made, next_past, coming_place};
+ghost use Rattle.safety_laws.specs.NodeSlot.{owner_of, candidates_of};
+ghost use Rattle.safety_laws.specs.SlotFrames.{IsSlotFrame, view_of_members};
+ghost use Rattle.safety_laws.specs.Standing.{StandsBy, HasJustLeft, IsJudgedAs, sent_standing};
+ghost use Rattle.safety_laws.specs.Start.{StartsAlone, IsStartHeard, Waits, starter_standing, joined_on_start};
+ghost use Rattle.safety_laws.specs.Start.{joined_standing};
+ghost use Rattle.safety_laws.specs.Turns.{IsJudging, HearsMembers, HearsOutside, IsAtOwnSlot, HasPayload};
+
+/// How an active node sees bits in another's slot. The frame that the list gives for the place at which
+/// the node itself stands, inside the window, is seen by the members of its sender alone, whichever
+/// kind it is of. A frame outside the window is bad, and so is a cold-start frame.
+pub fn views()
+    ensures inside { (x : NodeSlot) (members bytes : List ℕ) (deviation : ℤ) → IsJudging x
+        → IsSlotFrame x.list (coming_place x) members bytes → IsTrue (is_within_window x.list deviation)
+        → view_of_bits x.list (expected_of x.list x.node x.past) bytes deviation
+        ≡ view_of_members (candidates_of x) members }
+    ensures outside { (x : NodeSlot) (bytes : List ℕ) (deviation : ℤ) → is_within_window x.list deviation ≡ false
+        → view_of_bits x.list (expected_of x.list x.node x.past) bytes deviation ≡ view.Bad }
+    ensures cold_start { (x : NodeSlot) (p : ℕ) (deviation : ℤ)
+        → view_of_bits x.list (expected_of x.list x.node x.past) (cold_start_frame x.list p) deviation ≡ view.Bad }
+{}
+
+/// What comes to a node in a slot in which one node sends (`kept`, `lost`), or none (`silent`): the
+/// frame as it was sent on each channel on which no fault of the sender or the receiver covers it, and
+/// no frame on the others. No bit of it is flipped. A listening node waits where no frame comes
+/// (`waits`), and joins on a cold-start frame of a node that may start (`joins`).
+pub fn hearing()
+    ensures none_sends { (s : BegunSlot) (chosen : List Chosen)
+        → ((k : ℕ) → k < length s.list.slots → frames_of s chosen k ≡ []) → frames_in s chosen ≡ [] }
+    ensures one_sends { (s : BegunSlot) (chosen : List Chosen) (p : ℕ) → p < length s.list.slots
+        → ((k : ℕ) → k < length s.list.slots → k ≢ p → frames_of s chosen k ≡ [])
+        → frames_in s chosen ≡ frames_of s chosen p }
+    ensures kept { (s : BegunSlot) (sent : SentFrame) (r : ℕ) → IsUnflipped s.script sent.sender s.number
+        → loses s.script sent.sender s.number r ≡ false → HearsFrame sent (hearing_in s (sent ∷ []) r) }
+    ensures lost { (s : BegunSlot) (sent : SentFrame) (r : ℕ) → loses s.script sent.sender s.number r ≡ true
+        → HearsNoFrame (hearing_in s (sent ∷ []) r) }
+    ensures silent { (s : BegunSlot) (r : ℕ) → HearsSilence (hearing_in s [] r) }
+    ensures waits { (list : Medl) (h : Hearing) → HearsNoFrame h → listening_entry list h ≡ entry.Waited }
+    ensures joins { (list : Medl) (h : Hearing) (p : ℕ) → IsValid list → p < length list.slots
+        → IsTrue (may_start list p) → HearsFrame (record { sender = p; bytes = cold_start_frame list p }) h
+        → listening_entry list h ≡ joined_on_start p (h.deviation p) }
+{}
+
+/// After one slot more of the world a node's past is what its slot makes of it, and so are its entry and
+/// what it sends.
+pub fn one_slot()
+    ensures past { (list : Medl) (script : Script) (history : History) (chosen : List Chosen) (k : ℕ)
+        → k < length list.slots
+        → node_past list script (step list script history chosen) k
+        ≡ next_past (node_slot list script history chosen k) }
+    ensures entry { (list : Medl) (script : Script) (history : History) (chosen : List Chosen) (k : ℕ)
+        → k < length list.slots
+        → entry_of (row_in (slot_after list script history) chosen) k
+        ≡ entry_made (node_slot list script history chosen k) }
+    ensures frames { (list : Medl) (script : Script) (history : History) (chosen : List Chosen) (k : ℕ)
+        → k < length list.slots
+        → frames_of (slot_after list script history) chosen k
+        ≡ frames_made (node_slot list script history chosen k) }
+{}
+
+/// What an active node holds after another's slot. The owner's frame, inside the window, is judged by
+/// its members: correct, tentative, denied or incorrect. A frame outside the window is invalid, and
+/// where no frame comes the slot is null or invalid; where nothing comes it is null. Whatever comes,
+/// the node judges the owner or leaves as denied.
+pub fn judged()
+    ensures correct { (x : NodeSlot) (sender : ℕ) (members : List ℕ) → IsJudging x → HearsMembers x sender members
+        → members ≡ (candidates_of x).first → IsJudgedAs x verdict.Correct (x.hearing.deviation sender) }
+    ensures tentative { (x : NodeSlot) (sender : ℕ) (members : List ℕ) → IsJudging x → HearsMembers x sender members
+        → x.past.ack ≡ ack.First → members ≡ without_node (with_node x.past.members (owner_of x)) x.node
+        → IsJudgedAs x verdict.Tentative (x.hearing.deviation sender) }
+    ensures denied { (x : NodeSlot) (sender y : ℕ) (members : List ℕ) → IsJudging x → HearsMembers x sender members
+        → x.past.ack ≡ ack.Doubt y
+        → members ≡ with_node (without_node (with_node x.past.members (owner_of x)) x.node) y
+        → HasJustLeft (next_past x) reason.Denied (owner_of x) }
+    ensures incorrect { (x : NodeSlot) (sender : ℕ) (members : List ℕ) → IsJudging x → HearsMembers x sender members
+        → members ≢ (candidates_of x).first → (candidates_of x).second ≢ Some members
+        → IsJudgedAs x verdict.Incorrect (x.hearing.deviation sender) }
+    ensures outside { (x : NodeSlot) (sender : ℕ) → IsJudging x → HearsOutside x sender
+        → IsJudgedAs x verdict.Invalid (x.hearing.deviation sender) }
+    ensures no_frame { (x : NodeSlot) → IsJudging x → HearsNoFrame x.hearing
+        → IsJudgedAs x verdict.Null (pos 0) ⊎ IsJudgedAs x verdict.Invalid (pos 0) }
+    ensures silent { (x : NodeSlot) → IsJudging x → HearsSilence x.hearing → IsJudgedAs x verdict.Null (pos 0) }
+    ensures whatever { (x : NodeSlot) → IsJudging x
+        → ((v : Verdict) × ((deviation : ℤ) × IsJudgedAs x v deviation))
+        ⊎ HasJustLeft (next_past x) reason.Denied (owner_of x) }
+{}
+
+/// What an active node does in its own slot. With a closed acknowledgement it sends where it accepted
+/// more frames than it rejected, and else leaves for clique. With an open one it withdraws a cold start,
+/// and leaves as unacknowledged where its newest own frame was another.
+pub fn own_slot()
+    ensures sends { (x : NodeSlot) → IsAtOwnSlot x → x.past.ack ≡ ack.Closed → x.past.rejected < x.past.accepted
+        → (let message = message_sent x.list (coming_place x) x.chosen in
+        StandsBy (next_past x) (entry.Sent message) (sent_standing x message)) }
+    ensures frame { (x : NodeSlot) → IsAtOwnSlot x → x.past.ack ≡ ack.Closed → x.past.rejected < x.past.accepted
+        → frames_made x ≡ record { sender = x.node; bytes = own_frame x.list x.node x.past x.chosen } ∷ [] }
+    ensures members { (x : NodeSlot) → IsAtOwnSlot x → HasPayload x
+        → IsSlotFrame x.list (coming_place x) (with_node x.past.members x.node)
+        (own_frame x.list x.node x.past x.chosen) }
+    ensures unacknowledged { (x : NodeSlot) → IsAtOwnSlot x → IsTrue (is_open x.past.ack)
+        → x.past.cold_start ≡ false
+        → HasJustLeft (next_past x) reason.Unacknowledged x.node × (frames_made x ≡ []) }
+    ensures clique { (x : NodeSlot) → IsAtOwnSlot x → x.past.ack ≡ ack.Closed → x.past.accepted ≤ x.past.rejected
+        → HasJustLeft (next_past x) reason.Clique x.node × (frames_made x ≡ []) }
+    ensures retries { (x : NodeSlot) → IsAtOwnSlot x → IsTrue (is_open x.past.ack) → IsTrue x.past.cold_start
+        → ((next_past x).phase ≡ phase.Listening) × (frames_made x ≡ []) }
+{}
+
+/// The start of a cluster. Until the first slot in which a node would start on a silent bus, each node is
+/// off, or has listened in silence since it is on (`waits`). If one node alone would start there, it does
+/// (`starts`), and each other node that is on joins on its frame (`joins`), where that comes to it as it
+/// was sent; those that are not on stay off (`off`). So all that are on are then active at one place, and
+/// hold the starter alone for a member.
+///
+/// The start that the hypothesis test knows is such a slot (`known`), and each node that is ever on is on
+/// by then (`all_on`).
+pub fn start()
+    ensures known { (list : Medl) (script : Script) (start : ClusterStart) → start_of list script ≡ Some start
+        → StartsAlone list script start }
+    ensures all_on { (list : Medl) (script : Script) (start : ClusterStart) (k : ℕ)
+        → start_of list script ≡ Some start → k < length list.slots → IsTrue (is_ever_on script k)
+        → IsTrue (is_on script k start.slot) }
+    ensures waits { (list : Medl) (script : Script) (start : ClusterStart) (numbers : Numbers) → IsValid list
+        → StartsAlone list script start → length numbers ≤ start.slot
+        → (k : ℕ) → k < length list.slots
+        → Waits list script (length numbers) k (node_past list script (world list script numbers) k) }
+    ensures starts { (list : Medl) (script : Script) (start : ClusterStart) (new : SlotNumbers) (numbers : Numbers)
+        → IsValid list → StartsAlone list script start → length numbers ≡ start.slot
+        → StandsBy (node_past list script (world list script (new ∷ numbers)) start.node) entry.Started
+        (starter_standing list start.node) }
+    ensures joins { (list : Medl) (script : Script) (start : ClusterStart) (new : SlotNumbers) (numbers : Numbers)
+        → IsValid list → StartsAlone list script start → length numbers ≡ start.slot
+        → IsStartHeard list script start
+        → (k : ℕ) → k < length list.slots → k ≢ start.node → IsTrue (is_on script k start.slot)
+        → (let deviation = deviation_in (slot_after list script (world list script numbers)) k start.node in
+        StandsBy (node_past list script (world list script (new ∷ numbers)) k) (joined_on_start start.node deviation)
+        (joined_standing list start.node deviation)) }
+    ensures off { (list : Medl) (script : Script) (start : ClusterStart) (new : SlotNumbers) (numbers : Numbers)
+        → IsValid list → StartsAlone list script start → length numbers ≡ start.slot
+        → (k : ℕ) → k < length list.slots → k ≢ start.node → is_on script k start.slot ≡ false
+        → (node_past list script (world list script (new ∷ numbers)) k).phase ≡ phase.Off }
+{}

@@ -1,0 +1,21 @@
+//! What one slot of the world does to one node, and how a cluster starts.
+//!
+//! The crate has no code that runs. Each function of [`laws`] does nothing, and its contract is a law
+//! over the definitions of `ttp_world`, for every list, script and past that meets what it names:
+//!
+//! - [`laws::views`]: at one place an undisturbed frame inside the window is seen by its members alone;
+//! - [`laws::hearing`]: what comes to a node where one node sends, or none, by the faults of both;
+//! - [`laws::one_slot`]: a world's node after one slot more is what its slot makes of it;
+//! - [`laws::judged`], [`laws::own_slot`]: what an active node holds after another's slot and its own;
+//! - [`laws::start`]: until a first node's limit is reached each node waits in silence, and then all
+//!   that are on begin on that node's frame.
+//!
+//! A node in a slot is a `NodeSlot` of `specs/NodeSlot.antt`: what it is before, and what the slot
+//! brings to it. The crate says nothing of whole runs but for their start, and nothing of clocks.
+#![tactic(auto)]
+
+pub mod laws;
+#[cfg(test)]
+mod tests;
+#[cfg(test)]
+mod worked_slots;

@@ -1,0 +1,84 @@
+//! Slots that were worked out by hand. The functions have no code: their contracts are the cases, and
+//! the check computes them. They show that the conditions of the laws can be met.
+//!
+//! Node 0 of four starts in slot 8, and node 1's first frame comes in slot 9.
+ghost use Rattle.std.specs.Prelude.{◌≡◌, [], ◌∷◌, pos, Some, None, IsTrue};
+ghost use Rattle.ttp_world.specs.declared.node.Ack.TheVariants as ack;
+ghost use Rattle.ttp_world.specs.declared.node.Entry.TheVariants as entry;
+ghost use Rattle.ttp_world.specs.declared.node.Phase.TheVariants as phase;
+ghost use Rattle.ttp_world.specs.declared.node.Reason.TheVariants as reason;
+ghost use Rattle.ttp_world.specs.declared.node.Verdict.TheVariants as verdict;
+ghost use Rattle.ttp_world.specs.Acknowledgement.{is_open};
+ghost use Rattle.ttp_world.specs.Hypothesis.{start_of};
+ghost use Rattle.safety_laws.specs.Heard.{HearsNoFrame, HearsSilence};
+ghost use Rattle.safety_laws.specs.NodeSlot.{entry_made, next_past, candidates_of};
+ghost use Rattle.safety_laws.specs.Start.{IsStartHeard};
+ghost use Rattle.safety_laws.specs.Turns.{IsJudging, HearsMembers, HearsOutside, IsAtOwnSlot, HasPayload};
+ghost use Rattle.safety_laws.specs.WorkedSlots.{four_nodes, first_start, faultless, silent, silent_and_deaf, deaf};
+ghost use Rattle.safety_laws.specs.WorkedSlots.{jumping, alone, at};
+
+/// The start is known and heard.
+fn a_start()
+    ensures known { start_of four_nodes faultless ≡ Some first_start }
+    ensures heard { IsStartHeard four_nodes faultless first_start }
+{}
+
+/// Node 1's first frame is correct to node 0, which waited for an answer to its cold start.
+fn a_correct_frame()
+    ensures judging { IsJudging (at faultless 9 0) }
+    ensures hears { HearsMembers (at faultless 9 0) 1 (0 ∷ 1 ∷ []) }
+    ensures first { (candidates_of (at faultless 9 0)).first ≡ 0 ∷ 1 ∷ [] }
+    ensures entry { entry_made (at faultless 9 0) ≡ entry.Judged 1 verdict.Correct (pos 0) }
+{}
+
+/// Node 1's frame is lost. Node 2's, without a C-state, has node 1 no longer among its members, and is
+/// tentative to node 1; node 3's denies it. In node 1's slot nobody heard a frame.
+fn a_lost_frame()
+    ensures nothing { HearsSilence (at silent 9 0).hearing }
+    ensures judging { IsJudging (at silent 10 1) }
+    ensures waits { (at silent 10 1).past.ack ≡ ack.First }
+    ensures hears { HearsMembers (at silent 10 1) 2 (0 ∷ 2 ∷ []) }
+    ensures tentative { entry_made (at silent 10 1) ≡ entry.Judged 2 verdict.Tentative (pos 0) }
+    ensures judging_again { IsJudging (at silent 11 1) }
+    ensures doubts { (at silent 11 1).past.ack ≡ ack.Doubt 2 }
+    ensures hears_again { HearsMembers (at silent 11 1) 3 (0 ∷ 2 ∷ 3 ∷ []) }
+    ensures denied { entry_made (at silent 11 1) ≡ entry.Left reason.Denied 3 }
+{}
+
+/// Node 3 hears noise in node 1's slot, and so finds node 2's frame incorrect, which has node 1 among its
+/// members. In its own slot it has accepted no more than it rejected.
+fn a_deaf_node()
+    ensures noise { HearsNoFrame (at deaf 9 3).hearing }
+    ensures invalid { entry_made (at deaf 9 3) ≡ entry.Judged 1 verdict.Invalid (pos 0) }
+    ensures judging { IsJudging (at deaf 10 3) }
+    ensures hears { HearsMembers (at deaf 10 3) 2 (0 ∷ 1 ∷ 2 ∷ []) }
+    ensures expects { (candidates_of (at deaf 10 3)).first ≡ 0 ∷ 2 ∷ [] }
+    ensures alone { (candidates_of (at deaf 10 3)).second ≡ None }
+    ensures own { IsAtOwnSlot (at deaf 11 3) }
+    ensures closed { (at deaf 11 3).past.ack ≡ ack.Closed }
+    ensures accepted { (at deaf 11 3).past.accepted ≡ 1 }
+    ensures rejected { (at deaf 11 3).past.rejected ≡ 2 }
+    ensures clique { entry_made (at deaf 11 3) ≡ entry.Left reason.Clique 3 }
+{}
+
+/// Node 1's clock is four windows ahead, so its frame comes too late.
+fn a_jumped_clock()
+    ensures judging { IsJudging (at jumping 9 0) }
+    ensures hears { HearsOutside (at jumping 9 0) 1 }
+    ensures invalid { entry_made (at jumping 9 0) ≡ entry.Judged 1 verdict.Invalid (pos 4) }
+{}
+
+/// Node 2 sends a frame with payload. Node 1, whose frame is lost and which then hears nothing, leaves as
+/// unacknowledged, and node 0, whose cold start nobody heard, withdraws it.
+fn own_slots()
+    ensures own { IsAtOwnSlot (at faultless 10 2) }
+    ensures closed { (at faultless 10 2).past.ack ≡ ack.Closed }
+    ensures payload { HasPayload (at faultless 10 2) }
+    ensures sends { entry_made (at faultless 10 2) ≡ entry.Sent (Some 0) }
+    ensures own_again { IsAtOwnSlot (at silent_and_deaf 13 1) }
+    ensures waits { (at silent_and_deaf 13 1).past.ack ≡ ack.First }
+    ensures unacknowledged { entry_made (at silent_and_deaf 13 1) ≡ entry.Left reason.Unacknowledged 1 }
+    ensures starter { IsAtOwnSlot (at alone 12 0) }
+    ensures cold_start { IsTrue (at alone 12 0).past.cold_start }
+    ensures retries { entry_made (at alone 12 0) ≡ entry.Retried }
+{}
