@@ -1,1 +1,2 @@
+pub mod HostLines
 pub mod LineParts

@@ -3,9 +3,11 @@ ghost use Rattle.std.specs.Prelude.{[], ◌∷◌, OnOk, OnErr};
 ghost use Rattle.ttp_base.specs.Outside.{WroteLines, CutShort};
 ghost use Rattle.ttp_world.specs.Medl.{IsValid};
 ghost use Rattle.ttp_world.specs.Trace.{trace_head, keep_line};
+ghost use Rattle.trace_text.specs.HostLines.{message_in, HasWords, written_line, message_line};
 ghost use Rattle.trace_text.specs.LineParts.{HasDigits, listed_line};
 
 use crate::head_line::head_line;
+use crate::host_line::{RingMessage, make_read_line, make_write_line};
 use crate::keep_line::keep_line;
 use crate::node_line::make_node_line;
 use ttp_base::{Failed, Line, Sink};
@@ -45,6 +47,51 @@ pub fn put_node_line<K: Sink>(
         (listed_line list.now slot node state.now message ∷ [])) }
 {
     make_node_line(list, slot, node, state, message, line);
+    out.write(line.bytes())
+}
+
+/// Writes the line of a message that a host wrote in a slot, as one piece. The number is the message's
+/// in the ring of what the host sends.
+///
+/// The line is formed in `line`, which is emptied first. `Failed` is the sink's: some first bytes of the
+/// line were written, or none. Takes no memory.
+pub fn put_write_line<K: Sink>(
+    slot: u32,
+    host: u8,
+    number: u64,
+    line: &mut Line,
+    out: &mut K,
+) -> Result<(), Failed>
+    ensures ok { OnOk result (WroteLines (K.output out.old) (K.output out.new)
+        (written_line slot host number ∷ [])) }
+    ensures failed { OnErr result (CutShort (K.output out.old) (K.output out.new)
+        (written_line slot host number ∷ [])) }
+{
+    make_write_line(slot, host, number, line);
+    out.write(line.bytes())
+}
+
+/// Writes the line of a message that a host read in a slot, as one piece.
+///
+/// The message has the four words of a status, or as many as a payload of its size has, which is at
+/// most 240 bytes. The line is formed in `line`, which is emptied first. `Failed` is the sink's: some
+/// first bytes of the line were written, or none. Takes no memory.
+pub fn put_read_line<K: Sink>(
+    slot: u32,
+    host: u8,
+    message: &RingMessage,
+    line: &mut Line,
+    out: &mut K,
+) -> Result<(), Failed>
+    requires { HasWords message.now.source message.now.size message.now.words.now }
+    ensures ok { OnOk result (WroteLines (K.output out.old) (K.output out.new)
+        (message_line slot host message.now.source message.now.number
+        (message_in message.now.source message.now.size message.now.words.now) ∷ [])) }
+    ensures failed { OnErr result (CutShort (K.output out.old) (K.output out.new)
+        (message_line slot host message.now.source message.now.number
+        (message_in message.now.source message.now.size message.now.words.now) ∷ [])) }
+{
+    make_read_line(slot, host, message, line);
     out.write(line.bytes())
 }
 

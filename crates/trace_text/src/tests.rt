@@ -1,11 +1,12 @@
 //! Lines of nodes, as the format of the trace gives them.
 ghost use Rattle.std.specs.Prelude.{◌≡◌};
 
+use crate::host_line::{make_read_line, make_write_line};
 use crate::node_line::make_node_line;
-use crate::{put_keep, put_node_line};
+use crate::{RingMessage, put_keep, put_node_line, put_read_line, put_write_line};
 use std::test::Fail;
 use ttp_base::{Line, List, MemorySink, NodeSet};
-use ttp_world::{Ack, CState, Entry, Keep, Medl, NodeState, Phase, Reason, Verdict};
+use ttp_world::{Ack, CState, Entry, Keep, Medl, NodeState, Phase, Reason, Source, Verdict};
 
 // A list without slots: of it a line needs the version alone.
 fn list(rt: &HostRuntime, version: u8) -> Medl
@@ -218,6 +219,80 @@ fn a_wide_line_is_one_piece(rt: HostRuntime) -> Result<(), Fail> {
     );
     assert!(rt; written.is_err());
     assert!(rt; narrow.bytes().is_empty(), "a part of a line was written");
+    Ok(())
+}
+
+#[test]
+fn lines_of_hosts(rt: HostRuntime) {
+    let status: [u64; 4] = [11, 41, 0x0000_0001_0001_0003, 256];
+    let full: [u64; 1] = [0x0102_0304_0506_0708];
+    let part: [u64; 2] = [0xffee_ddcc_bbaa_9988, 0x7700_0000_0000_0000];
+    let rows: [(Source, u64, &[u64], u8, &str); 4] = [
+        (
+            Source::Status,
+            12,
+            &status,
+            0,
+            "slot 11 host 1 read status 12 000000000000000b000000000000002900000001000100030000000000000100\n",
+        ),
+        (
+            Source::Node(2),
+            1,
+            &full,
+            8,
+            "slot 11 host 1 read 2 1 0102030405060708\n",
+        ),
+        (
+            Source::Node(23),
+            20_000,
+            &part,
+            9,
+            "slot 11 host 1 read 23 20000 ffeeddccbbaa998877\n",
+        ),
+        (
+            Source::Node(0),
+            0,
+            &part[1..],
+            1,
+            "slot 11 host 1 read 0 0 77\n",
+        ),
+    ];
+    let mut line = Line::new();
+    for (source, number, words, size, text) in rows {
+        let message = RingMessage {
+            source,
+            number,
+            words,
+            size,
+        };
+        make_read_line(11, 1, &message, &mut line);
+        assert!(rt; line.bytes() == text.as_bytes(), "{text}");
+    }
+    make_write_line(19_999, 23, 60_000, &mut line);
+    assert!(rt; line.bytes() == b"slot 19999 host 23 write 60000\n".as_slice());
+}
+
+// A payload of 240 bytes makes the longest line there is.
+#[test]
+fn a_line_of_a_host_is_one_piece(rt: HostRuntime) -> Result<(), Fail> {
+    let mut line = Line::new();
+    let words: [u64; 30] = [0x6162_6364_6566_6768; 30];
+    let message = RingMessage {
+        source: Source::Node(23),
+        number: 20_000,
+        words: &words,
+        size: 240,
+    };
+    let mut whole = MemorySink::new(rt.alloc(), 600, List::new(rt.alloc()))?;
+    assert!(rt; put_write_line(3, 4, 5, &mut line, &mut whole).is_ok());
+    assert!(rt; put_read_line(19_999, 23, &message, &mut line, &mut whole).is_ok());
+    let written = whole.bytes();
+    assert!(rt; written.len() == 22 + 33 + 480 + 1);
+    assert!(rt; written.starts_with(b"slot 3 host 4 write 5\n".as_slice()));
+    let mut narrow = MemorySink::new(rt.alloc(), 513, List::new(rt.alloc()))?;
+    assert!(rt; put_read_line(19_999, 23, &message, &mut line, &mut narrow).is_err());
+    assert!(rt; narrow.bytes().is_empty(), "a part of a line was written");
+    assert!(rt; put_write_line(3, 4, 5, &mut line, &mut narrow).is_ok());
     Ok(())
 }
 

@@ -1,0 +1,2 @@
+pub mod PayloadWords
+pub mod WordTexts
