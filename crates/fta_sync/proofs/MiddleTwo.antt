@@ -1,21 +1,16 @@
 -- The middle two of four numbers: of two pairs the greater of the smaller ones and the smaller of the greater ones.
-use Rattle.std.proofs.Common.{◌≡◌, ℤ, pos, ◌+ℤ◌, ◌≤ℤ◌, true, false, List, [], ◌∷◌, take, drop, ap, ◌∙◌, arith}
+use Rattle.std.proofs.Common.{◌≡◌, ℤ, pos, ◌+ℤ◌, ◌≤ℤ◌, List, [], ◌∷◌, take, drop, ap, ◌∙◌, arith}
 use Rattle.std.specs.Prelude.{int_le, int_div}
 use Rattle.std.specs.Int.{int_min, int_max}
 use Rattle.std.proofs.lemmas.Bool.{cond_both}
 use Rattle.std.proofs.lemmas.Int.{ints, clamps}
 use Rattle.ttp_world.specs.Clock.{insert_sorted, sorted, middle_half}
 use Rattle.ttp_world.specs.Script.{sum_ℤ}
+use Rattle.fta_sync.proofs.Sorted.{le_of_test, ge_of_test}
 
 -- the sum of the second and the third
-abbrev middle_sum : List ℤ → ℤ
+abbrev pub middle_sum : List ℤ → ℤ
 middle_sum xs = sum_ℤ (take 2 (drop 1 xs))
-
-le_of_test : (x y : ℤ) → int_le x y ≡ true → x ≤ℤ y
-le_of_test x y h = grind (arith, ints)
-
-ge_of_test : (x y : ℤ) → int_le x y ≡ false → y ≤ℤ x
-ge_of_test x y h = grind (arith, ints)
 
 plus_none : (x y z : ℤ) → x +ℤ y ≡ z → x +ℤ (y +ℤ pos 0) ≡ z
 plus_none x y z is = omega (arith, ints, is)

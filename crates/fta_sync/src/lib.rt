@@ -17,10 +17,14 @@
 //! can't take the correction out of the range of the others. With fewer than four notes it is 0. All
 //! values are in microticks.
 //!
+//! `laws::pull` says what that does for a cluster: where two nodes note three of four frames alike, their
+//! averages bring their clocks together, whatever each of them notes of the fourth.
+//!
 //! The crate measures nothing and corrects no clock: which slots are noted, and when a round ends, is for
 //! the layer above to say. It keeps four values and a count, and takes no memory.
 #![tactic(auto)]
 
+pub mod laws;
 mod measures;
 mod middle;
 
@@ -28,3 +32,5 @@ pub use measures::Measures;
 
 #[cfg(test)]
 mod tests;
+#[cfg(test)]
+mod worked_pull;

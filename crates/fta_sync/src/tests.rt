@@ -2,7 +2,7 @@
 ghost use Rattle.std.specs.Prelude.{All};
 ghost use Rattle.fta_sync.specs.StandsFor.{IsDeviation};
 
-use crate::Measures;
+use crate::{Measures, laws};
 
 // Measures that noted these.
 fn noted(deviations: &[i64]) -> Measures
@@ -31,4 +31,9 @@ fn notes_of_a_round_are_forgotten(rt: HostRuntime) {
     assert!(rt; !measures.ready() && measures.correction() == 0);
     measures.note(8);
     assert!(rt; !measures.ready());
+}
+
+#[test]
+fn law_asks_for_three_places_that_are_near() {
+    laws::pull([-2, 7, -1, 0], [0, -7, 1, 2], 1, -2, 0, 2);
 }

@@ -5,6 +5,7 @@ ghost use Rattle.ttp_world.specs.Hypothesis.{is_within_bound, drifts_hold, error
 ghost use Rattle.ttp_world.specs.Hypothesis.{window_broken};
 ghost use Rattle.ttp_world.specs.Medl.{IsValid};
 ghost use Rattle.ttp_world.specs.Script.{drift_of, IsWithinSpan, IsValidScript};
+ghost use Rattle.hypothesis.specs.Errors.{errors_hold_within};
 
 use precision::needed;
 use ttp_world::{DRIFT_LIMIT, Medl, Script};
@@ -26,8 +27,8 @@ fn drift_of(script: &Script, node: u8) -> i64
     *script.drift.get(node as usize)
 }
 
-// Whether each node's drift is within the list's.
-fn drifts_hold(list: &Medl, script: &Script) -> bool
+/// Whether each node's drift is within the list's.
+pub fn drifts_hold(list: &Medl, script: &Script) -> bool
     requires valid { IsValid list.now }
     requires script { IsValidScript list.now script.now }
     ensures { result ≡ drifts_hold list.now script.now }
@@ -40,17 +41,27 @@ fn drifts_hold(list: &Medl, script: &Script) -> bool
     true
 }
 
+/// Whether each node's reading errors of a slot add up to no more than a bound, either way, in
+/// microticks. Costs a binary search for each node.
+pub fn errors_hold_within(list: &Medl, script: &Script, bound: i64, slot: u32) -> bool
+    requires valid { IsValid list.now }
+    requires bound { pos 0 ≤ℤ bound }
+    ensures { result ≡ errors_hold_within list.now script.now bound slot }
+{
+    for node in 0..list.nodes() {
+        if !is_within_bound(bound, script.incidents(node, slot).error) {
+            return false;
+        }
+    }
+    true
+}
+
 // Whether each node's reading errors of a slot add up to no more than the list's.
 fn errors_hold_in(list: &Medl, script: &Script, slot: u32) -> bool
     requires { IsValid list.now }
     ensures { result ≡ errors_hold_in list.now script.now slot }
 {
-    for node in 0..list.nodes() {
-        if !is_within_bound(list.error, script.incidents(node, slot).error) {
-            return false;
-        }
-    }
-    true
+    errors_hold_within(list, script, list.error, slot)
 }
 
 /// The slot that is named where a drift or a sum of reading errors is past its bound: 0 for a

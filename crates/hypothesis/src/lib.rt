@@ -11,6 +11,9 @@
 //! }
 //! ```
 //!
+//! Beside it stand the questions that other tests of scripts ask as well: the start, the sender that is
+//! due, drifts and reading errors within their bounds, and nodes to measure clocks by.
+//!
 //! It stands on ttp_world, which has the list, the script and, in `specs/Hypothesis.antt`, the rules,
 //! and on precision, which says how wide a window has to be.
 //! It promises the answer that `keeps` defines there, for each valid list and script. It runs no
@@ -32,9 +35,14 @@ mod start;
 mod steady;
 mod walk;
 
+pub use crate::clocks::{drifts_hold, errors_hold_within};
+pub use crate::losses::expected_sender;
+pub use crate::nodes::lesser;
+pub use crate::start::{Start, sole_start, start_of};
+pub use crate::steady::has_four_steady;
+
 use crate::clocks::{clocks_broken, window_broken};
 use crate::outside::outside_broken;
-use crate::start::start_of;
 use crate::walk::started_keep;
 use ttp_world::{Keep, Medl, Script};
 

@@ -180,8 +180,8 @@ pub(crate) fn united(first: NodeSet, second: NodeSet) -> NodeSet
     all
 }
 
-// The node that is due to send in a slot from the start on.
-fn expected_sender(list: &Medl, start: Start, slot: u32) -> u8
+/// The node that is due to send in a slot from the start on.
+pub fn expected_sender(list: &Medl, start: Start, slot: u32) -> u8
     requires valid { IsValid list.now }
     requires order { start.slot ≤ slot }
     ensures value { result ≡ expected_sender list.now (told_start start) slot }

@@ -7,6 +7,7 @@ ghost use Rattle.ttp_world.specs.Hypothesis.{nodes_of, least_of, start_slot, sta
 ghost use Rattle.ttp_world.specs.Hypothesis.{start_of};
 ghost use Rattle.ttp_world.specs.Medl.{IsValid};
 ghost use Rattle.ttp_world.specs.Script.{is_ever_on, IsValidScript};
+ghost use Rattle.hypothesis.specs.SoleStart.{sole_start};
 ghost use Rattle.hypothesis.specs.Standing.{told_start_if};
 
 use crate::nodes::lesser;
@@ -14,10 +15,10 @@ use ttp_base::NodeSet;
 use ttp_world::{Medl, SLOT_LIMIT, Script};
 
 /// The slot of the start, and the node that starts.
-#[derive(Clone, Copy)]
-pub(crate) struct Start {
-    pub(crate) slot: u32,
-    pub(crate) node: u8,
+#[derive(Clone, Copy, Debug)]
+pub struct Start {
+    pub slot: u32,
+    pub node: u8,
 }
 
 /// Whether a node is ever on.
@@ -113,8 +114,23 @@ fn only_starter(slot: u32, starters: NodeSet) -> Option<Start>
     }
 }
 
-/// The start, where there is one that keeps the rule.
-pub(crate) fn start_of(list: &Medl, script: &Script) -> Option<Start>
+/// The first slot in which a node would start on a silent bus, and that node, where it is one alone.
+/// Others may come on after it.
+pub fn sole_start(list: &Medl, script: &Script) -> Option<Start>
+    requires valid { IsValid list.now }
+    requires script { IsValidScript list.now script.now }
+    ensures value { told_start_if result ≡ sole_start list.now script.now }
+    ensures bound { IfSome result (λ start. start.slot < SLOT_LIMIT + 3 * most_nodes) }
+{
+    match first_start(list, script) {
+        Some(slot) => only_starter(slot, starters_in(list, script, slot)),
+        None => None,
+    }
+}
+
+/// The start, where there is one that keeps the rule: one node alone starts, and each that is ever on
+/// is on by then. The slot may lie past the run's last.
+pub fn start_of(list: &Medl, script: &Script) -> Option<Start>
     requires valid { IsValid list.now }
     requires script { IsValidScript list.now script.now }
     ensures value { told_start_if result ≡ start_of list.now script.now }

@@ -22,8 +22,8 @@ fn is_steady(list: &Medl, script: &Script, faulty: NodeSet, node: u8) -> bool
     list.slots.get(node as usize).sync && is_ever_on(script, node) && !faulty.has(node)
 }
 
-// Whether four nodes with `sync` are ever on and not faulty.
-fn has_four_steady(list: &Medl, script: &Script, faulty: NodeSet) -> bool
+/// Whether four nodes with `sync` are ever on and not faulty, where these are faulty.
+pub fn has_four_steady(list: &Medl, script: &Script, faulty: NodeSet) -> bool
     requires valid { IsValid list.now }
     requires script { IsValidScript list.now script.now }
     ensures { result ≡ nat_le 4 (length (filter (is_steady list.now script.now faulty) (nodes_of list.now))) }

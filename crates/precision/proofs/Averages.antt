@@ -1,12 +1,13 @@
 -- The averages that two nodes take of the deviations of the same frames bring their clocks together.
-use Rattle.std.proofs.Common.{◌≡◌, ℕ, zero, suc, ◌<◌, ◌≤◌, ℤ, pos, negsuc, neg_ℤ, ◌+ℤ◌, ◌-ℤ◌, ◌*ℤ◌, ◌≤ℤ◌, true, false}
+use Rattle.std.proofs.Common.{◌≡◌, ℕ, zero, suc, ◌<◌, ◌≤◌, ℤ, pos, neg_ℤ, ◌+ℤ◌, ◌-ℤ◌, ◌≤ℤ◌, true, false}
 use Rattle.std.proofs.Common.{cond, List, [], ◌∷◌, length, take, drop, refl, ap, ◌∙◌, arith}
-use Rattle.std.specs.Prelude.{nat_lt, int_div, int_rem, unsigned_abs}
-use Rattle.std.proofs.lemmas.Int.{ints, quot-rem, rem_below}
+use Rattle.std.specs.Prelude.{nat_lt, int_div}
+use Rattle.std.proofs.lemmas.Int.{ints}
 use Rattle.std.proofs.lemmas.List.{length-take-le}
 use Rattle.ttp_world.specs.Clock.{sorted, middle_half, fta}
 use Rattle.ttp_world.specs.Script.{sum_ℤ}
-use Rattle.precision.proofs.Sorted.{AreBelow, AreBelow-sorted, length-sorted}
+use Rattle.fta_sync.proofs.Rounding.{IsAboutTwice, half_about}
+use Rattle.fta_sync.proofs.Sorted.{AreBelow, AreBelow-sorted, length-sorted}
 
 -- a number lies no further from 0 than w
 abbrev pub IsUpTo : ℤ → ℤ → Type 0
@@ -69,20 +70,12 @@ middle_below c (x ∷ xs) (y ∷ ys) h four = first_two_below c xs ys h.1 (omega
 
 -- Halves.
 
-small_rem : (r : ℤ) → unsigned_abs r < 2 → IsUpTo (pos 1) r
-small_rem (pos n) small = (omega (arith, ints, small), omega (arith, ints, small))
-small_rem (negsuc n) small = (omega (arith, ints, small), omega (arith, ints, small))
-
-half_of : (c y z q r p s : ℤ) → q *ℤ pos 2 +ℤ r ≡ y → p *ℤ pos 2 +ℤ s ≡ z → IsUpTo (pos 1) r → IsUpTo (pos 1) s
-    → y ≤ℤ (z +ℤ (c +ℤ c)) → q ≤ℤ (p +ℤ (c +ℤ pos 1))
-half_of c y z q r p s is was small few below = omega (arith, ints, is, was, small.0, small.1, few.0, few.1, below)
+half_of : (c y z q p : ℤ) → IsAboutTwice q y → IsAboutTwice p z → y ≤ℤ (z +ℤ (c +ℤ c)) → q ≤ℤ (p +ℤ (c +ℤ pos 1))
+half_of c y z q p first second below = omega (arith, ints, first.0, second.1, below)
 
 half_below : (c y z : ℤ) → y ≤ℤ (z +ℤ (c +ℤ c)) → int_div y (pos 2) ≤ℤ (int_div z (pos 2) +ℤ (c +ℤ pos 1))
 half_below c y z below =
-    half_of c y z (int_div y (pos 2)) (int_rem y (pos 2)) (int_div z (pos 2)) (int_rem z (pos 2)) (quot-rem y (pos 2))
-    (quot-rem z (pos 2))
-    (small_rem (int_rem y (pos 2)) (rem_below y (pos 2) (omega arith)))
-    (small_rem (int_rem z (pos 2)) (rem_below z (pos 2) (omega arith))) below
+    half_of c y z (int_div y (pos 2)) (int_div z (pos 2)) (half_about y) (half_about z) below
 
 -- Averages.
 

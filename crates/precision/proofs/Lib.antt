@@ -4,4 +4,3 @@ pub mod Entries
 pub mod Frames
 pub mod Rounds
 pub mod Runs
-pub mod Sorted

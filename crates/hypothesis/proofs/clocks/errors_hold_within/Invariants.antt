@@ -1,8 +1,8 @@
 use Rattle.std.proofs.Common.{◌≡◌, ℕ, ◌<◌, true}
 use Rattle.ttp_world.specs.Hypothesis.{is_within_bound}
 use Rattle.ttp_world.specs.Script.{reading_error}
-use Rattle.hypothesis.proofs.clocks.errors_hold_in.Given as goal
+use Rattle.hypothesis.proofs.clocks.errors_hold_within.Given as goal
 
 -- the errors of the nodes so far are within it
 abbrev pub invariant-loop-node : goal.invariant-loop-node
-invariant-loop-node l = (k : ℕ) → k < l.node → is_within_bound l.list.error (reading_error l.script k l.slot) ≡ true
+invariant-loop-node l = (k : ℕ) → k < l.node → is_within_bound l.fn.bound (reading_error l.script k l.slot) ≡ true
