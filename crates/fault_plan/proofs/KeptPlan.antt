@@ -21,8 +21,8 @@ use Rattle.ttp_world.proofs.Lists.{nodes-most}
 use Rattle.fault_plan.specs.Plan.{plan_of}
 use Rattle.fault_plan.specs.Fates.{fate_of, is_steady_after, steady_nodes, lost_since}
 use Rattle.fault_plan.specs.GoodPlan.{IsGoodPlan}
-use Rattle.fault_plan.specs.Kept.{IsPlanOfFaults, KeepsByPlan}
-use Rattle.fault_plan.proofs.Bounds.{within-bounds}
+use Rattle.fault_plan.specs.Kept.{IsPlanOfFaults, FollowsPlan, KeepsByPlan}
+use Rattle.fault_plan.proofs.Bounds.{none-armed, within-bounds}
 use Rattle.fault_plan.proofs.FateSteps.{since-kept, since-now}
 use Rattle.fault_plan.proofs.FaultySets.{two_rounds, IsSingleFault, faulty_before, makes-slot, strikes-slot}
 use Rattle.fault_plan.proofs.FaultySets.{faulty-early}
@@ -125,8 +125,6 @@ pub plan-of-faults : (list : Medl) (script : Script) (start : ClusterStart) → 
     → IsSingleFault list script start
     → IsPlanOfFaults list script start (plan_of list script start)
 plan-of-faults list script start started run = record {
-  on = λ turn k less.
-      has_node-sieve (is_ever_on script) (length list.slots) k less ∙ on-always list script start turn k run less;
   sound = λ turn k less within.
       let slot = start.slot + turn in
       let on : is_ever_on script k ≡ is_on script k slot = on-always list script start turn k run less in
@@ -232,6 +230,26 @@ single-fault list script slot valid rules =
           (omega arith));
     }
 
+follows-plan : (list : Medl) (script : Script) (start : ClusterStart) → IsSingleFault list script start
+    → FollowsPlan list script start (plan_of list script start)
+follows-plan list script start run =
+    let n = length list.slots in
+    record {
+      good = good-plan list script start run;
+      bounds = run.bounds;
+      nodes = refl;
+      starter = refl;
+      slots = refl;
+      measured = λ k less. has_node-sieve (λ k. (plan_at list k).sync) n k less;
+      on = λ turn k less.
+          has_node-sieve (is_ever_on script) n k less ∙ on-always list script start turn k run less;
+      hearing = λ turn within. heard-slot list script start turn run within;
+      clocks = λ turn earlier k less within before sound.
+          run.bounds.still k (start.slot + earlier)
+          ((heard-slot list script start earlier run (omega arith)).still k less
+          (sound-before (plan_of list script start) earlier turn k before sound));
+    }
+
 pub kept-plan : (list : Medl) (script : Script) (slot : ℕ) → IsValid list → keeps list script ≡ keep.Yes slot
     → KeepsByPlan list script slot
 kept-plan list script slot valid keeps =
@@ -241,13 +259,8 @@ kept-plan list script slot valid keeps =
       start = rules.start;
       started = rules.started;
       from = rules.from;
-      bounds = run.bounds;
       lone = run.lone;
-      good = good-plan list script rules.start run;
+      arms = λ k slot. none-armed list script k slot rules.outside;
+      follows = follows-plan list script rules.start run;
       faults = plan-of-faults list script rules.start rules.started run;
-      clocks = λ turn earlier k less within before sound.
-          run.bounds.still k (rules.start.slot + earlier)
-          ((heard-slot list script rules.start earlier run (omega arith)).still k less
-          (sound-before (plan_of list script rules.start) earlier turn k before sound));
-      hearing = λ turn within. heard-slot list script rules.start turn run within;
     }
