@@ -89,3 +89,6 @@ pub record KeepsByPlan (list : Medl) (script : Script) (slot : ℕ) : Type 0 whe
   pub arms : (k slot : ℕ) → is_armed script k slot ≡ false
   pub follows : FollowsPlan list script start (plan_of list script start)
   pub faults : IsPlanOfFaults list script start (plan_of list script start)
+  -- each other node that is on then hears the cold start undisturbed on some channel
+  pub heard : (k : ℕ) → start.slot < script.slots → k < length list.slots → k ≢ start.node
+      → is_on script k start.slot ≡ true → loses script start.node start.slot k ≡ false

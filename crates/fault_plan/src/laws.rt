@@ -11,6 +11,7 @@ ghost use Rattle.fault_plan.specs.Fates.{Falling, Fallen, fate_of, is_absent, lo
 ghost use Rattle.fault_plan.specs.Fates.{sound_nodes, is_good_slot, is_first_slot};
 ghost use Rattle.fault_plan.specs.Fates.{tally, is_measured};
 ghost use Rattle.fault_plan.specs.Ledger.{planned_members, ledger_of};
+ghost use Rattle.fault_plan.specs.Places.{planned_place};
 ghost use Rattle.fault_plan.specs.GoodPlan.{IsGoodPlan};
 ghost use Rattle.fault_plan.specs.Kept.{KeepsByPlan};
 ghost use Rattle.fault_plan.specs.SlotKind.{slot_kind, is_good_kind, is_first_kind, IsKindAfter};
@@ -23,7 +24,8 @@ pub fn kept_by_plan()
         → KeepsByPlan list script slot }
 {}
 
-/// Each node has a slot in each round, and its slots are a round apart. The start is the slot of the
+/// Each node has a slot in each round, its slots are a round apart, and at the place of a slot in the
+/// cluster cycle it is its node's turn. The start is the slot of the
 /// starter, which is sound, as are all that begin.
 pub fn turns_known()
     ensures next { (plan : Plan) (from k : ℕ) → 0 < plan.nodes → k < plan.nodes
@@ -31,6 +33,9 @@ pub fn turns_known()
     ensures apart { (plan : Plan) (turn later : ℕ) → 0 < plan.nodes → turn < later
         → sender plan turn ≡ sender plan later
         → turn + plan.nodes ≤ later }
+    ensures place { (list : Medl) (plan : Plan) (slot : ℕ) → plan.nodes ≡ length list.slots
+        → plan.starter < plan.nodes
+        → (planned_place list plan slot).slot ≡ sender plan slot }
     ensures first { (plan : Plan) → IsGoodPlan plan → sender plan 0 ≡ plan.starter }
     ensures sound { (plan : Plan) (k : ℕ) → IsGoodPlan plan → is_sound_after plan 0 k ≡ has_node plan.begin k }
 {}
