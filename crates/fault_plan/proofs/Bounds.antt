@@ -17,7 +17,7 @@ use Rattle.ttp_world.specs.Hypothesis.{drifts_hold, errors_hold_in, clocks_broke
 use Rattle.ttp_world.specs.Hypothesis.{least_of}
 use Rattle.ttp_world.specs.Hypothesis.{outside_slot, outside_broken, is_far_jump, is_allowed_jump, is_within_bound}
 use Rattle.ttp_world.specs.Hypothesis.{has_jumped_before, is_jump_before}
-use Rattle.ttp_world.specs.Script.{arms, flipped_bit, jump_in, jump_of, has_jump, sum_ℤ}
+use Rattle.ttp_world.specs.Script.{arms, is_armed, flipped_bit, jump_in, jump_of, has_jump, sum_ℤ}
 use Rattle.ttp_world.specs.Script.{drift_of, reading_error}
 use Rattle.fault_plan.specs.Kept.{IsWithinBounds}
 use Rattle.fault_plan.proofs.Sieves.{none-found}
@@ -128,6 +128,11 @@ no_jumps k slot (e ∷ events) none = no_jumps-step k slot e events (jump_in k s
 
 -- All of it.
 
+pub none-armed : (list : Medl) (script : Script) (k slot : ℕ) → outside_broken list script ≡ None
+    → is_armed script k slot ≡ false
+none-armed list script k slot outside =
+    no_arms list script k slot script.events (each-none (outside_slot list script) script.events outside)
+
 pub within-bounds : (list : Medl) (script : Script) → clocks_broken list script ≡ None → window_broken list ≡ None
     → outside_broken list script ≡ None
     → IsWithinBounds list script
@@ -148,7 +153,6 @@ within-bounds list script clocks window outside =
           (omega arith) (omega arith))) less;
       window = le_of_test (needed list) list.window (wide (int_le (needed list) list.window) window);
       flips = λ k slot c. no_flips list script k slot c script.events inside;
-      arms = λ k slot. no_arms list script k slot script.events inside;
       jumps = λ k slot has.
           (and_parts (is_far_jump list (jump_of script k slot)) (not (has_jumped_before script k slot))
           (allowed k slot has)).0;

@@ -1,5 +1,5 @@
 -- The plan of a script that keeps the single-fault hypothesis is good, and the script keeps to it.
-use Rattle.std.proofs.Common.{◌≡◌, ℕ, zero, suc, ◌+◌, ◌-◌, ◌*◌, ◌<◌, ◌≤◌, Bool, true, false, cond, not, ◌&&◌, ◌||◌}
+use Rattle.std.proofs.Common.{◌≡◌, ◌≢◌, ℕ, zero, suc, ◌+◌, ◌-◌, ◌*◌, ◌<◌, ◌≤◌, Bool, true, false, cond, not, ◌&&◌, ◌||◌}
 use Rattle.std.proofs.Common.{List, []}
 use Rattle.std.proofs.Common.{◌∷◌, ◌++◌, length, Option, Some, None, option_map, is_some, refl, ap, sym, subst, ◌∙◌}
 use Rattle.std.proofs.Common.{inl, inr, arith}
@@ -12,6 +12,7 @@ use Rattle.ttp_base.proofs.NodeSets.{has_node-sieve, same_sieve}
 use Rattle.ttp_world.specs.declared.keep.Keep.TheVariants as keep
 use Rattle.ttp_world.specs.declared.medl.Medl.{Medl}
 use Rattle.ttp_world.specs.declared.script.Script.{Script}
+use Rattle.ttp_world.specs.Hypothesis.{loses}
 use Rattle.ttp_world.specs.Hypothesis.{ClusterStart, FaultyNode, numbers_of, faulty_nodes_before, faulty_nodes_after}
 use Rattle.ttp_world.specs.Hypothesis.{started_faulty_nodes, start_of, is_steady, breaks_in}
 use Rattle.ttp_world.specs.Hypothesis.{has_four_steady, lacks_steady_after, keeps}
@@ -21,8 +22,8 @@ use Rattle.ttp_world.proofs.Lists.{nodes-most}
 use Rattle.fault_plan.specs.Plan.{plan_of}
 use Rattle.fault_plan.specs.Fates.{fate_of, is_steady_after, steady_nodes, lost_since}
 use Rattle.fault_plan.specs.GoodPlan.{IsGoodPlan}
-use Rattle.fault_plan.specs.Kept.{IsPlanOfFaults, KeepsByPlan}
-use Rattle.fault_plan.proofs.Bounds.{within-bounds}
+use Rattle.fault_plan.specs.Kept.{IsPlanOfFaults, FollowsPlan, KeepsByPlan}
+use Rattle.fault_plan.proofs.Bounds.{none-armed, within-bounds}
 use Rattle.fault_plan.proofs.FateSteps.{since-kept, since-now}
 use Rattle.fault_plan.proofs.FaultySets.{two_rounds, IsSingleFault, faulty_before, makes-slot, strikes-slot}
 use Rattle.fault_plan.proofs.FaultySets.{faulty-early}
@@ -30,7 +31,8 @@ use Rattle.fault_plan.proofs.FaultySets.{some-rounds, fates-known}
 use Rattle.fault_plan.proofs.Hearing.{on-ever, on-since, origin-of}
 use Rattle.fault_plan.proofs.Incidents.{found-tells, late-found, apart-found}
 use Rattle.fault_plan.proofs.Lone.{lone-start}
-use Rattle.fault_plan.proofs.Persists.{sound-before}
+use Rattle.fault_plan.proofs.Members.{first-sender, first-good}
+use Rattle.fault_plan.proofs.Persists.{sound-first, sound-before}
 use Rattle.fault_plan.proofs.Rules.{RulesHold, rules-hold}
 use Rattle.fault_plan.proofs.Sieves.{none-found}
 use Rattle.fault_plan.proofs.SlotFacts.{heard-slot, loss-slot, was-sound}
@@ -125,8 +127,6 @@ pub plan-of-faults : (list : Medl) (script : Script) (start : ClusterStart) → 
     → IsSingleFault list script start
     → IsPlanOfFaults list script start (plan_of list script start)
 plan-of-faults list script start started run = record {
-  on = λ turn k less.
-      has_node-sieve (is_ever_on script) (length list.slots) k less ∙ on-always list script start turn k run less;
   sound = λ turn k less within.
       let slot = start.slot + turn in
       let on : is_ever_on script k ≡ is_on script k slot = on-always list script start turn k run less in
@@ -232,6 +232,41 @@ single-fault list script slot valid rules =
           (omega arith));
     }
 
+follows-plan : (list : Medl) (script : Script) (start : ClusterStart) → IsSingleFault list script start
+    → FollowsPlan list script start (plan_of list script start)
+follows-plan list script start run =
+    let n = length list.slots in
+    record {
+      good = good-plan list script start run;
+      bounds = run.bounds;
+      nodes = refl;
+      starter = refl;
+      slots = refl;
+      measured = λ k less. has_node-sieve (λ k. (plan_at list k).sync) n k less;
+      on = λ turn k less.
+          has_node-sieve (is_ever_on script) n k less ∙ on-always list script start turn k run less;
+      hearing = λ turn within. heard-slot list script start turn run within;
+      clocks = λ turn earlier k less within before sound.
+          run.bounds.still k (start.slot + earlier)
+          ((heard-slot list script start earlier run (omega arith)).still k less
+          (sound-before (plan_of list script start) earlier turn k before sound));
+    }
+
+-- the cold start is heard
+start-heard : (list : Medl) (script : Script) (start : ClusterStart) (k : ℕ) → IsSingleFault list script start
+    → start.slot < script.slots → k < length list.slots → k ≢ start.node → is_on script k start.slot ≡ true
+    → loses script start.node start.slot k ≡ false
+start-heard list script start k run within less other on =
+    let plan = plan_of list script start in
+    let good = good-plan list script start run in
+    let here : start.slot + 0 ≡ start.slot = omega arith in
+    let first = first-sender plan good in
+    let begins : has_node plan.begin k ≡ true =
+    has_node-sieve (is_ever_on script) (length list.slots) k less ∙ on-ever script k start.slot on in
+    (λ i. loses script (sym first i) (sym here i) k)
+    ∙ (heard-slot list script start 0 run (omega arith)).heard k less (λ same. other (same ∙ first))
+    (first-good plan good) (sound-first plan k good ∙ begins)
+
 pub kept-plan : (list : Medl) (script : Script) (slot : ℕ) → IsValid list → keeps list script ≡ keep.Yes slot
     → KeepsByPlan list script slot
 kept-plan list script slot valid keeps =
@@ -241,13 +276,9 @@ kept-plan list script slot valid keeps =
       start = rules.start;
       started = rules.started;
       from = rules.from;
-      bounds = run.bounds;
       lone = run.lone;
-      good = good-plan list script rules.start run;
+      arms = λ k slot. none-armed list script k slot rules.outside;
+      follows = follows-plan list script rules.start run;
       faults = plan-of-faults list script rules.start rules.started run;
-      clocks = λ turn earlier k less within before sound.
-          run.bounds.still k (rules.start.slot + earlier)
-          ((heard-slot list script rules.start earlier run (omega arith)).still k less
-          (sound-before (plan_of list script rules.start) earlier turn k before sound));
-      hearing = λ turn within. heard-slot list script rules.start turn run within;
+      heard = λ k within less other on. start-heard list script rules.start k run within less other on;
     }

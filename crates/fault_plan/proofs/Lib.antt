@@ -19,3 +19,4 @@ pub mod Ledgers
 pub mod Members
 pub mod Counts
 pub mod SlotKinds
+pub mod Places

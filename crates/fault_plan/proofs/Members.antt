@@ -32,7 +32,7 @@ first-sender plan good =
     let none : plan.starter + 0 ≡ plan.starter = omega arith in
     ap (λ t. t % plan.nodes) none ∙ mod-eq_of_lt good.starter.0
 
-first-good : (plan : Plan) → IsGoodPlan plan → is_good_slot plan 0 ≡ true
+pub first-good : (plan : Plan) → IsGoodPlan plan → is_good_slot plan 0 ≡ true
 first-good plan good =
     ap (is_sound_after plan 0) (first-sender plan good) ∙ sound-first plan plan.starter good ∙ good.starter.1
 

@@ -4,16 +4,20 @@ use Rattle.std.proofs.Common.{ap}
 use Rattle.std.proofs.Common.{sym, subst, ◌∙◌, arith}
 use Rattle.std.specs.Prelude.{◌==◌}
 use Rattle.std.proofs.lemmas.Bool.{eqb-true, eqb-false, eq-eqb, ne_eqb, both_ways, lt-ltb, le-ltb}
+use Rattle.std.specs.Prelude.{nat_lt}
+use Rattle.std.proofs.Common.{◌⊎◌, inl, inr}
+use Rattle.std.proofs.lemmas.Option.{none-some}
 use Rattle.fault_plan.specs.Plan.{Change, Sending, Receiving, Jumping, Incident, Plan, sender, incident_at}
 use Rattle.fault_plan.specs.Fates.{Fate, Absent, Sound, Falling, Fallen, struck, shown_in, turned, fate_of, is_sound}
 use Rattle.fault_plan.specs.Fates.{is_sound_after, is_shown_in, is_good_slot, is_first_slot, may_stay}
 use Rattle.fault_plan.specs.GoodPlan.{IsGoodPlan}
+use Rattle.fault_plan.specs.SlotKind.{SlotKind, Good}
 use Rattle.fault_plan.specs.SlotKind.{Idle, Lost, Shown, Last, kind_if_lost, kind_by_fate, slot_kind}
 use Rattle.fault_plan.specs.SlotKind.{is_good_kind, is_first_kind}
 use Rattle.fault_plan.specs.SlotKind.{IsIdle, IsGoodAfter, IsLostAfter, IsShownAfter, IsKindAfter}
 use Rattle.fault_plan.specs.Told.{IsTold}
 use Rattle.fault_plan.proofs.FateSteps.{strikes}
-use Rattle.fault_plan.proofs.FateTells.{fate-told, loss-sending, none-stays}
+use Rattle.fault_plan.proofs.FateTells.{fate-told, loss-sending, none-stays, one-stays}
 use Rattle.fault_plan.proofs.Persists.{sound-on}
 use Rattle.fault_plan.proofs.Tests.{never-found}
 use Rattle.fault_plan.proofs.Turns.{turns_apart}
@@ -228,3 +232,27 @@ pub first-kind : (plan : Plan) (slot : ℕ) → IsGoodPlan plan
 first-kind plan slot good =
     let e = sender plan slot in
     first-by plan slot e (fate_of plan slot e) (fate-told plan slot e good)
+
+-- While a lost node may stay, each slot that is not its own is good or idle.
+
+only-good : (plan : Plan) (slot k : ℕ) (kind : SlotKind) → IsGoodPlan plan
+    → may_stay plan.nodes slot (fate_of plan slot k) ≡ true → sender plan (suc slot) ≢ k → IsKindAfter plan slot kind
+    → (kind ≡ Good) ⊎ (kind ≡ Idle)
+only-good plan slot k Idle good may other told = inr refl
+only-good plan slot k Good good may other told = inl refl
+only-good plan slot k (Lost change) good may other told =
+    absurd (none-some told.incident (sym (quiet-while plan slot k good may) ∙ told.found))
+only-good plan slot k (Shown change since) good may other told =
+    let e = sender plan (suc slot) in
+    absurd (other (one-stays plan slot e k good (ap (may_stay plan.nodes slot) told.was) may))
+only-good plan slot k (Last change since shown) good may other told =
+    let e = sender plan (suc slot) in
+    let stays : nat_lt slot (shown + plan.nodes) ≡ true =
+    lt-ltb slot (shown + plan.nodes) (omega (arith, told.round)) in
+    absurd (other (one-stays plan slot e k good (ap (may_stay plan.nodes slot) told.was ∙ stays) may))
+
+pub others-good : (plan : Plan) (slot k : ℕ) → IsGoodPlan plan
+    → may_stay plan.nodes slot (fate_of plan slot k) ≡ true → sender plan (suc slot) ≢ k
+    → (slot_kind plan (suc slot) ≡ Good) ⊎ (slot_kind plan (suc slot) ≡ Idle)
+others-good plan slot k good may other =
+    only-good plan slot k (slot_kind plan (suc slot)) good may other (kind-told plan slot good)

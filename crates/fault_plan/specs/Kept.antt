@@ -8,6 +8,7 @@ use Rattle.ttp_world.specs.declared.script.Script.{Script}
 use Rattle.ttp_world.specs.Hypothesis.{ClusterStart, clocks_broken, is_within_bound, needed, is_far_jump, start_of}
 use Rattle.ttp_world.specs.Hypothesis.{start_slot, loses}
 use Rattle.ttp_world.specs.Hypothesis.{faulty_nodes_after, is_correct_after}
+use Rattle.ttp_world.specs.Medl.{plan_at}
 use Rattle.ttp_world.specs.Script.{is_ever_on, is_on, is_armed, drift_of, reading_error, has_jump, jump_of}
 use Rattle.ttp_world.specs.Script.{flipped_bits}
 use Rattle.fault_plan.specs.Plan.{Sending, Receiving, Jumping, Incident, Plan, sender, incident_at, plan_of}
@@ -22,29 +23,10 @@ pub record IsWithinBounds (list : Medl) (script : Script) : Type 0 where
       → IsTrue (is_within_bound list.error (reading_error script k slot))
   pub window : needed list ≤ℤ list.window
   pub flips : (k slot : ℕ) (c : Channel) → flipped_bits script k c slot ≡ []
-  pub arms : (k slot : ℕ) → is_armed script k slot ≡ false
-  -- a clock that jumps goes far, and jumps once
+  -- a clock that jumps goes far, and jumps once; one that does not stays
   pub jumps : (k slot : ℕ) → has_jump script k slot ≡ true → IsTrue (is_far_jump list (jump_of script k slot))
-  pub still : (k slot : ℕ) → has_jump script k slot ≡ false → jump_of script k slot ≡ pos 0
   pub once : (k slot later : ℕ) → slot < later → has_jump script k slot ≡ true → has_jump script k later ≡ false
-
--- One node starts, and before any other would; all that are ever on are on by then.
-pub record IsLoneStart (list : Medl) (script : Script) (start : ClusterStart) : Type 0 where
-  pub node : start.node < length list.slots
-  pub due : start_slot list script start.node ≡ Some start.slot
-  pub others : (k slot : ℕ) → k < length list.slots → k ≢ start.node → start_slot list script k ≡ Some slot
-      → start.slot < slot
-  pub on : (k : ℕ) → k < length list.slots → is_ever_on script k ≡ true → is_on script k start.slot ≡ true
-
--- The plan is that of the script's faulty nodes: its nodes are those that are on, the sound ones after a slot of the
--- run are the correct ones, and each faulty node is lost in the slot in which it became faulty.
-pub record IsPlanOfFaults (list : Medl) (script : Script) (start : ClusterStart) (plan : Plan) : Type 0 where
-  pub on : (slot k : ℕ) → k < length list.slots → has_node plan.begin k ≡ is_on script k (start.slot + slot)
-  pub sound : (slot k : ℕ) → k < length list.slots → start.slot + slot < script.slots
-      → is_sound_after plan slot k ≡ is_correct_after list script (start.slot + slot) k
-  pub faulty : (slot : ℕ) → start.slot + slot < script.slots
-      → AllByRecursion (λ f. lost_since (fate_of plan slot f.node) ≡ Some (f.slot - start.slot))
-      (faulty_nodes_after list script (start.slot + slot))
+  pub still : (k slot : ℕ) → has_jump script k slot ≡ false → jump_of script k slot ≡ pos 0
 
 -- Who hears whom in a slot from the start on, and whose clock jumps.
 pub record IsHeardByPlan (script : Script) (start : ClusterStart) (plan : Plan) (slot : ℕ) : Type 0 where
@@ -64,18 +46,49 @@ pub record IsHeardByPlan (script : Script) (start : ClusterStart) (plan : Plan) 
   pub jumps : (incident : Incident) → incident_at plan slot ≡ Some incident → incident.change ≡ Jumping
       → has_jump script incident.node (start.slot + slot) ≡ true
 
+-- A script does from a start on what a good plan says: all that an induction over the slots asks of the two.
+pub record FollowsPlan (list : Medl) (script : Script) (start : ClusterStart) (plan : Plan) : Type 0 where
+  pub good : IsGoodPlan plan
+  pub bounds : IsWithinBounds list script
+  -- the plan is of this list and run
+  pub nodes : plan.nodes ≡ length list.slots
+  pub starter : plan.starter ≡ start.node
+  pub slots : plan.slots ≡ script.slots - start.slot
+  pub measured : (k : ℕ) → k < length list.slots → has_node plan.measured k ≡ (plan_at list k).sync
+  -- its nodes are those that are on
+  pub on : (slot k : ℕ) → k < length list.slots → has_node plan.begin k ≡ is_on script k (start.slot + slot)
+  pub hearing : (slot : ℕ) → start.slot + slot < script.slots → IsHeardByPlan script start plan slot
+  -- the clocks of nodes that are sound after a slot have not jumped since the start
+  pub clocks : (slot earlier k : ℕ) → k < length list.slots → start.slot + slot < script.slots → earlier ≤ slot
+      → is_sound_after plan slot k ≡ true
+      → jump_of script k (start.slot + earlier) ≡ pos 0
+
+-- One node starts, and before any other would; all that are ever on are on by then.
+pub record IsLoneStart (list : Medl) (script : Script) (start : ClusterStart) : Type 0 where
+  pub node : start.node < length list.slots
+  pub due : start_slot list script start.node ≡ Some start.slot
+  pub others : (k slot : ℕ) → k < length list.slots → k ≢ start.node → start_slot list script k ≡ Some slot
+      → start.slot < slot
+  pub on : (k : ℕ) → k < length list.slots → is_ever_on script k ≡ true → is_on script k start.slot ≡ true
+
+-- The plan is that of the script's faulty nodes: the sound ones after a slot of the run are the correct ones, and each
+-- faulty node is lost in the slot in which it became faulty.
+pub record IsPlanOfFaults (list : Medl) (script : Script) (start : ClusterStart) (plan : Plan) : Type 0 where
+  pub sound : (slot k : ℕ) → k < length list.slots → start.slot + slot < script.slots
+      → is_sound_after plan slot k ≡ is_correct_after list script (start.slot + slot) k
+  pub faulty : (slot : ℕ) → start.slot + slot < script.slots
+      → AllByRecursion (λ f. lost_since (fate_of plan slot f.node) ≡ Some (f.slot - start.slot))
+      (faulty_nodes_after list script (start.slot + slot))
+
 -- All of it, for a script whose test says that its cluster starts in a slot.
 pub record KeepsByPlan (list : Medl) (script : Script) (slot : ℕ) : Type 0 where
   pub start : ClusterStart
   pub started : start_of list script ≡ Some start
   pub from : start.slot ≡ slot
-  pub bounds : IsWithinBounds list script
   pub lone : IsLoneStart list script start
-  pub good : IsGoodPlan (plan_of list script start)
+  pub arms : (k slot : ℕ) → is_armed script k slot ≡ false
+  pub follows : FollowsPlan list script start (plan_of list script start)
   pub faults : IsPlanOfFaults list script start (plan_of list script start)
-  -- the clocks of nodes that are sound after a slot have not jumped since the start
-  pub clocks : (turn earlier k : ℕ) → k < length list.slots → start.slot + turn < script.slots → earlier ≤ turn
-      → is_sound_after (plan_of list script start) turn k ≡ true
-      → jump_of script k (start.slot + earlier) ≡ pos 0
-  pub hearing : (turn : ℕ) → start.slot + turn < script.slots
-      → IsHeardByPlan script start (plan_of list script start) turn
+  -- each other node that is on then hears the cold start undisturbed on some channel
+  pub heard : (k : ℕ) → start.slot < script.slots → k < length list.slots → k ≢ start.node
+      → is_on script k start.slot ≡ true → loses script start.node start.slot k ≡ false

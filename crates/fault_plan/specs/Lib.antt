@@ -6,3 +6,4 @@ pub mod Kept
 pub mod Told
 pub mod WorkedPlan
 pub mod SlotKind
+pub mod Places

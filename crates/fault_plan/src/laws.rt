@@ -1,5 +1,6 @@
 //! Laws of plans of faults. The functions do nothing; their contracts are the laws.
-ghost use Rattle.std.specs.Prelude.{◌≡◌, ℕ, suc, ◌+◌, ◌*◌, ◌<◌, ◌≤◌, true, false, not, length, filter, Some, None};
+ghost use Rattle.std.specs.Prelude.{◌≡◌, ◌≢◌, ◌⊎◌, ℕ, suc, ◌+◌, ◌*◌, ◌<◌, ◌≤◌, true, false, not, length, filter, Some};
+ghost use Rattle.std.specs.Prelude.{None};
 ghost use Rattle.ttp_base.specs.NodeSet.{below, has_node};
 ghost use Rattle.ttp_world.specs.declared.keep.Keep.TheVariants as keep;
 ghost use Rattle.ttp_world.specs.declared.medl.Medl.{Medl};
@@ -11,9 +12,10 @@ ghost use Rattle.fault_plan.specs.Fates.{Falling, Fallen, fate_of, is_absent, lo
 ghost use Rattle.fault_plan.specs.Fates.{sound_nodes, is_good_slot, is_first_slot};
 ghost use Rattle.fault_plan.specs.Fates.{tally, is_measured};
 ghost use Rattle.fault_plan.specs.Ledger.{planned_members, ledger_of};
+ghost use Rattle.fault_plan.specs.Places.{planned_place};
 ghost use Rattle.fault_plan.specs.GoodPlan.{IsGoodPlan};
 ghost use Rattle.fault_plan.specs.Kept.{KeepsByPlan};
-ghost use Rattle.fault_plan.specs.SlotKind.{slot_kind, is_good_kind, is_first_kind, IsKindAfter};
+ghost use Rattle.fault_plan.specs.SlotKind.{Good, Idle, slot_kind, is_good_kind, is_first_kind, IsKindAfter};
 ghost use Rattle.fault_plan.specs.Told.{IsTold, IsSenderLost, IsLedgerOf};
 
 /// A script whose test says that its cluster starts in a slot keeps to a good plan of faults from
@@ -23,7 +25,8 @@ pub fn kept_by_plan()
         → KeepsByPlan list script slot }
 {}
 
-/// Each node has a slot in each round, and its slots are a round apart. The start is the slot of the
+/// Each node has a slot in each round, its slots are a round apart, and at the place of a slot in the
+/// cluster cycle it is its node's turn. The start is the slot of the
 /// starter, which is sound, as are all that begin.
 pub fn turns_known()
     ensures next { (plan : Plan) (from k : ℕ) → 0 < plan.nodes → k < plan.nodes
@@ -31,6 +34,9 @@ pub fn turns_known()
     ensures apart { (plan : Plan) (turn later : ℕ) → 0 < plan.nodes → turn < later
         → sender plan turn ≡ sender plan later
         → turn + plan.nodes ≤ later }
+    ensures place { (list : Medl) (plan : Plan) (slot : ℕ) → plan.nodes ≡ length list.slots
+        → plan.starter < plan.nodes
+        → (planned_place list plan slot).slot ≡ sender plan slot }
     ensures first { (plan : Plan) → IsGoodPlan plan → sender plan 0 ≡ plan.starter }
     ensures sound { (plan : Plan) (k : ℕ) → IsGoodPlan plan → is_sound_after plan 0 k ≡ has_node plan.begin k }
 {}
@@ -57,12 +63,16 @@ pub fn lost_one_by_one()
 {}
 
 /// What a slot is by the fate of the node whose slot it is, and what that tells of the slot: who was
-/// sound before, and which incidents can come in it. None comes while a lost node may still stay.
+/// sound before, and which incidents can come in it. While a lost node may still stay none comes, and
+/// each slot that is not that node's own is good or idle.
 pub fn slots_known()
     ensures kind { (plan : Plan) (slot : ℕ) → IsGoodPlan plan → IsKindAfter plan slot (slot_kind plan (suc slot)) }
     ensures good { (plan : Plan) (slot : ℕ) → is_good_slot plan slot ≡ is_good_kind (slot_kind plan slot) }
     ensures first { (plan : Plan) (slot : ℕ) → IsGoodPlan plan
         → is_first_slot plan slot ≡ is_first_kind (slot_kind plan slot) }
+    ensures others { (plan : Plan) (slot k : ℕ) → IsGoodPlan plan
+        → may_stay plan.nodes slot (fate_of plan slot k) ≡ true → sender plan (suc slot) ≢ k
+        → (slot_kind plan (suc slot) ≡ Good) ⊎ (slot_kind plan (suc slot) ≡ Idle) }
     ensures quiet { (plan : Plan) (slot k : ℕ) → IsGoodPlan plan
         → may_stay plan.nodes slot (fate_of plan slot k) ≡ true
         → incident_at plan (suc slot) ≡ None }

@@ -7,10 +7,10 @@
 //! measured after each slot.
 //!
 //! [`laws::kept_by_plan`] takes the single-fault hypothesis apart, once and for all: a script that
-//! keeps it has a good plan, whose sound nodes are the hypothesis's correct ones, and who hears whom
-//! in a slot is what the plan says. All other laws speak of good plans, so that another hypothesis
-//! only has to give one. From a plan come the fate of each node, the members that sound nodes hold,
-//! and the ledger of a node, which is what it can have counted since its own slot.
+//! keeps it has a good plan, whose sound nodes are the hypothesis's correct ones, and follows it: who
+//! hears whom in a slot is what the plan says. All other laws speak of good plans, so that another
+//! hypothesis only has to give one. From a plan come the fate of each node, the members that sound
+//! nodes hold, and the ledger of a node, which is what it can have counted since its own slot.
 //!
 //! The crate has no code that does anything: its functions are laws, and a worked case that the check
 //! computes. It does not say what a node does; that the controllers' members and counts are those of

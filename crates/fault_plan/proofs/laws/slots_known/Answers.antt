@@ -1,4 +1,4 @@
-use Rattle.fault_plan.proofs.SlotKinds.{kind-told, good-kind, first-kind, quiet-while}
+use Rattle.fault_plan.proofs.SlotKinds.{kind-told, good-kind, first-kind, others-good, quiet-while}
 use Rattle.fault_plan.proofs.laws.slots_known.Goals as goal
 
 pub returns-clause-kind : goal.returns-clause-kind
@@ -9,6 +9,9 @@ returns-clause-good c = good-kind
 
 pub returns-clause-first : goal.returns-clause-first
 returns-clause-first c = first-kind
+
+pub returns-clause-others : goal.returns-clause-others
+returns-clause-others c = others-good
 
 pub returns-clause-quiet : goal.returns-clause-quiet
 returns-clause-quiet c = quiet-while

@@ -1,5 +1,6 @@
 use Rattle.fault_plan.proofs.Members.{first-sender}
 use Rattle.fault_plan.proofs.Persists.{sound-first}
+use Rattle.fault_plan.proofs.Places.{place-sender}
 use Rattle.fault_plan.proofs.Turns.{next_turn, turns_apart}
 use Rattle.fault_plan.proofs.laws.turns_known.Goals as goal
 
@@ -8,6 +9,9 @@ returns-clause-next c = next_turn
 
 pub returns-clause-apart : goal.returns-clause-apart
 returns-clause-apart c = turns_apart
+
+pub returns-clause-place : goal.returns-clause-place
+returns-clause-place c = place-sender
 
 pub returns-clause-first : goal.returns-clause-first
 returns-clause-first c = first-sender
