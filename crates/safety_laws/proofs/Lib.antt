@@ -1,5 +1,8 @@
 pub mod FourNodes
+pub mod GroupSets
+pub mod Groups
 pub mod Hearing
+pub mod Idle
 pub mod Joins
 pub mod Judging
 pub mod ListedSets
@@ -8,6 +11,7 @@ pub mod OwnSlots
 pub mod Senders
 pub mod StartOf
 pub mod StartSlot
+pub mod Unanswered
 pub mod Verdicts
 pub mod Views
 pub mod Waiting

@@ -8,5 +8,8 @@ fn laws_are_there() {
     laws::one_slot();
     laws::judged();
     laws::own_slot();
+    laws::idle();
+    laws::groups();
+    laws::unanswered();
     laws::start();
 }
