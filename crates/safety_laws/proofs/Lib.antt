@@ -15,3 +15,4 @@ pub mod Unanswered
 pub mod Verdicts
 pub mod Views
 pub mod Waiting
+pub mod WorldTurns

@@ -73,8 +73,16 @@ pub fn hearing()
 {}
 
 /// After one slot more of the world a node's past is what its slot makes of it, and so are its entry and
-/// what it sends.
+/// what it sends. A node that is active there judges the slot, or it is at its own (`judging`, `own`).
 pub fn one_slot()
+    ensures judging { (list : Medl) (script : Script) (numbers : Numbers) (chosen : List Chosen) (k : ℕ)
+        → IsValid list → k < length list.slots
+        → (let x = node_slot list script (world list script numbers) chosen k in
+        x.past.phase ≡ phase.Active → owner_of x ≢ k → IsJudging x) }
+    ensures own { (list : Medl) (script : Script) (numbers : Numbers) (chosen : List Chosen) (k : ℕ)
+        → IsValid list → k < length list.slots
+        → (let x = node_slot list script (world list script numbers) chosen k in
+        x.past.phase ≡ phase.Active → owner_of x ≡ k → IsAtOwnSlot x) }
     ensures past { (list : Medl) (script : Script) (history : History) (chosen : List Chosen) (k : ℕ)
         → k < length list.slots
         → node_past list script (step list script history chosen) k
