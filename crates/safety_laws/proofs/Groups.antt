@@ -139,7 +139,7 @@ still_other group ack.First owner other = tt
 still_other group (ack.Doubt y) owner other = has_node-without_none group owner y other
 
 -- by the acknowledgement after the slot
-holds-by : (list : Medl) (k : ℕ) (group : List ℕ) (past : NodePast) (a : Ack) → past.ack ≡ a → AreNodes list group
+pub holds-by : (list : Medl) (k : ℕ) (group : List ℕ) (past : NodePast) (a : Ack) → past.ack ≡ a → AreNodes list group
     → past.members ≡ held_with group a → (is_open a ≡ true → has_node group k ≡ true) → IsAboutOther group a
     → HoldsGroup list k group past
 holds-by list k group past a ack_is nodes members own other = record {

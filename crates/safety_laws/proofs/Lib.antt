@@ -7,7 +7,9 @@ pub mod Joins
 pub mod Judging
 pub mod ListedSets
 pub mod NodeSlots
+pub mod OneSender
 pub mod OwnSlots
+pub mod Payloads
 pub mod Senders
 pub mod StartOf
 pub mod StartSlot

@@ -3,7 +3,7 @@ use Rattle.std.proofs.Common.{◌≡◌, ◌≢◌, ℕ, ◌<◌, Bool, true, fa
 use Rattle.std.proofs.Common.{sym}
 use Rattle.std.specs.Prelude.{if◌then◌else◌}
 use Rattle.std.specs.List.{AllByRecursion, list_any}
-use Rattle.ttp_base.specs.NodeSet.{below, has_node}
+use Rattle.ttp_base.specs.NodeSet.{has_node}
 use Rattle.ttp_base.proofs.NodeLists.{filter-none}
 use Rattle.ttp_world.specs.declared.medl.Medl.{Medl}
 use Rattle.ttp_world.specs.declared.node.Ack.{Ack}
@@ -16,14 +16,14 @@ use Rattle.ttp_world.specs.declared.node.Verdict.TheVariants as verdict
 use Rattle.ttp_world.specs.declared.script.Script.{Script}
 use Rattle.ttp_world.specs.Acknowledgement.{is_sent_or_joined, is_judged_correct, since_sent_or_joined, newest_doubted}
 use Rattle.ttp_world.specs.Acknowledgement.{newest_sent_or_joined, first_or_doubt, ack_since, ack_of}
-use Rattle.ttp_world.specs.Diary.{Diary, History, diary_of, entry_of, is_active}
+use Rattle.ttp_world.specs.Diary.{Diary, History, diary_of, is_active}
 use Rattle.ttp_world.specs.Medl.{IsValid}
 use Rattle.ttp_world.specs.Membership.{AreNodes, is_good, members_of}
 use Rattle.ttp_world.specs.World.{Numbers, node_past, world}
 use Rattle.ttp_world.proofs.Pasts.{elim_both}
 use Rattle.ttp_world.proofs.Places.{IsOfList, AreOfList, entry_of-of_list}
 use Rattle.ttp_world.proofs.Worlds.{world-of_list, coming_place-world}
-use Rattle.safety_laws.specs.NodeSlot.{NodeSlot, node_slot, owner_of}
+use Rattle.safety_laws.specs.NodeSlot.{node_slot, owner_of}
 use Rattle.safety_laws.specs.Turns.{IsAboutListed, IsJudging, IsAtOwnSlot}
 use Rattle.safety_laws.proofs.ListedSets.{AreNodes-filter}
 
@@ -112,26 +112,26 @@ diary-listed list (row ∷ history) k all =
 -- The node in the slot after a world.
 module _ (list : Medl) (script : Script) (numbers : Numbers) (chosen : List Chosen) (k : ℕ) (valid : IsValid list)
     (node : k < length list.slots) (active : (node_past list script (world list script numbers) k).phase ≡ phase.Active)
-    where
-  pub IsJudging-world : owner_of (node_slot list script (world list script numbers) chosen k) ≢ k
-      → IsJudging (node_slot list script (world list script numbers) chosen k)
-  IsJudging-world other = record {
-    valid = valid;
-    node = node;
-    active = active;
-    owner = (coming_place-world list script numbers k valid node).slot;
-    other = other;
-    members = AreNodes-members_of list k (diary_of (world list script numbers) k);
-    doubted = ack_of-listed list (diary_of (world list script numbers) k)
-        (diary-listed list (world list script numbers) k (world-of_list list script numbers valid));
-  }
+  where
+    pub IsJudging-world : owner_of (node_slot list script (world list script numbers) chosen k) ≢ k
+        → IsJudging (node_slot list script (world list script numbers) chosen k)
+    IsJudging-world other = record {
+      valid = valid;
+      node = node;
+      active = active;
+      owner = (coming_place-world list script numbers k valid node).slot;
+      other = other;
+      members = AreNodes-members_of list k (diary_of (world list script numbers) k);
+      doubted = ack_of-listed list (diary_of (world list script numbers) k)
+          (diary-listed list (world list script numbers) k (world-of_list list script numbers valid));
+    }
 
-  pub IsAtOwnSlot-world : owner_of (node_slot list script (world list script numbers) chosen k) ≡ k
-      → IsAtOwnSlot (node_slot list script (world list script numbers) chosen k)
-  IsAtOwnSlot-world own = record {
-    valid = valid;
-    node = node;
-    active = active;
-    own = own;
-    members = AreNodes-members_of list k (diary_of (world list script numbers) k);
-  }
+    pub IsAtOwnSlot-world : owner_of (node_slot list script (world list script numbers) chosen k) ≡ k
+        → IsAtOwnSlot (node_slot list script (world list script numbers) chosen k)
+    IsAtOwnSlot-world own = record {
+      valid = valid;
+      node = node;
+      active = active;
+      own = own;
+      members = AreNodes-members_of list k (diary_of (world list script numbers) k);
+    }

@@ -4,5 +4,6 @@ pub mod NodeSlot
 pub mod Standing
 pub mod Turns
 pub mod Groups
+pub mod Senders
 pub mod Start
 pub mod WorkedSlots

@@ -1,8 +1,8 @@
 //! The laws of one slot and of the start. The functions do nothing; their contracts are the laws.
 //!
 //! For proofs to cite, each stands in a file of `proofs/`: `Views`, `Hearing` and `Senders`, `Joins`,
-//! `NodeSlots`, `Verdicts`, `OwnSlots`, `Idle`, `Groups`, `Unanswered`, `Waiting`, `StartSlot` and
-//! `StartOf`.
+//! `NodeSlots`, `WorldTurns`, `OneSender`, `Payloads`, `Verdicts`, `OwnSlots`, `Idle`, `Groups`,
+//! `Unanswered`, `Waiting`, `StartSlot` and `StartOf`.
 ghost use Rattle.std.specs.Prelude.{◌≡◌, ◌≢◌, ℕ, ◌<◌, ◌≤◌, ℤ, pos, ◌⊎◌, true, false, List, [], ◌∷◌, length, Option};
 ghost use Rattle.std.specs.Prelude.{IsTrue};
 ghost use Rattle.ttp_base.specs.NodeSet.{has_node, with_node, without_node};
@@ -20,17 +20,19 @@ ghost use Rattle.ttp_world.specs.Acknowledgement.{is_open};
 ghost use Rattle.ttp_world.specs.Conduct.{cold_start_frame, own_frame, message_sent, listening_entry};
 ghost use Rattle.ttp_world.specs.Diary.{History, entry_of};
 ghost use Rattle.ttp_world.specs.Hypothesis.{ClusterStart, loses, start_of};
+ghost use Rattle.ttp_world.specs.Legal.{IsLegal};
 ghost use Rattle.ttp_world.specs.Medium.{SentFrame};
 ghost use Rattle.ttp_world.specs.Medl.{may_start, IsValid};
 ghost use Rattle.ttp_world.specs.Membership.{is_accepted};
 ghost use Rattle.ttp_world.specs.Reception.{Hearing, expected_of, is_within_window, view_of_bits};
-ghost use Rattle.ttp_world.specs.Script.{is_ever_on, is_on};
+ghost use Rattle.ttp_world.specs.Script.{is_ever_on, is_on, IsValidScript};
 ghost use Rattle.ttp_world.specs.World.{BegunSlot, Numbers, SlotNumbers, node_past, slot_after, frames_of, frames_in};
-ghost use Rattle.ttp_world.specs.World.{hearing_in, deviation_in, row_in, step, world};
+ghost use Rattle.ttp_world.specs.World.{hearing_in, deviation_in, row_in, step, messages_chosen, world};
 ghost use Rattle.safety_laws.specs.Groups.{IsNotAbout, HoldsGroup, IsUnanswered, HearsNoAnswer, StaysUnanswered};
 ghost use Rattle.safety_laws.specs.Heard.{IsUnflipped, HearsFrame, HearsNoFrame, HearsSilence};
 ghost use Rattle.safety_laws.specs.NodeSlot.{NodeSlot, node_slot, frames_made, entry_made, next_past, coming_place};
 ghost use Rattle.safety_laws.specs.NodeSlot.{owner_of, candidates_of};
+ghost use Rattle.safety_laws.specs.Senders.{SendsAlone, NoneSends};
 ghost use Rattle.safety_laws.specs.SlotFrames.{IsSlotFrame, view_of_members};
 ghost use Rattle.safety_laws.specs.Standing.{StandsBy, HasJustLeft, IsJudgedAs, sent_standing};
 ghost use Rattle.safety_laws.specs.Start.{StartsAlone, IsStartHeard, Waits, starter_standing, joined_on_start};
@@ -143,6 +145,34 @@ pub fn own_slot()
         → HasJustLeft (next_past x) reason.Clique x.node × (frames_made x ≡ []) }
     ensures retries { (x : NodeSlot) → IsAtOwnSlot x → IsTrue (is_open x.past.ack) → IsTrue x.past.cold_start
         → ((next_past x).phase ≡ phase.Listening) × (frames_made x ≡ []) }
+{}
+
+/// What comes to node r in the slot after a history in which node p alone sends, or no node does. Where no
+/// fault of either keeps it away, and both stand at one place, it is the frame of the slot with the
+/// members of the sender and the sender itself (`heard`), or it comes outside the window (`outside`).
+/// Where it is lost no frame comes (`lost`), and where no node sends nothing does (`silent`). With legal
+/// numbers a frame has the payload that the list asks for (`payload`).
+pub fn one_sender()
+    ensures heard { (list : Medl) (script : Script) (history : History) (chosen : List Chosen) (p r : ℕ)
+        → SendsAlone list script history chosen p → loses script p (length history) r ≡ false
+        → coming_place (node_slot list script history chosen p) ≡ coming_place (node_slot list script history chosen r)
+        → IsTrue (is_within_window list (deviation_in (slot_after list script history) r p))
+        → HearsMembers (node_slot list script history chosen r) p
+        (with_node (node_slot list script history chosen p).past.members p) }
+    ensures outside { (list : Medl) (script : Script) (history : History) (chosen : List Chosen) (p r : ℕ)
+        → SendsAlone list script history chosen p → loses script p (length history) r ≡ false
+        → is_within_window list (deviation_in (slot_after list script history) r p) ≡ false
+        → HearsOutside (node_slot list script history chosen r) p }
+    ensures lost { (list : Medl) (script : Script) (history : History) (chosen : List Chosen) (p r : ℕ)
+        → SendsAlone list script history chosen p → loses script p (length history) r ≡ true
+        → HearsNoFrame (node_slot list script history chosen r).hearing }
+    ensures silent { (list : Medl) (script : Script) (history : History) (chosen : List Chosen) (r : ℕ)
+        → NoneSends list script history chosen → HearsSilence (node_slot list script history chosen r).hearing }
+    ensures payload { (list : Medl) (script : Script) (new : SlotNumbers) (numbers : Numbers) (k : ℕ)
+        → IsValidScript list script → IsLegal list script (new ∷ numbers) → k < length list.slots
+        → (let x = node_slot list script (world list script numbers)
+        (messages_chosen list script (length numbers) new.sent) k in
+        IsAtOwnSlot x → x.past.ack ≡ ack.Closed → x.past.rejected < x.past.accepted → HasPayload x) }
 {}
 
 /// Nodes that send nothing: one that judges, one that is off and not switched on, and one that has left

@@ -6,6 +6,7 @@ fn laws_are_there() {
     laws::views();
     laws::hearing();
     laws::one_slot();
+    laws::one_sender();
     laws::judged();
     laws::own_slot();
     laws::idle();
