@@ -59,7 +59,8 @@ returns-clause-sends c = record {
 pub returns-clause-holds : goal.returns-clause-holds
 unfolding members_in with_node
 returns-clause-holds c =
-    holds-by four_nodes 0 (0 ∷ []) (at faultless 9 0).past ack.First ack-starter refl members-starter (λ opened. refl) tt
+    holds-by four_nodes 0 (0 ∷ []) (at faultless 9 0).past ack.First ack-starter refl members-starter
+    (λ opened. refl) tt
 
 pub returns-clause-no_answer : goal.returns-clause-no_answer
 unfolding members_in with_node
