@@ -80,6 +80,10 @@ stands-sent x is = record {
   notes = refl;
 }
 
+pub act_made-sends : (x : NodeSlot) → IsAtOwnSlot x → x.past.ack ≡ ack.Closed → x.past.rejected < x.past.accepted
+    → act_made x ≡ Send
+act_made-sends x is closed more = act-own x is ∙ own_act-sends x.past closed more
+
 pub sent-own : (x : NodeSlot) → IsAtOwnSlot x → x.past.ack ≡ ack.Closed → x.past.rejected < x.past.accepted →
     let message = message_sent x.list (coming_place x) x.chosen in
     StandsBy (next_past x) (entry.Sent message) (sent_standing x message)
@@ -94,7 +98,7 @@ sent-own x is closed more =
 pub frames_made-own : (x : NodeSlot) → IsAtOwnSlot x → x.past.ack ≡ ack.Closed → x.past.rejected < x.past.accepted
     → frames_made x ≡ record { sender = x.node; bytes = own_frame x.list x.node x.past x.chosen } ∷ []
 frames_made-own x is closed more =
-    ap (node_frames x.list x.node x.past x.chosen) (act-own x is ∙ own_act-sends x.past closed more)
+    ap (node_frames x.list x.node x.past x.chosen) (act_made-sends x is closed more)
 
 size_sent : (size : ℕ) (payload : List ℕ) → (not (size == 0) ≡ true → length payload ≡ size)
     → length (cond (not (size == 0)) payload []) ≡ size

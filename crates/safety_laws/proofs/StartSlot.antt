@@ -1,14 +1,15 @@
 -- The slot of the start: one node starts, and every other that is on joins on its frame.
 use Rattle.std.proofs.Common.{◌≡◌, ◌≢◌, ℕ, ◌+◌, ◌-◌, ◌*◌, ◌<◌, ◌≤◌, ℤ, Bool, true, false, cond, ◌&&◌, ◌||◌, List, []}
 use Rattle.std.proofs.Common.{◌∷◌, ◌++◌, length, Option, Some, None, option_map, refl, ap, sym, ◌∙◌, subst, inl, inr}
-use Rattle.std.proofs.Common.{arith}
+use Rattle.std.proofs.Common.{◌⊎◌, arith}
 use Rattle.std.specs.Prelude.{◌==◌, nat_le, if◌then◌else◌}
 use Rattle.std.proofs.Math.Bool.{or-true}
-use Rattle.std.proofs.lemmas.Bool.{cases_eq, le-leb}
+use Rattle.std.proofs.lemmas.Bool.{cases_eq, eq-eqb, false≢true, le-leb}
 use Rattle.std.proofs.lemmas.List.{append-nil}
 use Rattle.std.proofs.lemmas.Option.{same_Some}
 use Rattle.ttp_base.proofs.NodeLists.{with_node-nil}
 use Rattle.ttp_world.specs.declared.medl.Medl.{Medl}
+use Rattle.ttp_world.specs.declared.node.Ack.TheVariants as ack
 use Rattle.ttp_world.specs.declared.node.Act.{Act}
 use Rattle.ttp_world.specs.declared.node.Act.TheVariants.{Listen, Start}
 use Rattle.ttp_world.specs.declared.node.Chosen.{Chosen}
@@ -17,6 +18,7 @@ use Rattle.ttp_world.specs.declared.node.Entry.TheVariants as entry
 use Rattle.ttp_world.specs.declared.node.Phase.{Phase}
 use Rattle.ttp_world.specs.declared.node.Phase.TheVariants as phase
 use Rattle.ttp_world.specs.declared.script.Script.{Script}
+use Rattle.ttp_world.specs.Acknowledgement.{is_open}
 use Rattle.ttp_world.specs.Act.{act, phase_act}
 use Rattle.ttp_world.specs.After.{past_after}
 use Rattle.ttp_world.specs.Clock.{notes_in}
@@ -24,6 +26,7 @@ use Rattle.ttp_world.specs.Conduct.{cold_start_cstate, cold_start_frame, node_fr
 use Rattle.ttp_world.specs.Diary.{History, SlotSurroundings, phase_after, start_place}
 use Rattle.ttp_world.specs.Hypothesis.{ClusterStart, start_slot, loses}
 use Rattle.ttp_world.specs.Medl.{may_start, IsValid}
+use Rattle.ttp_world.specs.Membership.{AreNodes}
 use Rattle.ttp_world.specs.Past.{NodePast}
 use Rattle.ttp_world.specs.Script.{on_slot, is_on, is_armed, flipped_bits}
 use Rattle.ttp_world.specs.World.{node_past, slot_after, chosen_of, frames_in, deviation_in, step}
@@ -34,6 +37,8 @@ use Rattle.safety_laws.specs.NodeSlot.{node_slot, entry_made}
 use Rattle.safety_laws.specs.Standing.{Standing, StandsBy}
 use Rattle.safety_laws.specs.Start.{StartsAlone, IsStartHeard, slots_since, slots_on, waiting_phase, Waits}
 use Rattle.safety_laws.specs.Start.{starter_standing, joined_on_start, joined_standing}
+use Rattle.safety_laws.specs.Start.{HasBegun}
+use Rattle.safety_laws.specs.Groups.{held_with, IsAboutOther}
 use Rattle.safety_laws.proofs.Hearing.{HearsFrame-kept}
 use Rattle.safety_laws.proofs.Joins.{AreNodes-only, joinable-cold_start, listening_entry-joins}
 use Rattle.safety_laws.proofs.NodeSlots.{node_past-step, frames_of-made}
@@ -129,6 +134,35 @@ stands-joined list k p deviation past s valid node = record {
   notes = notes-begun list p (joined_on_start p deviation) past.notes;
 }
 
+-- by what a node stands by it has begun
+begun-by : (list : Medl) (p k : ℕ) (past : NodePast) (e : Entry) (now : Standing) → AreNodes list (p ∷ [])
+    → now.place ≡ start_place p → now.members ≡ p ∷ [] → ((k ≡ p) × (now.ack ≡ ack.First)) ⊎ (now.ack ≡ ack.Closed)
+    → StandsBy past e now → HasBegun list p k past
+begun-by list p k past e now nodes place members (inl own) stands =
+    let first = stands.ack ∙ own.1 in
+    record {
+      phase = stands.phase;
+      place = stands.place ∙ place;
+      group = record {
+        nodes = nodes;
+        members = stands.members ∙ members ∙ ap (held_with (p ∷ [])) (sym first);
+        own = λ opened. ap (λ b. b || false) (eq-eqb p k (sym own.0));
+        doubted = subst (IsAboutOther (p ∷ [])) (sym first) tt;
+      };
+    }
+begun-by list p k past e now nodes place members (inr closed_now) stands =
+    let closed = stands.ack ∙ closed_now in
+    record {
+      phase = stands.phase;
+      place = stands.place ∙ place;
+      group = record {
+        nodes = nodes;
+        members = stands.members ∙ members ∙ ap (held_with (p ∷ [])) (sym closed);
+        own = λ opened. absurd (false≢true (ap is_open (sym closed) ∙ opened));
+        doubted = subst (IsAboutOther (p ∷ [])) (sym closed) tt;
+      };
+    }
+
 -- The slot after a history in which all wait.
 
 module _ (list : Medl) (script : Script) (start : ClusterStart) (history : History) (chosen : List Chosen)
@@ -218,3 +252,18 @@ module _ (list : Medl) (script : Script) (start : ClusterStart) (history : Histo
       ap (λ (after : NodePast). after.phase) (node_past-step list script history chosen k node)
       ∙ ap (λ (a : Act). phase_after (new_entry list k x.past x.chosen x.hearing a))
       (act-other k node other ∙ ap waiting_act (ap (is_on script k) now ∙ off))
+
+  -- So all that are on have begun together.
+  pub has-begun : IsStartHeard list script start → (k : ℕ) → k < length list.slots
+      → is_on script k start.slot ≡ true
+      → HasBegun list start.node k (node_past list script (step list script history chosen) k)
+  has-begun heard k node on = elim (cases_eq k start.node) [
+    | inl same ↦
+        subst (λ j. HasBegun list start.node j (node_past list script (step list script history chosen) j)) (sym same)
+        (begun-by list start.node start.node _ entry.Started (starter_standing list start.node)
+        (AreNodes-only list start.node valid alone.node) refl refl (inl (refl, refl)) starter-stands)
+    | inr other ↦
+        begun-by list start.node k _ _
+        (joined_standing list start.node (deviation_in (slot_after list script history) k start.node))
+        (AreNodes-only list start.node valid alone.node) refl refl (inr refl) (joiner-stands heard k node other on)
+  ]

@@ -34,7 +34,7 @@ use Rattle.safety_laws.proofs.Views.{view_of_bits-members, view_of_bits-outside}
 
 -- What the node does: it judges.
 
-act-judging : (x : NodeSlot) → IsJudging x → act_made x ≡ Judge
+pub act-judging : (x : NodeSlot) → IsJudging x → act_made x ≡ Judge
 act-judging x is =
     ap (λ (p : Phase). phase_act p x.list x.node x.on x.armed x.past) is.active
     ∙ ap (λ own. cond own (own_act x.past) Judge) (ne_eqb _ x.node is.other)

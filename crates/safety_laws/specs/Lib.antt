@@ -3,5 +3,7 @@ pub mod Heard
 pub mod NodeSlot
 pub mod Standing
 pub mod Turns
+pub mod Groups
+pub mod Senders
 pub mod Start
 pub mod WorkedSlots

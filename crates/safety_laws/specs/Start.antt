@@ -14,6 +14,7 @@ use Rattle.ttp_world.specs.Diary.{start_place}
 use Rattle.ttp_world.specs.Hypothesis.{ClusterStart, start_slot, loses}
 use Rattle.ttp_world.specs.Past.{NodePast}
 use Rattle.ttp_world.specs.Script.{on_slot, is_on}
+use Rattle.safety_laws.specs.Groups.{HoldsGroup}
 use Rattle.safety_laws.specs.Heard.{IsUnflipped}
 use Rattle.safety_laws.specs.Standing.{Standing}
 
@@ -77,3 +78,9 @@ joined_standing list p deviation = record {
   cold_start = false;
   notes = notes_in list (start_place p) (joined_on_start p deviation);
 }
+
+-- node k is active at the place of node p's cold start, and holds p alone for a member
+pub record HasBegun (list : Medl) (p k : ℕ) (past : NodePast) : Type 0 where
+  pub phase : past.phase ≡ phase.Active
+  pub place : past.place ≡ start_place p
+  pub group : HoldsGroup list k (p ∷ []) past

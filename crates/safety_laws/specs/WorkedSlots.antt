@@ -4,11 +4,13 @@ use Rattle.ttp_world.specs.declared.medl.Kind.{Kind}
 use Rattle.ttp_world.specs.declared.medl.Kind.TheVariants as kind
 use Rattle.ttp_world.specs.declared.medl.Medl.{Medl}
 use Rattle.ttp_world.specs.declared.medl.SlotPlan.{SlotPlan}
+use Rattle.ttp_world.specs.declared.node.Chosen.{Chosen}
 use Rattle.ttp_world.specs.declared.script.Channels.{Channels}
 use Rattle.ttp_world.specs.declared.script.Event.{Event}
 use Rattle.ttp_world.specs.declared.script.Event.TheVariants as event
 use Rattle.ttp_world.specs.declared.script.Fault.TheVariants as fault
 use Rattle.ttp_world.specs.declared.script.Script.{Script}
+use Rattle.ttp_world.specs.Diary.{History}
 use Rattle.ttp_world.specs.Hypothesis.{ClusterStart}
 use Rattle.ttp_world.specs.World.{Numbers, messages_chosen, world}
 use Rattle.safety_laws.specs.NodeSlot.{NodeSlot, node_slot}
@@ -73,8 +75,13 @@ zeros = replicate 4 (Some 0)
 abbrev pub numbers_of : ℕ → Numbers
 numbers_of slots = replicate slots (record { sent = zeros; read = [] })
 
+-- the slots of a run, so many, and the messages that are chosen in the next one
+abbrev pub run : Script → ℕ → History
+run script slots = world four_nodes script (numbers_of slots)
+
+abbrev pub chosen_in : Script → ℕ → List Chosen
+chosen_in script slot = messages_chosen four_nodes script slot zeros
+
 -- node k in a slot of a run
 abbrev pub at : Script → ℕ → ℕ → NodeSlot
-at script slot k =
-    node_slot four_nodes script (world four_nodes script (numbers_of slot))
-    (messages_chosen four_nodes script slot zeros) k
+at script slot k = node_slot four_nodes script (run script slot) (chosen_in script slot) k

@@ -1,9 +1,11 @@
 //! The laws of one slot and of the start. The functions do nothing; their contracts are the laws.
 //!
 //! For proofs to cite, each stands in a file of `proofs/`: `Views`, `Hearing` and `Senders`, `Joins`,
-//! `NodeSlots`, `Verdicts`, `OwnSlots`, `Waiting` and `StartSlot`.
-ghost use Rattle.std.specs.Prelude.{◌≡◌, ◌≢◌, ℕ, ◌<◌, ◌≤◌, ℤ, pos, ◌⊎◌, true, false, List, [], ◌∷◌, length, IsTrue};
-ghost use Rattle.ttp_base.specs.NodeSet.{with_node, without_node};
+//! `NodeSlots`, `WorldTurns`, `OneSender`, `Payloads`, `Verdicts`, `OwnSlots`, `Idle`, `Groups`,
+//! `Unanswered`, `Waiting`, `StartSlot` and `StartOf`.
+ghost use Rattle.std.specs.Prelude.{◌≡◌, ◌≢◌, ℕ, ◌<◌, ◌≤◌, ℤ, pos, ◌⊎◌, true, false, List, [], ◌∷◌, length, Option};
+ghost use Rattle.std.specs.Prelude.{IsTrue};
+ghost use Rattle.ttp_base.specs.NodeSet.{has_node, with_node, without_node};
 ghost use Rattle.ttp_world.specs.declared.medl.Medl.{Medl};
 ghost use Rattle.ttp_world.specs.declared.node.Ack.TheVariants as ack;
 ghost use Rattle.ttp_world.specs.declared.node.ChannelView.TheVariants as view;
@@ -18,19 +20,23 @@ ghost use Rattle.ttp_world.specs.Acknowledgement.{is_open};
 ghost use Rattle.ttp_world.specs.Conduct.{cold_start_frame, own_frame, message_sent, listening_entry};
 ghost use Rattle.ttp_world.specs.Diary.{History, entry_of};
 ghost use Rattle.ttp_world.specs.Hypothesis.{ClusterStart, loses, start_of};
+ghost use Rattle.ttp_world.specs.Legal.{IsLegal};
 ghost use Rattle.ttp_world.specs.Medium.{SentFrame};
 ghost use Rattle.ttp_world.specs.Medl.{may_start, IsValid};
+ghost use Rattle.ttp_world.specs.Membership.{is_accepted};
 ghost use Rattle.ttp_world.specs.Reception.{Hearing, expected_of, is_within_window, view_of_bits};
-ghost use Rattle.ttp_world.specs.Script.{is_ever_on, is_on};
+ghost use Rattle.ttp_world.specs.Script.{is_ever_on, is_on, IsValidScript};
 ghost use Rattle.ttp_world.specs.World.{BegunSlot, Numbers, SlotNumbers, node_past, slot_after, frames_of, frames_in};
-ghost use Rattle.ttp_world.specs.World.{hearing_in, deviation_in, row_in, step, world};
+ghost use Rattle.ttp_world.specs.World.{hearing_in, deviation_in, row_in, step, messages_chosen, world};
+ghost use Rattle.safety_laws.specs.Groups.{IsNotAbout, HoldsGroup, IsUnanswered, HearsNoAnswer, StaysUnanswered};
 ghost use Rattle.safety_laws.specs.Heard.{IsUnflipped, HearsFrame, HearsNoFrame, HearsSilence};
 ghost use Rattle.safety_laws.specs.NodeSlot.{NodeSlot, node_slot, frames_made, entry_made, next_past, coming_place};
 ghost use Rattle.safety_laws.specs.NodeSlot.{owner_of, candidates_of};
+ghost use Rattle.safety_laws.specs.Senders.{SendsAlone, NoneSends};
 ghost use Rattle.safety_laws.specs.SlotFrames.{IsSlotFrame, view_of_members};
 ghost use Rattle.safety_laws.specs.Standing.{StandsBy, HasJustLeft, IsJudgedAs, sent_standing};
 ghost use Rattle.safety_laws.specs.Start.{StartsAlone, IsStartHeard, Waits, starter_standing, joined_on_start};
-ghost use Rattle.safety_laws.specs.Start.{joined_standing};
+ghost use Rattle.safety_laws.specs.Start.{joined_standing, HasBegun};
 ghost use Rattle.safety_laws.specs.Turns.{IsJudging, HearsMembers, HearsOutside, IsAtOwnSlot, HasPayload};
 
 /// How an active node sees bits in another's slot. The frame that the list gives for the place at which
@@ -69,8 +75,16 @@ pub fn hearing()
 {}
 
 /// After one slot more of the world a node's past is what its slot makes of it, and so are its entry and
-/// what it sends.
+/// what it sends. A node that is active there judges the slot, or it is at its own (`judging`, `own`).
 pub fn one_slot()
+    ensures judging { (list : Medl) (script : Script) (numbers : Numbers) (chosen : List Chosen) (k : ℕ)
+        → IsValid list → k < length list.slots
+        → (let x = node_slot list script (world list script numbers) chosen k in
+        x.past.phase ≡ phase.Active → owner_of x ≢ k → IsJudging x) }
+    ensures own { (list : Medl) (script : Script) (numbers : Numbers) (chosen : List Chosen) (k : ℕ)
+        → IsValid list → k < length list.slots
+        → (let x = node_slot list script (world list script numbers) chosen k in
+        x.past.phase ≡ phase.Active → owner_of x ≡ k → IsAtOwnSlot x) }
     ensures past { (list : Medl) (script : Script) (history : History) (chosen : List Chosen) (k : ℕ)
         → k < length list.slots
         → node_past list script (step list script history chosen) k
@@ -133,11 +147,99 @@ pub fn own_slot()
         → ((next_past x).phase ≡ phase.Listening) × (frames_made x ≡ []) }
 {}
 
+/// What comes to node r in the slot after a history in which node p alone sends, or no node does. Where no
+/// fault of either keeps it away, and both stand at one place, it is the frame of the slot with the
+/// members of the sender and the sender itself (`heard`), or it comes outside the window (`outside`).
+/// Where it is lost no frame comes (`lost`), and where no node sends nothing does (`silent`). With legal
+/// numbers a frame has the payload that the list asks for (`payload`).
+pub fn one_sender()
+    ensures heard { (list : Medl) (script : Script) (history : History) (chosen : List Chosen) (p r : ℕ)
+        → SendsAlone list script history chosen p → loses script p (length history) r ≡ false
+        → coming_place (node_slot list script history chosen p) ≡ coming_place (node_slot list script history chosen r)
+        → IsTrue (is_within_window list (deviation_in (slot_after list script history) r p))
+        → HearsMembers (node_slot list script history chosen r) p
+        (with_node (node_slot list script history chosen p).past.members p) }
+    ensures outside { (list : Medl) (script : Script) (history : History) (chosen : List Chosen) (p r : ℕ)
+        → SendsAlone list script history chosen p → loses script p (length history) r ≡ false
+        → is_within_window list (deviation_in (slot_after list script history) r p) ≡ false
+        → HearsOutside (node_slot list script history chosen r) p }
+    ensures lost { (list : Medl) (script : Script) (history : History) (chosen : List Chosen) (p r : ℕ)
+        → SendsAlone list script history chosen p → loses script p (length history) r ≡ true
+        → HearsNoFrame (node_slot list script history chosen r).hearing }
+    ensures silent { (list : Medl) (script : Script) (history : History) (chosen : List Chosen) (r : ℕ)
+        → NoneSends list script history chosen → HearsSilence (node_slot list script history chosen r).hearing }
+    ensures payload { (list : Medl) (script : Script) (new : SlotNumbers) (numbers : Numbers) (k : ℕ)
+        → IsValidScript list script → IsLegal list script (new ∷ numbers) → k < length list.slots
+        → (let x = node_slot list script (world list script numbers)
+        (messages_chosen list script (length numbers) new.sent) k in
+        IsAtOwnSlot x → x.past.ack ≡ ack.Closed → x.past.rejected < x.past.accepted → HasPayload x) }
+{}
+
+/// Nodes that send nothing: one that judges, one that is off and not switched on, and one that has left
+/// and is not armed. The last two stay what they are.
+pub fn idle()
+    ensures judging { (x : NodeSlot) → IsJudging x → frames_made x ≡ [] }
+    ensures off { (x : NodeSlot) → x.past.phase ≡ phase.Off → x.on ≡ false
+        → ((next_past x).phase ≡ phase.Off) × (frames_made x ≡ []) }
+    ensures left { (x : NodeSlot) → x.past.phase ≡ phase.Left → x.armed ≡ false
+        → ((next_past x).phase ≡ phase.Left) × (frames_made x ≡ []) }
+{}
+
+/// A node that holds a group for members, and beside it only a node that it doubts. The frame of an owner
+/// that holds the same group is correct to it (`correct`), and one that lacks a member of the group is
+/// incorrect (`incorrect`), but if that is the node itself and waits for its first successor: then it
+/// is incorrect or tentative (`lacked`). After a correct frame the node holds the group with the owner,
+/// and its own frame is acknowledged; after any other it holds the group without the owner, after a
+/// tentative one in doubt about the owner. After its own frame it holds the group with itself.
+pub fn groups()
+    ensures correct { (x : NodeSlot) (group : List ℕ) (sender : ℕ) → IsJudging x
+        → HoldsGroup x.list x.node group x.past → IsNotAbout (owner_of x) x.past.ack
+        → HearsMembers x sender (with_node group (owner_of x))
+        → IsJudgedAs x verdict.Correct (x.hearing.deviation sender) }
+    ensures incorrect { (x : NodeSlot) (group : List ℕ) (sender p : ℕ) (members : List ℕ) → IsJudging x
+        → HoldsGroup x.list x.node group x.past → p < length x.list.slots → IsTrue (has_node group p)
+        → (p ≢ x.node) ⊎ (x.past.ack ≡ ack.Closed) → has_node members p ≡ false → HearsMembers x sender members
+        → IsJudgedAs x verdict.Incorrect (x.hearing.deviation sender) }
+    ensures lacked { (x : NodeSlot) (group : List ℕ) (sender : ℕ) (members : List ℕ) → IsJudging x
+        → HoldsGroup x.list x.node group x.past → x.past.ack ≡ ack.First → has_node members x.node ≡ false
+        → HearsMembers x sender members
+        → IsJudgedAs x verdict.Incorrect (x.hearing.deviation sender)
+        ⊎ IsJudgedAs x verdict.Tentative (x.hearing.deviation sender) }
+    ensures after_correct { (x : NodeSlot) (group : List ℕ) (deviation : ℤ) → IsJudging x
+        → HoldsGroup x.list x.node group x.past → IsJudgedAs x verdict.Correct deviation
+        → HoldsGroup x.list x.node (with_node group (owner_of x)) (next_past x)
+        × ((next_past x).ack ≡ ack.Closed) }
+    ensures after_wrong { (x : NodeSlot) (group : List ℕ) (v : Verdict) (deviation : ℤ) → IsJudging x
+        → HoldsGroup x.list x.node group x.past → IsJudgedAs x v deviation → is_accepted v ≡ false
+        → IsNotAbout (owner_of x) x.past.ack
+        → HoldsGroup x.list x.node (without_node group (owner_of x)) (next_past x)
+        × ((next_past x).ack ≡ x.past.ack) }
+    ensures after_tentative { (x : NodeSlot) (group : List ℕ) (deviation : ℤ) → IsJudging x
+        → HoldsGroup x.list x.node group x.past → IsJudgedAs x verdict.Tentative deviation
+        → x.past.ack ≡ ack.First
+        → HoldsGroup x.list x.node (without_node group (owner_of x)) (next_past x)
+        × ((next_past x).ack ≡ ack.Doubt (owner_of x)) }
+    ensures after_own { (x : NodeSlot) (group : List ℕ) (message : Option ℕ) → IsAtOwnSlot x
+        → HoldsGroup x.list x.node group x.past → x.past.ack ≡ ack.Closed
+        → StandsBy (next_past x) (entry.Sent message) (sent_standing x message)
+        → HoldsGroup x.list x.node (with_node group x.node) (next_past x) }
+{}
+
+/// A node whose own frame is not acknowledged stays so, or leaves as denied, while no frame comes inside
+/// the window that has it among its members (`stays`). And whatever comes in another's slot, no node but
+/// its owner is held for a member that was not before (`not_held`).
+pub fn unanswered()
+    ensures stays { (x : NodeSlot) → IsJudging x → IsUnanswered x.node x.past.ack → HearsNoAnswer x
+        → StaysUnanswered x ⊎ HasJustLeft (next_past x) reason.Denied (owner_of x) }
+    ensures not_held { (x : NodeSlot) (j : ℕ) → IsJudging x → j < length x.list.slots → j ≢ owner_of x
+        → has_node x.past.members j ≡ false → has_node (next_past x).members j ≡ false }
+{}
+
 /// The start of a cluster. Until the first slot in which a node would start on a silent bus, each node is
 /// off, or has listened in silence since it is on (`waits`). If one node alone would start there, it does
 /// (`starts`), and each other node that is on joins on its frame (`joins`), where that comes to it as it
 /// was sent; those that are not on stay off (`off`). So all that are on are then active at one place, and
-/// hold the starter alone for a member.
+/// hold the starter alone for a member (`together`).
 ///
 /// The start that the hypothesis test knows is such a slot (`known`), and each node that is ever on is on
 /// by then (`all_on`).
@@ -162,6 +264,11 @@ pub fn start()
         → (let deviation = deviation_in (slot_after list script (world list script numbers)) k start.node in
         StandsBy (node_past list script (world list script (new ∷ numbers)) k) (joined_on_start start.node deviation)
         (joined_standing list start.node deviation)) }
+    ensures together { (list : Medl) (script : Script) (start : ClusterStart) (new : SlotNumbers) (numbers : Numbers)
+        → IsValid list → StartsAlone list script start → length numbers ≡ start.slot
+        → IsStartHeard list script start
+        → (k : ℕ) → k < length list.slots → IsTrue (is_on script k start.slot)
+        → HasBegun list start.node k (node_past list script (world list script (new ∷ numbers)) k) }
     ensures off { (list : Medl) (script : Script) (start : ClusterStart) (new : SlotNumbers) (numbers : Numbers)
         → IsValid list → StartsAlone list script start → length numbers ≡ start.slot
         → (k : ℕ) → k < length list.slots → k ≢ start.node → is_on script k start.slot ≡ false

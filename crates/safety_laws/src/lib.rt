@@ -6,7 +6,12 @@
 //! - [`laws::views`]: at one place an undisturbed frame inside the window is seen by its members alone;
 //! - [`laws::hearing`]: what comes to a node where one node sends, or none, by the faults of both;
 //! - [`laws::one_slot`]: a world's node after one slot more is what its slot makes of it;
+//! - [`laws::one_sender`]: so what comes to each node of a world in a slot with one sender, or none;
 //! - [`laws::judged`], [`laws::own_slot`]: what an active node holds after another's slot and its own;
+//! - [`laws::groups`]: a node that holds a group of nodes for members goes on doing so, with the owner
+//!   of each slot put in or taken out;
+//! - [`laws::unanswered`]: a node that no frame answers keeps its acknowledgement open, or leaves;
+//! - [`laws::idle`]: who sends nothing;
 //! - [`laws::start`]: until a first node's limit is reached each node waits in silence, and then all
 //!   that are on begin on that node's frame.
 //!

@@ -6,7 +6,11 @@ fn laws_are_there() {
     laws::views();
     laws::hearing();
     laws::one_slot();
+    laws::one_sender();
     laws::judged();
     laws::own_slot();
+    laws::idle();
+    laws::groups();
+    laws::unanswered();
     laws::start();
 }

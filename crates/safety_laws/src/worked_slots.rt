@@ -10,12 +10,14 @@ ghost use Rattle.ttp_world.specs.declared.node.Reason.TheVariants as reason;
 ghost use Rattle.ttp_world.specs.declared.node.Verdict.TheVariants as verdict;
 ghost use Rattle.ttp_world.specs.Acknowledgement.{is_open};
 ghost use Rattle.ttp_world.specs.Hypothesis.{start_of};
+ghost use Rattle.safety_laws.specs.Groups.{HoldsGroup, IsUnanswered, HearsNoAnswer};
 ghost use Rattle.safety_laws.specs.Heard.{HearsNoFrame, HearsSilence};
 ghost use Rattle.safety_laws.specs.NodeSlot.{entry_made, next_past, candidates_of};
+ghost use Rattle.safety_laws.specs.Senders.{SendsAlone};
 ghost use Rattle.safety_laws.specs.Start.{IsStartHeard};
 ghost use Rattle.safety_laws.specs.Turns.{IsJudging, HearsMembers, HearsOutside, IsAtOwnSlot, HasPayload};
 ghost use Rattle.safety_laws.specs.WorkedSlots.{four_nodes, first_start, faultless, silent, silent_and_deaf, deaf};
-ghost use Rattle.safety_laws.specs.WorkedSlots.{jumping, alone, at};
+ghost use Rattle.safety_laws.specs.WorkedSlots.{jumping, alone, run, chosen_in, at};
 
 /// The start is known and heard.
 fn a_start()
@@ -81,4 +83,14 @@ fn own_slots()
     ensures starter { IsAtOwnSlot (at alone 12 0) }
     ensures cold_start { IsTrue (at alone 12 0).past.cold_start }
     ensures retries { entry_made (at alone 12 0) ≡ entry.Retried }
+{}
+
+/// In slot 9 node 1 alone sends, and node 0 holds the group of node 0. Where node 1's frame is lost, it is
+/// not answered by node 2's; in doubt about node 2 it holds the group of nodes 0 and 1.
+fn one_group()
+    ensures sends { SendsAlone four_nodes faultless (run faultless 9) (chosen_in faultless 9) 1 }
+    ensures holds { HoldsGroup four_nodes 0 (0 ∷ []) (at faultless 9 0).past }
+    ensures unacknowledged { IsUnanswered 1 (at silent 10 1).past.ack }
+    ensures no_answer { HearsNoAnswer (at silent 10 1) }
+    ensures in_doubt { HoldsGroup four_nodes 1 (0 ∷ 1 ∷ []) (at silent 11 1).past }
 {}

@@ -3,7 +3,7 @@ use Rattle.ttp_world.proofs.Worlds.{length-world}
 use Rattle.ttp_world.specs.World.{node_past, world, messages_chosen}
 use Rattle.safety_laws.specs.Start.{Waits}
 use Rattle.safety_laws.proofs.StartOf.{StartsAlone-start_of, is_on-start_of}
-use Rattle.safety_laws.proofs.StartSlot.{starter-stands, joiner-stands, off-stays, first_due}
+use Rattle.safety_laws.proofs.StartSlot.{starter-stands, joiner-stands, off-stays, first_due, has-begun}
 use Rattle.safety_laws.proofs.Waiting.{WaitAll-world}
 use Rattle.safety_laws.proofs.laws.start.Goals as goal
 
@@ -39,3 +39,10 @@ returns-clause-off c = λ list script start new numbers valid alone now k node o
     (messages_chosen list script (length numbers) new.sent) valid alone
     (WaitAll-world list script start.slot numbers valid (first_due list script start alone) (omega (arith, now)))
     (length-world list script numbers ∙ now) k node other off
+
+pub returns-clause-together : goal.returns-clause-together
+returns-clause-together c = λ list script start new numbers valid alone now heard k node on.
+    has-begun list script start (world list script numbers)
+    (messages_chosen list script (length numbers) new.sent) valid alone
+    (WaitAll-world list script start.slot numbers valid (first_due list script start alone) (omega (arith, now)))
+    (length-world list script numbers ∙ now) heard k node on

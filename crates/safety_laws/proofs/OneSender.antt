@@ -1,0 +1,79 @@
+-- What comes to each node in a slot after a history in which one node alone sends, or none.
+use Rattle.std.proofs.Common.{◌≡◌, ℕ, true, false, List, [], ◌∷◌, length, ◌∙◌, subst}
+use Rattle.ttp_base.specs.NodeSet.{with_node}
+use Rattle.ttp_world.specs.declared.medl.Medl.{Medl}
+use Rattle.ttp_world.specs.declared.node.Chosen.{Chosen}
+use Rattle.ttp_world.specs.declared.script.Script.{Script}
+use Rattle.ttp_world.specs.Conduct.{own_frame}
+use Rattle.ttp_world.specs.Diary.{History, Place}
+use Rattle.ttp_world.specs.Hypothesis.{loses}
+use Rattle.ttp_world.specs.Reception.{is_within_window}
+use Rattle.ttp_world.specs.World.{slot_after, frames_in, deviation_in}
+use Rattle.safety_laws.specs.Heard.{HearsFrame, HearsNoFrame, HearsSilence}
+use Rattle.safety_laws.specs.NodeSlot.{node_slot, coming_place}
+use Rattle.safety_laws.specs.Senders.{SendsAlone, NoneSends}
+use Rattle.safety_laws.specs.SlotFrames.{IsSlotFrame}
+use Rattle.safety_laws.specs.Turns.{HearsMembers, HearsOutside}
+use Rattle.safety_laws.proofs.Hearing.{HearsFrame-kept, HearsNoFrame-lost, HearsSilence-none}
+use Rattle.safety_laws.proofs.NodeSlots.{frames_of-made}
+use Rattle.safety_laws.proofs.OwnSlots.{frames_made-own, IsSlotFrame-own}
+use Rattle.safety_laws.proofs.Senders.{frames_in-none, frames_in-one}
+
+pub silent-none_sends : (list : Medl) (script : Script) (history : History) (chosen : List Chosen) (r : ℕ)
+    → NoneSends list script history chosen → HearsSilence (node_slot list script history chosen r).hearing
+silent-none_sends list script history chosen r none =
+    let s = slot_after list script history in
+    HearsSilence-none s (frames_in s chosen) r
+    (frames_in-none s chosen (λ k node. frames_of-made list script history chosen k node ∙ none k node))
+
+module _ (list : Medl) (script : Script) (history : History) (chosen : List Chosen) (p r : ℕ)
+    (sends : SendsAlone list script history chosen p) where
+  frames-alone : frames_in (slot_after list script history) chosen
+      ≡ record {
+        sender = p;
+        bytes = own_frame list p (node_slot list script history chosen p).past
+            (node_slot list script history chosen p).chosen;
+      } ∷ []
+  frames-alone =
+      frames_in-one (slot_after list script history) chosen p sends.own.node
+      (λ k node other. frames_of-made list script history chosen k node ∙ sends.others k node other)
+      ∙ frames_of-made list script history chosen p sends.own.node
+      ∙ frames_made-own (node_slot list script history chosen p) sends.own sends.closed sends.accepted
+
+  comes-alone : loses script p (length history) r ≡ false
+      → HearsFrame (record {
+        sender = p;
+        bytes = own_frame list p (node_slot list script history chosen p).past
+            (node_slot list script history chosen p).chosen;
+      }) (node_slot list script history chosen r).hearing
+  comes-alone kept =
+      let s = slot_after list script history in
+      HearsFrame-kept s (frames_in s chosen) _ r frames-alone sends.unflipped kept
+
+  -- inside the window, at the same place, it is the frame of the slot with the sender's members and the sender
+  pub members-alone : loses script p (length history) r ≡ false
+      → coming_place (node_slot list script history chosen p) ≡ coming_place (node_slot list script history chosen r)
+      → is_within_window list (deviation_in (slot_after list script history) r p) ≡ true
+      → HearsMembers (node_slot list script history chosen r) p
+      (with_node (node_slot list script history chosen p).past.members p)
+  members-alone kept together within =
+      let x = node_slot list script history chosen p in
+      record {
+        bytes = own_frame list p x.past x.chosen;
+        frame = subst (λ (place : Place). IsSlotFrame list place (with_node x.past.members p)
+            (own_frame list p x.past x.chosen)) together (IsSlotFrame-own x sends.own sends.payload);
+        comes = comes-alone kept;
+        within = within;
+      }
+
+  pub outside-alone : loses script p (length history) r ≡ false
+      → is_within_window list (deviation_in (slot_after list script history) r p) ≡ false
+      → HearsOutside (node_slot list script history chosen r) p
+  outside-alone kept outside = record { bytes = _; comes = comes-alone kept; outside = outside }
+
+  -- and no frame where it is lost
+  pub none-alone : loses script p (length history) r ≡ true
+      → HearsNoFrame (node_slot list script history chosen r).hearing
+  none-alone lost =
+      let s = slot_after list script history in
+      HearsNoFrame-lost s (frames_in s chosen) _ r frames-alone lost

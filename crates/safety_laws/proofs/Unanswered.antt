@@ -1,0 +1,122 @@
+-- A node whose frame is not acknowledged stays so while no frame has it among its members; and another's slot brings no
+-- node but its owner into what a node holds.
+use Rattle.std.proofs.Common.{◌≡◌, ◌≢◌, ℕ, ◌<◌, ℤ, pos, Bool, true, false, cond, List, length, refl, ap, sym}
+use Rattle.std.proofs.Common.{◌∙◌, ◌⊎◌, inl, inr, subst, arith}
+use Rattle.std.proofs.lemmas.Bool.{false≢true}
+use Rattle.ttp_base.specs.NodeSet.{most_nodes, has_node, with_node}
+use Rattle.ttp_world.specs.declared.node.Ack.{Ack}
+use Rattle.ttp_world.specs.declared.node.Ack.TheVariants as ack
+use Rattle.ttp_world.specs.declared.node.ChannelView.TheVariants as view
+use Rattle.ttp_world.specs.declared.node.Reason.TheVariants as reason
+use Rattle.ttp_world.specs.declared.node.Verdict.{Verdict}
+use Rattle.ttp_world.specs.declared.node.Verdict.TheVariants as verdict
+use Rattle.ttp_world.specs.Acknowledgement.{is_correct}
+use Rattle.ttp_world.specs.After.{settled_members, judged_members, ack_answered}
+use Rattle.ttp_world.specs.Reception.{candidates, verdict_of_view}
+use Rattle.ttp_world.proofs.Lists.{nodes-most}
+use Rattle.safety_laws.specs.Groups.{IsUnanswered, HearsNoAnswer, Lacks, Outside, NoFrame, StaysUnanswered}
+use Rattle.safety_laws.specs.NodeSlot.{NodeSlot, next_past, owner_of, candidates_of}
+use Rattle.safety_laws.specs.SlotFrames.{is_second}
+use Rattle.safety_laws.specs.Standing.{HasJustLeft, IsJudgedAs}
+use Rattle.safety_laws.specs.Turns.{IsJudging}
+use Rattle.safety_laws.proofs.GroupSets.{has_node-with_other, has_node-without_other, has_node-without_none}
+use Rattle.safety_laws.proofs.ListedSets.{has_node-put_in}
+use Rattle.safety_laws.proofs.Verdicts.{view-later, entry-by_view, judged-outside, judged-none, judged-by_verdict}
+use Rattle.safety_laws.proofs.Verdicts.{judged-whatever}
+
+-- The acknowledgement.
+
+-- a verdict that is not correct leaves it open
+answered-unanswered : (k owner : ℕ) (a : Ack) (v : Verdict) → IsUnanswered k a → is_correct v ≡ false → owner ≢ k
+    → IsUnanswered k (ack_answered a v owner)
+answered-unanswered k owner ack.Closed v unanswered wrong other = absurd unanswered
+answered-unanswered k owner ack.First verdict.Null unanswered wrong other = tt
+answered-unanswered k owner ack.First verdict.Invalid unanswered wrong other = tt
+answered-unanswered k owner ack.First verdict.Incorrect unanswered wrong other = tt
+answered-unanswered k owner ack.First verdict.Denied unanswered wrong other = tt
+answered-unanswered k owner ack.First verdict.Tentative unanswered wrong other = other
+answered-unanswered k owner ack.First verdict.Correct unanswered wrong other = cc
+answered-unanswered k owner (ack.Doubt y) verdict.Null unanswered wrong other = unanswered
+answered-unanswered k owner (ack.Doubt y) verdict.Invalid unanswered wrong other = unanswered
+answered-unanswered k owner (ack.Doubt y) verdict.Incorrect unanswered wrong other = unanswered
+answered-unanswered k owner (ack.Doubt y) verdict.Denied unanswered wrong other = unanswered
+answered-unanswered k owner (ack.Doubt y) verdict.Tentative unanswered wrong other = other
+answered-unanswered k owner (ack.Doubt y) verdict.Correct unanswered wrong other = cc
+
+stays-judged : (x : NodeSlot) (v : Verdict) (deviation : ℤ) → IsJudging x → IsUnanswered x.node x.past.ack
+    → is_correct v ≡ false → IsJudgedAs x v deviation → StaysUnanswered x
+stays-judged x v deviation is unanswered wrong judged = record {
+  verdict = v;
+  deviation = deviation;
+  judged = judged;
+  wrong = wrong;
+  ack = subst (IsUnanswered x.node) (sym judged.ack)
+      (answered-unanswered x.node (owner_of x) x.past.ack v unanswered wrong is.other);
+}
+
+-- The first candidate has the node itself.
+own_in_first : (k owner : ℕ) (members : List ℕ) (a : Ack) → k < most_nodes → IsUnanswered k a
+    → has_node (candidates a k members owner).first k ≡ true
+own_in_first k owner members ack.Closed small unanswered = absurd unanswered
+own_in_first k owner members ack.First small unanswered = has_node-put_in (with_node members owner) k small
+own_in_first k owner members (ack.Doubt y) small unanswered =
+    has_node-without_other (with_node (with_node members owner) k) y k (λ same. unanswered (sym same))
+    ∙ has_node-put_in (with_node members owner) k small
+
+-- so a frame without it is not correct
+wrong_view : (second : Bool) (a : Ack) → is_correct (verdict_of_view (cond second view.Second view.Other) a) ≡ false
+wrong_view true ack.Closed = refl
+wrong_view true ack.First = refl
+wrong_view true (ack.Doubt y) = refl
+wrong_view false a = refl
+
+pub stays-unanswered : (x : NodeSlot) → IsJudging x → IsUnanswered x.node x.past.ack → HearsNoAnswer x
+    → StaysUnanswered x ⊎ HasJustLeft (next_past x) reason.Denied (owner_of x)
+stays-unanswered x is unanswered (Lacks sender members hears lacks) =
+    let apart : members ≢ (candidates_of x).first =
+    λ same. false≢true (sym lacks ∙ ap (λ (s : List ℕ). has_node s x.node) same
+    ∙ own_in_first x.node (owner_of x) x.past.members x.past.ack (omega (arith, is.node, nodes-most x.list is.valid))
+    unanswered) in
+    elim (judged-by_verdict x _ (x.hearing.deviation sender) is
+    (entry-by_view x sender members is hears _ (view-later (candidates_of x) members apart))) [
+      | inl judged ↦
+          inl (stays-judged x _ (x.hearing.deviation sender) is unanswered
+          (wrong_view (is_second (candidates_of x).second members) x.past.ack) judged)
+      | inr left ↦ inr left
+    ]
+stays-unanswered x is unanswered (Outside sender hears) =
+    inl (stays-judged x verdict.Invalid (x.hearing.deviation sender) is unanswered refl
+    (judged-outside x sender is hears))
+stays-unanswered x is unanswered (NoFrame none) = elim (judged-none x is none) [
+  | inl null ↦ inl (stays-judged x verdict.Null (pos 0) is unanswered refl null)
+  | inr invalid ↦ inl (stays-judged x verdict.Invalid (pos 0) is unanswered refl invalid)
+]
+
+-- What is not held, but for the owner.
+
+settled-none : (members : List ℕ) (a : Ack) (j : ℕ) → has_node members j ≡ false
+    → has_node (settled_members members a) j ≡ false
+settled-none members ack.Closed j none = none
+settled-none members ack.First j none = none
+settled-none members (ack.Doubt y) j none = has_node-without_none members y j none
+
+judged-none_held : (members : List ℕ) (a : Ack) (v : Verdict) (owner j : ℕ) → j < most_nodes → j ≢ owner
+    → has_node members j ≡ false → has_node (judged_members members a v owner) j ≡ false
+judged-none_held members a verdict.Correct owner j small other none =
+    has_node-with_other (settled_members members a) owner j small other ∙ settled-none members a j none
+judged-none_held members a verdict.Tentative owner j small other none =
+    has_node-with_other members owner j small other ∙ none
+judged-none_held members a verdict.Null owner j small other none = has_node-without_none members owner j none
+judged-none_held members a verdict.Invalid owner j small other none = has_node-without_none members owner j none
+judged-none_held members a verdict.Incorrect owner j small other none = has_node-without_none members owner j none
+judged-none_held members a verdict.Denied owner j small other none = has_node-without_none members owner j none
+
+pub not_held-judging : (x : NodeSlot) (j : ℕ) → IsJudging x → j < length x.list.slots → j ≢ owner_of x
+    → has_node x.past.members j ≡ false → has_node (next_past x).members j ≡ false
+not_held-judging x j is listed other none = elim (judged-whatever x is) [
+  | inl some ↦
+      ap (λ (s : List ℕ). has_node s j) some.1.1.members
+      ∙ judged-none_held x.past.members x.past.ack some.0 (owner_of x) j
+      (omega (arith, listed, nodes-most x.list is.valid)) other none
+  | inr left ↦ ap (λ (s : List ℕ). has_node s j) left.members
+]
