@@ -1,0 +1,89 @@
+-- One two-faced sender: a node whose clock looks different to different receivers. Six rules say which scripts are
+-- promised to be stood, of which the first that is broken is named with a slot.
+use Rattle.std.specs.Prelude.{ℕ, ◌+◌, ◌*◌, nat_le, nat_lt, ℤ, pos, ◌+ℤ◌, ◌-ℤ◌, ◌*ℤ◌, Bool, false, ◌&&◌, not, ◌==◌}
+use Rattle.std.specs.Prelude.{[], length, find, Option, Some, None, int_le, if◌then◌else◌}
+use Rattle.std.specs.Int.{int_max}
+use Rattle.std.specs.List.{filter_map}
+use Rattle.ttp_base.specs.NodeSet.{below}
+use Rattle.ttp_world.specs.declared.medl.Medl.{Medl}
+use Rattle.ttp_world.specs.declared.script.Event.{Event}
+use Rattle.ttp_world.specs.declared.script.Event.TheVariants as event
+use Rattle.ttp_world.specs.declared.script.Script.{Script}
+use Rattle.ttp_world.specs.Hypothesis.{ClusterStart, drifts_hold, least_of, start_of, expected_sender, has_four_steady}
+use Rattle.hypothesis.specs.Errors.{errors_hold_within}
+use Rattle.hypothesis.specs.SoleStart.{sole_start}
+use Rattle.two_faced.specs.declared.faced.Faced.{Faced}
+use Rattle.two_faced.specs.declared.faced.Faced.TheVariants as faced
+
+-- Each rule gives the slot that is named where it is broken, and nothing where it holds.
+
+-- The node (F0): it is one of the list's.
+
+abbrev pub node_broken : Medl → ℕ → Option ℕ
+node_broken list z = if nat_lt z (length list.slots) then None else Some 0
+
+-- Clocks (F1): each drift and each sum of reading errors is within its bound, which is wider where the two-faced node
+-- sends.
+
+-- how far apart the clocks of two other nodes may come: 12 D n + 6 E + 2
+abbrev pub bound : Medl → ℤ
+bound list = list.drift *ℤ pos (12 * length list.slots) +ℤ (list.error *ℤ pos 6 +ℤ pos 2)
+
+-- two rounds have passed since the start, and the node is due to send
+abbrev pub is_faced_slot : Medl → ℕ → Option ClusterStart → ℕ → Bool
+is_faced_slot list z None slot = false
+is_faced_slot list z (Some start) slot =
+    nat_le (start.slot + 2 * length list.slots) slot && (expected_sender list start slot == z)
+
+-- how far a node's reading errors may add up in a slot, either way
+abbrev pub allowed_error : Medl → ℕ → Option ClusterStart → ℕ → ℤ
+allowed_error list z start slot =
+    if is_faced_slot list z start slot then int_max list.error (list.window -ℤ bound list) else list.error
+
+abbrev pub errors_allowed_in : Medl → Script → ℕ → Option ClusterStart → ℕ → Bool
+errors_allowed_in list script z start slot = errors_hold_within list script (allowed_error list z start slot) slot
+
+abbrev pub clocks_broken : Medl → Script → ℕ → Option ClusterStart → Option ℕ
+clocks_broken list script z start =
+    if drifts_hold list script
+    then find (λ slot. not (errors_allowed_in list script z start slot)) (below script.slots)
+    else Some 0
+
+-- The window (F2): it is as wide as a deviation between two other nodes needs, 12 D n + 7 E + 2.
+
+abbrev pub window_broken : Medl → Option ℕ
+window_broken list = if int_le (bound list +ℤ list.error) list.window then None else Some 0
+
+-- Faults (F3): no send or receive fault, no flipped bit and no jump.
+
+-- the slot of a fault, the first where it has two
+abbrev pub fault_slot : Event → Option ℕ
+fault_slot (event.Send node channels fault from to) = Some from
+fault_slot (event.Receive node channels fault from to) = Some from
+fault_slot (event.Flip node channels bit slot) = Some slot
+fault_slot (event.Jump node value slot) = Some slot
+fault_slot _ = None
+
+abbrev pub faults_broken : Script → Option ℕ
+faults_broken script = least_of (filter_map fault_slot script.events)
+
+-- The start (F4) is that of the single-fault hypothesis. Nodes to measure (F5): four nodes with `sync` are ever on.
+
+abbrev pub started_faced : Medl → Script → Option ClusterStart → Faced
+started_faced list script None = faced.No 4 0
+started_faced list script (Some start) =
+    if has_four_steady list script [] then faced.Yes start.slot else faced.No 5 0
+
+-- The test.
+
+abbrev pub unless : ℕ → Option ℕ → Faced → Faced
+unless rule None others = others
+unless rule (Some slot) others = faced.No rule slot
+
+-- the rules in their order for node z: the first that is broken, or the slot of the start
+abbrev pub faced_of : Medl → Script → ℕ → Faced
+faced_of list script z =
+    unless 0 (node_broken list z)
+    (unless 1 (clocks_broken list script z (sole_start list script))
+    (unless 2 (window_broken list)
+    (unless 3 (faults_broken script) (started_faced list script (start_of list script)))))

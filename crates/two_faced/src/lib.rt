@@ -1,0 +1,94 @@
+//! The test for one two-faced sender.
+//!
+//! A sender whose clock looks different to different receivers is what clock synchronization finds
+//! hardest to stand. A script says it by reading errors: those of the receivers, in slots of that
+//! sender. [`find_faced`] says whether a script has no other fault and keeps these errors in bounds
+//! within which the other nodes' clocks are to stay together, and [`bound`] how far apart they may come:
+//!
+//! ```text
+//! match find_faced(&list, &script, 3) {
+//!     Faced::Yes { start } => ..          // node 3 may be two-faced, from two rounds after the start on
+//!     Faced::No { rule, slot } => ..
+//! }
+//! ```
+//!
+//! The rules are those of `specs/Faced.antt`; what they share with the single-fault hypothesis is
+//! asked of the crate hypothesis. It runs no cluster. That clocks stay within the bound is not proved
+//! here.
+#![tactic(auto, using(ttp_world::proofs::Lists::nodes))]
+
+ghost use Rattle.std.specs.Prelude.{◌≡◌};
+ghost use Rattle.ttp_world.specs.Medl.{IsValid};
+ghost use Rattle.ttp_world.specs.Script.{IsValidScript};
+ghost use Rattle.hypothesis.specs.Standing.{told_start_if};
+ghost use Rattle.two_faced.specs.Faced.{started_faced, faced_of};
+
+mod bounds;
+mod clocks;
+mod faced;
+mod faults;
+#[cfg(test)]
+mod tests;
+#[cfg(test)]
+mod worked_cases;
+
+pub use crate::bounds::bound;
+use crate::bounds::window_broken;
+use crate::clocks::clocks_broken;
+pub use crate::faced::Faced;
+use crate::faults::faults_broken;
+use hypothesis::{Start, has_four_steady, sole_start, start_of};
+use ttp_base::NodeSet;
+use ttp_world::{Medl, Script};
+
+/// Whether a script keeps the rules under which one node may be two-faced: the slot of the start, or
+/// the first rule that is broken with the slot that is named for it.
+///
+/// 0. The node: slot 0 where the list has no such node.
+/// 1. Clocks: slot 0 where a drift is past the list's bound, else the first slot in which a node's
+///    reading errors add up to more than is allowed: the list's `error`, and in slots of the two-faced
+///    node from two rounds after the start on also `window` less [`bound`]. Where no node would start,
+///    or two would in the first slot of a start, `error` alone.
+/// 2. The window: slot 0 where it is narrower than the bound and one reading error more.
+/// 3. Faults: the first slot of a send or receive fault, a flipped bit or a jump.
+/// 4. The start: slot 0 where no node would start, two would in the first slot of a start, or a node
+///    comes on after it.
+/// 5. Nodes to measure: slot 0 where fewer than four nodes with `sync` are ever on.
+///
+/// Slots are counted from 0, as in the script. The start may lie past the run's last slot, and is the
+/// answer all the same. Takes no memory. Each slot costs a binary search in the script's index for each
+/// node, and the events are gone over once.
+pub fn find_faced(list: &Medl, script: &Script, node: u8) -> Faced
+    requires valid { IsValid list.now }
+    requires script { IsValidScript list.now script.now }
+    ensures { result ≡ faced_of list.now script.now node }
+{
+    if node >= list.nodes() {
+        return Faced::No { rule: 0, slot: 0 };
+    }
+    if let Some(slot) = clocks_broken(list, script, node, sole_start(list, script)) {
+        return Faced::No { rule: 1, slot };
+    }
+    if let Some(slot) = window_broken(list) {
+        return Faced::No { rule: 2, slot };
+    }
+    if let Some(slot) = faults_broken(script) {
+        return Faced::No { rule: 3, slot };
+    }
+    started_faced(list, script, start_of(list, script))
+}
+
+// Whether there are enough nodes to measure, where the cluster starts.
+fn started_faced(list: &Medl, script: &Script, start: Option<Start>) -> Faced
+    requires valid { IsValid list.now }
+    requires script { IsValidScript list.now script.now }
+    ensures { result ≡ started_faced list.now script.now (told_start_if start) }
+{
+    match start {
+        Some(start) if has_four_steady(list, script, NodeSet::empty()) => Faced::Yes {
+            start: start.slot,
+        },
+        Some(_) => Faced::No { rule: 5, slot: 0 },
+        None => Faced::No { rule: 4, slot: 0 },
+    }
+}

@@ -1,0 +1,99 @@
+//! Answers for lists and scripts as their files say them, worked out by hand from the rules.
+
+use crate::{Faced, bound, find_faced};
+use medl_text::read_medl;
+use script_text::read_script;
+use std::test::Fail;
+
+// Four nodes, of which node 0 starts in slot 8; their clocks drift by up to one microtick.
+const WIDE: &str =
+    "version = 1\nrounds = 1\nschedule = 0\nbuffers = 2\ndrift = 1\nerror = 0\nwindow = 64\n
+[[slot]]\nkinds = \"I\"\ndata = 0\nsync = true\nstart = true\n
+[[slot]]\nkinds = \"I\"\ndata = 0\nsync = true\nstart = false\n
+[[slot]]\nkinds = \"I\"\ndata = 0\nsync = true\nstart = false\n
+[[slot]]\nkinds = \"I\"\ndata = 0\nsync = true\nstart = false\n";
+
+const NARROW: &str =
+    "version = 1\nrounds = 1\nschedule = 0\nbuffers = 2\ndrift = 1\nerror = 0\nwindow = 49\n
+[[slot]]\nkinds = \"I\"\ndata = 0\nsync = true\nstart = true\n
+[[slot]]\nkinds = \"I\"\ndata = 0\nsync = true\nstart = false\n
+[[slot]]\nkinds = \"I\"\ndata = 0\nsync = true\nstart = false\n
+[[slot]]\nkinds = \"I\"\ndata = 0\nsync = true\nstart = false\n";
+
+// A list, a script, a node and the answer.
+type Case = (&'static str, &'static str, u8, Faced);
+
+const CASES: [Case; 9] = [
+    (
+        WIDE,
+        "slots 28\non 0 0\non 1 0\non 2 0\non 3 0\ndrift 0 1\nerror 0 14 19 19\nerror 1 -14 19 19\n",
+        3,
+        Faced::Yes { start: 8 },
+    ),
+    (
+        WIDE,
+        "slots 28\non 0 0\non 1 0\non 2 0\non 3 0\ndrift 0 1\nerror 0 15 19 19\nerror 1 -14 19 19\n",
+        3,
+        Faced::No { rule: 1, slot: 19 },
+    ),
+    (
+        WIDE,
+        "slots 28\non 0 0\non 1 0\non 2 0\non 3 0\ndrift 0 1\nerror 0 14 19 19\nerror 1 -14 19 19\n",
+        4,
+        Faced::No { rule: 0, slot: 0 },
+    ),
+    (
+        NARROW,
+        "slots 28\non 0 0\non 1 0\non 2 0\non 3 0\ndrift 0 1\n",
+        3,
+        Faced::No { rule: 2, slot: 0 },
+    ),
+    (
+        WIDE,
+        "slots 28\non 0 0\non 1 0\non 2 0\non 3 0\ndrift 0 2\nerror 0 15 19 19\n",
+        3,
+        Faced::No { rule: 1, slot: 0 },
+    ),
+    (
+        WIDE,
+        "slots 28\non 0 0\non 1 0\non 2 0\non 3 0\njump 1 500 21\nsend 3 AB noise 20 27\n",
+        3,
+        Faced::No { rule: 3, slot: 20 },
+    ),
+    (
+        WIDE,
+        "slots 28\non 0 0\non 1 9\non 2 0\non 3 0\n",
+        3,
+        Faced::No { rule: 4, slot: 0 },
+    ),
+    (
+        WIDE,
+        "slots 28\non 0 0\non 2 0\non 3 0\n",
+        3,
+        Faced::No { rule: 5, slot: 0 },
+    ),
+    (
+        WIDE,
+        "slots 5\non 0 0\non 1 0\non 2 0\non 3 0\n",
+        0,
+        Faced::Yes { start: 8 },
+    ),
+];
+
+#[test]
+fn rules_are_told_in_their_order(rt: HostRuntime) -> Result<(), Fail> {
+    for (list, script, node, answer) in CASES {
+        assert!(rt; script.len() <= 1_048_576);
+        let list = read_medl(rt.alloc(), list.as_bytes())?;
+        let read = read_script(rt.alloc(), &list, script.as_bytes())?;
+        assert_eq!(rt; find_faced(&list, &read, node), answer, "{script}");
+    }
+    Ok(())
+}
+
+#[test]
+fn bound_of_four_nodes(rt: HostRuntime) -> Result<(), Fail> {
+    let list = read_medl(rt.alloc(), WIDE.as_bytes())?;
+    assert_eq!(rt; bound(&list), 50);
+    Ok(())
+}
