@@ -1,0 +1,6 @@
+pub mod PayloadWords
+pub mod RingLists
+pub mod ReaderLists
+pub mod SettledRings
+pub mod LineQueues
+pub mod NewPorts

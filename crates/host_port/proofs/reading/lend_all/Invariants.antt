@@ -1,0 +1,11 @@
+use Rattle.std.proofs.Common.{◌≡◌, take, vec_len, vec_capacity, length}
+use Rattle.host_port.specs.Queues.{all_lent}
+use Rattle.host_port.proofs.reading.lend_all.Given as goal
+
+abbrev pub invariant-loop-place : goal.invariant-loop-place
+invariant-loop-place l = record {
+  writers : l.writers ≡ l.fn.writers;
+  readers : l.readers.items ≡ all_lent l.reads l.node 0 (take l.place l.fn.writers);
+  count : vec_len l.readers ≡ l.place;
+  room : vec_capacity l.readers ≡ length l.rings;
+}

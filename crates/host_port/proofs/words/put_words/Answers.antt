@@ -1,0 +1,16 @@
+use Rattle.std.proofs.Common.{◌++◌, ◌∷◌, [], sym, ◌∙◌, arith, zero-add}
+use Rattle.std.proofs.lemmas.List.{take_more_set, length-set}
+use Rattle.std.proofs.lemmas.List.FromFn.{map-range_with_len_more}
+use Rattle.ttp_world.specs.Words.{payload_word}
+use Rattle.host_port.proofs.words.put_words.Goals as goal
+
+pub loop-i-preserved : goal.loop-i-preserved
+loop-i-preserved c =
+    let bytes = c.args.bytes.now in
+    let words = c.loop-i.words in
+    let i = c.loop-i.i in (
+      length-set words i c.word_at.result ∙ c.loop-i.invariant.0,
+      take_more_set words i c.word_at.result (omega arith)
+          ∙ ((λ k. c.loop-i.invariant.1 k ++ c.word_at.ensures k ∷ [])
+          ∙ sym (map-range_with_len_more (payload_word bytes) 0 i i (zero-add i))),
+    )

@@ -1,0 +1,7 @@
+use Rattle.std.proofs.Common.{◌≡◌, map, take, length}
+use Rattle.ttp_base.specs.NodeSet.{below}
+use Rattle.ttp_world.specs.Words.{payload_word}
+use Rattle.host_port.proofs.words.put_words.Given as goal
+
+abbrev pub invariant-loop-i : goal.invariant-loop-i
+invariant-loop-i l = (length l.words ≡ 30) × (take l.i l.words ≡ map (payload_word l.bytes) (below l.i))

@@ -1,0 +1,8 @@
+use Rattle.std.proofs.Common.{◌≡◌, ◌<◌, ◌*◌, ◌+◌, ◌^◌, map, get_or}
+use Rattle.ttp_base.specs.NodeSet.{below}
+use Rattle.ttp_world.specs.Fitting.{number_in}
+use Rattle.host_port.proofs.words.word_at.Given as goal
+
+abbrev pub invariant-loop-j : goal.invariant-loop-j
+invariant-loop-j l =
+    (l.word ≡ number_in (map (λ j. get_or l.bytes (8 * l.i + j) 0) (below l.j))) × (l.word < 256 ^ l.j)

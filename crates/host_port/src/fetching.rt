@@ -1,0 +1,91 @@
+//! How a controller takes its host's newest message.
+ghost use Rattle.std.specs.Prelude.{◌≡◌, ◌+◌, ◌/◌, ◌≤◌, length, slice_get, IsSome, IsSomeAnd, IfOk, OnOk, OnErr};
+ghost use Rattle.nbw_ring.specs.Attempts.{number_of, OnGot, OnOverrun};
+ghost use Rattle.nbw_ring.specs.States.{new_reader};
+ghost use Rattle.host_port.specs.Rings.{IsHostEndOf};
+ghost use Rattle.host_port.specs.Fetching.{IsFetcherOf, IsWhole, HasSeen, joined};
+
+use crate::ends::HostEnd;
+use crate::port::Port;
+use nbw_ring::{Pair, Reader, Try};
+use std::marker::Model;
+use ttp_base::{Gate, Memory};
+
+/// A right to read the outgoing ring, with room for one message. It may go to another thread.
+///
+/// Contracts see it as the ring's reader.
+#[derive(Drop)]
+pub struct Fetcher {
+    reader: Reader,
+}
+
+impl Model for Fetcher {
+    ghost use Rattle.std.specs.Prelude.{◌≡◌, ◌+◌, length};
+    ghost use Rattle.nbw_ring.specs.States.{ReaderState};
+
+    ghost Value = { ReaderState };
+
+    ghost view = { λ f. f.reader };
+
+    ghost invariant = { λ f. length f.reader.got + f.reader.spare ≡ 1 };
+}
+
+impl Port {
+    /// A fetcher that gets no message older than the host's newest.
+    pub fn lend_fetch(&self, end: &mut HostEnd) -> Result<Fetcher, Memory>
+        requires own { IsHostEndOf self.now end.old }
+        requires ring { IsSome end.old }
+        ensures own { IfOk result (λ f. IsFetcherOf self.now f) }
+        ensures fetcher { IfOk result (λ f. IsSomeAnd end.old (λ w. f ≡ new_reader w 1)) }
+        ensures end { end.new ≡ end.old }
+    {
+        if let Some(ring) = &self.outgoing {
+            if let Some(writer) = &mut end.writer {
+                let reader = ring.lend(writer, 1)?;
+                return Ok(Fetcher { reader });
+            }
+        }
+        Err(Memory)
+    }
+
+    /// One attempt to read the newest message. A fetcher that got one has no room for another.
+    pub fn fetch<G: Gate>(&self, f: &mut Fetcher, gate: &G) -> Try
+        requires own { IsFetcherOf self.now f.old }
+        requires room { 1 ≤ f.old.spare }
+        ensures own { IsFetcherOf self.now f.new }
+        ensures ring { f.new.ring ≡ f.old.ring }
+        ensures tries { f.new.tries ≡ f.old.tries + 1 }
+        ensures later { f.old.seen ≤ f.new.first }
+        ensures forward { f.new.first ≤ f.new.seen }
+        ensures number { number_of result ≡ f.new.first / 2 }
+        ensures floor { f.old.floor ≤ number_of result }
+        ensures got { OnGot f.old f.new result }
+        ensures overrun { OnOverrun f.old f.new result }
+    {
+        match &self.outgoing {
+            Some(ring) => ring.try_read(&mut f.reader, gate),
+            None => Try::Got { number: 0 },
+        }
+    }
+
+    /// Takes a fetcher back, and hands out the pair that it got, if it got one.
+    pub fn settle_fetch(&self, end: &mut HostEnd, f: Fetcher) -> Result<Option<Pair>, Memory>
+        requires end { IsHostEndOf self.now end.old }
+        requires fetcher { IsFetcherOf self.now f }
+        ensures own { IsHostEndOf self.now end.new }
+        ensures pair { IfOk result (λ pair. pair ≡ slice_get f.got 0) }
+        ensures whole { OnOk result (IsSomeAnd end.old (λ w. IsWhole w f)) }
+        ensures seen { OnOk result (IsSomeAnd end.old (λ w. HasSeen w f)) }
+        ensures joined { OnOk result (end.new ≡ joined end.old f) }
+        ensures err { OnErr result (end.new ≡ end.old) }
+    {
+        let Fetcher { reader } = f;
+        if let Some(ring) = &self.outgoing {
+            if let Some(writer) = &mut end.writer {
+                let mut pairs = ring.settle(writer, reader)?.into_pairs().into_vec();
+                return Ok(pairs.pop());
+            }
+        }
+        Err(Memory)
+    }
+}

@@ -1,0 +1,15 @@
+//! The places of sources.
+ghost use Rattle.std.specs.Prelude.{◌≡◌};
+ghost use Rattle.host_port.specs.Rings.{place_of};
+
+use ttp_world::Source;
+
+/// The place of a source's ring among those that a host reads.
+pub(crate) fn place_of(source: Source) -> usize
+    ensures { result ≡ place_of source }
+{
+    match source {
+        Source::Status => 0,
+        Source::Node(k) => k as usize + 1,
+    }
+}

@@ -1,0 +1,93 @@
+//! What is written to a port's rings: status, delivered messages, and a host's messages.
+ghost use Rattle.std.specs.Prelude.{◌≡◌, ◌<◌, length, option_map, IsSomeAnd};
+ghost use Rattle.ttp_world.specs.declared.script.Source.TheVariants as source;
+ghost use Rattle.ttp_world.specs.Words.{words_of_payload};
+ghost use Rattle.host_port.specs.Rings.{at_source, IsControllerEndOf, IsHostEndOf};
+ghost use Rattle.host_port.specs.Writing.{written, written_at, HasRoom, Takes, IsNewest};
+
+use crate::ends::{ControllerEnd, HostEnd};
+use crate::port::Port;
+use crate::source::place_of;
+use crate::words::{MOST_WORDS, put_words};
+use nbw_ring::{Ring, Writer};
+use ttp_base::Gate;
+use ttp_world::{Delivered, Source, StatusWords};
+
+// Writes a message to a ring, and answers its number.
+fn write_words<G: Gate>(
+    ring: &Option<Ring>,
+    writer: &mut Option<Writer>,
+    words: &[u64],
+    gate: &G,
+) -> u64
+    requires own { option_map (λ w. w.ring) writer.old ≡ ring.now }
+    requires width { IsSomeAnd writer.old (λ w. length words.now ≡ w.ring.shape.width) }
+    requires room { HasRoom writer.old }
+    ensures written { writer.new ≡ written writer.old words.now }
+    ensures number { IsNewest writer.new result }
+{
+    if let Some(ring) = ring {
+        if let Some(writer) = writer {
+            ring.write(writer, words, gate);
+            return writer.number();
+        }
+    }
+    0
+}
+
+// The same of a payload.
+fn write_payload<G: Gate>(
+    ring: &Option<Ring>,
+    writer: &mut Option<Writer>,
+    payload: &[u8],
+    gate: &G,
+) -> u64
+    requires own { option_map (λ w. w.ring) writer.old ≡ ring.now }
+    requires payload { Takes writer.old (length payload.now) }
+    requires room { HasRoom writer.old }
+    ensures written { writer.new ≡ written writer.old (words_of_payload payload.now) }
+    ensures number { IsNewest writer.new result }
+{
+    let mut words = [0; MOST_WORDS];
+    let count = put_words(payload, &mut words);
+    write_words(ring, writer, &words[..count], gate)
+}
+
+impl Port {
+    /// Writes a node's status to its status ring.
+    pub fn publish<G: Gate>(&self, end: &mut ControllerEnd, status: &StatusWords, gate: &G)
+        requires own { IsControllerEndOf self.now end.old }
+        requires room { HasRoom (at_source end.old source.Status) }
+        ensures own { IsControllerEndOf self.now end.new }
+        ensures written { end.new ≡ written_at end.old source.Status status.now.words }
+    {
+        write_words(&self.incoming[0], &mut end.writers[0], &status.words, gate);
+    }
+
+    /// Writes a delivered payload to the ring of its sender, and answers the message's number there.
+    pub fn deliver<G: Gate>(&self, end: &mut ControllerEnd, got: &Delivered, gate: &G) -> u64
+        requires own { IsControllerEndOf self.now end.old }
+        requires payload { Takes (at_source end.old (source.Node got.now.sender)) (length got.now.payload) }
+        requires room { HasRoom (at_source end.old (source.Node got.now.sender)) }
+        ensures own { IsControllerEndOf self.now end.new }
+        ensures written { let words = words_of_payload got.now.payload in
+            end.new ≡ written_at end.old (source.Node got.now.sender) words }
+        ensures number { IsNewest (at_source end.new (source.Node got.now.sender)) result }
+    {
+        let place = place_of(Source::Node(got.sender));
+        let writer = &mut end.writers[place];
+        write_payload(&self.incoming[place], writer, got.payload.bytes(), gate)
+    }
+
+    /// Writes a host's message to its outgoing ring, and answers the message's number there.
+    pub fn host_write<G: Gate>(&self, end: &mut HostEnd, payload: &[u8], gate: &G) -> u64
+        requires own { IsHostEndOf self.now end.old }
+        requires payload { Takes end.old (length payload.now) }
+        requires room { HasRoom end.old }
+        ensures own { IsHostEndOf self.now end.new }
+        ensures written { end.new ≡ written end.old (words_of_payload payload.now) }
+        ensures number { IsNewest end.new result }
+    {
+        write_payload(&self.outgoing, &mut end.writer, payload, gate)
+    }
+}
