@@ -39,7 +39,7 @@ same_number bound z within few =
 
 -- The beginning. The clock of a controller between two slots is what it keeps.
 
-ended-clock : (seat : Seat) → seat.turn ≡ Ended → seat_clock seat ≡ seat.past.offset
+pub ended-clock : (seat : Seat) → seat.turn ≡ Ended → seat_clock seat ≡ seat.past.offset
 ended-clock seat ended = ap (λ turn. seat.past.offset +ℤ turn_jump turn) ended ∙ add-nothing seat.past.offset
   where
     add-nothing : (z : ℤ) → z +ℤ pos 0 ≡ z

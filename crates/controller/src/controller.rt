@@ -249,7 +249,8 @@ impl Controller {
 
     /// What is shown of the node after the newest slot.
     pub fn state(&self) -> NodeState
-        ensures { ShowsState self.now result }
+        ensures shows { ShowsState self.now result }
+        ensures clock { result.offset ≡ self.now.past.offset }
     {
         self.node.state()
     }

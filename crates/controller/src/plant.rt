@@ -1,7 +1,7 @@
 //! A plant: all controllers of a cluster and the medium between them, slot by slot.
 //!
 //! A slot is the three passes over all its controllers.
-ghost use Rattle.std.specs.Prelude.{◌≡◌, ◌<◌, ◌+◌, [], length, IfOk};
+ghost use Rattle.std.specs.Prelude.{◌≡◌, ◌<◌, ◌≤◌, ◌+◌, [], length, unsigned_abs, IfOk};
 ghost use Rattle.std.specs.Option.{option_copied};
 ghost use Rattle.ttp_world.specs.declared.script.Script.{Script};
 ghost use Rattle.ttp_world.specs.Medl.{IsValid};
@@ -178,10 +178,12 @@ impl Plant {
         self.slot += 1;
     }
 
-    /// What is shown of a node after the newest slot.
+    /// What is shown of a node after the newest slot. Its clock is no further from 0 than the slots so
+    /// far can have taken it.
     pub fn node(&self, k: u8) -> NodeState
         requires { k < length self.now.list.slots }
-        ensures { ShowsNode self.now k result }
+        ensures shows { ShowsNode self.now k result }
+        ensures near { unsigned_abs result.offset ≤ most_ahead self.now.slot }
     {
         self.controllers[k as usize].state()
     }

@@ -6,6 +6,8 @@
 //! script has one list of legal numbers ([`laws::one_run`]): each frame with payload carries message
 //! 0, the zeros.
 //!
+//! [`Run`] is such a run between two slots, for callers that ask for the nodes and write no text.
+//!
 //! All memory is taken before the first line is written, so a run that has begun ends with its last
 //! line or with a fault of the sink. The crate keeps of the past what the trace shows: how many
 //! messages each node has delivered of each other one.
@@ -15,4 +17,4 @@ mod deliveries;
 pub mod laws;
 mod run;
 
-pub use run::{RunFault, put_run};
+pub use run::{Run, RunFault, put_run};

@@ -1,15 +1,17 @@
 //! A run, slot by slot.
 ghost use Rattle.std.specs.Prelude.{◌≡◌, ◌==◌, ◌+◌, ◌^◌, ◌<◌, ◌≤◌, ℕ, if◌then◌else◌, length};
-ghost use Rattle.std.specs.Prelude.{replicate, IfOk, IfErr, IfSome, OnOk, OnErr, option_map};
+ghost use Rattle.std.specs.Prelude.{replicate, unsigned_abs, IfOk, IfErr, IfSome, OnOk, OnErr, option_map};
 ghost use Rattle.std.specs.Option.{option_copied};
 ghost use Rattle.ttp_base.specs.Outside.{WroteLines, CutShort};
 ghost use Rattle.ttp_world.specs.declared.script.Script.{Script};
 ghost use Rattle.ttp_world.specs.Medl.{IsValid};
 ghost use Rattle.ttp_world.specs.Script.{IsValidScript};
+ghost use Rattle.ttp_world.specs.Past.{state_of};
 ghost use Rattle.ttp_world.specs.Trace.{run_lines};
+ghost use Rattle.ttp_world.specs.World.{node_past};
 ghost use Rattle.controller.specs.PlantStands.{outcome_at};
 ghost use Rattle.plant_run.specs.Deliveries.{count_at, count_of};
-ghost use Rattle.plant_run.specs.FirstNumbers.{IsUnhosted, all_zeros, first_numbers};
+ghost use Rattle.plant_run.specs.FirstNumbers.{IsUnhosted, all_zeros, first_numbers, first_world};
 ghost use Rattle.plant_run.specs.RunAfter.{StandsAfter, HoldsDelivered, message_named, lines_after};
 ghost use Rattle.plant_run.specs.Wrote.{WroteRun, Leaves};
 
@@ -18,7 +20,9 @@ use controller::Plant;
 use std::alloc::Global;
 use trace_text::{put_header, put_node_line};
 use ttp_base::{Failed, Line, List, Memory, Sink};
-use ttp_world::{Chosen, Delivered, Entry, Medl, PAYLOAD_LIMIT, Payload, Script};
+use ttp_world::{
+    Chosen, Delivered, Entry, Medl, NodeState, PAYLOAD_LIMIT, Payload, SLOT_LIMIT, Script,
+};
 
 /// Why a run was not written to its end.
 #[derive(Clone, Copy, Debug, PartialEq, Eq)]
@@ -29,9 +33,9 @@ pub enum RunFault {
     Failed,
 }
 
-/// A run between two slots.
+/// A run between two slots, in which no host does anything.
 #[derive(Drop)]
-struct Run {
+pub struct Run {
     plant: Plant,
     // Message 0 of each node.
     zeros: List<Chosen>,
@@ -116,8 +120,8 @@ fn message_named(entry: &Entry, delivered: Option<u64>) -> Option<u64>
 }
 
 impl Run {
-    // The run of a list before its first slot. Only this call takes memory.
-    fn new(alloc: Global, list: &Medl) -> Result<Run, Memory>
+    /// The run of a list before its first slot. Only this call takes memory.
+    pub fn new(alloc: Global, list: &Medl) -> Result<Run, Memory>
         requires { IsValid list.now }
         ensures { (script : Script) → IfOk result (λ run. StandsAfter run list.now script 0) }
     {
@@ -128,8 +132,8 @@ impl Run {
         })
     }
 
-    // One slot.
-    fn step(&mut self, list: &Medl, script: &Script, slot: u32)
+    /// One slot, the first that the run has not done yet.
+    pub fn step(&mut self, list: &Medl, script: &Script, slot: u32)
         requires list { IsValid list.now }
         requires script { IsValidScript list.now script.now }
         requires slot { slot < script.now.slots }
@@ -139,6 +143,18 @@ impl Run {
     {
         self.plant.slot(list, script, self.zeros.as_slice());
         count_deliveries(&self.plant, list.nodes(), &mut self.deliveries);
+    }
+
+    /// What is shown of a node after the newest slot. Its clock is no further from 0 than 2^53 microticks.
+    pub fn node(&self, list: &Medl, node: u8) -> NodeState
+        requires list { self.now.plant.list ≡ list.now }
+        requires node { node < length list.now.slots }
+        ensures shows { (script : Script) (slots : ℕ) → StandsAfter self.now list.now script slots
+            → result ≡ state_of (node_past list.now script (first_world list.now script slots) node) }
+        ensures near { (script : Script) (slots : ℕ) → StandsAfter self.now list.now script slots → slots ≤ SLOT_LIMIT
+            → unsigned_abs result.offset ≤ 2 ^ 53 }
+    {
+        self.plant.node(node)
     }
 
     // One slot, and its lines, each formed in the same buffer.

@@ -1,2 +1,4 @@
 pub mod Faced
+pub mod Seen
+pub mod Spans
 pub mod WorkedCases

@@ -1,5 +1,6 @@
--- Lists and scripts of the cases that were worked out by hand: four nodes whose clocks drift by at most one microtick in
--- a slot. Node 0 starts in slot 8, so node 3 is due in slots 11, 15, 19 and so on, and two rounds have passed in slot 16.
+-- Lists and scripts of the cases that were worked out by hand: four nodes whose clocks drift by at most one microtick
+-- in a slot. Node 0 starts in slot 8, so node 3 is due in slots 11, 15, 19 and so on, and two rounds have passed in
+-- slot 16.
 use Rattle.std.specs.Prelude.{ℕ, ℤ, pos, true, false, List, [], ◌∷◌, replicate, Option, Some}
 use Rattle.ttp_world.specs.declared.medl.Kind.TheVariants as kind
 use Rattle.ttp_world.specs.declared.medl.Medl.{Medl}

@@ -1,6 +1,6 @@
 //! Answers for lists and scripts as their files say them, worked out by hand from the rules.
 
-use crate::{Faced, bound, find_faced};
+use crate::{Faced, Seen, bound, find_faced, find_seen};
 use medl_text::read_medl;
 use script_text::read_script;
 use std::test::Fail;
@@ -95,5 +95,46 @@ fn rules_are_told_in_their_order(rt: HostRuntime) -> Result<(), Fail> {
 fn bound_of_four_nodes(rt: HostRuntime) -> Result<(), Fail> {
     let list = read_medl(rt.alloc(), WIDE.as_bytes())?;
     assert_eq!(rt; bound(&list), 50);
+    Ok(())
+}
+
+// A script, a node, and what is seen beside it. In the first one node 0 notes 0, -4, -5 and 8 over the
+// round that ends with slot 19, corrects by -2 and shows 13; after slot 22 it shows 16 and node 1 shows 8.
+// Then the run ends before the start, one node alone is on beside node 3, and nobody may start.
+const DIFFERENCES: [(&str, u8, Seen); 4] = [
+    (
+        "slots 28\non 0 0\non 1 0\non 2 0\non 3 0\ndrift 0 1\nerror 0 14 19 19\nerror 1 -14 19 19\n",
+        3,
+        Seen { value: 8, slot: 22 },
+    ),
+    (
+        "slots 5\non 0 0\non 1 0\non 2 0\non 3 0\ndrift 0 1\n",
+        3,
+        Seen { value: 0, slot: 8 },
+    ),
+    (
+        "slots 28\non 0 0\non 3 0\ndrift 0 1\n",
+        3,
+        Seen { value: 0, slot: 8 },
+    ),
+    (
+        "slots 28\non 1 0\non 2 0\ndrift 1 1\n",
+        3,
+        Seen { value: 0, slot: 0 },
+    ),
+];
+
+#[test]
+fn differences_are_seen_beside_a_node(rt: HostRuntime) -> Result<(), Fail> {
+    let list = read_medl(rt.alloc(), WIDE.as_bytes())?;
+    for (script, node, seen) in DIFFERENCES {
+        assert!(rt; script.len() <= 1_048_576);
+        let read = read_script(rt.alloc(), &list, script.as_bytes())?;
+        assert_eq!(rt;
+            find_seen(rt.alloc(), &list, &read, node)?,
+            seen,
+            "{script}"
+        );
+    }
     Ok(())
 }

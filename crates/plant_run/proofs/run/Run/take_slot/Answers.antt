@@ -24,7 +24,7 @@ put_node_line-requires g c =
     let slot = c.args.slot in
     let node = c.loop-node.node in
     let state = state_shown list script slot node c.step.new.self c.node-state.result c.step.ensures.stands
-    c.node-state.ensures in
+    c.node-state.ensures.shows in
     subst (HasDigits list) (sym state)
     (state_of-digits list script (first_world list script (slot + 1)) node c.requires.list)
 
@@ -38,7 +38,7 @@ returns-in_err-put_node_line-clause-failed g c =
     let less : node < length list.slots = omega (arith, c.nodes-node-end.ensures) in
     let line = line_written list script slot node c.step.new.self c.node-state.result
     c.number_delivered-delivered.result c.message_named-message.result c.requires.list less
-    c.step.ensures.stands c.step.ensures.delivered c.node-state.ensures c.number_delivered-delivered.ensures
+    c.step.ensures.stands c.step.ensures.delivered c.node-state.ensures.shows c.number_delivered-delivered.ensures
     c.message_named-message.ensures in
     let before = first_world list script slot in
     rw failed.1
@@ -57,7 +57,7 @@ loop-node-preserved g c =
     let less : node < length list.slots = omega (arith, c.nodes-node-end.ensures) in
     let line = line_written list script slot node c.step.new.self c.node-state.result
     c.number_delivered-delivered.result c.message_named-message.result c.requires.list less
-    c.step.ensures.stands c.step.ensures.delivered c.node-state.ensures c.number_delivered-delivered.ensures
+    c.step.ensures.stands c.step.ensures.delivered c.node-state.ensures.shows c.number_delivered-delivered.ensures
     c.message_named-message.ensures in
     let before = first_world list script slot in
     WroteLines-each (g.K.Sink.output c.args.out.now) (g.K.Sink.output c.loop-node.out)

@@ -1,0 +1,11 @@
+use Rattle.std.proofs.Common.{◌≡◌}
+use Rattle.plant_run.specs.FirstNumbers.{first_world}
+use Rattle.plant_run.specs.RunAfter.{StandsAfter}
+use Rattle.two_faced.specs.Seen.{seen_in}
+use Rattle.two_faced.proofs.seen.seen_in.Given as goal
+
+-- the run stands for the world of the slots so far, and this was seen in it
+abbrev pub invariant-loop-slot : goal.invariant-loop-slot
+invariant-loop-slot l =
+    StandsAfter l.run l.list l.script l.slot
+    × (l.seen ≡ seen_in l.list l.script l.node l.start (first_world l.list l.script l.slot))
