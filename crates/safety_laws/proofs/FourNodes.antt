@@ -1,8 +1,18 @@
--- The list of the worked slots is valid.
-use Rattle.std.proofs.Common.{refl, arith}
+-- The list of the worked slots is valid, and what its nodes are and hear in a slot, by what was worked out.
+use Rattle.std.proofs.Common.{◌≡◌, ◌≢◌, ℕ, ◌<◌, List, length, refl, sym, subst, arith}
+use Rattle.std.specs.Prelude.{IsTrue}
 use Rattle.std.proofs.lemmas.Int.{ints}
+use Rattle.ttp_world.specs.declared.node.Phase.TheVariants as phase
+use Rattle.ttp_world.specs.declared.script.Script.{Script}
+use Rattle.ttp_world.specs.Medium.{Bits}
 use Rattle.ttp_world.specs.Medl.{IsValid}
-use Rattle.safety_laws.specs.WorkedSlots.{four_nodes}
+use Rattle.ttp_world.specs.Membership.{AreNodes}
+use Rattle.ttp_world.specs.Reception.{expected_length, is_within_window}
+use Rattle.safety_laws.specs.Heard.{OnBoth}
+use Rattle.safety_laws.specs.NodeSlot.{coming_place, owner_of}
+use Rattle.safety_laws.specs.SlotFrames.{slot_frame}
+use Rattle.safety_laws.specs.Turns.{IsAboutListed, IsJudging, HearsMembers, IsAtOwnSlot}
+use Rattle.safety_laws.specs.WorkedSlots.{four_nodes, at}
 
 pub four_nodes-valid : IsValid four_nodes
 four_nodes-valid = record {
@@ -29,4 +39,43 @@ four_nodes-valid = record {
     ),
   );
   sync = omega arith;
+}
+
+pub judging-at : (script : Script) (slot k : ℕ) (members : List ℕ) → k < 4 →
+    let x = at script slot k in
+    x.past.phase ≡ phase.Active → owner_of x < 4 → owner_of x ≢ k → x.past.members ≡ members
+    → AreNodes four_nodes members → IsAboutListed four_nodes x.past.ack → IsJudging x
+judging-at script slot k members node active owner other held nodes doubted = record {
+  valid = four_nodes-valid;
+  node = node;
+  active = active;
+  owner = owner;
+  other = other;
+  members = subst (AreNodes four_nodes) (sym held) nodes;
+  doubted = doubted;
+}
+
+pub own-at : (script : Script) (slot k : ℕ) (members : List ℕ) → k < 4 →
+    let x = at script slot k in
+    x.past.phase ≡ phase.Active → owner_of x ≡ k → x.past.members ≡ members → AreNodes four_nodes members
+    → IsAtOwnSlot x
+own-at script slot k members node active own held nodes = record {
+  valid = four_nodes-valid;
+  node = node;
+  active = active;
+  own = own;
+  members = subst (AreNodes four_nodes) (sym held) nodes;
+}
+
+pub hears-at : (script : Script) (slot k sender : ℕ) (members payload : List ℕ) →
+    let x = at script slot k in
+    length payload ≡ expected_length four_nodes (coming_place x) → AreNodes four_nodes members
+    → x.hearing.a ≡ Bits sender (slot_frame four_nodes (coming_place x) members payload)
+    → x.hearing.b ≡ Bits sender (slot_frame four_nodes (coming_place x) members payload)
+    → IsTrue (is_within_window four_nodes (x.hearing.deviation sender)) → HearsMembers x sender members
+hears-at script slot k sender members payload size nodes a b within = record {
+  bytes = slot_frame four_nodes (coming_place (at script slot k)) members payload;
+  frame = record { payload = payload; size = size; nodes = nodes; same = refl };
+  comes = OnBoth a b;
+  within = within;
 }

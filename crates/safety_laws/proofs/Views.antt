@@ -1,10 +1,12 @@
 -- At one place an undisturbed frame inside the window is seen by its members alone.
 use Rattle.std.proofs.Common.{◌≡◌, ◌≢◌, ℕ, ℤ, Bool, true, false, cond, ◌&&◌, List, [], Option, Some, None}
-use Rattle.std.proofs.Common.{refl, ap, sym, ◌∙◌, unwrap_or, option_map, arith}
-use Rattle.std.specs.Prelude.{IfSome}
+use Rattle.std.proofs.Common.{refl, ap, sym, ◌∙◌, unwrap_or, option_map, arith, neg_ℤ, ◌≤ℤ◌}
+use Rattle.std.specs.Prelude.{◌↔◌, IfSome, IsTrue, int_le}
 use Rattle.std.specs.Bool.{Decides}
 use Rattle.std.specs.Str.{bytes_eq}
+use Rattle.std.proofs.lemmas.Bool.{and_from}
 use Rattle.std.proofs.lemmas.Bool.Decides.{same_from_decides}
+use Rattle.std.proofs.lemmas.Int.{ints}
 use Rattle.std.proofs.lemmas.Slice.Eq.{bytes_eq-Decides}
 use Rattle.ttp_world.specs.declared.medl.Kind.{Kind}
 use Rattle.ttp_world.specs.declared.medl.Kind.TheVariants as kind
@@ -115,3 +117,18 @@ view_of_bits-cold_start list expected k deviation =
     bad_form (is_within_window list deviation) _ _
     (is_formed-other (member_width list) cold_start_header (cold_start_cstate k) [] list.schedule
     (expected_header list place) (expected_length list place) (cold_start≢ (kind_at list place.round place.slot)))
+
+-- What the window is.
+
+within-bounds : (w d : ℤ) → (int_le (neg_ℤ w) d && int_le d w) ≡ true → (neg_ℤ w ≤ℤ d) × (d ≤ℤ w)
+within-bounds w d within = (grind (arith, ints), grind (arith, ints))
+
+bounds-within : (w d : ℤ) → (neg_ℤ w ≤ℤ d) × (d ≤ℤ w) → (int_le (neg_ℤ w) d && int_le d w) ≡ true
+bounds-within w d bounds =
+    let low : neg_ℤ w ≤ℤ d = bounds.0 in
+    let high : d ≤ℤ w = bounds.1 in
+    and_from (int_le (neg_ℤ w) d) (int_le d w) (grind (arith, ints)) (grind (arith, ints))
+
+pub is_within_window-bounds : (list : Medl) (deviation : ℤ)
+    → IsTrue (is_within_window list deviation) ↔ ((neg_ℤ list.window ≤ℤ deviation) × (deviation ≤ℤ list.window))
+is_within_window-bounds list deviation = (within-bounds list.window deviation, bounds-within list.window deviation)

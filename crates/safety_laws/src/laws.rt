@@ -3,8 +3,8 @@
 //! For proofs to cite, each stands in a file of `proofs/`: `Views`, `Hearing` and `Senders`, `Joins`,
 //! `NodeSlots`, `WorldTurns`, `OneSender`, `Payloads`, `Verdicts`, `OwnSlots`, `Idle`, `Groups`,
 //! `Unanswered`, `Waiting`, `StartSlot` and `StartOf`.
-ghost use Rattle.std.specs.Prelude.{◌≡◌, ◌≢◌, ℕ, ◌<◌, ◌≤◌, ℤ, pos, ◌⊎◌, true, false, List, [], ◌∷◌, length, Option};
-ghost use Rattle.std.specs.Prelude.{IsTrue};
+ghost use Rattle.std.specs.Prelude.{◌≡◌, ◌≢◌, ◌↔◌, ℕ, ◌<◌, ◌≤◌, ℤ, pos, neg_ℤ, ◌≤ℤ◌, ◌⊎◌, true, false};
+ghost use Rattle.std.specs.Prelude.{List, [], ◌∷◌, length, Option, IsTrue};
 ghost use Rattle.ttp_base.specs.NodeSet.{has_node, with_node, without_node};
 ghost use Rattle.ttp_world.specs.declared.medl.Medl.{Medl};
 ghost use Rattle.ttp_world.specs.declared.node.Ack.TheVariants as ack;
@@ -41,7 +41,8 @@ ghost use Rattle.safety_laws.specs.Turns.{IsJudging, HearsMembers, HearsOutside,
 
 /// How an active node sees bits in another's slot. The frame that the list gives for the place at which
 /// the node itself stands, inside the window, is seen by the members of its sender alone, whichever
-/// kind it is of. A frame outside the window is bad, and so is a cold-start frame.
+/// kind it is of. A frame outside the window is bad, and so is a cold-start frame. The window reaches as
+/// far to both sides of 0, and both ends belong to it (`window`).
 pub fn views()
     ensures inside { (x : NodeSlot) (members bytes : List ℕ) (deviation : ℤ) → IsJudging x
         → IsSlotFrame x.list (coming_place x) members bytes → IsTrue (is_within_window x.list deviation)
@@ -49,6 +50,8 @@ pub fn views()
         ≡ view_of_members (candidates_of x) members }
     ensures outside { (x : NodeSlot) (bytes : List ℕ) (deviation : ℤ) → is_within_window x.list deviation ≡ false
         → view_of_bits x.list (expected_of x.list x.node x.past) bytes deviation ≡ view.Bad }
+    ensures window { (list : Medl) (deviation : ℤ) → IsTrue (is_within_window list deviation)
+        ↔ ((neg_ℤ list.window ≤ℤ deviation) × (deviation ≤ℤ list.window)) }
     ensures cold_start { (x : NodeSlot) (p : ℕ) (deviation : ℤ)
         → view_of_bits x.list (expected_of x.list x.node x.past) (cold_start_frame x.list p) deviation ≡ view.Bad }
 {}

@@ -1,6 +1,6 @@
 use Rattle.safety_laws.specs.NodeSlot.{coming_place, owner_of, candidates_of}
 use Rattle.safety_laws.proofs.ListedSets.{AreCandidates-node}
-use Rattle.safety_laws.proofs.Views.{view_of_bits-members, view_of_bits-cold_start}
+use Rattle.safety_laws.proofs.Views.{view_of_bits-members, view_of_bits-cold_start, is_within_window-bounds}
 use Rattle.ttp_world.specs.Reception.{expected_of}
 use Rattle.safety_laws.proofs.laws.views.Goals as goal
 
@@ -14,3 +14,6 @@ returns-clause-inside c = λ x members bytes deviation is frame within.
 pub returns-clause-cold_start : goal.returns-clause-cold_start
 returns-clause-cold_start c = λ x p deviation.
     view_of_bits-cold_start x.list (expected_of x.list x.node x.past) p deviation
+
+pub returns-clause-window : goal.returns-clause-window
+returns-clause-window c = is_within_window-bounds

@@ -1,28 +1,16 @@
-use Rattle.std.proofs.Common.{◌≡◌, [], ◌∷◌, refl, subst, arith}
+use Rattle.std.proofs.Common.{[], ◌∷◌, refl, arith}
 use Rattle.ttp_base.specs.NodeSet.{members_in, with_node}
-use Rattle.ttp_world.specs.Membership.{AreNodes}
 use Rattle.safety_laws.specs.Heard.{OnBoth}
 use Rattle.safety_laws.specs.NodeSlot.{coming_place}
 use Rattle.safety_laws.specs.SlotFrames.{slot_frame}
 use Rattle.safety_laws.specs.WorkedSlots.{four_nodes, jumping, at}
-use Rattle.safety_laws.proofs.FourNodes.{four_nodes-valid}
+use Rattle.safety_laws.proofs.FourNodes.{judging-at}
 use Rattle.safety_laws.proofs.worked_slots.a_jumped_clock.Goals as goal
-
-members-judging : 0 ∷ [] ≡ (at jumping 9 0).past.members
-unfolding members_in with_node
-members-judging = refl
 
 pub returns-clause-judging : goal.returns-clause-judging
 unfolding members_in with_node
-returns-clause-judging c = record {
-  valid = four_nodes-valid;
-  node = omega arith;
-  active = refl;
-  owner = omega arith;
-  other = λ same. cc;
-  members = subst (AreNodes four_nodes) members-judging refl;
-  doubted = tt;
-}
+returns-clause-judging c =
+    judging-at jumping 9 0 (0 ∷ []) (omega arith) refl (omega arith) (λ same. cc) refl refl tt
 
 pub returns-clause-hears : goal.returns-clause-hears
 unfolding members_in with_node

@@ -1,19 +1,12 @@
-use Rattle.std.proofs.Common.{◌≡◌, ◌≢◌, ◌<◌, ℕ, zero, suc, [], ◌∷◌, length, refl, subst, arith}
+use Rattle.std.proofs.Common.{◌≡◌, ◌≢◌, ◌<◌, ℕ, zero, suc, [], ◌∷◌, length, refl, arith}
 use Rattle.ttp_base.specs.NodeSet.{members_in, with_node}
 use Rattle.ttp_world.specs.declared.node.Ack.TheVariants as ack
-use Rattle.ttp_world.specs.Membership.{AreNodes}
 use Rattle.safety_laws.specs.Groups.{Lacks}
-use Rattle.safety_laws.specs.Heard.{OnBoth}
-use Rattle.safety_laws.specs.NodeSlot.{coming_place, frames_made}
-use Rattle.safety_laws.specs.SlotFrames.{slot_frame}
+use Rattle.safety_laws.specs.NodeSlot.{frames_made}
 use Rattle.safety_laws.specs.WorkedSlots.{four_nodes, faultless, silent, at}
-use Rattle.safety_laws.proofs.FourNodes.{four_nodes-valid}
+use Rattle.safety_laws.proofs.FourNodes.{own-at, hears-at}
 use Rattle.safety_laws.proofs.Groups.{holds-by}
 use Rattle.safety_laws.proofs.worked_slots.one_group.Goals as goal
-
-members-sender : 0 ∷ [] ≡ (at faultless 9 1).past.members
-unfolding members_in with_node
-members-sender = refl
 
 members-starter : (at faultless 9 0).past.members ≡ 0 ∷ []
 unfolding members_in with_node
@@ -42,13 +35,7 @@ others (suc (suc (suc (suc k)))) node other = absurd (omega arith)
 pub returns-clause-sends : goal.returns-clause-sends
 unfolding members_in with_node
 returns-clause-sends c = record {
-  own = record {
-    valid = four_nodes-valid;
-    node = omega arith;
-    active = refl;
-    own = refl;
-    members = subst (AreNodes four_nodes) members-sender refl;
-  };
+  own = own-at faultless 9 1 (0 ∷ []) (omega arith) refl refl refl refl;
   closed = refl;
   accepted = omega arith;
   payload = λ carries. refl;
@@ -66,12 +53,7 @@ pub returns-clause-no_answer : goal.returns-clause-no_answer
 unfolding members_in with_node
 returns-clause-no_answer c =
     Lacks 2 (0 ∷ 2 ∷ [])
-    (record {
-      bytes = slot_frame four_nodes (coming_place (at silent 10 1)) (0 ∷ 2 ∷ []) (0 ∷ []);
-      frame = record { payload = 0 ∷ []; size = refl; nodes = refl; same = refl };
-      comes = OnBoth refl refl;
-      within = refl;
-    })
+    (hears-at silent 10 1 2 (0 ∷ 2 ∷ []) (0 ∷ []) refl refl refl refl refl)
     refl
 
 pub returns-clause-unacknowledged : goal.returns-clause-unacknowledged

@@ -1,23 +1,13 @@
-use Rattle.std.proofs.Common.{◌≡◌, [], ◌∷◌, refl, subst, arith}
+use Rattle.std.proofs.Common.{[], ◌∷◌, refl, arith}
 use Rattle.ttp_base.specs.NodeSet.{members_in, with_node}
-use Rattle.ttp_world.specs.Membership.{AreNodes}
-use Rattle.safety_laws.specs.WorkedSlots.{four_nodes, faultless, silent_and_deaf, alone, at}
-use Rattle.safety_laws.proofs.FourNodes.{four_nodes-valid}
+use Rattle.safety_laws.specs.WorkedSlots.{faultless, silent_and_deaf, alone}
+use Rattle.safety_laws.proofs.FourNodes.{own-at}
 use Rattle.safety_laws.proofs.worked_slots.own_slots.Goals as goal
-
-members-own : 0 ∷ 1 ∷ [] ≡ (at faultless 10 2).past.members
-unfolding members_in with_node
-members-own = refl
 
 pub returns-clause-own : goal.returns-clause-own
 unfolding members_in with_node
-returns-clause-own c = record {
-  valid = four_nodes-valid;
-  node = omega arith;
-  active = refl;
-  own = refl;
-  members = subst (AreNodes four_nodes) members-own refl;
-}
+returns-clause-own c =
+    own-at faultless 10 2 (0 ∷ 1 ∷ []) (omega arith) refl refl refl refl
 
 pub returns-clause-closed : goal.returns-clause-closed
 unfolding members_in with_node
@@ -31,19 +21,10 @@ pub returns-clause-sends : goal.returns-clause-sends
 unfolding members_in with_node
 returns-clause-sends c = refl
 
-members-own_again : 1 ∷ [] ≡ (at silent_and_deaf 13 1).past.members
-unfolding members_in with_node
-members-own_again = refl
-
 pub returns-clause-own_again : goal.returns-clause-own_again
 unfolding members_in with_node
-returns-clause-own_again c = record {
-  valid = four_nodes-valid;
-  node = omega arith;
-  active = refl;
-  own = refl;
-  members = subst (AreNodes four_nodes) members-own_again refl;
-}
+returns-clause-own_again c =
+    own-at silent_and_deaf 13 1 (1 ∷ []) (omega arith) refl refl refl refl
 
 pub returns-clause-waits : goal.returns-clause-waits
 unfolding members_in with_node
@@ -53,19 +34,10 @@ pub returns-clause-unacknowledged : goal.returns-clause-unacknowledged
 unfolding members_in with_node
 returns-clause-unacknowledged c = refl
 
-members-starter : 0 ∷ [] ≡ (at alone 12 0).past.members
-unfolding members_in with_node
-members-starter = refl
-
 pub returns-clause-starter : goal.returns-clause-starter
 unfolding members_in with_node
-returns-clause-starter c = record {
-  valid = four_nodes-valid;
-  node = omega arith;
-  active = refl;
-  own = refl;
-  members = subst (AreNodes four_nodes) members-starter refl;
-}
+returns-clause-starter c =
+    own-at alone 12 0 (0 ∷ []) (omega arith) refl refl refl refl
 
 pub returns-clause-cold_start : goal.returns-clause-cold_start
 unfolding members_in with_node
