@@ -6,6 +6,7 @@ ghost use Rattle.ttp_world.specs.Hypothesis.{window_broken};
 ghost use Rattle.ttp_world.specs.Medl.{IsValid};
 ghost use Rattle.ttp_world.specs.Script.{drift_of, IsWithinSpan, IsValidScript};
 
+use crate::incidents::{LastLookUps, no_look_ups};
 use precision::needed;
 use ttp_world::{DRIFT_LIMIT, Medl, Script};
 
@@ -41,12 +42,13 @@ fn drifts_hold(list: &Medl, script: &Script) -> bool
 }
 
 // Whether each node's reading errors of a slot add up to no more than the list's.
-fn errors_hold_in(list: &Medl, script: &Script, slot: u32) -> bool
+fn errors_hold_in(list: &Medl, script: &Script, slot: u32, last: &mut LastLookUps) -> bool
     requires { IsValid list.now }
     ensures { result ≡ errors_hold_in list.now script.now slot }
 {
     for node in 0..list.nodes() {
-        if !is_within_bound(list.error, script.incidents(node, slot).error) {
+        let incidents = script.incidents_after(node, slot, &mut last.nodes[node as usize]);
+        if !is_within_bound(list.error, incidents.error) {
             return false;
         }
     }
@@ -63,8 +65,9 @@ pub(crate) fn clocks_broken(list: &Medl, script: &Script) -> Option<u32>
     if !drifts_hold(list, script) {
         return Some(0);
     }
+    let mut last = no_look_ups();
     for slot in 0..script.slots {
-        if !errors_hold_in(list, script, slot) {
+        if !errors_hold_in(list, script, slot, &mut last) {
             return Some(slot);
         }
     }

@@ -15,6 +15,7 @@ mod node_line;
 mod put;
 mod words;
 
+pub use node_line::NodeLines;
 pub use put::{put_header, put_keep, put_node_line};
 
 #[cfg(test)]
