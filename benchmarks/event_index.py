@@ -38,7 +38,7 @@ use std::alloc::Global;
 use std::io;
 use std::time::{Clock, Instant};
 use ttp_base::{List, Memory};
-use ttp_world::{Event, Events, Script};
+use ttp_world::{Event, Events, LastLookUp, Script};
 
 fn event_of(i: u32, nodes: u8, slots: u32, whole: bool) -> Event
     requires { (0 < nodes) × (0 < slots) }
@@ -69,9 +69,11 @@ fn events_of(alloc: Global, nodes: u8, slots: u32, count: u32, whole: bool) -> R
 #[inline(never)]
 fn sum_of(script: &Script, nodes: u8, slots: u32) -> i64 {
     let mut sum = 0i64;
+    let mut last = [LastLookUp::none(); 256];
     for slot in 0..slots {
         for node in 0..nodes {
-            sum = sum.wrapping_add(script.incidents(node, slot).error);
+            let incidents = script.incidents_after(node, slot, &mut last[node as usize]);
+            sum = sum.wrapping_add(incidents.error);
         }
     }
     sum

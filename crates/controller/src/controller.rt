@@ -19,7 +19,7 @@ use medium::{Arrival, Outgoing};
 use std::alloc::Global;
 use std::marker::Model;
 use ttp_base::Memory;
-use ttp_world::{Act, Delivered, Medl, NodeState, StatusWords};
+use ttp_world::{Act, Delivered, LastLookUp, Medl, NodeState, StatusWords};
 
 /// What a node's next plan sends.
 #[derive(Clone, Copy, Debug, PartialEq, Eq)]
@@ -73,6 +73,8 @@ pub struct Controller {
     turn: Turn,
     // What the next plan sends.
     intent: Intent,
+    // Where what happens to the node was looked up last.
+    last: LastLookUp,
 }
 
 impl Model for Controller {
@@ -110,7 +112,19 @@ impl Controller {
             slots: 0,
             turn: Turn::Ended,
             intent: Intent::Quiet,
+            last: LastLookUp::none(),
         })
+    }
+
+    // Where what happens to the node was looked up last. The passes keep it here, and nothing rests on it.
+    pub(crate) fn last_look_up(&self) -> LastLookUp {
+        self.last
+    }
+
+    pub(crate) fn keep_look_up(&mut self, last: LastLookUp)
+        ensures { self.new ≡ self.old }
+    {
+        self.last = last;
     }
 
     /// The beginning of a slot, in which the node is to be on or not, is armed to listen again or

@@ -45,8 +45,10 @@ fn begin_one(
     ensures seat { IsSeatOf list.now IsBegun (most_ahead_in slot) k controller.new }
     ensures begins { BeginsSlot list.now script.now slot k controller.old controller.new }
 {
-    let incidents = script.incidents(k, slot);
+    let mut last = controller.last_look_up();
+    let incidents = script.incidents_after(k, slot, &mut last);
     controller.begin(list, script.is_on(k, slot), incidents.armed, incidents.jump);
+    controller.keep_look_up(last);
     incidents
 }
 

@@ -7,6 +7,7 @@ ghost use Rattle.ttp_world.specs.Medl.{IsValid};
 ghost use Rattle.ttp_world.specs.Script.{drift_of, IsWithinSpan, IsValidScript};
 ghost use Rattle.hypothesis.specs.Errors.{errors_hold_within};
 
+use crate::incidents::{LastLookUps, no_look_ups};
 use precision::needed;
 use ttp_world::{DRIFT_LIMIT, Medl, Script};
 
@@ -41,6 +42,27 @@ pub fn drifts_hold(list: &Medl, script: &Script) -> bool
     true
 }
 
+// Whether each node's reading errors of a slot add up to no more than a bound, looked up after the last slot's.
+fn errors_within(
+    list: &Medl,
+    script: &Script,
+    bound: i64,
+    slot: u32,
+    last: &mut LastLookUps,
+) -> bool
+    requires valid { IsValid list.now }
+    requires bound { pos 0 ≤ℤ bound }
+    ensures { result ≡ errors_hold_within list.now script.now bound slot }
+{
+    for node in 0..list.nodes() {
+        let incidents = script.incidents_after(node, slot, &mut last.nodes[node as usize]);
+        if !is_within_bound(bound, incidents.error) {
+            return false;
+        }
+    }
+    true
+}
+
 /// Whether each node's reading errors of a slot add up to no more than a bound, either way, in
 /// microticks. Costs a binary search for each node.
 pub fn errors_hold_within(list: &Medl, script: &Script, bound: i64, slot: u32) -> bool
@@ -48,20 +70,15 @@ pub fn errors_hold_within(list: &Medl, script: &Script, bound: i64, slot: u32) -
     requires bound { pos 0 ≤ℤ bound }
     ensures { result ≡ errors_hold_within list.now script.now bound slot }
 {
-    for node in 0..list.nodes() {
-        if !is_within_bound(bound, script.incidents(node, slot).error) {
-            return false;
-        }
-    }
-    true
+    errors_within(list, script, bound, slot, &mut no_look_ups())
 }
 
 // Whether each node's reading errors of a slot add up to no more than the list's.
-fn errors_hold_in(list: &Medl, script: &Script, slot: u32) -> bool
+fn errors_hold_in(list: &Medl, script: &Script, slot: u32, last: &mut LastLookUps) -> bool
     requires { IsValid list.now }
     ensures { result ≡ errors_hold_in list.now script.now slot }
 {
-    errors_hold_within(list, script, list.error, slot)
+    errors_within(list, script, list.error, slot, last)
 }
 
 /// The slot that is named where a drift or a sum of reading errors is past its bound: 0 for a
@@ -74,8 +91,9 @@ pub(crate) fn clocks_broken(list: &Medl, script: &Script) -> Option<u32>
     if !drifts_hold(list, script) {
         return Some(0);
     }
+    let mut last = no_look_ups();
     for slot in 0..script.slots {
-        if !errors_hold_in(list, script, slot) {
+        if !errors_hold_in(list, script, slot, &mut last) {
             return Some(slot);
         }
     }

@@ -36,13 +36,12 @@ mod steady;
 mod walk;
 
 pub use crate::clocks::{drifts_hold, errors_hold_within};
+use crate::clocks::{clocks_broken, window_broken};
 pub use crate::losses::expected_sender;
 pub use crate::nodes::lesser;
+use crate::outside::outside_broken;
 pub use crate::start::{Start, sole_start, start_of};
 pub use crate::steady::has_four_steady;
-
-use crate::clocks::{clocks_broken, window_broken};
-use crate::outside::outside_broken;
 use crate::walk::started_keep;
 use ttp_world::{Keep, Medl, Script};
 
@@ -63,8 +62,9 @@ use ttp_world::{Keep, Medl, Script};
 ///    with `sync` are ever on and not faulty; that of the start also where they are too few at it.
 ///
 /// Slots are counted from 0, as in the script. The start may lie past the run's last slot, and is the
-/// answer all the same. Takes no memory. Each slot costs two binary searches in the script's index for
-/// each node, and the events are gone over twice, with one more search for each jump.
+/// answer all the same. Takes no memory. Each slot costs two look-ups in the script's index for each
+/// node, which begin where those of the slot before ended, and the events are gone over twice, with a
+/// binary search for each jump.
 pub fn keeps(list: &Medl, script: &Script) -> Keep
     requires valid { IsValid list.now }
     requires script { IsValidScript list.now script.now }

@@ -11,7 +11,7 @@ ghost use Rattle.hypothesis.specs.Standing.{told_start, AreFaultyBefore};
 ghost use Rattle.hypothesis.specs.Walks.{HasWalked};
 
 use crate::distances::{earliest_with, early_with};
-use crate::incidents::incidents_in;
+use crate::incidents::{LastLookUps, incidents_in, no_look_ups};
 use crate::losses::{is_breaking, jumpers_in, loss_in, nodes_made, united};
 use crate::start::Start;
 use crate::steady::unsteady_with;
@@ -44,7 +44,14 @@ struct Walk {
 }
 
 // What a slot makes of the nodes that were faulty before it.
-fn faults_in(list: &Medl, script: &Script, start: Start, slot: u32, faulty: NodeSet) -> SlotFaults
+fn faults_in(
+    list: &Medl,
+    script: &Script,
+    start: Start,
+    slot: u32,
+    faulty: NodeSet,
+    last: &mut LastLookUps,
+) -> SlotFaults
     requires valid { IsValid list.now }
     requires script { IsValidScript list.now script.now }
     requires inside { outside_broken list.now script.now ≡ None }
@@ -54,7 +61,7 @@ fn faults_in(list: &Medl, script: &Script, start: Start, slot: u32, faulty: Node
         (faulty_nodes_before list.now script.now (told_start start) slot)) }
     ensures breaks { result.breaks ≡ breaks_in list.now script.now (told_start start) slot }
 {
-    let incidents = incidents_in(list, script, slot);
+    let incidents = incidents_in(list, script, slot, last);
     let jumpers = jumpers_in(list, script, &incidents, faulty, slot);
     let fallen = united(jumpers, faulty);
     let loss = loss_in(list, script, start, &incidents, fallen, slot);
@@ -82,7 +89,14 @@ fn first_walk(list: &Medl, start: Start) -> Walk
 }
 
 // The walk over one slot more, unless the slot's losses are those of more than one fault.
-fn walk_over(list: &Medl, script: &Script, start: Start, slot: u32, walk: Walk) -> Option<Walk>
+fn walk_over(
+    list: &Medl,
+    script: &Script,
+    start: Start,
+    slot: u32,
+    walk: Walk,
+    last: &mut LastLookUps,
+) -> Option<Walk>
     requires valid { IsValid list.now }
     requires script { IsValidScript list.now script.now }
     requires inside { outside_broken list.now script.now ≡ None }
@@ -92,7 +106,7 @@ fn walk_over(list: &Medl, script: &Script, start: Start, slot: u32, walk: Walk) 
         ((slot < script.now.slots) × (breaks_in list.now script.now (told_start start) slot ≡ true))
         (λ walk. HasWalked list.now script.now (told_start start) (slot + 1) walk) }
 {
-    let faults = faults_in(list, script, start, slot, walk.faulty);
+    let faults = faults_in(list, script, start, slot, walk.faulty, last);
     let is_within_run = slot < script.slots;
     if is_within_run && faults.breaks {
         return None;
@@ -130,8 +144,9 @@ pub(crate) fn started_keep(list: &Medl, script: &Script, start: Start) -> Keep
     ensures { result ≡ started_keep list.now script.now (Some (told_start start)) }
 {
     let mut walk = first_walk(list, start);
+    let mut last = no_look_ups();
     for slot in 0..script.slots.max(start.slot) {
-        match walk_over(list, script, start, slot, walk) {
+        match walk_over(list, script, start, slot, walk, &mut last) {
             Some(next) => walk = next,
             None => return Keep::No { rule: 5, slot },
         }

@@ -18,8 +18,8 @@ ghost use Rattle.plant_run.specs.Wrote.{WroteRun, Leaves};
 use crate::deliveries::Deliveries;
 use controller::Plant;
 use std::alloc::Global;
-use trace_text::{put_header, put_node_line};
-use ttp_base::{Failed, Line, List, Memory, Sink};
+use trace_text::{NodeLines, put_header, put_node_line};
+use ttp_base::{Failed, List, Memory, Sink};
 use ttp_world::{
     Chosen, Delivered, Entry, Medl, NodeState, PAYLOAD_LIMIT, Payload, SLOT_LIMIT, Script,
 };
@@ -157,13 +157,13 @@ impl Run {
         self.plant.node(node)
     }
 
-    // One slot, and its lines, each formed in the same buffer.
+    // One slot, and its lines, which are formed one after another in the same place.
     fn take_slot<K: Sink>(
         &mut self,
         list: &Medl,
         script: &Script,
         slot: u32,
-        line: &mut Line,
+        lines: &mut NodeLines,
         out: &mut K,
     ) -> Result<(), Failed>
         requires list { IsValid list.now }
@@ -177,11 +177,12 @@ impl Run {
             (lines_after list.now script.now slot)) }
     {
         self.step(list, script, slot);
+        lines.begin(slot);
         for node in 0..list.nodes() {
             let state = self.plant.node(node);
             let delivered = number_delivered(&self.plant, &self.deliveries, node);
             let message = message_named(&state.entry, delivered);
-            put_node_line(list, slot, node, &state, message, line, out)?;
+            put_node_line(list, node, &state, message, lines, out)?;
         }
         Ok(())
     }
@@ -198,9 +199,9 @@ impl Run {
             (run_lines list.now script.now (first_numbers list.now script.now script.now.slots))) }
     {
         put_header(list, script, out)?;
-        let mut line = Line::new();
+        let mut lines = NodeLines::new();
         for slot in 0..script.slots {
-            self.take_slot(list, script, slot, &mut line, out)?;
+            self.take_slot(list, script, slot, &mut lines, out)?;
         }
         Ok(())
     }

@@ -19,6 +19,7 @@ mod put;
 mod words;
 
 pub use host_line::RingMessage;
+pub use node_line::NodeLines;
 pub use put::{put_header, put_keep, put_node_line, put_read_line, put_write_line};
 
 #[cfg(test)]

@@ -1,5 +1,5 @@
 //! The lines, written.
-ghost use Rattle.std.specs.Prelude.{[], ◌∷◌, OnOk, OnErr};
+ghost use Rattle.std.specs.Prelude.{◌≡◌, [], ◌∷◌, OnOk, OnErr};
 ghost use Rattle.ttp_base.specs.Outside.{WroteLines, CutShort};
 ghost use Rattle.ttp_world.specs.Medl.{IsValid};
 ghost use Rattle.ttp_world.specs.Trace.{trace_head, keep_line};
@@ -9,8 +9,8 @@ ghost use Rattle.trace_text.specs.LineParts.{HasDigits, listed_line};
 use crate::head_line::head_line;
 use crate::host_line::{RingMessage, make_read_line, make_write_line};
 use crate::keep_line::keep_line;
-use crate::node_line::make_node_line;
-use ttp_base::{Failed, Line, Sink};
+use crate::node_line::NodeLines;
+use ttp_base::{Failed, Sink};
 use ttp_world::{Keep, Medl, NodeState, Script};
 
 /// Writes the first line of a trace, as one piece. `Failed` is the sink's: some first bytes of the
@@ -25,29 +25,27 @@ pub fn put_header<K: Sink>(list: &Medl, script: &Script, out: &mut K) -> Result<
     out.write(head_line(list, script).bytes())
 }
 
-/// Writes the line of a node after a slot, as one piece. The message is the one that the node's
-/// frame carried, or the number of the one that the node delivered in its ring.
+/// Writes the line of a node after a slot, that of `lines`, as one piece. The message is the one that
+/// the node's frame carried, or the number of the one that the node delivered in its ring.
 ///
-/// The line is formed in `line`, which is emptied first, whatever it holds: a caller that writes
-/// many lines makes one for all of them. `Failed` is the sink's: some first bytes of the line were
-/// written, or none. Takes no memory.
+/// The line is formed in `lines`: a caller makes one for all lines of a run, and begins each slot in
+/// it. `Failed` is the sink's: some first bytes of the line were written, or none. Takes no memory.
 pub fn put_node_line<K: Sink>(
     list: &Medl,
-    slot: u32,
     node: u8,
     state: &NodeState,
     message: Option<u64>,
-    line: &mut Line,
+    lines: &mut NodeLines,
     out: &mut K,
 ) -> Result<(), Failed>
     requires { HasDigits list.now state.now }
+    ensures slot { lines.new ≡ lines.old }
     ensures ok { OnOk result (WroteLines (K.output out.old) (K.output out.new)
-        (listed_line list.now slot node state.now message ∷ [])) }
+        (listed_line list.now lines.old node state.now message ∷ [])) }
     ensures failed { OnErr result (CutShort (K.output out.old) (K.output out.new)
-        (listed_line list.now slot node state.now message ∷ [])) }
+        (listed_line list.now lines.old node state.now message ∷ [])) }
 {
-    make_node_line(list, slot, node, state, message, line);
-    out.write(line.bytes())
+    lines.put(list, node, state, message, out)
 }
 
 /// Writes the line of a message that a host wrote in a slot, as one piece. The number is the message's

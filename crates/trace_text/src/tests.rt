@@ -2,8 +2,7 @@
 ghost use Rattle.std.specs.Prelude.{◌≡◌};
 
 use crate::host_line::{make_read_line, make_write_line};
-use crate::node_line::make_node_line;
-use crate::{RingMessage, put_keep, put_node_line, put_read_line, put_write_line};
+use crate::{NodeLines, RingMessage, put_keep, put_node_line, put_read_line, put_write_line};
 use std::test::Fail;
 use ttp_base::{Line, List, MemorySink, NodeSet};
 use ttp_world::{Ack, CState, Entry, Keep, Medl, NodeState, Phase, Reason, Source, Verdict};
@@ -69,7 +68,7 @@ fn idle(phase: Phase, entry: Entry) -> NodeState {
 }
 
 #[test]
-fn active_nodes(rt: HostRuntime) {
+fn active_nodes(rt: HostRuntime) -> Result<(), Fail> {
     let narrow = list(&rt, 1);
     let sent = Entry::Sent { message: Some(1) };
     let bare = Entry::Sent { message: None };
@@ -137,17 +136,20 @@ fn active_nodes(rt: HostRuntime) {
         "slot 24 node 1 null peer 2 msg - mem 001b acc 2 rej 0 ack none clock 0\n",
         "slot 24 node 3 incorrect peer 2 msg - mem 001b acc 2 rej 1 ack first clock 0\n",
     ];
-    let mut line = Line::new();
+    let mut newest = NodeLines::new();
     for (row, text) in rows.iter().zip(lines.iter()) {
         let (slot, node, state, message) = *row;
+        let mut out = MemorySink::new(rt.alloc(), 111, List::new(rt.alloc()))?;
         assert!(rt; state.members.bits() < 65_536);
-        make_node_line(&narrow, slot, node, &state, message, &mut line);
-        assert!(rt; line.bytes() == text.as_bytes(), "{text}");
+        newest.begin(slot);
+        assert!(rt; put_node_line(&narrow, node, &state, message, &mut newest, &mut out).is_ok());
+        assert!(rt; out.bytes() == text.as_bytes(), "{text}");
     }
+    Ok(())
 }
 
 #[test]
-fn other_nodes(rt: HostRuntime) {
+fn other_nodes(rt: HostRuntime) -> Result<(), Fail> {
     let narrow = list(&rt, 1);
     let off = Phase::Off;
     let listening = Phase::Listening;
@@ -170,19 +172,59 @@ fn other_nodes(rt: HostRuntime) {
         "slot 31 node 1 clique peer 1 msg - mem 0000 acc 0 rej 0 ack none clock 0\n",
         "slot 32 node 1 gone peer - msg - mem 0000 acc 0 rej 0 ack none clock 0\n",
     ];
-    let mut line = Line::new();
+    let mut newest = NodeLines::new();
     for (row, text) in rows.iter().zip(lines.iter()) {
         let (slot, node, state) = *row;
+        let mut out = MemorySink::new(rt.alloc(), 111, List::new(rt.alloc()))?;
         assert!(rt; state.members.bits() < 65_536);
-        make_node_line(&narrow, slot, node, &state, None, &mut line);
-        assert!(rt; line.bytes() == text.as_bytes(), "{text}");
+        newest.begin(slot);
+        assert!(rt; put_node_line(&narrow, node, &state, None, &mut newest, &mut out).is_ok());
+        assert!(rt; out.bytes() == text.as_bytes(), "{text}");
     }
+    Ok(())
+}
+
+// Nodes of one slot that judge it alike, and then otherwise in one thing after another.
+#[test]
+fn lines_of_one_slot(rt: HostRuntime) -> Result<(), Fail> {
+    let narrow = list(&rt, 1);
+    let four = four_members();
+    let all = four.with(2);
+    let rows: [(u8, Entry, NodeSet, Option<u64>); 8] = [
+        (0, judged(2, Verdict::Correct), all, Some(2)),
+        (1, judged(2, Verdict::Correct), all, Some(2)),
+        (3, judged(2, Verdict::Correct), four, Some(2)),
+        (4, judged(2, Verdict::Correct), four, Some(3)),
+        (5, judged(2, Verdict::Correct), four, None),
+        (6, judged(2, Verdict::Tentative), four, None),
+        (7, judged(3, Verdict::Correct), four, None),
+        (0, judged(2, Verdict::Correct), all, Some(2)),
+    ];
+    let text = "slot 17 node 0 correct peer 2 msg 2 mem 001f acc 3 rej 0 ack none clock 0\n\
+        slot 17 node 1 correct peer 2 msg 2 mem 001f acc 3 rej 0 ack none clock 0\n\
+        slot 17 node 3 correct peer 2 msg 2 mem 001b acc 3 rej 0 ack none clock 0\n\
+        slot 17 node 4 correct peer 2 msg 3 mem 001b acc 3 rej 0 ack none clock 0\n\
+        slot 17 node 5 correct peer 2 msg - mem 001b acc 3 rej 0 ack none clock 0\n\
+        slot 17 node 6 tentative peer 2 msg - mem 001b acc 3 rej 0 ack none clock 0\n\
+        slot 17 node 7 correct peer 3 msg - mem 001b acc 3 rej 0 ack none clock 0\n\
+        slot 17 node 0 correct peer 2 msg 2 mem 001f acc 3 rej 0 ack none clock 0\n";
+    let mut out = MemorySink::new(rt.alloc(), 1_000, List::new(rt.alloc()))?;
+    let mut lines = NodeLines::new();
+    lines.begin(17);
+    for row in rows.iter() {
+        let (node, entry, members, message) = *row;
+        let state = active(entry, members, 3, 0, Ack::Closed);
+        assert!(rt; state.members.bits() < 65_536);
+        assert!(rt; put_node_line(&narrow, node, &state, message, &mut lines, &mut out).is_ok());
+    }
+    assert!(rt; out.bytes() == text.as_bytes());
+    Ok(())
 }
 
 // The widest line there can be: the members of a list of version 2 have six digits.
 #[test]
 fn a_wide_line_is_one_piece(rt: HostRuntime) -> Result<(), Fail> {
-    let mut line = Line::new();
+    let mut lines = NodeLines::new();
     let wide = list(&rt, 2);
     let mut state = active(
         judged(23, Verdict::Correct),
@@ -197,26 +239,11 @@ fn a_wide_line_is_one_piece(rt: HostRuntime) -> Result<(), Fail> {
     let mut whole = MemorySink::new(rt.alloc(), 111, List::new(rt.alloc()))?;
     let mut narrow = MemorySink::new(rt.alloc(), 110, List::new(rt.alloc()))?;
     assert!(rt; state.members.bits() < 16_777_216);
-    let written = put_node_line(
-        &wide,
-        19_999,
-        23,
-        &state,
-        Some(20_000),
-        &mut line,
-        &mut whole,
-    );
+    lines.begin(19_999);
+    let written = put_node_line(&wide, 23, &state, Some(20_000), &mut lines, &mut whole);
     assert!(rt; written.is_ok());
     assert!(rt; whole.bytes() == text.as_bytes());
-    let written = put_node_line(
-        &wide,
-        19_999,
-        23,
-        &state,
-        Some(20_000),
-        &mut line,
-        &mut narrow,
-    );
+    let written = put_node_line(&wide, 23, &state, Some(20_000), &mut lines, &mut narrow);
     assert!(rt; written.is_err());
     assert!(rt; narrow.bytes().is_empty(), "a part of a line was written");
     Ok(())

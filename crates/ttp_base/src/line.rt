@@ -66,6 +66,21 @@ impl Line {
         self.len = 0;
     }
 
+    /// Takes away all but the first `len` bytes.
+    pub fn cut(&mut self, len: usize)
+        requires { len ≤ length self.old }
+        ensures { self.new ≡ take len self.old }
+    {
+        self.len = len;
+    }
+
+    /// How many bytes it has.
+    pub fn len(&self) -> usize
+        ensures { result ≡ length self.now }
+    {
+        self.len
+    }
+
     /// How many bytes still fit.
     pub fn room(&self) -> usize
         ensures { result + length self.now ≡ 640 }
@@ -89,14 +104,27 @@ impl Line {
     }
 
     /// Adds a number in decimal digits, with no leading zeros.
-    #[tactic(auto, using(std::proofs::lemmas::Fmt::decimal_digit, crate::proofs::Decimal::decimal_two_digits))]
+    #[inline(always)]
+    #[tactic(auto, using(std::proofs::lemmas::Fmt::decimal_digit))]
     pub fn put_number(&mut self, v: u64)
         requires { length self.old + length (decimal v) ≤ 640 }
         ensures { self.new ≡ self.old ++ decimal v }
     {
         if v < 10 {
             self.put_bytes(&[b'0' + v as u8]);
-        } else if v < 100 {
+        } else {
+            self.put_digits(v);
+        }
+    }
+
+    // Adds a number of two digits or of more.
+    #[tactic(auto, using(crate::proofs::Decimal::decimal_two_digits))]
+    fn put_digits(&mut self, v: u64)
+        requires room { length self.old + length (decimal v) ≤ 640 }
+        requires digits { 10 ≤ v }
+        ensures { self.new ≡ self.old ++ decimal v }
+    {
+        if v < 100 {
             self.put_bytes(&[b'0' + (v / 10) as u8, b'0' + (v % 10) as u8]);
         } else {
             let mut buffer = itoa::Buffer::new();
@@ -139,7 +167,8 @@ impl Line {
         }
     }
 
-    fn put_bytes(&mut self, piece: &[u8])
+    /// Adds bytes as they are.
+    pub fn put_bytes(&mut self, piece: &[u8])
         requires { length self.old + length piece.now ≤ 640 }
         ensures { self.new ≡ self.old ++ piece.now }
     {

@@ -20,6 +20,7 @@ pub mod NumberWords
 pub mod Pasts
 pub mod Places
 pub mod PointBounds
+pub mod PointPlaces
 pub mod Rings
 pub mod RunNumbers
 pub mod Silences

@@ -65,6 +65,20 @@ impl Model for Events {
     ghost invariant = { λ e. AreFew e.items × IsIndexOf e.items e.index };
 }
 
+/// Where the last look-up ended. The next one begins there, and is short where it asks for the same node
+/// in one of the next slots. No answer rests on it.
+#[derive(Clone, Copy, Debug, PartialEq, Eq)]
+pub struct LastLookUp {
+    steps: usize,
+}
+
+impl LastLookUp {
+    /// There was none yet.
+    pub fn none() -> LastLookUp {
+        LastLookUp { steps: 0 }
+    }
+}
+
 impl Events {
     /// No events. Takes no memory.
     pub fn none(alloc: Global) -> Events
@@ -94,13 +108,15 @@ impl Events {
         self.items.as_slice()
     }
 
-    /// What happens to a node in a slot. Costs a binary search.
-    pub(crate) fn incidents(&self, node: u8, slot: u32) -> Incidents
+    /// What happens to a node in a slot, which is looked for from where the last look-up ended. Costs a
+    /// few steps where it is near, else a binary search.
+    pub(crate) fn incidents(&self, node: u8, slot: u32, last: &mut LastLookUp) -> Incidents
         ensures value { result ≡ incidents_in self.now node slot }
         ensures bounds { AreBounded result }
     {
         let steps = self.index.steps.as_slice();
-        let place = steps_up_to(steps, &self.index.blocks, key_of(node, slot));
+        let place = steps_up_to(steps, last.steps, key_of(node, slot));
+        last.steps = place;
         incidents_before(steps, place)
     }
 

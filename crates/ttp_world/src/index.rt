@@ -5,7 +5,6 @@ ghost use Rattle.ttp_world.specs.Index.{first_step, no_incidents, incidents_befo
 ghost use Rattle.ttp_world.specs.Index.{IsIndexOf};
 ghost use Rattle.ttp_world.specs.Sorted.{key_of, SplitsAt};
 
-use crate::blocks::{Between, Blocks};
 use crate::events::{FlippedBit, Incidents};
 use crate::flips::flips_of;
 use crate::host_lines::{HostRead, reads_of, writes_of};
@@ -18,6 +17,9 @@ use ttp_base::{List, Memory};
 /// How many keys a node has: one for each slot.
 pub(crate) const NODE_KEYS: u64 = 4_294_967_296;
 
+// How many steps a look-up goes on from where it begins.
+const FEW: usize = 2;
+
 /// What the events make of a node from a key on, up to the key of the next step.
 #[derive(Clone, Copy, Debug, PartialEq, Eq)]
 pub(crate) struct Step {
@@ -29,7 +31,6 @@ pub(crate) struct Step {
 #[derive(Debug, Drop)]
 pub(crate) struct Index {
     pub(crate) steps: List<Step>,
-    pub(crate) blocks: Blocks,
     pub(crate) flips: Sorted<FlippedBit>,
     /// The places of the writes among the events, by their slots.
     pub(crate) writes: Sorted<usize>,
@@ -70,13 +71,17 @@ fn all_up_to(steps: &[Step], key: u64) -> usize
     steps.partition_point(|step| step.key <= key)
 }
 
-// The place behind the steps with keys up to this one, if it lies between these places.
-fn place_between(steps: &[Step], between: Between, key: u64) -> usize
+// The place that is reached from another one over a few steps with keys up to this one.
+fn advanced(steps: &[Step], from: usize, key: u64) -> usize
     ensures { result ≤ length steps.now }
 {
-    let to = between.to.min(steps.len());
-    let from = between.from.min(to);
-    from + steps[from..to].partition_point(|step| step.key <= key)
+    let mut place = from.min(steps.len());
+    for _ in 0..FEW {
+        if place < steps.len() && steps[place].key <= key {
+            place += 1;
+        }
+    }
+    place
 }
 
 // Whether the last step before a place has a key up to this one, if there is a step.
@@ -101,17 +106,34 @@ fn is_before(steps: &[Step], place: usize, key: u64) -> bool
     key < steps[place].key
 }
 
-/// How many steps have keys up to this one. With the blocks of the steps few of them are looked at.
-pub(crate) fn steps_up_to(steps: &[Step], blocks: &Blocks, key: u64) -> usize
+// Whether the steps with keys up to this one end at a place.
+fn is_end(steps: &[Step], place: usize, key: u64) -> bool
+    requires { IsNonDecreasingBy (λ step. step.key) steps.now }
+    ensures bound { result ≡ true → place ≤ length steps.now }
+    ensures place { result ≡ true → SplitsAt (step_is_by key) steps.now place }
+{
+    if place <= steps.len() && is_behind(steps, place, key) && is_before(steps, place, key) {
+        return true;
+    }
+    false
+}
+
+/// How many steps have keys up to this one. They are looked for at this place first, then shortly behind
+/// it, and then among all.
+pub(crate) fn steps_up_to(steps: &[Step], near: usize, key: u64) -> usize
     requires { IsNonDecreasingBy (λ step. step.key) steps.now }
     ensures bound { result ≤ length steps.now }
     ensures place { SplitsAt (step_is_by key) steps.now result }
 {
+    // Here a compiler sees that a script without events needs no look-ups.
     if steps.is_empty() {
         return 0;
     }
-    let place = place_between(steps, blocks.around(key), key);
-    if is_behind(steps, place, key) && is_before(steps, place, key) {
+    if is_end(steps, near, key) {
+        return near;
+    }
+    let place = advanced(steps, near, key);
+    if is_end(steps, place, key) {
         place
     } else {
         all_up_to(steps, key)
@@ -137,7 +159,6 @@ impl Index {
     {
         Index {
             steps: List::new(alloc),
-            blocks: Blocks::none(alloc),
             flips: Sorted::empty(alloc),
             writes: Sorted::empty(alloc),
             reads: Sorted::empty(alloc),
@@ -150,13 +171,11 @@ impl Index {
         ensures { IfOk result (λ index. IsIndexOf events.now index) }
     {
         let steps = sorted_steps(alloc, events)?;
-        let blocks = Blocks::of(alloc, steps.as_slice())?;
         let flips = Sorted::of(alloc, flips_of(alloc, events)?)?;
         let writes = Sorted::of(alloc, writes_of(alloc, events)?)?;
         let reads = Sorted::of(alloc, reads_of(alloc, events)?)?;
         Ok(Index {
             steps,
-            blocks,
             flips,
             writes,
             reads,

@@ -13,7 +13,6 @@
 //! The crate reads, prints and decides nothing.
 #![tactic(auto)]
 
-mod blocks;
 mod events;
 mod flips;
 mod host_lines;
@@ -27,7 +26,7 @@ mod script;
 mod sorted;
 mod weights;
 
-pub use events::{Events, FlippedBit, Incidents};
+pub use events::{Events, FlippedBit, Incidents, LastLookUp};
 pub use host_lines::{HostRead, Written};
 pub use keep::Keep;
 pub use medl::{Kind, Medl, SlotPlan};

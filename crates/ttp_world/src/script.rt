@@ -6,7 +6,7 @@ ghost use Rattle.ttp_world.specs.declared.script.Channel.{Channel};
 ghost use Rattle.ttp_world.specs.Script.{is_on, incidents_of, flipped_bits, bits_on, AreBounded};
 ghost use Rattle.ttp_world.specs.Script.{host_write, write_at, writes_in, reads_in};
 
-use crate::events::{Events, FlippedBit, Incidents};
+use crate::events::{Events, FlippedBit, Incidents, LastLookUp};
 use crate::host_lines::{HostRead, Written, write_of};
 use std::marker::Model;
 use ttp_base::List;
@@ -208,7 +208,16 @@ impl Script {
         ensures value { result ≡ incidents_of self.now node slot }
         ensures bounds { AreBounded result }
     {
-        self.events.incidents(node, slot)
+        self.events.incidents(node, slot, &mut LastLookUp::none())
+    }
+
+    /// The same, looked for from where the last look-up ended. A caller that goes from slot to slot keeps
+    /// one for each node; then it costs a few steps.
+    pub fn incidents_after(&self, node: u8, slot: u32, last: &mut LastLookUp) -> Incidents
+        ensures value { result ≡ incidents_of self.now node slot }
+        ensures bounds { AreBounded result }
+    {
+        self.events.incidents(node, slot, last)
     }
 
     /// The bits that are flipped in the frame that a node sends in a slot, each with its channels, in

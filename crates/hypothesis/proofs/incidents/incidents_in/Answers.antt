@@ -25,16 +25,16 @@ told-more nodes of n new within told is k nothing less = elim (cases_eq k n) [
 pub loop-node-init : goal.loop-node-init
 loop-node-init c = (
   refl,
-  told-first (replicate 24 c.incidents-nodes.result) (λ k. incidents_of c.args.script.now k c.args.slot)
-      (λ nothing. c.incidents-nodes.ensures.value),
+  told-first (replicate 24 c.incidents_after-nodes.result) (λ k. incidents_of c.args.script.now k c.args.slot)
+      (λ nothing. c.incidents_after-nodes.ensures.value),
 )
 
 pub loop-node-preserved : goal.loop-node-preserved
 loop-node-preserved c =
     let kept = c.loop-node.invariant in
     let within : c.loop-node.node < length c.loop-node.nodes = search rules in (
-      length-set c.loop-node.nodes c.loop-node.node c.incidents.result ∙ kept.0,
+      length-set c.loop-node.nodes c.loop-node.node c.incidents_after.result ∙ kept.0,
       told-more c.loop-node.nodes
-          (λ k. incidents_of c.args.script.now k c.args.slot) c.loop-node.node c.incidents.result within kept.1
-          c.incidents.ensures.value,
+          (λ k. incidents_of c.args.script.now k c.args.slot) c.loop-node.node c.incidents_after.result within kept.1
+          c.incidents_after.ensures.value,
     )

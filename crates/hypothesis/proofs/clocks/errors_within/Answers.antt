@@ -5,7 +5,7 @@ use Rattle.ttp_world.specs.Hypothesis.{is_within_bound}
 use Rattle.ttp_world.specs.Script.{reading_error}
 use Rattle.ttp_base.proofs.Below.{all-below}
 use Rattle.hypothesis.proofs.Ranges.{one-fails}
-use Rattle.hypothesis.proofs.clocks.errors_hold_within.Goals as goal
+use Rattle.hypothesis.proofs.clocks.errors_within.Goals as goal
 
 pub returns-then-not-is_within_bound : goal.returns-then-not-is_within_bound
 returns-then-not-is_within_bound c =

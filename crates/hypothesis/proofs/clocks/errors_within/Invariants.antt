@@ -1,7 +1,7 @@
 use Rattle.std.proofs.Common.{◌≡◌, ℕ, ◌<◌, true}
 use Rattle.ttp_world.specs.Hypothesis.{is_within_bound}
 use Rattle.ttp_world.specs.Script.{reading_error}
-use Rattle.hypothesis.proofs.clocks.errors_hold_within.Given as goal
+use Rattle.hypothesis.proofs.clocks.errors_within.Given as goal
 
 -- the errors of the nodes so far are within it
 abbrev pub invariant-loop-node : goal.invariant-loop-node
