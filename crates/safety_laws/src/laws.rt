@@ -15,21 +15,23 @@ ghost use Rattle.ttp_world.specs.declared.node.Phase.TheVariants as phase;
 ghost use Rattle.ttp_world.specs.declared.node.Reason.TheVariants as reason;
 ghost use Rattle.ttp_world.specs.declared.node.Verdict.{Verdict};
 ghost use Rattle.ttp_world.specs.declared.node.Verdict.TheVariants as verdict;
+ghost use Rattle.ttp_world.specs.declared.script.Channel.{Channel};
 ghost use Rattle.ttp_world.specs.declared.script.Script.{Script};
 ghost use Rattle.ttp_world.specs.Acknowledgement.{is_open};
 ghost use Rattle.ttp_world.specs.Conduct.{cold_start_frame, own_frame, message_sent, listening_entry};
 ghost use Rattle.ttp_world.specs.Diary.{History, entry_of};
-ghost use Rattle.ttp_world.specs.Hypothesis.{ClusterStart, loses, start_of};
+ghost use Rattle.ttp_world.specs.Hypothesis.{ClusterStart, is_covered, loses, start_of};
 ghost use Rattle.ttp_world.specs.Legal.{IsLegal};
-ghost use Rattle.ttp_world.specs.Medium.{SentFrame};
+ghost use Rattle.ttp_world.specs.Medium.{SentFrame, heard};
 ghost use Rattle.ttp_world.specs.Medl.{may_start, IsValid};
 ghost use Rattle.ttp_world.specs.Membership.{is_accepted};
 ghost use Rattle.ttp_world.specs.Reception.{Hearing, expected_of, is_within_window, view_of_bits};
-ghost use Rattle.ttp_world.specs.Script.{is_ever_on, is_on, IsValidScript};
+ghost use Rattle.ttp_world.specs.Script.{is_ever_on, is_on, flipped_bits, IsValidScript};
 ghost use Rattle.ttp_world.specs.World.{BegunSlot, Numbers, SlotNumbers, node_past, slot_after, frames_of, frames_in};
 ghost use Rattle.ttp_world.specs.World.{hearing_in, deviation_in, row_in, step, messages_chosen, world};
 ghost use Rattle.safety_laws.specs.Groups.{IsNotAbout, HoldsGroup, IsUnanswered, HearsNoAnswer, StaysUnanswered};
-ghost use Rattle.safety_laws.specs.Heard.{IsUnflipped, HearsFrame, HearsNoFrame, HearsSilence};
+ghost use Rattle.safety_laws.specs.Heard.{is_frameless, IsUnflipped, signal_as_sent, HearsFrame, HearsNoFrame};
+ghost use Rattle.safety_laws.specs.Heard.{HearsSilence};
 ghost use Rattle.safety_laws.specs.NodeSlot.{NodeSlot, node_slot, frames_made, entry_made, next_past, coming_place};
 ghost use Rattle.safety_laws.specs.NodeSlot.{owner_of, candidates_of};
 ghost use Rattle.safety_laws.specs.Senders.{SendsAlone, NoneSends};
@@ -56,16 +58,24 @@ pub fn views()
         → view_of_bits x.list (expected_of x.list x.node x.past) (cold_start_frame x.list p) deviation ≡ view.Bad }
 {}
 
-/// What comes to a node in a slot in which one node sends (`kept`, `lost`), or none (`silent`): the
-/// frame as it was sent on each channel on which no fault of the sender or the receiver covers it, and
-/// no frame on the others. No bit of it is flipped. A listening node waits where no frame comes
-/// (`waits`), and joins on a cold-start frame of a node that may start (`joins`).
+/// What comes to a node in a slot in which one node sends, or none. On a channel on which no fault of the
+/// sender or the receiver covers it, the frame comes as it was sent, if no bit is flipped (`uncovered`),
+/// and on another no frame comes (`covered`). So a node that does not lose it hears it, on one channel at
+/// least (`kept`), and one that loses it hears no frame (`lost`); where nobody sends there is silence
+/// (`silent`). A listening node waits where no frame comes (`waits`), and joins on a cold-start frame of a
+/// node that may start (`joins`).
 pub fn hearing()
     ensures none_sends { (s : BegunSlot) (chosen : List Chosen)
         → ((k : ℕ) → k < length s.list.slots → frames_of s chosen k ≡ []) → frames_in s chosen ≡ [] }
     ensures one_sends { (s : BegunSlot) (chosen : List Chosen) (p : ℕ) → p < length s.list.slots
         → ((k : ℕ) → k < length s.list.slots → k ≢ p → frames_of s chosen k ≡ [])
         → frames_in s chosen ≡ frames_of s chosen p }
+    ensures uncovered { (script : Script) (slot r : ℕ) (c : Channel) (sent : SentFrame)
+        → flipped_bits script sent.sender c slot ≡ [] → is_covered script sent.sender r slot c ≡ false
+        → heard script slot r c (sent ∷ []) ≡ signal_as_sent sent }
+    ensures covered { (script : Script) (slot r : ℕ) (c : Channel) (sent : SentFrame)
+        → is_covered script sent.sender r slot c ≡ true
+        → IsTrue (is_frameless (heard script slot r c (sent ∷ []))) }
     ensures kept { (s : BegunSlot) (sent : SentFrame) (r : ℕ) → IsUnflipped s.script sent.sender s.number
         → loses s.script sent.sender s.number r ≡ false → HearsFrame sent (hearing_in s (sent ∷ []) r) }
     ensures lost { (s : BegunSlot) (sent : SentFrame) (r : ℕ) → loses s.script sent.sender s.number r ≡ true

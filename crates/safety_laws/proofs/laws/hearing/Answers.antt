@@ -1,6 +1,6 @@
 use Rattle.std.proofs.Common.{refl, ◌∷◌, []}
 use Rattle.ttp_world.specs.Conduct.{cold_start_cstate}
-use Rattle.safety_laws.proofs.Hearing.{HearsFrame-kept}
+use Rattle.safety_laws.proofs.Hearing.{heard-uncovered, heard-covered, HearsFrame-kept}
 use Rattle.safety_laws.proofs.Joins.{joinable-cold_start, listening_entry-joins}
 use Rattle.safety_laws.proofs.Senders.{frames_in-none, frames_in-one}
 use Rattle.safety_laws.proofs.laws.hearing.Goals as goal
@@ -17,3 +17,9 @@ returns-clause-kept c = λ s sent r unflipped kept. HearsFrame-kept s (sent ∷ 
 pub returns-clause-joins : goal.returns-clause-joins
 returns-clause-joins c = λ list h p valid node may heard.
     listening_entry-joins list h _ (cold_start_cstate p) heard (joinable-cold_start list p valid node may)
+
+pub returns-clause-uncovered : goal.returns-clause-uncovered
+returns-clause-uncovered c = heard-uncovered
+
+pub returns-clause-covered : goal.returns-clause-covered
+returns-clause-covered c = heard-covered
