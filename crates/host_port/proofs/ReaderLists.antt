@@ -107,23 +107,6 @@ within_list [] place left = absurd left
 within_list (r ∷ rs) zero left = omega arith
 within_list (r ∷ rs) (suc place) left = let within = within_list rs place left in omega arith
 
--- a reader of a source is there, with what is known of the list and of the place
-pub record IsThere (shown readers : List (Option ReaderState)) (from : Source) (place : ℕ) (old : Option ReaderState)
-    : Type 0 where
-  pub same : readers ≡ shown
-  pub placed : place ≡ place_of from
-  pub read : old ≡ get_or readers place old
-
-there_within : {shown readers : List (Option ReaderState)} {from : Source} {place : ℕ} {old : Option ReaderState}
-    → IsThere shown readers from place old → IsLeft (at_source shown from) → place < length readers
-there_within {shown} {readers} {from} {place} there left =
-    rw (there.same, there.placed) (within_list shown (place_of from) left)
-
-there_read : {shown readers : List (Option ReaderState)} {from : Source} {place : ℕ} {old : Option ReaderState}
-    → IsThere shown readers from place old → IsLeft (at_source shown from) → old ≡ get_or readers place None
-there_read {shown} {readers} {from} {place} {old} there left =
-    get_or_read readers place old (there_within there left) there.read None
-
 -- it goes on reading its ring
 read_ring : (buffers : ℕ) (old new : Option ReaderState) → Reads buffers old new → ring_read new ≡ ring_read old
 read_ring buffers None new reads = absurd reads
@@ -134,19 +117,21 @@ read_ring buffers (Some old) (Some new) reads =
       | inr more ↦ ap (λ ring. Some ring) (reads.1 more).ring
     ]
 
-pub still_of : (port : PortState) (shown readers : List (Option ReaderState)) (from : Source) (buffers place : ℕ)
-    (old new : Option ReaderState) → IsThere shown readers from place old → Reads buffers old new
+-- so the readers stay those of the port
+pub still_of : (port : PortState) (shown readers : List (Option ReaderState)) (buffers place : ℕ)
+    (old new : Option ReaderState) → readers ≡ shown → old ≡ get_or readers place old → Reads buffers old new
     → map ring_read shown ≡ port.incoming → map ring_read (set readers place new) ≡ port.incoming
-still_of port shown readers from buffers place old new there reads own =
-    rings_kept ring_read readers place old new there.read (read_ring buffers old new reads)
-    ∙ (ap (map ring_read) there.same ∙ own)
+still_of port shown readers buffers place old new same here reads own =
+    rings_kept ring_read readers place old new here (read_ring buffers old new reads) ∙ (ap (map ring_read) same ∙ own)
 
+-- and the one that read is found where it was
 pub reads_there : (shown readers : List (Option ReaderState)) (from : Source) (buffers place : ℕ)
-    (old new : Option ReaderState) → IsThere shown readers from place old → IsLeft (at_source shown from)
-    → Reads buffers old new → Reads buffers (at_source shown from) (at_source (set readers place new) from)
-reads_there shown readers from buffers place old new there left reads =
-    let after : get_or (set readers place new) place None ≡ new =
-    get_or-set_same readers place new None (there_within there left) in
+    (old new : Option ReaderState) → readers ≡ shown → place ≡ place_of from → old ≡ get_or readers place old
+    → IsLeft (at_source shown from) → Reads buffers old new
+    → Reads buffers (at_source shown from) (at_source (set readers place new) from)
+reads_there shown readers from buffers place old new same placed here left reads =
+    let within : place < length readers = rw (same, placed) (within_list shown (place_of from) left) in
+    let after : get_or (set readers place new) place None ≡ new = get_or-set_same readers place new None within in
     let before : old ≡ at_source shown from =
-    there_read there left ∙ (λ k. get_or (there.same k) (there.placed k) None) in
-    rw (← before, ← there.placed, after) reads
+    get_or_read readers place old within here None ∙ (λ k. get_or (same k) (placed k) None) in
+    rw (← before, ← placed, after) reads
