@@ -8,6 +8,7 @@ use Rattle.ttp_world.specs.declared.medl.SlotPlan.{SlotPlan}
 use Rattle.ttp_world.specs.declared.script.Channels.{Channels}
 use Rattle.ttp_world.specs.declared.script.Event.{Event}
 use Rattle.ttp_world.specs.declared.script.Script.{Script}
+use Rattle.ttp_world.specs.World.{Numbers}
 
 abbrev starter : SlotPlan
 starter = record { kinds = kind.I ∷ []; payload = 0; sync = true; start = true; requests = false; live = 1 }
@@ -47,3 +48,7 @@ script_of events = script_on (replicate 4 (Some 0)) events
 
 abbrev pub both : Channels
 both = record { a = true; b = true }
+
+-- the slots of a run in which no frame carries payload
+abbrev pub no_numbers : Numbers
+no_numbers = replicate 28 (record { sent = []; read = [] })

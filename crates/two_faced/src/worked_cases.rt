@@ -5,7 +5,8 @@ ghost use Rattle.ttp_world.specs.declared.script.Event.TheVariants as event;
 ghost use Rattle.ttp_world.specs.declared.script.Fault.TheVariants as fault;
 ghost use Rattle.two_faced.specs.declared.faced.Faced.TheVariants as faced;
 ghost use Rattle.two_faced.specs.Faced.{bound, faced_of};
-ghost use Rattle.two_faced.specs.WorkedCases.{four_nodes, two_starters, script_of, script_on, both};
+ghost use Rattle.two_faced.specs.Seen.{seen_of};
+ghost use Rattle.two_faced.specs.WorkedCases.{four_nodes, two_starters, script_of, script_on, both, no_numbers};
 
 /// Two receivers see node 3's clock 28 microticks apart in its slot 19, each 14 off, which is the window
 /// less the bound.
@@ -56,4 +57,13 @@ fn nodes_that_are_off()
         (script_on (Some 0 ∷ Some 9 ∷ Some 0 ∷ Some 0 ∷ []) (event.Error 0 (pos 14) 19 19 ∷ [])) 3 ≡ faced.No 4 0 }
     ensures never { faced_of (four_nodes (pos 64)) (script_on (Some 0 ∷ None ∷ Some 0 ∷ Some 0 ∷ []) []) 3
         ≡ faced.No 5 0 }
+{}
+
+/// In that run node 0 notes 0, -4, -5 and 8 over the round that ends with slot 19, so it corrects by -2 and
+/// shows 13. After slot 22 it shows 16 and node 1 shows 8.
+#[tactic(auto, unfolding(ttp_base::specs::NodeSet::with_node, ttp_base::specs::NodeSet::members_in))]
+fn clocks_beside_it()
+    ensures { seen_of (four_nodes (pos 64))
+        (script_of (event.Error 0 (pos 14) 19 19 ∷ event.Error 1 (negsuc 13) 19 19 ∷ [])) no_numbers 3
+        ≡ record { value = pos 8; slot = 22 } }
 {}
