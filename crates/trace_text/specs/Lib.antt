@@ -1,2 +1,4 @@
 pub mod HostLines
 pub mod LineParts
+pub mod Reading
+pub mod TraceLines
