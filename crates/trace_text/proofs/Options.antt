@@ -25,3 +25,6 @@ pub chosen : {A : Type 0} (P : A → Type 0) (b : Bool) (x : A) (r : Option A) (
     → (r ≡ Some y → P y) → cond b (Some x) r ≡ Some y → P y
 chosen P true x r y one other e = let same : x ≡ y = cc in subst P same (one refl)
 chosen P false x r y one other e = other e
+
+pub some_same : {A : Type 0} (x y : A) → Some x ≡ Some y → x ≡ y
+some_same x y e = cc

@@ -18,8 +18,8 @@ use Rattle.trace_text.specs.Reading.{head_labels, node_labels, write_labels, rea
 use Rattle.trace_text.specs.Reading.{head_in, node_in, write_in, read_in, kept_in, broken_in, or_else, line_in}
 use Rattle.trace_text.specs.TraceLines.{slot_digits, message_digits, fits_word, text_of, Fits}
 use Rattle.trace_text.proofs.FieldLists.{fields_in-cons, fields_in-nil}
-use Rattle.trace_text.proofs.Options.{bound, guarded}
-use Rattle.trace_text.proofs.ReadWords.{spelled, some_same, equal, numeral-takes, byte-takes, offset-takes}
+use Rattle.trace_text.proofs.Options.{bound, guarded, some_same}
+use Rattle.trace_text.proofs.ReadWords.{spelled, equal, numeral-takes, byte-takes, offset-takes}
 use Rattle.trace_text.proofs.ReadWords.{byte_or_dash-takes}
 use Rattle.trace_text.proofs.ReadWords.{message_or_dash-takes, word-takes, ack-takes, source-takes, schedule-takes}
 use Rattle.trace_text.proofs.ReadWords.{members-takes, payload-takes}

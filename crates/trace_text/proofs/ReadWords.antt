@@ -37,13 +37,10 @@ use Rattle.trace_text.specs.Reading.{word_in, ack_in, source_in, has_size, is_do
 use Rattle.trace_text.specs.TraceLines.{word_text, message_digits, offset_digits, FitsAck, FitsOffset, FitsMembers}
 use Rattle.trace_text.specs.TraceLines.{FitsSource}
 use Rattle.trace_text.proofs.HexDigits.{below_power_16}
-use Rattle.trace_text.proofs.Options.{bound, guarded, barred, chosen}
+use Rattle.trace_text.proofs.Options.{bound, guarded, barred, chosen, some_same}
 
 pub spelled : (w text : List ℕ) → bytes_eq w text ≡ true → w ≡ text
 spelled w text same = (bytes_eq-Decides w text).0 same
-
-pub some_same : {A : Type 0} (x y : A) → Some x ≡ Some y → x ≡ y
-some_same x y e = cc
 
 pub equal : (a b : ℕ) → (a == b) ≡ true → a ≡ b
 equal a b same = grind (arith, nat_tests)

@@ -2,3 +2,4 @@ pub mod HostLines
 pub mod LineParts
 pub mod Reading
 pub mod TraceLines
+pub mod WorldLines
