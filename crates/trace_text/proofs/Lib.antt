@@ -1,2 +1,12 @@
+pub mod DecimalDigits
+pub mod FieldLists
+pub mod HexDigits
+pub mod LineValues
+pub mod Options
 pub mod PayloadWords
+pub mod ReadLines
+pub mod ReadWords
+pub mod WordList
+pub mod WrittenLines
+pub mod WrittenWords
 pub mod WordTexts

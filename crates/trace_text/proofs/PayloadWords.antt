@@ -27,7 +27,7 @@ map-more f n (suc k) =
     ∙ ap (λ (l : List ℕ). map f (below n) ++ l) (sym (map-next (λ j. f (n + j)) k))
     ∙ ap (λ (m : ℕ). map f (below n) ++ map (λ j. f (n + j)) (below m)) (sym d)
 
-eight_bytes : (a b c d e f g h : ℕ)
+pub eight_bytes : (a b c d e f g h : ℕ)
     → number_in (a ∷ b ∷ c ∷ d ∷ e ∷ f ∷ g ∷ h ∷ []) ≡ from_be_bytes w64 (a ∷ b ∷ c ∷ d ∷ e ∷ f ∷ g ∷ h ∷ [])
 eight_bytes a b c d e f g h = omega arith
 

@@ -1,2 +1,5 @@
 pub mod HostLines
 pub mod LineParts
+pub mod Reading
+pub mod TraceLines
+pub mod WorldLines

@@ -7,20 +7,33 @@
 //! `message_line` of this crate, which are those of the definition of a trace; which state and which
 //! message a line shows, and which answer the last line does, is the caller's.
 //!
+//! [`read_line`] goes the other way: it gives the value whose line some bytes are, `text_of` of
+//! `specs/TraceLines.antt`. It asks of a line what its form does, and not whether it belongs into a trace.
+//!
 //! The crate runs and tests nothing, and knows nothing of histories.
 #![tactic(auto)]
 
+mod digits;
+mod fields;
 mod head_line;
 mod host_line;
 mod keep_line;
 pub mod laws;
+mod line_words;
 mod node_line;
+mod numerals;
 mod put;
+mod read;
+mod trace_line;
 mod words;
 
 pub use host_line::RingMessage;
 pub use node_line::NodeLines;
 pub use put::{put_header, put_keep, put_node_line, put_read_line, put_write_line};
+pub use read::read_line;
+pub use trace_line::{TraceLine, Word};
 
+#[cfg(test)]
+mod read_tests;
 #[cfg(test)]
 mod tests;
