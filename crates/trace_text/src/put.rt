@@ -10,7 +10,7 @@ use crate::head_line::head_line;
 use crate::host_line::{RingMessage, make_read_line, make_write_line};
 use crate::keep_line::keep_line;
 use crate::node_line::NodeLines;
-use ttp_base::{Failed, Sink};
+use ttp_base::{Failed, Line, Sink};
 use ttp_world::{Keep, Medl, NodeState, Script};
 
 /// Writes the first line of a trace, as one piece. `Failed` is the sink's: some first bytes of the
