@@ -1,5 +1,5 @@
 -- The parts of the lines of a trace, and what a line asks of the state that it shows.
-use Rattle.std.specs.Prelude.{◌≡◌, ℕ, ◌*◌, ◌<◌, ◌≤◌, List, ◌++◌, length, take, codes, decimal, Option, IfSome}
+use Rattle.std.specs.Prelude.{◌≡◌, ℕ, ℤ, ◌*◌, ◌<◌, ◌≤◌, List, ◌++◌, length, take, codes, decimal, Option, IfSome}
 use Rattle.std.specs.Fmt.{signed_decimal}
 use Rattle.ttp_base.specs.NodeSet.{set_bits}
 use Rattle.ttp_base.specs.Text.{hex, newline}
@@ -37,16 +37,14 @@ members_text list members = codes " mem " ++ hex (member_digits list) (set_bits 
 -- between the node's number and its counts
 abbrev pub shown_text : Medl → ℕ → NodeState → Option ℕ → List ℕ
 shown_text list k state message =
-    entry_text k state.entry ++ message_text message ++ members_text list state.members
+    entry_text k state.entry ++ message_text message ++ members_text list state.members ++ codes " acc "
 
+-- behind the accepted frames
 abbrev pub ack_text : ℕ → Ack → List ℕ
 ack_text rejected ack = codes " rej " ++ decimal rejected ++ codes " ack " ++ ack_word ack ++ codes " clock "
 
--- behind the members
-abbrev pub tail_text : NodeState → List ℕ
-tail_text state =
-    codes " acc " ++ decimal state.accepted ++ ack_text state.rejected state.ack ++ signed_decimal state.offset
-    ++ newline
+abbrev pub end_text : ℕ → Ack → ℤ → List ℕ
+end_text rejected ack offset = ack_text rejected ack ++ signed_decimal offset ++ newline
 
 -- a line that is begun, with all that comes behind
 abbrev pub with_rest : List ℕ → Medl → ℕ → NodeState → Option ℕ → List ℕ
@@ -62,12 +60,12 @@ with_rest begun list k state message =
 abbrev pub text_of : Judged → List ℕ
 text_of j =
     codes " " ++ verdict_word j.verdict ++ codes " peer " ++ decimal j.sender ++ codes " msg "
-    ++ number_or_dash j.message ++ codes " mem " ++ hex (2 * member_bytes j.wide) j.bits
+    ++ number_or_dash j.message ++ codes " mem " ++ hex (2 * member_bytes j.wide) j.bits ++ codes " acc "
 
 -- a text tells a judgement, if there is one
 pub record IsTold (judged : Option Judged) (text : List ℕ) : Type 0 where
   pub tells : IfSome judged (λ j. text ≡ text_of j)
-  pub short : length text ≤ 110
+  pub short : length text ≤ 115
 
 -- so much of a line is what the lines of a slot begin with
 pub record IsBegun (slot head : ℕ) (line : List ℕ) : Type 0 where

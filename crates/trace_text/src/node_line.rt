@@ -2,8 +2,9 @@
 ghost use Rattle.std.specs.Prelude.{◌≡◌, ◌+◌, ◌≤◌, [], ◌∷◌, ◌++◌, length, IsTrue, OnOk, OnErr};
 ghost use Rattle.ttp_base.specs.NodeSet.{set_bits};
 ghost use Rattle.ttp_base.specs.Outside.{WroteLines, CutShort};
+ghost use Rattle.ttp_world.specs.declared.node.Ack.TheVariants as ack;
 ghost use Rattle.ttp_world.specs.Trace.{number_or_dash, ack_word};
-ghost use Rattle.trace_text.specs.LineParts.{HasDigits, listed_line, head_text, shown_text, ack_text, tail_text};
+ghost use Rattle.trace_text.specs.LineParts.{HasDigits, listed_line, head_text, shown_text, ack_text, end_text};
 ghost use Rattle.trace_text.specs.LineParts.{entry_text, message_text, members_text, text_of, with_rest};
 
 use crate::words::{entry_word, peer_of};
@@ -114,43 +115,17 @@ fn put_members(line: &mut Line, list: &Medl, state: &NodeState)
 }
 
 // Adds what a line shows between the node's number and its counts.
+#[tactic(auto, using(ttp_base::proofs::Room::room))]
 fn put_shown(line: &mut Line, list: &Medl, node: u8, state: &NodeState, message: Option<u64>)
-    requires room { length line.old + 120 ≤ 640 }
+    requires room { length line.old + 130 ≤ 640 }
     requires digits { HasDigits list.now state.now }
     ensures text { line.new ≡ line.old ++ shown_text list.now node state.now message }
-    ensures short { length line.new ≤ length line.old + 110 }
+    ensures short { length line.new ≤ length line.old + 115 }
 {
     put_entry(line, node, &state.entry);
     put_message(line, message);
     put_members(line, list, state);
-}
-
-// Adds the frames that were rejected and the acknowledgement, of which one case is by far the most
-// frequent.
-#[tactic(auto, using(ttp_base::proofs::Room::room, std::proofs::lemmas::Fmt::decimal_digit))]
-fn put_ack(line: &mut Line, rejected: u8, ack: Ack)
-    requires { length line.old + 60 ≤ 640 }
-    ensures text { line.new ≡ line.old ++ ack_text rejected ack }
-    ensures short { length line.new ≤ length line.old + 60 }
-{
-    match (rejected, ack) {
-        (0, Ack::Closed) => line.put_text(" rej 0 ack none clock "),
-        _ => put_any_ack(line, rejected, ack),
-    }
-}
-
-// The same, in any case.
-#[tactic(auto, using(ttp_base::proofs::Room::room))]
-fn put_any_ack(line: &mut Line, rejected: u8, ack: Ack)
-    requires { length line.old + 60 ≤ 640 }
-    ensures text { line.new ≡ line.old ++ ack_text rejected ack }
-    ensures short { length line.new ≤ length line.old + 60 }
-{
-    line.put_text(" rej ");
-    line.put_number(u64::from(rejected));
-    line.put_text(" ack ");
-    put_ack_word(line, ack);
-    line.put_text(" clock ");
+    line.put_text(" acc ");
 }
 
 #[tactic(auto, using(ttp_base::proofs::Room::room))]
@@ -221,7 +196,7 @@ impl Told {
 
     fn bytes(&self) -> &[u8]
         ensures text { result.now ≡ self.now }
-        ensures short { length result.now ≤ 110 }
+        ensures short { length result.now ≤ 115 }
     {
         self.text.bytes()
     }
@@ -237,10 +212,10 @@ fn put_state(
     state: &NodeState,
     message: Option<u64>,
 )
-    requires room { length line.old + 120 ≤ 640 }
+    requires room { length line.old + 130 ≤ 640 }
     requires digits { HasDigits list.now state.now }
     ensures text { line.new ≡ line.old ++ shown_text list.now node state.now message }
-    ensures short { length line.new ≤ length line.old + 110 }
+    ensures short { length line.new ≤ length line.old + 115 }
 {
     match state.entry {
         Entry::Judged {
@@ -275,17 +250,53 @@ fn put_head(line: &mut Line, slot: u32)
     line.put_text(" node ");
 }
 
-// Adds what a line shows behind the members: counts, acknowledgement and clock.
+// Adds what a line shows behind the accepted frames.
 #[tactic(auto, using(ttp_base::proofs::Room::room))]
-fn put_tail(line: &mut Line, state: &NodeState)
-    requires { length line.old + 160 ≤ 640 }
-    ensures { line.new ≡ line.old ++ tail_text state.now }
+fn put_any_end(line: &mut Line, state: &NodeState)
+    requires { length line.old + 130 ≤ 640 }
+    ensures { line.new ≡ line.old ++ end_text state.now.rejected state.now.ack state.now.offset }
 {
-    line.put_text(" acc ");
-    line.put_number(u64::from(state.accepted));
-    put_ack(line, state.rejected, state.ack);
+    line.put_text(" rej ");
+    line.put_number(u64::from(state.rejected));
+    line.put_text(" ack ");
+    put_ack_word(line, state.ack);
+    line.put_text(" clock ");
     line.put_signed(state.offset);
     line.put_text("\n");
+}
+
+// Adds that nothing was rejected and no acknowledgement is open.
+#[tactic(auto, using(ttp_base::proofs::Room::room, std::proofs::lemmas::Fmt::decimal_digit))]
+fn put_closed(line: &mut Line)
+    requires { length line.old + 30 ≤ 640 }
+    ensures text { line.new ≡ line.old ++ ack_text 0 ack.Closed }
+    ensures short { length line.new ≤ length line.old + 30 }
+{
+    line.put_text(" rej 0 ack none clock ");
+}
+
+// The same as `put_any_end` where that holds.
+#[tactic(auto, using(ttp_base::proofs::Room::room))]
+fn put_closed_end(line: &mut Line, offset: i64)
+    requires { length line.old + 130 ≤ 640 }
+    ensures { line.new ≡ line.old ++ end_text 0 ack.Closed offset }
+{
+    put_closed(line);
+    line.put_signed(offset);
+    line.put_text("\n");
+}
+
+// The same, by a text for the cases that are by far the most frequent.
+#[tactic(auto, using(ttp_base::proofs::Room::room, std::proofs::lemmas::Fmt::decimal_digit))]
+fn put_end(line: &mut Line, state: &NodeState)
+    requires { length line.old + 130 ≤ 640 }
+    ensures { line.new ≡ line.old ++ end_text state.now.rejected state.now.ack state.now.offset }
+{
+    match (state.rejected, state.ack, state.offset) {
+        (0, Ack::Closed, 0) => line.put_text(" rej 0 ack none clock 0\n"),
+        (0, Ack::Closed, offset) => put_closed_end(line, offset),
+        _ => put_any_end(line, state),
+    }
 }
 
 // Adds all that comes behind what the lines of a slot begin with.
@@ -304,7 +315,8 @@ fn put_rest(
 {
     line.put_number(u64::from(node));
     put_state(line, told, list, node, state, message);
-    put_tail(line, state);
+    line.put_number(u64::from(state.accepted));
+    put_end(line, state);
 }
 
 impl NodeLines {

@@ -1,10 +1,12 @@
 //! Lines of nodes, as the format of the trace gives them.
 ghost use Rattle.std.specs.Prelude.{◌≡◌};
+ghost use Rattle.trace_text.specs.LineParts.{HasDigits};
 
 use crate::host_line::{make_read_line, make_write_line};
 use crate::{NodeLines, RingMessage, put_keep, put_node_line, put_read_line, put_write_line};
+use std::alloc::Global;
 use std::test::Fail;
-use ttp_base::{Line, List, MemorySink, NodeSet};
+use ttp_base::{Line, List, Memory, MemorySink, NodeSet};
 use ttp_world::{Ack, CState, Entry, Keep, Medl, NodeState, Phase, Reason, Source, Verdict};
 
 // A list without slots: of it a line needs the version alone.
@@ -64,6 +66,30 @@ fn idle(phase: Phase, entry: Entry) -> NodeState {
         rejected: 0,
         ack: Ack::Closed,
         offset: 0,
+    }
+}
+
+// What a line shows of a node that judged the slot of this sender.
+fn heard(sender: u8, verdict: Verdict, members: NodeSet) -> NodeState {
+    active(judged(sender, verdict), members, 3, 0, Ack::Closed)
+}
+
+// A sink with the line of a node after a slot, or without it where it does not fit.
+fn written_line(
+    alloc: Global,
+    list: &Medl,
+    slot: u32,
+    node: u8,
+    state: &NodeState,
+    message: Option<u64>,
+    newest: &mut NodeLines,
+) -> Result<MemorySink, Memory>
+    requires { HasDigits list.now state.now }
+{
+    let mut out = MemorySink::new(alloc, 111, List::new(alloc))?;
+    newest.begin(slot);
+    match put_node_line(list, node, state, message, newest, &mut out) {
+        Ok(()) | Err(_) => Ok(out),
     }
 }
 
@@ -139,10 +165,16 @@ fn active_nodes(rt: HostRuntime) -> Result<(), Fail> {
     let mut newest = NodeLines::new();
     for (row, text) in rows.iter().zip(lines.iter()) {
         let (slot, node, state, message) = *row;
-        let mut out = MemorySink::new(rt.alloc(), 111, List::new(rt.alloc()))?;
         assert!(rt; state.members.bits() < 65_536);
-        newest.begin(slot);
-        assert!(rt; put_node_line(&narrow, node, &state, message, &mut newest, &mut out).is_ok());
+        let out = written_line(
+            rt.alloc(),
+            &narrow,
+            slot,
+            node,
+            &state,
+            message,
+            &mut newest,
+        )?;
         assert!(rt; out.bytes() == text.as_bytes(), "{text}");
     }
     Ok(())
@@ -175,10 +207,8 @@ fn other_nodes(rt: HostRuntime) -> Result<(), Fail> {
     let mut newest = NodeLines::new();
     for (row, text) in rows.iter().zip(lines.iter()) {
         let (slot, node, state) = *row;
-        let mut out = MemorySink::new(rt.alloc(), 111, List::new(rt.alloc()))?;
         assert!(rt; state.members.bits() < 65_536);
-        newest.begin(slot);
-        assert!(rt; put_node_line(&narrow, node, &state, None, &mut newest, &mut out).is_ok());
+        let out = written_line(rt.alloc(), &narrow, slot, node, &state, None, &mut newest)?;
         assert!(rt; out.bytes() == text.as_bytes(), "{text}");
     }
     Ok(())
@@ -190,42 +220,36 @@ fn lines_of_one_slot(rt: HostRuntime) -> Result<(), Fail> {
     let narrow = list(&rt, 1);
     let four = four_members();
     let all = four.with(2);
-    let rows: [(u8, Entry, NodeSet, Option<u64>); 8] = [
-        (0, judged(2, Verdict::Correct), all, Some(2)),
-        (1, judged(2, Verdict::Correct), all, Some(2)),
-        (3, judged(2, Verdict::Correct), four, Some(2)),
-        (4, judged(2, Verdict::Correct), four, Some(3)),
-        (5, judged(2, Verdict::Correct), four, None),
-        (6, judged(2, Verdict::Tentative), four, None),
-        (7, judged(3, Verdict::Correct), four, None),
-        (0, judged(2, Verdict::Correct), all, Some(2)),
+    let rows: [(u8, NodeState, Option<u64>); 7] = [
+        (0, heard(2, Verdict::Correct, all), Some(2)),
+        (1, heard(2, Verdict::Correct, all), Some(2)),
+        (3, heard(2, Verdict::Correct, four), Some(2)),
+        (4, heard(2, Verdict::Correct, four), Some(3)),
+        (5, heard(2, Verdict::Correct, four), None),
+        (6, heard(2, Verdict::Tentative, four), None),
+        (7, heard(3, Verdict::Tentative, four), None),
     ];
-    let text = "slot 17 node 0 correct peer 2 msg 2 mem 001f acc 3 rej 0 ack none clock 0\n\
-        slot 17 node 1 correct peer 2 msg 2 mem 001f acc 3 rej 0 ack none clock 0\n\
-        slot 17 node 3 correct peer 2 msg 2 mem 001b acc 3 rej 0 ack none clock 0\n\
-        slot 17 node 4 correct peer 2 msg 3 mem 001b acc 3 rej 0 ack none clock 0\n\
-        slot 17 node 5 correct peer 2 msg - mem 001b acc 3 rej 0 ack none clock 0\n\
-        slot 17 node 6 tentative peer 2 msg - mem 001b acc 3 rej 0 ack none clock 0\n\
-        slot 17 node 7 correct peer 3 msg - mem 001b acc 3 rej 0 ack none clock 0\n\
-        slot 17 node 0 correct peer 2 msg 2 mem 001f acc 3 rej 0 ack none clock 0\n";
-    let mut out = MemorySink::new(rt.alloc(), 1_000, List::new(rt.alloc()))?;
-    let mut lines = NodeLines::new();
-    lines.begin(17);
-    for row in rows.iter() {
-        let (node, entry, members, message) = *row;
-        let state = active(entry, members, 3, 0, Ack::Closed);
+    let lines = [
+        "slot 17 node 0 correct peer 2 msg 2 mem 001f acc 3 rej 0 ack none clock 0\n",
+        "slot 17 node 1 correct peer 2 msg 2 mem 001f acc 3 rej 0 ack none clock 0\n",
+        "slot 17 node 3 correct peer 2 msg 2 mem 001b acc 3 rej 0 ack none clock 0\n",
+        "slot 17 node 4 correct peer 2 msg 3 mem 001b acc 3 rej 0 ack none clock 0\n",
+        "slot 17 node 5 correct peer 2 msg - mem 001b acc 3 rej 0 ack none clock 0\n",
+        "slot 17 node 6 tentative peer 2 msg - mem 001b acc 3 rej 0 ack none clock 0\n",
+        "slot 17 node 7 tentative peer 3 msg - mem 001b acc 3 rej 0 ack none clock 0\n",
+    ];
+    let mut newest = NodeLines::new();
+    for (row, text) in rows.iter().zip(lines.iter()) {
+        let (node, state, message) = *row;
         assert!(rt; state.members.bits() < 65_536);
-        assert!(rt; put_node_line(&narrow, node, &state, message, &mut lines, &mut out).is_ok());
+        let out = written_line(rt.alloc(), &narrow, 17, node, &state, message, &mut newest)?;
+        assert!(rt; out.bytes() == text.as_bytes(), "{text}");
     }
-    assert!(rt; out.bytes() == text.as_bytes());
     Ok(())
 }
 
-// The widest line there can be: the members of a list of version 2 have six digits.
-#[test]
-fn a_wide_line_is_one_piece(rt: HostRuntime) -> Result<(), Fail> {
-    let mut lines = NodeLines::new();
-    let wide = list(&rt, 2);
+// The state of the widest line there can be: the members of a list of version 2 have six digits.
+fn widest_state() -> NodeState {
     let mut state = active(
         judged(23, Verdict::Correct),
         four_members().with(23),
@@ -234,16 +258,38 @@ fn a_wide_line_is_one_piece(rt: HostRuntime) -> Result<(), Fail> {
         Ack::Doubt(22),
     );
     state.offset = -576_460_752_303_423_488;
+    state
+}
+
+#[test]
+fn a_wide_line_is_one_piece(rt: HostRuntime) -> Result<(), Fail> {
+    let mut newest = NodeLines::new();
+    let wide = list(&rt, 2);
+    let state = widest_state();
     let text =
         "slot 19999 node 23 correct peer 23 msg 20000 mem 80001b acc 255 rej 255 ack doubt:22 clock -576460752303423488\n";
-    let mut whole = MemorySink::new(rt.alloc(), 111, List::new(rt.alloc()))?;
-    let mut narrow = MemorySink::new(rt.alloc(), 110, List::new(rt.alloc()))?;
     assert!(rt; state.members.bits() < 16_777_216);
-    lines.begin(19_999);
-    let written = put_node_line(&wide, 23, &state, Some(20_000), &mut lines, &mut whole);
-    assert!(rt; written.is_ok());
-    assert!(rt; whole.bytes() == text.as_bytes());
-    let written = put_node_line(&wide, 23, &state, Some(20_000), &mut lines, &mut narrow);
+    let out = written_line(
+        rt.alloc(),
+        &wide,
+        19_999,
+        23,
+        &state,
+        Some(20_000),
+        &mut newest,
+    )?;
+    assert!(rt; out.bytes() == text.as_bytes());
+    Ok(())
+}
+
+#[test]
+fn a_line_that_does_not_fit(rt: HostRuntime) -> Result<(), Fail> {
+    let mut lines = NodeLines::new();
+    let wide = list(&rt, 2);
+    let state = widest_state();
+    let mut narrow = MemorySink::new(rt.alloc(), 102, List::new(rt.alloc()))?;
+    assert!(rt; state.members.bits() < 16_777_216);
+    let written = put_node_line(&wide, 23, &state, None, &mut lines, &mut narrow);
     assert!(rt; written.is_err());
     assert!(rt; narrow.bytes().is_empty(), "a part of a line was written");
     Ok(())
