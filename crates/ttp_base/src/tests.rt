@@ -64,6 +64,19 @@ fn a_line_takes_each_kind_of_text(rt: HostRuntime) {
 
 #[test]
 #[tactic(auto, using(crate::proofs::Room::room))]
+fn a_line_is_cut_and_goes_on(rt: HostRuntime) {
+    let mut line = Line::new();
+    line.put_text("slot 12 node ");
+    let head = line.len();
+    assert_eq!(rt; head, 13);
+    line.put_number(3);
+    line.cut(head);
+    line.put_bytes(b"40");
+    assert_eq!(rt; line.bytes(), b"slot 12 node 40".as_slice());
+}
+
+#[test]
+#[tactic(auto, using(crate::proofs::Room::room))]
 fn the_ends_of_the_number_ranges(rt: HostRuntime) {
     let mut line = Line::new();
     line.put_number(0);
