@@ -3,8 +3,8 @@ ghost use Rattle.std.specs.Prelude.{◌≡◌, ℕ, ◌+◌, ◌<◌, ◌≤◌,
 ghost use Rattle.ttp_world.specs.Events.{IsBounded};
 
 use crate::{
-    Channels, Event, Events, Fault, FlippedBit, HostRead, Incidents, Kind, Medl, Payload, Script,
-    SlotPlan, Source,
+    Channels, Event, Events, Fault, FlippedBit, HostRead, Incidents, Kind, LastLookUp, Medl,
+    Payload, Script, SlotPlan, Source,
 };
 use std::alloc::Global;
 use std::test::Fail;
@@ -233,9 +233,18 @@ fn incidents_at_the_edges_of_events(rt: HostRuntime) -> Result<(), Fail> {
         (2, 5, flipped),
         (2, 6, NOTHING),
     ];
+    let mut last = LastLookUp::none();
     for (node, slot, due) in rows {
         assert!(rt;
-            script.incidents(node, slot) == due,
+            script.incidents(node, slot) == due
+                && script.incidents_after(node, slot, &mut last) == due,
+            "node {node} in slot {slot}"
+        );
+    }
+    // Backwards, each look-up begins behind its answer.
+    for (node, slot, due) in rows.iter().rev() {
+        assert!(rt;
+            script.incidents_after(*node, *slot, &mut last) == *due,
             "node {node} in slot {slot}"
         );
     }
