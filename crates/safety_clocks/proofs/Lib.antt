@@ -1,0 +1,4 @@
+pub mod SmallerGroups
+pub mod RoundNotes
+pub mod Together
+pub mod Bounds
