@@ -118,7 +118,7 @@ module _ (list : Medl) (script : Script) (start : ClusterStart) (plan : Plan) (t
       let node = e-node list script start plan turn new numbers t in
       let x = slot_of list script new numbers e in
       elim (at-fate e (Falling change since) node is) [
-        | inl left ↦ inl (idle-left x left (unarmed list script start plan turn new numbers t e node))
+        | inl left ↦ inl (idle-left x left.0 (unarmed list script start plan turn new numbers t e node))
         | inr at ↦
             let own = has-turn list script start plan turn new numbers t e node at.phase at.place refl in
             elim (falling-own plan turn x t.planned.follows.good own change since at) [

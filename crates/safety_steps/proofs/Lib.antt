@@ -7,6 +7,8 @@ pub mod Turns
 pub mod Arrivals
 pub mod Receivers
 pub mod SoundSteps
+pub mod Silence
+pub mod JumpedNodes
 pub mod LostSteps
 pub mod Steps
 pub mod Begins

@@ -6,14 +6,12 @@ use Rattle.ttp_base.specs.NodeSet.{has_node, with_node}
 use Rattle.ttp_world.specs.declared.medl.Medl.{Medl}
 use Rattle.ttp_world.specs.declared.node.Ack.{Ack}
 use Rattle.ttp_world.specs.declared.node.Ack.TheVariants as ack
-use Rattle.ttp_world.specs.declared.node.Phase.TheVariants as phase
 use Rattle.ttp_world.specs.declared.node.Verdict.TheVariants as verdict
 use Rattle.ttp_world.specs.declared.script.Script.{Script}
 use Rattle.ttp_world.specs.Diary.{next_place}
 use Rattle.ttp_world.specs.Hypothesis.{ClusterStart, loses}
 use Rattle.ttp_world.specs.Reception.{is_within_window}
-use Rattle.ttp_world.specs.World.{BegunNode, SlotNumbers, Numbers, slot_after, deviation_in, messages_chosen, world}
-use Rattle.ttp_world.proofs.Slots.{node_of-slot_after}
+use Rattle.ttp_world.specs.World.{SlotNumbers, Numbers, slot_after, deviation_in, messages_chosen, world}
 use Rattle.fault_plan.specs.Plan.{Receiving, Jumping, Plan, sender}
 use Rattle.fault_plan.specs.Fates.{Sound, Falling, Fallen, fate_of, is_sound_after, may_stay}
 use Rattle.fault_plan.specs.Fates.{is_good_slot, is_first_slot}
@@ -152,10 +150,11 @@ module _ (list : Medl) (script : Script) (start : ClusterStart) (plan : Plan) (t
   hearing = t.planned.follows.hearing (suc turn) t.within
 
   -- the frame of a sound sender is correct
-  pub receives-good : is_good_slot plan (suc turn) ≡ true
+  pub judges-good : is_good_slot plan (suc turn) ≡ true
       → fate_of plan turn (sender plan (suc turn)) ≡ Sound → is_sound_after plan (suc turn) k ≡ true
-      → IsSoundAt list plan (suc turn) k (next_past (slot_of list script new numbers k))
-  receives-good good_is sends stays =
+      → IsJudgedAs (slot_of list script new numbers k) verdict.Correct
+      ((slot_of list script new numbers k).hearing.deviation (sender plan (suc turn)))
+  judges-good good_is sends stays =
       let e = sender plan (suc turn) in
       let x = slot_of list script new numbers k in
       let judge = sound-judge in
@@ -163,9 +162,14 @@ module _ (list : Medl) (script : Script) (start : ClusterStart) (plan : Plan) (t
       let kept = ap (λ n. loses script e n k) number ∙ hearing.heard k less (λ same. other (sym same)) good_is stays in
       let within = t.clocks.within k e node (e-node list script start plan turn new numbers t) stays good_is in
       let hears = hears-planned list script start plan turn new numbers t sends k judge.at.place kept within in
-      sound-correct plan turn x judge (x.hearing.deviation e) good_is
-      (correct-group x (planned_members plan turn) judge.judging judge.at.group e (not_about plan turn x judge)
-      (subst (λ o. HearsMembers x e (with_node (planned_members plan turn) o)) (sym judge.owner) hears))
+      correct-group x (planned_members plan turn) judge.judging judge.at.group e (not_about plan turn x judge)
+      (subst (λ o. HearsMembers x e (with_node (planned_members plan turn) o)) (sym judge.owner) hears)
+
+  pub receives-good : is_good_slot plan (suc turn) ≡ true
+      → fate_of plan turn (sender plan (suc turn)) ≡ Sound → is_sound_after plan (suc turn) k ≡ true
+      → IsSoundAt list plan (suc turn) k (next_past (slot_of list script new numbers k))
+  receives-good good_is sends stays =
+      sound-correct plan turn (slot_of list script new numbers k) sound-judge _ good_is (judges-good good_is sends stays)
 
   module _ (wrong : is_good_slot plan (suc turn) ≡ false) where
     -- where nobody sends it is null
@@ -198,24 +202,17 @@ module _ (list : Medl) (script : Script) (start : ClusterStart) (plan : Plan) (t
         -- the frame of a node whose clock jumped comes outside the window, or not at all
         pub receives-jumped : (since : ℕ) → is_sound_after plan (suc turn) k ≡ true
             → fate_of plan (suc turn) (sender plan (suc turn)) ≡ Fallen Jumping since (suc turn)
-            → (slot_of list script new numbers (sender plan (suc turn))).past.phase ≡ phase.Active
             → IsSoundAt list plan (suc turn) k (next_past (slot_of list script new numbers k))
-        receives-jumped since stays jumped active = by _ refl
+        receives-jumped since stays jumped = by _ refl
           where
-            e : ℕ
-            e = sender plan (suc turn)
-
             by : (lost : Bool)
                 → loses script (sender plan (suc turn)) (length (world list script numbers)) k ≡ lost
                 → IsSoundAt list plan (suc turn) k (next_past (slot_of list script new numbers k))
             by true lost = receives-none lost
             by false kept =
-                let sends = e-node list script start plan turn new numbers t in
                 receives-outside kept
-                (t.clocks.outside k (sender plan (suc turn)) since node sends stays jumped
-                (ap (λ (n : BegunNode). n.past.phase)
-                (node_of-slot_after list script (world list script numbers) (sender plan (suc turn)) sends)
-                ∙ active))
+                (t.clocks.frame k (sender plan (suc turn)) since node
+                (e-node list script start plan turn new numbers t) stays jumped)
 
         -- the frame of a receiver that was lost
         pub receives-deaf : (since : ℕ) → IsDeafSender plan turn since

@@ -16,7 +16,7 @@ use Rattle.safety_laws.specs.NodeSlot.{next_past}
 use Rattle.safety_laws.specs.Senders.{SendsAlone}
 use Rattle.safety_steps.specs.ByFate.{IsSoundAt, IsFallingAt, IsFallenAt}
 use Rattle.safety_steps.specs.Turn.{IsTurn}
-use Rattle.safety_steps.proofs.Arrivals.{sound-alone, sound-owner, silent-absent, fallen-leaves, falling-acts}
+use Rattle.safety_steps.proofs.Arrivals.{sound-alone, silent-absent, fallen-leaves, falling-acts}
 use Rattle.safety_steps.proofs.PlanSteps.{IsStruck, struck-known, absent-stays, fallen-stays, sound-stays}
 use Rattle.safety_steps.proofs.PlanSteps.{falling-shown, struck-shown, first-shown}
 use Rattle.safety_steps.proofs.Receivers.{receives-good, receives-silence, receives-none}
@@ -37,9 +37,6 @@ module _ (list : Medl) (script : Script) (start : ClusterStart) (plan : Plan) (t
       → IsSoundAt list plan (suc turn) k (next_past (slot_of list script new numbers k))
   by-struck sends struck = by struck.incident.change refl
     where
-      e : ℕ
-      e = sender plan (suc turn)
-
       shown : fate_of plan (suc turn) (sender plan (suc turn)) ≡ Fallen struck.incident.change (suc turn) (suc turn)
       shown = struck-shown plan turn (sender plan (suc turn)) struck refl
 
@@ -66,7 +63,6 @@ module _ (list : Medl) (script : Script) (start : ClusterStart) (plan : Plan) (t
           receives-jumped list script start plan turn new numbers t k node other sound wrong first
           (sound-alone list script start plan turn new numbers t sends) (suc turn) stays
           (shown ∙ ap (λ (c : Change). Fallen c (suc turn) (suc turn)) how)
-          (sound-owner list script start plan turn new numbers t sends).at.phase
 
   -- it is the sender's first own slot since it was lost
   by-falling : (change : Change) (since : ℕ) → fate_of plan turn (sender plan (suc turn)) ≡ Falling change since
@@ -105,7 +101,7 @@ module _ (list : Medl) (script : Script) (start : ClusterStart) (plan : Plan) (t
           absurd (apart (loss-sending plan (sender plan (suc turn)) since change t.planned.follows.good told.loss how))
       by Jumping how sends =
           receives-jumped list script start plan turn new numbers t k node other sound wrong first sends.0 since stays
-          (shown ∙ ap (λ (c : Change). Fallen c since (suc turn)) how) sends.1.phase
+          (shown ∙ ap (λ (c : Change). Fallen c since (suc turn)) how)
       by Receiving how sends =
           receives-deaf list script start plan turn new numbers t k node other sound wrong first sends.0 since
           (record {

@@ -57,7 +57,7 @@ module _ (list : Medl) (script : Script) (start : ClusterStart) (plan : Plan) (t
       by-sound is true hit =
           let struck = struck-known plan (suc turn) k hit in
           of-fate k _ _ (struck-falls plan turn k struck other)
-          (struck-next list script start plan turn new numbers t k node other is struck)
+          (inr (struck-next list script start plan turn new numbers t k node other is struck))
       by-sound is false missed =
           let stays = sound-stays plan turn k missed is in
           of-fate k _ Sound stays
@@ -86,9 +86,6 @@ module _ (list : Medl) (script : Script) (start : ClusterStart) (plan : Plan) (t
       IsByFate list plan (suc turn) e (next_past (slot_of list script new numbers e)) (fate_of plan (suc turn) e)
   own-next = by (fate_of plan turn (sender plan (suc turn))) refl
     where
-      e : ℕ
-      e = sender plan (suc turn)
-
       by-sound : fate_of plan turn (sender plan (suc turn)) ≡ Sound
           → (hit : Bool) → strikes (incident_at plan (suc turn)) (sender plan (suc turn)) ≡ hit
           → IsByFate list plan (suc turn) (sender plan (suc turn))

@@ -96,7 +96,7 @@ module _ (list : Medl) (script : Script) (start : ClusterStart) (plan : Plan) (t
             → Stance list plan turn (slot_of list script new numbers k)
         by Absent is off = IsOff off (absent-off is)
         by Sound is at = IsActive at.phase at.place
-        by (Falling change since) is (inl left) = HasLeft left
+        by (Falling change since) is (inl left) = HasLeft left.0
         by (Falling change since) is (inr at) = IsActive at.phase at.place
         by (Fallen change since shown) is (inl left) = HasLeft left
         by (Fallen change since shown) is (inr at) = IsActive at.phase at.place

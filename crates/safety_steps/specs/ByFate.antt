@@ -63,11 +63,12 @@ pub record IsFallenAt (list : Medl) (plan : Plan) (turn k shown : ℕ) (past : N
 
 -- All.
 
--- an absent node is off; a lost one may have left early, and has left when a round is over since its first own slot
+-- an absent node is off; a receiver that was lost may leave before its first own slot, and each lost node has left when
+-- a round is over since that slot
 abbrev pub IsByFate : Medl → Plan → ℕ → ℕ → NodePast → Fate → Type 0
 IsByFate list plan turn k past Absent = past.phase ≡ phase.Off
 IsByFate list plan turn k past Sound = IsSoundAt list plan turn k past
 IsByFate list plan turn k past (Falling change since) =
-    (past.phase ≡ phase.Left) ⊎ IsFallingAt list plan turn change since past
+    ((past.phase ≡ phase.Left) × (change ≡ Receiving)) ⊎ IsFallingAt list plan turn change since past
 IsByFate list plan turn k past (Fallen change since shown) =
     (past.phase ≡ phase.Left) ⊎ IsFallenAt list plan turn k shown past

@@ -13,8 +13,8 @@
 //!   on and for all legal message numbers.
 //!
 //! Of clocks it takes as a premise what a slot needs (`ClocksHold` of `specs/Clocks.antt`): between
-//! sound nodes a deviation lies inside the window, and the first frame of a node whose clock jumped
-//! comes outside. It does not prove that.
+//! sound nodes a deviation lies inside the window, and a node whose clock jumped is outside it, and they
+//! outside its own, up to its first own slot. It does not prove that.
 #![tactic(auto)]
 
 pub mod laws;
