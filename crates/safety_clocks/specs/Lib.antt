@@ -1,1 +1,2 @@
 pub mod NotedByPlan
+pub mod Jumps
