@@ -16,3 +16,6 @@
 #![tactic(auto)]
 
 pub mod laws;
+#[cfg(test)]
+mod tests;
+mod worked_run;
