@@ -1,0 +1,10 @@
+pub mod SmallerGroups
+pub mod RoundNotes
+pub mod Together
+pub mod Bounds
+pub mod Apart
+pub mod JumpedFates
+pub mod NearNotes
+pub mod RoundKnown
+pub mod JumpedClock
+pub mod OutsideWindow

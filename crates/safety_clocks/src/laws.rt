@@ -1,0 +1,83 @@
+//! The laws of clocks by a plan. The functions do nothing; their contracts are the laws.
+ghost use Rattle.std.specs.Prelude.{◌≡◌, ℕ, suc, ◌+◌, ◌<◌, ◌≤◌, Bool, true, false, List, length, neg_ℤ};
+ghost use Rattle.std.specs.Prelude.{◌-ℤ◌, ◌≤ℤ◌, IsTrue};
+ghost use Rattle.ttp_world.specs.declared.medl.Medl.{Medl};
+ghost use Rattle.ttp_world.specs.declared.node.Entry.{Entry};
+ghost use Rattle.ttp_world.specs.declared.script.Script.{Script};
+ghost use Rattle.ttp_world.specs.Diary.{History};
+ghost use Rattle.ttp_world.specs.Hypothesis.{ClusterStart, needed};
+ghost use Rattle.ttp_world.specs.Medl.{IsValid};
+ghost use Rattle.ttp_world.specs.Reception.{is_within_window};
+ghost use Rattle.precision.specs.Spread.{spread};
+ghost use Rattle.precision.specs.Together.{BeganTogether, StayedTogether, RanTogether, clock_at, measured};
+ghost use Rattle.fault_plan.specs.Plan.{Plan};
+ghost use Rattle.fault_plan.specs.Fates.{is_sound_after};
+ghost use Rattle.fault_plan.specs.Kept.{FollowsPlan};
+ghost use Rattle.safety_clocks.specs.Jumps.{HasJumped};
+ghost use Rattle.safety_clocks.specs.NotedByPlan.{IsSoundIn, StartedByPlan, NotedByPlan};
+
+/// The nodes that are sound by a plan run together since the start. They began together in it
+/// (`began`), and after each slot up to which they noted by the plan, those that are sound then have
+/// run together (`together`): in each round that began after the start they noted four frames or
+/// more. A group that ran together did so without some of its nodes (`smaller`).
+pub fn runs_together()
+    ensures smaller { (list : Medl) (script : Script) (less group : ℕ → Bool) (s : ℕ) (history : History)
+        → ((k : ℕ) → less k ≡ true → group k ≡ true) → RanTogether list script group s history
+        → RanTogether list script less s history }
+    ensures began { (list : Medl) (script : Script) (start : ClusterStart) (plan : Plan) (row : List Entry)
+        (history : History)
+        → FollowsPlan list script start plan → StartedByPlan list script start plan row history
+        → BeganTogether list script (is_sound_after plan 0) row history }
+    ensures together { (list : Medl) (script : Script) (start : ClusterStart) (plan : Plan) (slot : ℕ)
+        (history : History)
+        → FollowsPlan list script start plan → NotedByPlan list script start plan slot history
+        → length history ≤ script.slots → RanTogether list script (is_sound_after plan slot) start.slot history }
+{}
+
+/// At the beginning of each slot after the start, the clocks of any two nodes that are sound after it
+/// are no further apart than the spread (`clocks`), and what one measures of the other lies no further
+/// from 0 than is needed (`deviations`), and so within the window (`window`). This is where the sound
+/// nodes noted by the plan up to the slot before.
+pub fn clocks_near()
+    ensures clocks { (list : Medl) (script : Script) (start : ClusterStart) (plan : Plan) (slot : ℕ)
+        (history : History)
+        → IsValid list → FollowsPlan list script start plan → NotedByPlan list script start plan slot history
+        → start.slot + suc slot < script.slots
+        → (j k : ℕ) → IsSoundIn list plan (suc slot) j → IsSoundIn list plan (suc slot) k
+        → (clock_at list script history j -ℤ clock_at list script history k) ≤ℤ spread list }
+    ensures deviations { (list : Medl) (script : Script) (start : ClusterStart) (plan : Plan) (slot : ℕ)
+        (history : History)
+        → IsValid list → FollowsPlan list script start plan → NotedByPlan list script start plan slot history
+        → start.slot + suc slot < script.slots
+        → (r p : ℕ) → IsSoundIn list plan (suc slot) r → IsSoundIn list plan (suc slot) p
+        → (neg_ℤ (needed list) ≤ℤ measured list script history r p)
+        × (measured list script history r p ≤ℤ needed list) }
+    ensures window { (list : Medl) (script : Script) (start : ClusterStart) (plan : Plan) (slot : ℕ)
+        (history : History)
+        → IsValid list → FollowsPlan list script start plan → NotedByPlan list script start plan slot history
+        → start.slot + suc slot < script.slots
+        → (r p : ℕ) → IsSoundIn list plan (suc slot) r → IsSoundIn list plan (suc slot) p
+        → IsTrue (is_within_window list (measured list script history r p)) }
+{}
+
+/// A node that was lost by a jump of its clock: in each slot from the jump up to the first of its own,
+/// each sound node's window leaves its frame out (`frame`), and its own window leaves out the frame of
+/// each sound node (`others`). For a jump goes four windows or more, and what else comes between two
+/// clocks in a round, drifts and one correction of each, is less than three windows. This is where up
+/// to the slot before the sound nodes noted by the plan, and this one noted nothing since its jump.
+pub fn jumped_outside()
+    ensures frame { (list : Medl) (script : Script) (start : ClusterStart) (plan : Plan) (slot : ℕ)
+        (history : History)
+        → IsValid list → FollowsPlan list script start plan → NotedByPlan list script start plan slot history
+        → start.slot + suc slot < script.slots
+        → (x k since : ℕ) → x < length list.slots → HasJumped plan (suc slot) x since
+        → IsSoundIn list plan (suc slot) k
+        → is_within_window list (measured list script history k x) ≡ false }
+    ensures others { (list : Medl) (script : Script) (start : ClusterStart) (plan : Plan) (slot : ℕ)
+        (history : History)
+        → IsValid list → FollowsPlan list script start plan → NotedByPlan list script start plan slot history
+        → start.slot + suc slot < script.slots
+        → (x k since : ℕ) → x < length list.slots → HasJumped plan (suc slot) x since
+        → IsSoundIn list plan (suc slot) k
+        → is_within_window list (measured list script history x k) ≡ false }
+{}
