@@ -26,7 +26,9 @@ use Rattle.fault_plan.specs.Ledger.{opened, ledger_of}
 use Rattle.fault_plan.proofs.Members.{first-sender}
 use Rattle.fault_plan.proofs.Persists.{absent-always, sound-first}
 use Rattle.safety_laws.specs.Groups.{HoldsGroup}
-use Rattle.safety_laws.specs.Start.{StartsAlone, IsStartHeard}
+use Rattle.safety_laws.specs.Start.{StartsAlone, IsStartHeard, starter_standing, joined_on_start, joined_standing}
+use Rattle.safety_laws.specs.Standing.{StandsBy}
+use Rattle.ttp_world.specs.World.{deviation_in}
 use Rattle.safety_laws.proofs.StartSlot.{first_due, starter-stands, joiner-stands, off-stays, has-begun}
 use Rattle.safety_laws.proofs.Waiting.{WaitAll, WaitAll-world}
 use Rattle.safety_steps.specs.ByFate.{doubts, IsCounted, IsSoundAt, IsByFate}
@@ -120,6 +122,27 @@ module _ (list : Medl) (script : Script) (start : ClusterStart) (plan : Plan) (i
       sender-first : sender plan 0 ≡ start.node
       sender-first = first-sender plan is.planned.follows.good ∙ starter-same
 
+      pub starter-begun : StandsBy (node_past list script (world list script (new ∷ numbers)) start.node) entry.Started
+          (starter_standing list start.node)
+      starter-begun =
+          starter-stands list script start (world list script numbers)
+          (messages_chosen list script (length numbers) new.sent) is.planned.valid alone waited number
+
+      pub joiner-begun : (k : ℕ) → k < length list.slots → k ≢ start.node → is_on script k start.slot ≡ true →
+          let deviation = deviation_in (slot_after list script (world list script numbers)) k start.node in
+          StandsBy (node_past list script (world list script (new ∷ numbers)) k) (joined_on_start start.node deviation)
+          (joined_standing list start.node deviation)
+      joiner-begun k node other on =
+          joiner-stands list script start (world list script numbers)
+          (messages_chosen list script (length numbers) new.sent) is.planned.valid alone waited number start-heard k
+          node other on
+
+      -- all that are sound are on
+      pub on-begun : (k : ℕ) → k < length list.slots → is_sound_after plan 0 k ≡ true
+          → is_on script k start.slot ≡ true
+      on-begun k node sound =
+          sym (on-first k node) ∙ sym (sound-first plan k is.planned.follows.good) ∙ sound
+
       -- a starter counts its own frame, and a node that joins the starter's
       counts : (k : ℕ) → k < length list.slots → is_on script k start.slot ≡ true
           → IsCounted (ledger_of plan 0 k) (node_past list script (world list script (new ∷ numbers)) k)
@@ -127,8 +150,7 @@ module _ (list : Medl) (script : Script) (start : ClusterStart) (plan : Plan) (i
           ⊎ ((node_past list script (world list script (new ∷ numbers)) k).ack ≡ ack.Closed))
       counts k node on = elim (cases_eq k start.node) [
         | inl same ↦
-            let stands = starter-stands list script start (world list script numbers)
-            (messages_chosen list script (length numbers) new.sent) is.planned.valid alone waited number in
+            let stands = starter-begun in
             let own : (sender plan 0 == start.node) ≡ true = eq-eqb (sender plan 0) start.node sender-first in
             subst (λ j. IsCounted (ledger_of plan 0 j) (node_past list script (world list script (new ∷ numbers)) j)
             × (((node_past list script (world list script (new ∷ numbers)) j).ack ≡ ack.First)
@@ -138,9 +160,7 @@ module _ (list : Medl) (script : Script) (start : ClusterStart) (plan : Plan) (i
               inl stands.ack,
             )
         | inr other ↦
-            let stands = joiner-stands list script start (world list script numbers)
-            (messages_chosen list script (length numbers) new.sent) is.planned.valid alone waited number start-heard k
-            node other on in (
+            let stands = joiner-begun k node other on in (
               counted-first (sender plan 0 == k) _ stands.accepted stands.rejected
                   (λ opened. absurd (false≢true (ap is_open (sym stands.ack) ∙ opened)))
                   (λ cold. absurd (false≢true (sym stands.cold_start ∙ cold))) (inr stands.ack),
@@ -204,10 +224,7 @@ module _ (list : Medl) (script : Script) (start : ClusterStart) (plan : Plan) (i
       sent-begun k node sound sent = elim (cases_eq k start.node) [
         | inl same ↦ eq-eqb (sender plan 0) k (sender-first ∙ sym same)
         | inr other ↦
-            let on = sym (on-first k node) ∙ sym (sound-first plan k is.planned.follows.good) ∙ sound in
-            let stands = joiner-stands list script start (world list script numbers)
-            (messages_chosen list script (length numbers) new.sent) is.planned.valid alone waited number start-heard k
-            node other on in
+            let stands = joiner-begun k node other (on-begun k node sound) in
             let row = row_in (slot_after list script (world list script numbers))
             (messages_chosen list script (length numbers) new.sent) in
             let unsent : is_sending (entry_of row k) ≡ false = ap is_sending stands.entry in

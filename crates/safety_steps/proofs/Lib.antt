@@ -12,6 +12,4 @@ pub mod JumpedNodes
 pub mod LostSteps
 pub mod Steps
 pub mod Begins
-pub mod Runs
 pub mod Safe
-pub mod Kept

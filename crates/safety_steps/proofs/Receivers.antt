@@ -169,7 +169,8 @@ module _ (list : Medl) (script : Script) (start : ClusterStart) (plan : Plan) (t
       → fate_of plan turn (sender plan (suc turn)) ≡ Sound → is_sound_after plan (suc turn) k ≡ true
       → IsSoundAt list plan (suc turn) k (next_past (slot_of list script new numbers k))
   receives-good good_is sends stays =
-      sound-correct plan turn (slot_of list script new numbers k) sound-judge _ good_is (judges-good good_is sends stays)
+      sound-correct plan turn (slot_of list script new numbers k) sound-judge _ good_is
+      (judges-good good_is sends stays)
 
   module _ (wrong : is_good_slot plan (suc turn) ≡ false) where
     -- where nobody sends it is null

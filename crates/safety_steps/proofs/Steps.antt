@@ -125,7 +125,7 @@ module _ (list : Medl) (script : Script) (start : ClusterStart) (plan : Plan) (t
           (inl (fallen-leaves list script start plan turn new numbers t change since shown is).0)
 
   -- Each node.
-  node-next : (k : ℕ) → k < length list.slots
+  pub node-next : (k : ℕ) → k < length list.slots
       → IsByFate list plan (suc turn) k (next_past (slot_of list script new numbers k)) (fate_of plan (suc turn) k)
   node-next k node = elim (cases_eq (sender plan (suc turn)) k) [
     | inl own ↦

@@ -1,23 +1,13 @@
--- A run of a planned script: what is asked of its clocks, and of the slot after which it stands.
-use Rattle.std.specs.Prelude.{◌≡◌, ◌≢◌, ℕ, suc, ◌+◌, ◌-◌, ◌<◌, true, false, [], ◌∷◌, length}
+-- A run of a planned script: how it begins, and where it stands after a turn.
+use Rattle.std.specs.Prelude.{◌≡◌, ◌≢◌, ℕ, suc, ◌+◌, ◌<◌, true, false, length}
 use Rattle.ttp_world.specs.declared.medl.Medl.{Medl}
 use Rattle.ttp_world.specs.declared.script.Script.{Script}
 use Rattle.ttp_world.specs.Diary.{History}
 use Rattle.ttp_world.specs.Hypothesis.{ClusterStart, loses}
 use Rattle.ttp_world.specs.Script.{is_on}
-use Rattle.ttp_world.specs.World.{Numbers, slot_after, world}
 use Rattle.fault_plan.specs.Plan.{Plan}
 use Rattle.fault_plan.specs.Kept.{IsLoneStart, IsPlanOfFaults}
-use Rattle.safety_steps.specs.Clocks.{ClocksHold}
 use Rattle.safety_steps.specs.Turn.{HoldsAfter, IsPlanned}
-
--- the clocks hold in each slot of a world after that of the start
-abbrev pub ClocksHoldSince : Medl → Script → ClusterStart → Plan → Numbers → Type 0
-ClocksHoldSince list script start plan [] = Unit {0}
-ClocksHoldSince list script start plan (new ∷ numbers) =
-    (start.slot < length numbers
-    → ClocksHold list plan (length numbers - start.slot) (slot_after list script (world list script numbers)))
-    × ClocksHoldSince list script start plan numbers
 
 -- a script follows a plan from a lone start, whose frame comes to all that are on
 pub record IsBegun (list : Medl) (script : Script) (start : ClusterStart) (plan : Plan) : Type 0 where

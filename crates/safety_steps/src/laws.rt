@@ -1,25 +1,21 @@
 //! The laws of membership, slot by slot. The functions do nothing; their contracts are the laws.
 ghost use Rattle.std.specs.Prelude.{◌≡◌, ℕ, suc, ◌+◌, ◌*◌, ◌<◌, ◌≤◌, true, ◌∷◌, length, Some};
-ghost use Rattle.ttp_world.specs.declared.keep.Keep.TheVariants as keep;
 ghost use Rattle.ttp_world.specs.declared.medl.Medl.{Medl};
 ghost use Rattle.ttp_world.specs.declared.node.Phase.TheVariants as phase;
 ghost use Rattle.ttp_world.specs.declared.script.Script.{Script};
 ghost use Rattle.ttp_world.specs.Diary.{History};
-ghost use Rattle.ttp_world.specs.Hypothesis.{ClusterStart, start_of, keeps, is_correct_after};
-ghost use Rattle.ttp_world.specs.Legal.{IsLegal};
-ghost use Rattle.ttp_world.specs.Medl.{IsValid};
+ghost use Rattle.ttp_world.specs.Hypothesis.{ClusterStart, is_correct_after};
 ghost use Rattle.ttp_world.specs.Safety.{newest_slot, IsSafe};
-ghost use Rattle.ttp_world.specs.Script.{IsValidScript};
 ghost use Rattle.ttp_world.specs.World.{SlotNumbers, Numbers, node_past, world};
-ghost use Rattle.fault_plan.specs.Plan.{Change, Sending, Plan, plan_of};
+ghost use Rattle.fault_plan.specs.Plan.{Change, Sending, Plan};
 ghost use Rattle.fault_plan.specs.Fates.{Fallen, fate_of, lost_since};
 ghost use Rattle.safety_steps.specs.ByFate.{IsSoundAt};
 ghost use Rattle.safety_steps.specs.Turn.{HoldsAfter, IsTurn};
-ghost use Rattle.safety_steps.specs.Run.{ClocksHoldSince, IsBegun, StandsAfter};
+ghost use Rattle.safety_steps.specs.Run.{IsBegun, StandsAfter};
 
 /// After the slot of the start each node is what its fate says (`first`), and so it is after each turn
-/// more (`next`), if deviations lie as `ClocksHold` says in the turn's slot. So it is in a whole run
-/// (`run`), whichever faults the plan brings: of senders, of receivers or of clocks that jump.
+/// more (`next`), if deviations lie as `ClocksHold` says in the turn's slot: whichever faults the plan
+/// brings, of senders, of receivers or of clocks that jump.
 pub fn by_fate()
     ensures first { (list : Medl) (script : Script) (start : ClusterStart) (plan : Plan) (new : SlotNumbers)
         (numbers : Numbers) → IsBegun list script start plan → length numbers ≡ start.slot
@@ -27,11 +23,6 @@ pub fn by_fate()
     ensures next { (list : Medl) (script : Script) (start : ClusterStart) (plan : Plan) (turn : ℕ) (new : SlotNumbers)
         (numbers : Numbers) → IsTurn list script start plan turn new numbers
         → HoldsAfter list script plan (suc turn) (world list script (new ∷ numbers)) }
-    ensures run { (list : Medl) (script : Script) (start : ClusterStart) (plan : Plan) (turn : ℕ) (numbers : Numbers)
-        → IsBegun list script start plan → length numbers ≡ suc (start.slot + turn)
-        → start.slot + turn < script.slots → IsLegal list script numbers
-        → ClocksHoldSince list script start plan numbers
-        → HoldsAfter list script plan turn (world list script numbers) }
 {}
 
 /// What that says of the nodes that the hypothesis test calls correct and faulty. A correct node holds the
@@ -62,21 +53,4 @@ pub fn safe_by_fate()
     ensures safe { (list : Medl) (script : Script) (start : ClusterStart) (plan : Plan) (turn : ℕ) (history : History)
         → StandsAfter list script start plan turn history
         → IsSafe list script history }
-{}
-
-/// A script that keeps the single-fault hypothesis is safe after each slot from the start on, for all
-/// legal message numbers, if the clocks hold in the slots since the start.
-pub fn safe()
-    ensures stands { (list : Medl) (script : Script) (start : ClusterStart) (turn : ℕ) (numbers : Numbers)
-        → IsValid list → IsValidScript list script → start_of list script ≡ Some start
-        → keeps list script ≡ keep.Yes start.slot
-        → length numbers ≡ suc (start.slot + turn) → length numbers ≤ script.slots → IsLegal list script numbers
-        → ClocksHoldSince list script start (plan_of list script start) numbers
-        → StandsAfter list script start (plan_of list script start) turn (world list script numbers) }
-    ensures safe { (list : Medl) (script : Script) (start : ClusterStart) (numbers : Numbers)
-        → IsValid list → IsValidScript list script → start_of list script ≡ Some start
-        → keeps list script ≡ keep.Yes start.slot
-        → start.slot < length numbers → length numbers ≤ script.slots → IsLegal list script numbers
-        → ClocksHoldSince list script start (plan_of list script start) numbers
-        → IsSafe list script (world list script numbers) }
 {}

@@ -8,13 +8,13 @@
 //!   fate by the plan says (`HoldsAfter` of `specs/Turn.antt`): a sound node stands where the plan
 //!   stands, and its members, counts and acknowledgement are those of the plan; a lost node has left, or
 //!   no frame answers its own; an absent node is off;
-//! - [`laws::safe_by_fate`]: so the tests of safety hold, and lost nodes have left in time;
-//! - [`laws::safe`]: for a script that keeps the single-fault hypothesis, after each slot from the start
-//!   on and for all legal message numbers.
+//! - [`laws::safe_by_fate`]: so the tests of safety hold, and lost nodes have left in time.
 //!
-//! Of clocks it takes as a premise what a slot needs (`ClocksHold` of `specs/Clocks.antt`): between
+//! Of clocks a slot takes as a premise what it needs (`ClocksHold` of `specs/Clocks.antt`): between
 //! sound nodes a deviation lies inside the window, and a node whose clock jumped is outside it, and they
-//! outside its own, up to its first own slot. It does not prove that.
+//! outside its own, up to its first own slot. That this holds is for the crate above to show.
 #![tactic(auto)]
 
 pub mod laws;
+#[cfg(test)]
+mod tests;

@@ -1,5 +1,4 @@
 use Rattle.safety_steps.proofs.Begins.{holds-begun}
-use Rattle.safety_steps.proofs.Runs.{holds-run}
 use Rattle.safety_steps.proofs.Steps.{holds-next}
 use Rattle.safety_steps.proofs.laws.by_fate.Goals as goal
 
@@ -9,7 +8,3 @@ returns-clause-first c = λ list script start plan new numbers is now.
 
 pub returns-clause-next : goal.returns-clause-next
 returns-clause-next c = holds-next
-
-pub returns-clause-run : goal.returns-clause-run
-returns-clause-run c = λ list script start plan turn numbers is.
-    holds-run list script start plan is turn numbers
