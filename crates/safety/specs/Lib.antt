@@ -1,1 +1,2 @@
 pub mod ByPlan
+pub mod WorkedRuns

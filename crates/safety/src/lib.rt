@@ -6,7 +6,8 @@
 //! two are one induction: [`laws::by_plan`] for every run that follows a good plan of faults, and
 //! [`safe`] for a script that keeps the single-fault hypothesis, with no premise left.
 //!
-//! The crate has no code that does anything: its functions are laws.
+//! The crate has no code that does anything: its functions are laws, and worked cases that the check
+//! computes.
 #![tactic(auto)]
 
 ghost use Rattle.std.specs.Prelude.{◌≡◌, ℕ, ◌<◌, ◌≤◌, ◌≤ℤ◌, ◌-ℤ◌, neg_ℤ, length, IsTrue};
@@ -23,6 +24,7 @@ ghost use Rattle.precision.specs.Together.{clock_at, measured};
 pub mod laws;
 #[cfg(test)]
 mod tests;
+mod worked_runs;
 
 use ttp_world::{Medl, Script};
 
