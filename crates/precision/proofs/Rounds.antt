@@ -28,15 +28,15 @@ drifted list before m = before +ℤ (drift_in list (suc m) +ℤ drift_in list (s
 
 -- Products with a number of slots.
 
-product_more : (d : ℤ) (m : ℕ) → pos 0 ≤ℤ d → d *ℤ pos (suc m) ≡ d *ℤ pos m +ℤ d
+pub product_more : (d : ℤ) (m : ℕ) → pos 0 ≤ℤ d → d *ℤ pos (suc m) ≡ d *ℤ pos m +ℤ d
 product_more (pos a) m up = omega (arith, ints)
 product_more (negsuc a) m up = absurd (omega (arith, ints, up))
 
-product_upto : (d : ℤ) (m n : ℕ) → pos 0 ≤ℤ d → m ≤ n → (d *ℤ pos m) ≤ℤ (d *ℤ pos n)
+pub product_upto : (d : ℤ) (m n : ℕ) → pos 0 ≤ℤ d → m ≤ n → (d *ℤ pos m) ≤ℤ (d *ℤ pos n)
 product_upto (pos a) m n up few = omega (arith, ints, mul-le-mul_left a few)
 product_upto (negsuc a) m n up few = absurd (omega (arith, ints, up))
 
-product_four : (d : ℤ) (n : ℕ) → pos 0 ≤ℤ d
+pub product_four : (d : ℤ) (n : ℕ) → pos 0 ≤ℤ d
     → d *ℤ pos (4 * n) ≡ (d *ℤ pos n +ℤ d *ℤ pos n) +ℤ (d *ℤ pos n +ℤ d *ℤ pos n)
 product_four (pos a) n up = omega (arith, ints)
 product_four (negsuc a) n up = absurd (omega (arith, ints, up))
@@ -45,7 +45,7 @@ product_one : (d : ℤ) → pos 0 ≤ℤ d → d *ℤ pos 1 ≡ d
 product_one (pos a) up = omega (arith, ints)
 product_one (negsuc a) up = absurd (omega (arith, ints, up))
 
-product_up : (d : ℤ) (n : ℕ) → pos 0 ≤ℤ d → pos 0 ≤ℤ (d *ℤ pos n)
+pub product_up : (d : ℤ) (n : ℕ) → pos 0 ≤ℤ d → pos 0 ≤ℤ (d *ℤ pos n)
 product_up (pos a) n up = omega (arith, ints)
 product_up (negsuc a) n up = absurd (omega (arith, ints, up))
 

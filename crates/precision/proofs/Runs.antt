@@ -29,10 +29,10 @@ use Rattle.precision.proofs.Entries.{notes_anew, notes_more, begun_round_first, 
 use Rattle.precision.proofs.Entries.{offset_corrected, clock_at-still}
 
 -- node k's clock after a history, and its notes of the newest slot's round
-abbrev clock_after : Medl → Script → History → ℕ → ℤ
+abbrev pub clock_after : Medl → Script → History → ℕ → ℤ
 clock_after list script history k = offset_of list k (diary_of history k) (surroundings_of script history k)
 
-abbrev round_notes : Medl → History → ℕ → List ℤ
+abbrev pub round_notes : Medl → History → ℕ → List ℤ
 round_notes list history k = stint_notes list k (diary_of history k)
 
 -- the group is at one place, and its clocks are held

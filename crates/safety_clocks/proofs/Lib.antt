@@ -2,3 +2,9 @@ pub mod SmallerGroups
 pub mod RoundNotes
 pub mod Together
 pub mod Bounds
+pub mod Apart
+pub mod JumpedFates
+pub mod NearNotes
+pub mod RoundKnown
+pub mod JumpedClock
+pub mod OutsideWindow

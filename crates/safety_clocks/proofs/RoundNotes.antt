@@ -61,7 +61,7 @@ none-silent list place _ none = absurd none
 
 -- One slot of a plan.
 
-sender-in : (list : Medl) (script : Script) (start : ClusterStart) (plan : Plan) (slot : ℕ)
+pub sender-in : (list : Medl) (script : Script) (start : ClusterStart) (plan : Plan) (slot : ℕ)
     → FollowsPlan list script start plan → sender plan slot < length list.slots
 sender-in list script start plan slot follows =
     let few = follows.good.count.0 in
@@ -80,7 +80,8 @@ sync-planned list script start plan slot follows =
     ap (λ m. (plan_at list m).sync) (place-slot list script start plan slot follows)
     ∙ sym (follows.measured (sender plan slot) (sender-in list script start plan slot follows))
 
-goes-on : (list : Medl) (script : Script) (plan : Plan) (slot k : ℕ) (row : List Entry) (history : History) (good : Bool)
+goes-on : (list : Medl) (script : Script) (plan : Plan) (slot k : ℕ) (row : List Entry) (history : History)
+    (good : Bool)
     → is_good_slot plan slot ≡ good → NotedInSlot list script plan slot row history → IsSoundIn list plan slot k
     → continues_stint (entry_of row k) ≡ true
 goes-on list script plan slot k row history true is noted p =
@@ -91,7 +92,8 @@ goes-on list script plan slot k row history false is noted p = goes-silent (entr
 pub sound-goes : (list : Medl) (script : Script) (plan : Plan) (slot k : ℕ) (row : List Entry) (history : History)
     → NotedInSlot list script plan slot row history → IsSoundIn list plan slot k
     → continues_stint (entry_of row k) ≡ true
-sound-goes list script plan slot k row history = goes-on list script plan slot k row history (is_good_slot plan slot) refl
+sound-goes list script plan slot k row history =
+    goes-on list script plan slot k row history (is_good_slot plan slot) refl
 
 new-notes : (list : Medl) (script : Script) (start : ClusterStart) (plan : Plan) (slot k : ℕ) (row : List Entry)
     (history : History) (good : Bool)
@@ -109,7 +111,7 @@ new-notes list script start plan slot k row history false is follows noted p =
 
 -- The index of a slot in its round.
 
-index-next : (list : Medl) (script : Script) (start : ClusterStart) (plan : Plan) (slot : ℕ) (last : Bool)
+pub index-next : (list : Medl) (script : Script) (start : ClusterStart) (plan : Plan) (slot : ℕ) (last : Bool)
     → (suc (planned_place list plan slot).slot == length list.slots) ≡ last
     → FollowsPlan list script start plan
     → sender plan (suc slot) ≡ cond last 0 (suc (sender plan slot))
@@ -125,8 +127,8 @@ index-next list script start plan slot last is follows =
         let more : (planned_place list plan slot).slot + 1 ≡ suc (planned_place list plan slot).slot = omega arith in
         rw inside more
 
--- After a slot of the plan each sound node is at the slot's place, and it has noted one deviation for each measured slot
--- of its round, if that began after the start.
+-- After a slot of the plan each sound node is at the slot's place, and it has noted one deviation for each measured
+-- slot of its round, if that began after the start.
 pub record Counted (list : Medl) (plan : Plan) (slot : ℕ) (history : History) : Type 0 where
   pub places : (k : ℕ) → IsSoundIn list plan slot k
       → stint_place list k (diary_of history k) ≡ planned_place list plan slot
@@ -151,7 +153,8 @@ place-next list script plan slot k row history noted p is =
     ∙ ap (next_place list) is
 
 -- a node that is sound after the next slot is so after this one
-pub sound-back : (list : Medl) (plan : Plan) (slot k : ℕ) → IsSoundIn list plan (suc slot) k → IsSoundIn list plan slot k
+pub sound-back : (list : Medl) (plan : Plan) (slot k : ℕ) → IsSoundIn list plan (suc slot) k
+    → IsSoundIn list plan slot k
 sound-back list plan slot k p = (p.0, sound-before plan slot (suc slot) k (omega arith) p.1)
 
 plus-none : (n : ℕ) → n + 0 ≡ n

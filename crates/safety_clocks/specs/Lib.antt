@@ -1,1 +1,3 @@
 pub mod NotedByPlan
+pub mod Jumps
+pub mod WorkedRun

@@ -33,9 +33,9 @@ abbrev pub NotesNothing : Entry → Type 0
 NotesNothing (entry.Judged sender v deviation) = is_correct v ≡ false
 NotesNothing _ = ⊥
 
--- A later slot of the plan, which is that of a row after a history: where it is good, the entry of each sound node tells
--- of the frame of the slot's sender, and in every other slot it notes nothing. Nor does a node whose clock has jumped,
--- until its own slot comes.
+-- A later slot of the plan, which is that of a row after a history. Where it is good, the entry of each sound node
+-- tells of the frame of the slot's sender, and in every other slot it notes nothing. Nor does a node whose clock has
+-- jumped, until its own slot comes.
 pub record NotedInSlot (list : Medl) (script : Script) (plan : Plan) (slot : ℕ) (row : List Entry) (history : History)
     : Type 0 where
   pub good : (k : ℕ) → is_good_slot plan slot ≡ true → IsSoundIn list plan slot k

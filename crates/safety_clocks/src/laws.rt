@@ -1,5 +1,6 @@
 //! The laws of clocks by a plan. The functions do nothing; their contracts are the laws.
-ghost use Rattle.std.specs.Prelude.{◌≡◌, ℕ, suc, ◌+◌, ◌<◌, ◌≤◌, Bool, true, List, length, neg_ℤ, ◌-ℤ◌, ◌≤ℤ◌, IsTrue};
+ghost use Rattle.std.specs.Prelude.{◌≡◌, ℕ, suc, ◌+◌, ◌<◌, ◌≤◌, Bool, true, false, List, length, neg_ℤ};
+ghost use Rattle.std.specs.Prelude.{◌-ℤ◌, ◌≤ℤ◌, IsTrue};
 ghost use Rattle.ttp_world.specs.declared.medl.Medl.{Medl};
 ghost use Rattle.ttp_world.specs.declared.node.Entry.{Entry};
 ghost use Rattle.ttp_world.specs.declared.script.Script.{Script};
@@ -12,6 +13,7 @@ ghost use Rattle.precision.specs.Together.{BeganTogether, StayedTogether, RanTog
 ghost use Rattle.fault_plan.specs.Plan.{Plan};
 ghost use Rattle.fault_plan.specs.Fates.{is_sound_after};
 ghost use Rattle.fault_plan.specs.Kept.{FollowsPlan};
+ghost use Rattle.safety_clocks.specs.Jumps.{HasJumped};
 ghost use Rattle.safety_clocks.specs.NotedByPlan.{IsSoundIn, StartedByPlan, NotedByPlan};
 
 /// The nodes that are sound by a plan run together since the start. They began together in it
@@ -56,4 +58,26 @@ pub fn clocks_near()
         → start.slot + suc slot < script.slots
         → (r p : ℕ) → IsSoundIn list plan (suc slot) r → IsSoundIn list plan (suc slot) p
         → IsTrue (is_within_window list (measured list script history r p)) }
+{}
+
+/// A node that was lost by a jump of its clock: in each slot from the jump up to the first of its own,
+/// each sound node's window leaves its frame out (`frame`), and its own window leaves out the frame of
+/// each sound node (`others`). For a jump goes four windows or more, and what else comes between two
+/// clocks in a round, drifts and one correction of each, is less than three windows. This is where up
+/// to the slot before the sound nodes noted by the plan, and this one noted nothing since its jump.
+pub fn jumped_outside()
+    ensures frame { (list : Medl) (script : Script) (start : ClusterStart) (plan : Plan) (slot : ℕ)
+        (history : History)
+        → IsValid list → FollowsPlan list script start plan → NotedByPlan list script start plan slot history
+        → start.slot + suc slot < script.slots
+        → (x k since : ℕ) → x < length list.slots → HasJumped plan (suc slot) x since
+        → IsSoundIn list plan (suc slot) k
+        → is_within_window list (measured list script history k x) ≡ false }
+    ensures others { (list : Medl) (script : Script) (start : ClusterStart) (plan : Plan) (slot : ℕ)
+        (history : History)
+        → IsValid list → FollowsPlan list script start plan → NotedByPlan list script start plan slot history
+        → start.slot + suc slot < script.slots
+        → (x k since : ℕ) → x < length list.slots → HasJumped plan (suc slot) x since
+        → IsSoundIn list plan (suc slot) k
+        → is_within_window list (measured list script history x k) ≡ false }
 {}

@@ -8,9 +8,14 @@
 //!
 //! - [`laws::runs_together`]: the nodes that are sound by the plan run together since the start;
 //! - [`laws::clocks_near`]: so their clocks and what they measure of each other stay within the bounds
-//!   of `precision`, and within the list's window.
+//!   of `precision`, and within the list's window;
+//! - [`laws::jumped_outside`]: a node whose clock has jumped is outside the window at each of them
+//!   until its own slot, and they are outside its window.
 //!
 //! It says nothing of members and verdicts: that the premise holds is for others to show.
 #![tactic(auto)]
 
 pub mod laws;
+#[cfg(test)]
+mod tests;
+mod worked_run;

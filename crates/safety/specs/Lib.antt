@@ -1,0 +1,2 @@
+pub mod ByPlan
+pub mod WorkedRuns

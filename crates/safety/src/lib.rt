@@ -1,0 +1,64 @@
+//! Safety under the single-fault hypothesis: membership, clocks and clock jumps, for whole runs.
+//!
+//! Members decide whose frames a node notes, what it notes moves its clock, and clocks decide whose
+//! frames come in time. `safety_steps` has the step of an induction on members, which takes the clocks
+//! of a slot as a premise, and `safety_clocks` that on clocks, which takes what the nodes noted. Here the
+//! two are one induction: [`laws::by_plan`] for every run that follows a good plan of faults, and
+//! [`safe`] for a script that keeps the single-fault hypothesis, with no premise left.
+//!
+//! The crate has no code that does anything: its functions are laws, and worked cases that the check
+//! computes.
+#![tactic(auto)]
+
+ghost use Rattle.std.specs.Prelude.{◌≡◌, ℕ, ◌<◌, ◌≤◌, ◌≤ℤ◌, ◌-ℤ◌, neg_ℤ, length, IsTrue};
+ghost use Rattle.ttp_world.specs.declared.keep.Keep.TheVariants as keep;
+ghost use Rattle.ttp_world.specs.Hypothesis.{keeps, needed, is_correct_after};
+ghost use Rattle.ttp_world.specs.Legal.{IsLegal};
+ghost use Rattle.ttp_world.specs.Medl.{IsValid};
+ghost use Rattle.ttp_world.specs.Safety.{IsSafe};
+ghost use Rattle.ttp_world.specs.Script.{IsValidScript};
+ghost use Rattle.ttp_world.specs.World.{Numbers, world};
+ghost use Rattle.precision.specs.Spread.{spread};
+ghost use Rattle.precision.specs.Together.{clock_at, measured};
+
+pub mod laws;
+#[cfg(test)]
+mod tests;
+mod worked_runs;
+
+use ttp_world::{Medl, Script};
+
+/// What a script is owed that keeps the single-fault hypothesis, whose cluster starts in slot `start`.
+/// After each slot from that one on, and for all legal message numbers, the four tests of safety hold
+/// (`safe`): correct nodes that are not in doubt hold one membership, each correct node that has started
+/// or sent is in it, no correct node has left, and each node that became faulty two rounds ago has left
+/// and is held by no correct node.
+///
+/// At the beginning of each later slot the clocks of any two nodes that are correct in it are no further
+/// apart than the list's spread (`clocks`), and what one of them measures of the other's frame lies no
+/// further from 0 than what the list needs (`deviations`), both in microticks.
+///
+/// It does nothing, and takes no memory.
+pub fn safe(list: &Medl, script: &Script, start: u32)
+    requires valid { IsValid list.now }
+    requires script { IsValidScript list.now script.now }
+    requires kept { keeps list.now script.now ≡ keep.Yes start }
+    ensures safe { (numbers : Numbers) → IsLegal list.now script.now numbers
+        → start < length numbers → length numbers ≤ script.now.slots
+        → IsSafe list.now script.now (world list.now script.now numbers) }
+    ensures clocks { (numbers : Numbers) → IsLegal list.now script.now numbers
+        → start < length numbers → length numbers < script.now.slots
+        → (j k : ℕ) → j < length list.now.slots → k < length list.now.slots
+        → IsTrue (is_correct_after list.now script.now (length numbers) j)
+        → IsTrue (is_correct_after list.now script.now (length numbers) k)
+        → (let history = world list.now script.now numbers in
+        (clock_at list.now script.now history j -ℤ clock_at list.now script.now history k) ≤ℤ spread list.now) }
+    ensures deviations { (numbers : Numbers) → IsLegal list.now script.now numbers
+        → start < length numbers → length numbers < script.now.slots
+        → (r p : ℕ) → r < length list.now.slots → p < length list.now.slots
+        → IsTrue (is_correct_after list.now script.now (length numbers) r)
+        → IsTrue (is_correct_after list.now script.now (length numbers) p)
+        → (let history = world list.now script.now numbers in
+        (neg_ℤ (needed list.now) ≤ℤ measured list.now script.now history r p)
+        × (measured list.now script.now history r p ≤ℤ needed list.now)) }
+{}

@@ -1,0 +1,9 @@
+//! Laws have no code that a test could run: they are called once each.
+use crate::laws;
+
+#[test]
+fn laws_are_there() {
+    laws::runs_together();
+    laws::clocks_near();
+    laws::jumped_outside();
+}

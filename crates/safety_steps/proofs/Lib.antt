@@ -1,0 +1,15 @@
+pub mod PlanSteps
+pub mod Ledgers
+pub mod SoundNodes
+pub mod LostNodes
+pub mod OwnTurns
+pub mod Turns
+pub mod Arrivals
+pub mod Receivers
+pub mod SoundSteps
+pub mod Silence
+pub mod JumpedNodes
+pub mod LostSteps
+pub mod Steps
+pub mod Begins
+pub mod Safe

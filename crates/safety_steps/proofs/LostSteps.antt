@@ -1,0 +1,195 @@
+-- A node that is lost before a turn or in it, and is not the turn's sender.
+use Rattle.std.proofs.Common.{◌≡◌, ◌≢◌, ℕ, suc, ◌+◌, ◌<◌, Bool, true, false, length, refl, ap, sym, subst}
+use Rattle.std.proofs.Common.{◌∙◌, ◌⊎◌, inl, inr, mod-lt, arith}
+use Rattle.std.proofs.lemmas.Bool.{cases_lt, lt-ltb}
+use Rattle.ttp_world.specs.declared.medl.Medl.{Medl}
+use Rattle.ttp_world.specs.declared.node.Phase.TheVariants as phase
+use Rattle.ttp_world.specs.declared.script.Script.{Script}
+use Rattle.ttp_world.specs.Hypothesis.{ClusterStart, loses}
+use Rattle.ttp_world.specs.Reception.{is_within_window}
+use Rattle.ttp_world.specs.World.{SlotNumbers, Numbers, slot_after, deviation_in, messages_chosen, world}
+use Rattle.fault_plan.specs.Plan.{Change, Sending, Receiving, Jumping, Plan, sender}
+use Rattle.fault_plan.specs.Fates.{Fate, Absent, Sound, Falling, Fallen, fate_of, may_stay}
+use Rattle.fault_plan.proofs.FateTells.{loss-sending, one-stays}
+use Rattle.fault_plan.proofs.Members.{fallen-member}
+use Rattle.fault_plan.proofs.Turns.{turns_apart}
+use Rattle.safety_laws.specs.Groups.{HearsNoAnswer, Lacks, Outside, NoFrame}
+use Rattle.safety_laws.specs.NodeSlot.{next_past}
+use Rattle.safety_laws.specs.Senders.{NoneSends}
+use Rattle.ttp_world.proofs.Lists.{nodes-most}
+use Rattle.safety_laws.proofs.GroupSets.{has_node-with_other}
+use Rattle.safety_laws.proofs.Idle.{idle-left}
+use Rattle.safety_laws.proofs.OneSender.{outside-alone, none-alone, silent-none_sends}
+use Rattle.safety_steps.specs.ByFate.{IsFallingAt, IsFallenAt}
+use Rattle.safety_steps.specs.Turn.{IsTurn}
+use Rattle.safety_steps.proofs.Arrivals.{at-fate, sound-alone, hears-planned, silent-absent, fallen-leaves}
+use Rattle.safety_steps.proofs.LostNodes.{deaf-judges, jumped-judges, fallen-judges, deaf-falls, jumped-falls}
+use Rattle.safety_steps.proofs.JumpedNodes.{jumped-wrong}
+use Rattle.safety_steps.proofs.Silence.{frameless-silent}
+use Rattle.safety_steps.proofs.PlanSteps.{IsStruck, falling-stays, struck-falls, round-turn, sound-fate, told-fallen}
+use Rattle.safety_steps.proofs.Receivers.{sound-judge}
+use Rattle.safety_steps.proofs.SoundSteps.{told-falling}
+use Rattle.safety_steps.proofs.Turns.{slot_of, slot_number, owner-is, judges, unarmed, none-sends}
+
+module _ (list : Medl) (script : Script) (start : ClusterStart) (plan : Plan) (turn : ℕ) (new : SlotNumbers)
+    (numbers : Numbers) (t : IsTurn list script start plan turn new numbers) (k : ℕ) (node : k < length list.slots)
+    (other : sender plan (suc turn) ≢ k) where
+  few_nodes : 0 < plan.nodes
+  few_nodes = let count = t.planned.follows.good.count in omega (arith, count)
+
+  less : k < plan.nodes
+  less = subst (λ n. k < n) (sym t.planned.follows.nodes) node
+
+  -- a sound node that is lost in the turn
+  deaf-next : fate_of plan turn k ≡ Sound → (is : IsStruck plan (suc turn) k) → is.incident.change ≡ Receiving
+      → IsFallingAt list plan (suc turn) Receiving (suc turn) (next_past (slot_of list script new numbers k))
+  deaf-next sound is deaf =
+      let loss = t.planned.follows.good.losses turn is.incident is.found in
+      let sends = sound-fate (fate_of plan turn (sender plan (suc turn))) (loss.receiving deaf).1 in
+      let hearing = t.planned.follows.hearing (suc turn) t.within in
+      deaf-falls plan turn (slot_of list script new numbers k)
+      (sound-judge list script start plan turn new numbers t k node other sound)
+      (t.planned.follows.good.late (suc turn) is.incident is.found)
+      (none-alone list script (world list script numbers) _ (sender plan (suc turn)) k
+      (sound-alone list script start plan turn new numbers t sends)
+      (ap (λ n. loses script (sender plan (suc turn)) n k)
+      (slot_number list script start plan turn new numbers t)
+      ∙ ap (loses script (sender plan (suc turn)) (start.slot + suc turn)) (sym is.node)
+      ∙ hearing.deaf is.incident is.found deaf))
+
+  pub struck-next : fate_of plan turn k ≡ Sound → (is : IsStruck plan (suc turn) k)
+      → IsFallingAt list plan (suc turn) is.incident.change (suc turn) (next_past (slot_of list script new numbers k))
+  struck-next sound is = by is.incident.change refl
+    where
+      by : (change : Change) → is.incident.change ≡ change
+          → IsFallingAt list plan (suc turn) is.incident.change (suc turn)
+          (next_past (slot_of list script new numbers k))
+      by Sending how =
+          absurd (other ((t.planned.follows.good.losses turn is.incident is.found).sending how ∙ is.node))
+      by Receiving how =
+          subst (λ (c : Change). IsFallingAt list plan (suc turn) c (suc turn)
+          (next_past (slot_of list script new numbers k))) (sym how) (deaf-next sound is how)
+      by Jumping how =
+          subst (λ (c : Change). IsFallingAt list plan (suc turn) c (suc turn)
+          (next_past (slot_of list script new numbers k))) (sym how)
+          (jumped-falls plan turn (slot_of list script new numbers k)
+          (sound-judge list script start plan turn new numbers t k node other sound)
+          (t.planned.follows.good.late (suc turn) is.incident is.found)
+          (jumped-wrong list script start plan turn new numbers t k node (suc turn)
+          (struck-falls plan turn k is other ∙ ap (λ (c : Change). Falling c (suc turn)) how)))
+
+  -- one that was lost, and has had no slot since
+  deaf-on : (since : ℕ) → fate_of plan turn k ≡ Falling Receiving since →
+      let past = next_past (slot_of list script new numbers k) in
+      (past.phase ≡ phase.Left) ⊎ IsFallingAt list plan (suc turn) Receiving since past
+  deaf-on since is =
+      let x = slot_of list script new numbers k in
+      elim (at-fate list script start plan turn new numbers t k (Falling Receiving since) node is) [
+        | inl left ↦ inl (idle-left x left.0 (unarmed list script start plan turn new numbers t k node)).0
+        | inr at ↦
+            let told = told-falling plan turn k since Receiving t.planned.follows.good is in
+            let lost_less : sender plan since < plan.nodes = mod-lt (plan.starter + since) few_nodes in
+            deaf-judges plan turn x
+            (judges list script start plan turn new numbers t k node at.phase at.place other) since at
+            (subst (λ n. sender plan since < n) t.planned.follows.nodes lost_less)
+            (λ same.
+            let from = told.from in
+            let soon = told.soon in
+            let round = turns_apart plan since (suc turn) few_nodes (omega (arith, from))
+            (same ∙ owner-is list script start plan turn new numbers t k node at.place) in
+            omega (arith, soon, round))
+      ]
+
+  pub falling-next : (change : Change) (since : ℕ) → fate_of plan turn k ≡ Falling change since →
+      let past = next_past (slot_of list script new numbers k) in
+      ((past.phase ≡ phase.Left) × (change ≡ Receiving)) ⊎ IsFallingAt list plan (suc turn) change since past
+  falling-next Receiving since is = elim (deaf-on since is) [
+    | inl left ↦ inl (left, refl)
+    | inr at ↦ inr at
+  ]
+  falling-next Sending since is =
+      let told = told-falling plan turn k since Sending t.planned.follows.good is in
+      let from = told.from in
+      absurd (told.unshown since (omega arith) from
+      (loss-sending plan k since Sending t.planned.follows.good told.loss refl))
+  falling-next Jumping since is =
+      let x = slot_of list script new numbers k in
+      elim (at-fate list script start plan turn new numbers t k (Falling Jumping since) node is) [
+        | inl left ↦ let deaf = left.1 in cc
+        | inr at ↦
+            inr (jumped-judges plan turn x
+            (judges list script start plan turn new numbers t k node at.phase at.place other) since at
+            (jumped-wrong list script start plan turn new numbers t k node since
+            (falling-stays plan turn k since Jumping t.planned.follows.good other is)))
+      ]
+
+  -- one that was lost, and has had its first slot since: no frame answers its own
+  module _ (change : Change) (since shown : ℕ) (is : fate_of plan turn k ≡ Fallen change since shown) where
+    by-silence : NoneSends list script (world list script numbers)
+        (messages_chosen list script (length numbers) new.sent)
+        → HearsNoAnswer (slot_of list script new numbers k)
+    by-silence none =
+        NoFrame (frameless-silent _ (silent-none_sends list script (world list script numbers) _ k none))
+
+    by-sound : fate_of plan turn (sender plan (suc turn)) ≡ Sound
+        → IsFallenAt list plan turn k shown (slot_of list script new numbers k).past
+        → HearsNoAnswer (slot_of list script new numbers k)
+    by-sound sends at = by _ _ refl refl
+      where
+        by : (lost within : Bool)
+            → loses script (sender plan (suc turn)) (length (world list script numbers)) k ≡ lost
+            → is_within_window list
+            (deviation_in (slot_after list script (world list script numbers)) k (sender plan (suc turn)))
+            ≡ within
+            → HearsNoAnswer (slot_of list script new numbers k)
+        by true within lost _ =
+            NoFrame (none-alone list script (world list script numbers) _ (sender plan (suc turn)) k
+            (sound-alone list script start plan turn new numbers t sends) lost)
+        by false false kept outside =
+            Outside (sender plan (suc turn))
+            (outside-alone list script (world list script numbers) _ (sender plan (suc turn)) k
+            (sound-alone list script start plan turn new numbers t sends) kept outside)
+        by false true kept within =
+            let few = nodes-most list t.planned.valid in
+            Lacks (sender plan (suc turn)) _
+            (hears-planned list script start plan turn new numbers t sends k at.place kept within)
+            (has_node-with_other _ (sender plan (suc turn)) k (omega (arith, node, few)) (λ same. other (sym same))
+            ∙ fallen-member plan turn k since shown change t.planned.follows.good less is)
+
+    no-answer : IsFallenAt list plan turn k shown (slot_of list script new numbers k).past
+        → (fate : Fate) → fate_of plan turn (sender plan (suc turn)) ≡ fate
+        → HearsNoAnswer (slot_of list script new numbers k)
+    no-answer at Sound sends = by-sound sends at
+    no-answer at Absent sends = by-silence (silent-absent list script start plan turn new numbers t sends)
+    no-answer at (Fallen c s sh) sends =
+        by-silence (none-sends list script start plan turn new numbers t
+        (fallen-leaves list script start plan turn new numbers t c s sh sends).1)
+    no-answer at (Falling c s) sends =
+        let soon = at.soon in
+        let stays : may_stay plan.nodes turn (fate_of plan turn k) ≡ true =
+        ap (may_stay plan.nodes turn) is ∙ lt-ltb turn (shown + plan.nodes) soon in
+        absurd (other (one-stays plan turn (sender plan (suc turn)) k t.planned.follows.good
+        (ap (may_stay plan.nodes turn) sends) stays))
+
+    still-soon : turn < shown + plan.nodes → suc turn < shown + plan.nodes
+    still-soon soon = elim (cases_lt (suc turn) (shown + plan.nodes)) [
+      | inl before ↦ before
+      | inr over ↦
+          let now : shown + plan.nodes ≡ suc turn = omega (arith, soon, over) in
+          let told = told-fallen plan turn k since shown change t.planned.follows.good is in
+          absurd (other (ap (sender plan) (sym now) ∙ round-turn plan shown k few_nodes less told.own))
+    ]
+
+    pub fallen-next :
+        let past = next_past (slot_of list script new numbers k) in
+        (past.phase ≡ phase.Left) ⊎ IsFallenAt list plan (suc turn) k shown past
+    fallen-next =
+        let x = slot_of list script new numbers k in
+        elim (at-fate list script start plan turn new numbers t k (Fallen change since shown) node is) [
+          | inl left ↦ inl (idle-left x left (unarmed list script start plan turn new numbers t k node)).0
+          | inr at ↦
+              let soon = at.soon in
+              fallen-judges plan turn x
+              (judges list script start plan turn new numbers t k node at.phase at.place other) shown at
+              (no-answer at (fate_of plan turn (sender plan (suc turn))) refl) (still-soon soon)
+        ]

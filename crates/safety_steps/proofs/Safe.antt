@@ -1,0 +1,277 @@
+-- What safety asks follows from what each node is by its fate.
+use Rattle.std.proofs.Common.{◌≡◌, ◌≢◌, ℕ, suc, ◌+◌, ◌-◌, ◌*◌, ◌<◌, ◌≤◌}
+use Rattle.std.proofs.Common.{Bool, true, false, cond, not, ◌&&◌, ◌||◌, List, []}
+use Rattle.std.proofs.Common.{◌∷◌, length, refl, ap, sym, subst, ◌∙◌, inl, inr, arith}
+use Rattle.std.specs.Prelude.{nat_le}
+use Rattle.std.specs.List.{AllByRecursion, list_all, filter}
+use Rattle.std.proofs.lemmas.Bool.{false≢true, not_from_false, and_from, both_ways, or_right}
+use Rattle.std.proofs.lemmas.Bool.{leb-true, lt-ltb, le-ltb}
+use Rattle.std.proofs.lemmas.Slice.Eq.{bytes_eq-Decides}
+use Rattle.ttp_base.specs.NodeSet.{most_nodes, has_node}
+use Rattle.ttp_base.proofs.Below.{below-lt}
+use Rattle.ttp_world.specs.declared.medl.Medl.{Medl}
+use Rattle.ttp_world.specs.declared.node.Ack.{Ack}
+use Rattle.ttp_world.specs.declared.node.Ack.TheVariants as ack
+use Rattle.ttp_world.specs.declared.node.Phase.{Phase}
+use Rattle.ttp_world.specs.declared.node.Phase.TheVariants as phase
+use Rattle.ttp_world.specs.declared.script.Script.{Script}
+use Rattle.ttp_world.specs.Acknowledgement.{is_doubt}
+use Rattle.ttp_world.specs.Diary.{History, diary_of}
+use Rattle.ttp_world.specs.Hypothesis.{ClusterStart, FaultyNode, nodes_of, faulty_nodes_after, is_correct_after}
+use Rattle.ttp_world.specs.Messages.{is_left_phase}
+use Rattle.ttp_world.specs.Safety.{newest_slot, correct_nodes, is_settled, settled_nodes, has_ever_sent, has_left}
+use Rattle.ttp_world.specs.Safety.{members_of_node, are_same_members, correct_senders, is_out, is_gone, members_agree}
+use Rattle.ttp_world.specs.Safety.{senders_are_members, none_has_left, faulty_are_gone, IsSafe}
+use Rattle.ttp_world.specs.World.{node_past}
+use Rattle.ttp_world.proofs.Lists.{nodes-most}
+use Rattle.fault_plan.specs.Plan.{Change, Sending, Plan}
+use Rattle.fault_plan.specs.Fates.{Fate, Absent, Sound, Falling, Fallen, fate_of, is_sound_after, lost_since, may_stay}
+use Rattle.fault_plan.specs.GoodPlan.{IsGoodPlan}
+use Rattle.fault_plan.specs.Ledger.{planned_members}
+use Rattle.fault_plan.proofs.FateTells.{loss-node, over}
+use Rattle.fault_plan.proofs.Members.{sound-member, fallen-member}
+use Rattle.safety_laws.specs.Groups.{held_with}
+use Rattle.safety_laws.proofs.GroupSets.{has_node-with_member, has_node-with_other}
+use Rattle.safety_steps.specs.ByFate.{IsSoundAt, IsByFate}
+use Rattle.safety_steps.specs.Run.{StandsAfter}
+use Rattle.safety_steps.proofs.PlanSteps.{sound-fate, told-fallen, doubted-stays}
+use Rattle.safety_steps.proofs.SoundSteps.{told-falling}
+use Rattle.std.proofs.lemmas.Option.{same_Some}
+use Rattle.std.proofs.Common.{Some}
+
+-- Tests of lists.
+
+all-by : {X : Type 0} (P : X → Type 0) (test : X → Bool) (xs : List X) → ((x : X) → P x → test x ≡ true)
+    → AllByRecursion P xs → list_all test xs ≡ true
+all-by P test [] passes all = refl
+all-by P test (x ∷ xs) passes all =
+    and_from (test x) (list_all test xs) (passes x all.0) (all-by P test xs passes all.1)
+
+filtered-one : (P : ℕ → Type 0) (p : ℕ → Bool) (x : ℕ) (b : Bool) (xs : List ℕ) → P x → p x ≡ b
+    → AllByRecursion (λ k. P k × (p k ≡ true)) xs
+    → AllByRecursion (λ k. P k × (p k ≡ true)) (cond b (x ∷ xs) xs)
+filtered-one P p x true xs here is all = ((here, is), all)
+filtered-one P p x false xs here is all = all
+
+filtered : (P : ℕ → Type 0) (p : ℕ → Bool) (xs : List ℕ) → AllByRecursion P xs
+    → AllByRecursion (λ k. P k × (p k ≡ true)) (filter p xs)
+filtered P p [] all = tt
+filtered P p (x ∷ xs) all = filtered-one P p x (p x) (filter p xs) all.0 refl (filtered P p xs all.1)
+
+-- What a sound node holds.
+
+held-settled : (group : List ℕ) (a : Ack) → is_doubt a ≡ false → held_with group a ≡ group
+held-settled group ack.Closed settled = refl
+held-settled group ack.First settled = refl
+held-settled group (ack.Doubt y) settled = absurd (false≢true (sym settled))
+
+held-member : (group : List ℕ) (a : Ack) (j : ℕ) → j < most_nodes → has_node group j ≡ true
+    → has_node (held_with group a) j ≡ true
+held-member group ack.Closed j small has = has
+held-member group ack.First j small has = has
+held-member group (ack.Doubt y) j small has = has_node-with_member group y j small has
+
+held-none : (group : List ℕ) (a : Ack) (j : ℕ) → j < most_nodes → has_node group j ≡ false
+    → ((y : ℕ) → a ≡ ack.Doubt y → y ≢ j)
+    → has_node (held_with group a) j ≡ false
+held-none group ack.Closed j small none apart = none
+held-none group ack.First j small none apart = none
+held-none group (ack.Doubt y) j small none apart =
+    has_node-with_other group y j small (λ same. apart y refl (sym same)) ∙ none
+
+not-settled : (b : Bool) → not b ≡ true → b ≡ false
+not-settled true is = absurd (false≢true is)
+not-settled false is = refl
+
+module _ (list : Medl) (script : Script) (start : ClusterStart) (plan : Plan) (turn : ℕ) (history : History)
+    (is : StandsAfter list script start plan turn history) where
+  good : IsGoodPlan plan
+  good = is.planned.follows.good
+
+  newest : newest_slot history ≡ start.slot + turn
+  newest = let number = is.number in omega (arith, number)
+
+  small : (j : ℕ) → j < length list.slots → j < most_nodes
+  small j node = let few = nodes-most list is.planned.valid in omega (arith, node, few)
+
+  less : (k : ℕ) → k < length list.slots → k < plan.nodes
+  less k node = subst (λ n. k < n) (sym is.planned.follows.nodes) node
+
+  -- Correct nodes are the sound ones.
+
+  abbrev IsCorrect : ℕ → Type 0
+  IsCorrect k = (k < length list.slots) × (is_correct_after list script (newest_slot history) k ≡ true)
+
+  corrects : AllByRecursion IsCorrect (correct_nodes list script history)
+  corrects = filtered (λ k. k < length list.slots) _ (nodes_of list) (below-lt (length list.slots))
+
+  sound : (k : ℕ) → IsCorrect k → is_sound_after plan turn k ≡ true
+  sound k correct =
+      is.faults.sound turn k correct.0 is.within
+      ∙ ap (λ slot. is_correct_after list script slot k) (sym newest) ∙ correct.1
+
+  at-sound : (k : ℕ) → IsCorrect k → IsSoundAt list plan turn k (node_past list script history k)
+  at-sound k correct =
+      subst (λ (f : Fate). IsByFate list plan turn k (node_past list script history k) f)
+      (sound-fate (fate_of plan turn k) (sound k correct)) (is.holds.nodes k correct.0)
+
+  -- Those that are not in doubt hold the plan's members.
+
+  abbrev IsSettled : ℕ → Type 0
+  IsSettled k = IsCorrect k × (is_settled history k ≡ true)
+
+  settled-members : (k : ℕ) → IsSettled k → members_of_node list history k ≡ planned_members plan turn
+  settled-members k settled =
+      let at = at-sound k settled.0 in
+      at.group.members ∙ held-settled (planned_members plan turn) _ (not-settled _ settled.1)
+
+  agree : members_agree list script history ≡ true
+  agree =
+      let all = filtered IsCorrect (is_settled history) (correct_nodes list script history) corrects in
+      all-by IsSettled _ (settled_nodes list script history) (λ j of_j.
+      all-by IsSettled (are_same_members list history j) (settled_nodes list script history) (λ k of_k.
+      (bytes_eq-Decides (members_of_node list history j) (members_of_node list history k)).1
+      (settled-members j of_j ∙ sym (settled-members k of_k))) all) all
+
+  -- Each that has sent is a member.
+
+  senders : senders_are_members list script history ≡ true
+  senders =
+      all-by (λ j. IsCorrect j × (has_ever_sent (diary_of history j) ≡ true)) _ (correct_senders list script history)
+      (λ j of_j. all-by IsCorrect _ (correct_nodes list script history) (λ k of_k.
+      let at = at-sound k of_k in
+      ap (λ s. has_node s j) at.group.members
+      ∙ held-member (planned_members plan turn) (node_past list script history k).ack j (small j of_j.0.0)
+      (sound-member plan turn j good (less j of_j.0.0) (sound j of_j.0)
+      (is.holds.sent j of_j.0.0 (sound j of_j.0) of_j.1))) corrects)
+      (filtered IsCorrect (λ j. has_ever_sent (diary_of history j)) (correct_nodes list script history) corrects)
+
+  -- None has left.
+
+  stay : none_has_left list script history ≡ true
+  stay =
+      all-by IsCorrect _ (correct_nodes list script history)
+      (λ k of_k. ap (λ (p : Phase). not (is_left_phase p)) (at-sound k of_k).phase) corrects
+
+  -- A faulty node has left two rounds after it became faulty, and no correct node holds it.
+
+  soon-stays : (k since shown : ℕ) (change : Change) → fate_of plan turn k ≡ Fallen change since shown
+      → may_stay plan.nodes turn (fate_of plan turn k) ≡ false → turn < shown + plan.nodes → ⊥
+  soon-stays k since shown change fate gone soon =
+      both_ways (may_stay plan.nodes turn (fate_of plan turn k)) gone
+      (ap (may_stay plan.nodes turn) fate ∙ lt-ltb turn (shown + plan.nodes) soon)
+
+  left-fallen : (k since shown : ℕ) (change : Change) → k < length list.slots
+      → fate_of plan turn k ≡ Fallen change since shown
+      → may_stay plan.nodes turn (fate_of plan turn k) ≡ false
+      → (node_past list script history k).phase ≡ phase.Left
+  left-fallen k since shown change node fate gone =
+      elim (subst (λ (f : Fate). IsByFate list plan turn k (node_past list script history k) f) fate
+      (is.holds.nodes k node)) [
+        | inl left ↦ left
+        | inr at ↦ let soon = at.soon in absurd (soon-stays k since shown change fate gone soon)
+      ]
+
+  out-fallen : (k since shown : ℕ) (change : Change) → k < length list.slots
+      → fate_of plan turn k ≡ Fallen change since shown
+      → may_stay plan.nodes turn (fate_of plan turn k) ≡ false
+      → is_out list script history k ≡ true
+  out-fallen k since shown change node fate gone =
+      all-by IsCorrect _ (correct_nodes list script history) (λ j of_j.
+      let at = at-sound j of_j in
+      not_from_false _
+      (ap (λ s. has_node s k) at.group.members
+      ∙ held-none (planned_members plan turn) (node_past list script history j).ack k (small k node)
+      (fallen-member plan turn k since shown change good (less k node) fate)
+      (λ y doubt same.
+      let found = at.doubted y doubt in
+      both_ways (may_stay plan.nodes turn (fate_of plan turn k)) gone
+      (ap (λ z. may_stay plan.nodes turn (fate_of plan turn z)) (sym same)
+      ∙ doubted-stays plan turn j y found.0 good (less j of_j.0) found.1)))) corrects
+
+  over-late : (k slot since : ℕ) → 2 * plan.nodes ≤ since → lost_since (fate_of plan turn k) ≡ Some since
+      → since ≡ slot - start.slot → slot + 2 * length list.slots ≤ suc (start.slot + turn)
+      → may_stay plan.nodes turn (fate_of plan turn k) ≡ false
+  over-late k slot since from lost same late =
+      let nodes = is.planned.follows.nodes in
+      let count = good.count in
+      over plan turn k since good lost (omega (arith, from, same, late, nodes, count))
+
+  -- by what its fate tells of its loss
+  gone-by : (k slot : ℕ) (fate : Fate) → fate_of plan turn k ≡ fate → lost_since fate ≡ Some (slot - start.slot)
+      → slot + 2 * length list.slots ≤ suc (start.slot + turn)
+      → (has_left history k && is_out list script history k) ≡ true
+  gone-by k slot Absent fate lost late = cc
+  gone-by k slot Sound fate lost late = cc
+  gone-by k slot (Falling change since) fate lost late =
+      let told = told-falling plan turn k since change good fate in
+      absurd (false≢true (sym (over-late k slot since (told.loss.late) (ap lost_since fate) (same_Some _ _ lost) late)
+      ∙ ap (may_stay plan.nodes turn) fate))
+  gone-by k slot (Fallen change since shown) fate lost late =
+      let told = told-fallen plan turn k since shown change good fate in
+      let gone = over-late k slot since (told.loss.late) (ap lost_since fate) (same_Some _ _ lost) late in
+      let node : k < length list.slots =
+      subst (λ n. k < n) is.planned.follows.nodes (loss-node plan k since change good told.loss) in
+      and_from (has_left history k) (is_out list script history k)
+      (ap (λ (p : Phase). is_left_phase p) (left-fallen k since shown change node fate gone))
+      (out-fallen k since shown change node fate gone)
+
+  gone : (f : FaultyNode) → lost_since (fate_of plan turn f.node) ≡ Some (f.slot - start.slot)
+      → is_gone list script history f ≡ true
+  gone f lost = by (nat_le (f.slot + 2 * length list.slots) (suc (newest_slot history))) refl
+    where
+      by : (over : Bool) → nat_le (f.slot + 2 * length list.slots) (suc (newest_slot history)) ≡ over
+          → is_gone list script history f ≡ true
+      by false is =
+          ap (λ b. not b || (has_left history f.node && is_out list script history f.node)) is
+      by true is =
+          let passed = leb-true (f.slot + 2 * length list.slots) (suc (newest_slot history)) is in
+          or_right _ _ (gone-by f.node f.slot (fate_of plan turn f.node) refl lost (omega (arith, passed, newest)))
+
+  faulty : faulty_are_gone list script history ≡ true
+  faulty =
+      all-by (λ f. lost_since (fate_of plan turn f.node) ≡ Some (f.slot - start.slot)) _
+      (faulty_nodes_after list script (newest_slot history)) gone
+      (subst (λ slot. AllByRecursion (λ f. lost_since (fate_of plan turn f.node) ≡ Some (f.slot - start.slot))
+      (faulty_nodes_after list script slot)) (sym newest) (is.faults.faulty turn is.within))
+
+  pub safe-after : IsSafe list script history
+  safe-after = record { agree = agree; senders = senders; stay = stay; faulty = faulty }
+
+  -- Each correct node is a sound one of the plan.
+  pub correct-sound : (k : ℕ) → k < length list.slots
+      → is_correct_after list script (newest_slot history) k ≡ true
+      → IsSoundAt list plan turn k (node_past list script history k)
+  correct-sound k node correct = at-sound k (node, correct)
+
+  -- A node has left a round after the first own slot since it was lost.
+  pub left-after : (k since shown : ℕ) (change : Change) → k < length list.slots
+      → fate_of plan turn k ≡ Fallen change since shown → shown + plan.nodes ≤ turn
+      → (node_past list script history k).phase ≡ phase.Left
+  left-after k since shown change node fate past =
+      left-fallen k since shown change node fate
+      (ap (may_stay plan.nodes turn) fate ∙ le-ltb turn (shown + plan.nodes) past)
+
+  -- so a sender has left a round after it was lost,
+  pub left-sender : (k since shown : ℕ) → k < length list.slots → fate_of plan turn k ≡ Fallen Sending since shown
+      → since + plan.nodes ≤ turn
+      → (node_past list script history k).phase ≡ phase.Left
+  left-sender k since shown node fate past =
+      let at_once = (told-fallen plan turn k since shown Sending good fate).sending refl in
+      left-after k since shown Sending node fate (omega (arith, at_once, past))
+
+  -- and each lost node two rounds after, less a slot
+  pub left-lost : (k since : ℕ) → k < length list.slots → lost_since (fate_of plan turn k) ≡ Some since
+      → since + 2 * plan.nodes ≤ suc turn
+      → (node_past list script history k).phase ≡ phase.Left
+  left-lost k since node lost past =
+      by (fate_of plan turn k) refl lost (over plan turn k since good lost past)
+    where
+      by : (fate : Fate) → fate_of plan turn k ≡ fate → lost_since fate ≡ Some since
+          → may_stay plan.nodes turn (fate_of plan turn k) ≡ false
+          → (node_past list script history k).phase ≡ phase.Left
+      by Absent is of_loss gone = cc
+      by Sound is of_loss gone = cc
+      by (Falling change s) is of_loss gone =
+          absurd (false≢true (sym gone ∙ ap (may_stay plan.nodes turn) is))
+      by (Fallen change s shown) is of_loss gone = left-fallen k s shown change node is gone

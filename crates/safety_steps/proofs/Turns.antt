@@ -1,0 +1,141 @@
+-- A turn of a world: who sends in it, and what comes to each node.
+use Rattle.std.proofs.Common.{◌≡◌, ◌≢◌, ℕ, suc, ◌+◌, ◌<◌, false, [], length, refl, ap, sym, subst}
+use Rattle.std.proofs.Common.{◌∙◌, inl, inr, arith}
+use Rattle.std.proofs.Common.{mod-lt}
+use Rattle.std.proofs.lemmas.Bool.{cases_eq, not-true}
+use Rattle.ttp_base.specs.NodeSet.{has_node}
+use Rattle.ttp_world.specs.declared.medl.Medl.{Medl}
+use Rattle.ttp_world.specs.declared.node.Phase.TheVariants as phase
+use Rattle.ttp_world.specs.declared.script.Script.{Script}
+use Rattle.ttp_world.specs.Diary.{Place, next_place}
+use Rattle.ttp_world.specs.Hypothesis.{ClusterStart}
+use Rattle.ttp_world.specs.Script.{is_on}
+use Rattle.ttp_world.specs.World.{SlotNumbers, Numbers, node_past, messages_chosen, world}
+use Rattle.ttp_world.proofs.Worlds.{length-world}
+use Rattle.fault_plan.specs.Plan.{Plan, sender}
+use Rattle.fault_plan.specs.Fates.{Fate, Absent, Sound, Falling, Fallen, fate_of, is_absent}
+use Rattle.fault_plan.specs.GoodPlan.{IsGoodPlan}
+use Rattle.fault_plan.specs.Places.{planned_place}
+use Rattle.fault_plan.proofs.Persists.{absent-always}
+use Rattle.fault_plan.proofs.Places.{place-sender}
+use Rattle.safety_laws.specs.NodeSlot.{NodeSlot, node_slot, frames_made, owner_of}
+use Rattle.safety_laws.specs.Senders.{SendsAlone, NoneSends}
+use Rattle.safety_laws.specs.Turns.{IsJudging, IsAtOwnSlot}
+use Rattle.safety_laws.proofs.Idle.{frames_made-judging, idle-off, idle-left}
+use Rattle.safety_laws.proofs.OwnSlots.{act_made-sends}
+use Rattle.safety_laws.proofs.Payloads.{HasPayload-world}
+use Rattle.safety_laws.proofs.WorldTurns.{IsJudging-world, IsAtOwnSlot-world}
+use Rattle.safety_steps.specs.ByFate.{IsByFate}
+use Rattle.safety_steps.specs.Turn.{IsTurn}
+use Rattle.safety_steps.proofs.OwnTurns.{MaySend}
+
+-- node k in the slot after a world, with the messages of some numbers
+abbrev pub slot_of : Medl → Script → SlotNumbers → Numbers → ℕ → NodeSlot
+slot_of list script new numbers k =
+    node_slot list script (world list script numbers) (messages_chosen list script (length numbers) new.sent) k
+
+-- An active node that stands where the plan does, one that has left, and one that is not switched on.
+pub data Stance (list : Medl) (plan : Plan) (turn : ℕ) (x : NodeSlot) : Type 0 where
+  IsActive : x.past.phase ≡ phase.Active → x.past.place ≡ planned_place list plan turn → Stance list plan turn x
+  HasLeft : x.past.phase ≡ phase.Left → Stance list plan turn x
+  IsOff : x.past.phase ≡ phase.Off → x.on ≡ false → Stance list plan turn x
+
+module _ (list : Medl) (script : Script) (start : ClusterStart) (plan : Plan) (turn : ℕ) (new : SlotNumbers)
+    (numbers : Numbers) (t : IsTurn list script start plan turn new numbers) where
+  pub slot_number : length (world list script numbers) ≡ start.slot + suc turn
+  slot_number = length-world list script numbers ∙ t.number
+
+  pub good : IsGoodPlan plan
+  good = t.planned.follows.good
+
+  starter : plan.starter < plan.nodes
+  starter = good.starter.0
+
+  -- by its place the slot is that of the plan's sender
+  owner-planned : (place : Place) → place ≡ planned_place list plan turn
+      → (next_place list place).slot ≡ sender plan (suc turn)
+  owner-planned place is =
+      ap (λ (p : Place). (next_place list p).slot) is
+      ∙ place-sender list plan (suc turn) t.planned.follows.nodes starter
+
+  module _ (k : ℕ) (node : k < length list.slots) where
+    pub owner-is : (slot_of list script new numbers k).past.place ≡ planned_place list plan turn
+        → owner_of (slot_of list script new numbers k) ≡ sender plan (suc turn)
+    owner-is place = owner-planned _ place
+
+    pub judges : (slot_of list script new numbers k).past.phase ≡ phase.Active
+        → (slot_of list script new numbers k).past.place ≡ planned_place list plan turn
+        → sender plan (suc turn) ≢ k
+        → IsJudging (slot_of list script new numbers k)
+    judges active place other =
+        IsJudging-world list script numbers (messages_chosen list script (length numbers) new.sent) k
+        t.planned.valid node active (λ own. other (sym (owner-is place) ∙ own))
+
+    pub has-turn : (slot_of list script new numbers k).past.phase ≡ phase.Active
+        → (slot_of list script new numbers k).past.place ≡ planned_place list plan turn
+        → sender plan (suc turn) ≡ k
+        → IsAtOwnSlot (slot_of list script new numbers k)
+    has-turn active place own =
+        IsAtOwnSlot-world list script numbers (messages_chosen list script (length numbers) new.sent) k
+        t.planned.valid node active (owner-is place ∙ own)
+
+    -- a node that is absent is not on
+    pub absent-off : fate_of plan turn k ≡ Absent → (slot_of list script new numbers k).on ≡ false
+    absent-off is =
+        ap (is_on script k) slot_number ∙ sym (t.planned.follows.on (suc turn) k node)
+        ∙ not-true (has_node plan.begin k) (sym (absent-always plan turn k good) ∙ ap is_absent is)
+
+    pub unarmed : (slot_of list script new numbers k).armed ≡ false
+    unarmed = t.planned.arms k (length (world list script numbers))
+
+    pub stance : Stance list plan turn (slot_of list script new numbers k)
+    stance = by (fate_of plan turn k) refl (t.before.nodes k node)
+      where
+        by : (fate : Fate) → fate_of plan turn k ≡ fate
+            → IsByFate list plan turn k (node_past list script (world list script numbers) k) fate
+            → Stance list plan turn (slot_of list script new numbers k)
+        by Absent is off = IsOff off (absent-off is)
+        by Sound is at = IsActive at.phase at.place
+        by (Falling change since) is (inl left) = HasLeft left.0
+        by (Falling change since) is (inr at) = IsActive at.phase at.place
+        by (Fallen change since shown) is (inl left) = HasLeft left
+        by (Fallen change since shown) is (inr at) = IsActive at.phase at.place
+
+    -- no node but the sender sends
+    pub quiet : sender plan (suc turn) ≢ k → frames_made (slot_of list script new numbers k) ≡ []
+    quiet other = by stance
+      where
+        by : Stance list plan turn (slot_of list script new numbers k)
+            → frames_made (slot_of list script new numbers k) ≡ []
+        by (IsActive active place) =
+            frames_made-judging (slot_of list script new numbers k) (judges active place other)
+        by (HasLeft left) = (idle-left (slot_of list script new numbers k) left unarmed).1
+        by (IsOff off never) = (idle-off (slot_of list script new numbers k) off never).1
+
+  -- the sender of the turn
+  pub e-node : sender plan (suc turn) < length list.slots
+  e-node = let n = t.planned.follows.nodes in let less = sender-less in omega (arith, n, less)
+    where
+      sender-less : sender plan (suc turn) < plan.nodes
+      sender-less = mod-lt (plan.starter + suc turn) (let count = good.count in omega (arith, count))
+
+  pub none-sends : frames_made (slot_of list script new numbers (sender plan (suc turn))) ≡ []
+      → NoneSends list script (world list script numbers) (messages_chosen list script (length numbers) new.sent)
+  none-sends none k node = elim (cases_eq (sender plan (suc turn)) k) [
+    | inl own ↦ subst (λ j. frames_made (slot_of list script new numbers j) ≡ []) own none
+    | inr other ↦ quiet k node other
+  ]
+
+  pub sends-alone : IsAtOwnSlot (slot_of list script new numbers (sender plan (suc turn)))
+      → MaySend (slot_of list script new numbers (sender plan (suc turn)))
+      → SendsAlone list script (world list script numbers) (messages_chosen list script (length numbers) new.sent)
+      (sender plan (suc turn))
+  sends-alone own may = record {
+    own = own;
+    closed = may.closed;
+    accepted = may.more;
+    payload = HasPayload-world list script new numbers (sender plan (suc turn)) t.planned.script_valid t.legal e-node
+        own.own (act_made-sends (slot_of list script new numbers (sender plan (suc turn))) own may.closed may.more);
+    unflipped = λ c. t.planned.follows.bounds.flips (sender plan (suc turn)) (length (world list script numbers)) c;
+    others = λ k node other. quiet k node (λ same. other (sym same));
+  }

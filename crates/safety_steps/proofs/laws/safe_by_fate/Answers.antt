@@ -1,0 +1,17 @@
+use Rattle.safety_steps.proofs.Safe.{safe-after, correct-sound, left-after, left-sender, left-lost}
+use Rattle.safety_steps.proofs.laws.safe_by_fate.Goals as goal
+
+pub returns-clause-correct : goal.returns-clause-correct
+returns-clause-correct c = correct-sound
+
+pub returns-clause-gone : goal.returns-clause-gone
+returns-clause-gone c = left-after
+
+pub returns-clause-sender : goal.returns-clause-sender
+returns-clause-sender c = left-sender
+
+pub returns-clause-other : goal.returns-clause-other
+returns-clause-other c = left-lost
+
+pub returns-clause-safe : goal.returns-clause-safe
+returns-clause-safe c = safe-after

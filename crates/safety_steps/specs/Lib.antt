@@ -1,0 +1,4 @@
+pub mod ByFate
+pub mod Clocks
+pub mod Turn
+pub mod Run

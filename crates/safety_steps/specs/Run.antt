@@ -1,0 +1,26 @@
+-- A run of a planned script: how it begins, and where it stands after a turn.
+use Rattle.std.specs.Prelude.{◌≡◌, ◌≢◌, ℕ, suc, ◌+◌, ◌<◌, true, false, length}
+use Rattle.ttp_world.specs.declared.medl.Medl.{Medl}
+use Rattle.ttp_world.specs.declared.script.Script.{Script}
+use Rattle.ttp_world.specs.Diary.{History}
+use Rattle.ttp_world.specs.Hypothesis.{ClusterStart, loses}
+use Rattle.ttp_world.specs.Script.{is_on}
+use Rattle.fault_plan.specs.Plan.{Plan}
+use Rattle.fault_plan.specs.Kept.{IsLoneStart, IsPlanOfFaults}
+use Rattle.safety_steps.specs.Turn.{HoldsAfter, IsPlanned}
+
+-- a script follows a plan from a lone start, whose frame comes to all that are on
+pub record IsBegun (list : Medl) (script : Script) (start : ClusterStart) (plan : Plan) : Type 0 where
+  pub planned : IsPlanned list script start plan
+  pub lone : IsLoneStart list script start
+  pub heard : (k : ℕ) → k < length list.slots → k ≢ start.node → is_on script k start.slot ≡ true
+      → loses script start.node start.slot k ≡ false
+
+-- a history stands after a turn of a plan of the script's faulty nodes, with each node as its fate says
+pub record StandsAfter (list : Medl) (script : Script) (start : ClusterStart) (plan : Plan) (turn : ℕ)
+    (history : History) : Type 0 where
+  pub planned : IsPlanned list script start plan
+  pub faults : IsPlanOfFaults list script start plan
+  pub number : length history ≡ suc (start.slot + turn)
+  pub within : start.slot + turn < script.slots
+  pub holds : HoldsAfter list script plan turn history

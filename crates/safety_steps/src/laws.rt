@@ -1,0 +1,56 @@
+//! The laws of membership, slot by slot. The functions do nothing; their contracts are the laws.
+ghost use Rattle.std.specs.Prelude.{◌≡◌, ℕ, suc, ◌+◌, ◌*◌, ◌<◌, ◌≤◌, true, ◌∷◌, length, Some};
+ghost use Rattle.ttp_world.specs.declared.medl.Medl.{Medl};
+ghost use Rattle.ttp_world.specs.declared.node.Phase.TheVariants as phase;
+ghost use Rattle.ttp_world.specs.declared.script.Script.{Script};
+ghost use Rattle.ttp_world.specs.Diary.{History};
+ghost use Rattle.ttp_world.specs.Hypothesis.{ClusterStart, is_correct_after};
+ghost use Rattle.ttp_world.specs.Safety.{newest_slot, IsSafe};
+ghost use Rattle.ttp_world.specs.World.{SlotNumbers, Numbers, node_past, world};
+ghost use Rattle.fault_plan.specs.Plan.{Change, Sending, Plan};
+ghost use Rattle.fault_plan.specs.Fates.{Fallen, fate_of, lost_since};
+ghost use Rattle.safety_steps.specs.ByFate.{IsSoundAt};
+ghost use Rattle.safety_steps.specs.Turn.{HoldsAfter, IsTurn};
+ghost use Rattle.safety_steps.specs.Run.{IsBegun, StandsAfter};
+
+/// After the slot of the start each node is what its fate says (`first`), and so it is after each turn
+/// more (`next`), if deviations lie as `ClocksHold` says in the turn's slot: whichever faults the plan
+/// brings, of senders, of receivers or of clocks that jump.
+pub fn by_fate()
+    ensures first { (list : Medl) (script : Script) (start : ClusterStart) (plan : Plan) (new : SlotNumbers)
+        (numbers : Numbers) → IsBegun list script start plan → length numbers ≡ start.slot
+        → HoldsAfter list script plan 0 (world list script (new ∷ numbers)) }
+    ensures next { (list : Medl) (script : Script) (start : ClusterStart) (plan : Plan) (turn : ℕ) (new : SlotNumbers)
+        (numbers : Numbers) → IsTurn list script start plan turn new numbers
+        → HoldsAfter list script plan (suc turn) (world list script (new ∷ numbers)) }
+{}
+
+/// What that says of the nodes that the hypothesis test calls correct and faulty. A correct node holds the
+/// plan's members, and in doubt the node that it doubts (`correct`). A node that was lost has left a round
+/// after its first own slot since then (`gone`): so a sender has left a round after it was lost
+/// (`sender`), and every other node two rounds after, less a slot (`other`). And the tests of safety hold
+/// (`safe`).
+pub fn safe_by_fate()
+    ensures correct { (list : Medl) (script : Script) (start : ClusterStart) (plan : Plan) (turn : ℕ)
+        (history : History) → StandsAfter list script start plan turn history
+        → (k : ℕ) → k < length list.slots → is_correct_after list script (newest_slot history) k ≡ true
+        → IsSoundAt list plan turn k (node_past list script history k) }
+    ensures gone { (list : Medl) (script : Script) (start : ClusterStart) (plan : Plan) (turn : ℕ) (history : History)
+        → StandsAfter list script start plan turn history
+        → (k since shown : ℕ) (change : Change) → k < length list.slots
+        → fate_of plan turn k ≡ Fallen change since shown → shown + plan.nodes ≤ turn
+        → (node_past list script history k).phase ≡ phase.Left }
+    ensures sender { (list : Medl) (script : Script) (start : ClusterStart) (plan : Plan) (turn : ℕ) (history : History)
+        → StandsAfter list script start plan turn history
+        → (k since shown : ℕ) → k < length list.slots → fate_of plan turn k ≡ Fallen Sending since shown
+        → since + plan.nodes ≤ turn
+        → (node_past list script history k).phase ≡ phase.Left }
+    ensures other { (list : Medl) (script : Script) (start : ClusterStart) (plan : Plan) (turn : ℕ) (history : History)
+        → StandsAfter list script start plan turn history
+        → (k since : ℕ) → k < length list.slots → lost_since (fate_of plan turn k) ≡ Some since
+        → since + 2 * plan.nodes ≤ suc turn
+        → (node_past list script history k).phase ≡ phase.Left }
+    ensures safe { (list : Medl) (script : Script) (start : ClusterStart) (plan : Plan) (turn : ℕ) (history : History)
+        → StandsAfter list script start plan turn history
+        → IsSafe list script history }
+{}
