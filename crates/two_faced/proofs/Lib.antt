@@ -1,1 +1,5 @@
 pub mod Spans
+pub mod Rules
+pub mod QuietScript
+pub mod QuietPlan
+pub mod Judged
