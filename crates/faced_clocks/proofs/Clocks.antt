@@ -1,10 +1,10 @@
 -- The clocks of the nodes of a plan that loses none, where one sender may be two-faced: after each slot, and what they
 -- measure in the next.
 use Rattle.std.proofs.Common.{◌≡◌, ℕ, zero, suc, ◌+◌, ◌-◌, ◌<◌, ◌≤◌, ℤ, pos, negsuc, ◌+ℤ◌, ◌-ℤ◌, ◌*ℤ◌, ◌≤ℤ◌}
-use Rattle.std.proofs.Common.{Bool, true, false, cond, ◌&&◌, List, [], ◌∷◌, ◌++◌, length, inl, inr, refl, ap, sym}
+use Rattle.std.proofs.Common.{Bool, true, false, cond, ◌&&◌, List, [], ◌∷◌, length, inl, inr, refl, ap, sym}
 use Rattle.std.proofs.Common.{subst, ◌∙◌, arith}
 use Rattle.std.specs.Prelude.{◌==◌, int_le, neg_ℤ}
-use Rattle.std.proofs.lemmas.Bool.{cases_eq, eqb-true, eqb-false}
+use Rattle.std.proofs.lemmas.Bool.{cases_eq, eqb-true}
 use Rattle.std.proofs.lemmas.Int.{ints}
 use Rattle.ttp_base.specs.NodeSet.{has_node}
 use Rattle.ttp_world.specs.declared.medl.Medl.{Medl}
@@ -21,7 +21,7 @@ use Rattle.ttp_world.specs.Medl.{plan_at}
 use Rattle.ttp_world.specs.Reception.{is_within_window}
 use Rattle.ttp_world.specs.Script.{drift_of, jump_of, reading_error}
 use Rattle.ttp_world.specs.World.{node_past}
-use Rattle.precision.specs.Together.{clock_at, measured}
+use Rattle.precision.specs.Together.{measured}
 use Rattle.precision.proofs.Averages.{IsUpTo}
 use Rattle.precision.proofs.Entries.{begun_active, offset_corrected, notes_anew, begun_round_first, clock_at-still}
 use Rattle.precision.proofs.Frames.{frame_of, frame_of-node}

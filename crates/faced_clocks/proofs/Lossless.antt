@@ -1,8 +1,8 @@
 -- A plan that loses no node.
-use Rattle.std.proofs.Common.{◌≡◌, ℕ, zero, suc, Bool, true, false, cond, [], Some, None, refl, ap, ◌∙◌}
+use Rattle.std.proofs.Common.{◌≡◌, ℕ, zero, suc, Bool, true, false, cond, [], None, refl, ap, ◌∙◌}
 use Rattle.std.specs.Prelude.{◌==◌, find}
 use Rattle.ttp_base.specs.NodeSet.{has_node}
-use Rattle.fault_plan.specs.Plan.{Incident, Plan, sender, incident_at, is_in_slot}
+use Rattle.fault_plan.specs.Plan.{Plan, sender, incident_at, is_in_slot}
 use Rattle.fault_plan.specs.Fates.{Fate, Absent, Sound, fate_at_begin, fate_of, next_fate, turned, struck, is_sound}
 use Rattle.fault_plan.specs.Fates.{is_sound_after}
 

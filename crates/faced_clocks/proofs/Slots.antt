@@ -16,7 +16,7 @@ use Rattle.ttp_world.specs.Diary.{History, Place, entry_of}
 use Rattle.ttp_world.specs.Hypothesis.{ClusterStart, expected_sender, is_within_bound}
 use Rattle.ttp_world.specs.Medl.{IsValid, plan_at}
 use Rattle.ttp_world.specs.Script.{drift_of, jump_of, reading_error}
-use Rattle.precision.specs.Together.{IsIn, TellsOf, clock_at, measured}
+use Rattle.precision.specs.Together.{IsIn, TellsOf, measured}
 use Rattle.precision.proofs.Averages.{IsUpTo}
 use Rattle.precision.proofs.Entries.{clock_at-still}
 use Rattle.precision.proofs.Frames.{frame_of, frame_of-node}
@@ -26,10 +26,9 @@ use Rattle.fault_plan.specs.Plan.{Plan, sender}
 use Rattle.fault_plan.specs.Fates.{is_good_slot}
 use Rattle.fault_plan.specs.Kept.{FollowsPlan}
 use Rattle.fault_plan.specs.Places.{planned_place}
-use Rattle.safety_clocks.specs.NotedByPlan.{IsSoundIn, NotedInSlot, NotedByPlan}
+use Rattle.safety_clocks.specs.NotedByPlan.{IsSoundIn, NotedInSlot}
 use Rattle.safety_clocks.proofs.NearNotes.{clock_moved}
 use Rattle.safety_clocks.proofs.RoundNotes.{none-silent, sender-in}
-use Rattle.safety_clocks.proofs.Together.{number-of}
 use Rattle.faced_clocks.specs.Errors.{bound, is_faced_slot, allowed_error, HasFacedClocks}
 use Rattle.faced_clocks.proofs.Lossless.{sound-always}
 use Rattle.faced_clocks.proofs.PulledNotes.{Locate, AreTurns, AreTurns-later}
