@@ -59,6 +59,19 @@ record ThreeNotes (s w b c d1 d2 d3 e1 e2 e3 : ℤ) (began : ℕ → ℤ) (p1 p2
   apart13 : ((began p1 -ℤ began p3) ≤ℤ s) × ((began p3 -ℤ began p1) ≤ℤ s)
   apart23 : ((began p2 -ℤ began p3) ≤ℤ s) × ((began p3 -ℤ began p2) ≤ℤ s)
 
+three_of : (group : ℕ → Type 0) (s w b c d1 d2 d3 e1 e2 e3 : ℤ) (began : ℕ → ℤ) (p1 p2 p3 : ℕ)
+    → AreWithin group began s → group p1 → group p2 → group p3
+    → TwoNotes w b c d1 e1 (began p1) → TwoNotes w b c d2 e2 (began p2) → TwoNotes w b c d3 e3 (began p3)
+    → ThreeNotes s w b c d1 d2 d3 e1 e2 e3 began p1 p2 p3
+three_of group s w b c d1 d2 d3 e1 e2 e3 began p1 p2 p3 near in1 in2 in3 first second third = record {
+  first = first;
+  second = second;
+  third = third;
+  apart12 = (near p1 p2 in1 in2, near p2 p1 in2 in1);
+  apart13 = (near p1 p3 in1 in3, near p3 p1 in3 in1);
+  apart23 = (near p2 p3 in2 in3, near p3 p2 in3 in2);
+}
+
 three_alike : (s w b c d1 d2 d3 e1 e2 e3 : ℤ) (began : ℕ → ℤ) (p1 p2 p3 : ℕ)
     → ThreeNotes s w b c d1 d2 d3 e1 e2 e3 began p1 p2 p3
     → are_near (c -ℤ b) (w +ℤ w) (d1 ∷ d2 ∷ d3 ∷ []) (e1 ∷ e2 ∷ e3 ∷ []) ≡ true
@@ -99,6 +112,17 @@ pulled_of odd s w b c ds es inside four many alike narrow =
     pulled_of_test s w b c (fta ds) (fta es)
     (pull odd (c -ℤ b) (w +ℤ w) (s +ℤ (w +ℤ w)) ds es inside four many alike narrow)
 
+-- where all but the odd one of four notes are such three
+pulled_of_three : (odd : ℕ) (s w b c : ℤ) (ds es : List ℤ) (d1 d2 d3 e1 e2 e3 : ℤ) (began : ℕ → ℤ) (p1 p2 p3 : ℕ)
+    → odd < 4 → length ds ≡ 4 → length es ≡ 4
+    → without odd ds ≡ d1 ∷ d2 ∷ d3 ∷ [] → without odd es ≡ e1 ∷ e2 ∷ e3 ∷ []
+    → ThreeNotes s w b c d1 d2 d3 e1 e2 e3 began p1 p2 p3
+    → Pulled s w (b +ℤ fta ds) (c +ℤ fta es)
+pulled_of_three odd s w b c ds es d1 d2 d3 e1 e2 e3 began p1 p2 p3 inside four many is was n =
+    pulled_of odd s w b c ds es inside four many
+    (rw (is, was) (three_alike s w b c d1 d2 d3 e1 e2 e3 began p1 p2 p3 n))
+    (rw is (three_narrow s w b c d1 d2 d3 e1 e2 e3 began p1 p2 p3 n))
+
 -- of more notes the newest four count
 fta-newest : (d1 d2 d3 d4 : ℤ) (ds : List ℤ) → fta (d1 ∷ d2 ∷ d3 ∷ d4 ∷ ds) ≡ fta (d1 ∷ d2 ∷ d3 ∷ d4 ∷ [])
 fta-newest d1 d2 d3 d4 ds =
@@ -111,8 +135,17 @@ module _ (group : ℕ → Type 0) (z n : ℕ) (s w b c : ℤ) (began : ℕ → �
     (turns : AreTurns group n (p1 ∷ p2 ∷ p3 ∷ p4 ∷ ps))
     (one : Locate z w began b (d1 ∷ d2 ∷ d3 ∷ d4 ∷ ds) (p1 ∷ p2 ∷ p3 ∷ p4 ∷ ps))
     (two : Locate z w began c (e1 ∷ e2 ∷ e3 ∷ e4 ∷ es) (p1 ∷ p2 ∷ p3 ∷ p4 ∷ ps)) where
-  both : (p q : ℕ) → group p → group q → ((began p -ℤ began q) ≤ℤ s) × ((began q -ℤ began p) ≤ℤ s)
-  both p q a e = (near p q a e, near q p e a)
+  note1 : p1 ≢ z → TwoNotes w b c d1 e1 (began p1)
+  note1 other = record { one = one.0 other; two = two.0 other }
+
+  note2 : p2 ≢ z → TwoNotes w b c d2 e2 (began p2)
+  note2 other = record { one = one.1.0 other; two = two.1.0 other }
+
+  note3 : p3 ≢ z → TwoNotes w b c d3 e3 (began p3)
+  note3 other = record { one = one.1.1.0 other; two = two.1.1.0 other }
+
+  note4 : p4 ≢ z → TwoNotes w b c d4 e4 (began p4)
+  note4 other = record { one = one.1.1.1.0 other; two = two.1.1.1.0 other }
 
   in1 : group p1
   in1 = turns.0
@@ -126,94 +159,35 @@ module _ (group : ℕ → Type 0) (z n : ℕ) (s w b c : ℤ) (began : ℕ → �
   in4 : group p4
   in4 = turns.2.2.2.0
 
-  below2 : p2 < p1
-  below2 = turns.2.1
-
-  below3 : p3 < p2
-  below3 = turns.2.2.1
-
-  below4 : p4 < p3
-  below4 = turns.2.2.2.1
-
-  note1 : p1 ≢ z → TwoNotes w b c d1 e1 (began p1)
-  note1 other = record { one = one.0 other; two = two.0 other }
-
-  note2 : p2 ≢ z → TwoNotes w b c d2 e2 (began p2)
-  note2 other = record { one = one.1.0 other; two = two.1.0 other }
-
-  note3 : p3 ≢ z → TwoNotes w b c d3 e3 (began p3)
-  note3 other = record { one = one.1.1.0 other; two = two.1.1.0 other }
-
-  note4 : p4 ≢ z → TwoNotes w b c d4 e4 (began p4)
-  note4 other = record { one = one.1.1.1.0 other; two = two.1.1.1.0 other }
-
-  -- all but the place of z
-  without_first : p2 ≢ z → p3 ≢ z → p4 ≢ z → ThreeNotes s w b c d2 d3 d4 e2 e3 e4 began p2 p3 p4
-  without_first a e o = record {
-    first = note2 a;
-    second = note3 e;
-    third = note4 o;
-    apart12 = both p2 p3 in2 in3;
-    apart13 = both p2 p4 in2 in4;
-    apart23 = both p3 p4 in3 in4;
-  }
-
-  without_second : p1 ≢ z → p3 ≢ z → p4 ≢ z → ThreeNotes s w b c d1 d3 d4 e1 e3 e4 began p1 p3 p4
-  without_second a e o = record {
-    first = note1 a;
-    second = note3 e;
-    third = note4 o;
-    apart12 = both p1 p3 in1 in3;
-    apart13 = both p1 p4 in1 in4;
-    apart23 = both p3 p4 in3 in4;
-  }
-
-  without_third : p1 ≢ z → p2 ≢ z → p4 ≢ z → ThreeNotes s w b c d1 d2 d4 e1 e2 e4 began p1 p2 p4
-  without_third a e o = record {
-    first = note1 a;
-    second = note2 e;
-    third = note4 o;
-    apart12 = both p1 p2 in1 in2;
-    apart13 = both p1 p4 in1 in4;
-    apart23 = both p2 p4 in2 in4;
-  }
-
-  without_fourth : p1 ≢ z → p2 ≢ z → p3 ≢ z → ThreeNotes s w b c d1 d2 d3 e1 e2 e3 began p1 p2 p3
-  without_fourth a e o = record {
-    first = note1 a;
-    second = note2 e;
-    third = note3 o;
-    apart12 = both p1 p2 in1 in2;
-    apart13 = both p1 p3 in1 in3;
-    apart23 = both p2 p3 in2 in3;
-  }
+  -- the turns fall
+  below : (p2 < p1) × (p3 < p2) × (p4 < p3)
+  below = (turns.2.1, turns.2.2.1, turns.2.2.2.1)
 
   pub four_pulled : Pulled s w (b +ℤ fta (d1 ∷ d2 ∷ d3 ∷ d4 ∷ [])) (c +ℤ fta (e1 ∷ e2 ∷ e3 ∷ e4 ∷ []))
   four_pulled = elim (cases_eq p1 z) [
     | inl at ↦
-        let n = without_first (λ is. omega (arith, is, at, below2)) (λ is. omega (arith, is, at, below2, below3))
-        (λ is. omega (arith, is, at, below2, below3, below4)) in
-        pulled_of 0 s w b c (d1 ∷ d2 ∷ d3 ∷ d4 ∷ []) (e1 ∷ e2 ∷ e3 ∷ e4 ∷ []) (omega arith) refl refl
-        (three_alike s w b c d2 d3 d4 e2 e3 e4 began p2 p3 p4 n)
-        (three_narrow s w b c d2 d3 d4 e2 e3 e4 began p2 p3 p4 n)
+        pulled_of_three 0 s w b c (d1 ∷ d2 ∷ d3 ∷ d4 ∷ []) (e1 ∷ e2 ∷ e3 ∷ e4 ∷ []) d2 d3 d4 e2 e3 e4 began p2 p3 p4
+        (omega arith) refl refl refl refl
+        (three_of group s w b c d2 d3 d4 e2 e3 e4 began p2 p3 p4 near in2 in3 in4
+        (note2 (λ is. omega (arith, is, at, below))) (note3 (λ is. omega (arith, is, at, below)))
+        (note4 (λ is. omega (arith, is, at, below))))
     | inr no1 ↦ elim (cases_eq p2 z) [
       | inl at ↦
-          let n = without_second no1 (λ is. omega (arith, is, at, below3))
-          (λ is. omega (arith, is, at, below3, below4)) in
-          pulled_of 1 s w b c (d1 ∷ d2 ∷ d3 ∷ d4 ∷ []) (e1 ∷ e2 ∷ e3 ∷ e4 ∷ []) (omega arith) refl refl
-          (three_alike s w b c d1 d3 d4 e1 e3 e4 began p1 p3 p4 n)
-          (three_narrow s w b c d1 d3 d4 e1 e3 e4 began p1 p3 p4 n)
+          pulled_of_three 1 s w b c (d1 ∷ d2 ∷ d3 ∷ d4 ∷ []) (e1 ∷ e2 ∷ e3 ∷ e4 ∷ []) d1 d3 d4 e1 e3 e4 began p1 p3 p4
+          (omega arith) refl refl refl refl
+          (three_of group s w b c d1 d3 d4 e1 e3 e4 began p1 p3 p4 near in1 in3 in4 (note1 no1)
+          (note3 (λ is. omega (arith, is, at, below))) (note4 (λ is. omega (arith, is, at, below))))
       | inr no2 ↦ elim (cases_eq p3 z) [
         | inl at ↦
-            let n = without_third no1 no2 (λ is. omega (arith, is, at, below4)) in
-            pulled_of 2 s w b c (d1 ∷ d2 ∷ d3 ∷ d4 ∷ []) (e1 ∷ e2 ∷ e3 ∷ e4 ∷ []) (omega arith) refl refl
-            (three_alike s w b c d1 d2 d4 e1 e2 e4 began p1 p2 p4 n)
-            (three_narrow s w b c d1 d2 d4 e1 e2 e4 began p1 p2 p4 n)
+            pulled_of_three 2 s w b c (d1 ∷ d2 ∷ d3 ∷ d4 ∷ []) (e1 ∷ e2 ∷ e3 ∷ e4 ∷ []) d1 d2 d4 e1 e2 e4 began p1 p2 p4
+            (omega arith) refl refl refl refl
+            (three_of group s w b c d1 d2 d4 e1 e2 e4 began p1 p2 p4 near in1 in2 in4 (note1 no1) (note2 no2)
+            (note4 (λ is. omega (arith, is, at, below))))
         | inr no3 ↦
-            let n = without_fourth no1 no2 no3 in
-            pulled_of 3 s w b c (d1 ∷ d2 ∷ d3 ∷ d4 ∷ []) (e1 ∷ e2 ∷ e3 ∷ e4 ∷ []) (omega arith) refl refl
-            (three_alike s w b c d1 d2 d3 e1 e2 e3 began p1 p2 p3 n)
-            (three_narrow s w b c d1 d2 d3 e1 e2 e3 began p1 p2 p3 n)
+            pulled_of_three 3 s w b c (d1 ∷ d2 ∷ d3 ∷ d4 ∷ []) (e1 ∷ e2 ∷ e3 ∷ e4 ∷ []) d1 d2 d3 e1 e2 e3 began p1 p2 p3
+            (omega arith) refl refl refl refl
+            (three_of group s w b c d1 d2 d3 e1 e2 e3 began p1 p2 p3 near in1 in2 in3 (note1 no1) (note2 no2)
+            (note3 no3))
       ]
     ]
   ]

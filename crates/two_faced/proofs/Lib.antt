@@ -3,3 +3,5 @@ pub mod Rules
 pub mod QuietScript
 pub mod QuietPlan
 pub mod Judged
+pub mod Widest
+pub mod SeenWithin

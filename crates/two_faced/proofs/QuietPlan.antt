@@ -16,7 +16,7 @@ use Rattle.ttp_world.specs.Medl.{IsValid, plan_at, may_start}
 use Rattle.ttp_world.specs.Script.{IsValidScript, is_ever_on, is_on, on_slot, drift_of, reading_error}
 use Rattle.ttp_world.proofs.Lists.{nodes-most}
 use Rattle.hypothesis.specs.SoleStart.{sole_start_in, sole_start}
-use Rattle.fault_plan.specs.Plan.{Plan, sender, incident_at}
+use Rattle.fault_plan.specs.Plan.{Plan, sender, plan_of}
 use Rattle.fault_plan.specs.Fates.{Absent, Sound, fate_of, is_sound_after, is_lost, is_steady_after, steady_nodes}
 use Rattle.fault_plan.specs.GoodPlan.{IsGoodPlan}
 use Rattle.fault_plan.specs.Kept.{IsLoneStart, FollowsPlan, IsHeardByPlan}
@@ -33,14 +33,7 @@ use Rattle.two_faced.proofs.QuietScript.{IsQuiet, quiet-script}
 use Rattle.two_faced.proofs.Rules.{RulesHold}
 
 abbrev pub quiet_plan : Medl → Script → ClusterStart → Plan
-quiet_plan list script start = record {
-  nodes = length list.slots;
-  starter = start.node;
-  slots = script.slots - start.slot;
-  begin = filter (is_ever_on script) (nodes_of list);
-  measured = filter (λ k. (plan_at list k).sync) (nodes_of list);
-  incidents = [];
-}
+quiet_plan list script start = record (plan_of list script start) { incidents = [] }
 
 sole-start : (list : Medl) (script : Script) (start : ClusterStart) → start_of list script ≡ Some start
     → sole_start list script ≡ Some start

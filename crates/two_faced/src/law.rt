@@ -9,6 +9,7 @@ ghost use Rattle.ttp_world.specs.World.{Numbers, node_past, world};
 ghost use Rattle.two_faced.specs.declared.faced.Faced.TheVariants as faced;
 ghost use Rattle.two_faced.specs.Faced.{bound, faced_of};
 ghost use Rattle.two_faced.specs.Halved.{JudgedCorrectSince};
+ghost use Rattle.two_faced.specs.Seen.{seen_of};
 
 use ttp_world::{Medl, Script};
 
@@ -16,7 +17,8 @@ use ttp_world::{Medl, Script};
 /// each slot from that one on, and for all legal message numbers, every node that is on is active
 /// (`active`), and in each slot after the start it judged the frame of each other node that sent correct
 /// (`correct`). All nodes that are on hold one membership (`members`), and the clocks of any two of them,
-/// that of the two-faced node too, are no further apart than the bound (`clocks`), in microticks.
+/// that of the two-faced node too, are no further apart than the bound (`clocks`), in microticks. So what
+/// [`find_seen`](crate::find_seen) answers is no more than the bound (`seen`).
 ///
 /// It does nothing, and takes no memory.
 pub fn halved(list: &Medl, script: &Script, node: u8, start: u32)
@@ -44,4 +46,7 @@ pub fn halved(list: &Medl, script: &Script, node: u8, start: u32)
         → IsTrue (is_on script.now j (newest_slot history)) → IsTrue (is_on script.now k (newest_slot history))
         → ((node_past list.now script.now history j).offset -ℤ (node_past list.now script.now history k).offset)
         ≤ℤ bound list.now) }
+    ensures seen { (numbers : Numbers) → IsLegal list.now script.now numbers
+        → length numbers ≤ script.now.slots
+        → (seen_of list.now script.now numbers node).value ≤ℤ bound list.now }
 {}
