@@ -18,21 +18,21 @@ use Rattle.ttp_world.specs.Hypothesis.{least_of}
 use Rattle.ttp_world.specs.Hypothesis.{outside_slot, outside_broken, is_far_jump, is_allowed_jump, is_within_bound}
 use Rattle.ttp_world.specs.Hypothesis.{has_jumped_before, is_jump_before}
 use Rattle.ttp_world.specs.Script.{arms, is_armed, flipped_bit, jump_in, jump_of, has_jump, sum_ℤ}
-use Rattle.ttp_world.specs.Script.{drift_of, reading_error}
+use Rattle.ttp_world.specs.Script.{drift_of, reading_error, flipped_bits}
 use Rattle.fault_plan.specs.Kept.{IsWithinBounds}
 use Rattle.fault_plan.proofs.Sieves.{none-found}
 
 -- Clocks.
 
-both-hold : (drifts : Bool) (found : Option ℕ) → cond drifts found (Some 0) ≡ None → (drifts ≡ true) × (found ≡ None)
+pub both-hold : (drifts : Bool) (found : Option ℕ) → cond drifts found (Some 0) ≡ None → (drifts ≡ true) × (found ≡ None)
 both-hold true found none = (refl, none)
 both-hold false found none = absurd (none-some 0 (sym none))
 
-wide : (fits : Bool) → cond {A = Option ℕ} fits None (Some 0) ≡ None → fits ≡ true
+pub wide : (fits : Bool) → cond {A = Option ℕ} fits None (Some 0) ≡ None → fits ≡ true
 wide true none = refl
 wide false none = absurd (none-some 0 (sym none))
 
-le_of_test : (x y : ℤ) → int_le x y ≡ true → x ≤ℤ y
+pub le_of_test : (x y : ℤ) → int_le x y ≡ true → x ≤ℤ y
 le_of_test x y holds = grind arith
 
 -- Events.
@@ -48,7 +48,7 @@ least-none f x xs None is none = (is, grind arith)
 least-none f x xs (Some n) is none = absurd (lesser-some n (least_of (filter_map f xs)) (grind arith))
 
 -- where there is no least value, none has one
-each-none : {X : Type 0} (f : X → Option ℕ) (xs : List X) → least_of (filter_map f xs) ≡ None
+pub each-none : {X : Type 0} (f : X → Option ℕ) (xs : List X) → least_of (filter_map f xs) ≡ None
     → AllByRecursion (λ x. f x ≡ None) xs
 each-none f [] none = tt
 each-none f (x ∷ xs) none =
@@ -133,6 +133,11 @@ pub none-armed : (list : Medl) (script : Script) (k slot : ℕ) → outside_brok
 none-armed list script k slot outside =
     no_arms list script k slot script.events (each-none (outside_slot list script) script.events outside)
 
+pub none-flipped : (list : Medl) (script : Script) (k slot : ℕ) (c : Channel) → outside_broken list script ≡ None
+    → flipped_bits script k c slot ≡ []
+none-flipped list script k slot c outside =
+    no_flips list script k slot c script.events (each-none (outside_slot list script) script.events outside)
+
 pub within-bounds : (list : Medl) (script : Script) → clocks_broken list script ≡ None → window_broken list ≡ None
     → outside_broken list script ≡ None
     → IsWithinBounds list script
@@ -152,7 +157,6 @@ within-bounds list script clocks window outside =
           (not-false _ (none-found (λ slot. not (errors_hold_in list script slot)) 0 script.slots slot held.1
           (omega arith) (omega arith))) less;
       window = le_of_test (needed list) list.window (wide (int_le (needed list) list.window) window);
-      flips = λ k slot c. no_flips list script k slot c script.events inside;
       jumps = λ k slot has.
           (and_parts (is_far_jump list (jump_of script k slot)) (not (has_jumped_before script k slot))
           (allowed k slot has)).0;

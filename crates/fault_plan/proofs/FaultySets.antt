@@ -7,10 +7,11 @@ use Rattle.std.proofs.lemmas.List.Folds.{list_any-append}
 use Rattle.ttp_base.specs.NodeSet.{has_node, below}
 use Rattle.ttp_base.proofs.NodeSets.{has_node-sieve}
 use Rattle.ttp_world.specs.declared.medl.Medl.{Medl}
+use Rattle.ttp_world.specs.declared.script.Channel.{Channel}
 use Rattle.ttp_world.specs.declared.script.Script.{Script}
 use Rattle.ttp_world.specs.Hypothesis.{ClusterStart, numbers_of, faulty_nodes_before, breaks_in, has_four_steady}
 use Rattle.ttp_world.specs.Medl.{IsValid}
-use Rattle.ttp_world.specs.Script.{is_ever_on}
+use Rattle.ttp_world.specs.Script.{is_ever_on, flipped_bits}
 use Rattle.fault_plan.specs.Plan.{incident_at, plan_of}
 use Rattle.fault_plan.specs.Fates.{Fate, Absent, Sound, fate_at_begin, fate_of, next_fate, is_sound, is_lost}
 use Rattle.fault_plan.specs.Kept.{IsWithinBounds, IsLoneStart}
@@ -26,6 +27,7 @@ two_rounds list = 2 * length list.slots
 pub record IsSingleFault (list : Medl) (script : Script) (start : ClusterStart) : Type 0 where
   pub valid : IsValid list
   pub bounds : IsWithinBounds list script
+  pub flips : (k slot : ℕ) (c : Channel) → flipped_bits script k c slot ≡ []
   pub lone : IsLoneStart list script start
   pub whole : (slot : ℕ) → slot < script.slots → breaks_in list script start slot ≡ false
   pub spaced : IsSpaced (two_rounds list) (start.slot + two_rounds list)

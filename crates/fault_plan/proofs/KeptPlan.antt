@@ -22,8 +22,8 @@ use Rattle.ttp_world.proofs.Lists.{nodes-most}
 use Rattle.fault_plan.specs.Plan.{plan_of}
 use Rattle.fault_plan.specs.Fates.{fate_of, is_steady_after, steady_nodes, lost_since}
 use Rattle.fault_plan.specs.GoodPlan.{IsGoodPlan}
-use Rattle.fault_plan.specs.Kept.{IsPlanOfFaults, FollowsPlan, KeepsByPlan}
-use Rattle.fault_plan.proofs.Bounds.{none-armed, within-bounds}
+use Rattle.fault_plan.specs.Kept.{IsLoneStart, IsPlanOfFaults, FollowsPlan, KeepsByPlan}
+use Rattle.fault_plan.proofs.Bounds.{none-armed, none-flipped, within-bounds}
 use Rattle.fault_plan.proofs.FateSteps.{since-kept, since-now}
 use Rattle.fault_plan.proofs.FaultySets.{two_rounds, IsSingleFault, faulty_before, makes-slot, strikes-slot}
 use Rattle.fault_plan.proofs.FaultySets.{faulty-early}
@@ -115,13 +115,13 @@ same-on true false later back = sym (later refl)
 same-on false true later back = back refl
 same-on false false later back = refl
 
-on-always : (list : Medl) (script : Script) (start : ClusterStart) (turn k : ℕ) → IsSingleFault list script start
+pub on-always : (list : Medl) (script : Script) (start : ClusterStart) (turn k : ℕ) → IsLoneStart list script start
     → k < length list.slots
     → is_ever_on script k ≡ is_on script k (start.slot + turn)
-on-always list script start turn k run less =
+on-always list script start turn k lone less =
     let slot = start.slot + turn in
     same-on (is_ever_on script k) (is_on script k slot)
-    (λ ever. on-since list script start k slot run less (omega arith) ever) (on-ever script k slot)
+    (λ ever. on-since list script start k slot lone less (omega arith) ever) (on-ever script k slot)
 
 pub plan-of-faults : (list : Medl) (script : Script) (start : ClusterStart) → start_of list script ≡ Some start
     → IsSingleFault list script start
@@ -129,7 +129,7 @@ pub plan-of-faults : (list : Medl) (script : Script) (start : ClusterStart) → 
 plan-of-faults list script start started run = record {
   sound = λ turn k less within.
       let slot = start.slot + turn in
-      let on : is_ever_on script k ≡ is_on script k slot = on-always list script start turn k run less in
+      let on : is_ever_on script k ≡ is_on script k slot = on-always list script start turn k run.lone less in
       let faulty : numbers_of (faulty_nodes_after list script slot) ≡ faulty_before list script start (suc slot) =
       ap (λ found. numbers_of (started_faulty_nodes list script slot found)) started in
       (fates-known list script start turn slot k run refl within less).sound
@@ -155,7 +155,7 @@ within-all list script start last (suc slot) within =
     added [] older = older
     added (k ∷ made) older = (omega arith, added made older)
 
-due-ever : (may : Bool) (on : Option ℕ) (size k slot : ℕ)
+pub due-ever : (may : Bool) (on : Option ℕ) (size k slot : ℕ)
     → cond may (option_map (λ on. on + 2 * size + k) on) None ≡ Some slot
     → is_some on ≡ true
 due-ever true None size k slot due = absurd (none-some slot due)
@@ -218,6 +218,7 @@ single-fault list script slot valid rules =
     record {
       valid = valid;
       bounds = within-bounds list script rules.clocks rules.window rules.outside;
+      flips = λ k slot c. none-flipped list script k slot c rules.outside;
       lone = lone-start list script start rules.started;
       whole = λ t within.
           none-found (breaks_in list script start) 0 script.slots t rules.loss (omega arith) (omega arith);
@@ -238,13 +239,13 @@ follows-plan list script start run =
     let n = length list.slots in
     record {
       good = good-plan list script start run;
-      bounds = run.bounds;
+      flips = run.flips;
       nodes = refl;
       starter = refl;
       slots = refl;
       measured = λ k less. has_node-sieve (λ k. (plan_at list k).sync) n k less;
       on = λ turn k less.
-          has_node-sieve (is_ever_on script) n k less ∙ on-always list script start turn k run less;
+          has_node-sieve (is_ever_on script) n k less ∙ on-always list script start turn k run.lone less;
       hearing = λ turn within. heard-slot list script start turn run within;
       clocks = λ turn earlier k less within before sound.
           run.bounds.still k (start.slot + earlier)
@@ -278,7 +279,7 @@ kept-plan list script slot valid keeps =
       from = rules.from;
       lone = run.lone;
       arms = λ k slot. none-armed list script k slot rules.outside;
-      follows = follows-plan list script rules.start run;
+      follows = record { planned = follows-plan list script rules.start run; bounds = run.bounds };
       faults = plan-of-faults list script rules.start rules.started run;
       heard = λ k within less other on. start-heard list script rules.start k run within less other on;
     }

@@ -50,6 +50,11 @@ found-in list script start None least is = absurd (none-some start is)
 found-in list script start (Some slot) least is =
     found-at list script start slot (are_all_on list script slot) least refl is
 
+pub found-start : (list : Medl) (script : Script) (start : ClusterStart) → start_of list script ≡ Some start
+    → Found list script start
+found-start list script start is =
+    found-in list script start (least_of (filter_map (start_slot list script) (nodes_of list))) refl is
+
 exactly : (slot : ℕ) (found : Option ℕ) → is_exactly slot found ≡ true → found ≡ Some slot
 exactly slot None is = absurd (both_ways false refl is)
 exactly slot (Some t) is = ap Some (eqb-true t slot is)
@@ -99,8 +104,7 @@ pub lone-start : (list : Medl) (script : Script) (start : ClusterStart) → star
     → IsLoneStart list script start
 lone-start list script start is =
     let n = length list.slots in
-    let found =
-    found-in list script start (least_of (filter_map (start_slot list script) (nodes_of list))) refl is in
+    let found = found-start list script start is in
     let starts = starts_in list script start.slot in
     let first : (start.node < n) × (starts start.node ≡ true) =
     (subst (AllByRecursion (λ k. (k < n) × (starts k ≡ true))) found.only (each-sieve starts n)).0 in

@@ -15,14 +15,13 @@ use Rattle.fault_plan.specs.Plan.{Sending, Receiving, Jumping, Incident, Plan, s
 use Rattle.fault_plan.specs.Fates.{fate_of, is_sound_after, is_good_slot, lost_since}
 use Rattle.fault_plan.specs.GoodPlan.{IsGoodPlan}
 
--- Clocks and bits, in the whole run.
+-- Clocks, in the whole run.
 pub record IsWithinBounds (list : Medl) (script : Script) : Type 0 where
   pub clocks : clocks_broken list script ≡ None
   pub drifts : (k : ℕ) → k < length list.slots → IsTrue (is_within_bound list.drift (drift_of script k))
   pub errors : (k slot : ℕ) → k < length list.slots → slot < script.slots
       → IsTrue (is_within_bound list.error (reading_error script k slot))
   pub window : needed list ≤ℤ list.window
-  pub flips : (k slot : ℕ) (c : Channel) → flipped_bits script k c slot ≡ []
   -- a clock that jumps goes far, and jumps once; one that does not stays
   pub jumps : (k slot : ℕ) → has_jump script k slot ≡ true → IsTrue (is_far_jump list (jump_of script k slot))
   pub once : (k slot later : ℕ) → slot < later → has_jump script k slot ≡ true → has_jump script k later ≡ false
@@ -46,10 +45,11 @@ pub record IsHeardByPlan (script : Script) (start : ClusterStart) (plan : Plan) 
   pub jumps : (incident : Incident) → incident_at plan slot ≡ Some incident → incident.change ≡ Jumping
       → has_jump script incident.node (start.slot + slot) ≡ true
 
--- A script does from a start on what a good plan says: all that an induction over the slots asks of the two.
+-- A script does from a start on what a good plan says: all that an induction on members asks of the two.
 pub record FollowsPlan (list : Medl) (script : Script) (start : ClusterStart) (plan : Plan) : Type 0 where
   pub good : IsGoodPlan plan
-  pub bounds : IsWithinBounds list script
+  -- no bit is flipped in the whole run
+  pub flips : (k slot : ℕ) (c : Channel) → flipped_bits script k c slot ≡ []
   -- the plan is of this list and run
   pub nodes : plan.nodes ≡ length list.slots
   pub starter : plan.starter ≡ start.node
@@ -62,6 +62,11 @@ pub record FollowsPlan (list : Medl) (script : Script) (start : ClusterStart) (p
   pub clocks : (slot earlier k : ℕ) → k < length list.slots → start.slot + slot < script.slots → earlier ≤ slot
       → is_sound_after plan slot k ≡ true
       → jump_of script k (start.slot + earlier) ≡ pos 0
+
+-- It does so, and keeps the list's bounds on clocks: all that an induction on members and clocks asks.
+pub record FollowsWithin (list : Medl) (script : Script) (start : ClusterStart) (plan : Plan) : Type 0 where
+  pub planned : FollowsPlan list script start plan
+  pub bounds : IsWithinBounds list script
 
 -- One node starts, and before any other would; all that are ever on are on by then.
 pub record IsLoneStart (list : Medl) (script : Script) (start : ClusterStart) : Type 0 where
@@ -87,7 +92,7 @@ pub record KeepsByPlan (list : Medl) (script : Script) (slot : ℕ) : Type 0 whe
   pub from : start.slot ≡ slot
   pub lone : IsLoneStart list script start
   pub arms : (k slot : ℕ) → is_armed script k slot ≡ false
-  pub follows : FollowsPlan list script start (plan_of list script start)
+  pub follows : FollowsWithin list script start (plan_of list script start)
   pub faults : IsPlanOfFaults list script start (plan_of list script start)
   -- each other node that is on then hears the cold start undisturbed on some channel
   pub heard : (k : ℕ) → start.slot < script.slots → k < length list.slots → k ≢ start.node

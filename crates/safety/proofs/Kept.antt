@@ -21,7 +21,7 @@ use Rattle.safety_clocks.proofs.Bounds.{sound-clocks, sound-deviations}
 use Rattle.safety_steps.specs.Run.{IsBegun, StandsAfter}
 use Rattle.safety_steps.proofs.Safe.{safe-after}
 use Rattle.safety.specs.ByPlan.{IsByPlan}
-use Rattle.safety.proofs.Together.{run-by_plan}
+use Rattle.safety.proofs.Together.{clocks-hold, run-by_plan}
 
 module _ (list : Medl) (script : Script) (slot : ℕ) (valid : IsValid list) (script_valid : IsValidScript list script)
     (kept : keeps list script ≡ keep.Yes slot) where
@@ -33,8 +33,8 @@ module _ (list : Medl) (script : Script) (slot : ℕ) (valid : IsValid list) (sc
     planned = record {
       valid = valid;
       script_valid = script_valid;
-      follows = by_plan.follows;
-      arms = by_plan.arms;
+      follows = by_plan.follows.planned;
+      arms = λ k turn node lost. by_plan.arms k (by_plan.start.slot + suc turn);
     };
     lone = by_plan.lone;
     heard = λ k node other on.
@@ -52,7 +52,9 @@ module _ (list : Medl) (script : Script) (slot : ℕ) (valid : IsValid list) (sc
     run =
         let number = count in
         run-by_plan list script by_plan.start (plan_of list script by_plan.start)
-        (begun (omega (arith, after, within))) (length numbers - suc slot) numbers number
+        (begun (omega (arith, after, within)))
+        (clocks-hold list script by_plan.start (plan_of list script by_plan.start) valid by_plan.follows)
+        (length numbers - suc slot) numbers number
         (omega (arith, number, within)) legal
 
     pub kept-stands : StandsAfter list script by_plan.start (plan_of list script by_plan.start)

@@ -1,72 +1,80 @@
--- Members and clocks together: after each slot of a run from the start on.
+-- Members and clocks together: after each slot of a run from the start on, where what the nodes noted keeps their clocks
+-- together.
 use Rattle.std.proofs.Common.{◌≡◌, ℕ, zero, suc, ◌+◌, ◌<◌, [], ◌∷◌, length, inl, inr, arith}
 use Rattle.ttp_world.specs.declared.medl.Medl.{Medl}
 use Rattle.ttp_world.specs.declared.script.Script.{Script}
 use Rattle.ttp_world.specs.Hypothesis.{ClusterStart}
 use Rattle.ttp_world.specs.Legal.{IsLegal}
+use Rattle.ttp_world.specs.Medl.{IsValid}
 use Rattle.ttp_world.specs.World.{SlotNumbers, Numbers, slot_after, world}
 use Rattle.ttp_world.proofs.LegalShapes.{legal-older}
+use Rattle.fault_plan.specs.Kept.{FollowsWithin}
 use Rattle.fault_plan.specs.Plan.{Plan}
 use Rattle.safety_clocks.specs.NotedByPlan.{NotedByPlan}
 use Rattle.safety_clocks.proofs.Bounds.{sound-inside}
 use Rattle.safety_clocks.proofs.OutsideWindow.{jumped-outside}
 use Rattle.safety_steps.specs.Clocks.{ClocksHold}
 use Rattle.safety_steps.specs.Run.{IsBegun}
-use Rattle.safety_steps.specs.Turn.{IsPlanned, IsTurn}
+use Rattle.safety_steps.specs.Turn.{IsTurn}
 use Rattle.safety_steps.proofs.Begins.{holds-begun}
 use Rattle.safety_steps.proofs.Steps.{holds-next}
 use Rattle.safety.specs.ByPlan.{IsByPlan}
 use Rattle.safety.proofs.Entries.{started-by_plan, noted-next}
 
--- what the nodes noted so far keeps the clocks of the next slot as membership asks it
-pub clocks-hold : (list : Medl) (script : Script) (start : ClusterStart) (plan : Plan) (turn : ℕ) (numbers : Numbers)
-    → IsPlanned list script start plan → NotedByPlan list script start plan turn (world list script numbers)
+-- in a world whose nodes noted by a plan up to a turn, the clocks of the next slot hold as membership asks it
+abbrev pub KeepsClocks : Medl → Script → ClusterStart → Plan → Type 0
+KeepsClocks list script start plan =
+    (turn : ℕ) (numbers : Numbers) → NotedByPlan list script start plan turn (world list script numbers)
     → start.slot + suc turn < script.slots
     → ClocksHold list plan (suc turn) (slot_after list script (world list script numbers))
-clocks-hold list script start plan turn numbers is noted within =
+
+-- so it is within the list's bounds
+pub clocks-hold : (list : Medl) (script : Script) (start : ClusterStart) (plan : Plan) → IsValid list
+    → FollowsWithin list script start plan → KeepsClocks list script start plan
+clocks-hold list script start plan valid follows turn numbers noted within =
     let history = world list script numbers in
     record {
       within = λ r p node sends sound steady.
-          sound-inside list script start plan turn history is.valid is.follows noted within r p (node, sound)
+          sound-inside list script start plan turn history valid follows noted within r p (node, sound)
           (sends, steady);
       frame = λ r p since node sends sound jumped.
-          (jumped-outside list script start plan turn history is.valid is.follows noted within p r since sends
+          (jumped-outside list script start plan turn history valid follows noted within p r since sends
           (inr jumped) (node, sound)).0;
       others = λ r p since node sends jumped sound.
-          (jumped-outside list script start plan turn history is.valid is.follows noted within r p since node
+          (jumped-outside list script start plan turn history valid follows noted within r p since node
           (inl jumped) (sends, sound)).1;
     }
 
 module _ (list : Medl) (script : Script) (start : ClusterStart) (plan : Plan) (is : IsBegun list script start plan)
-  where
-    turn-next : (turn : ℕ) (new : SlotNumbers) (numbers : Numbers) → length numbers ≡ start.slot + suc turn
-        → start.slot + suc turn < script.slots → IsLegal list script (new ∷ numbers)
-        → IsByPlan list script start plan turn (world list script numbers)
-        → IsTurn list script start plan turn new numbers
-    turn-next turn new numbers number within legal before = record {
-      planned = is.planned;
-      legal = legal;
-      number = number;
-      within = within;
-      before = before.holds;
-      clocks = clocks-hold list script start plan turn numbers is.planned before.noted within;
-    }
+    (clocks : KeepsClocks list script start plan) where
+  turn-next : (turn : ℕ) (new : SlotNumbers) (numbers : Numbers) → length numbers ≡ start.slot + suc turn
+      → start.slot + suc turn < script.slots → IsLegal list script (new ∷ numbers)
+      → IsByPlan list script start plan turn (world list script numbers)
+      → IsTurn list script start plan turn new numbers
+  turn-next turn new numbers number within legal before = record {
+    planned = is.planned;
+    legal = legal;
+    number = number;
+    within = within;
+    before = before.holds;
+    clocks = clocks turn numbers before.noted within;
+  }
 
-    pub run-by_plan : (turn : ℕ) (numbers : Numbers) → length numbers ≡ suc (start.slot + turn)
-        → start.slot + turn < script.slots → IsLegal list script numbers
-        → IsByPlan list script start plan turn (world list script numbers)
-    run-by_plan turn [] number within legal = absurd (omega (arith, number))
-    run-by_plan zero (new ∷ numbers) number within legal =
-        let now : length numbers ≡ start.slot = omega (arith, number) in
-        record {
-          holds = holds-begun list script start plan is new numbers now;
-          noted = started-by_plan list script start plan new numbers is now;
-        }
-    run-by_plan (suc turn) (new ∷ numbers) number within legal =
-        let before = run-by_plan turn numbers (omega (arith, number)) (omega (arith, within))
-        (legal-older list script new numbers legal) in
-        let t = turn-next turn new numbers (omega (arith, number)) within legal before in
-        record {
-          holds = holds-next list script start plan turn new numbers t;
-          noted = (before.noted, noted-next list script start plan turn new numbers t);
-        }
+  pub run-by_plan : (turn : ℕ) (numbers : Numbers) → length numbers ≡ suc (start.slot + turn)
+      → start.slot + turn < script.slots → IsLegal list script numbers
+      → IsByPlan list script start plan turn (world list script numbers)
+  run-by_plan turn [] number within legal = absurd (omega (arith, number))
+  run-by_plan zero (new ∷ numbers) number within legal =
+      let now : length numbers ≡ start.slot = omega (arith, number) in
+      record {
+        holds = holds-begun list script start plan is new numbers now;
+        noted = started-by_plan list script start plan new numbers is now;
+      }
+  run-by_plan (suc turn) (new ∷ numbers) number within legal =
+      let before = run-by_plan turn numbers (omega (arith, number)) (omega (arith, within))
+      (legal-older list script new numbers legal) in
+      let t = turn-next turn new numbers (omega (arith, number)) within legal before in
+      record {
+        holds = holds-next list script start plan turn new numbers t;
+        noted = (before.noted, noted-next list script start plan turn new numbers t);
+      }

@@ -8,6 +8,7 @@ ghost use Rattle.ttp_world.specs.Legal.{IsLegal};
 ghost use Rattle.ttp_world.specs.Medl.{IsValid};
 ghost use Rattle.ttp_world.specs.Script.{IsValidScript};
 ghost use Rattle.ttp_world.specs.World.{Numbers, world};
+ghost use Rattle.fault_plan.specs.Kept.{FollowsWithin};
 ghost use Rattle.fault_plan.specs.Plan.{Plan, plan_of};
 ghost use Rattle.safety_steps.specs.Run.{IsBegun, StandsAfter};
 ghost use Rattle.safety.specs.ByPlan.{IsByPlan};
@@ -17,8 +18,8 @@ ghost use Rattle.safety.specs.ByPlan.{IsByPlan};
 /// together, and that keeps their members.
 pub fn by_plan()
     ensures { (list : Medl) (script : Script) (start : ClusterStart) (plan : Plan) (turn : ℕ) (numbers : Numbers)
-        → IsBegun list script start plan → length numbers ≡ suc (start.slot + turn)
-        → start.slot + turn < script.slots → IsLegal list script numbers
+        → IsBegun list script start plan → FollowsWithin list script start plan
+        → length numbers ≡ suc (start.slot + turn) → start.slot + turn < script.slots → IsLegal list script numbers
         → IsByPlan list script start plan turn (world list script numbers) }
 {}
 

@@ -17,7 +17,7 @@ use Rattle.precision.proofs.Averages.{IsUpTo}
 use Rattle.precision.proofs.Runs.{clocks_within, deviations_within}
 use Rattle.fault_plan.specs.Plan.{Plan}
 use Rattle.fault_plan.specs.Fates.{is_sound_after}
-use Rattle.fault_plan.specs.Kept.{FollowsPlan}
+use Rattle.fault_plan.specs.Kept.{FollowsPlan, FollowsWithin}
 use Rattle.fault_plan.proofs.Persists.{sound-before}
 use Rattle.safety_clocks.specs.NotedByPlan.{IsSoundIn, NotedByPlan}
 use Rattle.safety_clocks.proofs.SmallerGroups.{together-in}
@@ -33,7 +33,7 @@ none-jumps list script start plan slot follows within k turn p low high =
 
 -- those that are sound after the coming slot run together up to its beginning
 pub common-run : (list : Medl) (script : Script) (start : ClusterStart) (plan : Plan) (slot : ℕ) (history : History)
-    → FollowsPlan list script start plan → NotedByPlan list script start plan slot history
+    → FollowsWithin list script start plan → NotedByPlan list script start plan slot history
     → start.slot + suc slot < script.slots
     → IsCommonRun list script (is_sound_after plan (suc slot)) start.slot history
 common-run list script start plan slot history follows noted within =
@@ -43,14 +43,14 @@ common-run list script start plan slot history follows noted within =
       bounds = follows.bounds.clocks;
       within = omega (arith, within, number);
       jumps = subst (NoneJumps list script (is_sound_after plan (suc slot)) start.slot) here
-          (none-jumps list script start plan (suc slot) follows within);
+          (none-jumps list script start plan (suc slot) follows.planned within);
       together = together-in list script (is_sound_after plan (suc slot)) (is_sound_after plan slot) start.slot history
           (λ k sound. sound-before plan slot (suc slot) k (omega arith) sound)
-          (ran-together list script start plan slot history follows noted (omega (arith, within, number)));
+          (ran-together list script start plan slot history follows.planned noted (omega (arith, within, number)));
     }
 
 pub sound-clocks : (list : Medl) (script : Script) (start : ClusterStart) (plan : Plan) (slot : ℕ) (history : History)
-    → IsValid list → FollowsPlan list script start plan → NotedByPlan list script start plan slot history
+    → IsValid list → FollowsWithin list script start plan → NotedByPlan list script start plan slot history
     → start.slot + suc slot < script.slots
     → (j k : ℕ) → IsSoundIn list plan (suc slot) j → IsSoundIn list plan (suc slot) k
     → (clock_at list script history j -ℤ clock_at list script history k) ≤ℤ spread list
@@ -61,7 +61,7 @@ sound-clocks list script start plan slot history valid follows noted within =
 
 pub sound-deviations : (list : Medl) (script : Script) (start : ClusterStart) (plan : Plan) (slot : ℕ)
     (history : History)
-    → IsValid list → FollowsPlan list script start plan → NotedByPlan list script start plan slot history
+    → IsValid list → FollowsWithin list script start plan → NotedByPlan list script start plan slot history
     → start.slot + suc slot < script.slots
     → (r p : ℕ) → IsSoundIn list plan (suc slot) r → IsSoundIn list plan (suc slot) p
     → IsUpTo (needed list) (measured list script history r p)
@@ -75,7 +75,7 @@ in-window : (w b z : ℤ) → b ≤ℤ w → IsUpTo b z → (int_le (neg_ℤ w) 
 in-window w b z wide near = grind (arith, ints, near.0, near.1)
 
 pub sound-inside : (list : Medl) (script : Script) (start : ClusterStart) (plan : Plan) (slot : ℕ) (history : History)
-    → IsValid list → FollowsPlan list script start plan → NotedByPlan list script start plan slot history
+    → IsValid list → FollowsWithin list script start plan → NotedByPlan list script start plan slot history
     → start.slot + suc slot < script.slots
     → (r p : ℕ) → IsSoundIn list plan (suc slot) r → IsSoundIn list plan (suc slot) p
     → is_within_window list (measured list script history r p) ≡ true

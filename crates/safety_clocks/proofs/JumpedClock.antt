@@ -23,7 +23,7 @@ use Rattle.precision.proofs.Rounds.{drift_in, correction, product_up}
 use Rattle.precision.proofs.Runs.{clock_after, round_notes}
 use Rattle.fault_plan.specs.Plan.{Jumping, Plan, sender}
 use Rattle.fault_plan.specs.Fates.{Falling, fate_of, is_sound_after}
-use Rattle.fault_plan.specs.Kept.{FollowsPlan}
+use Rattle.fault_plan.specs.Kept.{FollowsWithin}
 use Rattle.fault_plan.specs.Places.{planned_place}
 use Rattle.safety_clocks.specs.NotedByPlan.{IsSoundIn, NotesNothing, NotedByPlan}
 use Rattle.safety_clocks.proofs.Apart.{noted_width, AreNear, Apart, Fresh, Before}
@@ -41,7 +41,7 @@ use Rattle.safety_clocks.proofs.Together.{number-of, counted-run}
 pub record JumpsAfter (list : Medl) (script : Script) (start : ClusterStart) (plan : Plan) (x base : ℕ) (jump : ℤ)
     : Type 0 where
   pub valid : IsValid list
-  pub follows : FollowsPlan list script start plan
+  pub follows : FollowsWithin list script start plan
   pub inside : x < length list.slots
   pub sound : is_sound_after plan (suc base) x ≡ true
   -- the start is a round ago
@@ -61,7 +61,7 @@ jumped-next : (list : Medl) (script : Script) (start : ClusterStart) (plan : Pla
     → jumped_in jump (suc q) ≡ jumped_in jump q +ℤ jump_of script x (start.slot + suc slot)
 jumped-next list script start plan x base slot zero jump jumps within is =
     none-of (jump_of script x (start.slot + suc slot))
-    (jumps.follows.clocks (suc base) (suc slot) x jumps.inside
+    (jumps.follows.planned.clocks (suc base) (suc slot) x jumps.inside
     (subst (λ t. start.slot + suc t < script.slots) same within) (omega (arith, is)) jumps.sound)
   where
     same : slot ≡ base
@@ -108,7 +108,7 @@ stays-base : (list : Medl) (script : Script) (start : ClusterStart) (plan : Plan
     → start.slot + suc slot < script.slots → slot ≡ base → IsSoundIn list plan (suc slot) k
     → StaysApart list script plan slot x k 0 (pos 0) history
 stays-base list script start plan x k base slot jump history jumps noted within is q = record {
-  place = (counted-run list script start plan slot history jumps.follows noted).places x
+  place = (counted-run list script start plan slot history jumps.follows.planned noted).places x
       (sound-back list plan slot x p);
   apart = elim (cases_lt (suc m) (length list.slots)) [
     | inl less ↦
@@ -127,10 +127,10 @@ stays-base list script start plan x k base slot jump history jumps noted within 
     m = sender plan slot
 
     inside : sender plan slot < length list.slots
-    inside = sender-in list script start plan slot jumps.follows
+    inside = sender-in list script start plan slot jumps.follows.planned
 
     early : sender plan slot < slot
-    early = omega (arith, sender-in list script start plan slot jumps.follows, jumps.late, is)
+    early = omega (arith, sender-in list script start plan slot jumps.follows.planned, jumps.late, is)
 
     p : IsSoundIn list plan (suc slot) x
     p = (jumps.inside, subst (λ t. is_sound_after plan (suc t) x ≡ true) (sym is) jumps.sound)
@@ -143,7 +143,7 @@ stays-base list script start plan x k base slot jump history jumps noted within 
         → clock_at list script history j ≡ clock_after list script history j
     begun j r =
         clock_at-still list script history j
-        (still-of list script start plan slot j history jumps.follows within noted r)
+        (still-of list script start plan slot j history jumps.follows.planned within noted r)
 
     near : (w : ℤ) → spread list ≤ℤ w
         → IsUpTo w ((clock_after list script history x -ℤ pos 0) -ℤ clock_after list script history k)
@@ -203,12 +203,12 @@ stays-next list script start plan x k base slot q jump row history jumps s is fe
               (drift_within list script x jumps.follows.bounds.clocks jumps.inside);
           second = sound-moved list script start plan slot k row history s p;
         };
-        next = index-of list script start plan slot jumps.follows;
+        next = index-of list script start plan slot jumps.follows.planned;
         new = notes_in list (planned_place list plan (suc slot)) (entry_of row x);
         near = new.near;
         noted = notes-next list row history x (sender plan slot) (planned_place list plan (suc slot))
             (suc (sender plan slot) == length list.slots) new.goes place
-            (index ∙ index-of list script start plan slot jumps.follows);
+            (index ∙ index-of list script start plan slot jumps.follows.planned);
         others = round_notes list (row ∷ history) k;
         small = known.small early k p;
         first = shift-jump (clock_after list script (row ∷ history) x) (clock_moved list script history x)
@@ -224,7 +224,7 @@ stays-next list script start plan x k base slot q jump row history jumps s is fe
     place = place_continued list x (diary_of history x) (entry_of row x) new.goes ∙ ap (next_place list) before.place
 
     index : (planned_place list plan (suc slot)).slot ≡ sender plan (suc slot)
-    index = place-slot list script start plan (suc slot) jumps.follows
+    index = place-slot list script start plan (suc slot) jumps.follows.planned
 
     number : start.slot + suc slot ≡ length history
     number = omega (arith, number-of list script start plan slot history s.before)
@@ -238,7 +238,7 @@ stays-next list script start plan x k base slot q jump row history jumps s is fe
         (omega (arith, s.within, number))
 
     early : sender plan (suc slot) < suc slot
-    early = omega (arith, sender-in list script start plan (suc slot) jumps.follows, jumps.late, is)
+    early = omega (arith, sender-in list script start plan (suc slot) jumps.follows.planned, jumps.late, is)
 
 -- x is sound in the first of these slots, and has jumped in the others
 notes-near : (list : Medl) (script : Script) (start : ClusterStart) (plan : Plan) (x k base slot q : ℕ) (jump : ℤ)
@@ -296,5 +296,5 @@ stays-apart list script start plan x k base jump (suc slot) (row ∷ history) (s
     stays-next list script start plan x k base slot q jump row history jumps s same (omega (arith, few)) back
     (notes-near list script start plan x k base slot q jump row history jumps s same back falls)
     (stays-apart list script start plan x k base jump slot history q jumps noted.0 (omega (arith, within)) same
-    (omega (arith, few)) back (λ late. jumped-back plan slot x (suc (suc base)) jumps.follows.good
+    (omega (arith, few)) back (λ late. jumped-back plan slot x (suc (suc base)) jumps.follows.planned.good
     (inl (falls (omega (arith, late)))) (λ now. omega (arith, now, late))))

@@ -26,7 +26,7 @@ use Rattle.precision.proofs.Rounds.{drift_in, correction, product_more, product_
 use Rattle.precision.proofs.Runs.{clock_after, round_notes}
 use Rattle.fault_plan.specs.Plan.{Plan, sender}
 use Rattle.fault_plan.specs.Fates.{is_good_slot}
-use Rattle.fault_plan.specs.Kept.{FollowsPlan}
+use Rattle.fault_plan.specs.Kept.{FollowsPlan, FollowsWithin}
 use Rattle.fault_plan.specs.Places.{planned_place}
 use Rattle.safety_clocks.specs.NotedByPlan.{IsSoundIn, NotedInSlot, NotedByPlan}
 use Rattle.safety_clocks.proofs.Apart.{noted_width, AreNear}
@@ -72,7 +72,7 @@ notes-next list row history k m place false goes is index =
 pub record NextSlot (list : Medl) (script : Script) (start : ClusterStart) (plan : Plan) (slot : ℕ) (row : List Entry)
     (history : History) : Type 0 where
   pub valid : IsValid list
-  pub follows : FollowsPlan list script start plan
+  pub follows : FollowsWithin list script start plan
   pub within : start.slot + suc slot < script.slots
   pub before : NotedByPlan list script start plan slot history
   pub noted : NotedInSlot list script plan (suc slot) row history
@@ -137,7 +137,7 @@ noted-each : (P : ℤ → Type 0) (list : Medl) (script : Script) (start : Clust
     → All P (notes_in list (planned_place list plan (suc slot)) (entry_of row k))
 noted-each P list script start plan slot k row history true is s p own other =
     told-each P list script history (sender plan (suc slot)) k (planned_place list plan (suc slot)) (entry_of row k)
-    (s.noted.good k is p) own (other (sender-in list script start plan (suc slot) s.follows, is))
+    (s.noted.good k is p) own (other (sender-in list script start plan (suc slot) s.follows.planned, is))
 noted-each P list script start plan slot k row history false is s p own other =
     subst (All P) (sym (none-silent list (planned_place list plan (suc slot)) (entry_of row k) (s.noted.other k is p)))
     (All-nil P)
@@ -173,7 +173,7 @@ runs-in : (list : Medl) (script : Script) (start : ClusterStart) (plan : Plan) (
     → NextSlot list script start plan slot row history → IsSoundIn list plan (suc slot) k
     → RunsIn list script history k
 runs-in list script start plan slot k row history s p =
-    let still = still-of list script start plan slot k history s.follows s.within s.before p in
+    let still = still-of list script start plan slot k history s.follows.planned s.within s.before p in
     let number = number-of list script start plan slot history s.before in
     record {
       inside = p.0;

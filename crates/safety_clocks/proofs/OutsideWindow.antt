@@ -32,7 +32,7 @@ use Rattle.precision.proofs.Rounds.{drift_in, product_four}
 use Rattle.precision.proofs.Runs.{clock_after}
 use Rattle.fault_plan.specs.Plan.{Jumping, Plan, sender}
 use Rattle.fault_plan.specs.Fates.{is_sound_after}
-use Rattle.fault_plan.specs.Kept.{FollowsPlan}
+use Rattle.fault_plan.specs.Kept.{FollowsWithin}
 use Rattle.safety_clocks.specs.Jumps.{HasJumped}
 use Rattle.safety_clocks.specs.NotedByPlan.{IsSoundIn, NotedByPlan}
 use Rattle.safety_clocks.proofs.Apart.{jump_width, apart-upto}
@@ -183,12 +183,12 @@ pub far-apart : (list : Medl) (script : Script) (start : ClusterStart) (plan : P
     → IsSoundIn list plan (suc slot) k → is_far_jump list jump ≡ true
     → AreFar list (clock_at list script history x) (clock_at list script history k)
 far-apart list script start plan x k base slot jump history jumps noted within has p far =
-    let told = jump-told plan (suc slot) x (suc (suc base)) jumps.follows.good has in
+    let told = jump-told plan (suc slot) x (suc (suc base)) jumps.follows.planned.good has in
     let q = slot - suc base in
     let is : slot ≡ base + suc q = omega (arith, told.from) in
-    let few : suc q ≤ length list.slots = omega (arith, told.from, told.soon, jumps.follows.nodes) in
+    let few : suc q ≤ length list.slots = omega (arith, told.from, told.soon, jumps.follows.planned.nodes) in
     let stays = stays-apart list script start plan x k base jump slot history (suc q) jumps noted within is few p
-    (λ late. jumped-back plan slot x (suc (suc base)) jumps.follows.good has (λ now. omega (arith, now, late))) in
+    (λ late. jumped-back plan slot x (suc (suc base)) jumps.follows.planned.good has (λ now. omega (arith, now, late))) in
     let near : IsUpTo (jump_width list) ((clock_after list script history x -ℤ jumped_in jump (suc q))
     -ℤ clock_after list script history k) =
     apart-upto list (sender plan slot) (suc q) (clock_after list script history x -ℤ jumped_in jump (suc q))
@@ -196,7 +196,7 @@ far-apart list script start plan x k base slot jump history jumps noted within h
     let first = begun-jumped list script start plan x base slot q jump history jumps noted is in
     let second : clock_at list script history k ≡ clock_after list script history k =
     clock_at-still list script history k
-    (still-of list script start plan slot k history jumps.follows within noted p) in
+    (still-of list script start plan slot k history jumps.follows.planned within noted p) in
     let less = clock_after list script history x -ℤ jumped_in jump (suc q) in
     let there : IsUpTo (jump_width list) (less -ℤ clock_at list script history k) =
     subst (λ z. IsUpTo (jump_width list) (less -ℤ z)) (sym second) near in
@@ -212,7 +212,7 @@ far-apart list script start plan x k base slot jump history jumps noted within h
     ]
 
 jumps-after : (list : Medl) (script : Script) (start : ClusterStart) (plan : Plan) (x base slot : ℕ)
-    → IsValid list → FollowsPlan list script start plan → x < length list.slots
+    → IsValid list → FollowsWithin list script start plan → x < length list.slots
     → start.slot + suc slot < script.slots → IsJumpTold plan (suc slot) x (suc (suc base))
     → (has_jump script x (start.slot + suc (suc base)) ≡ true)
     × JumpsAfter list script start plan x base (jump_of script x (start.slot + suc (suc base)))
@@ -220,15 +220,15 @@ jumps-after list script start plan x base slot valid follows inside within told 
     let since = suc (suc base) in
     let jumps : has_jump script x (start.slot + suc (suc base)) ≡ true =
     subst (λ j. has_jump script j (start.slot + suc (suc base)) ≡ true) told.loss.node
-    ((follows.hearing (suc (suc base)) (omega (arith, within, told.from))).jumps told.loss.incident told.loss.found
+    ((follows.planned.hearing (suc (suc base)) (omega (arith, within, told.from))).jumps told.loss.incident told.loss.found
     told.loss.how) in (
       jumps,
       record {
         valid = valid;
         follows = follows;
         inside = inside;
-        sound = sound-till plan x (suc base) Jumping follows.good told.loss;
-        late = omega (arith, told.loss.late, follows.nodes, valid.count.0);
+        sound = sound-till plan x (suc base) Jumping follows.planned.good told.loss;
+        late = omega (arith, told.loss.late, follows.planned.nodes, valid.count.0);
         here = refl;
         once = λ turn later. follows.bounds.still x (start.slot + turn)
             (follows.bounds.once x (start.slot + suc (suc base)) (start.slot + turn) (omega (arith, later)) jumps);
@@ -237,17 +237,17 @@ jumps-after list script start plan x base slot valid follows inside within told 
 
 -- the clocks of a node that has jumped and of a sound one
 pub jumped-far : (list : Medl) (script : Script) (start : ClusterStart) (plan : Plan) (slot : ℕ) (history : History)
-    → IsValid list → FollowsPlan list script start plan → NotedByPlan list script start plan slot history
+    → IsValid list → FollowsWithin list script start plan → NotedByPlan list script start plan slot history
     → start.slot + suc slot < script.slots
     → (x k since : ℕ) → x < length list.slots → HasJumped plan (suc slot) x since → IsSoundIn list plan (suc slot) k
     → AreFar list (clock_at list script history x) (clock_at list script history k)
 jumped-far list script start plan slot history valid follows noted within x k zero inside has p =
-    absurd (omega (arith, (jump-told plan (suc slot) x 0 follows.good has).loss.late, follows.good.count.0))
+    absurd (omega (arith, (jump-told plan (suc slot) x 0 follows.planned.good has).loss.late, follows.planned.good.count.0))
 jumped-far list script start plan slot history valid follows noted within x k (suc zero) inside has p =
-    absurd (omega (arith, (jump-told plan (suc slot) x 1 follows.good has).loss.late, follows.good.count.0))
+    absurd (omega (arith, (jump-told plan (suc slot) x 1 follows.planned.good has).loss.late, follows.planned.good.count.0))
 jumped-far list script start plan slot history valid follows noted within x k (suc (suc base)) inside has p =
     let after = jumps-after list script start plan x base slot valid follows inside within
-    (jump-told plan (suc slot) x (suc (suc base)) follows.good has) in
+    (jump-told plan (suc slot) x (suc (suc base)) follows.planned.good has) in
     far-apart list script start plan x k base slot (jump_of script x (start.slot + suc (suc base))) history after.1
     noted within has p (follows.bounds.jumps x (start.slot + suc (suc base)) after.0)
 
@@ -257,7 +257,7 @@ swap-far list x y (inr behind) = inl behind
 
 pub jumped-outside : (list : Medl) (script : Script) (start : ClusterStart) (plan : Plan) (slot : ℕ)
     (history : History)
-    → IsValid list → FollowsPlan list script start plan → NotedByPlan list script start plan slot history
+    → IsValid list → FollowsWithin list script start plan → NotedByPlan list script start plan slot history
     → start.slot + suc slot < script.slots
     → (x k since : ℕ) → x < length list.slots → HasJumped plan (suc slot) x since → IsSoundIn list plan (suc slot) k
     → (is_within_window list (measured list script history k x) ≡ false)

@@ -15,7 +15,7 @@ use Rattle.precision.proofs.Averages.{IsUpTo}
 use Rattle.precision.proofs.Rounds.{correction}
 use Rattle.precision.proofs.Runs.{clock_after, round_notes}
 use Rattle.fault_plan.specs.Plan.{Plan, sender}
-use Rattle.fault_plan.specs.Kept.{FollowsPlan}
+use Rattle.fault_plan.specs.Kept.{FollowsWithin}
 use Rattle.fault_plan.specs.Places.{planned_place}
 use Rattle.safety_clocks.specs.NotedByPlan.{IsSoundIn, NotedByPlan}
 use Rattle.safety_clocks.proofs.Apart.{noted_width, AreNear, near-later, uncorrected-in, same-near}
@@ -41,11 +41,11 @@ pub sound-notes : (list : Medl) (script : Script) (start : ClusterStart) (plan :
     ≡ notes_in list (planned_place list plan (suc slot)) (entry_of row k)
     ++ cond (suc (sender plan slot) == length list.slots) [] (round_notes list history k)
 sound-notes list script start plan slot k row history s p =
-    let counted = counted-run list script start plan (suc slot) (row ∷ history) s.follows (s.before, s.noted) in
+    let counted = counted-run list script start plan (suc slot) (row ∷ history) s.follows.planned (s.before, s.noted) in
     notes-next list row history k (sender plan slot) (planned_place list plan (suc slot))
     (suc (sender plan slot) == length list.slots)
     (sound-goes list script plan (suc slot) k row history s.noted p) (counted.places k p)
-    (place-slot list script start plan (suc slot) s.follows ∙ index-of list script start plan slot s.follows)
+    (place-slot list script start plan (suc slot) s.follows.planned ∙ index-of list script start plan slot s.follows.planned)
 
 -- and its clock
 pub sound-clock : (list : Medl) (script : Script) (start : ClusterStart) (plan : Plan) (slot k : ℕ) (row : List Entry)
@@ -55,11 +55,11 @@ pub sound-clock : (list : Medl) (script : Script) (start : ClusterStart) (plan :
     ≡ clock_moved list script history k
     +ℤ correction list (sender plan (suc slot)) (round_notes list (row ∷ history) k)
 sound-clock list script start plan slot k row history s p =
-    let counted = counted-run list script start plan (suc slot) (row ∷ history) s.follows (s.before, s.noted) in
+    let counted = counted-run list script start plan (suc slot) (row ∷ history) s.follows.planned (s.before, s.noted) in
     clock-next list script row history k (planned_place list plan (suc slot))
     (sound-goes list script plan (suc slot) k row history s.noted p) (counted.places k p)
     ∙ ap (λ m. clock_moved list script history k +ℤ correction list m (round_notes list (row ∷ history) k))
-    (place-slot list script start plan (suc slot) s.follows)
+    (place-slot list script start plan (suc slot) s.follows.planned)
 
 -- the index of the slot before, where a round goes on
 goes-from : (index m slot n : ℕ) (last : Bool) → index ≡ cond last 0 (suc m) → last ≡ false → index < suc slot
@@ -85,7 +85,7 @@ all-small list script start plan slot k row history last is s known later p =
     old true ends = All-nil (IsUpTo (needed list))
     old false inside =
         known.small (goes-from (sender plan (suc slot)) (sender plan slot) slot (length list.slots)
-        (suc (sender plan slot) == length list.slots) (index-of list script start plan slot s.follows) inside later)
+        (suc (sender plan slot) == length list.slots) (index-of list script start plan slot s.follows.planned) inside later)
         k (sound-back list plan slot k p)
 
 all-near : (list : Medl) (script : Script) (start : ClusterStart) (plan : Plan) (slot x k : ℕ) (row : List Entry)
@@ -124,7 +124,7 @@ all-near list script start plan slot x k row history s known later less p q =
         All-nil (λ d. IsUpTo width ((clock_moved list script history x +ℤ d) -ℤ clock_moved list script history k))
     old false inside =
         let index : sender plan (suc slot) ≡ suc (sender plan slot) =
-        index-of list script start plan slot s.follows ∙ ap (λ b. cond b 0 (suc (sender plan slot))) inside in
+        index-of list script start plan slot s.follows.planned ∙ ap (λ b. cond b 0 (suc (sender plan slot))) inside in
         subst (λ i. AreNear (noted_width list i) (clock_moved list script history x)
         (clock_moved list script history k) (round_notes list history x)) (sym index)
         (near-later list (sender plan slot) (clock_after list script history x) (clock_after list script history k)
@@ -138,7 +138,7 @@ all-near list script start plan slot x k row history s known later less p q =
         (sound-back list plan slot k q)))
 
 pub notes-known : (list : Medl) (script : Script) (start : ClusterStart) (plan : Plan) (slot : ℕ) (history : History)
-    → IsValid list → FollowsPlan list script start plan → NotedByPlan list script start plan slot history
+    → IsValid list → FollowsWithin list script start plan → NotedByPlan list script start plan slot history
     → length history ≤ script.slots
     → NotesKnown list script plan slot history
 notes-known list script start plan slot [] valid follows noted within = absurd noted

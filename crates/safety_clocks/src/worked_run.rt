@@ -6,7 +6,7 @@ ghost use Rattle.ttp_world.specs.Hypothesis.{keeps, needed};
 ghost use Rattle.ttp_world.specs.Medl.{IsValid};
 ghost use Rattle.ttp_world.specs.World.{world};
 ghost use Rattle.precision.specs.Together.{measured};
-ghost use Rattle.fault_plan.specs.Kept.{FollowsPlan};
+ghost use Rattle.fault_plan.specs.Kept.{FollowsWithin};
 ghost use Rattle.safety_clocks.specs.Jumps.{HasJumped};
 ghost use Rattle.safety_clocks.specs.NotedByPlan.{NotedByPlan};
 ghost use Rattle.safety_clocks.specs.WorkedRun.{five_nodes, jumping, first_start, one_jump, no_numbers, run_of_jumping};
@@ -18,7 +18,7 @@ ghost use Rattle.safety_clocks.specs.WorkedRun.{five_nodes, jumping, first_start
 fn a_clock_jumps()
     ensures keeps { keeps five_nodes jumping ≡ keep.Yes 10 }
     ensures valid { IsValid five_nodes }
-    ensures follows { FollowsPlan five_nodes jumping first_start one_jump }
+    ensures follows { FollowsWithin five_nodes jumping first_start one_jump }
     ensures world { world five_nodes jumping no_numbers ≡ run_of_jumping }
     ensures noted { NotedByPlan five_nodes jumping first_start one_jump 14 run_of_jumping }
     ensures jumped { HasJumped one_jump 15 3 14 }

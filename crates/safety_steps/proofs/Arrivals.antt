@@ -10,7 +10,7 @@ use Rattle.ttp_world.specs.Hypothesis.{ClusterStart, loses}
 use Rattle.ttp_world.specs.Reception.{is_within_window}
 use Rattle.ttp_world.specs.World.{SlotNumbers, Numbers, node_past, slot_after, deviation_in, messages_chosen, world}
 use Rattle.fault_plan.specs.Plan.{Change, Plan, sender}
-use Rattle.fault_plan.specs.Fates.{Fate, Absent, Sound, Falling, Fallen, fate_of}
+use Rattle.fault_plan.specs.Fates.{Fate, Absent, Sound, Falling, Fallen, fate_of, is_lost}
 use Rattle.fault_plan.specs.Ledger.{planned_members}
 use Rattle.fault_plan.specs.Places.{planned_place}
 use Rattle.safety_laws.specs.Groups.{held_with}
@@ -98,7 +98,7 @@ module _ (list : Medl) (script : Script) (start : ClusterStart) (plan : Plan) (t
       let node = e-node list script start plan turn new numbers t in
       let x = slot_of list script new numbers e in
       elim (at-fate e (Fallen change since shown) node is) [
-        | inl left ↦ idle-left x left (unarmed list script start plan turn new numbers t e node)
+        | inl left ↦ idle-left x left (unarmed list script start plan turn new numbers t e node (ap is_lost is))
         | inr at ↦
             fallen-own plan turn x t.planned.follows.good
             (has-turn list script start plan turn new numbers t e node at.phase at.place refl) shown at
@@ -118,7 +118,7 @@ module _ (list : Medl) (script : Script) (start : ClusterStart) (plan : Plan) (t
       let node = e-node list script start plan turn new numbers t in
       let x = slot_of list script new numbers e in
       elim (at-fate e (Falling change since) node is) [
-        | inl left ↦ inl (idle-left x left.0 (unarmed list script start plan turn new numbers t e node))
+        | inl left ↦ inl (idle-left x left.0 (unarmed list script start plan turn new numbers t e node (ap is_lost is)))
         | inr at ↦
             let own = has-turn list script start plan turn new numbers t e node at.phase at.place refl in
             elim (falling-own plan turn x t.planned.follows.good own change since at) [

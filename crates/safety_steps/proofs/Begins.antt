@@ -83,7 +83,7 @@ module _ (list : Medl) (script : Script) (start : ClusterStart) (plan : Plan) (i
 
     start-heard : IsStartHeard list script start
     start-heard = record {
-      unflipped = λ c. is.planned.follows.bounds.flips start.node start.slot c;
+      unflipped = λ c. is.planned.follows.flips start.node start.slot c;
       kept = is.heard;
     }
 

@@ -9,7 +9,7 @@ use Rattle.ttp_world.specs.Hypothesis.{ClusterStart, loses}
 use Rattle.ttp_world.specs.Reception.{is_within_window}
 use Rattle.ttp_world.specs.World.{SlotNumbers, Numbers, slot_after, deviation_in, messages_chosen, world}
 use Rattle.fault_plan.specs.Plan.{Change, Sending, Receiving, Jumping, Plan, sender}
-use Rattle.fault_plan.specs.Fates.{Fate, Absent, Sound, Falling, Fallen, fate_of, may_stay}
+use Rattle.fault_plan.specs.Fates.{Fate, Absent, Sound, Falling, Fallen, fate_of, is_lost, may_stay}
 use Rattle.fault_plan.proofs.FateTells.{loss-sending, one-stays}
 use Rattle.fault_plan.proofs.Members.{fallen-member}
 use Rattle.fault_plan.proofs.Turns.{turns_apart}
@@ -85,7 +85,7 @@ module _ (list : Medl) (script : Script) (start : ClusterStart) (plan : Plan) (t
   deaf-on since is =
       let x = slot_of list script new numbers k in
       elim (at-fate list script start plan turn new numbers t k (Falling Receiving since) node is) [
-        | inl left ↦ inl (idle-left x left.0 (unarmed list script start plan turn new numbers t k node)).0
+        | inl left ↦ inl (idle-left x left.0 (unarmed list script start plan turn new numbers t k node (ap is_lost is))).0
         | inr at ↦
             let told = told-falling plan turn k since Receiving t.planned.follows.good is in
             let lost_less : sender plan since < plan.nodes = mod-lt (plan.starter + since) few_nodes in
@@ -186,7 +186,7 @@ module _ (list : Medl) (script : Script) (start : ClusterStart) (plan : Plan) (t
     fallen-next =
         let x = slot_of list script new numbers k in
         elim (at-fate list script start plan turn new numbers t k (Fallen change since shown) node is) [
-          | inl left ↦ inl (idle-left x left (unarmed list script start plan turn new numbers t k node)).0
+          | inl left ↦ inl (idle-left x left (unarmed list script start plan turn new numbers t k node (ap is_lost is))).0
           | inr at ↦
               let soon = at.soon in
               fallen-judges plan turn x

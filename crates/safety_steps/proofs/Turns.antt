@@ -1,5 +1,5 @@
 -- A turn of a world: who sends in it, and what comes to each node.
-use Rattle.std.proofs.Common.{◌≡◌, ◌≢◌, ℕ, suc, ◌+◌, ◌<◌, false, [], length, refl, ap, sym, subst}
+use Rattle.std.proofs.Common.{◌≡◌, ◌≢◌, ℕ, suc, ◌+◌, ◌<◌, true, false, [], length, refl, ap, sym, subst}
 use Rattle.std.proofs.Common.{◌∙◌, inl, inr, arith}
 use Rattle.std.proofs.Common.{mod-lt}
 use Rattle.std.proofs.lemmas.Bool.{cases_eq, not-true}
@@ -9,11 +9,11 @@ use Rattle.ttp_world.specs.declared.node.Phase.TheVariants as phase
 use Rattle.ttp_world.specs.declared.script.Script.{Script}
 use Rattle.ttp_world.specs.Diary.{Place, next_place}
 use Rattle.ttp_world.specs.Hypothesis.{ClusterStart}
-use Rattle.ttp_world.specs.Script.{is_on}
+use Rattle.ttp_world.specs.Script.{is_on, is_armed}
 use Rattle.ttp_world.specs.World.{SlotNumbers, Numbers, node_past, messages_chosen, world}
 use Rattle.ttp_world.proofs.Worlds.{length-world}
 use Rattle.fault_plan.specs.Plan.{Plan, sender}
-use Rattle.fault_plan.specs.Fates.{Fate, Absent, Sound, Falling, Fallen, fate_of, is_absent}
+use Rattle.fault_plan.specs.Fates.{Fate, Absent, Sound, Falling, Fallen, fate_of, is_absent, is_lost}
 use Rattle.fault_plan.specs.GoodPlan.{IsGoodPlan}
 use Rattle.fault_plan.specs.Places.{planned_place}
 use Rattle.fault_plan.proofs.Persists.{absent-always}
@@ -37,7 +37,7 @@ slot_of list script new numbers k =
 -- An active node that stands where the plan does, one that has left, and one that is not switched on.
 pub data Stance (list : Medl) (plan : Plan) (turn : ℕ) (x : NodeSlot) : Type 0 where
   IsActive : x.past.phase ≡ phase.Active → x.past.place ≡ planned_place list plan turn → Stance list plan turn x
-  HasLeft : x.past.phase ≡ phase.Left → Stance list plan turn x
+  HasLeft : x.past.phase ≡ phase.Left → x.armed ≡ false → Stance list plan turn x
   IsOff : x.past.phase ≡ phase.Off → x.on ≡ false → Stance list plan turn x
 
 module _ (list : Medl) (script : Script) (start : ClusterStart) (plan : Plan) (turn : ℕ) (new : SlotNumbers)
@@ -85,8 +85,8 @@ module _ (list : Medl) (script : Script) (start : ClusterStart) (plan : Plan) (t
         ap (is_on script k) slot_number ∙ sym (t.planned.follows.on (suc turn) k node)
         ∙ not-true (has_node plan.begin k) (sym (absent-always plan turn k good) ∙ ap is_absent is)
 
-    pub unarmed : (slot_of list script new numbers k).armed ≡ false
-    unarmed = t.planned.arms k (length (world list script numbers))
+    pub unarmed : is_lost (fate_of plan turn k) ≡ true → (slot_of list script new numbers k).armed ≡ false
+    unarmed lost = ap (is_armed script k) slot_number ∙ t.planned.arms k turn node lost
 
     pub stance : Stance list plan turn (slot_of list script new numbers k)
     stance = by (fate_of plan turn k) refl (t.before.nodes k node)
@@ -96,9 +96,9 @@ module _ (list : Medl) (script : Script) (start : ClusterStart) (plan : Plan) (t
             → Stance list plan turn (slot_of list script new numbers k)
         by Absent is off = IsOff off (absent-off is)
         by Sound is at = IsActive at.phase at.place
-        by (Falling change since) is (inl left) = HasLeft left.0
+        by (Falling change since) is (inl left) = HasLeft left.0 (unarmed (ap is_lost is))
         by (Falling change since) is (inr at) = IsActive at.phase at.place
-        by (Fallen change since shown) is (inl left) = HasLeft left
+        by (Fallen change since shown) is (inl left) = HasLeft left (unarmed (ap is_lost is))
         by (Fallen change since shown) is (inr at) = IsActive at.phase at.place
 
     -- no node but the sender sends
@@ -109,7 +109,7 @@ module _ (list : Medl) (script : Script) (start : ClusterStart) (plan : Plan) (t
             → frames_made (slot_of list script new numbers k) ≡ []
         by (IsActive active place) =
             frames_made-judging (slot_of list script new numbers k) (judges active place other)
-        by (HasLeft left) = (idle-left (slot_of list script new numbers k) left unarmed).1
+        by (HasLeft left armed) = (idle-left (slot_of list script new numbers k) left armed).1
         by (IsOff off never) = (idle-off (slot_of list script new numbers k) off never).1
 
   -- the sender of the turn
@@ -136,6 +136,6 @@ module _ (list : Medl) (script : Script) (start : ClusterStart) (plan : Plan) (t
     accepted = may.more;
     payload = HasPayload-world list script new numbers (sender plan (suc turn)) t.planned.script_valid t.legal e-node
         own.own (act_made-sends (slot_of list script new numbers (sender plan (suc turn))) own may.closed may.more);
-    unflipped = λ c. t.planned.follows.bounds.flips (sender plan (suc turn)) (length (world list script numbers)) c;
+    unflipped = λ c. t.planned.follows.flips (sender plan (suc turn)) (length (world list script numbers)) c;
     others = λ k node other. quiet k node (λ same. other (sym same));
   }

@@ -10,7 +10,7 @@ use Rattle.ttp_world.specs.Safety.{has_ever_sent}
 use Rattle.ttp_world.specs.Script.{is_armed, IsValidScript}
 use Rattle.ttp_world.specs.World.{SlotNumbers, Numbers, node_past, slot_after, world}
 use Rattle.fault_plan.specs.Plan.{Plan}
-use Rattle.fault_plan.specs.Fates.{fate_of, is_sound_after}
+use Rattle.fault_plan.specs.Fates.{fate_of, is_sound_after, is_lost}
 use Rattle.fault_plan.specs.Kept.{FollowsPlan}
 use Rattle.fault_plan.specs.Ledger.{ledger_of}
 use Rattle.safety_steps.specs.ByFate.{IsByFate}
@@ -24,12 +24,13 @@ pub record HoldsAfter (list : Medl) (script : Script) (plan : Plan) (turn : ℕ)
   pub sent : (k : ℕ) → k < length list.slots → is_sound_after plan turn k ≡ true
       → IsTrue (has_ever_sent (diary_of history k)) → (ledger_of plan turn k).own ≡ true
 
--- a script follows a plan from a start on, and arms no node
+-- a script follows a plan from a start on, and arms no lost node
 pub record IsPlanned (list : Medl) (script : Script) (start : ClusterStart) (plan : Plan) : Type 0 where
   pub valid : IsValid list
   pub script_valid : IsValidScript list script
   pub follows : FollowsPlan list script start plan
-  pub arms : (k slot : ℕ) → is_armed script k slot ≡ false
+  pub arms : (k turn : ℕ) → k < length list.slots → is_lost (fate_of plan turn k) ≡ true
+      → is_armed script k (start.slot + suc turn) ≡ false
 
 -- the turn after some others, in a world whose numbers are legal
 pub record IsTurn (list : Medl) (script : Script) (start : ClusterStart) (plan : Plan) (turn : ℕ) (new : SlotNumbers)

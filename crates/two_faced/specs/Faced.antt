@@ -1,15 +1,14 @@
 -- One two-faced sender: a node whose clock looks different to different receivers. Six rules say which scripts are
 -- promised to be stood, of which the first that is broken is named with a slot.
-use Rattle.std.specs.Prelude.{ℕ, ◌+◌, ◌*◌, nat_le, nat_lt, ℤ, pos, ◌+ℤ◌, ◌-ℤ◌, ◌*ℤ◌, Bool, false, ◌&&◌, not, ◌==◌}
-use Rattle.std.specs.Prelude.{[], length, find, Option, Some, None, int_le, if◌then◌else◌}
-use Rattle.std.specs.Int.{int_max}
+use Rattle.std.specs.Prelude.{ℕ, nat_lt, ◌+ℤ◌, Bool, not, [], length, find, Option, Some, None, int_le, if◌then◌else◌}
 use Rattle.std.specs.List.{filter_map}
 use Rattle.ttp_base.specs.NodeSet.{below}
 use Rattle.ttp_world.specs.declared.medl.Medl.{Medl}
 use Rattle.ttp_world.specs.declared.script.Event.{Event}
 use Rattle.ttp_world.specs.declared.script.Event.TheVariants as event
 use Rattle.ttp_world.specs.declared.script.Script.{Script}
-use Rattle.ttp_world.specs.Hypothesis.{ClusterStart, drifts_hold, least_of, start_of, expected_sender, has_four_steady}
+use Rattle.ttp_world.specs.Hypothesis.{ClusterStart, drifts_hold, least_of, start_of, has_four_steady}
+pub use Rattle.faced_clocks.specs.Errors.{bound, is_faced_slot, allowed_error}
 use Rattle.hypothesis.specs.Errors.{errors_hold_within}
 use Rattle.hypothesis.specs.SoleStart.{sole_start}
 use Rattle.two_faced.specs.declared.faced.Faced.{Faced}
@@ -24,21 +23,6 @@ node_broken list z = if nat_lt z (length list.slots) then None else Some 0
 
 -- Clocks (F1): each drift and each sum of reading errors is within its bound, which is wider where the two-faced node
 -- sends.
-
--- how far apart the clocks of two other nodes may come: 12 D n + 6 E + 2
-abbrev pub bound : Medl → ℤ
-bound list = list.drift *ℤ pos (12 * length list.slots) +ℤ (list.error *ℤ pos 6 +ℤ pos 2)
-
--- two rounds have passed since the start, and the node is due to send
-abbrev pub is_faced_slot : Medl → ℕ → Option ClusterStart → ℕ → Bool
-is_faced_slot list z None slot = false
-is_faced_slot list z (Some start) slot =
-    nat_le (start.slot + 2 * length list.slots) slot && (expected_sender list start slot == z)
-
--- how far a node's reading errors may add up in a slot, either way
-abbrev pub allowed_error : Medl → ℕ → Option ClusterStart → ℕ → ℤ
-allowed_error list z start slot =
-    if is_faced_slot list z start slot then int_max list.error (list.window -ℤ bound list) else list.error
 
 abbrev pub errors_allowed_in : Medl → Script → ℕ → Option ClusterStart → ℕ → Bool
 errors_allowed_in list script z start slot = errors_hold_within list script (allowed_error list z start slot) slot

@@ -1,4 +1,5 @@
 pub mod Faced
+pub mod Halved
 pub mod Seen
 pub mod Spans
 pub mod WorkedCases

@@ -13,8 +13,9 @@
 //! ```
 //!
 //! The rules are those of `specs/Faced.antt`; what they share with the single-fault hypothesis is
-//! asked of the crate hypothesis. [`find_seen`] runs the cluster through its controllers, and says how far
-//! apart the clocks of the other nodes came. That they stay within the bound is not proved here.
+//! asked of the crate hypothesis. [`halved`] is the law that a script which keeps them is owed: every frame
+//! is judged correct, and the clocks stay within the bound. [`find_seen`] runs the cluster through its
+//! controllers, and says how far apart the clocks of the other nodes came.
 #![tactic(auto, using(ttp_world::proofs::Lists::nodes))]
 
 ghost use Rattle.std.specs.Prelude.{◌≡◌};
@@ -27,6 +28,7 @@ mod bounds;
 mod clocks;
 mod faced;
 mod faults;
+mod law;
 mod seen;
 #[cfg(test)]
 mod tests;
@@ -38,6 +40,7 @@ use crate::bounds::window_broken;
 use crate::clocks::clocks_broken;
 pub use crate::faced::Faced;
 use crate::faults::faults_broken;
+pub use crate::law::halved;
 pub use crate::seen::{Seen, find_seen};
 use hypothesis::{Start, has_four_steady, sole_start, start_of};
 use ttp_base::NodeSet;

@@ -1,6 +1,6 @@
 //! Answers for lists and scripts as their files say them, worked out by hand from the rules.
 
-use crate::{Faced, Seen, bound, find_faced, find_seen};
+use crate::{Faced, Seen, bound, find_faced, find_seen, halved};
 use medl_text::read_medl;
 use script_text::read_script;
 use std::test::Fail;
@@ -95,6 +95,19 @@ fn rules_are_told_in_their_order(rt: HostRuntime) -> Result<(), Fail> {
 fn bound_of_four_nodes(rt: HostRuntime) -> Result<(), Fail> {
     let list = read_medl(rt.alloc(), WIDE.as_bytes())?;
     assert_eq!(rt; bound(&list), 50);
+    Ok(())
+}
+
+#[test]
+fn a_script_that_keeps_the_rules_is_owed_the_law(rt: HostRuntime) -> Result<(), Fail> {
+    let list = read_medl(rt.alloc(), WIDE.as_bytes())?;
+    let script =
+        "slots 28\non 0 0\non 1 0\non 2 0\non 3 0\ndrift 0 1\nerror 0 14 19 19\nerror 1 -14 19 19\n";
+    let read = read_script(rt.alloc(), &list, script.as_bytes())?;
+    match find_faced(&list, &read, 3) {
+        Faced::Yes { start } => halved(&list, &read, 3, start),
+        Faced::No { rule, slot } => assert!(rt; false, "rule {rule} in slot {slot}"),
+    }
     Ok(())
 }
 

@@ -12,7 +12,7 @@ use Rattle.ttp_world.specs.Medl.{IsValidSlot, IsValid}
 use Rattle.precision.specs.Together.{TellsOf, measured}
 use Rattle.fault_plan.specs.Plan.{Jumping, plan_of, sender}
 use Rattle.fault_plan.specs.Fates.{Falling, Sound, fate_of, is_sound_after, is_good_slot}
-use Rattle.fault_plan.specs.Kept.{FollowsPlan, KeepsByPlan}
+use Rattle.fault_plan.specs.Kept.{FollowsWithin, KeepsByPlan}
 use Rattle.fault_plan.proofs.KeptPlan.{kept-plan}
 use Rattle.safety_clocks.specs.NotedByPlan.{NotesNothing, NotedInSlot}
 use Rattle.safety_clocks.specs.WorkedRun.{bare_slot, five_nodes, jumping, first_start, one_jump, newest_row, older_rows}
@@ -83,10 +83,10 @@ kept = kept-plan five_nodes jumping 10 list-valid refl
 same-start : (start : ClusterStart) → Some first_start ≡ Some start → start ≡ first_start
 same-start start is = cc
 
-follows-plan : FollowsPlan five_nodes jumping first_start one_jump
+follows-plan : FollowsWithin five_nodes jumping first_start one_jump
 unfolding members_in with_node
 follows-plan =
-    subst (λ start. FollowsPlan five_nodes jumping start (plan_of five_nodes jumping start))
+    subst (λ start. FollowsWithin five_nodes jumping start (plan_of five_nodes jumping start))
     (same-start kept.start kept.started) kept.follows
 
 pub returns-clause-keeps : goal.returns-clause-keeps

@@ -1,0 +1,251 @@
+-- What the nodes of a plan that loses none note in one slot, where one sender may be two-faced.
+use Rattle.std.proofs.Common.{◌≡◌, ◌≢◌, ℕ, suc, ◌+◌, ◌-◌, ◌*◌, ◌%◌, ◌<◌, ℤ, pos, ◌+ℤ◌, ◌-ℤ◌, ◌≤ℤ◌, Bool, true, false, cond, ◌&&◌}
+use Rattle.std.proofs.Common.{List, [], ◌∷◌, ◌++◌, length, Some, None, refl, ap, sym, subst, ◌∙◌, arith}
+use Rattle.std.specs.Prelude.{nat_le, ◌==◌}
+use Rattle.std.specs.Int.{int_max}
+use Rattle.std.specs.Option.{option_to_list}
+use Rattle.std.proofs.lemmas.Bool.{ne_eqb, and_left, and_right}
+use Rattle.std.proofs.lemmas.Int.{ints}
+use Rattle.ttp_base.specs.NodeSet.{has_node}
+use Rattle.ttp_world.specs.declared.medl.Medl.{Medl}
+use Rattle.ttp_world.specs.declared.node.Entry.{Entry}
+use Rattle.ttp_world.specs.declared.node.Entry.TheVariants as entry
+use Rattle.ttp_world.specs.declared.script.Script.{Script}
+use Rattle.ttp_world.specs.Clock.{notes_in}
+use Rattle.ttp_world.specs.Diary.{History, Place, entry_of}
+use Rattle.ttp_world.specs.Hypothesis.{ClusterStart, expected_sender, is_within_bound}
+use Rattle.ttp_world.specs.Medl.{IsValid, plan_at}
+use Rattle.ttp_world.specs.Script.{drift_of, jump_of, reading_error}
+use Rattle.precision.specs.Together.{IsIn, TellsOf, measured}
+use Rattle.precision.proofs.Averages.{IsUpTo}
+use Rattle.precision.proofs.Entries.{clock_at-still}
+use Rattle.precision.proofs.Frames.{frame_of, frame_of-node}
+use Rattle.precision.proofs.Rounds.{drift_in, product_more, HaveDrifted}
+use Rattle.precision.proofs.Runs.{clock_after}
+use Rattle.fault_plan.specs.Plan.{Plan, sender}
+use Rattle.fault_plan.specs.Fates.{is_good_slot}
+use Rattle.fault_plan.specs.Kept.{FollowsPlan}
+use Rattle.fault_plan.specs.Places.{planned_place}
+use Rattle.safety_clocks.specs.NotedByPlan.{IsSoundIn, NotedInSlot}
+use Rattle.safety_clocks.proofs.NearNotes.{clock_moved}
+use Rattle.safety_clocks.proofs.RoundNotes.{none-silent, sender-in}
+use Rattle.faced_clocks.specs.Errors.{bound, is_faced_slot, allowed_error, HasFacedClocks}
+use Rattle.faced_clocks.proofs.Lossless.{sound-always}
+use Rattle.faced_clocks.proofs.PulledNotes.{Locate, AreTurns, AreTurns-later}
+use Rattle.faced_clocks.proofs.Rounds.{width, Round, SlotNotes}
+
+-- what the law asks of list, script and plan
+pub record IsFacing (list : Medl) (script : Script) (start : ClusterStart) (z : ℕ) (plan : Plan) : Type 0 where
+  pub valid : IsValid list
+  pub follows : FollowsPlan list script start plan
+  pub none : plan.incidents ≡ []
+  pub clocks : HasFacedClocks list script start z
+
+-- the nodes that begin
+abbrev pub Group : Medl → Plan → ℕ → Type 0
+Group list plan k = IsIn list (has_node plan.begin) k
+
+-- Errors.
+
+upto_of_test : (bound z : ℤ) → is_within_bound bound z ≡ true → IsUpTo bound z
+upto_of_test bound z h = (grind (arith, ints), grind (arith, ints))
+
+max_within : (e w : ℤ) → e ≤ℤ w → int_max e w ≤ℤ w
+max_within e w h = grind (arith, ints)
+
+allowed_within : (faced : Bool) (e w : ℤ) → e ≤ℤ w → cond faced (int_max e w) e ≤ℤ w
+allowed_within true e w h = max_within e w h
+allowed_within false e w h = h
+
+wider_upto : (v w z : ℤ) → v ≤ℤ w → IsUpTo v z → IsUpTo w z
+wider_upto v w z wide h = (omega (arith, ints, wide, h.0), omega (arith, ints, wide, h.1))
+
+beside_error : (b e w : ℤ) → (b +ℤ e) ≤ℤ w → e ≤ℤ (w -ℤ b)
+beside_error b e w h = omega (arith, ints, h)
+
+module _ (list : Medl) (script : Script) (start : ClusterStart) (z : ℕ) (plan : Plan)
+    (f : IsFacing list script start z plan) where
+  pub to_sound : (slot k : ℕ) → Group list plan k → IsSoundIn list plan slot k
+  to_sound slot k p = (p.0, sound-always plan slot k f.none ∙ p.1)
+
+  pub of_sound : (slot k : ℕ) → IsSoundIn list plan slot k → Group list plan k
+  of_sound slot k p = (p.0, sym (sound-always plan slot k f.none) ∙ p.1)
+
+  pub drifts : (k : ℕ) → k < length list.slots → IsUpTo list.drift (drift_of script k)
+  drifts k node = upto_of_test list.drift (drift_of script k) (f.clocks.drifts k node)
+
+  -- in each slot of the run reading errors leave the bound within the window
+  pub errors : (k slot : ℕ) → k < length list.slots → slot < script.slots
+      → IsUpTo (list.window -ℤ bound list) (reading_error script k slot)
+  errors k slot node within =
+      wider_upto (allowed_error list z (Some start) slot) (list.window -ℤ bound list) (reading_error script k slot)
+      (allowed_within (is_faced_slot list z (Some start) slot) list.error (list.window -ℤ bound list)
+      (beside_error (bound list) list.error list.window f.clocks.window))
+      (upto_of_test (allowed_error list z (Some start) slot) (reading_error script k slot)
+      (f.clocks.errors k slot node within))
+
+  -- in another node's slot, and before two rounds are over, they keep the list's bound
+  error_of : (k slot : ℕ) → k < length list.slots → slot < script.slots
+      → is_faced_slot list z (Some start) slot ≡ false
+      → IsUpTo list.error (reading_error script k slot)
+  error_of k slot node within usual =
+      subst (λ b. IsUpTo (cond b (int_max list.error (list.window -ℤ bound list)) list.error)
+      (reading_error script k slot)) usual
+      (upto_of_test (allowed_error list z (Some start) slot) (reading_error script k slot)
+      (f.clocks.errors k slot node within))
+
+  pub errors_first : (k : ℕ) → k < length list.slots → start.slot < script.slots
+      → IsUpTo list.error (reading_error script k start.slot)
+  errors_first k node within =
+      let many = f.valid.count.0 in
+      error_of k start.slot node within (early (length list.slots) (omega (arith, many)))
+    where
+      early : (n : ℕ) → 0 < n
+          → (nat_le (start.slot + 2 * n) start.slot && (expected_sender list start start.slot == z)) ≡ false
+      early n some =
+          let late : nat_le (start.slot + 2 * n) start.slot ≡ false = grind arith in
+          and_left (nat_le (start.slot + 2 * n) start.slot) (expected_sender list start start.slot == z) late
+
+  sender_same : (slot turn : ℕ) → slot ≡ start.slot + turn → expected_sender list start slot ≡ sender plan turn
+  sender_same slot turn is =
+      let since : slot - start.slot ≡ turn = omega (arith, is) in
+      (λ i. (start.node + since i) % length list.slots)
+      ∙ (λ i. (sym f.follows.starter i + turn) % sym f.follows.nodes i)
+
+  pub errors_beside : (k turn slot : ℕ) → k < length list.slots → slot < script.slots → slot ≡ start.slot + turn
+      → sender plan turn ≢ z
+      → IsUpTo list.error (reading_error script k slot)
+  errors_beside k turn slot node within is other =
+      error_of k slot node within
+      (ap (λ p. nat_le (start.slot + 2 * length list.slots) slot && (p == z)) (sender_same slot turn is)
+      ∙ and_right (nat_le (start.slot + 2 * length list.slots) slot) (sender plan turn == z)
+      (ne_eqb (sender plan turn) z other))
+
+-- One note.
+
+one_located : (z p : ℕ) (w c d : ℤ) (began : ℕ → ℤ) (sync : Bool) → (p ≢ z → IsUpTo w ((c +ℤ d) -ℤ began p))
+    → Locate z w began c (cond sync (d ∷ []) []) (cond sync (p ∷ []) [])
+one_located z p w c d began true near = (near, tt)
+one_located z p w c d began false near = tt
+
+told_located : (list : Medl) (script : Script) (history : History) (z p k : ℕ) (place : Place) (w c : ℤ)
+    (began : ℕ → ℤ) (e : Entry)
+    → TellsOf list script history p k e
+    → (k ≡ p → p ≢ z → IsUpTo w ((c +ℤ pos 0) -ℤ began p))
+    → ((d : ℤ) → d ≡ measured list script history k p → p ≢ z → IsUpTo w ((c +ℤ d) -ℤ began p))
+    → Locate z w began c (notes_in list place e) (cond (plan_at list place.slot).sync (p ∷ []) [])
+told_located list script history z p k place w c began (entry.Sent message) tells own other =
+    one_located z p w c (pos 0) began (plan_at list place.slot).sync (own tells)
+told_located list script history z p k place w c began (entry.Judged sender v deviation) tells own other =
+    let sync = (plan_at list place.slot).sync in
+    subst (λ b. Locate z w began c (cond sync (option_to_list (cond b (Some deviation) None)) [])
+    (cond sync (p ∷ []) [])) (sym tells.0)
+    (one_located z p w c deviation began sync (other deviation tells.1))
+told_located list script history z p k place w c began _ tells own other = absurd tells
+
+-- A node that goes on.
+
+own_near : (e q v o j d b : ℤ) → j ≡ pos 0 → IsUpTo q d → IsUpTo v (o -ℤ b) → pos 0 ≤ℤ e
+    → IsUpTo (e +ℤ (v +ℤ q)) (((o +ℤ (j +ℤ (d +ℤ pos 0))) +ℤ pos 0) -ℤ b)
+own_near e q v o j d b still drift moved up = (
+  omega (arith, ints, still, drift.0, drift.1, moved.0, moved.1, up),
+  omega (arith, ints, still, drift.0, drift.1, moved.0, moved.1, up),
+)
+
+other_near : (e q v o j d b n x y r u : ℤ) → j ≡ pos 0 → IsUpTo q d → IsUpTo e r → IsUpTo v (u -ℤ b)
+    → n ≡ (x -ℤ y) +ℤ r → x ≡ u → y ≡ o
+    → IsUpTo (e +ℤ (v +ℤ q)) (((o +ℤ (j +ℤ (d +ℤ pos 0))) +ℤ n) -ℤ b)
+other_near e q v o j d b n x y r u still drift error moved note sends hears = (
+  omega (arith, ints, still, drift.0, drift.1, error.0, error.1, moved.0, moved.1, note, sends, hears),
+  omega (arith, ints, still, drift.0, drift.1, error.0, error.1, moved.0, moved.1, note, sends, hears),
+)
+
+drift_moves : (o j d q : ℤ) → j ≡ pos 0 → IsUpTo q d → IsUpTo q ((o +ℤ (j +ℤ (d +ℤ pos 0))) -ℤ o)
+drift_moves o j d q still h = (omega (arith, ints, still, h.0, h.1), omega (arith, ints, still, h.0, h.1))
+
+-- The slot of the turn after this one.
+
+module _ (list : Medl) (script : Script) (start : ClusterStart) (z : ℕ) (plan : Plan)
+    (f : IsFacing list script start z plan) (turn : ℕ) (history : History)
+    (number : length history ≡ start.slot + suc turn) (within : start.slot + suc turn < script.slots) where
+  pub still : (k : ℕ) → Group list plan k → jump_of script k (length history) ≡ pos 0
+  still k p =
+      subst (λ t. jump_of script k t ≡ pos 0) (sym number)
+      (f.follows.clocks (suc turn) (suc turn) k p.0 within (omega arith)
+      (to_sound list script start z plan f (suc turn) k p).1)
+
+  -- a node's frame lies where its clock was after the slot before
+  pub frame_is : (k : ℕ) → Group list plan k → frame_of list script history k ≡ clock_after list script history k
+  frame_is k p = frame_of-node list script history k p.0 ∙ clock_at-still list script history k (still k p)
+
+  pub have_drifted : HaveDrifted list (Group list plan) (clock_after list script history)
+      (clock_moved list script history)
+  have_drifted k p =
+      drift_moves (clock_after list script history k) (jump_of script k (length history)) (drift_of script k) list.drift
+      (still k p) (drifts list script start z plan f k p.0)
+
+  sender_turn : is_good_slot plan (suc turn) ≡ true → Group list plan (sender plan (suc turn))
+  sender_turn good =
+      of_sound list script start z plan f (suc turn) (sender plan (suc turn))
+      (sender-in list script start plan (suc turn) f.follows, good)
+
+  module _ (s t : ℕ) (notes : ℕ → List ℤ)
+      (r : Round list (Group list plan) z s t (sender plan (suc turn)) (clock_after list script history) notes)
+      (row : List Entry) (noted : NotedInSlot list script plan (suc turn) row history) where
+    abbrev q : ℕ
+    q = sender plan (suc turn)
+
+    more : drift_in list (suc q) ≡ drift_in list q +ℤ list.drift
+    more = product_more list.drift q f.valid.drift.0
+
+    own : (k : ℕ) → Group list plan k → k ≡ q → q ≢ z
+        → IsUpTo (width list (suc q)) ((clock_moved list script history k +ℤ pos 0) -ℤ r.began q)
+    own k p is other =
+        subst (λ v. IsUpTo (list.error +ℤ v) ((clock_moved list script history k +ℤ pos 0) -ℤ r.began q)) (sym more)
+        (own_near list.error list.drift (drift_in list q) (clock_after list script history k)
+        (jump_of script k (length history)) (drift_of script k) (r.began q) (still k p)
+        (drifts list script start z plan f k p.0)
+        (subst (λ j. IsUpTo (drift_in list q) (clock_after list script history k -ℤ r.began j)) is (r.moved k p))
+        f.valid.error.0)
+
+    heard : (k : ℕ) → Group list plan k → Group list plan q → (d : ℤ) → d ≡ measured list script history k q → q ≢ z
+        → IsUpTo (width list (suc q)) ((clock_moved list script history k +ℤ d) -ℤ r.began q)
+    heard k p sends d is other =
+        subst (λ v. IsUpTo (list.error +ℤ v) ((clock_moved list script history k +ℤ d) -ℤ r.began q)) (sym more)
+        (other_near list.error list.drift (drift_in list q) (clock_after list script history k)
+        (jump_of script k (length history)) (drift_of script k) (r.began q) d (frame_of list script history q)
+        (frame_of list script history k) (reading_error script k (length history)) (clock_after list script history q)
+        (still k p) (drifts list script start z plan f k p.0)
+        (errors_beside list script start z plan f k (suc turn) (length history) p.0 (omega (arith, number, within))
+        number other) (r.moved q sends) is (frame_is q sends) (frame_is k p))
+
+    abbrev sync : Bool
+    sync = (plan_at list (planned_place list plan (suc turn)).slot).sync
+
+    turn_in : (b : Bool) (senders : List ℕ) → Group list plan q → AreTurns (Group list plan) q senders
+        → AreTurns (Group list plan) (suc q) (cond b (q ∷ []) [] ++ senders)
+    turn_in true senders p turns = (p, omega arith, turns)
+    turn_in false senders p turns = AreTurns-later (Group list plan) q senders turns
+
+    by_good : (good : Bool) → is_good_slot plan (suc turn) ≡ good
+        → SlotNotes list (Group list plan) z q r.began (clock_moved list script history)
+        (λ k. notes_in list (planned_place list plan (suc turn)) (entry_of row k))
+    by_good true good = record {
+      new = cond sync (q ∷ []) [];
+      turn = λ senders turns. turn_in sync senders (sender_turn good) turns;
+      noted = λ k p. told_located list script history z q k (planned_place list plan (suc turn)) (width list (suc q))
+          (clock_moved list script history k) r.began (entry_of row k)
+          (noted.good k good (to_sound list script start z plan f (suc turn) k p)) (own k p)
+          (heard k p (sender_turn good));
+    }
+    by_good false wrong = record {
+      new = [];
+      turn = λ senders turns. AreTurns-later (Group list plan) q senders turns;
+      noted = λ k p. subst (λ ns. Locate z (width list (suc q)) r.began (clock_moved list script history k) ns [])
+          (sym (none-silent list (planned_place list plan (suc turn)) (entry_of row k)
+          (noted.other k wrong (to_sound list script start z plan f (suc turn) k p)))) tt;
+    }
+
+    pub slot_notes : SlotNotes list (Group list plan) z q r.began (clock_moved list script history)
+        (λ k. notes_in list (planned_place list plan (suc turn)) (entry_of row k))
+    slot_notes = by_good (is_good_slot plan (suc turn)) refl

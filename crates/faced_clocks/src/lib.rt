@@ -1,0 +1,19 @@
+//! The clocks of a cluster with one two-faced sender: a node whose clock looks different to different
+//! receivers.
+//!
+//! The crate has no code that runs. The function of [`laws`] does nothing, and its contract is the law:
+//! where no node is lost, and each frame was judged correct up to some slot (`NotedByPlan` of
+//! `safety_clocks`), any two clocks are within the bound of `specs/Errors.antt` after it, that of the
+//! two-faced node too, and every frame of the next slot comes inside each receiver's window, however
+//! wrongly that of the two-faced node is read.
+//!
+//! Each round pulls the clocks together, since three of the four notes that a node takes its average of
+//! are of other frames (`laws::pull` of `fta_sync`). After a correction any two are within
+//! 6 D n + 6 E + 2 microticks, and until the next one they drift apart by 2 D n more.
+//!
+//! It says nothing of members and verdicts: that frames were judged correct is for others to show.
+#![tactic(auto)]
+
+pub mod laws;
+#[cfg(test)]
+mod tests;

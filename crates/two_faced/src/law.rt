@@ -1,0 +1,52 @@
+//! What a script is owed that may have one two-faced sender.
+ghost use Rattle.std.specs.Prelude.{◌≡◌, ℕ, ◌<◌, ◌≤◌, ◌-ℤ◌, ◌≤ℤ◌, length, IsTrue};
+ghost use Rattle.ttp_world.specs.declared.node.Phase.TheVariants as phase;
+ghost use Rattle.ttp_world.specs.Legal.{IsLegal};
+ghost use Rattle.ttp_world.specs.Medl.{IsValid};
+ghost use Rattle.ttp_world.specs.Safety.{newest_slot, members_of_node};
+ghost use Rattle.ttp_world.specs.Script.{IsValidScript, is_on};
+ghost use Rattle.ttp_world.specs.World.{Numbers, node_past, world};
+ghost use Rattle.two_faced.specs.declared.faced.Faced.TheVariants as faced;
+ghost use Rattle.two_faced.specs.Faced.{bound, faced_of};
+ghost use Rattle.two_faced.specs.Halved.{JudgedCorrectSince};
+ghost use Rattle.two_faced.specs.Seen.{seen_of};
+
+use ttp_world::{Medl, Script};
+
+/// What a script is owed in which `node` may be two-faced, and whose cluster starts in slot `start`. After
+/// each slot from that one on, and for all legal message numbers, every node that is on is active
+/// (`active`), and in each slot after the start it judged the frame of each other node that sent correct
+/// (`correct`). All nodes that are on hold one membership (`members`), and the clocks of any two of them,
+/// that of the two-faced node too, are no further apart than the bound (`clocks`), in microticks. So what
+/// [`find_seen`](crate::find_seen) answers is no more than the bound (`seen`).
+///
+/// It does nothing, and takes no memory.
+pub fn halved(list: &Medl, script: &Script, node: u8, start: u32)
+    requires valid { IsValid list.now }
+    requires script { IsValidScript list.now script.now }
+    requires faced { faced_of list.now script.now node ≡ faced.Yes start }
+    ensures active { (numbers : Numbers) → IsLegal list.now script.now numbers
+        → start < length numbers → length numbers ≤ script.now.slots
+        → (let history = world list.now script.now numbers in
+        (k : ℕ) → k < length list.now.slots → IsTrue (is_on script.now k (newest_slot history))
+        → (node_past list.now script.now history k).phase ≡ phase.Active) }
+    ensures correct { (numbers : Numbers) → IsLegal list.now script.now numbers
+        → start < length numbers → length numbers ≤ script.now.slots
+        → JudgedCorrectSince list.now script.now start (world list.now script.now numbers) }
+    ensures members { (numbers : Numbers) → IsLegal list.now script.now numbers
+        → start < length numbers → length numbers ≤ script.now.slots
+        → (let history = world list.now script.now numbers in
+        (j k : ℕ) → j < length list.now.slots → k < length list.now.slots
+        → IsTrue (is_on script.now j (newest_slot history)) → IsTrue (is_on script.now k (newest_slot history))
+        → members_of_node list.now history j ≡ members_of_node list.now history k) }
+    ensures clocks { (numbers : Numbers) → IsLegal list.now script.now numbers
+        → start < length numbers → length numbers ≤ script.now.slots
+        → (let history = world list.now script.now numbers in
+        (j k : ℕ) → j < length list.now.slots → k < length list.now.slots
+        → IsTrue (is_on script.now j (newest_slot history)) → IsTrue (is_on script.now k (newest_slot history))
+        → ((node_past list.now script.now history j).offset -ℤ (node_past list.now script.now history k).offset)
+        ≤ℤ bound list.now) }
+    ensures seen { (numbers : Numbers) → IsLegal list.now script.now numbers
+        → length numbers ≤ script.now.slots
+        → (seen_of list.now script.now numbers node).value ≤ℤ bound list.now }
+{}
