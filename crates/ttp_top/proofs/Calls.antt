@@ -1,3 +1,4 @@
 pub mod Plans
+pub mod Precision
 pub mod Lines
 pub mod Promises

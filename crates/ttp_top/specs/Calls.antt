@@ -1,3 +1,4 @@
+pub mod Precision
 pub mod Texts
 pub mod Plan
 pub mod Outcome

@@ -7,6 +7,7 @@ ghost use Rattle.ttp_top.specs.Calls.Promise.{Promise};
 ghost use Rattle.ttp_top.specs.Calls.Words.{run, texts_of, form_of, form_asked};
 ghost use Rattle.ttp_top.specs.Scripts.Promise.{RunPromise};
 
+use crate::faced::precision;
 use crate::lines::say;
 use crate::run::{keeps, run};
 use crate::schedule::schedule;
@@ -16,8 +17,8 @@ use std::sync::Wait;
 use std::thread::Threads;
 use ttp_base::{Gate, Library, Sink};
 
-const USAGE: &str =
-    "usage: schedule MEDL | run MEDL SCRIPT | keeps MEDL SCRIPT | verify MEDL SCRIPT TRACE | sample MEDL SLOTS NUMBER\n";
+const USAGE: &str = "usage: schedule MEDL | run MEDL SCRIPT | keeps MEDL SCRIPT | \
+    verify MEDL SCRIPT TRACE | sample MEDL SLOTS NUMBER | precision MEDL SCRIPT NODE\n";
 
 // What the words ask for.
 fn obey<L: Library, K: Sink>(
@@ -34,6 +35,9 @@ fn obey<L: Library, K: Sink>(
         Command::Schedule { list } => schedule(alloc, list, library, out),
         Command::Run { list, script } => run(alloc, list, script, library, out),
         Command::Keeps { list, script } => keeps(alloc, list, script, library, out),
+        Command::Precision { list, script, node } => {
+            precision(alloc, list, script, node, library, out)
+        }
         Command::NoForm => say(out, USAGE.as_bytes(), 2),
     }
 }
@@ -41,11 +45,13 @@ fn obey<L: Library, K: Sink>(
 /// Runs the command that the words spell, and answers its status. The words are those after the
 /// program's name.
 ///
-/// There are three forms so far: `schedule MEDL` writes the slot table of one cluster cycle,
-/// `run MEDL SCRIPT` the trace of a script, and `keeps MEDL SCRIPT` its last line alone, the answer of
-/// the test of the single-fault hypothesis. They take any valid list, and any valid script without
-/// `write` and `read` lines, which are not built yet. So each frame with payload carries message 0, the
-/// zeros.
+/// There are four forms so far: `schedule MEDL` writes the slot table of one cluster cycle,
+/// `run MEDL SCRIPT` the trace of a script, `keeps MEDL SCRIPT` its last line alone, the answer of the
+/// test of the single-fault hypothesis, and `precision MEDL SCRIPT NODE` the answer of the test for one
+/// two-faced sender, which is the node of that number, and where it may be one, how far apart the other
+/// nodes' clocks came, in microticks. NODE is one or two decimal digits of a number below 24. They take
+/// any valid list, and any valid script without `write` and `read` lines, which are not built yet. So
+/// each frame with payload carries message 0, the zeros.
 ///
 /// | status | comes | what is written |
 /// |---|---|---|
@@ -61,9 +67,9 @@ fn obey<L: Library, K: Sink>(
 /// script only where the list is not refused. Each line is one piece, so the cost is one write for each
 /// line. `run` takes all memory before it writes the first line, and then writes slot by slot; a slot
 /// costs its nodes, with a few searches in the script's index for each, whatever its number. The
-/// hypothesis test takes no memory, and its slots cost the same way. For words of no form the library is
-/// left alone and no memory is taken. The runtime and the gate are for commands that run hosts beside a
-/// cluster; no form uses them yet.
+/// hypothesis test takes no memory, and its slots cost the same way. `precision` runs the cluster as `run`
+/// does, where its test says yes. For words of no form the library is left alone and no memory is taken.
+/// The runtime and the gate are for commands that run hosts beside a cluster; no form uses them yet.
 pub fn bench<R: Threads + Wait + Sync, L: Library, K: Sink, G: Gate>(
     rt: &R,
     alloc: Global,

@@ -9,6 +9,7 @@
 #![tactic(auto)]
 
 mod call;
+mod faced;
 mod lines;
 mod load;
 mod read;

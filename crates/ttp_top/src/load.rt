@@ -6,7 +6,7 @@ ghost use Rattle.ttp_world.specs.declared.script.Script.{Script};
 ghost use Rattle.ttp_world.specs.Medl.{IsValid};
 ghost use Rattle.ttp_world.specs.Script.{IsValidScript};
 ghost use Rattle.plant_run.specs.FirstNumbers.{IsUnhosted};
-ghost use Rattle.ttp_top.specs.Calls.Files.{list_plan, script_plan};
+ghost use Rattle.ttp_top.specs.Calls.Files.{list_plan, script_plan, both_plan};
 ghost use Rattle.ttp_top.specs.Calls.Outcome.{Follows, CameTo};
 ghost use Rattle.ttp_top.specs.Calls.Plan.{Plan, outside};
 
@@ -68,5 +68,33 @@ pub(crate) fn load_script<L: Library, K: Sink>(
         },
         Err(LoadError::Failed) => Err(say(out, b"load: script\n", 5)),
         Err(LoadError::Memory) => Err(7),
+    }
+}
+
+/// The list and the script of these names, or the status of a call that did not get both. The script is
+/// loaded only for a list that is not refused.
+pub(crate) fn load_both<L: Library, K: Sink>(
+    alloc: Global,
+    list: &str,
+    script: &str,
+    library: &mut L,
+    out: &mut K,
+) -> Result<(Medl, Script), u8>
+    ensures valid { IfOk result (λ both. IsValid both.0) }
+    ensures script { IfOk result (λ both. IsValidScript both.0 both.1) }
+    ensures hosts { IfOk result (λ both. IsUnhosted both.1) }
+    ensures ok { IfOk result (λ both. (next : Medl → Script → Plan)
+        → CameTo (both_plan list.now script.now next) (outside (L.files library.old) (K.output out.old))
+        (next both.0 both.1) (outside (L.files library.new) (K.output out.new))) }
+    ensures err { IfErr result (λ status. (next : Medl → Script → Plan)
+        → Follows (both_plan list.now script.now next) (outside (L.files library.old) (K.output out.old))
+        (outside (L.files library.new) (K.output out.new)) status) }
+{
+    match load_list(alloc, list, library, out) {
+        Ok(medl) => match load_script(alloc, &medl, script, library, out) {
+            Ok(right) => Ok((medl, right)),
+            Err(status) => Err(status),
+        },
+        Err(status) => Err(status),
     }
 }

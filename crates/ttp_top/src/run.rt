@@ -8,7 +8,7 @@ ghost use Rattle.ttp_top.specs.Calls.Outcome.{Says, Shows, Follows};
 ghost use Rattle.ttp_top.specs.Calls.Plan.{outside};
 ghost use Rattle.ttp_top.specs.Calls.Words.{run, keeps};
 
-use crate::load::{load_list, load_script};
+use crate::load::load_both;
 use hypothesis::keeps as keeps_of;
 use plant_run::{RunFault, put_run};
 use std::alloc::Global;
@@ -43,8 +43,7 @@ fn show_trace<K: Sink>(alloc: Global, list: &Medl, script: &Script, out: &mut K)
     }
 }
 
-/// The trace of the script of this name, for the list of this name. The script is loaded only for a
-/// list that is not refused.
+/// The trace of the script of this name, for the list of this name.
 pub(crate) fn run<L: Library, K: Sink>(
     alloc: Global,
     list: &str,
@@ -55,11 +54,8 @@ pub(crate) fn run<L: Library, K: Sink>(
     ensures { Follows (plan_of (Some (run list.now script.now))) (outside (L.files library.old) (K.output out.old))
         (outside (L.files library.new) (K.output out.new)) result }
 {
-    match load_list(alloc, list, library, out) {
-        Ok(medl) => match load_script(alloc, &medl, script, library, out) {
-            Ok(right) => show_trace(alloc, &medl, &right, out),
-            Err(status) => status,
-        },
+    match load_both(alloc, list, script, library, out) {
+        Ok((medl, right)) => show_trace(alloc, &medl, &right, out),
         Err(status) => status,
     }
 }
@@ -75,11 +71,8 @@ pub(crate) fn keeps<L: Library, K: Sink>(
     ensures { Follows (plan_of (Some (keeps list.now script.now))) (outside (L.files library.old) (K.output out.old))
         (outside (L.files library.new) (K.output out.new)) result }
 {
-    match load_list(alloc, list, library, out) {
-        Ok(medl) => match load_script(alloc, &medl, script, library, out) {
-            Ok(right) => show_keep(&medl, &right, out),
-            Err(status) => status,
-        },
+    match load_both(alloc, list, script, library, out) {
+        Ok((medl, right)) => show_keep(&medl, &right, out),
         Err(status) => status,
     }
 }

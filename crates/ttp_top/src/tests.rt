@@ -1,6 +1,7 @@
 //! Commands over a library and a sink in memory. The expected lines come from the format's own
 //! text and from TOML's, never from a run.
 
+mod faced;
 mod keeps;
 mod refusals;
 mod rows;
@@ -28,8 +29,8 @@ const TABLE: [&str; 5] = [
     "round 0 slot 3 kind I data 0 sync yes start no\n",
 ];
 
-const USAGE: &str =
-    "usage: schedule MEDL | run MEDL SCRIPT | keeps MEDL SCRIPT | verify MEDL SCRIPT TRACE | sample MEDL SLOTS NUMBER\n";
+const USAGE: &str = "usage: schedule MEDL | run MEDL SCRIPT | keeps MEDL SCRIPT | \
+    verify MEDL SCRIPT TRACE | sample MEDL SLOTS NUMBER | precision MEDL SCRIPT NODE\n";
 
 // The texts, one after another.
 fn joined<R: AllocGlobal>(rt: &R, parts: &[&str]) -> Result<String, Fail> {

@@ -10,13 +10,14 @@ use Rattle.ttp_world.proofs.TraceLines.{keep_line-IsLine, trace_lines-each}
 use Rattle.medl_text.proofs.Lines.{slot_table-each}
 use Rattle.ttp_top.specs.declared.read.FileFault.{FileFault}
 use Rattle.ttp_top.specs.Calls.Files.{refused_list, after_list, refused_script, after_script, script_plan, both_plan}
-use Rattle.ttp_top.specs.Calls.Forms.{usage_line, table_ending, trace_ending, keep_ending, plan_of}
+use Rattle.ttp_top.specs.Calls.Forms.{usage_line, table_ending, trace_ending, keep_ending, precision_ending, plan_of}
 use Rattle.ttp_top.specs.Calls.Plan.{Ending, File, Plan, line_ending, ends}
 use Rattle.ttp_top.specs.Calls.Texts.{IsAmong, AreLines}
-use Rattle.ttp_top.specs.Calls.Words.{Form, schedule, run, keeps}
+use Rattle.ttp_top.specs.Calls.Words.{Form, schedule, run, keeps, precision}
 use Rattle.ttp_top.specs.Files.Lines.{fault_line}
 use Rattle.ttp_top.specs.Files.Read.{list_from, script_from}
 use Rattle.ttp_top.proofs.Calls.Plans.{AllEnd, list_ends, both_end, EachFile}
+use Rattle.ttp_top.proofs.Calls.Precision.{precisions-each}
 use Rattle.ttp_top.proofs.Files.Lines.{fault_line-is_line}
 
 -- each text of an ending is made of lines
@@ -43,6 +44,9 @@ plans_have (Some (run list script)) =
 plans_have (Some (keeps list script)) =
     both_end HasLines no_list no_script list script keep_ending
     (λ medl right. line_has 0 (keep_line (keeps_of medl right)) (keep_line-IsLine (keeps_of medl right)))
+plans_have (Some (precision list script node)) =
+    both_end HasLines no_list no_script list script (precision_ending node)
+    (λ medl right lines among. precisions-each medl right node lines among)
 
 -- and so is what is said of a file that could not be loaded
 abbrev pub SaysLine : File → Type 0
@@ -73,6 +77,7 @@ plans_say (Some (schedule list)) =
     (refl, λ bytes. list_files (λ medl. ends (table_ending medl)) (λ medl. tt) (list_from bytes))
 plans_say (Some (run list script)) = both_files list script trace_ending
 plans_say (Some (keeps list script)) = both_files list script keep_ending
+plans_say (Some (precision list script node)) = both_files list script (precision_ending node)
 
 -- the first ones of lines
 pub lines_front : (x y : Lines) → AreLines (x ++ y) → AreLines x

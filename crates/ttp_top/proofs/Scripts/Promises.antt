@@ -10,6 +10,7 @@ use Rattle.ttp_world.specs.declared.script.Script.{Script}
 use Rattle.ttp_world.specs.Legal.{IsLegalRun}
 use Rattle.ttp_world.specs.Trace.{trace_lines}
 use Rattle.ttp_world.specs.TraceNumbers.{numbers_in}
+use Rattle.ttp_world.specs.World.{Numbers, world}
 use Rattle.ttp_world.proofs.TraceNumbers.{numbers_in-trace}
 use Rattle.medl_text.specs.declared.error.MedlError.{MedlError}
 use Rattle.medl_text.specs.ListFile.{medl_of}
@@ -24,10 +25,11 @@ use Rattle.ttp_top.specs.Calls.Promise.{IsDue, EachName, NoneAskedRose, Promise}
 use Rattle.ttp_top.specs.Calls.Texts.{traces, IsTrace, WroteAmong, CutAmong}
 use Rattle.ttp_top.specs.Calls.Words.{run}
 use Rattle.ttp_top.specs.Files.Read.{list_limit, list_read, list_from, script_limit, script_read, script_from}
-use Rattle.ttp_top.specs.Scripts.Promise.{MayBe, AreRight, WroteTraceOf, WroteTrace, AreTold, RunPromise}
+use Rattle.ttp_top.specs.Scripts.Promise.{MayBe, AreRight, IsSafeSince, WroteTraceOf, WroteTrace, AreTold, RunPromise}
 use Rattle.ttp_top.proofs.Calls.Plans.{AllAsk, all_asked, told_comes}
 use Rattle.ttp_top.proofs.Calls.Promises.{each_last}
 use Rattle.ttp_top.proofs.Files.Fronts.{list_from-front, script_from-front}
+use Rattle.ttp_top.proofs.Scripts.Safe.{safe-since}
 
 -- ---- what a list or a script that is taken was read as
 
@@ -159,12 +161,17 @@ own_numbers medl right lines t =
 wrote_trace_of : (medl : Medl) (right : Script) (before now : Output) → WroteAmong (traces medl right) before now
     → WroteTraceOf medl right before now
 wrote_trace_of medl right before now w =
-    let own = own_numbers medl right w.lines w.among in
+    let t = w.among in
+    let own = own_numbers medl right w.lines t in
     record {
       lines = w.lines;
       wrote = w.wrote;
-      text = w.among.text ∙ ap (trace_lines medl right) (sym own);
-      legal = subst (IsLegalRun medl right) (sym own) w.among.legal;
+      text = t.text ∙ ap (trace_lines medl right) (sym own);
+      legal = subst (IsLegalRun medl right) (sym own) t.legal;
+      safe = λ start kept.
+          let safe = safe-since medl right start t.valid t.valid_script kept t.numbers t.legal.legal
+          (omega (arith, t.legal.count)) in
+          subst (λ (numbers : Numbers). IsSafeSince medl right start (world medl right numbers)) (sym own) safe;
     }
 
 wrote_trace : (list script : List ℕ) (before now : Outside) (answer : ℕ)

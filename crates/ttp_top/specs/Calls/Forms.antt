@@ -7,13 +7,13 @@ use Rattle.ttp_world.specs.Trace.{keep_line}
 use Rattle.medl_text.specs.Schedule.{slot_table}
 use Rattle.ttp_top.specs.Calls.Files.{list_plan, both_plan}
 use Rattle.ttp_top.specs.Calls.Plan.{Ending, Plan, line_ending, ends}
-use Rattle.ttp_top.specs.Calls.Texts.{one, traces}
-use Rattle.ttp_top.specs.Calls.Words.{Form, schedule, run, keeps}
+use Rattle.ttp_top.specs.Calls.Texts.{one, traces, precisions}
+use Rattle.ttp_top.specs.Calls.Words.{Form, schedule, run, keeps, precision}
 
 abbrev pub usage_line : List ℕ
 usage_line =
-    codes
-    "usage: schedule MEDL | run MEDL SCRIPT | keeps MEDL SCRIPT | verify MEDL SCRIPT TRACE | sample MEDL SLOTS NUMBER\n"
+    codes "usage: schedule MEDL | run MEDL SCRIPT | keeps MEDL SCRIPT | verify MEDL SCRIPT TRACE"
+    ++ codes " | sample MEDL SLOTS NUMBER | precision MEDL SCRIPT NODE\n"
 
 abbrev pub usage_ending : Ending
 usage_ending = line_ending 2 usage_line
@@ -30,9 +30,15 @@ trace_ending list script = record { status = 0; texts = traces list script }
 abbrev pub keep_ending : Medl → Script → Ending
 keep_ending list script = line_ending 0 (keep_line (keeps_of list script))
 
+-- the line of the test for one two-faced sender
+abbrev pub precision_ending : ℕ → Medl → Script → Ending
+precision_ending node list script = record { status = 0; texts = precisions list script node }
+
 -- the plan of a form, and of words that have none
 abbrev pub plan_of : Option Form → Plan
 plan_of None = ends usage_ending
 plan_of (Some (schedule list)) = list_plan list (λ medl. ends (table_ending medl))
 plan_of (Some (run list script)) = both_plan list script (λ medl right. ends (trace_ending medl right))
 plan_of (Some (keeps list script)) = both_plan list script (λ medl right. ends (keep_ending medl right))
+plan_of (Some (precision list script node)) =
+    both_plan list script (λ medl right. ends (precision_ending node medl right))

@@ -1,5 +1,5 @@
 -- The texts that a call may write.
-use Rattle.std.specs.Prelude.{◌≡◌, ℕ, true, List, ◌++◌}
+use Rattle.std.specs.Prelude.{◌≡◌, ℕ, true, List, [], ◌∷◌, ◌++◌}
 use Rattle.std.specs.List.{AllByRecursion}
 use Rattle.ttp_base.specs.Outside.{Output, WroteLines, CutShort}
 use Rattle.ttp_base.specs.Text.{Lines, is_line}
@@ -10,6 +10,7 @@ use Rattle.ttp_world.specs.Medl.{IsValid}
 use Rattle.ttp_world.specs.Script.{IsValidScript}
 use Rattle.ttp_world.specs.Trace.{trace_lines}
 use Rattle.ttp_world.specs.World.{Numbers}
+use Rattle.ttp_top.specs.Calls.Precision.{precision_line}
 
 -- A set of texts.
 pub data Texts : Type 0 where
@@ -17,6 +18,8 @@ pub data Texts : Type 0 where
   one : (lines : Lines) → Texts
   -- the traces of a list and a script: one for each choice of message numbers that is legal
   traces : (list : Medl) (script : Script) → Texts
+  -- the one line on a node that may be two-faced, which is the same for each legal choice
+  precisions : (list : Medl) (script : Script) (node : ℕ) → Texts
 
 -- the trace of the world's run for some legal numbers, of a valid list and a valid script
 pub record IsTrace (list : Medl) (script : Script) (lines : Lines) : Type 0 where
@@ -26,9 +29,14 @@ pub record IsTrace (list : Medl) (script : Script) (lines : Lines) : Type 0 wher
   pub legal : IsLegalRun list script numbers
   pub text : lines ≡ trace_lines list script numbers
 
+abbrev pub IsPrecision : Medl → Script → ℕ → Lines → Type 0
+IsPrecision list script node lines =
+    (numbers : Numbers) → IsLegalRun list script numbers → lines ≡ precision_line list script node numbers ∷ []
+
 abbrev pub IsAmong : Texts → Lines → Type 0
 IsAmong (one text) lines = lines ≡ text
 IsAmong (traces list script) lines = IsTrace list script lines
+IsAmong (precisions list script node) lines = IsPrecision list script node lines
 
 -- one of these texts was written, each of its lines as one piece
 pub record WroteAmong (texts : Texts) (before now : Output) : Type 0 where

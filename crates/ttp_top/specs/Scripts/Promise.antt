@@ -1,12 +1,17 @@
 -- The promise of `run MEDL SCRIPT` in its own words.
-use Rattle.std.specs.Prelude.{◌≡◌, ◌⊎◌, ◌≤◌, ℕ, List, length, Ok}
+use Rattle.std.specs.Prelude.{◌≡◌, ◌⊎◌, ◌≤◌, ℕ, List, [], ◌∷◌, length, Ok}
 use Rattle.ttp_base.specs.Outside.{Held, untold, absent, holds, HasRisen, Output, WroteLines}
 use Rattle.ttp_base.specs.Text.{Lines}
+use Rattle.ttp_world.specs.declared.keep.Keep.TheVariants as keep
 use Rattle.ttp_world.specs.declared.medl.Medl.{Medl}
 use Rattle.ttp_world.specs.declared.script.Script.{Script}
+use Rattle.ttp_world.specs.Diary.{History}
+use Rattle.ttp_world.specs.Hypothesis.{keeps}
 use Rattle.ttp_world.specs.Legal.{IsLegalRun}
+use Rattle.ttp_world.specs.Safety.{IsSafe}
 use Rattle.ttp_world.specs.Trace.{trace_lines}
 use Rattle.ttp_world.specs.TraceNumbers.{numbers_in}
+use Rattle.ttp_world.specs.World.{world}
 use Rattle.medl_text.specs.ListFile.{medl_of}
 use Rattle.script_text.specs.ScriptFile.{script_of}
 use Rattle.ttp_top.specs.Calls.Plan.{Outside}
@@ -26,12 +31,21 @@ pub record AreRight (bytes script_bytes : List ℕ) (medl : Medl) (right : Scrip
   pub script_size : length script_bytes ≤ script_limit
   pub script : script_of medl script_bytes ≡ Ok right
 
--- a text was written that is the trace of the world's run for the numbers that its own lines name, and they are legal
+-- a run is safe after each of its slots from this one on
+abbrev pub IsSafeSince : Medl → Script → ℕ → History → Type 0
+IsSafeSince medl right start [] = Unit {0}
+IsSafeSince medl right start (row ∷ history) =
+    IsSafeSince medl right start history × (start ≤ length history → IsSafe medl right (row ∷ history))
+
+-- A text was written that is the trace of the world's run for the numbers that its own lines name, and they are legal.
+-- Where the script keeps the single-fault hypothesis, that run is safe from its start on.
 pub record WroteTraceOf (medl : Medl) (right : Script) (before now : Output) : Type 0 where
   pub lines : Lines
   pub wrote : WroteLines before now lines
   pub text : lines ≡ trace_lines medl right (numbers_in medl right lines)
   pub legal : IsLegalRun medl right (numbers_in medl right lines)
+  pub safe : (start : ℕ) → keeps medl right ≡ keep.Yes start
+      → IsSafeSince medl right start (world medl right (numbers_in medl right lines))
 
 -- it was written for a list and a script that the files of these names may be
 pub record WroteTrace (list script : List ℕ) (before now : Outside) : Type 0 where

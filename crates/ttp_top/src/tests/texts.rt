@@ -87,6 +87,15 @@ pub(super) fn script_of<R: AllocGlobal>(
     Ok(script)
 }
 
+// A list: its top, and letters for its slots.
+pub(super) fn list_of<R: AllocGlobal>(rt: &R, top: &str, slots: &str) -> Result<String, Fail> {
+    let mut list = joined(rt, &[top])?;
+    for letter in slots.as_bytes() {
+        list.push_str(slot_of(*letter))?;
+    }
+    Ok(list)
+}
+
 // What a command answers and writes for a list, given by its top and letters for its slots, and a
 // script.
 pub(super) fn answered<R: Threads + Wait + Sync + AllocGlobal>(
@@ -96,10 +105,7 @@ pub(super) fn answered<R: Threads + Wait + Sync + AllocGlobal>(
     slots: &str,
     script: &str,
 ) -> Result<(u8, Vec<u8>), Fail> {
-    let mut list = joined(rt, &[top])?;
-    for letter in slots.as_bytes() {
-        list.push_str(slot_of(*letter))?;
-    }
+    let list = list_of(rt, top, slots)?;
     let words = [verb, "cluster.toml", "five.script"];
     answer_files(rt, &words, list.as_bytes(), Some(script.as_bytes()), 0, 0)
 }

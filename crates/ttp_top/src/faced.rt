@@ -1,0 +1,101 @@
+//! The command `precision MEDL SCRIPT NODE`.
+ghost use Rattle.std.specs.Prelude.{◌≡◌, ◌+◌, ◌≤◌, ◌++◌, Some, length, decimal};
+ghost use Rattle.std.specs.Fmt.{signed_decimal};
+ghost use Rattle.ttp_world.specs.Medl.{IsValid};
+ghost use Rattle.ttp_world.specs.Script.{IsValidScript};
+ghost use Rattle.plant_run.specs.FirstNumbers.{IsUnhosted};
+ghost use Rattle.ttp_top.specs.Calls.Forms.{precision_ending, plan_of};
+ghost use Rattle.ttp_top.specs.Calls.Outcome.{Shows, Follows};
+ghost use Rattle.ttp_top.specs.Calls.Plan.{outside};
+ghost use Rattle.ttp_top.specs.Calls.Precision.{faced_line, broken_line};
+ghost use Rattle.ttp_top.specs.Calls.Words.{precision};
+
+use crate::lines::say;
+use crate::load::load_both;
+use std::alloc::Global;
+use ttp_base::{Library, Line, Sink};
+use ttp_world::{Medl, Script};
+use two_faced::{Faced, Seen, bound, find_faced, find_seen};
+
+// Adds a text and a number behind it.
+#[tactic(auto, using(ttp_base::proofs::Room::room))]
+fn put_count(line: &mut Line, text: &str, count: u32)
+    requires { length line.old + length text.now + 20 ≤ 640 }
+    ensures text { line.new ≡ line.old ++ text.now ++ decimal count }
+    ensures short { length line.new ≤ length line.old + length text.now + 20 }
+{
+    line.put_text(text);
+    line.put_number(u64::from(count));
+}
+
+// Adds a text and a number of microticks behind it.
+#[tactic(auto, using(ttp_base::proofs::Room::room))]
+fn put_span(line: &mut Line, text: &str, span: i64)
+    requires { length line.old + length text.now + 20 ≤ 640 }
+    ensures text { line.new ≡ line.old ++ text.now ++ signed_decimal span }
+    ensures short { length line.new ≤ length line.old + length text.now + 20 }
+{
+    line.put_text(text);
+    line.put_signed(span);
+}
+
+// The line on a node that may be two-faced.
+fn faced_line(list: &Medl, node: u8, start: u32, seen: Seen) -> Line
+    requires { IsValid list.now }
+    ensures { result ≡ faced_line list.now node start seen }
+{
+    let mut line = Line::new();
+    put_count(&mut line, "precision node ", u32::from(node));
+    put_count(&mut line, " start ", start);
+    put_span(&mut line, " bound ", bound(list));
+    put_span(&mut line, " seen ", seen.value);
+    put_count(&mut line, " slot ", seen.slot);
+    line.put_text("\n");
+    line
+}
+
+// The line on the first rule that is broken.
+fn broken_line(rule: u8, slot: u32) -> Line
+    ensures { result ≡ broken_line rule slot }
+{
+    let mut line = Line::new();
+    put_count(&mut line, "precision no F", u32::from(rule));
+    put_count(&mut line, " ", slot);
+    line.put_text("\n");
+    line
+}
+
+// The answer of the test for one two-faced sender. Memory is taken before the line is written.
+fn show_precision<K: Sink>(alloc: Global, list: &Medl, script: &Script, node: u8, out: &mut K) -> u8
+    requires valid { IsValid list.now }
+    requires script { IsValidScript list.now script.now }
+    requires hosts { IsUnhosted script.now }
+    ensures { Shows (precision_ending node list.now script.now) (K.output out.old) (K.output out.new) result }
+{
+    match find_faced(list, script, node) {
+        Faced::Yes { start } => match find_seen(alloc, list, script, node) {
+            Ok(seen) => say(out, faced_line(list, node, start, seen).bytes(), 0),
+            Err(_) => 7,
+        },
+        Faced::No { rule, slot } => say(out, broken_line(rule, slot).bytes(), 0),
+    }
+}
+
+/// Whether this node may be two-faced in the script of this name, for the list of this name, and how far
+/// apart the other clocks came. The script is loaded only for a list that is not refused.
+pub(crate) fn precision<L: Library, K: Sink>(
+    alloc: Global,
+    list: &str,
+    script: &str,
+    node: u8,
+    library: &mut L,
+    out: &mut K,
+) -> u8
+    ensures { Follows (plan_of (Some (precision list.now script.now node)))
+        (outside (L.files library.old) (K.output out.old)) (outside (L.files library.new) (K.output out.new)) result }
+{
+    match load_both(alloc, list, script, library, out) {
+        Ok((medl, right)) => show_precision(alloc, &medl, &right, node, out),
+        Err(status) => status,
+    }
+}

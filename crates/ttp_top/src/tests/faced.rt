@@ -1,0 +1,122 @@
+//! Answers of `precision`, worked out by hand from the rules for one two-faced sender, and words that
+//! name no node.
+
+use super::texts::{DRIFT_HEAD, list_of, script_of};
+use super::{USAGE, answer_files};
+use std::process::Abort;
+use std::sync::Wait;
+use std::test::Fail;
+use std::thread::Threads;
+
+const CLOSE_HEAD: &str =
+    "version = 1\nrounds = 1\nschedule = 0\nbuffers = 2\ndrift = 1\nerror = 0\nwindow = 49\n";
+
+// Two receivers see the clock of the sender of slot 19 apart, as far as the window leaves room.
+const TWO_FACED: &str = "drift 0 1\nerror 0 14 19 19\nerror 1 -14 19 19\n";
+
+const TOO_FAR: &str = "drift 0 1\nerror 0 15 19 19\nerror 1 -14 19 19\n";
+
+// What `precision` answers and writes for four nodes, a script of 28 slots in which they are on from
+// slot 0, and a word for the node; and where this call of the library fails, or this one of the sink.
+fn answers<R: Threads + Wait + Sync + AllocGlobal + Abort>(
+    rt: &R,
+    top: &str,
+    lines: &str,
+    node: &str,
+    bad_load: u32,
+    bad_write: u32,
+) -> Result<(u8, Vec<u8>), Fail> {
+    let list = list_of(rt, top, "FSSS")?;
+    let script = script_of(rt, "slots 28\n", 4, lines)?;
+    let words = ["precision", "cluster.toml", "five.script", node];
+    let bytes = script.as_bytes();
+    answer_files(
+        rt,
+        &words,
+        list.as_bytes(),
+        Some(bytes),
+        bad_load,
+        bad_write,
+    )
+}
+
+#[test]
+fn answers_for_one_two_faced_sender(rt: HostRuntime) -> Result<(), Fail> {
+    let cases: [(&str, &str, &str, &str); 10] = [
+        // Node 0 notes 0, -4, -5 and 8 over the round that ends with slot 19, so it corrects by -2 and
+        // shows 13. After slot 22 it shows 16, and node 1 shows 8.
+        (
+            DRIFT_HEAD,
+            TWO_FACED,
+            "3",
+            "precision node 3 start 8 bound 50 seen 8 slot 22\n",
+        ),
+        (
+            DRIFT_HEAD,
+            TWO_FACED,
+            "03",
+            "precision node 3 start 8 bound 50 seen 8 slot 22\n",
+        ),
+        (DRIFT_HEAD, TOO_FAR, "3", "precision no F1 19\n"),
+        // Another node is due in slot 19.
+        (DRIFT_HEAD, TWO_FACED, "2", "precision no F1 19\n"),
+        (DRIFT_HEAD, TOO_FAR, "4", "precision no F0 0\n"),
+        (DRIFT_HEAD, "", "23", "precision no F0 0\n"),
+        (CLOSE_HEAD, "drift 0 1\n", "3", "precision no F2 0\n"),
+        // The window leaves no room for more than the list's error.
+        (CLOSE_HEAD, TWO_FACED, "3", "precision no F1 19\n"),
+        (
+            DRIFT_HEAD,
+            "send 3 AB noise 20 27\n",
+            "3",
+            "precision no F3 20\n",
+        ),
+        (
+            DRIFT_HEAD,
+            "",
+            "0",
+            "precision node 0 start 8 bound 50 seen 0 slot 8\n",
+        ),
+    ];
+    for (top, lines, node, line) in cases {
+        let (status, text) = answers(&rt, top, lines, node, 0, 0)?;
+        assert_eq!(rt; status, 0, "{lines}");
+        assert_eq!(rt; text.as_slice(), line.as_bytes(), "{lines}");
+    }
+    Ok(())
+}
+
+// They are no form, so that no file is looked at.
+#[test]
+fn words_that_name_no_node(rt: HostRuntime) -> Result<(), Fail> {
+    for node in ["24", "99", "003", "", "-1", "+3", "3 ", "a", "0x3", "1a"] {
+        let (status, text) = answers(&rt, DRIFT_HEAD, TWO_FACED, node, 1, 0)?;
+        assert_eq!(rt; status, 2, "{node}");
+        assert_eq!(rt; text.as_slice(), USAGE.as_bytes(), "{node}");
+    }
+    Ok(())
+}
+
+#[test]
+fn files_and_sinks_that_fail(rt: HostRuntime) -> Result<(), Fail> {
+    let (status, text) = answers(&rt, DRIFT_HEAD, TWO_FACED, "3", 1, 0)?;
+    assert_eq!(rt; status, 5);
+    assert_eq!(rt; text.as_slice(), b"load: list\n".as_slice());
+    let (status, text) = answers(&rt, DRIFT_HEAD, TWO_FACED, "3", 2, 0)?;
+    assert_eq!(rt; status, 5);
+    assert_eq!(rt; text.as_slice(), b"load: script\n".as_slice());
+    let (status, text) = answers(&rt, DRIFT_HEAD, TWO_FACED, "3", 0, 1)?;
+    assert_eq!(rt; status, 6);
+    assert_eq!(rt; text.len(), 0);
+    // A list that is refused is told, also where the script's load would fail.
+    let (status, text) = answers(&rt, "version = 3\n", TWO_FACED, "4", 2, 0)?;
+    assert_eq!(rt; status, 3);
+    assert_eq!(rt;
+        text.as_slice(),
+        b"list: out of range version 3\n".as_slice()
+    );
+    let (status, text) = answers(&rt, DRIFT_HEAD, "on 4 0\n", "4", 0, 0)?;
+    assert_eq!(rt; status, 4);
+    assert_eq!(rt; text.as_slice(), b"script: line 6 no node\n".as_slice());
+    Ok(())
+}
