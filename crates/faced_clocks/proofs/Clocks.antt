@@ -321,7 +321,8 @@ module _ (list : Medl) (script : Script) (start : ClusterStart) (z : ℕ) (plan 
     place k a = counted.places k (to_sound list script start z plan f (suc turn) k a)
 
     goes : (k : ℕ) → Group list plan k → continues_stint (entry_of row k) ≡ true
-    goes k a = sound-goes list script plan (suc turn) k row history noted (to_sound list script start z plan f (suc turn) k a)
+    goes k a =
+        sound-goes list script plan (suc turn) k row history noted (to_sound list script start z plan f (suc turn) k a)
 
     uncorrected : Round list (Group list plan) z start.slot (suc (length history)) (suc q)
         (clock_moved list script history) (round_notes list (row ∷ history))

@@ -24,7 +24,8 @@ use Rattle.fault_plan.proofs.Sieves.{none-found}
 
 -- Clocks.
 
-pub both-hold : (drifts : Bool) (found : Option ℕ) → cond drifts found (Some 0) ≡ None → (drifts ≡ true) × (found ≡ None)
+pub both-hold : (drifts : Bool) (found : Option ℕ) → cond drifts found (Some 0) ≡ None
+    → (drifts ≡ true) × (found ≡ None)
 both-hold true found none = (refl, none)
 both-hold false found none = absurd (none-some 0 (sym none))
 

@@ -1,5 +1,5 @@
--- Members and clocks together: after each slot of a run from the start on, where what the nodes noted keeps their clocks
--- together.
+-- Members and clocks together: after each slot of a run from the start on, where what the nodes noted keeps their
+-- clocks together.
 use Rattle.std.proofs.Common.{◌≡◌, ℕ, zero, suc, ◌+◌, ◌<◌, [], ◌∷◌, length, inl, inr, arith}
 use Rattle.ttp_world.specs.declared.medl.Medl.{Medl}
 use Rattle.ttp_world.specs.declared.script.Script.{Script}

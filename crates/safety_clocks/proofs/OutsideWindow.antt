@@ -188,7 +188,8 @@ far-apart list script start plan x k base slot jump history jumps noted within h
     let is : slot ≡ base + suc q = omega (arith, told.from) in
     let few : suc q ≤ length list.slots = omega (arith, told.from, told.soon, jumps.follows.planned.nodes) in
     let stays = stays-apart list script start plan x k base jump slot history (suc q) jumps noted within is few p
-    (λ late. jumped-back plan slot x (suc (suc base)) jumps.follows.planned.good has (λ now. omega (arith, now, late))) in
+    (λ late. jumped-back plan slot x (suc (suc base)) jumps.follows.planned.good has
+    (λ now. omega (arith, now, late))) in
     let near : IsUpTo (jump_width list) ((clock_after list script history x -ℤ jumped_in jump (suc q))
     -ℤ clock_after list script history k) =
     apart-upto list (sender plan slot) (suc q) (clock_after list script history x -ℤ jumped_in jump (suc q))
@@ -220,7 +221,8 @@ jumps-after list script start plan x base slot valid follows inside within told 
     let since = suc (suc base) in
     let jumps : has_jump script x (start.slot + suc (suc base)) ≡ true =
     subst (λ j. has_jump script j (start.slot + suc (suc base)) ≡ true) told.loss.node
-    ((follows.planned.hearing (suc (suc base)) (omega (arith, within, told.from))).jumps told.loss.incident told.loss.found
+    ((follows.planned.hearing (suc (suc base)) (omega (arith, within, told.from))).jumps told.loss.incident
+    told.loss.found
     told.loss.how) in (
       jumps,
       record {
@@ -242,9 +244,11 @@ pub jumped-far : (list : Medl) (script : Script) (start : ClusterStart) (plan : 
     → (x k since : ℕ) → x < length list.slots → HasJumped plan (suc slot) x since → IsSoundIn list plan (suc slot) k
     → AreFar list (clock_at list script history x) (clock_at list script history k)
 jumped-far list script start plan slot history valid follows noted within x k zero inside has p =
-    absurd (omega (arith, (jump-told plan (suc slot) x 0 follows.planned.good has).loss.late, follows.planned.good.count.0))
+    let good = follows.planned.good in
+    absurd (omega (arith, (jump-told plan (suc slot) x 0 good has).loss.late, good.count.0))
 jumped-far list script start plan slot history valid follows noted within x k (suc zero) inside has p =
-    absurd (omega (arith, (jump-told plan (suc slot) x 1 follows.planned.good has).loss.late, follows.planned.good.count.0))
+    let good = follows.planned.good in
+    absurd (omega (arith, (jump-told plan (suc slot) x 1 good has).loss.late, good.count.0))
 jumped-far list script start plan slot history valid follows noted within x k (suc (suc base)) inside has p =
     let after = jumps-after list script start plan x base slot valid follows inside within
     (jump-told plan (suc slot) x (suc (suc base)) follows.planned.good has) in

@@ -45,7 +45,8 @@ sound-notes list script start plan slot k row history s p =
     notes-next list row history k (sender plan slot) (planned_place list plan (suc slot))
     (suc (sender plan slot) == length list.slots)
     (sound-goes list script plan (suc slot) k row history s.noted p) (counted.places k p)
-    (place-slot list script start plan (suc slot) s.follows.planned ∙ index-of list script start plan slot s.follows.planned)
+    (place-slot list script start plan (suc slot) s.follows.planned
+    ∙ index-of list script start plan slot s.follows.planned)
 
 -- and its clock
 pub sound-clock : (list : Medl) (script : Script) (start : ClusterStart) (plan : Plan) (slot k : ℕ) (row : List Entry)
@@ -85,7 +86,8 @@ all-small list script start plan slot k row history last is s known later p =
     old true ends = All-nil (IsUpTo (needed list))
     old false inside =
         known.small (goes-from (sender plan (suc slot)) (sender plan slot) slot (length list.slots)
-        (suc (sender plan slot) == length list.slots) (index-of list script start plan slot s.follows.planned) inside later)
+        (suc (sender plan slot) == length list.slots) (index-of list script start plan slot s.follows.planned) inside
+        later)
         k (sound-back list plan slot k p)
 
 all-near : (list : Medl) (script : Script) (start : ClusterStart) (plan : Plan) (slot x k : ℕ) (row : List Entry)

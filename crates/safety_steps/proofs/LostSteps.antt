@@ -85,7 +85,8 @@ module _ (list : Medl) (script : Script) (start : ClusterStart) (plan : Plan) (t
   deaf-on since is =
       let x = slot_of list script new numbers k in
       elim (at-fate list script start plan turn new numbers t k (Falling Receiving since) node is) [
-        | inl left ↦ inl (idle-left x left.0 (unarmed list script start plan turn new numbers t k node (ap is_lost is))).0
+        | inl left ↦
+            inl (idle-left x left.0 (unarmed list script start plan turn new numbers t k node (ap is_lost is))).0
         | inr at ↦
             let told = told-falling plan turn k since Receiving t.planned.follows.good is in
             let lost_less : sender plan since < plan.nodes = mod-lt (plan.starter + since) few_nodes in
@@ -186,7 +187,8 @@ module _ (list : Medl) (script : Script) (start : ClusterStart) (plan : Plan) (t
     fallen-next =
         let x = slot_of list script new numbers k in
         elim (at-fate list script start plan turn new numbers t k (Fallen change since shown) node is) [
-          | inl left ↦ inl (idle-left x left (unarmed list script start plan turn new numbers t k node (ap is_lost is))).0
+          | inl left ↦
+              inl (idle-left x left (unarmed list script start plan turn new numbers t k node (ap is_lost is))).0
           | inr at ↦
               let soon = at.soon in
               fallen-judges plan turn x

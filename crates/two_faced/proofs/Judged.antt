@@ -1,7 +1,6 @@
 -- A run of a script in which one sender may be two-faced, after each slot from the start on.
 use Rattle.std.proofs.Common.{◌≡◌, ◌≢◌, ℕ, suc, ◌+◌, ◌-◌, ◌<◌, ◌≤◌, ◌-ℤ◌, ◌≤ℤ◌, Bool, true, false, cond, List, []}
 use Rattle.std.proofs.Common.{◌∷◌, length, refl, ap, sym, subst, ◌∙◌, inl, inr, arith}
-use Rattle.std.specs.Prelude.{◌==◌}
 use Rattle.std.proofs.lemmas.Bool.{both_ways, cases_eq, false≢true}
 use Rattle.ttp_base.specs.NodeSet.{has_node}
 use Rattle.ttp_world.specs.declared.medl.Medl.{Medl}
@@ -18,7 +17,7 @@ use Rattle.ttp_world.specs.Medium.{is_sending}
 use Rattle.ttp_world.specs.Medl.{IsValid}
 use Rattle.ttp_world.specs.Safety.{newest_slot, members_of_node}
 use Rattle.ttp_world.specs.Script.{IsValidScript, is_on}
-use Rattle.ttp_world.specs.World.{Numbers, node_past, slot_after, world}
+use Rattle.ttp_world.specs.World.{Numbers, node_past, world}
 use Rattle.ttp_world.proofs.LegalShapes.{legal-older}
 use Rattle.ttp_world.proofs.Worlds.{length-world}
 use Rattle.precision.specs.Together.{TellsOf}
@@ -27,15 +26,13 @@ use Rattle.fault_plan.specs.Fates.{Fate, Absent, Sound, Falling, Fallen, fate_of
 use Rattle.fault_plan.specs.Fates.{is_good_slot}
 use Rattle.fault_plan.specs.Ledger.{planned_members}
 use Rattle.safety_laws.specs.Groups.{held_with}
-use Rattle.safety_clocks.specs.NotedByPlan.{NotesNothing, NotedInSlot, NotedByPlan}
-use Rattle.safety_clocks.proofs.Together.{number-of}
+use Rattle.safety_clocks.specs.NotedByPlan.{NotesNothing, NotedInSlot}
 use Rattle.safety_steps.specs.ByFate.{IsSoundAt, IsByFate}
-use Rattle.safety_steps.specs.Clocks.{ClocksHold}
 use Rattle.safety.specs.ByPlan.{IsByPlan}
 use Rattle.safety.proofs.Together.{KeepsClocks, run-by_plan}
 use Rattle.faced_clocks.specs.Errors.{bound}
 use Rattle.faced_clocks.proofs.Clocks.{faced-clocks, faced-window}
-use Rattle.faced_clocks.proofs.Lossless.{fate-always, sound-always}
+use Rattle.faced_clocks.proofs.Lossless.{fate-always}
 use Rattle.faced_clocks.proofs.Slots.{IsFacing}
 use Rattle.two_faced.specs.Halved.{AreJudgedCorrect, JudgedCorrectSince}
 use Rattle.two_faced.proofs.QuietPlan.{quiet_plan, follows, on-sound, begun, clocks}

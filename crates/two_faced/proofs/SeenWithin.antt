@@ -1,6 +1,6 @@
 -- What is seen of clocks in a run of a script in which one sender may be two-faced stays within the bound.
-use Rattle.std.proofs.Common.{◌≡◌, ℕ, suc, ◌*◌, ◌<◌, ◌≤◌, ℤ, pos, negsuc, ◌+ℤ◌, ◌-ℤ◌, ◌*ℤ◌, ◌≤ℤ◌, true, false, not}
-use Rattle.std.proofs.Common.{[], ◌∷◌, length, Some, sym, ap, subst, ◌∙◌, arith}
+use Rattle.std.proofs.Common.{◌≡◌, ℕ, ◌*◌, ◌<◌, ◌≤◌, ℤ, pos, negsuc, ◌+ℤ◌, ◌-ℤ◌, ◌*ℤ◌, ◌≤ℤ◌, true, not}
+use Rattle.std.proofs.Common.{[], ◌∷◌, length, sym, ap, subst, ◌∙◌, arith}
 use Rattle.std.specs.Prelude.{◌&&◌, ◌||◌, ◌==◌, nat_lt, int_le}
 use Rattle.std.proofs.lemmas.Bool.{cond_both, and_parts, or_parts, ltb-false}
 use Rattle.std.proofs.lemmas.Int.{ints}
@@ -47,7 +47,8 @@ module _ (list : Medl) (script : Script) (z slot : ℕ) (valid : IsValid list) (
       (nodes_of list) (below-lt (length list.slots))
       (λ j k u v node_j node_k is was.
       let first = chosen_where (not (j == z) && is_on script j newest) (node_past list script history j).offset u is in
-      let second = chosen_where (not (k == z) && is_on script k newest) (node_past list script history k).offset v was in
+      let second = chosen_where (not (k == z) && is_on script k newest) (node_past list script history k).offset v was
+      in
       same_apart (bound list) (node_past list script history j).offset (node_past list script history k).offset u v
       first.1 second.1
       (near k j node_k node_j (and_parts (not (k == z)) (is_on script k newest) second.0).1
