@@ -82,7 +82,8 @@ pub fn bench<R: Threads + Wait + Sync, L: Library, K: Sink, G: Gate>(
     ensures promise { Promise (form_of (texts_of words.now)) (outside (L.files library.old) (K.output out.old))
         (outside (L.files library.new) (K.output out.new)) result }
     // For `run`, in its own words: status 0 is the trace of the world's run for the numbers that the trace
-    // names, which are legal; right files give one; and status 6 is one that was cut short.
+    // names, which are legal, and where the script keeps the single-fault hypothesis, that run is safe from
+    // its start on; right files give one; and status 6 is one that was cut short.
     ensures run { (list script : List ℕ) → form_of (texts_of words.now) ≡ Some (run list script)
         → RunPromise list script (outside (L.files library.old) (K.output out.old))
         (outside (L.files library.new) (K.output out.new)) result }
