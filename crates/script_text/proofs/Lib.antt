@@ -6,3 +6,5 @@ pub mod Reading
 pub mod Told
 pub mod Sizes
 pub mod Valid
+pub mod FieldWords
+pub mod RightLines

@@ -1,10 +1,11 @@
 //! The form of a line, and whether its words are those of the form.
 ghost use Rattle.std.specs.Prelude.{◌≡◌};
-ghost use Rattle.script_text.specs.Numbers.{is_channels, is_fault};
+ghost use Rattle.script_text.specs.Numbers.{is_channels, channels_in, is_fault, fault_in};
 ghost use Rattle.script_text.specs.Statement.{keyword_of, word_count, has_channels, is_spelled};
 
 use crate::keyword::Keyword;
 use crate::lines::Words;
+use ttp_world::{Channels, Fault};
 
 /// The form that a line's first word names.
 pub(crate) fn keyword_of(word: &[u8]) -> Option<Keyword>
@@ -49,16 +50,40 @@ fn word_count(form: Keyword) -> usize
     }
 }
 
-fn is_channels(word: &[u8]) -> bool
+/// Whether a word spells channels.
+pub(crate) fn is_channels(word: &[u8]) -> bool
     ensures { result ≡ is_channels word.now }
 {
     word == b"A".as_slice() || word == b"B".as_slice() || word == b"AB".as_slice()
 }
 
-fn is_fault(word: &[u8]) -> bool
+/// Whether a word spells a fault.
+pub(crate) fn is_fault(word: &[u8]) -> bool
     ensures { result ≡ is_fault word.now }
 {
     word == b"silence".as_slice() || word == b"noise".as_slice()
+}
+
+/// The channels that a word spells.
+pub(crate) fn channels_in(word: &[u8]) -> Channels
+    ensures { result ≡ channels_in word.now }
+{
+    let both = word == b"AB".as_slice();
+    Channels {
+        a: word == b"A".as_slice() || both,
+        b: word == b"B".as_slice() || both,
+    }
+}
+
+/// The fault that a word spells.
+pub(crate) fn fault_in(word: &[u8]) -> Fault
+    ensures { result ≡ fault_in word.now }
+{
+    if word == b"silence".as_slice() {
+        Fault::Silence
+    } else {
+        Fault::Noise
+    }
 }
 
 // Whether channels and faults are spelled as they are due.

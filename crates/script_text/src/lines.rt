@@ -12,7 +12,8 @@ pub(crate) struct Cut<'a> {
     pub(crate) rest: &'a [u8],
 }
 
-fn is_blank(byte: u8) -> bool
+/// Whether a byte stands between words.
+pub(crate) fn is_blank(byte: u8) -> bool
     ensures { result ≡ is_blank byte }
 {
     byte == b' ' || byte == b'\t'
@@ -35,8 +36,8 @@ fn line_end(text: &[u8]) -> Option<usize>
     text.iter().position(|byte| *byte == b'\n')
 }
 
-// A text cut at a place, without the byte there.
-fn cut_at(text: &[u8], place: usize) -> Cut<'_>
+/// A text cut at a place, without the byte there.
+pub(crate) fn cut_at(text: &[u8], place: usize) -> Cut<'_>
     requires { place < length text.now }
     ensures piece { result.piece.now ≡ take place text.now }
     ensures rest { result.rest.now ≡ drop (place + 1) text.now }
