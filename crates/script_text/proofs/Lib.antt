@@ -1,6 +1,7 @@
 pub mod Cuts
 pub mod WordList
 pub mod Digits
+pub mod Spelling
 pub mod Kept
 pub mod Reading
 pub mod Told

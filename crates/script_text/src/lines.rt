@@ -16,7 +16,7 @@ pub(crate) struct Cut<'a> {
 pub(crate) fn is_blank(byte: u8) -> bool
     ensures { result ≡ is_blank byte }
 {
-    byte == b' ' || byte == b'\t'
+    byte <= b' ' && (byte == b' ' || byte == b'\t')
 }
 
 // A line without the carriage return at its end, of which one is dropped.
@@ -168,6 +168,7 @@ impl<'a> Words<'a> {
 }
 
 /// All words of a line, of which the first was cut off. `None` where there are more than six.
+#[inline(never)]
 pub(crate) fn words_after(first: Cut<'_>) -> Option<Words<'_>>
     ensures some { IfSome result (λ words. words ≡ first.entry.piece.now ∷ words_of first.entry.rest.now) }
     ensures none { IfNone result (MOST_WORDS < length (first.entry.piece.now ∷ words_of first.entry.rest.now)) }

@@ -27,7 +27,8 @@ fn is_after_slots(form: Keyword, slots: Option<u32>) -> bool
     form == Keyword::Slots || slots.is_some()
 }
 
-// Takes a line of a form.
+// Takes a line of a form. Most lines are taken before they come here.
+#[inline(never)]
 #[tactic(auto, using(crate::proofs::Kept::kept))]
 fn take_form(list: &Medl, form: Keyword, words: &Words, so_far: &mut SoFar) -> Result<(), Refusal>
     requires valid { IsValid list.now }
