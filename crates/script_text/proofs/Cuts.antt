@@ -1,11 +1,12 @@
 -- A text cut at its first line feed, and a line at its first word.
 use Rattle.std.proofs.Common.{◌≡◌, ℕ, zero, suc, ◌+◌, ◌<◌, ◌≤◌, Bool, true, false, cond, List, [], ◌∷◌}
 use Rattle.std.proofs.Common.{length, take, drop, get_or, map, Some, None, filter, arith, refl, ap, sym, ◌∙◌}
-use Rattle.std.specs.List.{slice_split, position, position_or_len}
+use Rattle.std.specs.List.{slice_split, position, position_or_len, list_all}
 use Rattle.std.proofs.lemmas.Bool.Decides.{nat_tests}
-use Rattle.std.proofs.lemmas.List.{length-map}
+use Rattle.std.proofs.lemmas.List.{length-map, length-take, get_or-take, take_all}
 use Rattle.std.proofs.lemmas.List.Splits.{slice_split_first, length-slice_split, slice_split-cons_yes}
 use Rattle.std.proofs.lemmas.List.Quantifiers.{position-Some}
+use Rattle.std.proofs.lemmas.List.Sums.{position_or_len_is, AllPass-from_list_all}
 use Rattle.std.proofs.Math.ListN.{drop_of_length-le}
 use Rattle.std.proofs.Math.Seq.{drop-cons}
 use Rattle.script_text.specs.Lines.{is_line_feed, is_blank, is_part, has_bytes}
@@ -151,6 +152,41 @@ position-start line i here =
     ap (position is_part) (drop-cons line i 0 first.0)
     ∙ position-now is_part (get_or line i 0) (drop (suc i) line) first.1
 
+-- The same by how many bytes the word has.
+
+front_part : (line : List ℕ) (count k : ℕ) → count ≤ length line → list_all is_part (take count line) ≡ true
+    → k < count → is_part (get_or line k 0) ≡ true
+front_part line count k within parts below =
+    let here = AllPass-from_list_all is_part (take count line) parts k 0 (omega (arith, length-take count line)) in
+    rw get_or-take at here
+
+front_is_part : (line : List ℕ) (count : ℕ) → 1 ≤ count → count ≤ length line
+    → list_all is_part (take count line) ≡ true → position is_part line ≡ Some 0
+front_is_part line count some within parts =
+    let first = front_part line count 0 within parts (omega arith) in
+    let at = position_or_len_is is_part line 0 0 (omega arith) (λ k below. absurd (omega arith)) (λ _. first) in
+    grind (arith, nat_tests)
+
+-- a blank ends it
+pub words_of-front : (line : List ℕ) (count : ℕ) → 1 ≤ count → count < length line
+    → list_all is_part (take count line) ≡ true → is_blank (get_or line count 0) ≡ true
+    → words_of line ≡ take count line ∷ words_of (drop (count + 1) line)
+words_of-front line count some within parts blank =
+    let at = position_or_len_is is_blank line count 0 (omega arith)
+    (λ k below. let part = front_part line count k (omega arith) parts below in grind (arith, nat_tests))
+    (λ _. blank) in
+    words_of-cut line count (front_is_part line count some (omega arith) parts) (grind (arith, nat_tests))
+
+-- or the line's end
+pub words_of-whole : (line : List ℕ) (count : ℕ) → 1 ≤ count → count ≡ length line
+    → list_all is_part (take count line) ≡ true → words_of line ≡ take count line ∷ words_of []
+words_of-whole line count some whole parts =
+    let at = position_or_len_is is_blank line count 0 (omega arith)
+    (λ k below. let part = front_part line count k (omega arith) parts below in grind (arith, nat_tests))
+    (λ within. absurd (omega arith)) in
+    words_of-rest line (front_is_part line count some (omega arith) parts) (grind (arith, nat_tests))
+    ∙ rw (words_of-empty, take_all count line (omega arith)) refl
+
 pub ruleset cuts = (
   lines_of-cut,
   lines_of-rest,
@@ -161,4 +197,6 @@ pub ruleset cuts = (
   words_of-cut,
   words_of-rest,
   position-start,
+  words_of-front,
+  words_of-whole,
 )

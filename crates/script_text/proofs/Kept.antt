@@ -1,5 +1,5 @@
 -- What is kept of the lines that were read, beside what those lines state.
-use Rattle.std.proofs.Common.{◌≡◌, Bool, true, false, ℕ, ◌<◌, ◌≤◌, ◌==◌, ℤ, List, [], ◌∷◌}
+use Rattle.std.proofs.Common.{◌≡◌, Bool, true, false, ℕ, ◌<◌, ◌≤◌, ◌==◌, ℤ, List, [], ◌∷◌, ◌++◌}
 use Rattle.std.proofs.Common.{length, get_or, set, lit≤, Option, Some, None, unwrap_or}
 use Rattle.std.proofs.Common.{get_or-set_same, get_or-set_other, arith, refl, ap, sym, ◌∙◌}
 use Rattle.std.specs.Prelude.{if◌then◌else◌}
@@ -151,9 +151,19 @@ StandsFor-drift old new before node value stands within now drift = record {
   events = ap (λ (so_far : SoFar). so_far.events) now ∙ stands.events ∙ sym (append-nil _);
 }
 
+pub StandsFor-event : (old new : SoFar) (before : List Statement) (e : Event) → StandsFor old before
+    → new ≡ record old { events = old.events ++ e ∷ [] }
+    → StandsFor new (says_event e ∷ before)
+StandsFor-event old new before e stands now = rw now (record {
+  slots = stands.slots;
+  on = stands.on;
+  drift = stands.drift;
+  events = ap (λ (es : List Event). es ++ e ∷ []) stands.events;
+})
+
 -- A line of a form is taken.
 
-takes_form : (list : Medl) (words : List (List ℕ)) (old new : SoFar) (form : Keyword)
+pub takes_form : (list : Medl) (words : List (List ℕ)) (old new : SoFar) (form : Keyword)
     → is_spelled form words ≡ true → is_after_slots form old.slots ≡ true → is_built form ≡ true
     → ((before : List Statement) → StandsFor old before → stated_faults list before words form ≡ [])
     → ((before : List Statement) → StandsFor old before → StandsFor new (statement_of form words ∷ before))

@@ -1,8 +1,11 @@
 pub mod Cuts
 pub mod WordList
 pub mod Digits
+pub mod Spelling
 pub mod Kept
 pub mod Reading
 pub mod Told
 pub mod Sizes
 pub mod Valid
+pub mod FieldWords
+pub mod RightLines

@@ -10,6 +10,7 @@ ghost use Rattle.script_text.specs.Faults.{is_node, is_span, is_within, is_flipp
 ghost use Rattle.script_text.specs.SoFar.{event_faults, is_event_form};
 
 use crate::error::LineFault;
+use crate::form::{channels_in, fault_in};
 use crate::keyword::Keyword;
 use crate::lines::Words;
 use crate::number::{number_in, value_in};
@@ -56,40 +57,18 @@ pub(crate) fn is_within(bound: u32, value: i64) -> bool
     value.unsigned_abs() <= u64::from(bound)
 }
 
-// Whether a line may flip this bit of a frame.
-fn is_flipped_bit(bit: u32) -> bool
+/// Whether a line may flip this bit of a frame.
+pub(crate) fn is_flipped_bit(bit: u32) -> bool
     ensures { result ≡ is_flipped_bit bit }
 {
     u32::from(FIRST_FLIPPED_BIT) <= bit && bit <= u32::from(LAST_FLIPPED_BIT)
 }
 
-// Whether these may be the first and the last slot of a fault.
-fn is_span(slots: u32, from: u32, to: u32) -> bool
+/// Whether these may be the first and the last slot of a fault.
+pub(crate) fn is_span(slots: u32, from: u32, to: u32) -> bool
     ensures { result ≡ is_span slots from to }
 {
     from < slots && to < slots && from <= to
-}
-
-// The channels that a word spells.
-fn channels_in(word: &[u8]) -> Channels
-    ensures { result ≡ channels_in word.now }
-{
-    let both = word == b"AB".as_slice();
-    Channels {
-        a: word == b"A".as_slice() || both,
-        b: word == b"B".as_slice() || both,
-    }
-}
-
-// The fault that a word spells.
-fn fault_in(word: &[u8]) -> Fault
-    ensures { result ≡ fault_in word.now }
-{
-    if word == b"silence".as_slice() {
-        Fault::Silence
-    } else {
-        Fault::Noise
-    }
 }
 
 // What a `send` or a `receive` line says.

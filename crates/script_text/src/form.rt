@@ -1,36 +1,53 @@
 //! The form of a line, and whether its words are those of the form.
 ghost use Rattle.std.specs.Prelude.{◌≡◌};
-ghost use Rattle.script_text.specs.Numbers.{is_channels, is_fault};
+ghost use Rattle.script_text.specs.Numbers.{is_text, is_channels, channels_in, is_fault, fault_in};
 ghost use Rattle.script_text.specs.Statement.{keyword_of, word_count, has_channels, is_spelled};
 
 use crate::keyword::Keyword;
 use crate::lines::Words;
+use ttp_world::{Channels, Fault};
+
+// Whether a word is spelled like a text. A compiler that knows the text makes a few tests of bytes of it.
+#[inline(always)]
+fn is_text(text: &[u8], word: &[u8]) -> bool
+    ensures { result ≡ is_text text.now word.now }
+{
+    if word.len() != text.len() {
+        return false;
+    }
+    for place in 0..text.len() {
+        if word[place] != text[place] {
+            return false;
+        }
+    }
+    true
+}
 
 /// The form that a line's first word names.
 pub(crate) fn keyword_of(word: &[u8]) -> Option<Keyword>
     ensures { result ≡ keyword_of word.now }
 {
-    if word == b"slots".as_slice() {
+    if is_text(b"slots", word) {
         Some(Keyword::Slots)
-    } else if word == b"on".as_slice() {
+    } else if is_text(b"on", word) {
         Some(Keyword::On)
-    } else if word == b"drift".as_slice() {
+    } else if is_text(b"drift", word) {
         Some(Keyword::Drift)
-    } else if word == b"send".as_slice() {
+    } else if is_text(b"send", word) {
         Some(Keyword::Send)
-    } else if word == b"receive".as_slice() {
+    } else if is_text(b"receive", word) {
         Some(Keyword::Receive)
-    } else if word == b"flip".as_slice() {
+    } else if is_text(b"flip", word) {
         Some(Keyword::Flip)
-    } else if word == b"error".as_slice() {
+    } else if is_text(b"error", word) {
         Some(Keyword::Error)
-    } else if word == b"jump".as_slice() {
+    } else if is_text(b"jump", word) {
         Some(Keyword::Jump)
-    } else if word == b"arm".as_slice() {
+    } else if is_text(b"arm", word) {
         Some(Keyword::Arm)
-    } else if word == b"write".as_slice() {
+    } else if is_text(b"write", word) {
         Some(Keyword::Write)
-    } else if word == b"read".as_slice() {
+    } else if is_text(b"read", word) {
         Some(Keyword::Read)
     } else {
         None
@@ -49,16 +66,40 @@ fn word_count(form: Keyword) -> usize
     }
 }
 
-fn is_channels(word: &[u8]) -> bool
+/// Whether a word spells channels.
+pub(crate) fn is_channels(word: &[u8]) -> bool
     ensures { result ≡ is_channels word.now }
 {
     word == b"A".as_slice() || word == b"B".as_slice() || word == b"AB".as_slice()
 }
 
-fn is_fault(word: &[u8]) -> bool
+/// Whether a word spells a fault.
+pub(crate) fn is_fault(word: &[u8]) -> bool
     ensures { result ≡ is_fault word.now }
 {
     word == b"silence".as_slice() || word == b"noise".as_slice()
+}
+
+/// The channels that a word spells.
+pub(crate) fn channels_in(word: &[u8]) -> Channels
+    ensures { result ≡ channels_in word.now }
+{
+    let both = word == b"AB".as_slice();
+    Channels {
+        a: word == b"A".as_slice() || both,
+        b: word == b"B".as_slice() || both,
+    }
+}
+
+/// The fault that a word spells.
+pub(crate) fn fault_in(word: &[u8]) -> Fault
+    ensures { result ≡ fault_in word.now }
+{
+    if word == b"silence".as_slice() {
+        Fault::Silence
+    } else {
+        Fault::Noise
+    }
 }
 
 // Whether channels and faults are spelled as they are due.

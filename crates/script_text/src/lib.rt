@@ -17,11 +17,13 @@
 
 mod error;
 mod event;
+mod fields;
 mod form;
 mod keyword;
 mod lines;
 mod number;
 mod read;
+mod right;
 mod so_far;
 
 pub use error::{LineFault, ScriptError};

@@ -12,10 +12,11 @@ pub(crate) struct Cut<'a> {
     pub(crate) rest: &'a [u8],
 }
 
-fn is_blank(byte: u8) -> bool
+/// Whether a byte stands between words.
+pub(crate) fn is_blank(byte: u8) -> bool
     ensures { result ≡ is_blank byte }
 {
-    byte == b' ' || byte == b'\t'
+    byte <= b' ' && (byte == b' ' || byte == b'\t')
 }
 
 // A line without the carriage return at its end, of which one is dropped.
@@ -35,8 +36,8 @@ fn line_end(text: &[u8]) -> Option<usize>
     text.iter().position(|byte| *byte == b'\n')
 }
 
-// A text cut at a place, without the byte there.
-fn cut_at(text: &[u8], place: usize) -> Cut<'_>
+/// A text cut at a place, without the byte there.
+pub(crate) fn cut_at(text: &[u8], place: usize) -> Cut<'_>
     requires { place < length text.now }
     ensures piece { result.piece.now ≡ take place text.now }
     ensures rest { result.rest.now ≡ drop (place + 1) text.now }
@@ -167,6 +168,7 @@ impl<'a> Words<'a> {
 }
 
 /// All words of a line, of which the first was cut off. `None` where there are more than six.
+#[inline(never)]
 pub(crate) fn words_after(first: Cut<'_>) -> Option<Words<'_>>
     ensures some { IfSome result (λ words. words ≡ first.entry.piece.now ∷ words_of first.entry.rest.now) }
     ensures none { IfNone result (MOST_WORDS < length (first.entry.piece.now ∷ words_of first.entry.rest.now)) }

@@ -14,6 +14,7 @@ use crate::error::{LineFault, Refusal, ScriptError};
 use crate::form::{is_spelled, keyword_of};
 use crate::keyword::Keyword;
 use crate::lines::{Words, next_line, next_word, words_after};
+use crate::right::is_taken;
 use crate::so_far::SoFar;
 use std::alloc::Global;
 use ttp_base::{List, Memory};
@@ -26,7 +27,8 @@ fn is_after_slots(form: Keyword, slots: Option<u32>) -> bool
     form == Keyword::Slots || slots.is_some()
 }
 
-// Takes a line of a form.
+// Takes a line of a form. Most lines are taken before they come here.
+#[inline(never)]
 #[tactic(auto, using(crate::proofs::Kept::kept))]
 fn take_form(list: &Medl, form: Keyword, words: &Words, so_far: &mut SoFar) -> Result<(), Refusal>
     requires valid { IsValid list.now }
@@ -65,10 +67,13 @@ fn take_line(list: &Medl, line: &[u8], so_far: &mut SoFar) -> Result<(), Refusal
     if is_comment(first.piece) {
         return Ok(());
     }
-    let Some(words) = words_after(first) else {
+    let Some(form) = keyword_of(first.piece) else {
         return Err(LineFault::Word.into());
     };
-    let Some(form) = keyword_of(words.at(0)) else {
+    if is_taken(form, first.rest, list, so_far)? {
+        return Ok(());
+    }
+    let Some(words) = words_after(first) else {
         return Err(LineFault::Word.into());
     };
     take_form(list, form, &words, so_far)
@@ -157,8 +162,9 @@ fn script_from(
 /// `IsValidScript`, and so far no host writes or reads in it. The file has at most 1,048,576 bytes.
 ///
 /// The file is gone over once, a line after another, and a line once for its end and once for its
-/// words. Memory is taken for what is said of each node and for what happens in slots, and none for
-/// other lines. At the end what happens in slots is put into an index, at the cost of a sort.
+/// words; once more where what it says of slots is wrong, or its words don't stand one blank apart.
+/// Memory is taken for what is said of each node and for what happens in slots, and none for other
+/// lines. At the end what happens in slots is put into an index, at the cost of a sort.
 #[tactic(auto, unfolding(crate::specs::ScriptFile::script_of, crate::specs::ScriptFile::file_script, crate::specs::ScriptFile::lines_script))]
 pub fn read_script(alloc: Global, list: &Medl, text: &[u8]) -> Result<Script, ScriptError>
     requires valid { IsValid list.now }

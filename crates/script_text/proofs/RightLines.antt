@@ -1,0 +1,226 @@
+-- A right line that says what happens in slots.
+use Rattle.std.proofs.Common.{◌≡◌, Bool, true, false, ◌&&◌, ℕ, ◌==◌, ℤ, List, [], ◌∷◌, ◌++◌, length}
+use Rattle.std.proofs.Common.{Option, Some, None, Result, Ok, Err, unwrap_or, is_some, option_to_list, arith, refl}
+use Rattle.std.proofs.Common.{ap, sym, ◌∙◌}
+use Rattle.std.specs.Prelude.{IfOk, OnOk, IfSome}
+use Rattle.std.proofs.lemmas.Grind.{common_steps}
+use Rattle.std.proofs.lemmas.Bool.Decides.{nat_tests}
+use Rattle.std.proofs.lemmas.List.{append-nil}
+use Rattle.ttp_base.specs.declared.fault.Memory.{Memory}
+use Rattle.ttp_world.specs.declared.medl.Medl.{Medl}
+use Rattle.ttp_world.specs.declared.script.Channels.{Channels}
+use Rattle.ttp_world.specs.declared.script.Fault.{Fault}
+use Rattle.ttp_world.specs.declared.script.Event.{Event}
+use Rattle.ttp_world.specs.declared.script.Event.TheVariants as event
+use Rattle.ttp_world.specs.declared.script.TheConstants.{ERROR_LIMIT, JUMP_LIMIT}
+use Rattle.script_text.specs.declared.keyword.Keyword.{Keyword}
+use Rattle.script_text.specs.declared.keyword.Keyword.TheVariants as keyword
+use Rattle.script_text.specs.declared.so_far.SoFar.{SoFar}
+use Rattle.script_text.specs.Lines.{words_of, is_comment}
+use Rattle.script_text.specs.Numbers.{is_number, number_in, is_value, value_in, is_channels, channels_in}
+use Rattle.script_text.specs.Numbers.{is_fault, fault_in}
+use Rattle.script_text.specs.Statement.{Statement, says_event, keyword_of, has_numbers, statement_of}
+use Rattle.script_text.specs.Faults.{is_node, is_span, is_slot, is_within, is_flipped_bit, has_nodes, is_in_range}
+use Rattle.script_text.specs.Faults.{is_after_slots, line_faults, statements_after, event_said}
+use Rattle.script_text.specs.ScriptFile.{is_built}
+use Rattle.script_text.specs.SoFar.{event_faults, is_event_form, TakesForm, TakesLine}
+use Rattle.script_text.specs.Fields.{Begins, IsRight, IsTaken}
+use Rattle.script_text.proofs.Cuts.{words_of-empty}
+use Rattle.script_text.proofs.Kept.{takes_form, stated_faults-event, event_stated, StandsFor-event}
+
+-- Nothing is wrong.
+
+event_faults-none : (words : List (List ℕ)) (list : Medl) (slots : ℕ) (form : Keyword)
+    → has_numbers form words ≡ true → has_nodes list (statement_of form words) ≡ true
+    → is_in_range list slots words (statement_of form words) ≡ true
+    → event_faults words list slots form ≡ []
+unfolding event_faults
+event_faults-none words list slots form numbers nodes range = grind (arith, common_steps)
+
+and : (a b : Bool) → a ≡ true → b ≡ true → (a && b) ≡ true
+and true true first second = refl
+and true false first second = second
+and false b first second = first
+
+nothing_left : (line : List ℕ) → (length line == 0) ≡ true → words_of line ≡ []
+nothing_left [] none = words_of-empty
+nothing_left (x ∷ xs) none = grind (arith, nat_tests)
+
+pub IsRight-send : (list : Medl) (slots : ℕ) (line a b c d e : List ℕ)
+    (node : ℕ) (channels : Channels) (fault : Fault) (from : ℕ) (to : ℕ)
+    → Begins is_number number_in line node a → Begins is_channels channels_in a channels b
+    → Begins is_fault fault_in b fault c → Begins is_number number_in c from d → Begins is_number number_in d to e
+    → (length e == 0) ≡ true → is_node list node ≡ true → is_span slots from to ≡ true
+    → IsRight list slots keyword.Send (words_of line) (event.Send node channels fault from to)
+IsRight-send list slots line a b c d e node channels fault from to first second third fourth fifth end node_is span =
+    let fields : words_of line ≡ first.word ∷ second.word ∷ third.word ∷ fourth.word ∷ fifth.word ∷ [] =
+    rw (first.words, second.words, third.words, fourth.words, fifth.words, nothing_left e end) refl in
+    let in_list : is_node list (number_in first.word) ≡ true = rw first.reads at node_is in
+    let span' : is_span slots (number_in fourth.word) (number_in fifth.word) ≡ true =
+    rw (fourth.reads, fifth.reads) at span in
+    rw fields (record {
+      spelled = λ w. and (is_channels second.word) _ second.passes third.passes;
+      faults = λ w. event_faults-none
+          (w ∷ first.word ∷ second.word ∷ third.word ∷ fourth.word ∷ fifth.word ∷ []) list slots
+          keyword.Send
+          (and (is_number first.word) _ first.passes (and (is_number fourth.word) _ fourth.passes fifth.passes))
+          in_list span';
+      says = λ w. rw (first.reads, second.reads, third.reads, fourth.reads, fifth.reads) refl;
+    })
+
+pub IsRight-receive : (list : Medl) (slots : ℕ) (line a b c d e : List ℕ)
+    (node : ℕ) (channels : Channels) (fault : Fault) (from : ℕ) (to : ℕ)
+    → Begins is_number number_in line node a → Begins is_channels channels_in a channels b
+    → Begins is_fault fault_in b fault c → Begins is_number number_in c from d → Begins is_number number_in d to e
+    → (length e == 0) ≡ true → is_node list node ≡ true → is_span slots from to ≡ true
+    → IsRight list slots keyword.Receive (words_of line) (event.Receive node channels fault from to)
+IsRight-receive list slots line a b c d e node channels fault from to first second third fourth fifth end node_is span =
+    let fields : words_of line ≡ first.word ∷ second.word ∷ third.word ∷ fourth.word ∷ fifth.word ∷ [] =
+    rw (first.words, second.words, third.words, fourth.words, fifth.words, nothing_left e end) refl in
+    let in_list : is_node list (number_in first.word) ≡ true = rw first.reads at node_is in
+    let span' : is_span slots (number_in fourth.word) (number_in fifth.word) ≡ true =
+    rw (fourth.reads, fifth.reads) at span in
+    rw fields (record {
+      spelled = λ w. and (is_channels second.word) _ second.passes third.passes;
+      faults = λ w. event_faults-none
+          (w ∷ first.word ∷ second.word ∷ third.word ∷ fourth.word ∷ fifth.word ∷ []) list slots
+          keyword.Receive
+          (and (is_number first.word) _ first.passes (and (is_number fourth.word) _ fourth.passes fifth.passes))
+          in_list span';
+      says = λ w. rw (first.reads, second.reads, third.reads, fourth.reads, fifth.reads) refl;
+    })
+
+pub IsRight-flip : (list : Medl) (slots : ℕ) (line a b c d : List ℕ)
+    (node : ℕ) (channels : Channels) (bit : ℕ) (slot : ℕ)
+    → Begins is_number number_in line node a → Begins is_channels channels_in a channels b
+    → Begins is_number number_in b bit c → Begins is_number number_in c slot d → (length d == 0) ≡ true
+    → is_node list node ≡ true → is_flipped_bit bit ≡ true → is_slot slots slot ≡ true
+    → IsRight list slots keyword.Flip (words_of line) (event.Flip node channels bit slot)
+IsRight-flip list slots line a b c d node channels bit slot first second third fourth end node_is flipped slot_is =
+    let fields : words_of line ≡ first.word ∷ second.word ∷ third.word ∷ fourth.word ∷ [] =
+    rw (first.words, second.words, third.words, fourth.words, nothing_left d end) refl in
+    let in_list : is_node list (number_in first.word) ≡ true = rw first.reads at node_is in
+    let flipped' : is_flipped_bit (number_in third.word) ≡ true = rw third.reads at flipped in
+    let slot_is' : is_slot slots (number_in fourth.word) ≡ true = rw fourth.reads at slot_is in
+    rw fields (record {
+      spelled = λ w. second.passes;
+      faults = λ w. event_faults-none (w ∷ first.word ∷ second.word ∷ third.word ∷ fourth.word ∷ []) list slots
+          keyword.Flip
+          (and (is_number first.word) _ first.passes (and (is_number third.word) _ third.passes fourth.passes))
+          in_list (and (is_flipped_bit (number_in third.word)) _ flipped' slot_is');
+      says = λ w. rw (first.reads, second.reads, third.reads, fourth.reads) refl;
+    })
+
+pub IsRight-error : (list : Medl) (slots : ℕ) (line a b c d : List ℕ) (node : ℕ) (value : ℤ) (from : ℕ) (to : ℕ)
+    → Begins is_number number_in line node a → Begins is_value value_in a value b
+    → Begins is_number number_in b from c → Begins is_number number_in c to d → (length d == 0) ≡ true
+    → is_node list node ≡ true → is_within ERROR_LIMIT value ≡ true → is_span slots from to ≡ true
+    → IsRight list slots keyword.Error (words_of line) (event.Error node value from to)
+IsRight-error list slots line a b c d node value from to first second third fourth end node_is within span =
+    let fields : words_of line ≡ first.word ∷ second.word ∷ third.word ∷ fourth.word ∷ [] =
+    rw (first.words, second.words, third.words, fourth.words, nothing_left d end) refl in
+    let in_list : is_node list (number_in first.word) ≡ true = rw first.reads at node_is in
+    let within' : is_within ERROR_LIMIT (value_in second.word) ≡ true = rw second.reads at within in
+    let span' : is_span slots (number_in third.word) (number_in fourth.word) ≡ true =
+    rw (third.reads, fourth.reads) at span in
+    rw fields (record {
+      spelled = λ w. refl;
+      faults = λ w. event_faults-none (w ∷ first.word ∷ second.word ∷ third.word ∷ fourth.word ∷ []) list slots
+          keyword.Error
+          (and (is_number first.word) _ first.passes
+          (and (is_value second.word) _ second.passes (and (is_number third.word) _ third.passes fourth.passes)))
+          in_list (and (is_within ERROR_LIMIT (value_in second.word)) _ within' span');
+      says = λ w. rw (first.reads, second.reads, third.reads, fourth.reads) refl;
+    })
+
+pub IsRight-jump : (list : Medl) (slots : ℕ) (line a b c : List ℕ) (node : ℕ) (value : ℤ) (slot : ℕ)
+    → Begins is_number number_in line node a → Begins is_value value_in a value b
+    → Begins is_number number_in b slot c → (length c == 0) ≡ true → is_node list node ≡ true
+    → is_within JUMP_LIMIT value ≡ true → is_slot slots slot ≡ true
+    → IsRight list slots keyword.Jump (words_of line) (event.Jump node value slot)
+IsRight-jump list slots line a b c node value slot first second third end node_is within slot_is =
+    let fields : words_of line ≡ first.word ∷ second.word ∷ third.word ∷ [] =
+    rw (first.words, second.words, third.words, nothing_left c end) refl in
+    let in_list : is_node list (number_in first.word) ≡ true = rw first.reads at node_is in
+    let within' : is_within JUMP_LIMIT (value_in second.word) ≡ true = rw second.reads at within in
+    let slot_is' : is_slot slots (number_in third.word) ≡ true = rw third.reads at slot_is in
+    rw fields (record {
+      spelled = λ w. refl;
+      faults = λ w. event_faults-none (w ∷ first.word ∷ second.word ∷ third.word ∷ []) list slots
+          keyword.Jump
+          (and (is_number first.word) _ first.passes (and (is_value second.word) _ second.passes third.passes))
+          in_list (and (is_within JUMP_LIMIT (value_in second.word)) _ within' slot_is');
+      says = λ w. rw (first.reads, second.reads, third.reads) refl;
+    })
+
+pub IsRight-arm : (list : Medl) (slots : ℕ) (line a b : List ℕ) (node : ℕ) (slot : ℕ)
+    → Begins is_number number_in line node a → Begins is_number number_in a slot b → (length b == 0) ≡ true
+    → is_node list node ≡ true → is_slot slots slot ≡ true
+    → IsRight list slots keyword.Arm (words_of line) (event.Arm node slot)
+IsRight-arm list slots line a b node slot first second end node_is slot_is =
+    let fields : words_of line ≡ first.word ∷ second.word ∷ [] =
+    rw (first.words, second.words, nothing_left b end) refl in
+    let in_list : is_node list (number_in first.word) ≡ true = rw first.reads at node_is in
+    let slot_is' : is_slot slots (number_in second.word) ≡ true = rw second.reads at slot_is in
+    rw fields (record {
+      spelled = λ w. refl;
+      faults = λ w. event_faults-none (w ∷ first.word ∷ second.word ∷ []) list slots
+          keyword.Arm
+          (and (is_number first.word) _ first.passes second.passes)
+          in_list slot_is';
+      says = λ w. rw (first.reads, second.reads) refl;
+    })
+
+-- An event is kept.
+
+event_form_after : (form : Keyword) (slots : ℕ) → is_event_form form ≡ true → is_after_slots form (Some slots) ≡ true
+event_form_after form slots of_event = grind (arith, common_steps)
+
+event_form_built : (form : Keyword) → is_event_form form ≡ true → is_built form ≡ true
+event_form_built form of_event = grind (arith, common_steps)
+
+same_event : (statement : Statement) (stated said : Event) → statement ≡ says_event stated
+    → event_said statement ≡ Some said → stated ≡ said
+same_event statement stated said says is =
+    let both : Some stated ≡ Some said = ap event_said (sym says) ∙ is in cc
+
+TakesForm-right : (list : Medl) (slots : ℕ) (form : Keyword) (fields : List (List ℕ)) (old new : SoFar) (e : Event)
+    → is_event_form form ≡ true → old.slots ≡ Some slots → IsRight list slots form fields e
+    → new ≡ record old { events = old.events ++ e ∷ [] }
+    → (first : List ℕ) → TakesForm list (first ∷ fields) old new form
+TakesForm-right list slots form fields old new e of_event some right now first =
+    let words = first ∷ fields in
+    let stated = event_stated form words of_event in
+    let same = same_event (statement_of form words) stated.event e stated.says (right.says first) in
+    let run : unwrap_or old.slots 0 ≡ slots = ap (λ (s : Option ℕ). unwrap_or s 0) some in
+    takes_form list words old new form (right.spelled first)
+    (ap (is_after_slots form) some ∙ event_form_after form slots of_event) (event_form_built form of_event)
+    (λ before stands. stated_faults-event list before words old form of_event stands
+    ∙ ap (λ (s : ℕ). event_faults words list s form) run ∙ right.faults first)
+    (λ before stands. rw stated.says (StandsFor-event old new before stated.event stands
+    (now ∙ ap (λ (x : Event). record old { events = old.events ++ x ∷ [] }) (sym same))))
+
+-- as far as an event is right, which is none where the line is not read so
+pub is_taken-kept : (list : Medl) (slots : ℕ) (form : Keyword) (fields : List (List ℕ)) (old new : SoFar)
+    (e : Option Event) (result : Result Bool Memory)
+    → is_event_form form ≡ true → old.slots ≡ Some slots → IfSome e (IsRight list slots form fields)
+    → IfOk result (λ kept. kept ≡ is_some e)
+    → OnOk result (new ≡ record old { events = old.events ++ option_to_list e })
+    → IfOk result (λ is. IsTaken list form fields old is new)
+is_taken-kept list slots form fields old new (Some e) (Ok true) of_event some right kept now =
+    TakesForm-right list slots form fields old new e of_event some right now
+is_taken-kept list slots form fields old new (Some e) (Ok false) of_event some right kept now = cc
+is_taken-kept list slots form fields old new None (Ok true) of_event some right kept now = cc
+is_taken-kept list slots form fields old new None (Ok false) of_event some right kept now =
+    now ∙ ap (λ (es : List Event). record old { events = es }) (append-nil old.events)
+is_taken-kept list slots form fields old new e (Err x) of_event some right kept now = tt
+
+-- a line whose first word names the form
+pub TakesLine-form : (list : Medl) (line word : List ℕ) (fields : List (List ℕ)) (old new : SoFar) (form : Keyword)
+    → words_of line ≡ word ∷ fields → is_comment word ≡ false → keyword_of word ≡ Some form
+    → TakesForm list (word ∷ fields) old new form → TakesLine list (words_of line) old new
+unfolding line_faults statements_after
+TakesLine-form list line word fields old new form words comment names takes = rw words (record {
+  faults = λ before stands. rw (comment, names) (takes.faults before stands);
+  after = λ before stands. rw (comment, names) (takes.after before stands);
+})

@@ -1,0 +1,12 @@
+use Rattle.std.proofs.Common.{◌≡◌, true, ◌^◌, ◌<◌, take}
+use Rattle.std.specs.List.{list_all}
+use Rattle.std.specs.Char.{is_ascii_digit}
+use Rattle.script_text.specs.Numbers.{number_in}
+use Rattle.script_text.proofs.number.front_digits.Given as goal
+
+-- each byte so far is a digit, and the number is theirs
+abbrev pub invariant-loop-count : goal.invariant-loop-count
+invariant-loop-count l =
+    (list_all is_ascii_digit (take l.count l.front) ≡ true)
+    × (l.number ≡ number_in (take l.count l.front))
+    × (l.number < 10 ^ l.count)

@@ -1,0 +1,203 @@
+//! Right lines that say what happens in slots. They are read field by field, at a fraction of what it costs to tell
+//! what is wrong with a line.
+ghost use Rattle.std.specs.Prelude.{◌≡◌, ◌++◌, IfOk, IfSome, OnOk, OnErr, is_some, option_to_list};
+ghost use Rattle.ttp_world.specs.Medl.{IsValid};
+ghost use Rattle.script_text.specs.declared.keyword.Keyword.TheVariants as keyword;
+ghost use Rattle.script_text.specs.Lines.{words_of};
+ghost use Rattle.script_text.specs.Faults.{is_node, is_slot};
+ghost use Rattle.script_text.specs.SoFar.{HasNodes};
+ghost use Rattle.script_text.specs.Fields.{IsRight, IsTaken};
+
+use crate::event::{is_flipped_bit, is_span, is_within};
+use crate::fields::{next_channels, next_fault, next_number, next_value};
+use crate::keyword::Keyword;
+use crate::so_far::SoFar;
+use ttp_base::Memory;
+use ttp_world::{ERROR_LIMIT, Event, JUMP_LIMIT, Medl};
+
+// Whether the list has a node of this number.
+fn is_node(list: &Medl, number: u32) -> bool
+    requires { IsValid list.now }
+    ensures { result ≡ is_node list.now number }
+{
+    number < u32::from(list.nodes())
+}
+
+// Whether a run of so many slots has this slot.
+fn is_slot(slots: u32, slot: u32) -> bool
+    ensures { result ≡ is_slot slots slot }
+{
+    slot < slots
+}
+
+// The event that a `send` line says, by what follows its first word, where nothing is wrong.
+fn right_send(rest: &[u8], list: &Medl, slots: u32) -> Option<Event>
+    requires { IsValid list.now }
+    ensures { IfSome result (IsRight list.now slots keyword.Send (words_of rest.now)) }
+{
+    let node = next_number(rest)?;
+    let channels = next_channels(node.rest)?;
+    let fault = next_fault(channels.rest)?;
+    let from = next_number(fault.rest)?;
+    let to = next_number(from.rest)?;
+    if !to.rest.is_empty() || !is_node(list, node.value) || !is_span(slots, from.value, to.value) {
+        return None;
+    }
+    Some(Event::Send {
+        node: node.value as u8,
+        channels: channels.value,
+        fault: fault.value,
+        from: from.value,
+        to: to.value,
+    })
+}
+
+// The same of a `receive` line.
+fn right_receive(rest: &[u8], list: &Medl, slots: u32) -> Option<Event>
+    requires { IsValid list.now }
+    ensures { IfSome result (IsRight list.now slots keyword.Receive (words_of rest.now)) }
+{
+    let node = next_number(rest)?;
+    let channels = next_channels(node.rest)?;
+    let fault = next_fault(channels.rest)?;
+    let from = next_number(fault.rest)?;
+    let to = next_number(from.rest)?;
+    if !to.rest.is_empty() || !is_node(list, node.value) || !is_span(slots, from.value, to.value) {
+        return None;
+    }
+    Some(Event::Receive {
+        node: node.value as u8,
+        channels: channels.value,
+        fault: fault.value,
+        from: from.value,
+        to: to.value,
+    })
+}
+
+// The same of a `flip` line.
+fn right_flip(rest: &[u8], list: &Medl, slots: u32) -> Option<Event>
+    requires { IsValid list.now }
+    ensures { IfSome result (IsRight list.now slots keyword.Flip (words_of rest.now)) }
+{
+    let node = next_number(rest)?;
+    let channels = next_channels(node.rest)?;
+    let bit = next_number(channels.rest)?;
+    let slot = next_number(bit.rest)?;
+    if !slot.rest.is_empty()
+        || !is_node(list, node.value)
+        || !is_flipped_bit(bit.value)
+        || !is_slot(slots, slot.value)
+    {
+        return None;
+    }
+    Some(Event::Flip {
+        node: node.value as u8,
+        channels: channels.value,
+        bit: bit.value as u16,
+        slot: slot.value,
+    })
+}
+
+// The same of an `error` line.
+fn right_error(rest: &[u8], list: &Medl, slots: u32) -> Option<Event>
+    requires { IsValid list.now }
+    ensures { IfSome result (IsRight list.now slots keyword.Error (words_of rest.now)) }
+{
+    let node = next_number(rest)?;
+    let value = next_value(node.rest)?;
+    let from = next_number(value.rest)?;
+    let to = next_number(from.rest)?;
+    if !to.rest.is_empty() || !is_node(list, node.value) {
+        return None;
+    }
+    if !is_within(ERROR_LIMIT, value.value) || !is_span(slots, from.value, to.value) {
+        return None;
+    }
+    Some(Event::Error {
+        node: node.value as u8,
+        value: value.value,
+        from: from.value,
+        to: to.value,
+    })
+}
+
+// The same of a `jump` line.
+fn right_jump(rest: &[u8], list: &Medl, slots: u32) -> Option<Event>
+    requires { IsValid list.now }
+    ensures { IfSome result (IsRight list.now slots keyword.Jump (words_of rest.now)) }
+{
+    let node = next_number(rest)?;
+    let value = next_value(node.rest)?;
+    let slot = next_number(value.rest)?;
+    if !slot.rest.is_empty()
+        || !is_node(list, node.value)
+        || !is_within(JUMP_LIMIT, value.value)
+        || !is_slot(slots, slot.value)
+    {
+        return None;
+    }
+    Some(Event::Jump {
+        node: node.value as u8,
+        value: value.value,
+        slot: slot.value,
+    })
+}
+
+// The same of an `arm` line.
+fn right_arm(rest: &[u8], list: &Medl, slots: u32) -> Option<Event>
+    requires { IsValid list.now }
+    ensures { IfSome result (IsRight list.now slots keyword.Arm (words_of rest.now)) }
+{
+    let node = next_number(rest)?;
+    let slot = next_number(node.rest)?;
+    if !slot.rest.is_empty() || !is_node(list, node.value) || !is_slot(slots, slot.value) {
+        return None;
+    }
+    Some(Event::Arm {
+        node: node.value as u8,
+        slot: slot.value,
+    })
+}
+
+// Keeps the event that a line says, if it is right; whether it is.
+fn is_kept(event: Option<Event>, so_far: &mut SoFar) -> Result<bool, Memory>
+    ensures kept { IfOk result (λ kept. kept ≡ is_some event) }
+    ensures value { OnOk result (so_far.new ≡ record so_far.old {
+      events = so_far.old.events ++ option_to_list event;
+    }) }
+    ensures same { OnErr result (so_far.new ≡ so_far.old) }
+{
+    let Some(event) = event else {
+        return Ok(false);
+    };
+    so_far.events.push(event)?;
+    Ok(true)
+}
+
+/// Takes a line of a form, by what follows its first word, if it says what happens in slots and nothing is wrong with
+/// it and its words stand one blank apart; whether it was taken.
+pub(crate) fn is_taken(
+    form: Keyword,
+    rest: &[u8],
+    list: &Medl,
+    so_far: &mut SoFar,
+) -> Result<bool, Memory>
+    requires valid { IsValid list.now }
+    requires nodes { HasNodes list.now so_far.old }
+    ensures taken { IfOk result (λ is. IsTaken list.now form (words_of rest.now) so_far.old is so_far.new) }
+    ensures same { OnErr result (so_far.new ≡ so_far.old) }
+    ensures nodes { HasNodes list.now so_far.new }
+{
+    let Some(slots) = so_far.slots else {
+        return Ok(false);
+    };
+    match form {
+        Keyword::Send => is_kept(right_send(rest, list, slots), so_far),
+        Keyword::Receive => is_kept(right_receive(rest, list, slots), so_far),
+        Keyword::Flip => is_kept(right_flip(rest, list, slots), so_far),
+        Keyword::Error => is_kept(right_error(rest, list, slots), so_far),
+        Keyword::Jump => is_kept(right_jump(rest, list, slots), so_far),
+        Keyword::Arm => is_kept(right_arm(rest, list, slots), so_far),
+        _ => Ok(false),
+    }
+}
