@@ -1,5 +1,5 @@
 -- The end of a slot: the entry that a node makes by what comes to it, and how far it takes the node's clock.
-use Rattle.std.proofs.Common.{◌≡◌, ◌≢◌, arith, ℕ, zero, Bool, true, false, cond, not, refl, sym, subst, ◌∙◌, ◌⊎◌, inl}
+use Rattle.std.proofs.Common.{◌≡◌, ◌≢◌, arith, ℕ, Bool, true, false, cond, not, refl, sym, subst, ◌∙◌, ◌⊎◌, inl}
 use Rattle.std.proofs.Common.{inr, ◌+◌, ◌≤◌, ℤ, pos, neg_ℤ, ◌≤ℤ◌, ◌+ℤ◌, ◌-ℤ◌, ◌&&◌, Option, Some, None, IfSome, IsTrue}
 use Rattle.std.proofs.Common.{unwrap_or, unsigned_abs, ◌<◌, max, FitsSigned, w64, to_z, of_z, length}
 use Rattle.std.specs.Option.{option_or}
@@ -31,7 +31,7 @@ use Rattle.ttp_world.specs.Clock.{is_corrected, join_deviation, slot_change}
 use Rattle.ttp_world.specs.Conduct.{carries_payload, channel_join, join_entry, judging_entry, new_entry, verdict_entry}
 use Rattle.ttp_world.specs.Diary.{Place, SlotSurroundings, phase_after}
 use Rattle.ttp_world.specs.Fitting.{carried, is_joinable_state}
-use Rattle.ttp_world.specs.Medium.{Signal, Silence, Noise, Bits}
+use Rattle.ttp_world.specs.Medium.{Signal, Bits}
 use Rattle.ttp_world.specs.Medl.{is_bare, kind_at, plan_at, payload_length, member_width, IsValid}
 use Rattle.ttp_world.specs.Past.{NodePast}
 use Rattle.ttp_world.specs.Reception.{Expected, Hearing, better_view, entry_deviation, expected_of, heard_deviation}
@@ -147,35 +147,20 @@ measured-fits : (own offset error : ℤ) → unsigned_abs own + unsigned_abs off
     → IsDeviation ((offset -ℤ own) +ℤ error)
 measured-fits own offset error fits = (omega (arith, ints), omega (arith, ints))
 
-made_on : (list : Medl) (k : ℕ) (past : NodePast) (a b : Arrival) (error jump : ℤ) (came : Arrival) (sender : ℕ)
-    (late : ℕ → ℤ) → IsValid list → IsDeviation (late sender)
-    → ((c : CState) → Lands a b (past.offset +ℤ jump) error jump (entry.Joined c.slot c (late sender)))
-    → IfSome (channel_join list late (signal_from sender came)) (IsMade list k past a b error jump)
-made_on list k past a b error jump (arrival.Bits bytes offset) sender late valid fits lands =
-    let c = carried (member_width list) bytes.now in
-    if_joins (IsMade list k past a b error jump) (is_joinable_state list c && _) c _ (λ joins. record {
-      within = (joinable-within list bytes.now valid (and_parts _ _ joins).0, fits);
-      lands = lands c;
-    })
-made_on list k past a b error jump _ sender late valid fits lands = tt
-
 -- Judging.
 
 -- a verdict is one that the acknowledgement can have
 taken-view : (a : Ack) (v : ChannelView) → taken_verdict a (verdict_of_view v a) ≡ verdict_of_view v a
 taken-view ack.Closed view.First = refl
 taken-view ack.Closed _ = refl
-taken-view ack.First view.First = refl
-taken-view ack.First _ = refl
-taken-view (ack.Doubt x) view.First = refl
-taken-view (ack.Doubt x) _ = refl
+taken-view _ view.First = refl
+taken-view _ _ = refl
 
 -- only the first candidate is correct
 first_of_correct : (v : ChannelView) (a : Ack) → is_correct (verdict_of_view v a) ≡ true → v ≡ view.First
 first_of_correct view.First a is = refl
 first_of_correct view.Second ack.Closed is = cc
-first_of_correct view.Second _ is = cc
-first_of_correct _ a is = cc
+first_of_correct _ _ is = cc
 
 -- bits came, and within the window
 IsHeardNear : Medl → Option ℤ → Type 0
@@ -192,12 +177,11 @@ not_bad false v is = cc
 first_is_near : (list : Medl) (e : Expected) (late : ℕ → ℤ) (sent : Signal) → view_of list e late sent ≡ view.First
     → IsHeardNear list (heard_deviation late sent)
 unfolding IsHeardNear
-first_is_near list e late Silence is = cc
-first_is_near list e late Noise is = cc
 first_is_near list e late (Bits sender bytes) is =
     near_of_test list.window (late sender)
     (and_parts (is_within_window list (late sender)) _
     (not_bad (is_within_window list (late sender) && is_expected_form list e bytes) (view_of_frame list e bytes) is)).0
+first_is_near list e late _ is = cc
 
 -- the deviation of the entry is that of the channel that is taken
 taken_is_near : (list : Medl) (from_a : Bool) (va vb : ChannelView) (a b : Option ℤ) → cond from_a va vb ≡ view.First
@@ -209,7 +193,7 @@ taken_is_near list true va vb (Some d) None is near_a near_b = near_a is
 taken_is_near list true va vb (Some d) (Some other) is near_a near_b = near_a is
 taken_is_near list false va vb a None is near_a near_b = absurd (near_b is)
 taken_is_near list false va vb None (Some d) is near_a near_b = near_b is
-taken_is_near list false va vb (Some other) (Some d) is near_a near_b = near_b is
+taken_is_near list false va vb _ (Some d) is near_a near_b = near_b is
 
 -- a node that is denied leaves
 of_verdict : (P : Entry → Type 0) (sender : ℕ) (v : Verdict) (deviation : ℤ) → P (entry.Left reason.Denied sender)
@@ -217,50 +201,60 @@ of_verdict : (P : Entry → Type 0) (sender : ℕ) (v : Verdict) (deviation : �
 of_verdict P sender verdict.Denied deviation left judged = left
 of_verdict P sender _ deviation left judged = judged (λ denied. cc)
 
-judging_entry-made : (list : Medl) (k : ℕ) (past : NodePast) (a b : Arrival) (error jump : ℤ) (h : Hearing)
-    → (coming_place list past).slot ≢ k → IsMade list k past a b error jump (judging_entry list k past h)
-judging_entry-made list k past a b error jump h other =
-    let e = expected_of list k past in
-    let va = view_of list e h.deviation h.a in
-    let vb = view_of list e h.deviation h.b in
-    let from_a = is_taken_from_a va vb in
-    let near : IsTrue (is_correct (verdict_of va vb past.ack)) → IsNearEnough list
-    (entry_deviation from_a (heard_deviation h.deviation h.a) (heard_deviation h.deviation h.b)) =
-    λ correct. taken_is_near list from_a va vb (heard_deviation h.deviation h.a) (heard_deviation h.deviation h.b)
-    (first_of_correct (better_view va vb) past.ack correct) (first_is_near list e h.deviation h.a)
-    (first_is_near list e h.deviation h.b) in
-    of_verdict (IsMade list k past a b error jump) (coming_place list past).slot (verdict_of va vb past.ack) _
-    (record { within = tt; lands = tt })
-    (λ stays. record {
-      within = record {
-        coming = refl;
-        another = other;
-        stays = stays;
-        possible = taken-view past.ack (better_view va vb);
-        near = near;
-      };
-      lands = tt;
-    })
+-- A node that makes its entry.
+module _ (list : Medl) (k : ℕ) (past : NodePast) (a b : Arrival) (error jump : ℤ) where
+  judging_entry-made : (h : Hearing) → (coming_place list past).slot ≢ k
+      → IsMade list k past a b error jump (judging_entry list k past h)
+  judging_entry-made h other =
+      let e = expected_of list k past in
+      let va = view_of list e h.deviation h.a in
+      let vb = view_of list e h.deviation h.b in
+      let late_a = heard_deviation h.deviation h.a in
+      let late_b = heard_deviation h.deviation h.b in
+      let from_a = is_taken_from_a va vb in
+      let near : IsTrue (is_correct (verdict_of va vb past.ack)) → IsNearEnough list
+      (entry_deviation from_a late_a late_b) = λ correct. taken_is_near list from_a va vb late_a late_b
+      (first_of_correct (better_view va vb) past.ack correct) (first_is_near list e h.deviation h.a)
+      (first_is_near list e h.deviation h.b) in
+      of_verdict (IsMade list k past a b error jump) (coming_place list past).slot (verdict_of va vb past.ack) _
+      (record { within = tt; lands = tt })
+      (λ stays. record {
+        within = record {
+          coming = refl;
+          another = other;
+          stays = stays;
+          possible = taken-view past.ack (better_view va vb);
+          near = near;
+        };
+        lands = tt;
+      })
 
--- By what the node does.
+  made_on : (came : Arrival) (sender : ℕ) (late : ℕ → ℤ) → IsValid list → IsDeviation (late sender)
+      → ((c : CState) → Lands a b (past.offset +ℤ jump) error jump (entry.Joined c.slot c (late sender)))
+      → IfSome (channel_join list late (signal_from sender came)) (IsMade list k past a b error jump)
+  made_on (arrival.Bits bytes offset) sender late valid fits lands =
+      let c = carried (member_width list) bytes.now in
+      if_joins (IsMade list k past a b error jump) (is_joinable_state list c && _) c _ (λ joins. record {
+        within = (joinable-within list bytes.now valid (and_parts _ _ joins).0, fits);
+        lands = lands c;
+      })
+  made_on _ sender late valid fits lands = tt
 
-new_entry-made : (list : Medl) (k : ℕ) (past : NodePast) (chosen : Chosen) (a b : Arrival) (error jump jumps : ℤ)
-    (does : Act) → IsValid list → ReadingFits (past.offset +ℤ jump) a error → ReadingFits (past.offset +ℤ jump) b error
-    → IsAtSlot list k past does → jump ≡ jump_taken does jumps
-    → IsMade list k past a b error jump
-    (new_entry list k past chosen (hearing_from a b (past.offset +ℤ jump) error) does)
-new_entry-made list k past chosen a b error jump jumps Off valid fits_a fits_b at taken =
-    record { within = tt; lands = taken }
-new_entry-made list k past chosen a b error jump jumps Listen valid fits_a fits_b at taken =
-    let own = past.offset +ℤ jump in
-    let late = (hearing_from a b own error).deviation in
-    first_of (IsMade list k past a b error jump) _ _ (record { within = tt; lands = tt })
-    (made_on list k past a b error jump a 0 late valid (measured-fits own _ error fits_a) (λ c. inl refl))
-    (made_on list k past a b error jump b 1 late valid (measured-fits own _ error fits_b) (λ c. inr refl))
-new_entry-made list k past chosen a b error jump jumps Judge valid fits_a fits_b at taken =
-    judging_entry-made list k past a b error jump (hearing_from a b (past.offset +ℤ jump) error) at
-new_entry-made list k past chosen a b error jump jumps _ valid fits_a fits_b at taken =
-    record { within = tt; lands = tt }
+  -- by what it does
+  new_entry-made : (chosen : Chosen) (jumps : ℤ) (does : Act) → IsValid list
+      → ReadingFits (past.offset +ℤ jump) a error → ReadingFits (past.offset +ℤ jump) b error
+      → IsAtSlot list k past does → jump ≡ jump_taken does jumps → IsMade list k past a b error jump
+      (new_entry list k past chosen (hearing_from a b (past.offset +ℤ jump) error) does)
+  new_entry-made chosen jumps Off valid fits_a fits_b at taken = record { within = tt; lands = taken }
+  new_entry-made chosen jumps Listen valid fits_a fits_b at taken =
+      let own = past.offset +ℤ jump in
+      let late = (hearing_from a b own error).deviation in
+      first_of (IsMade list k past a b error jump) _ _ (record { within = tt; lands = tt })
+      (made_on a 0 late valid (measured-fits own _ error fits_a) (λ c. inl refl))
+      (made_on b 1 late valid (measured-fits own _ error fits_b) (λ c. inr refl))
+  new_entry-made chosen jumps Judge valid fits_a fits_b at taken =
+      judging_entry-made (hearing_from a b (past.offset +ℤ jump) error) at
+  new_entry-made chosen jumps _ valid fits_a fits_b at taken = record { within = tt; lands = tt }
 
 -- How far a slot takes a node's clock.
 
@@ -278,7 +272,7 @@ past_after-corrected : (list : Medl) (k : ℕ) (past : NodePast) (e : Entry) (s 
     → IsNearEnough list (correction_after list (past_after list k past e s).place (past_after list k past e s).notes e)
 past_after-corrected list k past e s valid node within next =
     let after = past_after list k past e s in
-    let near = (kept_after-within list k past e s valid node within next).notes in
+    let near = (kept_after-within list k past valid node within e s next).notes in
     let zero = zero_near list valid in
     subst (IsNearEnough list) (correction_after-take list after.place after.notes e)
     (cond_both (is_corrected list (phase_after e) after.place) _ _ (IsNearEnough list)
@@ -297,10 +291,8 @@ change_near : (e : Entry) (offset : ℤ) (s : SlotSurroundings) (corrected w : �
     ≤ furthest (offset +ℤ s.jump) (offset_of_arrival a) (offset_of_arrival b) + unsigned_abs error
     + unsigned_abs s.drift + unsigned_abs w
 change_near entry.Off offset s corrected w a b error near lands = omega (arith, ints, lands)
-change_near (entry.Joined sender cstate deviation) offset s corrected w a b error near (inl is) =
-    omega (arith, ints, near.0, near.1, is)
-change_near (entry.Joined sender cstate deviation) offset s corrected w a b error near (inr is) =
-    omega (arith, ints, near.0, near.1, is)
+change_near (entry.Joined sender cstate deviation) offset s corrected w a b error near lands =
+    omega (arith, ints, near.0, near.1, lands)
 change_near _ offset s corrected w a b error near lands = omega (arith, ints, near.0, near.1)
 
 pub past_after-near : (list : Medl) (k : ℕ) (past : NodePast) (e : Entry) (s : SlotSurroundings) (a b : Arrival)
@@ -313,17 +305,6 @@ past_after-near list k past e s a b error valid node within made =
     change_near e past.offset s _ list.window a b error
     (past_after-corrected list k past e s valid node within made.within)
     made.lands
-
--- Clocks fit their numbers.
-
--- a clock that stays near
-pub near-fits : (x own a b e d w : ℕ) → x ≤ max own (max a b) + e + d + w → own + a + e + d + w ≤ most_clock
-    → own + b + e + d + w ≤ most_clock → x ≤ most_clock
-near-fits x own a b e d w near fits_a fits_b = omega (arith, near, fits_a, fits_b)
-
--- that of a slot that has begun
-pub sum-fits : (x y : ℤ) → unsigned_abs x + unsigned_abs y ≤ most_clock → FitsSigned w64 (x +ℤ y)
-sum-fits x y fits = omega (arith, ints, fits)
 
 -- A slot that was planned so.
 
@@ -344,7 +325,7 @@ pub ended-by : (made : Entry) (handed : Option Delivered) (given list : Medl) (k
 ended-by made handed given list k past does jump message a b error drift offset valid planned fits_a fits_b few_offset
     few_jump few_error same is said =
     let own = past.offset +ℤ jump in
-    let few_own = sum-fits past.offset jump planned.begun.fits in
+    let few_own : FitsSigned w64 own = omega (arith, ints, planned.begun.fits) in
     let plain = rw (
       to_z-of_z w64 offset few_offset,
       to_z-of_z w64 jump few_jump,
@@ -358,6 +339,6 @@ ended-by made handed given list k past does jump message a b error drift offset 
     record {
       ends = ends;
       made = subst (IsMade list k past a b error jump) (sym ending.entry)
-          (new_entry-made list k past planned.chosen a b error jump jump does valid (omega (arith, fits_a))
+          (new_entry-made list k past a b error jump planned.chosen jump does valid (omega (arith, fits_a))
           (omega (arith, fits_b)) (possible-at list k past does planned.begun.possible) planned.begun.taken);
     }

@@ -1,5 +1,5 @@
 -- What a node hears, judges and delivers, by what comes to it.
-use Rattle.std.proofs.Common.{◌≡◌, ℕ, zero, suc, ℤ, refl, ◌+ℤ◌, ◌-ℤ◌, List, ap, sym, subst, pos, Bool, true, length}
+use Rattle.std.proofs.Common.{◌≡◌, ℕ, zero, suc, ℤ, refl, ◌+ℤ◌, ◌-ℤ◌, List, ap, sym, subst, pos, true}
 use Rattle.std.proofs.Common.{Option, Some, None, unwrap_or, ◌∙◌, not, IfSome}
 use Rattle.std.specs.Borrow.{Bor}
 use Rattle.std.specs.Prelude.{◌==◌}
@@ -44,14 +44,12 @@ clock_from a b zero = offset_of_arrival a
 clock_from a b (suc sender) = offset_of_arrival b
 
 pub shows_a : (a b : Arrival) → Shows a (signal_from 0 a) (clock_from a b)
-shows_a arrival.Silence b = refl
-shows_a arrival.Noise b = refl
 shows_a (arrival.Bits bytes offset) b = (refl, refl)
+shows_a _ b = refl
 
 pub shows_b : (a b : Arrival) → Shows b (signal_from 1 b) (clock_from a b)
-shows_b a arrival.Silence = refl
-shows_b a arrival.Noise = refl
 shows_b a (arrival.Bits bytes offset) = (refl, refl)
+shows_b a _ = refl
 
 -- silence is told of what came
 pub silence-shown : (came : Arrival) (sent : Signal) (clock : ℕ → ℤ) → Shows came sent clock
@@ -69,11 +67,10 @@ bits-show : (P : Signal → (ℕ → ℤ) → Type 0) (own error : ℤ) (bytes :
     → ((sender : ℕ) (deviation : ℕ → ℤ) → deviation sender ≡ (offset -ℤ own) +ℤ error
     → P (Bits sender bytes.now) deviation)
     → ForSignals (arrival.Bits bytes offset) own error P
-bits-show P own error bytes offset here Silence clock shows = cc
-bits-show P own error bytes offset here Noise clock shows = cc
 bits-show P own error bytes offset here (Bits sender sent) clock shows =
     subst (λ (bs : List ℕ). P (Bits sender bs) (deviation_by clock own error)) shows.0
     (here sender (deviation_by clock own error) (ap (λ (ahead : ℤ). (ahead -ℤ own) +ℤ error) (sym shows.1)))
+bits-show P own error bytes offset here _ clock shows = cc
 
 pub of_bits : (P : Signal → (ℕ → ℤ) → Type 0) (own error : ℤ) (came : Arrival) (bytes : Bor (List ℕ)) (offset : ℤ)
     → came ≡ arrival.Bits bytes offset
@@ -108,9 +105,8 @@ taken_deviation d (Some b) = refl
 first_heard : (list : Medl) (e : Expected) (late : ℕ → ℤ) (sent : Signal) (b : Option ℤ)
     → view_of list e late sent ≡ First
     → unwrap_or (heard_deviation late sent) (pos 0) ≡ entry_deviation true (heard_deviation late sent) b
-first_heard list e late Silence b is = cc
-first_heard list e late Noise b is = cc
 first_heard list e late (Bits sender bytes) b is = taken_deviation (late sender) b
+first_heard list e late _ b is = cc
 
 pub IsJudgement-first : (list : Medl) (e : Expected) (a : Ack) (h : Hearing) (seen : Seen) (deviation : ℤ)
     → IsSeen seen list e h.a h.deviation
@@ -120,13 +116,9 @@ IsJudgement-first list e a h seen deviation is first late =
     let view_a : view_of list e h.deviation h.a ≡ First = sym is.view ∙ first_of_test seen.view first in
     let view_b = view_of list e h.deviation h.b in
     record {
-      verdict = subst (λ (v : ChannelView). Correct ≡ verdict_of v view_b a) (sym view_a) (first_is_correct view_b a);
-      deviation =
-          late ∙ ap (λ (o : Option ℤ). unwrap_or o (pos 0)) is.deviation
-          ∙ first_heard list e h.deviation h.a (heard_deviation h.deviation h.b) view_a
-          ∙ ap (λ (taken : Bool). entry_deviation taken (heard_deviation h.deviation h.a)
-          (heard_deviation h.deviation h.b))
-          (first_is_taken view_b ∙ ap (λ (v : ChannelView). is_taken_from_a v view_b) (sym view_a));
+      verdict = rw view_a (first_is_correct view_b a);
+      deviation = rw (late, is.deviation, view_a, ← first_is_taken view_b)
+          (first_heard list e h.deviation h.a (heard_deviation h.deviation h.b) view_a);
       from_a = sym (ap is_first_view view_a);
     }
 

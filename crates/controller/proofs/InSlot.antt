@@ -3,8 +3,10 @@
 use Rattle.std.proofs.Common.{◌≡◌, ℕ, ◌<◌, ◌≤◌, ℤ, ◌+ℤ◌, Bool, true, false, cond, List, [], ◌∷◌, length, min, Option}
 use Rattle.std.proofs.Common.{is_some, refl, ap, sym, ◌∙◌, subst, arith, ◌+◌, get_or, set, unsigned_abs, ⊎_elim}
 use Rattle.std.specs.List.{flat_map}
+use Rattle.std.specs.Prelude.{All}
 use Rattle.std.proofs.lemmas.Bool.{cases_lt}
 use Rattle.std.proofs.lemmas.List.{length-map, get_or_past}
+use Rattle.std.proofs.lemmas.List.Elements.{All-get_or}
 use Rattle.std.proofs.lemmas.List.FromFn.{length-map-range_with_len}
 use Rattle.ttp_base.specs.NodeSet.{below}
 use Rattle.ttp_base.proofs.Below.{flat_map-next}
@@ -23,6 +25,7 @@ use Rattle.ttp_world.specs.Diary.{Diary, History, Surroundings, diary_of, entry_
 use Rattle.ttp_world.specs.Medium.{heard, surroundings_in, surroundings_of, SentFrame}
 use Rattle.ttp_world.specs.Medl.{plan_at}
 use Rattle.ttp_world.specs.Messages.{status_words}
+use Rattle.ttp_world.specs.Outgoing.{nothing_chosen}
 use Rattle.ttp_world.specs.Past.{NodePast, past_of}
 use Rattle.ttp_world.specs.Script.{is_on, is_armed, jump_of, reading_error}
 use Rattle.ttp_world.specs.World.{BegunNode, BegunSlot, jump_taken, node_of, slot_after, chosen_of, sends_payload}
@@ -109,6 +112,12 @@ payload-node {s = s} {k = k} chosen is node begun are loading =
     ∙ ap is_loading loading in
     ap (λ (m : Chosen). length m.payload) is ∙ are k node loaded
     ∙ (λ i. (plan_at (sym begun.list i) (sym begun.node i)).payload)
+
+-- where no frame carries payload, none may be chosen for all
+pub nothing-chosen : (s : BegunSlot) (chosen : List Chosen) → ((k : ℕ) → (plan_at s.list k).payload ≡ 0)
+    → length s.list.slots ≤ length chosen → All (λ m. m.payload ≡ []) chosen → AreChosen s chosen
+nothing-chosen s chosen bare few all = λ k node loaded.
+    ap length (All-get_or (λ m. m.payload ≡ []) chosen k nothing_chosen (omega (arith, node, few)) all) ∙ sym (bare k)
 
 length-diary_of : (history : History) (k : ℕ) → length (diary_of history k) ≡ length history
 length-diary_of history k = length-map history (λ row. entry_of row k)

@@ -11,7 +11,7 @@ use Rattle.ttp_world.specs.declared.script.Channel.{Channel}
 use Rattle.ttp_world.specs.declared.script.Channel.TheVariants as channel
 use Rattle.ttp_world.specs.declared.script.Script.{Script}
 use Rattle.ttp_world.specs.declared.script.TheConstants.{SLOT_LIMIT, DRIFT_LIMIT}
-use Rattle.ttp_world.specs.Medium.{Signal, Silence, Noise, Bits, heard}
+use Rattle.ttp_world.specs.Medium.{Signal, Bits, heard}
 use Rattle.ttp_world.specs.Medl.{IsValid}
 use Rattle.ttp_world.specs.Script.{AreBounded, IsWithinSpan, drift_of, reading_error}
 use Rattle.medium.specs.declared.arrival.Arrival.{Arrival}
@@ -48,30 +48,28 @@ ended-clock seat ended = ap (λ turn. seat.past.offset +ℤ turn_jump turn) ende
 pub jump_same : {incidents : Incidents} → AreBounded incidents → to_z w64 (of_z w64 incidents.jump) ≡ incidents.jump
 jump_same {incidents = incidents} bounds = same_number most_jump incidents.jump bounds.jump (omega arith)
 
-pub jump_fits : {list : Medl} {k : ℕ} {old : Seat} {incidents : Incidents} (slot : ℕ) → slot ≤ SLOT_LIMIT
-    → IsSeatOf list IsEnded (most_ahead slot) k old → AreBounded incidents
-    → JumpFits old.past.offset (to_z w64 (of_z w64 incidents.jump))
-jump_fits {old = old} {incidents = incidents} slot few of bounds =
-    let own = ap unsigned_abs (ended-clock old of.turn) in
-    let jump = ap unsigned_abs (jump_same bounds) in
-    let small = span-abs most_jump incidents.jump bounds.jump in
-    omega (arith, own, jump, small, of.clock)
+module _ {list : Medl} {k : ℕ} {old : Seat} {incidents : Incidents} (slot : ℕ)
+    (of : IsSeatOf list IsEnded (most_ahead slot) k old) (bounds : AreBounded incidents) where
+  -- what the clock comes to with the jump
+  jumped : unsigned_abs old.past.offset + unsigned_abs (to_z w64 (of_z w64 incidents.jump)) ≤ most_ahead_in slot
+  jumped =
+      let own = ap unsigned_abs (ended-clock old of.turn) in
+      let jump = ap unsigned_abs (jump_same bounds) in
+      omega (arith, own, jump, span-abs most_jump incidents.jump bounds.jump, of.clock)
 
-pub begun-seat : {list : Medl} {k : ℕ} {old new : Seat} {incidents : Incidents} (slot : ℕ)
-    → IsSeatOf list IsEnded (most_ahead slot) k old → AreBounded incidents → IsSameSeat old new
-    → unsigned_abs (seat_clock new)
-    ≤ unsigned_abs old.past.offset + unsigned_abs (to_z w64 (of_z w64 incidents.jump))
-    → IsBegun new.turn → IsSeatOf list IsBegun (most_ahead_in slot) k new
-begun-seat {old = old} {incidents = incidents} slot of bounds same clock begun =
-    let own = ap unsigned_abs (ended-clock old of.turn) in
-    let jump = ap unsigned_abs (jump_same bounds) in
-    let small = span-abs most_jump incidents.jump bounds.jump in
-    record {
-      list = same.list ∙ of.list;
-      node = same.node ∙ of.node;
-      turn = begun;
-      clock = omega (arith, own, jump, small, of.clock, clock);
-    }
+  pub jump_fits : slot ≤ SLOT_LIMIT → JumpFits old.past.offset (to_z w64 (of_z w64 incidents.jump))
+  jump_fits few = omega (arith, jumped)
+
+  pub begun-seat : {new : Seat} → IsSameSeat old new
+      → unsigned_abs (seat_clock new)
+      ≤ unsigned_abs old.past.offset + unsigned_abs (to_z w64 (of_z w64 incidents.jump))
+      → IsBegun new.turn → IsSeatOf list IsBegun (most_ahead_in slot) k new
+  begun-seat same clock begun = record {
+    list = same.list ∙ of.list;
+    node = same.node ∙ of.node;
+    turn = begun;
+    clock = omega (arith, jumped, clock);
+  }
 
 -- before the first slot it is at 0
 pub first-seat : {list : Medl} {k : ℕ} {seat : Seat} → seat.list ≡ list → seat.node ≡ k → StandsFor seat [] []
@@ -119,12 +117,10 @@ handed {script = script} {slot = slot} {k = k} {incidents = incidents} {drift = 
 -- what comes was sent by a node whose clock is near 0
 shown-near : (s : Signal) (came : Arrival) (clock : ℕ → ℤ) (bound : ℕ) → Shows came s clock
     → ((p : ℕ) → unsigned_abs (clock p) ≤ bound) → unsigned_abs (offset_of_arrival came) ≤ bound
-shown-near Silence came clock bound shows near = rw shows (omega arith)
-shown-near Noise came clock bound shows near = rw shows (omega arith)
-shown-near (Bits sender sent) arrival.Silence clock bound shows near = absurd shows
-shown-near (Bits sender sent) arrival.Noise clock bound shows near = absurd shows
 shown-near (Bits sender sent) (arrival.Bits bytes offset) clock bound shows near =
     subst (λ (z : ℤ). unsigned_abs z ≤ bound) (sym shows.1) (near sender)
+shown-near (Bits sender sent) _ clock bound shows near = absurd shows
+shown-near _ came clock bound shows near = rw shows (omega arith)
 
 -- So all that a controller is to add up fits, and its clock stays near 0.
 module _ {carried : Carried} {script : Script} {list : Medl} {k : ℕ} {seat : Seat} {error drift : ℤ}

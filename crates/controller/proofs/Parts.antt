@@ -1,7 +1,8 @@
 -- A pass over a part of a cluster's nodes: each element is written once, beside a list that gets one for each.
-use Rattle.std.proofs.Common.{◌≡◌, ◌≢◌, ℕ, zero, suc, ◌+◌, ◌<◌, ◌≤◌, List, [], ◌∷◌, ◌++◌, length, get_or, set, Some}
-use Rattle.std.proofs.Common.{refl, sym, ap, ◌∙◌, subst, below_more, arith}
+use Rattle.std.proofs.Common.{◌≡◌, ◌≢◌, ℕ, zero, suc, ◌+◌, ◌-◌, ◌<◌, ◌≤◌, List, [], ◌∷◌, ◌++◌, length, get_or, set}
+use Rattle.std.proofs.Common.{Some, refl, sym, ap, ◌∙◌, subst, ⊎_elim, below_more, arith}
 use Rattle.std.specs.Prelude.{slice_get}
+use Rattle.std.proofs.lemmas.Bool.{cases_lt}
 use Rattle.std.proofs.lemmas.List.{length-set, get_or-set_same}
 use Rattle.std.proofs.lemmas.Option.{slice_get_within, slice_get-get_or, same_Some, none-some}
 use Rattle.controller.specs.Parts.{EachFrom}
@@ -114,18 +115,53 @@ each-of {P = P} {x = x} all k here = subst (λ (n : ℕ). P n x) (omega arith) (
 pub each-none : {X : Type 0} {first : ℕ} {P : ℕ → X → Type 0} → EachFrom first P []
 each-none = record { each = λ k x here. absurd (none-some x here) }
 
--- What holds of each element, and of one more at the end, holds of each of both.
+-- Two parts of the nodes, one after the other.
 
-holds-push : {X : Type 0} (P : ℕ → X → Type 0) (xs : List X) (y : X)
-    → ((k : ℕ) (x : X) → slice_get xs k ≡ Some x → P k x) → P (length xs) y
-    → (k : ℕ) (x : X) → slice_get (xs ++ y ∷ []) k ≡ Some x → P k x
-holds-push P [] y each last zero x here = subst (P zero) (same_Some _ _ here) last
-holds-push P [] y each last (suc k) x here = absurd (none-some x here)
-holds-push P (z ∷ xs) y each last zero x here = each zero x here
-holds-push P (z ∷ xs) y each last (suc k) x here =
-    holds-push (λ k x. P (suc k) x) xs y (λ k x there. each (suc k) x there) last k x here
+at_front : {X : Type 0} (xs ys : List X) (k : ℕ) → k < length xs → slice_get (xs ++ ys) k ≡ slice_get xs k
+at_front [] ys k less = absurd (omega (arith, less))
+at_front (x ∷ xs) ys zero less = refl
+at_front (x ∷ xs) ys (suc k) less = at_front xs ys k (omega (arith, less))
+
+at_back : {X : Type 0} (xs ys : List X) (k : ℕ) → slice_get (xs ++ ys) (length xs + k) ≡ slice_get ys k
+at_back [] ys k = ap (slice_get ys) (omega arith)
+at_back (x ∷ xs) ys k =
+    let next : length (x ∷ xs) + k ≡ suc (length xs + k) = omega arith in
+    ap (slice_get (x ∷ xs ++ ys)) next ∙ at_back xs ys k
+
+module _ {X : Type 0} {first : ℕ} {P : ℕ → X → Type 0} where
+  -- what holds of each of both parts holds of each of either
+  pub each-front : {xs zs : List X} (ys : List X) → zs ≡ xs ++ ys → EachFrom first P zs → EachFrom first P xs
+  each-front {xs = xs} ys parts all = record {
+    each = λ k x here. all.each k x
+        (ap (λ s. slice_get s k) parts ∙ at_front xs ys k (slice_get_within xs k x here) ∙ here);
+  }
+
+  pub each-back : {next : ℕ} {ys zs : List X} (xs : List X) → zs ≡ xs ++ ys → next ≡ first + length xs
+      → EachFrom first P zs → EachFrom next P ys
+  each-back {ys = ys} xs parts is all = record {
+    each = λ k x here. subst (λ (n : ℕ). P n x) (omega (arith, is))
+        (all.each (length xs + k) x (ap (λ s. slice_get s (length xs + k)) parts ∙ at_back xs ys k ∙ here));
+  }
+
+  -- and the other way round
+  pub each-joined : {next : ℕ} {xs ys : List X} → next ≡ first + length xs → EachFrom first P xs
+      → EachFrom next P ys → EachFrom first P (xs ++ ys)
+  each-joined {xs = xs} {ys = ys} is front back = record {
+    each = λ k x here. ⊎_elim (λ less. front.each k x (sym (at_front xs ys k less) ∙ here)) (λ more.
+        let at : length xs + (k - length xs) ≡ k = omega (arith, more) in
+        subst (λ (n : ℕ). P n x) (omega (arith, is, at)) (back.each (k - length xs) x
+        (sym (at_back xs ys (k - length xs)) ∙ ap (slice_get (xs ++ ys)) at ∙ here)))
+        (cases_lt k (length xs));
+  }
 
 pub each-push : {X : Type 0} {first : ℕ} {P : ℕ → X → Type 0} (xs : List X) (y : X) → EachFrom first P xs
     → P (first + length xs) y → EachFrom first P (xs ++ y ∷ [])
-each-push {first = first} {P = P} xs y all last =
-    record { each = holds-push (λ k x. P (first + k) x) xs y all.each last }
+each-push {P = P} xs y all last = each-joined refl all (record {
+  each = λ k x here.
+      let only : k ≡ 0 = omega (arith, slice_get_within (y ∷ []) k x here) in
+      let same = same_Some _ _ (ap (slice_get (y ∷ [])) (sym only) ∙ here) in
+      subst (λ (n : ℕ). P n x) (omega (arith, only)) (subst (P _) same last);
+})
+
+-- where all of it holds of both parts
+pub ruleset halves = (each-front, each-back, each-joined)

@@ -1,10 +1,11 @@
 -- Sets of a list's nodes: they have room in its frames, and those on which a node joins are such.
 use Rattle.std.proofs.Common.{ℕ, ◌<◌, Bool, true, false, ◌∷◌, [], List, length, subst, sym, arith, ◌≡◌, refl, IfSome}
-use Rattle.std.proofs.Common.{◌&&◌, ◌||◌, ap, ◌∙◌}
+use Rattle.std.proofs.Common.{◌&&◌, ◌∙◌}
 use Rattle.std.specs.Int.{bit_at}
 use Rattle.std.specs.List.{list_all}
 use Rattle.std.specs.Prelude.{◌==◌, nat_lt}
-use Rattle.std.proofs.lemmas.Bool.{and_parts, eqb-true, ltb-true}
+use Rattle.std.proofs.lemmas.Bool.{and_parts, ltb-true}
+use Rattle.std.proofs.lemmas.Bool.Decides.{nat_tests}
 use Rattle.ttp_base.proofs.NodeLists.{filter-below, with_node-nil}
 use Rattle.ttp_base.proofs.NodeSets.{has_node-sieve, same_sieve}
 use Rattle.ttp_base.proofs.SetWords.{HasWord, HasWord-filter, HasWord-only, HasWord-with, HasWord-without}
@@ -92,17 +93,10 @@ candidates-room list a own members sender valid node sends doubt are =
 
 -- A C-state on which a node joins is one of the list.
 
-each_here : (q : ℕ → Bool) (x j : ℕ) (here more : Bool) → (x == j) ≡ here → q x ≡ true → (more ≡ true → q j ≡ true)
-    → (here || more) ≡ true → q j ≡ true
-each_here q x j true more at passes others is = sym (ap q (eqb-true x j at)) ∙ passes
-each_here q x j false more at passes others is = others is
-
 -- what all members pass, each passes
 each_of_all : (q : ℕ → Bool) (s : List ℕ) (j : ℕ) → list_all q s ≡ true → has_node s j ≡ true → q j ≡ true
 each_of_all q [] j all is = cc
-each_of_all q (x ∷ s) j all is =
-    let both = and_parts (q x) (list_all q s) all in
-    each_here q x j (x == j) (has_node s j) refl both.0 (each_of_all q s j both.1) is
+each_of_all q (x ∷ s) j all is = grind (arith, nat_tests, each_of_all q s j)
 
 -- a test that another one implies takes nothing from it
 absorbs : (x y : Bool) → (y ≡ true → x ≡ true) → y ≡ (x && y)

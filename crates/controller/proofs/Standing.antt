@@ -102,11 +102,9 @@ due-kept limit count few = grind (arith, nat_tests)
 
 phase_act-kept : (p : Phase) (list : Medl) (k : ℕ) (on armed : Bool) (past : NodePast) → past.limit ≤ most_silent
     → phase_act p list k on armed (kept past) ≡ phase_act p list k on armed past
-phase_act-kept phase.Off list k on armed past few = refl
-phase_act-kept phase.Left list k on armed past few = refl
 phase_act-kept phase.Listening list k on armed past few =
     ap (λ due. cond (may_start list k && due) Start Listen) (due-kept past.limit past.silent_slots few)
-phase_act-kept phase.Active list k on armed past few = refl
+phase_act-kept _ list k on armed past few = refl
 
 pub act-kept : (list : Medl) (k : ℕ) (on armed : Bool) (past : NodePast) → past.limit ≤ most_silent
     → act list k on armed (kept past) ≡ act list k on armed past

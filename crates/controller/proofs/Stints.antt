@@ -1,6 +1,6 @@
 -- What an entry makes of an active node's past: it stays within the numbers of the list.
-use Rattle.std.proofs.Common.{◌≡◌, ◌≢◌, ℕ, ◌+◌, ◌-◌, ◌*◌, ◌<◌, ◌≤◌, ℤ, pos, Bool, true, false, cond, List, [], ◌++◌}
-use Rattle.std.proofs.Common.{length, take, Option, Some, None, refl, sym, subst, ◌∙◌, ap, arith}
+use Rattle.std.proofs.Common.{◌≡◌, ◌≢◌, ℕ, ◌+◌, ◌*◌, ◌<◌, ◌≤◌, ℤ, pos, Bool, true, false, cond, List, []}
+use Rattle.std.proofs.Common.{◌∷◌, ◌++◌, length, take, Option, Some, None, refl, sym, subst, ◌∙◌, ap, arith}
 use Rattle.std.specs.List.{filter}
 use Rattle.std.specs.Option.{option_to_list}
 use Rattle.std.specs.Prelude.{All, IfSome}
@@ -22,7 +22,7 @@ use Rattle.ttp_world.specs.Acknowledgement.{is_correct}
 use Rattle.ttp_world.specs.After.{ack_answered, past_after, members_after, correction_after}
 use Rattle.ttp_world.specs.Clock.{is_corrected}
 use Rattle.ttp_world.specs.Counts.{is_rejection}
-use Rattle.ttp_world.specs.Diary.{Place, start_place, joined_place, next_place, Diary, SlotSurroundings, phase_after}
+use Rattle.ttp_world.specs.Diary.{Place, next_place, Diary, SlotSurroundings, phase_after}
 use Rattle.ttp_world.specs.Medl.{IsValid, plan_at}
 use Rattle.ttp_world.specs.Membership.{AreNodes}
 use Rattle.ttp_world.specs.Past.{NodePast, limit_of}
@@ -62,9 +62,8 @@ AreNodes-nil list = sym (filter-none (has_node []) 0 (length list.slots) (λ j _
 -- a doubt stays one about a node that had its slot
 IsAckWithin-later : (list : Medl) (k slot later : ℕ) (a : Ack) → slots_to_own list k later ≤ slots_to_own list k slot
     → IsAckWithin list k slot a → IsAckWithin list k later a
-IsAckWithin-later list k slot later ack.Closed less within = tt
-IsAckWithin-later list k slot later ack.First less within = tt
 IsAckWithin-later list k slot later (ack.Doubt x) less within = (within.0, omega (arith, less, within.1))
+IsAckWithin-later list k slot later _ less within = tt
 
 -- the sender that is judged is that of the slot
 ack_answered-within : (list : Medl) (k slot : ℕ) (a : Ack) (v : Verdict) → slot < length list.slots
@@ -105,13 +104,8 @@ noted_near : (list : Medl) (slot : ℕ) (begins : Bool) (noted : Option ℤ) (no
     → AreFewNear list (take kept_notes
     (cond (plan_at list slot).sync (option_to_list noted) [] ++ cond begins [] notes))
 noted_near list slot begins noted notes here before =
-    let sync = (plan_at list slot).sync in
-    let new = cond sync (option_to_list noted) [] ++ cond begins [] notes in
-    record {
-      few = omega (arith, length-take 4 new);
-      near = All-take (IsNearEnough list) kept_notes new
-          (All-noted (IsNearEnough list) sync begins noted notes here before);
-    }
+    let all = All-noted (IsNearEnough list) (plan_at list slot).sync begins noted notes here before in
+    record { few = omega (arith, length-take {A = ℤ}); near = All-take (IsNearEnough list) kept_notes _ all }
 
 -- One more entry.
 
@@ -119,31 +113,10 @@ one_more : (b : Bool) (count : ℕ) → cond b 1 0 + count ≤ count + 1
 one_more true count = omega arith
 one_more false count = omega arith
 
--- a node that is not active
-pub idle : (list : Medl) (k : ℕ) (past : NodePast) → IsValid list → k < length list.slots
-    → past.phase ≡ phase_after past.entry → past.place.round ≡ 0 → past.place.slot ≡ 0
-    → past.members ≡ [] → past.accepted ≡ 0 → past.rejected ≡ 0 → past.ack ≡ ack.Closed
-    → past.limit ≤ 3 * length list.slots → past.notes ≡ []
-    → IsWithin list k past
-idle list k past valid node phase round slot members accepted rejected acked limit notes =
-    let own = to_own-round list k past.place.slot node in
-    record {
-      phase = phase;
-      round = omega (arith, round, valid.rounds);
-      slot = omega (arith, slot);
-      members = subst (AreNodes list) (sym members) (AreNodes-nil list);
-      accepted = omega (arith, own, accepted);
-      rejected = omega (arith, own, rejected);
-      ack = subst (IsAckWithin list k past.place.slot) (sym acked) tt;
-      limit = limit;
-      few = omega (arith, ap length notes);
-      notes = subst (All (IsNearEnough list)) (sym notes) (All-nil (IsNearEnough list));
-    }
-
--- an active node that has just sent or joined: its counts begin anew
+-- a node that has accepted no frame but its own newest one, and rejected none
 begun : (list : Medl) (k : ℕ) (past : NodePast) → k < length list.slots → past.phase ≡ phase_after past.entry
     → IsPlaceOf list past.place
-    → AreNodes list past.members → past.accepted ≡ 1 → past.rejected ≡ 0 → IsAckWithin list k past.place.slot past.ack
+    → AreNodes list past.members → past.accepted ≤ 1 → past.rejected ≡ 0 → IsAckWithin list k past.place.slot past.ack
     → past.limit ≤ 3 * length list.slots
     → AreFewNear list past.notes → IsWithin list k past
 begun list k past node phase place members accepted rejected acked limit notes =
@@ -161,53 +134,60 @@ begun list k past node phase place members accepted rejected acked limit notes =
       notes = notes.near;
     }
 
--- with one more entry, a node's past stays within what it can keep of it
-pub kept_after-within : (list : Medl) (k : ℕ) (past : NodePast) (e : Entry) (s : SlotSurroundings) → IsValid list
-    → k < length list.slots
-    → IsWithin list k past → IsEntryWithin list k past e → IsWithin list k (kept (past_after list k past e s))
-kept_after-within list k past entry.Off s valid node within next =
-    idle list k _ valid node refl refl refl refl refl refl refl within.limit refl
-kept_after-within list k past entry.Waited s valid node within next =
-    idle list k _ valid node refl refl refl refl refl refl refl within.limit refl
-kept_after-within list k past entry.Retried s valid node within next =
-    idle list k _ valid node refl refl refl refl refl refl refl (omega arith) refl
-kept_after-within list k past entry.Gone s valid node within next =
-    idle list k _ valid node refl refl refl refl refl refl refl (omega arith) refl
-kept_after-within list k past (entry.Left why peer) s valid node within next =
-    idle list k _ valid node refl refl refl refl refl refl refl (omega arith) refl
-kept_after-within list k past entry.Started s valid node within next =
-    let first : IsPlaceOf list (start_place k) = record { round = omega (arith, valid.rounds); slot = node } in
-    begun list k _ node refl first (AreNodes-filter list _) refl refl tt within.limit
-    (noted_near list k _ (Some (pos 0)) past.notes (zero_near list valid) within.notes)
-kept_after-within list k past (entry.Joined sender cstate deviation) s valid node within next =
-    let first : IsPlaceOf list (joined_place cstate) = record { round = next.0.round; slot = next.0.slot } in
-    begun list k _ node refl first (AreNodes-filter list _) refl refl tt within.limit
-    (noted_near list cstate.slot _ (Some (pos 0)) past.notes (zero_near list valid) within.notes)
-kept_after-within list k past (entry.Sent message) s valid node within next =
-    let place = next_place list past.place in
-    begun list k _ node refl (IsPlaceOf-next list past.place valid within.round within.slot) (AreNodes-filter list _)
-    refl refl tt within.limit
-    (noted_near list place.slot _ (Some (pos 0)) past.notes (zero_near list valid) within.notes)
-kept_after-within list k past (entry.Judged sender v deviation) s valid node within next =
-    let place = next_place list past.place in
-    let exists = IsPlaceOf-next list past.place valid within.round within.slot in
-    let own = nearer list k past.place within.slot node (λ same. next.another (next.coming ∙ same)) in
-    let later = IsAckWithin-later list k past.place.slot place.slot past.ack (omega (arith, own)) within.ack in
-    let notes = noted_near list place.slot _ _ past.notes
-    (IfSome-cond (IsNearEnough list) (is_correct v) deviation next.near) within.notes in
-    record {
-      phase = refl;
-      round = exists.round;
-      slot = exists.slot;
-      members = AreNodes-filter list _;
-      accepted = omega (arith, own, within.accepted, one_more (is_correct v) past.accepted);
-      rejected = omega (arith, own, within.rejected, one_more (is_rejection past.ack v) past.rejected);
-      ack = subst (λ (x : ℕ). IsAckWithin list k place.slot (ack_answered past.ack v x)) (sym next.coming)
-          (ack_answered-within list k place.slot past.ack v exists.slot later);
-      limit = within.limit;
-      few = notes.few;
-      notes = notes.near;
-    }
+-- a node that is not active
+pub idle : (list : Medl) (k : ℕ) (past : NodePast) → IsValid list → k < length list.slots
+    → past.phase ≡ phase_after past.entry → past.place.round ≡ 0 → past.place.slot ≡ 0
+    → past.members ≡ [] → past.accepted ≡ 0 → past.rejected ≡ 0 → past.ack ≡ ack.Closed
+    → past.limit ≤ 3 * length list.slots → past.notes ≡ []
+    → IsWithin list k past
+idle list k past valid node phase round slot members accepted rejected acked limit notes =
+    begun list k past node phase
+    (record { round = omega (arith, round, valid.rounds); slot = omega (arith, slot, node) })
+    (subst (AreNodes list) (sym members) (AreNodes-nil list)) (omega (arith, accepted)) rejected
+    (subst (IsAckWithin list k past.place.slot) (sym acked) tt) limit
+    (subst (AreFewNear list) (sym notes) (record { few = omega arith; near = All-nil (IsNearEnough list) }))
+
+-- With one more entry, a node's past stays within what it can keep of it.
+module _ (list : Medl) (k : ℕ) (past : NodePast) (valid : IsValid list) (node : k < length list.slots)
+    (within : IsWithin list k past) where
+  -- what a node that sends, starts or joins notes of its own slot
+  noted_itself : (slot : ℕ) (begins : Bool) → AreFewNear list
+      (take kept_notes (cond (plan_at list slot).sync (pos 0 ∷ []) [] ++ cond begins [] past.notes))
+  noted_itself slot begins = noted_near list slot begins (Some (pos 0)) past.notes (zero_near list valid) within.notes
+
+  pub kept_after-within : (e : Entry) (s : SlotSurroundings) → IsEntryWithin list k past e
+      → IsWithin list k (kept (past_after list k past e s))
+  kept_after-within entry.Started s next =
+      begun list k _ node refl (record { round = omega (arith, valid.rounds); slot = node }) (AreNodes-filter list _)
+      (omega arith) refl tt within.limit (noted_itself k _)
+  kept_after-within (entry.Joined sender cstate deviation) s next =
+      begun list k _ node refl (record { round = next.0.round; slot = next.0.slot }) (AreNodes-filter list _)
+      (omega arith) refl tt within.limit (noted_itself cstate.slot _)
+  kept_after-within (entry.Sent message) s next =
+      begun list k _ node refl (IsPlaceOf-next list past.place valid within.round within.slot)
+      (AreNodes-filter list _) (omega arith) refl tt within.limit (noted_itself (next_place list past.place).slot _)
+  kept_after-within (entry.Judged sender v deviation) s next =
+      let place = next_place list past.place in
+      let exists = IsPlaceOf-next list past.place valid within.round within.slot in
+      let own = nearer list k past.place within.slot node (λ same. next.another (next.coming ∙ same)) in
+      let later = IsAckWithin-later list k past.place.slot place.slot past.ack (omega (arith, own)) within.ack in
+      let notes = noted_near list place.slot _ _ past.notes
+      (IfSome-cond (IsNearEnough list) (is_correct v) deviation next.near) within.notes in
+      record {
+        phase = refl;
+        round = exists.round;
+        slot = exists.slot;
+        members = AreNodes-filter list _;
+        accepted = omega (arith, own, within.accepted, one_more (is_correct v) past.accepted);
+        rejected = omega (arith, own, within.rejected, one_more (is_rejection past.ack v) past.rejected);
+        ack = subst (λ (x : ℕ). IsAckWithin list k place.slot (ack_answered past.ack v x)) (sym next.coming)
+            (ack_answered-within list k place.slot past.ack v exists.slot later);
+        limit = within.limit;
+        few = notes.few;
+        notes = notes.near;
+      }
+  kept_after-within _ s next =
+      idle list k _ valid node refl refl refl refl refl refl refl (omega (arith, within.limit)) refl
 
 -- the limit that is read of any diary of node k
 pub limit_of-within : (list : Medl) (k : ℕ) (diary : Diary) → k < length list.slots
@@ -219,10 +199,9 @@ limit_of-within list k diary node = grind (arith, nat_tests)
 doubt_of_another : (list : Medl) (k : ℕ) (place : Place) (a : Ack) → place.slot < length list.slots
     → k < length list.slots → (next_place list place).slot ≢ k
     → IsAckWithin list k place.slot a → IsDoubtElsewhere a (next_place list place).slot
-doubt_of_another list k place ack.Closed slot node another within = tt
-doubt_of_another list k place ack.First slot node another within = tt
 doubt_of_another list k place (ack.Doubt x) slot node another within =
     λ same. omega (arith, within.1, nearer list k place slot node another, ap (slots_to_own list k) same)
+doubt_of_another list k place _ slot node another within = tt
 
 -- the move of a judgement leads to the members after it
 pub moved_members-after : (list : Medl) (k : ℕ) (past : NodePast) (sender : ℕ) (v : Verdict) (deviation : ℤ)

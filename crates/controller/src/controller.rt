@@ -9,7 +9,6 @@ ghost use Rattle.controller.specs.StandsFor.{StandsFor, IsSameSeat, Begins, Plan
 ghost use Rattle.controller.specs.Turn.{Ended};
 
 use crate::ending::ending_of;
-use crate::given_list::GivenList;
 use crate::hearing::Reading;
 use crate::node::{Node, Outside};
 use crate::sending::{frame_of, intent_of, message_of};
@@ -18,6 +17,7 @@ use crate::turn::Turn;
 use medium::{Arrival, Outgoing};
 use std::alloc::Global;
 use std::marker::Model;
+use std::snapshot::Snapshot;
 use ttp_base::Memory;
 use ttp_world::{Act, Delivered, LastLookUp, Medl, NodeState, StatusWords};
 
@@ -66,7 +66,8 @@ fn are_silent(a: &Arrival, b: &Arrival) -> bool
 /// call is handed the one that the controller was made with.
 #[derive(Drop)]
 pub struct Controller {
-    given: GivenList,
+    // The list that it was made with. Proofs alone read it, and it takes no bytes.
+    given: Snapshot<Medl>,
     number: u8,
     node: Node,
     slots: u64,
@@ -84,14 +85,14 @@ impl Model for Controller {
     ghost Value = { Seat };
 
     ghost view = { λ c. record {
-      list = c.given.list;
+      list = c.given.value;
       node = c.number;
       past = c.node;
       slots = c.slots;
       turn = c.turn;
     } };
 
-    ghost invariant = { λ c. IsSeatWithin c.given.list c.number c.node c.turn c.intent };
+    ghost invariant = { λ c. IsSeatWithin c.given.value c.number c.node c.turn c.intent };
 }
 
 impl Controller {
@@ -106,7 +107,7 @@ impl Controller {
         ensures stands { IfOk result (λ c. StandsFor c [] []) }
     {
         Ok(Controller {
-            given: GivenList::of(list),
+            given: Snapshot::of(list),
             number: node,
             node: Node::new(list, node),
             slots: 0,

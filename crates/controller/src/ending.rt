@@ -5,7 +5,9 @@ ghost use Rattle.controller.specs.Ending.{EndsAs};
 ghost use Rattle.controller.specs.Hearing.{ReadingFits};
 ghost use Rattle.controller.specs.Within.{IsWithin};
 
-use crate::hearing::{Reading, deliver, judged_entry, judging, listening_entry, receiver_of};
+use crate::hearing::{
+    Reading, deliver, judged_entry, judging, listening_entry, receiver_of, take_away,
+};
 use crate::node::Node;
 use medium::Arrival;
 use ttp_world::{Act, Delivered, Entry, Medl};
@@ -56,7 +58,7 @@ pub(crate) fn ending_of(
     ensures { EndsAs result delivered.new list.now k node.now act message a.now b.now
         reading.now.own reading.now.error }
 {
-    *delivered = None;
+    take_away(delivered);
     match act {
         Act::Off => Entry::Off,
         Act::Gone => Entry::Gone,

@@ -373,6 +373,16 @@ fn payload_heard(list: &Medl, place: &SlotClock, came: &Arrival) -> Payload
     }
 }
 
+/// Takes away what a slot left for a host. A payload is large, so where nothing was left, nothing is
+/// written.
+pub(crate) fn take_away(delivered: &mut Option<Delivered>)
+    ensures { delivered.new ≡ None }
+{
+    if delivered.is_some() {
+        *delivered = None;
+    }
+}
+
 /// What a receiver hands to its host: the payload of a correct frame, if it carries payload, from
 /// channel A where A's frame was of the first candidate, and else from B. It is written in place.
 pub(crate) fn deliver(
@@ -391,7 +401,7 @@ pub(crate) fn deliver(
         → delivered.new ≡ delivery list.now k past h (judging_entry list.now k past h)) }
 {
     if judgement.verdict != Verdict::Correct || form_of(list, coming).payload == 0 {
-        *delivered = None;
+        take_away(delivered);
         return;
     }
     let payload = if judgement.from_a {

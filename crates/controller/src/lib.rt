@@ -19,7 +19,6 @@
 mod controller;
 mod ending;
 mod form;
-mod given_list;
 mod hearing;
 mod node;
 mod passes;
@@ -30,5 +29,5 @@ mod turn;
 
 pub use controller::{Controller, Intent, Outcome};
 pub use passes::{begin_all, is_loaded, plan_all, take_all};
-pub use plant::Plant;
+pub use plant::{Plant, controllers_of, first_outcomes, incidents_of};
 pub use status::StatusFlags;

@@ -29,27 +29,27 @@ use crate::controller::{Controller, Intent, Outcome};
 use medium::{Medium, Outgoing};
 use ttp_world::{Channel, Chosen, Incidents, Medl, Script};
 
-// A controller begins the slot. What happens to its node in it is the answer.
+// A controller begins the slot. What happens to its node in it is written in place.
 fn begin_one(
     controller: &mut Controller,
+    incidents: &mut Incidents,
     list: &Medl,
     script: &Script,
     k: u8,
     slot: u32,
-) -> Incidents
+)
     requires node { k < length list.now.slots }
     requires on { length script.now.on ≡ length list.now.slots }
     requires slot { slot ≤ SLOT_LIMIT }
     requires seat { IsSeatOf list.now IsEnded (most_ahead slot) k controller.old }
-    ensures incidents { IsIncidentsOf script.now slot k result }
+    ensures incidents { IsIncidentsOf script.now slot k incidents.new }
     ensures seat { IsSeatOf list.now IsBegun (most_ahead_in slot) k controller.new }
     ensures begins { BeginsSlot list.now script.now slot k controller.old controller.new }
 {
     let mut last = controller.last_look_up();
-    let incidents = script.incidents_after(k, slot, &mut last);
+    *incidents = script.incidents_after(k, slot, &mut last);
     controller.begin(list, script.is_on(k, slot), incidents.armed, incidents.jump);
     controller.keep_look_up(last);
-    incidents
 }
 
 /// The first pass, over the controllers of the nodes from `first` on: each begins the slot. What
@@ -79,7 +79,14 @@ pub fn begin_all(
         → HaveBegun (slot_after list.now script.now history) first controllers.new }
 {
     for j in 0..controllers.len() {
-        incidents[j] = begin_one(&mut controllers[j], list, script, first + j as u8, slot);
+        begin_one(
+            &mut controllers[j],
+            &mut incidents[j],
+            list,
+            script,
+            first + j as u8,
+            slot,
+        );
     }
 }
 

@@ -51,8 +51,8 @@ impl Model for Plant {
     ghost invariant = { λ p. IsPlantWithin p.list p.slot p.controllers.items p.incidents.items p.outcomes.items };
 }
 
-// The controllers of a list's nodes.
-fn controllers_of(alloc: Global, list: &Medl) -> Result<Vec<Controller>, Memory>
+/// The controllers of a list's nodes, before the first slot.
+pub fn controllers_of(alloc: Global, list: &Medl) -> Result<Vec<Controller>, Memory>
     requires { IsValid list.now }
     ensures count { IfOk result (λ controllers. length controllers.items ≡ length list.now.slots) }
     ensures seats { IfOk result (λ controllers. AreSeats list.now IsEnded (most_ahead 0) 0 controllers.items) }
@@ -65,8 +65,8 @@ fn controllers_of(alloc: Global, list: &Medl) -> Result<Vec<Controller>, Memory>
     Ok(controllers.into_vec())
 }
 
-// What is left for the hosts of a list's nodes before the first slot.
-fn first_outcomes(alloc: Global, list: &Medl) -> Result<Vec<Outcome>, Memory>
+/// What is left for the hosts of a list's nodes before the first slot: a place for each node.
+pub fn first_outcomes(alloc: Global, list: &Medl) -> Result<Vec<Outcome>, Memory>
     requires { IsValid list.now }
     ensures { IfOk result (λ outcomes. outcomes.items ≡ no_outcomes list.now) }
 {
@@ -80,8 +80,8 @@ fn first_outcomes(alloc: Global, list: &Medl) -> Result<Vec<Outcome>, Memory>
     Ok(outcomes.into_vec())
 }
 
-// A place for what happens to each of a list's nodes in a slot.
-fn incidents_of(alloc: Global, list: &Medl) -> Result<Vec<Incidents>, Memory>
+/// A place for what happens to each of a list's nodes in a slot.
+pub fn incidents_of(alloc: Global, list: &Medl) -> Result<Vec<Incidents>, Memory>
     requires { IsValid list.now }
     ensures { IfOk result (λ incidents. length incidents.items ≡ length list.now.slots) }
 {

@@ -1,6 +1,5 @@
 //! The status that a controller publishes after each slot.
 ghost use Rattle.std.specs.Prelude.{◌≡◌, ◌<◌};
-ghost use Rattle.std.specs.Int.RustNames.{bit_or};
 ghost use Rattle.ttp_base.specs.NodeSet.{set_bits};
 ghost use Rattle.ttp_world.specs.Acknowledgement.{is_doubt};
 ghost use Rattle.ttp_world.specs.Diary.{is_active_phase};
@@ -57,15 +56,11 @@ impl Flags for StatusFlags {
     }
 }
 
-// These flags, and one more where it stands.
-fn with(flags: StatusFlags, one: StatusFlags, stands: bool) -> StatusFlags
-    ensures { result.0 ≡ bit_or flags.0 (flag one.0 stands) }
+// The bit of a flag, where the flag stands.
+fn bit(of: StatusFlags, stands: bool) -> u64
+    ensures { result ≡ flag of.0 stands }
 {
-    let mut flags = flags;
-    if stands {
-        flags.insert(one);
-    }
-    flags
+    if stands { of.0 } else { 0 }
 }
 
 fn is_active(phase: Phase) -> bool
@@ -106,19 +101,16 @@ fn flags_of(list: &Medl, node: &Node, delivers: bool) -> StatusFlags
     ensures { result.0 ≡ flags_of list.now node.now delivers }
 {
     let state = node.state();
-    let flags = StatusFlags(0);
-    let flags = with(flags, StatusFlags::ACTIVE, is_active(state.phase));
-    let flags = with(flags, StatusFlags::LISTENING, is_listening(state.phase));
-    let flags = with(flags, StatusFlags::LEFT, is_left(state.phase));
-    let flags = with(flags, StatusFlags::SENT, is_sending(state.entry));
-    let flags = with(flags, StatusFlags::DELIVERED, delivers);
-    let flags = with(
-        flags,
-        StatusFlags::ACK_OPEN,
-        node.acknowledgement().is_open(),
-    );
-    let flags = with(flags, StatusFlags::DOUBT, is_doubt(state.ack));
-    with(flags, StatusFlags::CORRECTED, node.has_averaged(list))
+    StatusFlags(
+        bit(StatusFlags::ACTIVE, is_active(state.phase))
+            + bit(StatusFlags::LISTENING, is_listening(state.phase))
+            + bit(StatusFlags::LEFT, is_left(state.phase))
+            + bit(StatusFlags::SENT, is_sending(state.entry))
+            + bit(StatusFlags::DELIVERED, delivers)
+            + bit(StatusFlags::ACK_OPEN, node.acknowledgement().is_open())
+            + bit(StatusFlags::DOUBT, is_doubt(state.ack))
+            + bit(StatusFlags::CORRECTED, node.has_averaged(list)),
+    )
 }
 
 // A C-state as a number: its bytes, the most significant first.

@@ -18,18 +18,6 @@ Keeps-join (Some xs) None c p q = absurd p
 Keeps-join (Some xs) (Some ys) None p q = absurd q
 Keeps-join (Some xs) (Some ys) (Some zs) p q = q ∙ p
 
-pub Keeps-Appends : (a b c : Option (List ℕ)) (x : List ℕ) → Keeps a b → Appends b c x → Appends a c x
-Keeps-Appends None b c x p q = tt
-Keeps-Appends (Some xs) None c x p q = absurd p
-Keeps-Appends (Some xs) (Some ys) None x p q = absurd q
-Keeps-Appends (Some xs) (Some ys) (Some zs) x p q = q ∙ ap (λ (l : List ℕ). l ++ x) p
-
-pub Appends-Keeps : (a b c : Option (List ℕ)) (x : List ℕ) → Appends a b x → Keeps b c → Appends a c x
-Appends-Keeps None b c x p q = tt
-Appends-Keeps (Some xs) None c x p q = absurd p
-Appends-Keeps (Some xs) (Some ys) None x p q = absurd q
-Appends-Keeps (Some xs) (Some ys) (Some zs) x p q = q ∙ p
-
 pub Keeps-Consumes : (a b c : Option (List ℕ)) (x : List ℕ) → Keeps a b → Consumes b c x → Consumes a c x
 Keeps-Consumes None b c x p q = tt
 Keeps-Consumes (Some xs) None c x p q = absurd p
@@ -64,6 +52,7 @@ front_of_rest a b c piece done n before more =
     subst (λ (t : List ℕ). Appends a c t) (sym (take-add done n piece))
     (Appends-join a b c (take done piece) (take n (drop done piece)) before more)
 
-pub nothing_more : (a b c : Option (List ℕ)) (piece : List ℕ) (done : ℕ)
-    → Appends a b (take done piece) → Keeps b c → AppendsFront a c piece
-nothing_more a b c piece done before kept = (done, Appends-Keeps a b c (take done piece) before kept)
+-- the first bytes of a piece were written, and then some first ones of its rest, or none
+pub front_after : (a b c : Option (List ℕ)) (piece : List ℕ) (done : ℕ)
+    → Appends a b (take done piece) → AppendsFront b c (drop done piece) → AppendsFront a c piece
+front_after a b c piece done before more = (done + more.0, front_of_rest a b c piece done more.0 before more.1)

@@ -34,21 +34,52 @@ fn write_some<W: Write>(writer: &mut W, piece: &[u8]) -> Result<usize, Failed>
     Err(Failed)
 }
 
-/// Writes a whole piece. A write that takes nothing of what is left is a failure, after which some first
-/// bytes of the piece were written, or none.
-pub(crate) fn write_whole<W: Write>(writer: &mut W, piece: &[u8]) -> Result<(), Failed>
-    ensures ok { OnOk result (Appends (W.contents writer.old) (W.contents writer.new) piece.now) }
-    ensures front { OnErr result (AppendsFront (W.contents writer.old) (W.contents writer.new) piece.now) }
+// Writes what is left of a piece, a write after another. It stands apart, so that the first write of a
+// piece is inlined.
+#[cold]
+#[inline(never)]
+fn write_rest<W: Write>(writer: &mut W, rest: &[u8]) -> Result<(), Failed>
+    ensures ok { OnOk result (Appends (W.contents writer.old) (W.contents writer.new) rest.now) }
+    ensures front { OnErr result (AppendsFront (W.contents writer.old) (W.contents writer.new) rest.now) }
 {
     let mut done = 0;
-    while done < piece.len() {
-        let count = write_some(writer, &piece[done..])?;
+    while done < rest.len() {
+        let count = write_some(writer, &rest[done..])?;
         if count == 0 {
             return Err(Failed);
         }
         done += count;
     }
     Ok(())
+}
+
+// Goes on with a piece after a first write that failed.
+#[cold]
+#[inline(never)]
+fn write_after<W: Write>(writer: &mut W, piece: &[u8], error: io::Error) -> Result<(), Failed>
+    ensures ok { OnOk result (Appends (W.contents writer.old) (W.contents writer.new) piece.now) }
+    ensures front { OnErr result (AppendsFront (W.contents writer.old) (W.contents writer.new) piece.now) }
+{
+    if error.kind() == ErrorKind::Interrupted {
+        write_rest(writer, piece)
+    } else {
+        Err(Failed)
+    }
+}
+
+/// Writes a whole piece. A write that takes nothing of what is left is a failure, after which some first
+/// bytes of the piece were written, or none. A buffer mostly takes the piece by its first write.
+#[inline]
+pub(crate) fn write_whole<W: Write>(writer: &mut W, piece: &[u8]) -> Result<(), Failed>
+    ensures ok { OnOk result (Appends (W.contents writer.old) (W.contents writer.new) piece.now) }
+    ensures front { OnErr result (AppendsFront (W.contents writer.old) (W.contents writer.new) piece.now) }
+{
+    match writer.write(piece) {
+        Ok(count) if count == piece.len() => Ok(()),
+        Ok(0) => Err(Failed),
+        Ok(count) => write_rest(writer, &piece[count..]),
+        Err(error) => write_after(writer, piece, error),
+    }
 }
 
 // One read, tried again where a signal interrupts it. It answers how many bytes were given.

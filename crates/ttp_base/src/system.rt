@@ -76,7 +76,8 @@ fn front_of<R: Read + Drop>(
     count: usize,
 ) -> Result<Vec<u8>, LoadError>
     ensures within { IfOk result (λ bytes. vec_len bytes ≤ count) }
-    ensures front { IfOk opened (λ r. IfOk result (λ bytes. IfSome (R.remaining r) (λ all. bytes.items ≡ take count all))) }
+    ensures front { IfOk opened (λ r. IfOk result (λ bytes. IfSome (R.remaining r)
+        (λ all. bytes.items ≡ take count all))) }
     ensures failed { OnErr opened (IsErr result) }
     ensures cause { IfErr opened (λ e. IfErr result (λ cause. (cause ≡ LoadError.Memory)
         ↔ (error_kind e ≡ ErrorKind.OutOfMemory))) }

@@ -1,12 +1,17 @@
 //! A cold start of four nodes, worked out by hand.
-ghost use Rattle.std.specs.Prelude.{◌≡◌, [], All, Some, length, pos, replicate, IfOk};
+ghost use Rattle.std.specs.Prelude.{◌≡◌, ◌<◌, ◌≤◌, ◌+◌, [], All, Some, length, pos, replicate, IfOk};
+ghost use Rattle.ttp_world.specs.Script.{IsValidScript};
+ghost use Rattle.controller.specs.PlantStands.{MayStep, Steps};
 
+mod parts;
+
+use self::parts::slot_in_parts;
 use crate::node::tests::four_nodes;
 use crate::{Controller, Plant, is_loaded};
 use std::alloc::Global;
 use std::test::Fail;
 use ttp_base::{List, Memory};
-use ttp_world::{Ack, Chosen, Entry, Events, Payload, Phase, Script, Verdict};
+use ttp_world::{Ack, Chosen, Entry, Events, Medl, Payload, Phase, Script, Verdict};
 
 // All four nodes are switched on in the first slot, and nothing else happens.
 fn quiet_script(alloc: Global) -> Result<Script, Memory>
@@ -49,22 +54,65 @@ fn nothing_for_all() -> [Chosen; 4]
     [nothing(), nothing(), nothing(), nothing()]
 }
 
-#[test]
-fn a_cluster_starts(rt: HostRuntime) -> Result<(), Fail> {
-    let alloc = rt.alloc();
+// A slot that is taken by the nodes before a cut and the others, or whole.
+fn slot_by(
+    plant: &mut Plant,
+    list: &Medl,
+    script: &Script,
+    chosen: &[Chosen],
+    in_parts: bool,
+    cut: u8,
+)
+    requires list { list.now ≡ plant.old.list }
+    requires script { IsValidScript list.now script.now }
+    requires cut { cut ≤ length list.now.slots }
+    requires slot { plant.old.slot < script.now.slots }
+    requires count { length chosen.now ≡ length list.now.slots }
+    requires chosen { MayStep plant.old script.now chosen.now }
+    ensures list { plant.new.list ≡ plant.old.list }
+    ensures slot { plant.new.slot ≡ plant.old.slot + 1 }
+    ensures steps { Steps plant.old plant.new script.now chosen.now }
+{
+    if in_parts {
+        slot_in_parts(plant, list, script, chosen, cut);
+    } else {
+        plant.slot(list, script, chosen);
+    }
+}
+
+// The cluster after so many slots, in which it is taken by each cut in turn or always whole.
+fn after(alloc: Global, slots: u32, in_parts: bool) -> Result<Plant, Memory>
+    requires { slots ≤ 12 }
+    ensures { IfOk result (λ plant. length plant.list.slots ≡ 4) }
+{
     let list = four_nodes(alloc)?;
     let script = quiet_script(alloc)?;
     let chosen = nothing_for_all();
     let mut plant = Plant::new(alloc, &list)?;
+    for slot in 0..slots {
+        let cut = (slot % 5) as u8;
+        slot_by(&mut plant, &list, &script, &chosen, in_parts, cut);
+    }
+    Ok(plant)
+}
+
+#[test]
+fn a_cluster_starts(rt: HostRuntime) -> Result<(), Fail> {
+    let alloc = rt.alloc();
+    let list = four_nodes(alloc)?;
+    let plant = Plant::new(alloc, &list)?;
     assert!(rt; plant.node(0).phase == Phase::Off);
     assert!(rt; !is_loaded(&Controller::new(alloc, &list, 0)?));
     assert!(rt; plant.delivered(1).is_none());
     assert!(rt; plant.status(3).words == [0, 0, 0, 0]);
     // Node 0 waits for two rounds, then starts, and node 1 sends the first frame after it.
-    for slot in 0..10u32 {
-        plant.slot(&list, &script, &chosen);
-        assert!(rt; plant.node(2).offset == 0, "in slot {slot}");
+    for slots in 1..10u32 {
+        assert!(rt;
+            after(alloc, slots, false)?.node(2).offset == 0,
+            "in slot {slots}"
+        );
     }
+    let plant = after(alloc, 10, false)?;
     let first = plant.node(0);
     assert!(rt;
         first.entry
@@ -79,5 +127,24 @@ fn a_cluster_starts(rt: HostRuntime) -> Result<(), Fail> {
     assert!(rt; plant.delivered(0).is_none());
     assert!(rt; plant.status(0).words == [9, 1, 0x0001_0001_0003, 512]);
     assert!(rt; plant.status(1).words == [9, 41, 0x0001_0001_0003, 256]);
+    Ok(())
+}
+
+#[test]
+fn a_slot_is_taken_in_parts(rt: HostRuntime) -> Result<(), Fail> {
+    let alloc = rt.alloc();
+    for slots in 0..13u32 {
+        let (whole, parts) = (after(alloc, slots, false)?, after(alloc, slots, true)?);
+        for k in 0..4 {
+            assert!(rt;
+                whole.node(k) == parts.node(k),
+                "after {slots} slots, node {k}"
+            );
+            assert!(rt;
+                whole.status(k) == parts.status(k),
+                "after {slots} slots, node {k}"
+            );
+        }
+    }
     Ok(())
 }

@@ -1,11 +1,11 @@
-use Rattle.std.proofs.Common.{refl, sym}
+use Rattle.std.proofs.Common.{refl, sym, ◌∙◌}
 use Rattle.controller.proofs.Heard.{listening-none}
 use Rattle.controller.proofs.ending.ending_of.Goals as goal
 
 pub returns-in-Listen : goal.returns-in-Listen
 returns-in-Listen c = rw c.in-Listen.is (λ chosen is sent_a sent_b clock shows_a shows_b. record {
   entry = c.listening_entry.ensures sent_a sent_b clock shows_a shows_b;
-  delivered = sym (listening-none c.args.list.now c.args.k c.args.node.now _);
+  delivered = c.take_away.ensures ∙ sym (listening-none c.args.list.now c.args.k c.args.node.now _);
 })
 
 pub returns-in-Judge : goal.returns-in-Judge

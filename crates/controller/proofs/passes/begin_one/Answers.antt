@@ -1,5 +1,4 @@
 use Rattle.std.proofs.Common.{sym, ◌∙◌, ap}
-use Rattle.ttp_world.specs.declared.events.Incidents.{Incidents}
 use Rattle.ttp_world.specs.Script.{is_on, is_armed, jump_of}
 use Rattle.controller.proofs.InSlot.{begun-node}
 use Rattle.controller.proofs.Near.{jump_same, jump_fits, begun-seat}
@@ -7,21 +6,21 @@ use Rattle.controller.proofs.passes.begin_one.Goals as goal
 
 pub begin-requires-clause-clock : goal.begin-requires-clause-clock
 begin-requires-clause-clock c =
-    jump_fits c.args.slot c.requires.slot c.requires.seat c.incidents_after-incidents.ensures.bounds
+    jump_fits c.args.slot c.requires.seat c.incidents_after.ensures.bounds c.requires.slot
 
 pub returns-clause-seat : goal.returns-clause-seat
 returns-clause-seat c =
     let begun = c.begin.ensures in
     rw c.keep_look_up.ensures
-    (begun-seat c.args.slot c.requires.seat c.incidents_after-incidents.ensures.bounds begun.same begun.clock begun.turn)
+    (begun-seat c.args.slot c.requires.seat c.incidents_after.ensures.bounds begun.same begun.clock begun.turn)
 
 pub returns-clause-begins : goal.returns-clause-begins
 returns-clause-begins c history long stands =
     let script = c.args.script.now in
     let k = c.args.k in
-    let happens = c.incidents_after-incidents.ensures in
+    let happens = c.incidents_after.ensures in
     rw c.keep_look_up.ensures
     (begun-node c.args.list.now script history k c.requires.node (c.is_on.ensures ∙ ap (is_on script k) (sym long))
-    (ap (λ (w : Incidents). w.armed) happens.value ∙ ap (is_armed script k) (sym long))
-    (jump_same happens.bounds ∙ ap (λ (w : Incidents). w.jump) happens.value ∙ ap (jump_of script k) (sym long))
+    (ap (λ w. w.armed) happens.value ∙ ap (is_armed script k) (sym long))
+    (jump_same happens.bounds ∙ ap (λ w. w.jump) happens.value ∙ ap (jump_of script k) (sym long))
     c.requires.seat.list c.requires.seat.node c.begin.ensures.same c.begin.ensures.begins stands)

@@ -1,5 +1,4 @@
 use Rattle.std.proofs.Common.{length, ap, ◌∙◌}
-use Rattle.controller.specs.declared.controller.Intent.{Intent}
 use Rattle.controller.specs.Limits.{seat_intent}
 use Rattle.controller.specs.Passes.{payload_handed}
 use Rattle.controller.proofs.InSlot.{length-payload_handed, planned-node}
@@ -10,11 +9,10 @@ plan-requires-clause-payload c =
     let seat = c.args.controller.now in
     let chosen = c.args.chosen.now in
     ap length c.payload_for-payload.ensures
-    ∙ ap (λ (wanted : Intent). length (payload_handed wanted chosen)) c.intent.ensures
+    ∙ ap (λ wanted. length (payload_handed wanted chosen)) c.intent.ensures
     ∙ length-payload_handed seat.list seat.node (seat_intent seat) chosen c.requires.payload
 
 pub returns-clause-plans : goal.returns-clause-plans
 returns-clause-plans c list script history k node =
     planned-node list script history k node c.args.chosen.now c.plan.ensures.same c.plan.ensures.plans
-    (c.payload_for-payload.ensures
-    ∙ ap (λ (wanted : Intent). payload_handed wanted c.args.chosen.now) c.intent.ensures)
+    (c.payload_for-payload.ensures ∙ ap (λ wanted. payload_handed wanted c.args.chosen.now) c.intent.ensures)

@@ -15,9 +15,10 @@ returns-in-Err-clause-failed g c = λ is. (
 
 pub returns-in-Err-clause-memory : goal.returns-in-Err-clause-memory
 returns-in-Err-clause-memory g c = λ is.
-    inr (subst (λ (t : Trouble). ToldFault (g.S.Source.told c.args.source.now) (g.S.Source.told c.read_some.new.source) t)
+    let told = g.S.Source.told in
+    inr (subst (λ (t : Trouble). ToldFault (told c.args.source.now) (told c.read_some.new.source) t)
     (c.answer.ensures.memory.0 is)
-    (fault-join _ (g.S.Source.told c.loop-room.source) _ c.in-Err.trouble c.loop-room.invariant.2 c.in-Err.ensures.told))
+    (fault-join _ (told c.loop-room.source) _ c.in-Err.trouble c.loop-room.invariant.2 c.in-Err.ensures.told))
 
 pub returns-then-given-eq0-clause-quiet : goal.returns-then-given-eq0-clause-quiet
 returns-then-given-eq0-clause-quiet g c =

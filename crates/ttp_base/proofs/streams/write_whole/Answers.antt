@@ -1,14 +1,11 @@
-use Rattle.std.proofs.Common.{◌+◌, ◌≤◌, length, arith}
-use Rattle.std.proofs.lemmas.List.{take_rest, length-drop}
-use Rattle.ttp_base.proofs.Known.{front_of_rest}
+use Rattle.std.proofs.lemmas.List.{take_rest}
+use Rattle.std.proofs.lemmas.Result.{on_err_weaker}
+use Rattle.ttp_base.proofs.Known.{front_after}
 use Rattle.ttp_base.proofs.streams.write_whole.Goals as goal
 
-pub loop-done-preserved : goal.loop-done-preserved
-loop-done-preserved g c =
+pub returns-in-Ok-2-clause-front : goal.returns-in-Ok-2-clause-front
+returns-in-Ok-2-clause-front g c =
     let piece = c.args.piece.now in
-    let done = c.loop-done.done in
-    let count = c.in_ok-count.count in
-    let within = rw (take_rest piece done, length-drop done piece) at c.in_ok-count.ensures.within in
-    let more = rw (take_rest piece done) at c.in_ok-count.ensures.ok in
-    let total : done + count ≤ length piece = omega (arith, within, c.loop-done.invariant.0) in
-    (total, front_of_rest _ _ _ piece done count c.loop-done.invariant.1 more)
+    let count = c.in-Ok.count in
+    on_err_weaker c.write_rest.result (front_after _ _ _ piece count c.in-Ok.ensures.bytes)
+    (rw (take_rest piece count) at c.write_rest.ensures.front)

@@ -1,26 +1,24 @@
 use Rattle.std.proofs.Common.{w64, rules, sym, ap, subst, ◌∙◌}
 use Rattle.std.proofs.lemmas.Int.{to_z-of_z}
-use Rattle.ttp_world.specs.declared.medl.Medl.{Medl}
 use Rattle.ttp_world.specs.Act.{act}
 use Rattle.ttp_world.specs.World.{jump_taken}
 use Rattle.controller.specs.SeatWithin.{IsSeatWithin}
-use Rattle.controller.specs.Turn.{Seat}
 use Rattle.controller.proofs.Standing.{Begins-turn}
 use Rattle.controller.proofs.controller.Controller.begin.Goals as goal
 
 pub act-act-requires : goal.act-act-requires
 act-act-requires c =
     let n = c.self.inside in
-    let same = c.requires.list ∙ ap (λ (seat : Seat). seat.list) (sym c.self.view_is) in
-    let w = subst (λ (l : Medl). IsSeatWithin l n.number n.node n.turn n.intent) (sym same) c.self.invariant in
+    let same = c.requires.list ∙ ap (λ seat. seat.list) (sym c.self.view_is) in
+    let w = subst (λ l. IsSeatWithin l n.number n.node n.turn n.intent) (sym same) c.self.invariant in
     record { valid = w.valid; node = w.node; within = w.within }
 
 pub returns-clause-begins : goal.returns-clause-begins
 returns-clause-begins c =
     let n = c.self.inside in
-    let same = c.requires.list ∙ ap (λ (seat : Seat). seat.list) (sym c.self.view_is) in
+    let same = c.requires.list ∙ ap (λ seat. seat.list) (sym c.self.view_is) in
     rw (← c.self.view_is)
-    (Begins-turn n.given.list n.number n.node n.slots n.turn c.args.on c.args.armed c.args.jump c.act-act.result _
+    (Begins-turn n.given.value n.number n.node n.slots n.turn c.args.on c.args.armed c.args.jump c.act-act.result _
     c.self.invariant.valid c.self.invariant.node
     (c.act-act.ensures ∙ (λ i. act (same i) n.number c.args.on c.args.armed n.node))
     (to_z-of_z w64 c.jump_taken.result (search rules) ∙ c.jump_taken.ensures ∙ ap (jump_taken c.act-act.result)

@@ -1,18 +1,16 @@
 use Rattle.std.proofs.Common.{[], w64, rules, refl, sym, ap, ◌∙◌, subst}
 use Rattle.std.proofs.lemmas.Int.{to_z-of_z}
-use Rattle.ttp_world.specs.declared.medl.Medl.{Medl}
 use Rattle.controller.specs.Limits.{message_carried, turn_intent}
 use Rattle.controller.specs.SeatWithin.{IsBegunWithin, IsTurnWithin}
-use Rattle.controller.specs.Turn.{Seat}
 use Rattle.controller.proofs.Standing.{IsFrameOf, Plans-turn, message_carried-planned}
 use Rattle.controller.proofs.controller.Controller.plan.Goals as goal
 
 pub invariant_of-self : goal.invariant_of-self
 invariant_of-self c =
     let n = c.self.inside in
-    let begun : IsBegunWithin n.given.list n.number n.node c.in-Begun.act c.in-Begun.jump =
-    subst (IsTurnWithin n.given.list n.number n.node) c.in-Begun.is c.self.invariant.turn in
-    let sends = c.self.invariant.intent ∙ ap (turn_intent n.given.list n.node) c.in-Begun.is in
+    let begun : IsBegunWithin n.given.value n.number n.node c.in-Begun.act c.in-Begun.jump =
+    subst (IsTurnWithin n.given.value n.number n.node) c.in-Begun.is c.self.invariant.turn in
+    let sends = c.self.invariant.intent ∙ ap (turn_intent n.given.value n.node) c.in-Begun.is in
     rw (to_z-of_z w64 c.in-Begun.jump (search rules)) (record {
       valid = c.self.invariant.valid;
       node = c.self.invariant.node;
@@ -22,7 +20,7 @@ invariant_of-self c =
         begun = begun;
         chosen = record { number = c.args.message; payload = [] };
         carries = c.message_of-message.ensures ∙ (λ i. message_carried (sends i) c.args.message)
-            ∙ message_carried-planned n.given.list n.node (record { number = c.args.message; payload = [] })
+            ∙ message_carried-planned n.given.value n.node (record { number = c.args.message; payload = [] })
             c.in-Begun.act;
       };
       intent = refl;
@@ -31,12 +29,12 @@ invariant_of-self c =
 pub returns-in-Begun-clause-plans : goal.returns-in-Begun-clause-plans
 returns-in-Begun-clause-plans c =
     let n = c.self.inside in
-    let same = c.requires.list ∙ ap (λ (seat : Seat). seat.list) (sym c.self.view_is) in
-    let sends = c.self.invariant.intent ∙ ap (turn_intent n.given.list n.node) c.in-Begun.is in
+    let same = c.requires.list ∙ ap (λ seat. seat.list) (sym c.self.view_is) in
+    let sends = c.self.invariant.intent ∙ ap (turn_intent n.given.value n.node) c.in-Begun.is in
     rw (← c.self.view_is)
-    (Plans-turn n.given.list n.number n.node n.slots n.turn c.in-Begun.act c.in-Begun.jump _ c.args.message
+    (Plans-turn n.given.value n.number n.node n.slots n.turn c.in-Begun.act c.in-Begun.jump _ c.args.message
     c.args.payload.now c.message_of-message.result c.frame_of.result
     c.in-Begun.is (to_z-of_z w64 c.in-Begun.jump (search rules))
     (c.message_of-message.ensures ∙ (λ i. message_carried (sends i) c.args.message))
-    (subst (λ (l : Medl). IsFrameOf l n.number n.node c.in-Begun.act c.args.payload.now c.frame_of.result) same
+    (subst (λ l. IsFrameOf l n.number n.node c.in-Begun.act c.args.payload.now c.frame_of.result) same
     c.frame_of.ensures))

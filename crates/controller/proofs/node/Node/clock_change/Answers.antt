@@ -2,7 +2,6 @@ use Rattle.std.proofs.Common.{◌≢◌, ap, sym, subst, ◌∙◌, w64, FitsSig
 use Rattle.std.proofs.lemmas.Int.{ints, to_z-of_z}
 use Rattle.ttp_world.specs.declared.node.Entry.TheVariants as entry
 use Rattle.ttp_world.specs.After.{correction_after}
-use Rattle.ttp_world.specs.Past.{NodePast}
 use Rattle.controller.specs.Within.{AreChangesWithin}
 use Rattle.controller.proofs.Endings.{slot_change-on}
 use Rattle.controller.proofs.node.Node.clock_change.Goals as goal
@@ -16,7 +15,7 @@ returns-in_default-clause-value c =
     let jump : FitsSigned w64 inside.jump = omega (arith, ints, changes.jump) in
     let drift : FitsSigned w64 inside.drift = omega (arith, ints, changes.drift) in
     let on : node.entry ≢ entry.Off =
-    λ off. c.in_default.not-Off (ap (λ (p : NodePast). p.entry) c.self.view_is ∙ off) in
+    λ off. c.in_default.not-Off (ap (λ p. p.entry) c.self.view_is ∙ off) in
     search (
       rules,
       to_z-of_z,

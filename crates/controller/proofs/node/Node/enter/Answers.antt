@@ -27,5 +27,5 @@ pub returns-clause-within : goal.returns-clause-within
 returns-clause-within c =
     let a = c.args in
     subst (IsWithin a.list.now a.k) (sym (returns-clause-value c))
-    (kept_after-within a.list.now a.k a.self.now a.entry.now a.outside.now c.requires.valid c.requires.node
-    c.requires.within c.requires.entry)
+    (kept_after-within a.list.now a.k a.self.now c.requires.valid c.requires.node c.requires.within a.entry.now
+    a.outside.now c.requires.entry)

@@ -1,6 +1,5 @@
 use Rattle.std.proofs.Common.{ap, rules}
 use Rattle.std.proofs.Math.Bool.{or-false}
-use Rattle.ttp_world.specs.Past.{NodePast}
 use Rattle.ack_check.specs.Moves.{IsMoveOf}
 use Rattle.controller.proofs.Stints.{moved_members-after}
 use Rattle.controller.proofs.node.Node.judge.Goals as goal
@@ -12,7 +11,7 @@ returns c =
     let past = a.self.now in
     let judged = c.requires.judged in
     let moves : IsMoveOf c.step-asked.result past.ack a.verdict a.sender =
-    rw (ap (λ (p : NodePast). p.ack) c.self.view_is, judged.possible) at c.step-asked.ensures.means in
+    rw (ap (λ p. p.ack) c.self.view_is, judged.possible) at c.step-asked.ensures.means in
     search (
       rules,
       or-false,

@@ -5,7 +5,6 @@ use Rattle.ttp_world.specs.Diary.{diary_of}
 use Rattle.ttp_world.specs.Medium.{surroundings_of}
 use Rattle.ttp_world.specs.Past.{past_of, state_of}
 use Rattle.controller.specs.PlantStands.{ShowsNode}
-use Rattle.controller.specs.PlantView.{PlantView}
 use Rattle.controller.specs.Turn.{Ended}
 use Rattle.controller.proofs.Near.{ended-clock}
 use Rattle.controller.proofs.Parts.{each-of}
@@ -14,7 +13,7 @@ use Rattle.controller.proofs.plant.Plant.node.Goals as goal
 -- the controller that is asked
 asked : (c : goal.After-state) → slice_get c.self.inside.controllers.items c.args.k ≡ Some c.index.result.now
 asked c =
-    let count = ap (λ (p : PlantView). length p.list.slots) c.self.view_is in
+    let count = ap (λ p. length p.list.slots) c.self.view_is in
     slice_get_read c.self.inside.controllers.items _ c.args.k c.index.result.now refl
     (omega (arith, c.requires, count, c.self.invariant.count)) c.index.ensures
 
@@ -22,7 +21,7 @@ pub returns-clause-shows : goal.returns-clause-shows
 returns-clause-shows c =
     let k = c.args.k in
     let of = each-of c.self.invariant.are k (asked c) in
-    subst (λ (p : PlantView). ShowsNode p k c.state.result) c.self.view_is (λ script history stands.
+    subst (λ p. ShowsNode p k c.state.result) c.self.view_is (λ script history stands.
     c.state.ensures.shows (diary_of history k) (surroundings_of script history k) Ended
     (each-of stands.seats k (asked c))
     ∙ (λ i. state_of (past_of (of.list i) (of.node i) (diary_of history k) (surroundings_of script history k))))
@@ -31,5 +30,5 @@ pub returns-clause-near : goal.returns-clause-near
 returns-clause-near c =
     let of = each-of c.self.invariant.are c.args.k (asked c) in
     let clock = ap unsigned_abs (c.state.ensures.clock ∙ sym (ended-clock c.index.result.now of.turn)) in
-    let slot = ap (λ (p : PlantView). p.slot) c.self.view_is in
+    let slot = ap (λ p. p.slot) c.self.view_is in
     omega (arith, clock, of.clock, slot)

@@ -1,0 +1,16 @@
+use Rattle.std.proofs.Common.{suc, ap, sym, ◌∙◌, add-one, arith}
+use Rattle.std.proofs.lemmas.Option.{slice_get-get_or}
+use Rattle.controller.specs.PlantStands.{no_outcome}
+use Rattle.controller.proofs.Parts.{each-of}
+use Rattle.controller.proofs.plant.tests.parts.step_in_parts.Goals as goal
+
+pub returns-clause-steps : goal.returns-clause-steps
+returns-clause-steps c history stands =
+    let begun = c.begin_in_parts.ensures.begin history (sym stands.slot) stands.seats in
+    let ended = c.take_in_parts.ensures.end history c.args.chosen.now (c.plan_all.ensures.plan history begun)
+    (c.plan_all.ensures.carries history (sym stands.slot) begun) in
+    record {
+      stands = record { slot = add-one c.args.slot ∙ ap suc stands.slot; seats = ended.stand };
+      left = λ k node. each-of ended.left k
+          (slice_get-get_or c.take_in_parts.new.outcomes k no_outcome (omega (arith, c.requires.outcomes)));
+    }
