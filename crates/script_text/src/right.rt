@@ -1,5 +1,5 @@
-//! Right lines that say what happens in slots. They are read field by field, at a fraction of what it costs to tell
-//! what is wrong with a line.
+//! Right lines that say what happens in slots. They are read field by field, which costs less than to cut them into
+//! words, by which it is told what is wrong with a line.
 ghost use Rattle.std.specs.Prelude.{◌≡◌, ◌++◌, IfOk, IfSome, OnOk, OnErr, is_some, option_to_list};
 ghost use Rattle.ttp_world.specs.Medl.{IsValid};
 ghost use Rattle.script_text.specs.declared.keyword.Keyword.TheVariants as keyword;
