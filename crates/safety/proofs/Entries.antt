@@ -50,7 +50,7 @@ started-by_plan list script start plan new numbers is now = record {
 module _ (list : Medl) (script : Script) (start : ClusterStart) (plan : Plan) (turn : ℕ) (new : SlotNumbers)
     (numbers : Numbers) (t : IsTurn list script start plan turn new numbers) where
   -- what is so of the entry that a node makes is so of its entry in the row
-  in-row : (P : Entry → Type 0) (k : ℕ) (e : Entry) → k < length list.slots
+  pub in-row : (P : Entry → Type 0) (k : ℕ) (e : Entry) → k < length list.slots
       → entry_made (slot_of list script new numbers k) ≡ e → P e
       → P (entry_of (row_in (slot_after list script (world list script numbers))
       (messages_chosen list script (length numbers) new.sent)) k)
@@ -58,7 +58,7 @@ module _ (list : Medl) (script : Script) (start : ClusterStart) (plan : Plan) (t
       subst P (sym (entry_of-made list script (world list script numbers)
       (messages_chosen list script (length numbers) new.sent) k node ∙ made)) holds
 
-  fate-before : (k : ℕ) → is_sound_after plan (suc turn) k ≡ true → fate_of plan turn k ≡ Sound
+  pub fate-before : (k : ℕ) → is_sound_after plan (suc turn) k ≡ true → fate_of plan turn k ≡ Sound
   fate-before k sound = sound-fate (fate_of plan turn k) (sound-before plan turn (suc turn) k (omega arith) sound)
 
   -- in a good slot the sender sends, and each other sound node judges its frame correct
@@ -91,7 +91,7 @@ module _ (list : Medl) (script : Script) (start : ClusterStart) (plan : Plan) (t
   same-accepted true before after seen seen_after judged was is same = absurd (omega arith)
   same-accepted false before after seen seen_after judged was is same = refl
 
-  notes-other : (k : ℕ) → is_good_slot plan (suc turn) ≡ false → IsSoundIn list plan (suc turn) k
+  pub notes-other : (k : ℕ) → is_good_slot plan (suc turn) ≡ false → IsSoundIn list plan (suc turn) k
       → NotesNothing (entry_of (row_in (slot_after list script (world list script numbers))
       (messages_chosen list script (length numbers) new.sent)) k)
   notes-other k wrong sound =

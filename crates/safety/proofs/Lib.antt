@@ -1,3 +1,4 @@
 pub mod Entries
 pub mod Together
+pub mod Accepted
 pub mod Kept

@@ -39,7 +39,7 @@ clocks-hold list script start plan turn numbers is noted within =
 
 module _ (list : Medl) (script : Script) (start : ClusterStart) (plan : Plan) (is : IsBegun list script start plan)
   where
-    turn-next : (turn : ℕ) (new : SlotNumbers) (numbers : Numbers) → length numbers ≡ start.slot + suc turn
+    pub turn-next : (turn : ℕ) (new : SlotNumbers) (numbers : Numbers) → length numbers ≡ start.slot + suc turn
         → start.slot + suc turn < script.slots → IsLegal list script (new ∷ numbers)
         → IsByPlan list script start plan turn (world list script numbers)
         → IsTurn list script start plan turn new numbers
