@@ -15,6 +15,7 @@ use Rattle.ttp_world.specs.Hypothesis.{ClusterStart, Loss, Harmless, Makes, Brea
 use Rattle.ttp_world.specs.Hypothesis.{loses, is_other, sender_loss, loss_in, expected_sender, jumps_now}
 use Rattle.ttp_world.specs.Hypothesis.{jumpers_in}
 use Rattle.ttp_world.specs.Script.{is_on, is_ever_on, on_slot, has_come, has_jump}
+use Rattle.ttp_world.proofs.Filters.{each-sieve}
 use Rattle.fault_plan.specs.Plan.{Sending, Receiving, Jumping, Incident, sender, incident_at, planned_incident}
 use Rattle.fault_plan.specs.Plan.{change_of, plan_of}
 use Rattle.fault_plan.specs.Fates.{is_sound_after}
@@ -23,7 +24,6 @@ use Rattle.fault_plan.proofs.FaultySets.{fates-known}
 use Rattle.fault_plan.proofs.FaultySets.{has_node-append}
 use Rattle.fault_plan.proofs.Incidents.{incident_made}
 use Rattle.fault_plan.proofs.Losses.{IsMadeBy, made-by, loser-tells}
-use Rattle.fault_plan.proofs.Sieves.{each-sieve}
 use Rattle.fault_plan.proofs.Spaced.{made_in}
 
 -- Nodes are switched on for good.
@@ -43,7 +43,7 @@ pub on-since : (list : Medl) (script : Script) (start : ClusterStart) (k slot : 
     → k < length list.slots → start.slot ≤ slot → is_ever_on script k ≡ true
     → is_on script k slot ≡ true
 on-since list script start k slot run less after ever =
-    come-later start.slot slot (on_slot script k) after (run.lone.on k less ever)
+    come-later start.slot slot (on_slot script k) after (run.on k less ever)
 
 -- The words of a slot.
 

@@ -19,6 +19,7 @@ use Rattle.ttp_world.specs.Hypothesis.{has_four_steady, lacks_steady_after, keep
 use Rattle.ttp_world.specs.Medl.{IsValid, plan_at, may_start}
 use Rattle.ttp_world.specs.Script.{is_on, is_ever_on, on_slot}
 use Rattle.ttp_world.proofs.Lists.{nodes-most}
+use Rattle.ttp_world.proofs.Starts.{alone-start, on-start}
 use Rattle.fault_plan.specs.Plan.{plan_of}
 use Rattle.fault_plan.specs.Fates.{fate_of, is_steady_after, steady_nodes, lost_since}
 use Rattle.fault_plan.specs.GoodPlan.{IsGoodPlan}
@@ -30,7 +31,6 @@ use Rattle.fault_plan.proofs.FaultySets.{faulty-early}
 use Rattle.fault_plan.proofs.FaultySets.{some-rounds, fates-known}
 use Rattle.fault_plan.proofs.Hearing.{on-ever, on-since, origin-of}
 use Rattle.fault_plan.proofs.Incidents.{found-tells, late-found, apart-found}
-use Rattle.fault_plan.proofs.Lone.{lone-start}
 use Rattle.fault_plan.proofs.Members.{first-sender, first-good}
 use Rattle.fault_plan.proofs.Persists.{sound-first, sound-before}
 use Rattle.fault_plan.proofs.Rules.{RulesHold, rules-hold}
@@ -185,9 +185,9 @@ good-plan list script start run =
     record {
       count = (run.valid.count.0, nodes-most list run.valid);
       starter = (
-        run.lone.node,
-        has_node-sieve (is_ever_on script) n start.node run.lone.node
-            ∙ due-ever (may_start list start.node) (on_slot script start.node) n start.node start.slot run.lone.due,
+        run.alone.node,
+        has_node-sieve (is_ever_on script) n start.node run.alone.node
+            ∙ due-ever (may_start list start.node) (on_slot script start.node) n start.node start.slot run.alone.due,
       );
       late = λ slot incident found. late-found list script start gap slot incident faulty run.spaced found;
       apart = λ slot later first second found next less.
@@ -218,7 +218,8 @@ single-fault list script slot valid rules =
     record {
       valid = valid;
       bounds = within-bounds list script rules.clocks rules.window rules.outside;
-      lone = lone-start list script start rules.started;
+      alone = alone-start list script start rules.started;
+      on = λ k less ever. on-start list script start k rules.started less ever;
       whole = λ t within.
           none-found (breaks_in list script start) 0 script.slots t rules.loss (omega arith) (omega arith);
       spaced = spaced-all (two_rounds list) (start.slot + two_rounds list)
@@ -276,7 +277,8 @@ kept-plan list script slot valid keeps =
       start = rules.start;
       started = rules.started;
       from = rules.from;
-      lone = run.lone;
+      alone = run.alone;
+      on = run.on;
       arms = λ k slot. none-armed list script k slot rules.outside;
       follows = follows-plan list script rules.start run;
       faults = plan-of-faults list script rules.start rules.started run;

@@ -18,7 +18,7 @@ use Rattle.fault_plan.specs.Fates.{is_sound_after}
 use Rattle.fault_plan.specs.Kept.{KeepsByPlan}
 use Rattle.fault_plan.specs.Plan.{plan_of}
 use Rattle.fault_plan.proofs.KeptPlan.{kept-plan}
-use Rattle.safety_clocks.specs.NotedByPlan.{IsSoundIn}
+use Rattle.safety_clocks.specs.NotedByPlan.{IsSoundIn, GoesOnByPlan}
 use Rattle.safety_clocks.proofs.Bounds.{sound-clocks, sound-deviations}
 use Rattle.safety_steps.specs.ByFate.{IsSoundAt}
 use Rattle.safety_steps.specs.Run.{IsBegun, StandsAfter}
@@ -41,7 +41,7 @@ module _ (list : Medl) (script : Script) (slot : ℕ) (valid : IsValid list) (sc
       follows = by_plan.follows;
       arms = by_plan.arms;
     };
-    lone = by_plan.lone;
+    alone = by_plan.alone;
     heard = λ k node other on.
         by_plan.heard k (let from = by_plan.from in omega (arith, inside, from)) node other on;
   }
@@ -87,12 +87,13 @@ module _ (list : Medl) (script : Script) (slot : ℕ) (valid : IsValid list) (sc
         by_plan.faults.sound (length numbers - suc slot) k of_k.0 (omega (arith, number, within))
         ∙ ap (λ s. is_correct_after list script s k) (sym newest) ∙ of_k.1
 
-    pub kept-alike : AcceptsAlikeSince list (is_correct_after list script (newest_slot (world list script numbers))) slot
-        (world list script numbers)
+    pub kept-alike : AcceptsAlikeSince list script
+        (is_correct_after list script (newest_slot (world list script numbers))) slot (world list script numbers)
     kept-alike =
         let number = count in
-        subst (λ s. AcceptsAlikeSince list (is_correct_after list script (newest_slot (world list script numbers))) s
-        (world list script numbers)) by_plan.from
+        subst (λ s. AcceptsAlikeSince list script
+        (is_correct_after list script (newest_slot (world list script numbers))) s (world list script numbers))
+        by_plan.from
         (alike-run list script by_plan.start (plan_of list script by_plan.start) (begun (omega (arith, after, within)))
         (is_correct_after list script (newest_slot (world list script numbers))) (length numbers - suc slot) numbers
         correct-sound number (omega (arith, number, within)) legal)
@@ -123,6 +124,15 @@ module _ (list : Medl) (script : Script) (slot : ℕ) (valid : IsValid list) (sc
     inside : by_plan.start.slot + suc (length numbers - suc slot) < script.slots
     inside = let number = next_number in omega (arith, number, within)
 
+    goes : GoesOnByPlan list script by_plan.start (plan_of list script by_plan.start) (length numbers - suc slot)
+        (world list script numbers)
+    goes = record {
+      valid = valid;
+      follows = by_plan.follows;
+      noted = (run numbers legal after (omega (arith, within))).noted;
+      within = inside;
+    }
+
     sound-in : (k : ℕ) → k < length list.slots → is_correct_after list script (length numbers) k ≡ true
         → IsSoundIn list (plan_of list script by_plan.start) (suc (length numbers - suc slot)) k
     sound-in k node correct = (
@@ -137,10 +147,7 @@ module _ (list : Medl) (script : Script) (slot : ℕ) (valid : IsValid list) (sc
         → (clock_at list script (world list script numbers) j -ℤ clock_at list script (world list script numbers) k)
         ≤ℤ spread list
     kept-clocks j k node_j node_k correct_j correct_k =
-        sound-clocks list script by_plan.start (plan_of list script by_plan.start) (length numbers - suc slot)
-        (world list script numbers) valid by_plan.follows
-        (run numbers legal after (omega (arith, within))).noted inside j k (sound-in j node_j correct_j)
-        (sound-in k node_k correct_k)
+        sound-clocks goes j k (sound-in j node_j correct_j) (sound-in k node_k correct_k)
 
     pub kept-deviations : (r p : ℕ) → r < length list.slots → p < length list.slots
         → is_correct_after list script (length numbers) r ≡ true
@@ -148,7 +155,4 @@ module _ (list : Medl) (script : Script) (slot : ℕ) (valid : IsValid list) (sc
         → (neg_ℤ (needed list) ≤ℤ measured list script (world list script numbers) r p)
         × (measured list script (world list script numbers) r p ≤ℤ needed list)
     kept-deviations r p node_r node_p correct_r correct_p =
-        sound-deviations list script by_plan.start (plan_of list script by_plan.start) (length numbers - suc slot)
-        (world list script numbers) valid by_plan.follows
-        (run numbers legal after (omega (arith, within))).noted inside r p (sound-in r node_r correct_r)
-        (sound-in p node_p correct_p)
+        sound-deviations goes r p (sound-in r node_r correct_r) (sound-in p node_p correct_p)

@@ -7,7 +7,7 @@ use Rattle.ttp_world.specs.Legal.{IsLegal}
 use Rattle.ttp_world.specs.World.{SlotNumbers, Numbers, slot_after, world}
 use Rattle.ttp_world.proofs.LegalShapes.{legal-older}
 use Rattle.fault_plan.specs.Plan.{Plan}
-use Rattle.safety_clocks.specs.NotedByPlan.{NotedByPlan}
+use Rattle.safety_clocks.specs.NotedByPlan.{NotedByPlan, GoesOnByPlan}
 use Rattle.safety_clocks.proofs.Bounds.{sound-inside}
 use Rattle.safety_clocks.proofs.OutsideWindow.{jumped-outside}
 use Rattle.safety_steps.specs.Clocks.{ClocksHold}
@@ -24,17 +24,12 @@ pub clocks-hold : (list : Medl) (script : Script) (start : ClusterStart) (plan :
     → start.slot + suc turn < script.slots
     → ClocksHold list plan (suc turn) (slot_after list script (world list script numbers))
 clocks-hold list script start plan turn numbers is noted within =
-    let history = world list script numbers in
+    let goes : GoesOnByPlan list script start plan turn (world list script numbers) =
+    record { valid = is.valid; follows = is.follows; noted = noted; within = within } in
     record {
-      within = λ r p node sends sound steady.
-          sound-inside list script start plan turn history is.valid is.follows noted within r p (node, sound)
-          (sends, steady);
-      frame = λ r p since node sends sound jumped.
-          (jumped-outside list script start plan turn history is.valid is.follows noted within p r since sends
-          (inr jumped) (node, sound)).0;
-      others = λ r p since node sends jumped sound.
-          (jumped-outside list script start plan turn history is.valid is.follows noted within r p since node
-          (inl jumped) (sends, sound)).1;
+      within = λ r p node sends sound steady. sound-inside goes r p (node, sound) (sends, steady);
+      frame = λ r p since node sends sound jumped. (jumped-outside goes p r since sends (inr jumped) (node, sound)).0;
+      others = λ r p since node sends jumped sound. (jumped-outside goes r p since node (inl jumped) (sends, sound)).1;
     }
 
 module _ (list : Medl) (script : Script) (start : ClusterStart) (plan : Plan) (is : IsBegun list script start plan)

@@ -67,8 +67,9 @@ pub fn safe(list: &Medl, script: &Script, start: u32)
 
 /// What correct nodes of such a script make of each other's frames. The nodes that are correct after a
 /// slot have, in each slot from the start on, accepted the same frames of third nodes, and each of them
-/// accepted each frame that another sent (`frames`); a frame is accepted that is judged correct, and the
-/// cold start is not judged. After that slot they stand at one place of the cluster cycle (`places`).
+/// accepted each frame that another sent; and their hosts got the same messages of third nodes
+/// (`frames`). A frame is accepted that is judged correct, and the cold start is not judged. After that
+/// slot they stand at one place of the cluster cycle (`places`).
 ///
 /// It does nothing, and takes no memory.
 pub fn same_frames(list: &Medl, script: &Script, start: u32)
@@ -78,7 +79,8 @@ pub fn same_frames(list: &Medl, script: &Script, start: u32)
     ensures frames { (numbers : Numbers) → IsLegal list.now script.now numbers
         → start < length numbers → length numbers ≤ script.now.slots
         → (let history = world list.now script.now numbers in
-        AcceptsAlikeSince list.now (is_correct_after list.now script.now (newest_slot history)) start history) }
+        AcceptsAlikeSince list.now script.now (is_correct_after list.now script.now (newest_slot history)) start
+        history) }
     ensures places { (numbers : Numbers) → IsLegal list.now script.now numbers
         → start < length numbers → length numbers ≤ script.now.slots
         → (let history = world list.now script.now numbers in
