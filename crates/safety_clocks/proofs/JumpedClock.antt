@@ -201,7 +201,7 @@ stays-next list script start plan x k base slot q jump row history jumps s is fe
           first = drift-jumps (clock_after list script history x) (jump_of script x (length history))
               (drift_of script x) (jumped_in jump q) (jumped_in jump (suc q)) list.drift added
               (drift_within list script x jumps.follows.bounds.clocks jumps.inside);
-          second = sound-moved list script start plan slot k row history s p;
+          second = sound-moved s k p;
         };
         next = index-of list script start plan slot jumps.follows.planned;
         new = notes_in list (planned_place list plan (suc slot)) (entry_of row x);
@@ -216,7 +216,7 @@ stays-next list script start plan x k base slot q jump row history jumps s is fe
             (clock-next list script row history x (planned_place list plan (suc slot)) new.goes place
             ∙ ap (λ m. clock_moved list script history x +ℤ correction list m (round_notes list (row ∷ history) x))
             index);
-        second = sound-clock list script start plan slot k row history s p;
+        second = sound-clock s k p;
       }) few before.apart;
 }
   where
@@ -257,7 +257,7 @@ notes-near list script start plan x k base slot zero jump row history jumps s is
           (clock_moved list script history k) (clock_moved list script history x -ℤ pos 0)
           (clock_moved list script history k) (notes_in list (planned_place list plan (suc slot)) (entry_of row x))
           (less-none (clock_moved list script history x)) refl
-          (near-new list script start plan slot x k row history s sound p);
+          (near-new s x k sound p);
     }
 notes-near list script start plan x k base slot (suc q) jump row history jumps s is p falls =
     let none : NotesNothing (entry_of row x) =

@@ -141,11 +141,11 @@ noted-each P list script start plan slot k row history false is s p own other =
 
 -- So they lie near 0.
 
-pub small-new : (list : Medl) (script : Script) (start : ClusterStart) (plan : Plan) (slot k : ℕ) (row : List Entry)
-    (history : History)
-    → NextSlot list script start plan slot row history → IsSoundIn list plan (suc slot) k
+pub small-new : {list : Medl} {script : Script} {start : ClusterStart} {plan : Plan} {slot : ℕ} {row : List Entry}
+    {history : History} → NextSlot list script start plan slot row history → (k : ℕ) → IsSoundIn list plan (suc slot) k
     → All (IsUpTo (needed list)) (notes_in list (planned_place list plan (suc slot)) (entry_of row k))
-small-new list script start plan slot k row history s p =
+small-new {list = list} {script = script} {start = start} {plan = plan} {slot = slot} {row = row}
+    {history = history} s k p =
     noted-each (IsUpTo (needed list)) list script start plan slot k row history (is_good_slot plan (suc slot)) refl s p
     (λ own. zero-upto (needed list) (needed-up list s.before.valid))
     (λ q d is. subst (IsUpTo (needed list)) (sym is)
@@ -164,11 +164,10 @@ record RunsIn (list : Medl) (script : Script) (history : History) (k : ℕ) : Ty
   drift : IsUpTo list.drift (drift_of script k)
   error : IsUpTo list.error (reading_error script k (length history))
 
-runs-in : (list : Medl) (script : Script) (start : ClusterStart) (plan : Plan) (slot k : ℕ) (row : List Entry)
-    (history : History)
-    → NextSlot list script start plan slot row history → IsSoundIn list plan (suc slot) k
+runs-in : {list : Medl} {script : Script} {start : ClusterStart} {plan : Plan} {slot : ℕ} {row : List Entry}
+    {history : History} → NextSlot list script start plan slot row history → (k : ℕ) → IsSoundIn list plan (suc slot) k
     → RunsIn list script history k
-runs-in list script start plan slot k row history s p =
+runs-in {list = list} {script = script} {start = start} {plan = plan} {slot = slot} {history = history} s k p =
     let still = still-of s.before k p in
     let number = number-of list script start plan slot history s.before.noted in
     record {
@@ -183,12 +182,11 @@ runs-in list script start plan slot k row history s p =
 drift-moves : (o j d q : ℤ) → j ≡ pos 0 → IsUpTo q d → IsUpTo q ((o +ℤ (j +ℤ (d +ℤ pos 0))) -ℤ o)
 drift-moves o j d q still h = (omega (arith, ints, still, h.0, h.1), omega (arith, ints, still, h.0, h.1))
 
-pub sound-moved : (list : Medl) (script : Script) (start : ClusterStart) (plan : Plan) (slot k : ℕ) (row : List Entry)
-    (history : History)
-    → NextSlot list script start plan slot row history → IsSoundIn list plan (suc slot) k
+pub sound-moved : {list : Medl} {script : Script} {start : ClusterStart} {plan : Plan} {slot : ℕ} {row : List Entry}
+    {history : History} → NextSlot list script start plan slot row history → (k : ℕ) → IsSoundIn list plan (suc slot) k
     → IsUpTo list.drift (clock_moved list script history k -ℤ clock_after list script history k)
-sound-moved list script start plan slot k row history s p =
-    let runs = runs-in list script start plan slot k row history s p in
+sound-moved {list = list} {script = script} {history = history} s k p =
+    let runs = runs-in s k p in
     drift-moves (clock_after list script history k) (jump_of script k (length history)) (drift_of script k) list.drift
     runs.still runs.drift
 
@@ -230,14 +228,14 @@ above-of a b d is up = omega (arith, ints, is, up)
 once : (d : ℤ) (m : ℕ) → pos 0 ≤ℤ d → d ≤ℤ (d *ℤ pos (suc m))
 once d m up = above-of (d *ℤ pos (suc m)) (d *ℤ pos m) d (product_more d m up) (product_up d m up)
 
-pub near-new : (list : Medl) (script : Script) (start : ClusterStart) (plan : Plan) (slot x k : ℕ) (row : List Entry)
-    (history : History)
-    → NextSlot list script start plan slot row history → IsSoundIn list plan (suc slot) x
-    → IsSoundIn list plan (suc slot) k
+pub near-new : {list : Medl} {script : Script} {start : ClusterStart} {plan : Plan} {slot : ℕ} {row : List Entry}
+    {history : History} → NextSlot list script start plan slot row history
+    → (x k : ℕ) → IsSoundIn list plan (suc slot) x → IsSoundIn list plan (suc slot) k
     → AreNear (noted_width list (sender plan (suc slot))) (clock_moved list script history x)
     (clock_moved list script history k)
     (notes_in list (planned_place list plan (suc slot)) (entry_of row x))
-near-new list script start plan slot x k row history s p q =
+near-new {list = list} {script = script} {start = start} {plan = plan} {slot = slot} {row = row}
+    {history = history} s x k p q =
     noted-each (λ d. IsUpTo width ((clock_moved list script history x +ℤ d) -ℤ clock_moved list script history k))
     list script start plan slot x row history (is_good_slot plan (suc slot)) refl s p
     (λ own. own-near (drift_share list) list.error list.drift width (clock_after list script history x)
@@ -264,11 +262,11 @@ near-new list script start plan slot x k row history s p q =
     width = noted_width list (sender plan (suc slot))
 
     runs : (j : ℕ) → IsSoundIn list plan (suc slot) j → RunsIn list script history j
-    runs j r = runs-in list script start plan slot j row history s r
+    runs j r = runs-in s j r
 
     moved : (j : ℕ) → IsSoundIn list plan (suc slot) j
         → IsUpTo list.drift (clock_moved list script history j -ℤ clock_after list script history j)
-    moved j r = sound-moved list script start plan slot j row history s r
+    moved j r = sound-moved s j r
 
     apart : (i j : ℕ) → IsSoundIn list plan (suc slot) i → IsSoundIn list plan (suc slot) j
         → (clock_after list script history i -ℤ clock_after list script history j) ≤ℤ spread list
