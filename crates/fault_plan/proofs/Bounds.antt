@@ -1,5 +1,5 @@
 -- Clocks and bits of a script that keeps the rules on them.
-use Rattle.std.proofs.Common.{◌≡◌, ℕ, ◌<◌, ℤ, pos, ◌≤ℤ◌, Bool, true, false, cond, not, List, [], ◌∷◌, length}
+use Rattle.std.proofs.Common.{◌≡◌, ℕ, ◌<◌, ℤ, ◌≤ℤ◌, Bool, true, false, cond, not, List, [], ◌∷◌, length}
 use Rattle.std.proofs.Common.{Option, Some, None, inl, inr, refl, sym, arith}
 use Rattle.std.specs.Prelude.{int_le, is_some, find}
 use Rattle.std.specs.List.{AllByRecursion, list_any, filter_map}
@@ -13,12 +13,12 @@ use Rattle.ttp_world.specs.declared.script.Channel.{Channel}
 use Rattle.ttp_world.specs.declared.script.Event.{Event}
 use Rattle.ttp_world.specs.declared.script.Event.TheVariants as event
 use Rattle.ttp_world.specs.declared.script.Script.{Script}
-use Rattle.ttp_world.specs.Hypothesis.{drifts_hold, errors_hold_in, clocks_broken, window_broken, needed, lesser}
-use Rattle.ttp_world.specs.Hypothesis.{least_of}
+use Rattle.ttp_world.specs.Hypothesis.{drifts_hold, errors_hold_in, clocks_broken, window_broken, needed}
 use Rattle.ttp_world.specs.Hypothesis.{outside_slot, outside_broken, is_far_jump, is_allowed_jump, is_within_bound}
 use Rattle.ttp_world.specs.Hypothesis.{has_jumped_before, is_jump_before}
-use Rattle.ttp_world.specs.Script.{arms, is_armed, flipped_bit, jump_in, jump_of, has_jump, sum_ℤ}
+use Rattle.ttp_world.specs.Script.{arms, is_armed, flipped_bit, jump_in, jump_of, has_jump}
 use Rattle.ttp_world.specs.Script.{drift_of, reading_error, flipped_bits}
+use Rattle.ttp_world.proofs.Jumps.{each-none, allowed-jump, no_jump-sum}
 use Rattle.fault_plan.specs.Kept.{IsWithinBounds}
 use Rattle.fault_plan.proofs.Sieves.{none-found}
 
@@ -37,24 +37,6 @@ pub le_of_test : (x y : ℤ) → int_le x y ≡ true → x ≤ℤ y
 le_of_test x y holds = grind arith
 
 -- Events.
-
-lesser-some : (n : ℕ) (m : Option ℕ) → lesser n m ≡ None → ⊥
-lesser-some n None is = none-some n (sym is)
-lesser-some n (Some m) is = cc
-
-least-none : {X : Type 0} (f : X → Option ℕ) (x : X) (xs : List X) (found : Option ℕ) → f x ≡ found
-    → least_of (filter_map f (x ∷ xs)) ≡ None
-    → (f x ≡ None) × (least_of (filter_map f xs) ≡ None)
-least-none f x xs None is none = (is, grind arith)
-least-none f x xs (Some n) is none = absurd (lesser-some n (least_of (filter_map f xs)) (grind arith))
-
--- where there is no least value, none has one
-pub each-none : {X : Type 0} (f : X → Option ℕ) (xs : List X) → least_of (filter_map f xs) ≡ None
-    → AllByRecursion (λ x. f x ≡ None) xs
-each-none f [] none = tt
-each-none f (x ∷ xs) none =
-    let parts = least-none f x xs (f x) refl none in
-    (parts.0, each-none f xs parts.1)
 
 flip-none : (list : Medl) (script : Script) (k slot : ℕ) (c : Channel) (e : Event) → outside_slot list script e ≡ None
     → flipped_bit k c slot e ≡ None
@@ -84,21 +66,6 @@ no_arms list script k slot (e ∷ events) inside =
 
 -- Jumps.
 
-allowed : (list : Medl) (script : Script) (k slot : ℕ) (e : Event) → outside_slot list script e ≡ None
-    → is_some (jump_in k slot e) ≡ true
-    → is_allowed_jump list script k slot ≡ true
-allowed list script k slot e none here = grind arith
-
-all_allowed : (list : Medl) (script : Script) (k slot : ℕ) (events : List Event)
-    → AllByRecursion (λ e. outside_slot list script e ≡ None) events
-    → list_any (λ e. is_some (jump_in k slot e)) events ≡ true → is_allowed_jump list script k slot ≡ true
-all_allowed list script k slot [] inside has = absurd (both_ways false refl has)
-all_allowed list script k slot (e ∷ events) inside has =
-    elim (or_cases (is_some (jump_in k slot e)) (list_any (λ e. is_some (jump_in k slot e)) events) has) [
-      | inl here ↦ allowed list script k slot e inside.0 here
-      | inr later ↦ all_allowed list script k slot events inside.1 later
-    ]
-
 -- a jump is one before each later slot
 before : (k slot later : ℕ) (e : Event) → slot < later → is_some (jump_in k slot e) ≡ true
     → is_jump_before k later e ≡ true
@@ -113,19 +80,6 @@ has_before k slot later (e ∷ events) less has =
       | inl here ↦ or_left _ _ (before k slot later e less here)
       | inr there ↦ or_right _ _ (has_before k slot later events less there)
     ]
-
-no_jumps-step : (k slot : ℕ) (e : Event) (events : List Event) (found : Option ℤ) → jump_in k slot e ≡ found
-    → (list_any (λ e. is_some (jump_in k slot e)) events ≡ false → sum_ℤ (filter_map (jump_in k slot) events) ≡ pos 0)
-    → list_any (λ e. is_some (jump_in k slot e)) (e ∷ events) ≡ false
-    → sum_ℤ (filter_map (jump_in k slot) (e ∷ events)) ≡ pos 0
-no_jumps-step k slot e events None is later none = grind arith
-no_jumps-step k slot e events (Some z) is later none = grind arith
-
--- where there is none, they add up to nothing
-no_jumps : (k slot : ℕ) (events : List Event) → list_any (λ e. is_some (jump_in k slot e)) events ≡ false
-    → sum_ℤ (filter_map (jump_in k slot) events) ≡ pos 0
-no_jumps k slot [] none = refl
-no_jumps k slot (e ∷ events) none = no_jumps-step k slot e events (jump_in k slot e) refl (no_jumps k slot events) none
 
 -- All of it.
 
@@ -148,7 +102,7 @@ within-bounds list script clocks window outside =
     (find (λ slot. not (errors_hold_in list script slot)) (below script.slots)) clocks in
     let inside = each-none (outside_slot list script) script.events outside in
     let allowed : (k slot : ℕ) → has_jump script k slot ≡ true → is_allowed_jump list script k slot ≡ true =
-    λ k slot has. all_allowed list script k slot script.events inside has in
+    λ k slot has. allowed-jump list script k slot outside has in
     record {
       clocks = clocks;
       drifts = λ k less.
@@ -161,7 +115,7 @@ within-bounds list script clocks window outside =
       jumps = λ k slot has.
           (and_parts (is_far_jump list (jump_of script k slot)) (not (has_jumped_before script k slot))
           (allowed k slot has)).0;
-      still = λ k slot none. no_jumps k slot script.events none;
+      still = λ k slot none. no_jump-sum script k slot none;
       once = λ k slot later less has. false_from_ne_true (has_jump script k later) (λ again.
           let first =
           (and_parts (is_far_jump list (jump_of script k later)) (not (has_jumped_before script k later))

@@ -11,10 +11,11 @@ use Rattle.ttp_world.specs.declared.script.Channel.{Channel}
 use Rattle.ttp_world.specs.declared.script.Script.{Script}
 use Rattle.ttp_world.specs.Hypothesis.{ClusterStart, numbers_of, faulty_nodes_before, breaks_in, has_four_steady}
 use Rattle.ttp_world.specs.Medl.{IsValid}
-use Rattle.ttp_world.specs.Script.{is_ever_on, flipped_bits}
+use Rattle.ttp_world.specs.Script.{is_ever_on, is_on, flipped_bits}
+use Rattle.ttp_world.specs.Starts.{StartsAlone}
 use Rattle.fault_plan.specs.Plan.{incident_at, plan_of}
 use Rattle.fault_plan.specs.Fates.{Fate, Absent, Sound, fate_at_begin, fate_of, next_fate, is_sound, is_lost}
-use Rattle.fault_plan.specs.Kept.{IsWithinBounds, IsLoneStart}
+use Rattle.fault_plan.specs.Kept.{IsWithinBounds}
 use Rattle.fault_plan.proofs.FateSteps.{strikes, sound-next, lost-next}
 use Rattle.fault_plan.proofs.Incidents.{incident_among, incident_made, late-found, some-before}
 use Rattle.fault_plan.proofs.Spaced.{IsSpaced, IsOneMade, made_in, numbers-next, slot-makes, none-early}
@@ -23,12 +24,17 @@ use Rattle.fault_plan.proofs.Tests.{or-false, and-true, never-found}
 abbrev pub two_rounds : Medl → ℕ
 two_rounds list = 2 * length list.slots
 
+-- all nodes that are ever on are on by a slot
+abbrev pub AreOnBy : Medl → Script → ℕ → Type 0
+AreOnBy list script slot = (k : ℕ) → k < length list.slots → is_ever_on script k ≡ true → is_on script k slot ≡ true
+
 -- what the rules on faults say of a run
 pub record IsSingleFault (list : Medl) (script : Script) (start : ClusterStart) : Type 0 where
   pub valid : IsValid list
   pub bounds : IsWithinBounds list script
   pub flips : (k slot : ℕ) (c : Channel) → flipped_bits script k c slot ≡ []
-  pub lone : IsLoneStart list script start
+  pub alone : StartsAlone list script start
+  pub on : AreOnBy list script start.slot
   pub whole : (slot : ℕ) → slot < script.slots → breaks_in list script start slot ≡ false
   pub spaced : IsSpaced (two_rounds list) (start.slot + two_rounds list)
       (faulty_nodes_before list script start script.slots)

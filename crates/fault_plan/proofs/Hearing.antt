@@ -15,16 +15,15 @@ use Rattle.ttp_world.specs.Hypothesis.{ClusterStart, Loss, Harmless, Makes, Brea
 use Rattle.ttp_world.specs.Hypothesis.{loses, is_other, sender_loss, loss_in, expected_sender, jumps_now}
 use Rattle.ttp_world.specs.Hypothesis.{jumpers_in}
 use Rattle.ttp_world.specs.Script.{is_on, is_ever_on, on_slot, has_come, has_jump}
+use Rattle.ttp_world.proofs.Filters.{each-sieve}
 use Rattle.fault_plan.specs.Plan.{Sending, Receiving, Jumping, Incident, sender, incident_at, planned_incident}
 use Rattle.fault_plan.specs.Plan.{change_of, plan_of}
 use Rattle.fault_plan.specs.Fates.{is_sound_after}
-use Rattle.fault_plan.specs.Kept.{IsLoneStart}
-use Rattle.fault_plan.proofs.FaultySets.{IsSingleFault, faulty_before, makes-slot, incident-slot, faulty-next}
+use Rattle.fault_plan.proofs.FaultySets.{AreOnBy, IsSingleFault, faulty_before, makes-slot, incident-slot, faulty-next}
 use Rattle.fault_plan.proofs.FaultySets.{fates-known}
 use Rattle.fault_plan.proofs.FaultySets.{has_node-append}
 use Rattle.fault_plan.proofs.Incidents.{incident_made}
 use Rattle.fault_plan.proofs.Losses.{IsMadeBy, made-by, loser-tells}
-use Rattle.fault_plan.proofs.Sieves.{each-sieve}
 use Rattle.fault_plan.proofs.Spaced.{made_in}
 
 -- Nodes are switched on for good.
@@ -40,11 +39,11 @@ come-ever slot (Some at) on = refl
 pub on-ever : (script : Script) (k slot : ℕ) → is_on script k slot ≡ true → is_ever_on script k ≡ true
 on-ever script k slot on = come-ever slot (on_slot script k) on
 
-pub on-since : (list : Medl) (script : Script) (start : ClusterStart) (k slot : ℕ) → IsLoneStart list script start
+pub on-since : (list : Medl) (script : Script) (start : ClusterStart) (k slot : ℕ) → AreOnBy list script start.slot
     → k < length list.slots → start.slot ≤ slot → is_ever_on script k ≡ true
     → is_on script k slot ≡ true
-on-since list script start k slot lone less after ever =
-    come-later start.slot slot (on_slot script k) after (lone.on k less ever)
+on-since list script start k slot by less after ever =
+    come-later start.slot slot (on_slot script k) after (by k less ever)
 
 -- The words of a slot.
 
@@ -131,7 +130,7 @@ pub other-untouched : (list : Medl) (script : Script) (start : ClusterStart) (sl
     → IsUntouched list script start slot k
     → is_other script (fallen_in list script start slot) (sender_in list start slot) slot k ≡ true
 other-untouched list script start slot k run after less other clear =
-    let on : is_on script k slot ≡ true = on-since list script start k slot run.lone less after clear.ever in
+    let on : is_on script k slot ≡ true = on-since list script start k slot run.on less after clear.ever in
     let stands : has_node (fallen_in list script start slot) k ≡ false = clear.fallen in
     let off : (k == sender_in list start slot) ≡ false = ne_eqb k (sender_in list start slot) other in
     and_from (is_on script k slot) _ on

@@ -19,18 +19,18 @@ use Rattle.ttp_world.specs.Hypothesis.{has_four_steady, lacks_steady_after, keep
 use Rattle.ttp_world.specs.Medl.{IsValid, plan_at, may_start}
 use Rattle.ttp_world.specs.Script.{is_on, is_ever_on, on_slot}
 use Rattle.ttp_world.proofs.Lists.{nodes-most}
+use Rattle.ttp_world.proofs.Starts.{alone-start, on-start}
 use Rattle.fault_plan.specs.Plan.{plan_of}
 use Rattle.fault_plan.specs.Fates.{fate_of, is_steady_after, steady_nodes, lost_since}
 use Rattle.fault_plan.specs.GoodPlan.{IsGoodPlan}
-use Rattle.fault_plan.specs.Kept.{IsLoneStart, IsPlanOfFaults, FollowsPlan, KeepsByPlan}
+use Rattle.fault_plan.specs.Kept.{IsPlanOfFaults, FollowsPlan, KeepsByPlan}
 use Rattle.fault_plan.proofs.Bounds.{none-armed, none-flipped, within-bounds}
 use Rattle.fault_plan.proofs.FateSteps.{since-kept, since-now}
-use Rattle.fault_plan.proofs.FaultySets.{two_rounds, IsSingleFault, faulty_before, makes-slot, strikes-slot}
+use Rattle.fault_plan.proofs.FaultySets.{two_rounds, AreOnBy, IsSingleFault, faulty_before, makes-slot, strikes-slot}
 use Rattle.fault_plan.proofs.FaultySets.{faulty-early}
 use Rattle.fault_plan.proofs.FaultySets.{some-rounds, fates-known}
 use Rattle.fault_plan.proofs.Hearing.{on-ever, on-since, origin-of}
 use Rattle.fault_plan.proofs.Incidents.{found-tells, late-found, apart-found}
-use Rattle.fault_plan.proofs.Lone.{lone-start}
 use Rattle.fault_plan.proofs.Members.{first-sender, first-good}
 use Rattle.fault_plan.proofs.Persists.{sound-first, sound-before}
 use Rattle.fault_plan.proofs.Rules.{RulesHold, rules-hold}
@@ -115,13 +115,13 @@ same-on true false later back = sym (later refl)
 same-on false true later back = back refl
 same-on false false later back = refl
 
-pub on-always : (list : Medl) (script : Script) (start : ClusterStart) (turn k : ℕ) → IsLoneStart list script start
+pub on-always : (list : Medl) (script : Script) (start : ClusterStart) (turn k : ℕ) → AreOnBy list script start.slot
     → k < length list.slots
     → is_ever_on script k ≡ is_on script k (start.slot + turn)
-on-always list script start turn k lone less =
+on-always list script start turn k by less =
     let slot = start.slot + turn in
     same-on (is_ever_on script k) (is_on script k slot)
-    (λ ever. on-since list script start k slot lone less (omega arith) ever) (on-ever script k slot)
+    (λ ever. on-since list script start k slot by less (omega arith) ever) (on-ever script k slot)
 
 pub plan-of-faults : (list : Medl) (script : Script) (start : ClusterStart) → start_of list script ≡ Some start
     → IsSingleFault list script start
@@ -129,7 +129,7 @@ pub plan-of-faults : (list : Medl) (script : Script) (start : ClusterStart) → 
 plan-of-faults list script start started run = record {
   sound = λ turn k less within.
       let slot = start.slot + turn in
-      let on : is_ever_on script k ≡ is_on script k slot = on-always list script start turn k run.lone less in
+      let on : is_ever_on script k ≡ is_on script k slot = on-always list script start turn k run.on less in
       let faulty : numbers_of (faulty_nodes_after list script slot) ≡ faulty_before list script start (suc slot) =
       ap (λ found. numbers_of (started_faulty_nodes list script slot found)) started in
       (fates-known list script start turn slot k run refl within less).sound
@@ -185,9 +185,9 @@ good-plan list script start run =
     record {
       count = (run.valid.count.0, nodes-most list run.valid);
       starter = (
-        run.lone.node,
-        has_node-sieve (is_ever_on script) n start.node run.lone.node
-            ∙ due-ever (may_start list start.node) (on_slot script start.node) n start.node start.slot run.lone.due,
+        run.alone.node,
+        has_node-sieve (is_ever_on script) n start.node run.alone.node
+            ∙ due-ever (may_start list start.node) (on_slot script start.node) n start.node start.slot run.alone.due,
       );
       late = λ slot incident found. late-found list script start gap slot incident faulty run.spaced found;
       apart = λ slot later first second found next less.
@@ -219,7 +219,8 @@ single-fault list script slot valid rules =
       valid = valid;
       bounds = within-bounds list script rules.clocks rules.window rules.outside;
       flips = λ k slot c. none-flipped list script k slot c rules.outside;
-      lone = lone-start list script start rules.started;
+      alone = alone-start list script start rules.started;
+      on = λ k less ever. on-start list script start k rules.started less ever;
       whole = λ t within.
           none-found (breaks_in list script start) 0 script.slots t rules.loss (omega arith) (omega arith);
       spaced = spaced-all (two_rounds list) (start.slot + two_rounds list)
@@ -245,7 +246,7 @@ follows-plan list script start run =
       slots = refl;
       measured = λ k less. has_node-sieve (λ k. (plan_at list k).sync) n k less;
       on = λ turn k less.
-          has_node-sieve (is_ever_on script) n k less ∙ on-always list script start turn k run.lone less;
+          has_node-sieve (is_ever_on script) n k less ∙ on-always list script start turn k run.on less;
       hearing = λ turn within. heard-slot list script start turn run within;
       clocks = λ turn earlier k less within before sound.
           run.bounds.still k (start.slot + earlier)
@@ -277,7 +278,8 @@ kept-plan list script slot valid keeps =
       start = rules.start;
       started = rules.started;
       from = rules.from;
-      lone = run.lone;
+      alone = run.alone;
+      on = run.on;
       arms = λ k slot. none-armed list script k slot rules.outside;
       follows = record { planned = follows-plan list script rules.start run; bounds = run.bounds };
       faults = plan-of-faults list script rules.start rules.started run;

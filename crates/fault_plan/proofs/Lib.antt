@@ -3,7 +3,6 @@ pub mod Turns
 pub mod Sieves
 pub mod Rules
 pub mod Bounds
-pub mod Lone
 pub mod Spaced
 pub mod FateSteps
 pub mod Incidents

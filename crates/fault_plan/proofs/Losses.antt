@@ -12,7 +12,7 @@ use Rattle.ttp_world.specs.declared.script.Script.{Script}
 use Rattle.ttp_world.specs.Hypothesis.{Loss, Harmless, Makes, Breaks, is_breaking, loss_among, loses, is_other}
 use Rattle.ttp_world.specs.Hypothesis.{others_in, receivers_loss, sender_loss}
 use Rattle.ttp_world.specs.Script.{is_ever_on}
-use Rattle.fault_plan.proofs.Sieves.{each-sieve}
+use Rattle.ttp_world.proofs.Filters.{each-sieve}
 
 -- a node of a list, of which each has a property, has it
 member-step : (P : ℕ → Type 0) (x r : ℕ) (rest b : Bool) → (x == r) ≡ b → P x → (rest ≡ true → P r)

@@ -72,7 +72,7 @@ still-by : (list : Medl) (script : Script) (start : ClusterStart) (slot r : ℕ)
     → has_jump script r slot ≡ false
 still-by list script start slot r run after less clear =
     let faulty = faulty_before list script start slot in
-    let on : is_on script r slot ≡ true = on-since list script start r slot run.lone less after clear.ever in
+    let on : is_on script r slot ≡ true = on-since list script start r slot run.on less after clear.ever in
     let none : jumps_now script faulty slot r ≡ false =
     sym (has_node-sieve (jumps_now script faulty slot) (length list.slots) r less) ∙ clear.jumper in
     false_from_ne_true (has_jump script r slot) (λ jumps.

@@ -6,11 +6,12 @@ use Rattle.ttp_world.specs.declared.medl.Medl.{Medl}
 use Rattle.ttp_world.specs.declared.script.Channel.{Channel}
 use Rattle.ttp_world.specs.declared.script.Script.{Script}
 use Rattle.ttp_world.specs.Hypothesis.{ClusterStart, clocks_broken, is_within_bound, needed, is_far_jump, start_of}
-use Rattle.ttp_world.specs.Hypothesis.{start_slot, loses}
+use Rattle.ttp_world.specs.Hypothesis.{loses}
 use Rattle.ttp_world.specs.Hypothesis.{faulty_nodes_after, is_correct_after}
 use Rattle.ttp_world.specs.Medl.{plan_at}
 use Rattle.ttp_world.specs.Script.{is_ever_on, is_on, is_armed, drift_of, reading_error, has_jump, jump_of}
 use Rattle.ttp_world.specs.Script.{flipped_bits}
+use Rattle.ttp_world.specs.Starts.{StartsAlone}
 use Rattle.fault_plan.specs.Plan.{Sending, Receiving, Jumping, Incident, Plan, sender, incident_at, plan_of}
 use Rattle.fault_plan.specs.Fates.{fate_of, is_sound_after, is_good_slot, lost_since}
 use Rattle.fault_plan.specs.GoodPlan.{IsGoodPlan}
@@ -68,14 +69,6 @@ pub record FollowsWithin (list : Medl) (script : Script) (start : ClusterStart) 
   pub planned : FollowsPlan list script start plan
   pub bounds : IsWithinBounds list script
 
--- One node starts, and before any other would; all that are ever on are on by then.
-pub record IsLoneStart (list : Medl) (script : Script) (start : ClusterStart) : Type 0 where
-  pub node : start.node < length list.slots
-  pub due : start_slot list script start.node ≡ Some start.slot
-  pub others : (k slot : ℕ) → k < length list.slots → k ≢ start.node → start_slot list script k ≡ Some slot
-      → start.slot < slot
-  pub on : (k : ℕ) → k < length list.slots → is_ever_on script k ≡ true → is_on script k start.slot ≡ true
-
 -- The plan is that of the script's faulty nodes: the sound ones after a slot of the run are the correct ones, and each
 -- faulty node is lost in the slot in which it became faulty.
 pub record IsPlanOfFaults (list : Medl) (script : Script) (start : ClusterStart) (plan : Plan) : Type 0 where
@@ -90,7 +83,9 @@ pub record KeepsByPlan (list : Medl) (script : Script) (slot : ℕ) : Type 0 whe
   pub start : ClusterStart
   pub started : start_of list script ≡ Some start
   pub from : start.slot ≡ slot
-  pub lone : IsLoneStart list script start
+  -- one node starts alone, and all that are ever on are on by then
+  pub alone : StartsAlone list script start
+  pub on : (k : ℕ) → k < length list.slots → is_ever_on script k ≡ true → is_on script k start.slot ≡ true
   pub arms : (k slot : ℕ) → is_armed script k slot ≡ false
   pub follows : FollowsWithin list script start (plan_of list script start)
   pub faults : IsPlanOfFaults list script start (plan_of list script start)

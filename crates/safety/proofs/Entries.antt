@@ -1,9 +1,10 @@
 -- What nodes note in the slot of the start, and in each turn after it.
 use Rattle.std.proofs.Common.{◌≡◌, ◌≢◌, ℕ, suc, ◌+◌, ◌<◌, Bool, true, false, cond, length, refl, ap, sym, subst}
-use Rattle.std.proofs.Common.{◌∙◌, inl, inr, arith}
+use Rattle.std.proofs.Common.{◌∙◌, inl, inr, Option, arith}
 use Rattle.std.proofs.lemmas.Bool.{cases_eq, both_ways}
 use Rattle.ttp_world.specs.declared.medl.Medl.{Medl}
 use Rattle.ttp_world.specs.declared.node.Entry.{Entry}
+use Rattle.ttp_world.specs.declared.node.Entry.TheVariants as entry
 use Rattle.ttp_world.specs.declared.node.Phase.TheVariants as phase
 use Rattle.ttp_world.specs.declared.script.Script.{Script}
 use Rattle.ttp_world.specs.Acknowledgement.{is_correct}
@@ -50,7 +51,7 @@ started-by_plan list script start plan new numbers is now = record {
 module _ (list : Medl) (script : Script) (start : ClusterStart) (plan : Plan) (turn : ℕ) (new : SlotNumbers)
     (numbers : Numbers) (t : IsTurn list script start plan turn new numbers) where
   -- what is so of the entry that a node makes is so of its entry in the row
-  in-row : (P : Entry → Type 0) (k : ℕ) (e : Entry) → k < length list.slots
+  pub in-row : (P : Entry → Type 0) (k : ℕ) (e : Entry) → k < length list.slots
       → entry_made (slot_of list script new numbers k) ≡ e → P e
       → P (entry_of (row_in (slot_after list script (world list script numbers))
       (messages_chosen list script (length numbers) new.sent)) k)
@@ -58,8 +59,23 @@ module _ (list : Medl) (script : Script) (start : ClusterStart) (plan : Plan) (t
       subst P (sym (entry_of-made list script (world list script numbers)
       (messages_chosen list script (length numbers) new.sent) k node ∙ made)) holds
 
-  fate-before : (k : ℕ) → is_sound_after plan (suc turn) k ≡ true → fate_of plan turn k ≡ Sound
+  pub fate-before : (k : ℕ) → is_sound_after plan (suc turn) k ≡ true → fate_of plan turn k ≡ Sound
   fate-before k sound = sound-fate (fate_of plan turn k) (sound-before plan turn (suc turn) k (omega arith) sound)
+
+  -- in its own slot a sound node sends
+  pub own-sent : (k : ℕ) → IsSoundIn list plan (suc turn) k → sender plan (suc turn) ≡ k
+      → (message : Option ℕ)
+      × (entry_of (row_in (slot_after list script (world list script numbers))
+      (messages_chosen list script (length numbers) new.sent)) k ≡ entry.Sent message)
+  own-sent k sound own =
+      let sends = fate-before (sender plan (suc turn)) (ap (is_sound_after plan (suc turn)) own ∙ sound.1) in
+      let owner = sound-owner list script start plan turn new numbers t sends in
+      let may = sound-sends plan turn _ owner in
+      let sent = sent-own (slot_of list script new numbers (sender plan (suc turn))) owner.own may.closed may.more in
+      subst (λ j. (message : Option ℕ)
+      × (entry_of (row_in (slot_after list script (world list script numbers))
+      (messages_chosen list script (length numbers) new.sent)) j ≡ entry.Sent message)) own
+      (_, entry_of-made list script (world list script numbers) _ (sender plan (suc turn)) owner.own.node ∙ sent.entry)
 
   -- in a good slot the sender sends, and each other sound node judges its frame correct
   tells-good : (k : ℕ) → is_good_slot plan (suc turn) ≡ true → IsSoundIn list plan (suc turn) k
@@ -68,15 +84,8 @@ module _ (list : Medl) (script : Script) (start : ClusterStart) (plan : Plan) (t
       (messages_chosen list script (length numbers) new.sent)) k)
   tells-good k good_is sound = elim (cases_eq (sender plan (suc turn)) k) [
     | inl own ↦
-        let sends = fate-before (sender plan (suc turn)) good_is in
-        let owner = sound-owner list script start plan turn new numbers t sends in
-        let may = sound-sends plan turn _ owner in
-        let sent = sent-own (slot_of list script new numbers (sender plan (suc turn))) owner.own may.closed may.more in
-        subst (λ j. TellsOf list script (world list script numbers) (sender plan (suc turn)) j
-        (entry_of (row_in (slot_after list script (world list script numbers))
-        (messages_chosen list script (length numbers) new.sent)) j)) own
-        (in-row (TellsOf list script (world list script numbers) (sender plan (suc turn)) (sender plan (suc turn)))
-        (sender plan (suc turn)) _ owner.own.node sent.entry refl)
+        subst (TellsOf list script (world list script numbers) (sender plan (suc turn)) k)
+        (sym (own-sent k sound own).1) (sym own)
     | inr other ↦
         let judged = judges-good list script start plan turn new numbers t k sound.0 other
         (fate-before k sound.1) good_is (fate-before (sender plan (suc turn)) good_is) sound.1 in
@@ -91,7 +100,7 @@ module _ (list : Medl) (script : Script) (start : ClusterStart) (plan : Plan) (t
   same-accepted true before after seen seen_after judged was is same = absurd (omega arith)
   same-accepted false before after seen seen_after judged was is same = refl
 
-  notes-other : (k : ℕ) → is_good_slot plan (suc turn) ≡ false → IsSoundIn list plan (suc turn) k
+  pub notes-other : (k : ℕ) → is_good_slot plan (suc turn) ≡ false → IsSoundIn list plan (suc turn) k
       → NotesNothing (entry_of (row_in (slot_after list script (world list script numbers))
       (messages_chosen list script (length numbers) new.sent)) k)
   notes-other k wrong sound =

@@ -1,27 +1,32 @@
 -- A script that keeps the single-fault hypothesis, by its plan.
-use Rattle.std.proofs.Common.{◌≡◌, ℕ, suc, ◌+◌, ◌-◌, ◌<◌, ◌≤◌, ◌≤ℤ◌, ◌-ℤ◌, true, length, sym, subst, ◌∙◌, arith}
-use Rattle.std.proofs.Common.{neg_ℤ}
+use Rattle.std.proofs.Common.{◌≡◌, ℕ, suc, ◌+◌, ◌-◌, ◌<◌, ◌≤◌, ◌≤ℤ◌, ◌-ℤ◌, true, length, ap, sym, subst, ◌∙◌}
+use Rattle.std.proofs.Common.{neg_ℤ, arith}
 use Rattle.ttp_world.specs.declared.keep.Keep.TheVariants as keep
 use Rattle.ttp_world.specs.declared.medl.Medl.{Medl}
 use Rattle.ttp_world.specs.declared.script.Script.{Script}
+use Rattle.ttp_world.specs.Diary.{diary_of, place_of}
 use Rattle.ttp_world.specs.Hypothesis.{keeps, needed, is_correct_after}
 use Rattle.ttp_world.specs.Legal.{IsLegal}
 use Rattle.ttp_world.specs.Medl.{IsValid}
-use Rattle.ttp_world.specs.Safety.{IsSafe}
+use Rattle.ttp_world.specs.Safety.{newest_slot, IsSafe}
 use Rattle.ttp_world.specs.Script.{IsValidScript}
-use Rattle.ttp_world.specs.World.{Numbers, world}
+use Rattle.ttp_world.specs.World.{Numbers, node_past, world}
 use Rattle.ttp_world.proofs.Worlds.{length-world}
 use Rattle.precision.specs.Spread.{spread}
-use Rattle.precision.specs.Together.{clock_at, measured}
+use Rattle.precision.specs.Together.{IsIn, clock_at, measured}
+use Rattle.fault_plan.specs.Fates.{is_sound_after}
 use Rattle.fault_plan.specs.Kept.{KeepsByPlan}
 use Rattle.fault_plan.specs.Plan.{plan_of}
 use Rattle.fault_plan.proofs.KeptPlan.{kept-plan}
-use Rattle.safety_clocks.specs.NotedByPlan.{IsSoundIn}
+use Rattle.safety_clocks.specs.NotedByPlan.{IsSoundIn, GoesOnByPlan}
 use Rattle.safety_clocks.proofs.Bounds.{sound-clocks, sound-deviations}
+use Rattle.safety_steps.specs.ByFate.{IsSoundAt}
 use Rattle.safety_steps.specs.Run.{IsBegun, StandsAfter}
-use Rattle.safety_steps.proofs.Safe.{safe-after}
+use Rattle.safety_steps.proofs.Safe.{safe-after, correct-sound as correct-at}
 use Rattle.safety.specs.ByPlan.{IsByPlan}
-use Rattle.safety.proofs.Together.{clocks-hold, run-by_plan}
+use Rattle.safety.specs.SameFrames.{AcceptsAlikeSince}
+use Rattle.safety.proofs.Accepted.{alike-run}
+use Rattle.safety.proofs.Together.{KeepsClocks, clocks-hold, run-by_plan}
 
 module _ (list : Medl) (script : Script) (slot : ℕ) (valid : IsValid list) (script_valid : IsValidScript list script)
     (kept : keeps list script ≡ keep.Yes slot) where
@@ -36,10 +41,13 @@ module _ (list : Medl) (script : Script) (slot : ℕ) (valid : IsValid list) (sc
       follows = by_plan.follows.planned;
       arms = λ k turn node lost. by_plan.arms k (by_plan.start.slot + suc turn);
     };
-    lone = by_plan.lone;
+    alone = by_plan.alone;
     heard = λ k node other on.
         by_plan.heard k (let from = by_plan.from in omega (arith, inside, from)) node other on;
   }
+
+  clocks : KeepsClocks list script by_plan.start (plan_of list script by_plan.start)
+  clocks = clocks-hold list script by_plan.start (plan_of list script by_plan.start) valid by_plan.follows
 
   -- after the slot that came last
   module _ (numbers : Numbers) (legal : IsLegal list script numbers) (after : slot < length numbers)
@@ -52,9 +60,7 @@ module _ (list : Medl) (script : Script) (slot : ℕ) (valid : IsValid list) (sc
     run =
         let number = count in
         run-by_plan list script by_plan.start (plan_of list script by_plan.start)
-        (begun (omega (arith, after, within)))
-        (clocks-hold list script by_plan.start (plan_of list script by_plan.start) valid by_plan.follows)
-        (length numbers - suc slot) numbers number
+        (begun (omega (arith, after, within))) clocks (length numbers - suc slot) numbers number
         (omega (arith, number, within)) legal
 
     pub kept-stands : StandsAfter list script by_plan.start (plan_of list script by_plan.start)
@@ -74,6 +80,44 @@ module _ (list : Medl) (script : Script) (slot : ℕ) (valid : IsValid list) (sc
         safe-after list script by_plan.start (plan_of list script by_plan.start) (length numbers - suc slot)
         (world list script numbers) kept-stands
 
+    -- the correct nodes are the sound ones
+    correct-sound : (k : ℕ) → IsIn list (is_correct_after list script (newest_slot (world list script numbers))) k
+        → is_sound_after (plan_of list script by_plan.start) (length numbers - suc slot) k ≡ true
+    correct-sound k of_k =
+        let number = count in
+        let newest : newest_slot (world list script numbers) ≡ by_plan.start.slot + (length numbers - suc slot) =
+        let all = length-world list script numbers in omega (arith, number, all) in
+        by_plan.faults.sound (length numbers - suc slot) k of_k.0 (omega (arith, number, within))
+        ∙ ap (λ s. is_correct_after list script s k) (sym newest) ∙ of_k.1
+
+    pub kept-alike : AcceptsAlikeSince list script
+        (is_correct_after list script (newest_slot (world list script numbers))) slot (world list script numbers)
+    kept-alike =
+        let number = count in
+        subst (λ s. AcceptsAlikeSince list script
+        (is_correct_after list script (newest_slot (world list script numbers))) s (world list script numbers))
+        by_plan.from
+        (alike-run list script by_plan.start (plan_of list script by_plan.start) (begun (omega (arith, after, within)))
+        clocks (is_correct_after list script (newest_slot (world list script numbers))) (length numbers - suc slot)
+        numbers correct-sound number (omega (arith, number, within)) legal)
+
+    pub kept-places : (j k : ℕ)
+        → IsIn list (is_correct_after list script (newest_slot (world list script numbers))) j
+        → IsIn list (is_correct_after list script (newest_slot (world list script numbers))) k
+        → place_of list j (diary_of (world list script numbers) j)
+        ≡ place_of list k (diary_of (world list script numbers) k)
+    kept-places j k of_j of_k =
+        let holds = safe-nodes in
+        (holds j of_j.0 of_j.1).place ∙ sym (holds k of_k.0 of_k.1).place
+      where
+        safe-nodes : (k : ℕ) → k < length list.slots
+            → is_correct_after list script (newest_slot (world list script numbers)) k ≡ true
+            → IsSoundAt list (plan_of list script by_plan.start) (length numbers - suc slot) k
+            (node_past list script (world list script numbers) k)
+        safe-nodes =
+            correct-at list script by_plan.start (plan_of list script by_plan.start) (length numbers - suc slot)
+            (world list script numbers) kept-stands
+
   -- at the beginning of the slot that comes
   module _ (numbers : Numbers) (legal : IsLegal list script numbers) (after : slot < length numbers)
       (within : length numbers < script.slots) where
@@ -82,6 +126,15 @@ module _ (list : Medl) (script : Script) (slot : ℕ) (valid : IsValid list) (sc
 
     inside : by_plan.start.slot + suc (length numbers - suc slot) < script.slots
     inside = let number = next_number in omega (arith, number, within)
+
+    goes : GoesOnByPlan list script by_plan.start (plan_of list script by_plan.start) (length numbers - suc slot)
+        (world list script numbers)
+    goes = record {
+      valid = valid;
+      follows = by_plan.follows;
+      noted = (run numbers legal after (omega (arith, within))).noted;
+      within = inside;
+    }
 
     sound-in : (k : ℕ) → k < length list.slots → is_correct_after list script (length numbers) k ≡ true
         → IsSoundIn list (plan_of list script by_plan.start) (suc (length numbers - suc slot)) k
@@ -97,10 +150,7 @@ module _ (list : Medl) (script : Script) (slot : ℕ) (valid : IsValid list) (sc
         → (clock_at list script (world list script numbers) j -ℤ clock_at list script (world list script numbers) k)
         ≤ℤ spread list
     kept-clocks j k node_j node_k correct_j correct_k =
-        sound-clocks list script by_plan.start (plan_of list script by_plan.start) (length numbers - suc slot)
-        (world list script numbers) valid by_plan.follows
-        (run numbers legal after (omega (arith, within))).noted inside j k (sound-in j node_j correct_j)
-        (sound-in k node_k correct_k)
+        sound-clocks goes j k (sound-in j node_j correct_j) (sound-in k node_k correct_k)
 
     pub kept-deviations : (r p : ℕ) → r < length list.slots → p < length list.slots
         → is_correct_after list script (length numbers) r ≡ true
@@ -108,7 +158,4 @@ module _ (list : Medl) (script : Script) (slot : ℕ) (valid : IsValid list) (sc
         → (neg_ℤ (needed list) ≤ℤ measured list script (world list script numbers) r p)
         × (measured list script (world list script numbers) r p ≤ℤ needed list)
     kept-deviations r p node_r node_p correct_r correct_p =
-        sound-deviations list script by_plan.start (plan_of list script by_plan.start) (length numbers - suc slot)
-        (world list script numbers) valid by_plan.follows
-        (run numbers legal after (omega (arith, within))).noted inside r p (sound-in r node_r correct_r)
-        (sound-in p node_p correct_p)
+        sound-deviations goes r p (sound-in r node_r correct_r) (sound-in p node_p correct_p)

@@ -1,3 +1,5 @@
 pub mod Entries
 pub mod Together
+pub mod Delivered
+pub mod Accepted
 pub mod Kept

@@ -10,7 +10,7 @@ use Rattle.ttp_world.specs.World.{SlotNumbers, Numbers, slot_after, world}
 use Rattle.ttp_world.proofs.LegalShapes.{legal-older}
 use Rattle.fault_plan.specs.Kept.{FollowsWithin}
 use Rattle.fault_plan.specs.Plan.{Plan}
-use Rattle.safety_clocks.specs.NotedByPlan.{NotedByPlan}
+use Rattle.safety_clocks.specs.NotedByPlan.{NotedByPlan, GoesOnByPlan}
 use Rattle.safety_clocks.proofs.Bounds.{sound-inside}
 use Rattle.safety_clocks.proofs.OutsideWindow.{jumped-outside}
 use Rattle.safety_steps.specs.Clocks.{ClocksHold}
@@ -32,22 +32,17 @@ KeepsClocks list script start plan =
 pub clocks-hold : (list : Medl) (script : Script) (start : ClusterStart) (plan : Plan) → IsValid list
     → FollowsWithin list script start plan → KeepsClocks list script start plan
 clocks-hold list script start plan valid follows turn numbers noted within =
-    let history = world list script numbers in
+    let goes : GoesOnByPlan list script start plan turn (world list script numbers) =
+    record { valid = valid; follows = follows; noted = noted; within = within } in
     record {
-      within = λ r p node sends sound steady.
-          sound-inside list script start plan turn history valid follows noted within r p (node, sound)
-          (sends, steady);
-      frame = λ r p since node sends sound jumped.
-          (jumped-outside list script start plan turn history valid follows noted within p r since sends
-          (inr jumped) (node, sound)).0;
-      others = λ r p since node sends jumped sound.
-          (jumped-outside list script start plan turn history valid follows noted within r p since node
-          (inl jumped) (sends, sound)).1;
+      within = λ r p node sends sound steady. sound-inside goes r p (node, sound) (sends, steady);
+      frame = λ r p since node sends sound jumped. (jumped-outside goes p r since sends (inr jumped) (node, sound)).0;
+      others = λ r p since node sends jumped sound. (jumped-outside goes r p since node (inl jumped) (sends, sound)).1;
     }
 
 module _ (list : Medl) (script : Script) (start : ClusterStart) (plan : Plan) (is : IsBegun list script start plan)
     (clocks : KeepsClocks list script start plan) where
-  turn-next : (turn : ℕ) (new : SlotNumbers) (numbers : Numbers) → length numbers ≡ start.slot + suc turn
+  pub turn-next : (turn : ℕ) (new : SlotNumbers) (numbers : Numbers) → length numbers ≡ start.slot + suc turn
       → start.slot + suc turn < script.slots → IsLegal list script (new ∷ numbers)
       → IsByPlan list script start plan turn (world list script numbers)
       → IsTurn list script start plan turn new numbers

@@ -1,2 +1,3 @@
 pub mod ByPlan
+pub mod SameFrames
 pub mod WorkedRuns

@@ -12,14 +12,16 @@
 
 ghost use Rattle.std.specs.Prelude.{◌≡◌, ℕ, ◌<◌, ◌≤◌, ◌≤ℤ◌, ◌-ℤ◌, neg_ℤ, length, IsTrue};
 ghost use Rattle.ttp_world.specs.declared.keep.Keep.TheVariants as keep;
+ghost use Rattle.ttp_world.specs.Diary.{diary_of, place_of};
 ghost use Rattle.ttp_world.specs.Hypothesis.{keeps, needed, is_correct_after};
 ghost use Rattle.ttp_world.specs.Legal.{IsLegal};
 ghost use Rattle.ttp_world.specs.Medl.{IsValid};
-ghost use Rattle.ttp_world.specs.Safety.{IsSafe};
+ghost use Rattle.ttp_world.specs.Safety.{newest_slot, IsSafe};
 ghost use Rattle.ttp_world.specs.Script.{IsValidScript};
 ghost use Rattle.ttp_world.specs.World.{Numbers, world};
 ghost use Rattle.precision.specs.Spread.{spread};
-ghost use Rattle.precision.specs.Together.{clock_at, measured};
+ghost use Rattle.precision.specs.Together.{IsIn, clock_at, measured};
+ghost use Rattle.safety.specs.SameFrames.{AcceptsAlikeSince};
 
 pub mod laws;
 #[cfg(test)]
@@ -61,4 +63,28 @@ pub fn safe(list: &Medl, script: &Script, start: u32)
         → (let history = world list.now script.now numbers in
         (neg_ℤ (needed list.now) ≤ℤ measured list.now script.now history r p)
         × (measured list.now script.now history r p ≤ℤ needed list.now)) }
+{}
+
+/// What correct nodes of such a script make of each other's frames. The nodes that are correct after a
+/// slot have, in each slot from the start on, accepted the same frames of third nodes, and each of them
+/// accepted each frame that another sent; and their hosts got the same messages of third nodes
+/// (`frames`). A frame is accepted that is judged correct, and the cold start is not judged. After that
+/// slot they stand at one place of the cluster cycle (`places`).
+///
+/// It does nothing, and takes no memory.
+pub fn same_frames(list: &Medl, script: &Script, start: u32)
+    requires valid { IsValid list.now }
+    requires script { IsValidScript list.now script.now }
+    requires kept { keeps list.now script.now ≡ keep.Yes start }
+    ensures frames { (numbers : Numbers) → IsLegal list.now script.now numbers
+        → start < length numbers → length numbers ≤ script.now.slots
+        → (let history = world list.now script.now numbers in
+        AcceptsAlikeSince list.now script.now (is_correct_after list.now script.now (newest_slot history)) start
+        history) }
+    ensures places { (numbers : Numbers) → IsLegal list.now script.now numbers
+        → start < length numbers → length numbers ≤ script.now.slots
+        → (let history = world list.now script.now numbers in
+        (j k : ℕ) → IsIn list.now (is_correct_after list.now script.now (newest_slot history)) j
+        → IsIn list.now (is_correct_after list.now script.now (newest_slot history)) k
+        → place_of list.now j (diary_of history j) ≡ place_of list.now k (diary_of history k)) }
 {}

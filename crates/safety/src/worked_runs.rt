@@ -1,15 +1,16 @@
 //! Runs that were worked out by hand. The functions have no code: their contracts are the cases, and
 //! the check computes them. They show that what [`crate::safe`] asks can be met, and what it gives is
 //! so while the fault lasts.
-ghost use Rattle.std.specs.Prelude.{◌≡◌, [], ◌∷◌};
+ghost use Rattle.std.specs.Prelude.{◌≡◌, true, false, [], ◌∷◌};
 ghost use Rattle.ttp_world.specs.declared.keep.Keep.TheVariants as keep;
 ghost use Rattle.ttp_world.specs.declared.node.Ack.TheVariants as ack;
 ghost use Rattle.ttp_world.specs.declared.node.Phase.TheVariants as phase;
 ghost use Rattle.ttp_world.specs.Acknowledgement.{ack_of};
-ghost use Rattle.ttp_world.specs.Diary.{diary_of, phase_of};
+ghost use Rattle.ttp_world.specs.Diary.{newest_entry, diary_of, phase_of};
 ghost use Rattle.ttp_world.specs.Hypothesis.{keeps};
 ghost use Rattle.ttp_world.specs.Legal.{IsLegal};
 ghost use Rattle.ttp_world.specs.Safety.{members_of_node, IsSafe};
+ghost use Rattle.safety.specs.SameFrames.{accepts};
 ghost use Rattle.safety.specs.WorkedRuns.{five_nodes, silenced, deafened, jumping, bare_numbers, run_of};
 
 /// The frame of node 2 in slot 22 is lost to all others. So after slot 23 it is no member. The frame of
@@ -25,11 +26,15 @@ fn a_lost_frame()
 {}
 
 /// Node 3 loses node 2's frame in slot 22, and sends in slot 23 without node 2 among its members. So
-/// node 2 doubts it and holds it still, and the others hold node 2 alone of the two.
+/// node 2 doubts it and holds it still, and the others hold node 2 alone of the two. None of them accepts
+/// node 3's frame (`tentative`, `other`), and the next good frame settles the doubt (`settled`).
 fn a_doubt()
     ensures keeps { keeps five_nodes deafened ≡ keep.Yes 10 }
     ensures legal { IsLegal five_nodes deafened (bare_numbers 24) }
     ensures doubt { ack_of (diary_of (run_of deafened 24) 2) ≡ ack.Doubt 3 }
+    ensures tentative { accepts 3 (newest_entry (diary_of (run_of deafened 24) 2)) ≡ false }
+    ensures other { accepts 3 (newest_entry (diary_of (run_of deafened 24) 0)) ≡ false }
+    ensures settled { accepts 4 (newest_entry (diary_of (run_of deafened 25) 2)) ≡ true }
     ensures doubting { members_of_node five_nodes (run_of deafened 24) 2 ≡ 0 ∷ 1 ∷ 2 ∷ 3 ∷ 4 ∷ [] }
     ensures members { members_of_node five_nodes (run_of deafened 24) 0 ≡ 0 ∷ 1 ∷ 2 ∷ 4 ∷ [] }
     ensures safe { IsSafe five_nodes deafened (run_of deafened 24) }

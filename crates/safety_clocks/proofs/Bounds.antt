@@ -7,7 +7,6 @@ use Rattle.ttp_world.specs.declared.medl.Medl.{Medl}
 use Rattle.ttp_world.specs.declared.script.Script.{Script}
 use Rattle.ttp_world.specs.Diary.{History}
 use Rattle.ttp_world.specs.Hypothesis.{ClusterStart, needed}
-use Rattle.ttp_world.specs.Medl.{IsValid}
 use Rattle.ttp_world.specs.Reception.{is_within_window}
 use Rattle.ttp_world.specs.Script.{jump_of}
 use Rattle.precision.specs.Spread.{spread}
@@ -17,9 +16,9 @@ use Rattle.precision.proofs.Averages.{IsUpTo}
 use Rattle.precision.proofs.Runs.{clocks_within, deviations_within}
 use Rattle.fault_plan.specs.Plan.{Plan}
 use Rattle.fault_plan.specs.Fates.{is_sound_after}
-use Rattle.fault_plan.specs.Kept.{FollowsPlan, FollowsWithin}
+use Rattle.fault_plan.specs.Kept.{FollowsPlan}
 use Rattle.fault_plan.proofs.Persists.{sound-before}
-use Rattle.safety_clocks.specs.NotedByPlan.{IsSoundIn, NotedByPlan}
+use Rattle.safety_clocks.specs.NotedByPlan.{IsSoundIn, GoesOnByPlan}
 use Rattle.safety_clocks.proofs.SmallerGroups.{together-in}
 use Rattle.safety_clocks.proofs.Together.{number-of, ran-together}
 
@@ -32,53 +31,48 @@ none-jumps list script start plan slot follows within k turn p low high =
     (follows.clocks slot (turn - start.slot) k p.0 within (omega (arith, high, low)) p.1)
 
 -- those that are sound after the coming slot run together up to its beginning
-pub common-run : (list : Medl) (script : Script) (start : ClusterStart) (plan : Plan) (slot : ℕ) (history : History)
-    → FollowsWithin list script start plan → NotedByPlan list script start plan slot history
-    → start.slot + suc slot < script.slots
+pub common-run : {list : Medl} {script : Script} {start : ClusterStart} {plan : Plan} {slot : ℕ} {history : History}
+    → GoesOnByPlan list script start plan slot history
     → IsCommonRun list script (is_sound_after plan (suc slot)) start.slot history
-common-run list script start plan slot history follows noted within =
-    let number = number-of list script start plan slot history noted in
+common-run {list = list} {script = script} {start = start} {plan = plan} {slot = slot} {history = history} is =
+    let number = number-of list script start plan slot history is.noted in
     let here : start.slot + suc slot ≡ length history = omega (arith, number) in
     record {
-      bounds = follows.bounds.clocks;
-      within = omega (arith, within, number);
+      bounds = is.follows.bounds.clocks;
+      within = omega (arith, is.within, number);
       jumps = subst (NoneJumps list script (is_sound_after plan (suc slot)) start.slot) here
-          (none-jumps list script start plan (suc slot) follows.planned within);
+          (none-jumps list script start plan (suc slot) is.follows.planned is.within);
       together = together-in list script (is_sound_after plan (suc slot)) (is_sound_after plan slot) start.slot history
           (λ k sound. sound-before plan slot (suc slot) k (omega arith) sound)
-          (ran-together list script start plan slot history follows.planned noted (omega (arith, within, number)));
+          (ran-together list script start plan slot history is.follows.planned is.noted
+          (omega (arith, is.within, number)));
     }
 
-pub sound-clocks : (list : Medl) (script : Script) (start : ClusterStart) (plan : Plan) (slot : ℕ) (history : History)
-    → IsValid list → FollowsWithin list script start plan → NotedByPlan list script start plan slot history
-    → start.slot + suc slot < script.slots
+pub sound-clocks : {list : Medl} {script : Script} {start : ClusterStart} {plan : Plan} {slot : ℕ} {history : History}
+    → GoesOnByPlan list script start plan slot history
     → (j k : ℕ) → IsSoundIn list plan (suc slot) j → IsSoundIn list plan (suc slot) k
     → (clock_at list script history j -ℤ clock_at list script history k) ≤ℤ spread list
 unfolding HoldsClocksWithin
-sound-clocks list script start plan slot history valid follows noted within =
-    clocks_within list valid script (is_sound_after plan (suc slot)) start.slot history
-    (common-run list script start plan slot history follows noted within)
+sound-clocks {list = list} {script = script} {start = start} {plan = plan} {slot = slot} {history = history} is =
+    clocks_within list is.valid script (is_sound_after plan (suc slot)) start.slot history (common-run is)
 
-pub sound-deviations : (list : Medl) (script : Script) (start : ClusterStart) (plan : Plan) (slot : ℕ)
-    (history : History)
-    → IsValid list → FollowsWithin list script start plan → NotedByPlan list script start plan slot history
-    → start.slot + suc slot < script.slots
+pub sound-deviations : {list : Medl} {script : Script} {start : ClusterStart} {plan : Plan} {slot : ℕ}
+    {history : History} → GoesOnByPlan list script start plan slot history
     → (r p : ℕ) → IsSoundIn list plan (suc slot) r → IsSoundIn list plan (suc slot) p
     → IsUpTo (needed list) (measured list script history r p)
 unfolding HoldsDeviationsWithin
-sound-deviations list script start plan slot history valid follows noted within =
-    let number = number-of list script start plan slot history noted in
-    deviations_within list valid script (is_sound_after plan (suc slot)) start.slot history
-    (common-run list script start plan slot history follows noted within) (omega (arith, within, number))
+sound-deviations {list = list} {script = script} {start = start} {plan = plan} {slot = slot} {history = history} is =
+    let number = number-of list script start plan slot history is.noted in
+    deviations_within list is.valid script (is_sound_after plan (suc slot)) start.slot history (common-run is)
+    (omega (arith, is.within, number))
 
 in-window : (w b z : ℤ) → b ≤ℤ w → IsUpTo b z → (int_le (neg_ℤ w) z && int_le z w) ≡ true
 in-window w b z wide near = grind (arith, ints, near.0, near.1)
 
-pub sound-inside : (list : Medl) (script : Script) (start : ClusterStart) (plan : Plan) (slot : ℕ) (history : History)
-    → IsValid list → FollowsWithin list script start plan → NotedByPlan list script start plan slot history
-    → start.slot + suc slot < script.slots
+pub sound-inside : {list : Medl} {script : Script} {start : ClusterStart} {plan : Plan} {slot : ℕ} {history : History}
+    → GoesOnByPlan list script start plan slot history
     → (r p : ℕ) → IsSoundIn list plan (suc slot) r → IsSoundIn list plan (suc slot) p
     → is_within_window list (measured list script history r p) ≡ true
-sound-inside list script start plan slot history valid follows noted within r p a b =
-    in-window list.window (needed list) (measured list script history r p) follows.bounds.window
-    (sound-deviations list script start plan slot history valid follows noted within r p a b)
+sound-inside {list = list} {script = script} {history = history} is r p a b =
+    in-window list.window (needed list) (measured list script history r p) is.follows.bounds.window
+    (sound-deviations is r p a b)

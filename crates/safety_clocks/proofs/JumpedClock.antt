@@ -25,7 +25,7 @@ use Rattle.fault_plan.specs.Plan.{Jumping, Plan, sender}
 use Rattle.fault_plan.specs.Fates.{Falling, fate_of, is_sound_after}
 use Rattle.fault_plan.specs.Kept.{FollowsWithin}
 use Rattle.fault_plan.specs.Places.{planned_place}
-use Rattle.safety_clocks.specs.NotedByPlan.{IsSoundIn, NotesNothing, NotedByPlan}
+use Rattle.safety_clocks.specs.NotedByPlan.{IsSoundIn, NotesNothing, GoesOnByPlan}
 use Rattle.safety_clocks.proofs.Apart.{noted_width, AreNear, Apart, Fresh, Before}
 use Rattle.safety_clocks.proofs.Apart.{apart-next, same-near}
 use Rattle.safety_clocks.proofs.Bounds.{sound-clocks}
@@ -104,11 +104,11 @@ less-none z = omega (arith, ints)
 
 stays-base : (list : Medl) (script : Script) (start : ClusterStart) (plan : Plan) (x k base slot : ℕ) (jump : ℤ)
     (history : History)
-    → JumpsAfter list script start plan x base jump → NotedByPlan list script start plan slot history
-    → start.slot + suc slot < script.slots → slot ≡ base → IsSoundIn list plan (suc slot) k
+    → JumpsAfter list script start plan x base jump → GoesOnByPlan list script start plan slot history
+    → slot ≡ base → IsSoundIn list plan (suc slot) k
     → StaysApart list script plan slot x k 0 (pos 0) history
-stays-base list script start plan x k base slot jump history jumps noted within is q = record {
-  place = (counted-run list script start plan slot history jumps.follows.planned noted).places x
+stays-base list script start plan x k base slot jump history jumps goes is q = record {
+  place = (counted-run list script start plan slot history jumps.follows.planned goes.noted).places x
       (sound-back list plan slot x p);
   apart = elim (cases_lt (suc m) (length list.slots)) [
     | inl less ↦
@@ -136,22 +136,22 @@ stays-base list script start plan x k base slot jump history jumps noted within 
     p = (jumps.inside, subst (λ t. is_sound_after plan (suc t) x ≡ true) (sym is) jumps.sound)
 
     known : NotesKnown list script plan slot history
-    known = notes-known list script start plan slot history jumps.valid jumps.follows noted
-        (omega (arith, within, number-of list script start plan slot history noted))
+    known = notes-known list script start plan slot history jumps.valid jumps.follows goes.noted
+        (omega (arith, goes.within, number-of list script start plan slot history goes.noted))
 
     begun : (j : ℕ) → IsSoundIn list plan (suc slot) j
         → clock_at list script history j ≡ clock_after list script history j
     begun j r =
         clock_at-still list script history j
-        (still-of list script start plan slot j history jumps.follows.planned within noted r)
+        (still-of goes j r)
 
     near : (w : ℤ) → spread list ≤ℤ w
         → IsUpTo w ((clock_after list script history x -ℤ pos 0) -ℤ clock_after list script history k)
     near w wide =
         both-sides (spread list) w (clock_after list script history x) (clock_after list script history k)
         (clock_at list script history x) (clock_at list script history k)
-        (sound-clocks list script start plan slot history jumps.valid jumps.follows noted within x k p q)
-        (sound-clocks list script start plan slot history jumps.valid jumps.follows noted within k x q p)
+        (sound-clocks goes x k p q)
+        (sound-clocks goes k x q p)
         (begun x p) (begun k q) wide
 
     fewer : (share e : ℤ) → pos 0 ≤ℤ e
@@ -201,7 +201,7 @@ stays-next list script start plan x k base slot q jump row history jumps s is fe
           first = drift-jumps (clock_after list script history x) (jump_of script x (length history))
               (drift_of script x) (jumped_in jump q) (jumped_in jump (suc q)) list.drift added
               (drift_within list script x jumps.follows.bounds.clocks jumps.inside);
-          second = sound-moved list script start plan slot k row history s p;
+          second = sound-moved s k p;
         };
         next = index-of list script start plan slot jumps.follows.planned;
         new = notes_in list (planned_place list plan (suc slot)) (entry_of row x);
@@ -216,7 +216,7 @@ stays-next list script start plan x k base slot q jump row history jumps s is fe
             (clock-next list script row history x (planned_place list plan (suc slot)) new.goes place
             ∙ ap (λ m. clock_moved list script history x +ℤ correction list m (round_notes list (row ∷ history) x))
             index);
-        second = sound-clock list script start plan slot k row history s p;
+        second = sound-clock s k p;
       }) few before.apart;
 }
   where
@@ -227,15 +227,15 @@ stays-next list script start plan x k base slot q jump row history jumps s is fe
     index = place-slot list script start plan (suc slot) jumps.follows.planned
 
     number : start.slot + suc slot ≡ length history
-    number = omega (arith, number-of list script start plan slot history s.before)
+    number = omega (arith, number-of list script start plan slot history s.before.noted)
 
     added : jumped_in jump (suc q) ≡ jumped_in jump q +ℤ jump_of script x (length history)
-    added = jumped-next list script start plan x base slot q jump jumps s.within is
+    added = jumped-next list script start plan x base slot q jump jumps s.before.within is
         ∙ ap (λ t. jumped_in jump q +ℤ jump_of script x t) number
 
     known : NotesKnown list script plan (suc slot) (row ∷ history)
-    known = notes-known list script start plan (suc slot) (row ∷ history) jumps.valid jumps.follows (s.before, s.noted)
-        (omega (arith, s.within, number))
+    known = notes-known list script start plan (suc slot) (row ∷ history) jumps.valid jumps.follows
+        (s.before.noted, s.noted) (omega (arith, s.before.within, number))
 
     early : sender plan (suc slot) < suc slot
     early = omega (arith, sender-in list script start plan (suc slot) jumps.follows.planned, jumps.late, is)
@@ -257,7 +257,7 @@ notes-near list script start plan x k base slot zero jump row history jumps s is
           (clock_moved list script history k) (clock_moved list script history x -ℤ pos 0)
           (clock_moved list script history k) (notes_in list (planned_place list plan (suc slot)) (entry_of row x))
           (less-none (clock_moved list script history x)) refl
-          (near-new list script start plan slot x k row history s sound p);
+          (near-new s x k sound p);
     }
 notes-near list script start plan x k base slot (suc q) jump row history jumps s is p falls =
     let none : NotesNothing (entry_of row x) =
@@ -273,28 +273,30 @@ notes-near list script start plan x k base slot (suc q) jump row history jumps s
 
 pub stays-apart : (list : Medl) (script : Script) (start : ClusterStart) (plan : Plan) (x k base : ℕ) (jump : ℤ)
     (slot : ℕ) (history : History) (q : ℕ)
-    → JumpsAfter list script start plan x base jump → NotedByPlan list script start plan slot history
-    → start.slot + suc slot < script.slots → slot ≡ base + q → q ≤ length list.slots
+    → JumpsAfter list script start plan x base jump → GoesOnByPlan list script start plan slot history
+    → slot ≡ base + q → q ≤ length list.slots
     → IsSoundIn list plan (suc slot) k
     → (suc (suc base) ≤ slot → fate_of plan slot x ≡ Falling Jumping (suc (suc base)))
     → StaysApart list script plan slot x k q (jumped_in jump q) history
-stays-apart list script start plan x k base jump slot [] q jumps noted within is few p falls = absurd noted
-stays-apart list script start plan x k base jump zero (row ∷ history) q jumps noted within is few p falls =
+stays-apart list script start plan x k base jump slot [] q jumps goes is few p falls = absurd goes.noted
+stays-apart list script start plan x k base jump zero (row ∷ history) q jumps goes is few p falls =
     absurd (omega (arith, is, jumps.late, jumps.valid.count.0))
-stays-apart list script start plan x k base jump (suc slot) (row ∷ history) zero jumps noted within is few p falls =
-    stays-base list script start plan x k base (suc slot) jump (row ∷ history) jumps noted within (omega (arith, is)) p
-stays-apart list script start plan x k base jump (suc slot) (row ∷ history) (suc q) jumps noted within is few p falls =
+stays-apart list script start plan x k base jump (suc slot) (row ∷ history) zero jumps goes is few p falls =
+    stays-base list script start plan x k base (suc slot) jump (row ∷ history) jumps goes (omega (arith, is)) p
+stays-apart list script start plan x k base jump (suc slot) (row ∷ history) (suc q) jumps goes is few p falls =
     let s : NextSlot list script start plan slot row history = record {
-      valid = jumps.valid;
-      follows = jumps.follows;
-      within = omega (arith, within);
-      before = noted.0;
-      noted = noted.1;
+      before = record {
+        valid = jumps.valid;
+        follows = jumps.follows;
+        noted = goes.noted.0;
+        within = omega (arith, goes.within);
+      };
+      noted = goes.noted.1;
     } in
     let same : slot ≡ base + q = omega (arith, is) in
     let back : IsSoundIn list plan (suc slot) k = sound-back list plan (suc slot) k p in
     stays-next list script start plan x k base slot q jump row history jumps s same (omega (arith, few)) back
     (notes-near list script start plan x k base slot q jump row history jumps s same back falls)
-    (stays-apart list script start plan x k base jump slot history q jumps noted.0 (omega (arith, within)) same
+    (stays-apart list script start plan x k base jump slot history q jumps s.before same
     (omega (arith, few)) back (λ late. jumped-back plan slot x (suc (suc base)) jumps.follows.planned.good
     (inl (falls (omega (arith, late)))) (λ now. omega (arith, now, late))))

@@ -26,9 +26,9 @@ use Rattle.precision.proofs.Rounds.{drift_in, correction, product_more, product_
 use Rattle.precision.proofs.Runs.{clock_after, round_notes}
 use Rattle.fault_plan.specs.Plan.{Plan, sender}
 use Rattle.fault_plan.specs.Fates.{is_good_slot}
-use Rattle.fault_plan.specs.Kept.{FollowsPlan, FollowsWithin}
+use Rattle.fault_plan.specs.Kept.{FollowsPlan}
 use Rattle.fault_plan.specs.Places.{planned_place}
-use Rattle.safety_clocks.specs.NotedByPlan.{IsSoundIn, NotedInSlot, NotedByPlan}
+use Rattle.safety_clocks.specs.NotedByPlan.{IsSoundIn, NotedInSlot, GoesOnByPlan}
 use Rattle.safety_clocks.proofs.Apart.{noted_width, AreNear}
 use Rattle.safety_clocks.proofs.Bounds.{sound-clocks, sound-deviations}
 use Rattle.safety_clocks.proofs.RoundNotes.{none-silent, sender-in, place-slot, index-next}
@@ -71,10 +71,7 @@ notes-next list row history k m place false goes is index =
 -- A slot of the plan after others, and what is known then.
 pub record NextSlot (list : Medl) (script : Script) (start : ClusterStart) (plan : Plan) (slot : ℕ) (row : List Entry)
     (history : History) : Type 0 where
-  pub valid : IsValid list
-  pub follows : FollowsWithin list script start plan
-  pub within : start.slot + suc slot < script.slots
-  pub before : NotedByPlan list script start plan slot history
+  pub before : GoesOnByPlan list script start plan slot history
   pub noted : NotedInSlot list script plan (suc slot) row history
 
 pub index-of : (list : Medl) (script : Script) (start : ClusterStart) (plan : Plan) (slot : ℕ)
@@ -84,14 +81,14 @@ index-of list script start plan slot follows =
     index-next list script start plan slot (suc (sender plan slot) == length list.slots)
     (ap (λ m. suc m == length list.slots) (place-slot list script start plan slot follows)) follows
 
-pub still-of : (list : Medl) (script : Script) (start : ClusterStart) (plan : Plan) (slot k : ℕ) (history : History)
-    → FollowsPlan list script start plan → start.slot + suc slot < script.slots
-    → NotedByPlan list script start plan slot history → IsSoundIn list plan (suc slot) k
+pub still-of : {list : Medl} {script : Script} {start : ClusterStart} {plan : Plan} {slot : ℕ} {history : History}
+    → GoesOnByPlan list script start plan slot history → (k : ℕ) → IsSoundIn list plan (suc slot) k
     → jump_of script k (length history) ≡ pos 0
-still-of list script start plan slot k history follows within noted p =
+still-of {list = list} {script = script} {start = start} {plan = plan} {slot = slot} {history = history} is k p =
     let here : start.slot + suc slot ≡ length history =
-    omega (arith, number-of list script start plan slot history noted) in
-    subst (λ t. jump_of script k t ≡ pos 0) here (follows.clocks (suc slot) (suc slot) k p.0 within (omega arith) p.1)
+    omega (arith, number-of list script start plan slot history is.noted) in
+    subst (λ t. jump_of script k t ≡ pos 0) here
+    (is.follows.planned.clocks (suc slot) (suc slot) k p.0 is.within (omega arith) p.1)
 
 pub needed-up : (list : Medl) → IsValid list → pos 0 ≤ℤ needed list
 needed-up list valid = up-of list.drift list.error (length list.slots) valid.drift.0 valid.error.0
@@ -137,23 +134,22 @@ noted-each : (P : ℤ → Type 0) (list : Medl) (script : Script) (start : Clust
     → All P (notes_in list (planned_place list plan (suc slot)) (entry_of row k))
 noted-each P list script start plan slot k row history true is s p own other =
     told-each P list script history (sender plan (suc slot)) k (planned_place list plan (suc slot)) (entry_of row k)
-    (s.noted.good k is p) own (other (sender-in list script start plan (suc slot) s.follows.planned, is))
+    (s.noted.good k is p) own (other (sender-in list script start plan (suc slot) s.before.follows.planned, is))
 noted-each P list script start plan slot k row history false is s p own other =
     subst (All P) (sym (none-silent list (planned_place list plan (suc slot)) (entry_of row k) (s.noted.other k is p)))
     (All-nil P)
 
 -- So they lie near 0.
 
-pub small-new : (list : Medl) (script : Script) (start : ClusterStart) (plan : Plan) (slot k : ℕ) (row : List Entry)
-    (history : History)
-    → NextSlot list script start plan slot row history → IsSoundIn list plan (suc slot) k
+pub small-new : {list : Medl} {script : Script} {start : ClusterStart} {plan : Plan} {slot : ℕ} {row : List Entry}
+    {history : History} → NextSlot list script start plan slot row history → (k : ℕ) → IsSoundIn list plan (suc slot) k
     → All (IsUpTo (needed list)) (notes_in list (planned_place list plan (suc slot)) (entry_of row k))
-small-new list script start plan slot k row history s p =
+small-new {list = list} {script = script} {start = start} {plan = plan} {slot = slot} {row = row}
+    {history = history} s k p =
     noted-each (IsUpTo (needed list)) list script start plan slot k row history (is_good_slot plan (suc slot)) refl s p
-    (λ own. zero-upto (needed list) (needed-up list s.valid))
+    (λ own. zero-upto (needed list) (needed-up list s.before.valid))
     (λ q d is. subst (IsUpTo (needed list)) (sym is)
-    (sound-deviations list script start plan slot history s.valid s.follows s.before s.within k
-    (sender plan (suc slot)) p q))
+    (sound-deviations s.before k (sender plan (suc slot)) p q))
   where
     zero-upto : (w : ℤ) → pos 0 ≤ℤ w → IsUpTo w (pos 0)
     zero-upto w up = (omega (arith, ints, up), up)
@@ -168,30 +164,29 @@ record RunsIn (list : Medl) (script : Script) (history : History) (k : ℕ) : Ty
   drift : IsUpTo list.drift (drift_of script k)
   error : IsUpTo list.error (reading_error script k (length history))
 
-runs-in : (list : Medl) (script : Script) (start : ClusterStart) (plan : Plan) (slot k : ℕ) (row : List Entry)
-    (history : History)
-    → NextSlot list script start plan slot row history → IsSoundIn list plan (suc slot) k
+runs-in : {list : Medl} {script : Script} {start : ClusterStart} {plan : Plan} {slot : ℕ} {row : List Entry}
+    {history : History} → NextSlot list script start plan slot row history → (k : ℕ) → IsSoundIn list plan (suc slot) k
     → RunsIn list script history k
-runs-in list script start plan slot k row history s p =
-    let still = still-of list script start plan slot k history s.follows.planned s.within s.before p in
-    let number = number-of list script start plan slot history s.before in
+runs-in {list = list} {script = script} {start = start} {plan = plan} {slot = slot} {history = history} s k p =
+    let still = still-of s.before k p in
+    let number = number-of list script start plan slot history s.before.noted in
     record {
       inside = p.0;
       still = still;
       begun = clock_at-still list script history k still;
-      drift = drift_within list script k s.follows.bounds.clocks p.0;
-      error = error_within list script (length history) k s.follows.bounds.clocks (omega (arith, number, s.within)) p.0;
+      drift = drift_within list script k s.before.follows.bounds.clocks p.0;
+      error = error_within list script (length history) k s.before.follows.bounds.clocks
+          (omega (arith, number, s.before.within)) p.0;
     }
 
 drift-moves : (o j d q : ℤ) → j ≡ pos 0 → IsUpTo q d → IsUpTo q ((o +ℤ (j +ℤ (d +ℤ pos 0))) -ℤ o)
 drift-moves o j d q still h = (omega (arith, ints, still, h.0, h.1), omega (arith, ints, still, h.0, h.1))
 
-pub sound-moved : (list : Medl) (script : Script) (start : ClusterStart) (plan : Plan) (slot k : ℕ) (row : List Entry)
-    (history : History)
-    → NextSlot list script start plan slot row history → IsSoundIn list plan (suc slot) k
+pub sound-moved : {list : Medl} {script : Script} {start : ClusterStart} {plan : Plan} {slot : ℕ} {row : List Entry}
+    {history : History} → NextSlot list script start plan slot row history → (k : ℕ) → IsSoundIn list plan (suc slot) k
     → IsUpTo list.drift (clock_moved list script history k -ℤ clock_after list script history k)
-sound-moved list script start plan slot k row history s p =
-    let runs = runs-in list script start plan slot k row history s p in
+sound-moved {list = list} {script = script} {history = history} s k p =
+    let runs = runs-in s k p in
     drift-moves (clock_after list script history k) (jump_of script k (length history)) (drift_of script k) list.drift
     runs.still runs.drift
 
@@ -233,20 +228,20 @@ above-of a b d is up = omega (arith, ints, is, up)
 once : (d : ℤ) (m : ℕ) → pos 0 ≤ℤ d → d ≤ℤ (d *ℤ pos (suc m))
 once d m up = above-of (d *ℤ pos (suc m)) (d *ℤ pos m) d (product_more d m up) (product_up d m up)
 
-pub near-new : (list : Medl) (script : Script) (start : ClusterStart) (plan : Plan) (slot x k : ℕ) (row : List Entry)
-    (history : History)
-    → NextSlot list script start plan slot row history → IsSoundIn list plan (suc slot) x
-    → IsSoundIn list plan (suc slot) k
+pub near-new : {list : Medl} {script : Script} {start : ClusterStart} {plan : Plan} {slot : ℕ} {row : List Entry}
+    {history : History} → NextSlot list script start plan slot row history
+    → (x k : ℕ) → IsSoundIn list plan (suc slot) x → IsSoundIn list plan (suc slot) k
     → AreNear (noted_width list (sender plan (suc slot))) (clock_moved list script history x)
     (clock_moved list script history k)
     (notes_in list (planned_place list plan (suc slot)) (entry_of row x))
-near-new list script start plan slot x k row history s p q =
+near-new {list = list} {script = script} {start = start} {plan = plan} {slot = slot} {row = row}
+    {history = history} s x k p q =
     noted-each (λ d. IsUpTo width ((clock_moved list script history x +ℤ d) -ℤ clock_moved list script history k))
     list script start plan slot x row history (is_good_slot plan (suc slot)) refl s p
     (λ own. own-near (drift_share list) list.error list.drift width (clock_after list script history x)
     (clock_after list script history k) (clock_moved list script history x) (clock_moved list script history k)
     (record { above = apart x k p q; below = apart k x q p; first = moved x p; second = moved k q })
-    s.valid.error.0 wide)
+    s.before.valid.error.0 wide)
     (λ sound d is. other-near (drift_share list) list.error list.drift width (clock_after list script history x)
     (clock_after list script history k) (clock_moved list script history x) (clock_moved list script history k)
     (frame_of list script history e) (frame_of list script history x) d
@@ -267,11 +262,11 @@ near-new list script start plan slot x k row history s p q =
     width = noted_width list (sender plan (suc slot))
 
     runs : (j : ℕ) → IsSoundIn list plan (suc slot) j → RunsIn list script history j
-    runs j r = runs-in list script start plan slot j row history s r
+    runs j r = runs-in s j r
 
     moved : (j : ℕ) → IsSoundIn list plan (suc slot) j
         → IsUpTo list.drift (clock_moved list script history j -ℤ clock_after list script history j)
-    moved j r = sound-moved list script start plan slot j row history s r
+    moved j r = sound-moved s j r
 
     apart : (i j : ℕ) → IsSoundIn list plan (suc slot) i → IsSoundIn list plan (suc slot) j
         → (clock_after list script history i -ℤ clock_after list script history j) ≤ℤ spread list
@@ -279,8 +274,8 @@ near-new list script start plan slot x k row history s p q =
         same-bound (clock_at list script history i) (clock_at list script history j)
         (clock_after list script history i) (clock_after list script history j) (spread list)
         (runs i a).begun (runs j b).begun
-        (sound-clocks list script start plan slot history s.valid s.follows s.before s.within i j a b)
+        (sound-clocks s.before i j a b)
 
     wide : (needed list +ℤ (list.drift +ℤ list.drift)) ≤ℤ noted_width list (sender plan (suc slot))
     wide = width-fits (needed list) (drift_in list (suc (sender plan (suc slot)))) list.drift
-        (once list.drift (sender plan (suc slot)) s.valid.drift.0)
+        (once list.drift (sender plan (suc slot)) s.before.valid.drift.0)

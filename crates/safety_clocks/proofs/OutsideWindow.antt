@@ -34,7 +34,7 @@ use Rattle.fault_plan.specs.Plan.{Jumping, Plan, sender}
 use Rattle.fault_plan.specs.Fates.{is_sound_after}
 use Rattle.fault_plan.specs.Kept.{FollowsWithin}
 use Rattle.safety_clocks.specs.Jumps.{HasJumped}
-use Rattle.safety_clocks.specs.NotedByPlan.{IsSoundIn, NotedByPlan}
+use Rattle.safety_clocks.specs.NotedByPlan.{IsSoundIn, NotedByPlan, GoesOnByPlan}
 use Rattle.safety_clocks.proofs.Apart.{jump_width, apart-upto}
 use Rattle.safety_clocks.proofs.JumpedClock.{JumpsAfter, jumped_in, stays-apart}
 use Rattle.safety_clocks.proofs.JumpedFates.{IsJumpTold, jump-told, jumped-back, sound-till}
@@ -178,26 +178,25 @@ begun-jumped list script start plan x base (suc slot) (suc q) jump (row ∷ hist
 
 pub far-apart : (list : Medl) (script : Script) (start : ClusterStart) (plan : Plan) (x k base slot : ℕ) (jump : ℤ)
     (history : History)
-    → JumpsAfter list script start plan x base jump → NotedByPlan list script start plan slot history
-    → start.slot + suc slot < script.slots → HasJumped plan (suc slot) x (suc (suc base))
-    → IsSoundIn list plan (suc slot) k → is_far_jump list jump ≡ true
+    → JumpsAfter list script start plan x base jump → GoesOnByPlan list script start plan slot history
+    → HasJumped plan (suc slot) x (suc (suc base)) → IsSoundIn list plan (suc slot) k → is_far_jump list jump ≡ true
     → AreFar list (clock_at list script history x) (clock_at list script history k)
-far-apart list script start plan x k base slot jump history jumps noted within has p far =
+far-apart list script start plan x k base slot jump history jumps goes has p far =
     let told = jump-told plan (suc slot) x (suc (suc base)) jumps.follows.planned.good has in
     let q = slot - suc base in
     let is : slot ≡ base + suc q = omega (arith, told.from) in
     let few : suc q ≤ length list.slots = omega (arith, told.from, told.soon, jumps.follows.planned.nodes) in
-    let stays = stays-apart list script start plan x k base jump slot history (suc q) jumps noted within is few p
+    let stays = stays-apart list script start plan x k base jump slot history (suc q) jumps goes is few p
     (λ late. jumped-back plan slot x (suc (suc base)) jumps.follows.planned.good has
     (λ now. omega (arith, now, late))) in
     let near : IsUpTo (jump_width list) ((clock_after list script history x -ℤ jumped_in jump (suc q))
     -ℤ clock_after list script history k) =
     apart-upto list (sender plan slot) (suc q) (clock_after list script history x -ℤ jumped_in jump (suc q))
     (clock_after list script history k) _ jumps.valid.drift.0 (needed-up list jumps.valid) few stays.apart in
-    let first = begun-jumped list script start plan x base slot q jump history jumps noted is in
+    let first = begun-jumped list script start plan x base slot q jump history jumps goes.noted is in
     let second : clock_at list script history k ≡ clock_after list script history k =
     clock_at-still list script history k
-    (still-of list script start plan slot k history jumps.follows.planned within noted p) in
+    (still-of goes k p) in
     let less = clock_after list script history x -ℤ jumped_in jump (suc q) in
     let there : IsUpTo (jump_width list) (less -ℤ clock_at list script history k) =
     subst (λ z. IsUpTo (jump_width list) (less -ℤ z)) (sym second) near in
@@ -238,40 +237,41 @@ jumps-after list script start plan x base slot valid follows inside within told 
     )
 
 -- the clocks of a node that has jumped and of a sound one
-pub jumped-far : (list : Medl) (script : Script) (start : ClusterStart) (plan : Plan) (slot : ℕ) (history : History)
-    → IsValid list → FollowsWithin list script start plan → NotedByPlan list script start plan slot history
-    → start.slot + suc slot < script.slots
+pub jumped-far : {list : Medl} {script : Script} {start : ClusterStart} {plan : Plan} {slot : ℕ} {history : History}
+    → GoesOnByPlan list script start plan slot history
     → (x k since : ℕ) → x < length list.slots → HasJumped plan (suc slot) x since → IsSoundIn list plan (suc slot) k
     → AreFar list (clock_at list script history x) (clock_at list script history k)
-jumped-far list script start plan slot history valid follows noted within x k zero inside has p =
-    let good = follows.planned.good in
+jumped-far {plan = plan} {slot = slot} is x k zero inside has p =
+    let good = is.follows.planned.good in
     absurd (omega (arith, (jump-told plan (suc slot) x 0 good has).loss.late, good.count.0))
-jumped-far list script start plan slot history valid follows noted within x k (suc zero) inside has p =
-    let good = follows.planned.good in
+jumped-far {plan = plan} {slot = slot} is x k (suc zero) inside has p =
+    let good = is.follows.planned.good in
     absurd (omega (arith, (jump-told plan (suc slot) x 1 good has).loss.late, good.count.0))
-jumped-far list script start plan slot history valid follows noted within x k (suc (suc base)) inside has p =
-    let after = jumps-after list script start plan x base slot valid follows inside within
-    (jump-told plan (suc slot) x (suc (suc base)) follows.planned.good has) in
-    far-apart list script start plan x k base slot (jump_of script x (start.slot + suc (suc base))) history after.1
-    noted within has p (follows.bounds.jumps x (start.slot + suc (suc base)) after.0)
+jumped-far {list = list} {script = script} {start = start} {plan = plan} {slot = slot} {history = history} is x k
+    (suc (suc base)) inside has p =
+    let jump = jump_of script x (start.slot + suc (suc base)) in
+    let after = jumps-after list script start plan x base slot is.valid is.follows inside is.within
+    (jump-told plan (suc slot) x (suc (suc base)) is.follows.planned.good has) in
+    far-apart list script start plan x k base slot jump history after.1 is has p
+    (is.follows.bounds.jumps x (start.slot + suc (suc base)) after.0)
 
 swap-far : (list : Medl) (x y : ℤ) → AreFar list x y → AreFar list y x
 swap-far list x y (inl ahead) = inr ahead
 swap-far list x y (inr behind) = inl behind
 
-pub jumped-outside : (list : Medl) (script : Script) (start : ClusterStart) (plan : Plan) (slot : ℕ)
-    (history : History)
-    → IsValid list → FollowsWithin list script start plan → NotedByPlan list script start plan slot history
-    → start.slot + suc slot < script.slots
+pub jumped-outside : {list : Medl} {script : Script} {start : ClusterStart} {plan : Plan} {slot : ℕ}
+    {history : History} → GoesOnByPlan list script start plan slot history
     → (x k since : ℕ) → x < length list.slots → HasJumped plan (suc slot) x since → IsSoundIn list plan (suc slot) k
     → (is_within_window list (measured list script history k x) ≡ false)
     × (is_within_window list (measured list script history x k) ≡ false)
-jumped-outside list script start plan slot history valid follows noted within x k since inside has p =
-    let far = jumped-far list script start plan slot history valid follows noted within x k since inside has p in
-    let number = number-of list script start plan slot history noted in
-    let early : length history < script.slots = omega (arith, number, within) in (
-      far-outside list script history k x p.0 inside (error_within list script (length history) k follows.bounds.clocks
-          early p.0) (swap-far list (clock_at list script history x) (clock_at list script history k) far),
-      far-outside list script history x k inside p.0 (error_within list script (length history) x
-          follows.bounds.clocks early inside) far,
+jumped-outside {list = list} {script = script} {start = start} {plan = plan} {slot = slot} {history = history} is x k
+    since inside has p =
+    let far = jumped-far is x k since inside has p in
+    let number = number-of list script start plan slot history is.noted in
+    let early : length history < script.slots = omega (arith, number, is.within) in
+    let error = λ (j : ℕ) (node : j < length list.slots).
+    error_within list script (length history) j is.follows.bounds.clocks early node in (
+      far-outside list script history k x p.0 inside (error k p.0)
+          (swap-far list (clock_at list script history x) (clock_at list script history k) far),
+      far-outside list script history x k inside p.0 (error x inside) far,
     )

@@ -34,33 +34,35 @@ pub record NotesKnown (list : Medl) (script : Script) (plan : Plan) (slot : ℕ)
       (clock_after list script history k) (round_notes list history x)
 
 -- a sound node's notes after one slot more
-pub sound-notes : (list : Medl) (script : Script) (start : ClusterStart) (plan : Plan) (slot k : ℕ) (row : List Entry)
-    (history : History)
-    → NextSlot list script start plan slot row history → IsSoundIn list plan (suc slot) k
+pub sound-notes : {list : Medl} {script : Script} {start : ClusterStart} {plan : Plan} {slot : ℕ} {row : List Entry}
+    {history : History} → NextSlot list script start plan slot row history → (k : ℕ) → IsSoundIn list plan (suc slot) k
     → round_notes list (row ∷ history) k
     ≡ notes_in list (planned_place list plan (suc slot)) (entry_of row k)
     ++ cond (suc (sender plan slot) == length list.slots) [] (round_notes list history k)
-sound-notes list script start plan slot k row history s p =
-    let counted = counted-run list script start plan (suc slot) (row ∷ history) s.follows.planned (s.before, s.noted) in
+sound-notes {list = list} {script = script} {start = start} {plan = plan} {slot = slot} {row = row}
+    {history = history} s k p =
+    let counted = counted-run list script start plan (suc slot) (row ∷ history) s.before.follows.planned
+    (s.before.noted, s.noted) in
     notes-next list row history k (sender plan slot) (planned_place list plan (suc slot))
     (suc (sender plan slot) == length list.slots)
     (sound-goes list script plan (suc slot) k row history s.noted p) (counted.places k p)
-    (place-slot list script start plan (suc slot) s.follows.planned
-    ∙ index-of list script start plan slot s.follows.planned)
+    (place-slot list script start plan (suc slot) s.before.follows.planned
+    ∙ index-of list script start plan slot s.before.follows.planned)
 
 -- and its clock
-pub sound-clock : (list : Medl) (script : Script) (start : ClusterStart) (plan : Plan) (slot k : ℕ) (row : List Entry)
-    (history : History)
-    → NextSlot list script start plan slot row history → IsSoundIn list plan (suc slot) k
+pub sound-clock : {list : Medl} {script : Script} {start : ClusterStart} {plan : Plan} {slot : ℕ} {row : List Entry}
+    {history : History} → NextSlot list script start plan slot row history → (k : ℕ) → IsSoundIn list plan (suc slot) k
     → clock_after list script (row ∷ history) k
     ≡ clock_moved list script history k
     +ℤ correction list (sender plan (suc slot)) (round_notes list (row ∷ history) k)
-sound-clock list script start plan slot k row history s p =
-    let counted = counted-run list script start plan (suc slot) (row ∷ history) s.follows.planned (s.before, s.noted) in
+sound-clock {list = list} {script = script} {start = start} {plan = plan} {slot = slot} {row = row}
+    {history = history} s k p =
+    let counted = counted-run list script start plan (suc slot) (row ∷ history) s.before.follows.planned
+    (s.before.noted, s.noted) in
     clock-next list script row history k (planned_place list plan (suc slot))
     (sound-goes list script plan (suc slot) k row history s.noted p) (counted.places k p)
     ∙ ap (λ m. clock_moved list script history k +ℤ correction list m (round_notes list (row ∷ history) k))
-    (place-slot list script start plan (suc slot) s.follows.planned)
+    (place-slot list script start plan (suc slot) s.before.follows.planned)
 
 -- the index of the slot before, where a round goes on
 goes-from : (index m slot n : ℕ) (last : Bool) → index ≡ cond last 0 (suc m) → last ≡ false → index < suc slot
@@ -75,10 +77,10 @@ all-small : (list : Medl) (script : Script) (start : ClusterStart) (plan : Plan)
     → sender plan (suc slot) < suc slot → IsSoundIn list plan (suc slot) k
     → All (IsUpTo (needed list)) (round_notes list (row ∷ history) k)
 all-small list script start plan slot k row history last is s known later p =
-    subst (All (IsUpTo (needed list))) (sym (sound-notes list script start plan slot k row history s p))
+    subst (All (IsUpTo (needed list))) (sym (sound-notes s k p))
     (All-append (IsUpTo (needed list)) (notes_in list (planned_place list plan (suc slot)) (entry_of row k))
     (cond (suc (sender plan slot) == length list.slots) [] (round_notes list history k))
-    (small-new list script start plan slot k row history s p)
+    (small-new s k p)
     (subst (λ b. All (IsUpTo (needed list)) (cond b [] (round_notes list history k))) (sym is) (old last is)))
   where
     old : (b : Bool) → (suc (sender plan slot) == length list.slots) ≡ b
@@ -86,8 +88,8 @@ all-small list script start plan slot k row history last is s known later p =
     old true ends = All-nil (IsUpTo (needed list))
     old false inside =
         known.small (goes-from (sender plan (suc slot)) (sender plan slot) slot (length list.slots)
-        (suc (sender plan slot) == length list.slots) (index-of list script start plan slot s.follows.planned) inside
-        later)
+        (suc (sender plan slot) == length list.slots)
+        (index-of list script start plan slot s.before.follows.planned) inside later)
         k (sound-back list plan slot k p)
 
 all-near : (list : Medl) (script : Script) (start : ClusterStart) (plan : Plan) (slot x k : ℕ) (row : List Entry)
@@ -102,11 +104,11 @@ all-near list script start plan slot x k row history s known later less p q =
     (clock_after list script (row ∷ history) x) (clock_after list script (row ∷ history) k)
     (round_notes list (row ∷ history) x) (moved x p) (moved k q)
     (subst (AreNear width (clock_moved list script history x) (clock_moved list script history k))
-    (sym (sound-notes list script start plan slot x row history s p))
+    (sym (sound-notes s x p))
     (All-append (λ d. IsUpTo width ((clock_moved list script history x +ℤ d) -ℤ clock_moved list script history k))
     (notes_in list (planned_place list plan (suc slot)) (entry_of row x))
     (cond (suc (sender plan slot) == length list.slots) [] (round_notes list history x))
-    (near-new list script start plan slot x k row history s p q)
+    (near-new s x k p q)
     (old (suc (sender plan slot) == length list.slots) refl)))
   where
     width : ℤ
@@ -117,7 +119,7 @@ all-near list script start plan slot x k row history s known later less p q =
     moved j r =
         uncorrected-in list (sender plan (suc slot)) (clock_moved list script history j)
         (clock_after list script (row ∷ history) j) (round_notes list (row ∷ history) j) less
-        (sound-clock list script start plan slot j row history s r)
+        (sound-clock s j r)
 
     old : (b : Bool) → (suc (sender plan slot) == length list.slots) ≡ b
         → AreNear width (clock_moved list script history x) (clock_moved list script history k)
@@ -126,15 +128,16 @@ all-near list script start plan slot x k row history s known later less p q =
         All-nil (λ d. IsUpTo width ((clock_moved list script history x +ℤ d) -ℤ clock_moved list script history k))
     old false inside =
         let index : sender plan (suc slot) ≡ suc (sender plan slot) =
-        index-of list script start plan slot s.follows.planned ∙ ap (λ b. cond b 0 (suc (sender plan slot))) inside in
+        index-of list script start plan slot s.before.follows.planned
+        ∙ ap (λ b. cond b 0 (suc (sender plan slot))) inside in
         subst (λ i. AreNear (noted_width list i) (clock_moved list script history x)
         (clock_moved list script history k) (round_notes list history x)) (sym index)
         (near-later list (sender plan slot) (clock_after list script history x) (clock_after list script history k)
         (clock_moved list script history x) (clock_moved list script history k) (round_notes list history x)
         (record {
-          up = s.valid.drift.0;
-          first = sound-moved list script start plan slot x row history s p;
-          second = sound-moved list script start plan slot k row history s q;
+          up = s.before.valid.drift.0;
+          first = sound-moved s x p;
+          second = sound-moved s k q;
         })
         (known.near (omega (arith, index, later)) (omega (arith, index, less)) x k (sound-back list plan slot x p)
         (sound-back list plan slot k q)))
@@ -151,10 +154,12 @@ notes-known list script start plan zero (row ∷ history) valid follows noted wi
 notes-known list script start plan (suc slot) (row ∷ history) valid follows noted within =
     let number = number-of list script start plan slot history noted.0 in
     let s : NextSlot list script start plan slot row history = record {
-      valid = valid;
-      follows = follows;
-      within = omega (arith, number, within);
-      before = noted.0;
+      before = record {
+        valid = valid;
+        follows = follows;
+        noted = noted.0;
+        within = omega (arith, number, within);
+      };
       noted = noted.1;
     } in
     let known = notes-known list script start plan slot history valid follows noted.0 (omega (arith, within)) in

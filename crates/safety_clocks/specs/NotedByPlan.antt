@@ -2,7 +2,7 @@
 --
 -- A history has its newest slot first, and its length is the number of the slot after it. Slots of a plan are counted
 -- from the start.
-use Rattle.std.specs.Prelude.{◌≡◌, ◌≢◌, ℕ, zero, suc, ◌<◌, true, false, List, [], ◌∷◌, length}
+use Rattle.std.specs.Prelude.{◌≡◌, ◌≢◌, ℕ, zero, suc, ◌+◌, ◌<◌, true, false, List, [], ◌∷◌, length}
 use Rattle.ttp_world.specs.declared.medl.Medl.{Medl}
 use Rattle.ttp_world.specs.declared.node.Entry.{Entry}
 use Rattle.ttp_world.specs.declared.node.Entry.TheVariants as entry
@@ -11,9 +11,11 @@ use Rattle.ttp_world.specs.Acknowledgement.{is_correct}
 use Rattle.ttp_world.specs.Conduct.{cold_start_cstate}
 use Rattle.ttp_world.specs.Diary.{History, entry_of}
 use Rattle.ttp_world.specs.Hypothesis.{ClusterStart}
+use Rattle.ttp_world.specs.Medl.{IsValid}
 use Rattle.precision.specs.Together.{IsIn, TellsOf, measured}
 use Rattle.fault_plan.specs.Plan.{Jumping, Plan, sender}
 use Rattle.fault_plan.specs.Fates.{Falling, fate_of, is_sound_after, is_good_slot}
+use Rattle.fault_plan.specs.Kept.{FollowsWithin}
 
 -- a node of the list that is sound after a slot
 abbrev pub IsSoundIn : Medl → Plan → ℕ → ℕ → Type 0
@@ -50,3 +52,11 @@ NotedByPlan list script start plan slot [] = ⊥
 NotedByPlan list script start plan zero (row ∷ history) = StartedByPlan list script start plan row history
 NotedByPlan list script start plan (suc slot) (row ∷ history) =
     NotedByPlan list script start plan slot history × NotedInSlot list script plan (suc slot) row history
+
+-- a script follows a plan within the list's bounds, the nodes noted by it up to this slot, and the run has one more
+pub record GoesOnByPlan (list : Medl) (script : Script) (start : ClusterStart) (plan : Plan) (slot : ℕ)
+    (history : History) : Type 0 where
+  pub valid : IsValid list
+  pub follows : FollowsWithin list script start plan
+  pub noted : NotedByPlan list script start plan slot history
+  pub within : start.slot + suc slot < script.slots

@@ -6,15 +6,14 @@ ghost use Rattle.ttp_world.specs.declared.node.Entry.{Entry};
 ghost use Rattle.ttp_world.specs.declared.script.Script.{Script};
 ghost use Rattle.ttp_world.specs.Diary.{History};
 ghost use Rattle.ttp_world.specs.Hypothesis.{ClusterStart, needed};
-ghost use Rattle.ttp_world.specs.Medl.{IsValid};
 ghost use Rattle.ttp_world.specs.Reception.{is_within_window};
 ghost use Rattle.precision.specs.Spread.{spread};
 ghost use Rattle.precision.specs.Together.{BeganTogether, StayedTogether, RanTogether, clock_at, measured};
 ghost use Rattle.fault_plan.specs.Plan.{Plan};
 ghost use Rattle.fault_plan.specs.Fates.{is_sound_after};
-ghost use Rattle.fault_plan.specs.Kept.{FollowsPlan, FollowsWithin};
+ghost use Rattle.fault_plan.specs.Kept.{FollowsPlan};
 ghost use Rattle.safety_clocks.specs.Jumps.{HasJumped};
-ghost use Rattle.safety_clocks.specs.NotedByPlan.{IsSoundIn, StartedByPlan, NotedByPlan};
+ghost use Rattle.safety_clocks.specs.NotedByPlan.{IsSoundIn, StartedByPlan, NotedByPlan, GoesOnByPlan};
 
 /// The nodes that are sound by a plan run together since the start. They began together in it
 /// (`began`), and after each slot up to which they noted by the plan, those that are sound then have
@@ -41,21 +40,18 @@ pub fn runs_together()
 pub fn clocks_near()
     ensures clocks { (list : Medl) (script : Script) (start : ClusterStart) (plan : Plan) (slot : ℕ)
         (history : History)
-        → IsValid list → FollowsWithin list script start plan → NotedByPlan list script start plan slot history
-        → start.slot + suc slot < script.slots
+        → GoesOnByPlan list script start plan slot history
         → (j k : ℕ) → IsSoundIn list plan (suc slot) j → IsSoundIn list plan (suc slot) k
         → (clock_at list script history j -ℤ clock_at list script history k) ≤ℤ spread list }
     ensures deviations { (list : Medl) (script : Script) (start : ClusterStart) (plan : Plan) (slot : ℕ)
         (history : History)
-        → IsValid list → FollowsWithin list script start plan → NotedByPlan list script start plan slot history
-        → start.slot + suc slot < script.slots
+        → GoesOnByPlan list script start plan slot history
         → (r p : ℕ) → IsSoundIn list plan (suc slot) r → IsSoundIn list plan (suc slot) p
         → (neg_ℤ (needed list) ≤ℤ measured list script history r p)
         × (measured list script history r p ≤ℤ needed list) }
     ensures window { (list : Medl) (script : Script) (start : ClusterStart) (plan : Plan) (slot : ℕ)
         (history : History)
-        → IsValid list → FollowsWithin list script start plan → NotedByPlan list script start plan slot history
-        → start.slot + suc slot < script.slots
+        → GoesOnByPlan list script start plan slot history
         → (r p : ℕ) → IsSoundIn list plan (suc slot) r → IsSoundIn list plan (suc slot) p
         → IsTrue (is_within_window list (measured list script history r p)) }
 {}
@@ -68,15 +64,13 @@ pub fn clocks_near()
 pub fn jumped_outside()
     ensures frame { (list : Medl) (script : Script) (start : ClusterStart) (plan : Plan) (slot : ℕ)
         (history : History)
-        → IsValid list → FollowsWithin list script start plan → NotedByPlan list script start plan slot history
-        → start.slot + suc slot < script.slots
+        → GoesOnByPlan list script start plan slot history
         → (x k since : ℕ) → x < length list.slots → HasJumped plan (suc slot) x since
         → IsSoundIn list plan (suc slot) k
         → is_within_window list (measured list script history k x) ≡ false }
     ensures others { (list : Medl) (script : Script) (start : ClusterStart) (plan : Plan) (slot : ℕ)
         (history : History)
-        → IsValid list → FollowsWithin list script start plan → NotedByPlan list script start plan slot history
-        → start.slot + suc slot < script.slots
+        → GoesOnByPlan list script start plan slot history
         → (x k since : ℕ) → x < length list.slots → HasJumped plan (suc slot) x since
         → IsSoundIn list plan (suc slot) k
         → is_within_window list (measured list script history x k) ≡ false }

@@ -11,10 +11,10 @@ pub mod OneSender
 pub mod OwnSlots
 pub mod Payloads
 pub mod Senders
-pub mod StartOf
 pub mod StartSlot
 pub mod Unanswered
 pub mod Verdicts
+pub mod Deliveries
 pub mod Views
 pub mod Waiting
 pub mod WorldTurns

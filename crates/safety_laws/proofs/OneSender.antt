@@ -40,7 +40,7 @@ module _ (list : Medl) (script : Script) (history : History) (chosen : List Chos
       ∙ frames_of-made list script history chosen p sends.own.node
       ∙ frames_made-own (node_slot list script history chosen p) sends.own sends.closed sends.accepted
 
-  comes-alone : loses script p (length history) r ≡ false
+  pub comes-alone : loses script p (length history) r ≡ false
       → HearsFrame (record {
         sender = p;
         bytes = own_frame list p (node_slot list script history chosen p).past

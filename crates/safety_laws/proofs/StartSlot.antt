@@ -30,12 +30,13 @@ use Rattle.ttp_world.specs.Membership.{AreNodes}
 use Rattle.ttp_world.specs.Past.{NodePast}
 use Rattle.ttp_world.specs.Script.{on_slot, is_on, is_armed, flipped_bits}
 use Rattle.ttp_world.specs.World.{node_past, slot_after, chosen_of, frames_in, deviation_in, step}
+use Rattle.ttp_world.specs.Starts.{StartsAlone}
 use Rattle.ttp_world.proofs.Lists.{nodes-most}
 use Rattle.ttp_world.proofs.MemberSets.{members_after-Started}
 use Rattle.safety_laws.specs.Heard.{HearsFrame}
 use Rattle.safety_laws.specs.NodeSlot.{node_slot, entry_made}
 use Rattle.safety_laws.specs.Standing.{Standing, StandsBy}
-use Rattle.safety_laws.specs.Start.{StartsAlone, IsStartHeard, slots_since, slots_on, waiting_phase, Waits}
+use Rattle.safety_laws.specs.Start.{IsStartHeard, slots_since, slots_on, waiting_phase, Waits}
 use Rattle.safety_laws.specs.Start.{starter_standing, joined_on_start, joined_standing}
 use Rattle.safety_laws.specs.Start.{HasBegun}
 use Rattle.safety_laws.specs.Groups.{held_with, IsAboutOther}

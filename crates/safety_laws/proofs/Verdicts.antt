@@ -39,7 +39,7 @@ act-judging x is =
     ap (λ (p : Phase). phase_act p x.list x.node x.on x.armed x.past) is.active
     ∙ ap (λ own. cond own (own_act x.past) Judge) (ne_eqb _ x.node is.other)
 
-entry_made-judging : (x : NodeSlot) → IsJudging x → entry_made x ≡ judging_entry x.list x.node x.past x.hearing
+pub entry_made-judging : (x : NodeSlot) → IsJudging x → entry_made x ≡ judging_entry x.list x.node x.past x.hearing
 entry_made-judging x is =
     ap (λ (does : Act). new_entry x.list x.node x.past x.chosen x.hearing does) (act-judging x is)
 

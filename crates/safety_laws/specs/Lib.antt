@@ -7,3 +7,4 @@ pub mod Groups
 pub mod Senders
 pub mod Start
 pub mod WorkedSlots
+pub mod Deliveries

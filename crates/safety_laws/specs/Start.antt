@@ -1,4 +1,4 @@
--- The start of a cluster: which node starts, and what each node is before and after that slot.
+-- The start of a cluster: that its frame is heard, and what each node is before and after that slot.
 use Rattle.std.specs.Prelude.{◌≡◌, ◌≢◌, ℕ, ◌+◌, ◌-◌, ◌*◌, ◌<◌, ℤ, true, false, [], ◌∷◌, length, Option, Some, None}
 use Rattle.std.specs.Prelude.{◌==◌, IsTrue, if◌then◌else◌}
 use Rattle.ttp_world.specs.declared.medl.Medl.{Medl}
@@ -11,19 +11,12 @@ use Rattle.ttp_world.specs.declared.script.Script.{Script}
 use Rattle.ttp_world.specs.Clock.{notes_in}
 use Rattle.ttp_world.specs.Conduct.{cold_start_cstate}
 use Rattle.ttp_world.specs.Diary.{start_place}
-use Rattle.ttp_world.specs.Hypothesis.{ClusterStart, start_slot, loses}
+use Rattle.ttp_world.specs.Hypothesis.{ClusterStart, loses}
 use Rattle.ttp_world.specs.Past.{NodePast}
 use Rattle.ttp_world.specs.Script.{on_slot, is_on}
 use Rattle.safety_laws.specs.Groups.{HoldsGroup}
 use Rattle.safety_laws.specs.Heard.{IsUnflipped}
 use Rattle.safety_laws.specs.Standing.{Standing}
-
--- on a silent bus this node would start in this slot, and no other in it or before
-pub record StartsAlone (list : Medl) (script : Script) (start : ClusterStart) : Type 0 where
-  pub node : start.node < length list.slots
-  pub due : start_slot list script start.node ≡ Some start.slot
-  pub others : (k slot : ℕ) → k < length list.slots → k ≢ start.node → start_slot list script k ≡ Some slot
-      → start.slot < slot
 
 -- its cold-start frame comes to each other node that is on in that slot, as it was sent
 pub record IsStartHeard (list : Medl) (script : Script) (start : ClusterStart) : Type 0 where

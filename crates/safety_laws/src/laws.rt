@@ -1,8 +1,8 @@
 //! The laws of one slot and of the start. The functions do nothing; their contracts are the laws.
 //!
 //! For proofs to cite, each stands in a file of `proofs/`: `Views`, `Hearing` and `Senders`, `Joins`,
-//! `NodeSlots`, `WorldTurns`, `OneSender`, `Payloads`, `Verdicts`, `OwnSlots`, `Idle`, `Groups`,
-//! `Unanswered`, `Waiting`, `StartSlot` and `StartOf`.
+//! `NodeSlots`, `WorldTurns`, `OneSender`, `Payloads`, `Verdicts`, `Deliveries`, `OwnSlots`, `Idle`, `Groups`,
+//! `Unanswered`, `Waiting` and `StartSlot`.
 ghost use Rattle.std.specs.Prelude.{◌≡◌, ◌≢◌, ◌↔◌, ℕ, ◌<◌, ◌≤◌, ℤ, pos, neg_ℤ, ◌≤ℤ◌, ◌⊎◌, true, false};
 ghost use Rattle.std.specs.Prelude.{List, [], ◌∷◌, length, Option, IsTrue};
 ghost use Rattle.ttp_base.specs.NodeSet.{has_node, with_node, without_node};
@@ -18,7 +18,7 @@ ghost use Rattle.ttp_world.specs.declared.node.Verdict.TheVariants as verdict;
 ghost use Rattle.ttp_world.specs.declared.script.Channel.{Channel};
 ghost use Rattle.ttp_world.specs.declared.script.Script.{Script};
 ghost use Rattle.ttp_world.specs.Acknowledgement.{is_open};
-ghost use Rattle.ttp_world.specs.Conduct.{cold_start_frame, own_frame, message_sent, listening_entry};
+ghost use Rattle.ttp_world.specs.Conduct.{cold_start_frame, own_frame, message_sent, listening_entry, delivery};
 ghost use Rattle.ttp_world.specs.Diary.{History, entry_of};
 ghost use Rattle.ttp_world.specs.Hypothesis.{ClusterStart, is_covered, loses, start_of};
 ghost use Rattle.ttp_world.specs.Legal.{IsLegal};
@@ -27,8 +27,10 @@ ghost use Rattle.ttp_world.specs.Medl.{may_start, IsValid};
 ghost use Rattle.ttp_world.specs.Membership.{is_accepted};
 ghost use Rattle.ttp_world.specs.Reception.{Hearing, expected_of, is_within_window, view_of_bits};
 ghost use Rattle.ttp_world.specs.Script.{is_ever_on, is_on, flipped_bits, IsValidScript};
+ghost use Rattle.ttp_world.specs.Starts.{StartsAlone};
 ghost use Rattle.ttp_world.specs.World.{BegunSlot, Numbers, SlotNumbers, node_past, slot_after, frames_of, frames_in};
 ghost use Rattle.ttp_world.specs.World.{hearing_in, deviation_in, row_in, step, messages_chosen, world};
+ghost use Rattle.safety_laws.specs.Deliveries.{delivery_at};
 ghost use Rattle.safety_laws.specs.Groups.{IsNotAbout, HoldsGroup, IsUnanswered, HearsNoAnswer, StaysUnanswered};
 ghost use Rattle.safety_laws.specs.Heard.{is_frameless, IsUnflipped, signal_as_sent, HearsFrame, HearsNoFrame};
 ghost use Rattle.safety_laws.specs.Heard.{HearsSilence};
@@ -37,7 +39,7 @@ ghost use Rattle.safety_laws.specs.NodeSlot.{owner_of, candidates_of};
 ghost use Rattle.safety_laws.specs.Senders.{SendsAlone, NoneSends};
 ghost use Rattle.safety_laws.specs.SlotFrames.{IsSlotFrame, view_of_members};
 ghost use Rattle.safety_laws.specs.Standing.{StandsBy, HasJustLeft, IsJudgedAs, sent_standing};
-ghost use Rattle.safety_laws.specs.Start.{StartsAlone, IsStartHeard, Waits, starter_standing, joined_on_start};
+ghost use Rattle.safety_laws.specs.Start.{IsStartHeard, Waits, starter_standing, joined_on_start};
 ghost use Rattle.safety_laws.specs.Start.{joined_standing, HasBegun};
 ghost use Rattle.safety_laws.specs.Turns.{IsJudging, HearsMembers, HearsOutside, IsAtOwnSlot, HasPayload};
 
@@ -115,7 +117,8 @@ pub fn one_slot()
 /// What an active node holds after another's slot. The owner's frame, inside the window, is judged by
 /// its members: correct, tentative, denied or incorrect. A frame outside the window is invalid, and
 /// where no frame comes the slot is null or invalid; where nothing comes it is null. Whatever comes,
-/// the node judges the owner or leaves as denied.
+/// the node judges the owner or leaves as denied. Of bytes that it judged correct it delivers the payload
+/// that the list lays out, whichever channel brought them (`delivers`).
 pub fn judged()
     ensures correct { (x : NodeSlot) (sender : ℕ) (members : List ℕ) → IsJudging x → HearsMembers x sender members
         → members ≡ (candidates_of x).first → IsJudgedAs x verdict.Correct (x.hearing.deviation sender) }
@@ -137,6 +140,9 @@ pub fn judged()
     ensures whatever { (x : NodeSlot) → IsJudging x
         → ((v : Verdict) × ((deviation : ℤ) × IsJudgedAs x v deviation))
         ⊎ HasJustLeft (next_past x) reason.Denied (owner_of x) }
+    ensures delivers { (x : NodeSlot) (sent : SentFrame) (deviation : ℤ) → IsJudging x → HearsFrame sent x.hearing
+        → IsJudgedAs x verdict.Correct deviation
+        → delivery x.list x.node x.past x.hearing (entry_made x) ≡ delivery_at x.list (coming_place x) sent.bytes }
 {}
 
 /// What an active node does in its own slot. With a closed acknowledgement it sends where it accepted

@@ -26,7 +26,7 @@ use Rattle.fault_plan.specs.Ledger.{opened, ledger_of}
 use Rattle.fault_plan.proofs.Members.{first-sender}
 use Rattle.fault_plan.proofs.Persists.{absent-always, sound-first}
 use Rattle.safety_laws.specs.Groups.{HoldsGroup}
-use Rattle.safety_laws.specs.Start.{StartsAlone, IsStartHeard, starter_standing, joined_on_start, joined_standing}
+use Rattle.safety_laws.specs.Start.{IsStartHeard, starter_standing, joined_on_start, joined_standing}
 use Rattle.safety_laws.specs.Standing.{StandsBy}
 use Rattle.ttp_world.specs.World.{deviation_in}
 use Rattle.safety_laws.proofs.StartSlot.{first_due, starter-stands, joiner-stands, off-stays, has-begun}
@@ -78,9 +78,6 @@ no-doubt a y (inr closed) doubt = cc
 
 module _ (list : Medl) (script : Script) (start : ClusterStart) (plan : Plan) (is : IsBegun list script start plan)
   where
-    alone : StartsAlone list script start
-    alone = record { node = is.lone.node; due = is.lone.due; others = is.lone.others }
-
     start-heard : IsStartHeard list script start
     start-heard = record {
       unflipped = λ c. is.planned.follows.flips start.node start.slot c;
@@ -89,7 +86,7 @@ module _ (list : Medl) (script : Script) (start : ClusterStart) (plan : Plan) (i
 
     wait : (numbers : Numbers) → length numbers ≤ start.slot → WaitAll list script (world list script numbers)
     wait numbers early =
-        WaitAll-world list script start.slot numbers is.planned.valid (first_due list script start alone) early
+        WaitAll-world list script start.slot numbers is.planned.valid (first_due list script start is.alone) early
 
     unsent-waiting : (numbers : Numbers) (k : ℕ) → length numbers ≤ start.slot → k < length list.slots
         → has_ever_sent (diary_of (world list script numbers) k) ≡ false
@@ -126,7 +123,7 @@ module _ (list : Medl) (script : Script) (start : ClusterStart) (plan : Plan) (i
           (starter_standing list start.node)
       starter-begun =
           starter-stands list script start (world list script numbers)
-          (messages_chosen list script (length numbers) new.sent) is.planned.valid alone waited number
+          (messages_chosen list script (length numbers) new.sent) is.planned.valid is.alone waited number
 
       pub joiner-begun : (k : ℕ) → k < length list.slots → k ≢ start.node → is_on script k start.slot ≡ true →
           let deviation = deviation_in (slot_after list script (world list script numbers)) k start.node in
@@ -134,7 +131,7 @@ module _ (list : Medl) (script : Script) (start : ClusterStart) (plan : Plan) (i
           (joined_standing list start.node deviation)
       joiner-begun k node other on =
           joiner-stands list script start (world list script numbers)
-          (messages_chosen list script (length numbers) new.sent) is.planned.valid alone waited number start-heard k
+          (messages_chosen list script (length numbers) new.sent) is.planned.valid is.alone waited number start-heard k
           node other on
 
       -- all that are sound are on
@@ -172,7 +169,7 @@ module _ (list : Medl) (script : Script) (start : ClusterStart) (plan : Plan) (i
           → IsSoundAt list plan 0 k (node_past list script (world list script (new ∷ numbers)) k)
       sound-begun k node on =
           let begun = has-begun list script start (world list script numbers)
-          (messages_chosen list script (length numbers) new.sent) is.planned.valid alone waited number start-heard k
+          (messages_chosen list script (length numbers) new.sent) is.planned.valid is.alone waited number start-heard k
           node on in
           let counted = counts k node on in
           record {
@@ -188,7 +185,7 @@ module _ (list : Medl) (script : Script) (start : ClusterStart) (plan : Plan) (i
           → (node_past list script (world list script (new ∷ numbers)) k).phase ≡ phase.Off
       off-begun k node off =
           off-stays list script start (world list script numbers)
-          (messages_chosen list script (length numbers) new.sent) is.planned.valid alone waited number k node
+          (messages_chosen list script (length numbers) new.sent) is.planned.valid is.alone waited number k node
           (λ same. both_ways (is_on script k start.slot) off
           (sym (on-first k node)
           ∙ ap (has_node plan.begin) (same ∙ sym starter-same) ∙ is.planned.follows.good.starter.1)) off

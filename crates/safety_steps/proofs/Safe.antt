@@ -1,9 +1,9 @@
 -- What safety asks follows from what each node is by its fate.
 use Rattle.std.proofs.Common.{◌≡◌, ◌≢◌, ℕ, suc, ◌+◌, ◌-◌, ◌*◌, ◌<◌, ◌≤◌}
-use Rattle.std.proofs.Common.{Bool, true, false, cond, not, ◌&&◌, ◌||◌, List, []}
+use Rattle.std.proofs.Common.{Bool, true, false, not, ◌&&◌, ◌||◌, List, []}
 use Rattle.std.proofs.Common.{◌∷◌, length, refl, ap, sym, subst, ◌∙◌, inl, inr, arith}
 use Rattle.std.specs.Prelude.{nat_le}
-use Rattle.std.specs.List.{AllByRecursion, list_all, filter}
+use Rattle.std.specs.List.{AllByRecursion, list_all}
 use Rattle.std.proofs.lemmas.Bool.{false≢true, not_from_false, and_from, both_ways, or_right}
 use Rattle.std.proofs.lemmas.Bool.{leb-true, lt-ltb, le-ltb}
 use Rattle.std.proofs.lemmas.Slice.Eq.{bytes_eq-Decides}
@@ -23,6 +23,7 @@ use Rattle.ttp_world.specs.Safety.{newest_slot, correct_nodes, is_settled, settl
 use Rattle.ttp_world.specs.Safety.{members_of_node, are_same_members, correct_senders, is_out, is_gone, members_agree}
 use Rattle.ttp_world.specs.Safety.{senders_are_members, none_has_left, faulty_are_gone, IsSafe}
 use Rattle.ttp_world.specs.World.{node_past}
+use Rattle.ttp_world.proofs.Filters.{each-filter}
 use Rattle.ttp_world.proofs.Lists.{nodes-most}
 use Rattle.fault_plan.specs.Plan.{Change, Sending, Plan}
 use Rattle.fault_plan.specs.Fates.{Fate, Absent, Sound, Falling, Fallen, fate_of, is_sound_after, lost_since, may_stay}
@@ -46,17 +47,6 @@ all-by : {X : Type 0} (P : X → Type 0) (test : X → Bool) (xs : List X) → (
 all-by P test [] passes all = refl
 all-by P test (x ∷ xs) passes all =
     and_from (test x) (list_all test xs) (passes x all.0) (all-by P test xs passes all.1)
-
-filtered-one : (P : ℕ → Type 0) (p : ℕ → Bool) (x : ℕ) (b : Bool) (xs : List ℕ) → P x → p x ≡ b
-    → AllByRecursion (λ k. P k × (p k ≡ true)) xs
-    → AllByRecursion (λ k. P k × (p k ≡ true)) (cond b (x ∷ xs) xs)
-filtered-one P p x true xs here is all = ((here, is), all)
-filtered-one P p x false xs here is all = all
-
-filtered : (P : ℕ → Type 0) (p : ℕ → Bool) (xs : List ℕ) → AllByRecursion P xs
-    → AllByRecursion (λ k. P k × (p k ≡ true)) (filter p xs)
-filtered P p [] all = tt
-filtered P p (x ∷ xs) all = filtered-one P p x (p x) (filter p xs) all.0 refl (filtered P p xs all.1)
 
 -- What a sound node holds.
 
@@ -103,7 +93,7 @@ module _ (list : Medl) (script : Script) (start : ClusterStart) (plan : Plan) (t
   IsCorrect k = (k < length list.slots) × (is_correct_after list script (newest_slot history) k ≡ true)
 
   corrects : AllByRecursion IsCorrect (correct_nodes list script history)
-  corrects = filtered (λ k. k < length list.slots) _ (nodes_of list) (below-lt (length list.slots))
+  corrects = each-filter (λ k. k < length list.slots) _ (nodes_of list) (below-lt (length list.slots))
 
   sound : (k : ℕ) → IsCorrect k → is_sound_after plan turn k ≡ true
   sound k correct =
@@ -127,7 +117,7 @@ module _ (list : Medl) (script : Script) (start : ClusterStart) (plan : Plan) (t
 
   agree : members_agree list script history ≡ true
   agree =
-      let all = filtered IsCorrect (is_settled history) (correct_nodes list script history) corrects in
+      let all = each-filter IsCorrect (is_settled history) (correct_nodes list script history) corrects in
       all-by IsSettled _ (settled_nodes list script history) (λ j of_j.
       all-by IsSettled (are_same_members list history j) (settled_nodes list script history) (λ k of_k.
       (bytes_eq-Decides (members_of_node list history j) (members_of_node list history k)).1
@@ -144,7 +134,7 @@ module _ (list : Medl) (script : Script) (start : ClusterStart) (plan : Plan) (t
       ∙ held-member (planned_members plan turn) (node_past list script history k).ack j (small j of_j.0.0)
       (sound-member plan turn j good (less j of_j.0.0) (sound j of_j.0)
       (is.holds.sent j of_j.0.0 (sound j of_j.0) of_j.1))) corrects)
-      (filtered IsCorrect (λ j. has_ever_sent (diary_of history j)) (correct_nodes list script history) corrects)
+      (each-filter IsCorrect (λ j. has_ever_sent (diary_of history j)) (correct_nodes list script history) corrects)
 
   -- None has left.
 

@@ -5,14 +5,15 @@ use Rattle.ttp_world.specs.declared.script.Script.{Script}
 use Rattle.ttp_world.specs.Diary.{History}
 use Rattle.ttp_world.specs.Hypothesis.{ClusterStart, loses}
 use Rattle.ttp_world.specs.Script.{is_on}
+use Rattle.ttp_world.specs.Starts.{StartsAlone}
 use Rattle.fault_plan.specs.Plan.{Plan}
-use Rattle.fault_plan.specs.Kept.{IsLoneStart, IsPlanOfFaults}
+use Rattle.fault_plan.specs.Kept.{IsPlanOfFaults}
 use Rattle.safety_steps.specs.Turn.{HoldsAfter, IsPlanned}
 
--- a script follows a plan from a lone start, whose frame comes to all that are on
+-- a script follows a plan from the start of one node alone, whose frame comes to all that are on
 pub record IsBegun (list : Medl) (script : Script) (start : ClusterStart) (plan : Plan) : Type 0 where
   pub planned : IsPlanned list script start plan
-  pub lone : IsLoneStart list script start
+  pub alone : StartsAlone list script start
   pub heard : (k : ℕ) → k < length list.slots → k ≢ start.node → is_on script k start.slot ≡ true
       → loses script start.node start.slot k ≡ false
 

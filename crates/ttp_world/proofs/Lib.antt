@@ -6,6 +6,9 @@ pub mod EntriesMade
 pub mod EventBounds
 pub mod FlipLists
 pub mod Fronts
+pub mod Filters
+pub mod Jumps
+pub mod Starts
 pub mod HostLists
 pub mod LegalNumbers
 pub mod LegalRuns

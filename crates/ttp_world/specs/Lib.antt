@@ -26,6 +26,7 @@ pub mod Outgoing
 pub mod World
 pub mod Messages
 pub mod Hypothesis
+pub mod Starts
 pub mod Safety
 pub mod Legal
 pub mod Trace

@@ -14,15 +14,16 @@ use Rattle.ttp_world.specs.Hypothesis.{ClusterStart, is_within_bound, drifts_hol
 use Rattle.ttp_world.specs.Hypothesis.{only_starter, is_steady}
 use Rattle.ttp_world.specs.Medl.{IsValid, plan_at, may_start}
 use Rattle.ttp_world.specs.Script.{IsValidScript, is_ever_on, is_on, on_slot, drift_of, reading_error}
+use Rattle.ttp_world.specs.Starts.{StartsAlone}
 use Rattle.ttp_world.proofs.Lists.{nodes-most}
+use Rattle.ttp_world.proofs.Starts.{found-start, alone-start, on-start}
 use Rattle.hypothesis.specs.SoleStart.{sole_start_in, sole_start}
 use Rattle.fault_plan.specs.Plan.{Plan, sender, plan_of}
 use Rattle.fault_plan.specs.Fates.{Absent, Sound, fate_of, is_sound_after, is_lost, is_steady_after, steady_nodes}
 use Rattle.fault_plan.specs.GoodPlan.{IsGoodPlan}
-use Rattle.fault_plan.specs.Kept.{IsLoneStart, FollowsPlan, IsHeardByPlan}
+use Rattle.fault_plan.specs.Kept.{FollowsPlan, IsHeardByPlan}
 use Rattle.fault_plan.proofs.Bounds.{both-hold, wide, le_of_test}
 use Rattle.fault_plan.proofs.KeptPlan.{on-always, due-ever}
-use Rattle.fault_plan.proofs.Lone.{found-start, lone-start}
 use Rattle.fault_plan.proofs.Sieves.{none-found}
 use Rattle.fault_plan.proofs.Tests.{and-true}
 use Rattle.safety_steps.specs.Run.{IsBegun}
@@ -56,8 +57,8 @@ module _ (list : Medl) (script : Script) (z slot : ℕ) (valid : IsValid list) (
     quiet : IsQuiet script
     quiet = quiet-script script rules.faults
 
-    lone : IsLoneStart list script start
-    lone = lone-start list script start rules.started
+    alone : StartsAlone list script start
+    alone = alone-start list script start rules.started
 
     sound : (turn k : ℕ) → is_sound_after plan turn k ≡ has_node plan.begin k
     sound turn k = sound-always plan turn k refl
@@ -73,10 +74,10 @@ module _ (list : Medl) (script : Script) (z slot : ℕ) (valid : IsValid list) (
     good = record {
       count = (valid.count.0, nodes-most list valid);
       starter = (
-        lone.node,
-        has_node-sieve (is_ever_on script) (length list.slots) start.node lone.node
+        alone.node,
+        has_node-sieve (is_ever_on script) (length list.slots) start.node alone.node
             ∙ due-ever (may_start list start.node) (on_slot script start.node) (length list.slots) start.node start.slot
-            lone.due,
+            alone.due,
       );
       late = λ slot incident found. absurd (none-some incident found);
       apart = λ slot later first second found next less. absurd (none-some first found);
@@ -96,7 +97,8 @@ module _ (list : Medl) (script : Script) (z slot : ℕ) (valid : IsValid list) (
 
     on : (turn k : ℕ) → k < length list.slots → has_node plan.begin k ≡ is_on script k (start.slot + turn)
     on turn k node =
-        has_node-sieve (is_ever_on script) (length list.slots) k node ∙ on-always list script start turn k lone node
+        has_node-sieve (is_ever_on script) (length list.slots) k node
+        ∙ on-always list script start turn k (λ j. on-start list script start j rules.started) node
 
     pub follows : FollowsPlan list script start plan
     follows = record {
@@ -126,7 +128,7 @@ module _ (list : Medl) (script : Script) (z slot : ℕ) (valid : IsValid list) (
             absurd (both_ways (is_lost (fate_of plan turn k))
             (ap is_lost (fate-always plan turn k refl) ∙ never-lost (has_node plan.begin k)) lost);
       };
-      lone = lone;
+      alone = alone;
       heard = λ k node other on. quiet.heard start.node k start.slot;
     }
 

@@ -13,7 +13,7 @@ use Rattle.ttp_world.specs.declared.script.Script.{Script}
 use Rattle.ttp_world.specs.Hypothesis.{loses}
 use Rattle.ttp_world.specs.Script.{has_jump, jump_of, flipped_bits, has_send_fault, has_receive_fault}
 use Rattle.ttp_world.specs.Script.{is_send_fault, is_receive_fault, flipped_bit, jump_in, sum_ℤ}
-use Rattle.fault_plan.proofs.Bounds.{each-none}
+use Rattle.ttp_world.proofs.Jumps.{each-none}
 use Rattle.two_faced.specs.Faced.{fault_slot, faults_broken}
 
 -- what no event is, or says, of a kind that is no fault

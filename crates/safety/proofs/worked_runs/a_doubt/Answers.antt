@@ -25,3 +25,15 @@ returns-clause-members c = refl
 pub returns-clause-safe : goal.returns-clause-safe
 unfolding members_in with_node
 returns-clause-safe c = record { agree = refl; senders = refl; stay = refl; faulty = refl }
+
+pub returns-clause-tentative : goal.returns-clause-tentative
+unfolding members_in with_node
+returns-clause-tentative c = refl
+
+pub returns-clause-other : goal.returns-clause-other
+unfolding members_in with_node
+returns-clause-other c = refl
+
+pub returns-clause-settled : goal.returns-clause-settled
+unfolding members_in with_node
+returns-clause-settled c = refl

@@ -2,9 +2,9 @@ use Rattle.safety_clocks.proofs.OutsideWindow.{jumped-outside}
 use Rattle.safety_clocks.proofs.laws.jumped_outside.Goals as goal
 
 pub returns-clause-frame : goal.returns-clause-frame
-returns-clause-frame c list script start plan slot history valid follows noted within x k since inside has p =
-    (jumped-outside list script start plan slot history valid follows noted within x k since inside has p).0
+returns-clause-frame c list script start plan slot history is x k since inside has p =
+    (jumped-outside is x k since inside has p).0
 
 pub returns-clause-others : goal.returns-clause-others
-returns-clause-others c list script start plan slot history valid follows noted within x k since inside has p =
-    (jumped-outside list script start plan slot history valid follows noted within x k since inside has p).1
+returns-clause-others c list script start plan slot history is x k since inside has p =
+    (jumped-outside is x k since inside has p).1

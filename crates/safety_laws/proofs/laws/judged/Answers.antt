@@ -1,5 +1,6 @@
 use Rattle.safety_laws.proofs.Verdicts.{judged-correct, judged-tentative, leaves-denied, judged-incorrect}
 use Rattle.safety_laws.proofs.Verdicts.{judged-outside, judged-none, judged-silent, judged-whatever}
+use Rattle.safety_laws.proofs.Deliveries.{delivers-correct}
 use Rattle.safety_laws.proofs.laws.judged.Goals as goal
 
 pub returns-clause-correct : goal.returns-clause-correct
@@ -25,3 +26,6 @@ returns-clause-silent c = judged-silent
 
 pub returns-clause-whatever : goal.returns-clause-whatever
 returns-clause-whatever c = judged-whatever
+
+pub returns-clause-delivers : goal.returns-clause-delivers
+returns-clause-delivers c = λ x sent deviation is hears judged. delivers-correct x sent deviation is hears judged.entry

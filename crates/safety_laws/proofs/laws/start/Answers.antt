@@ -1,17 +1,17 @@
 use Rattle.std.proofs.Common.{length, ◌∙◌, subst, arith}
+use Rattle.ttp_world.proofs.Starts.{alone-start, on-start}
 use Rattle.ttp_world.proofs.Worlds.{length-world}
 use Rattle.ttp_world.specs.World.{node_past, world, messages_chosen}
 use Rattle.safety_laws.specs.Start.{Waits}
-use Rattle.safety_laws.proofs.StartOf.{StartsAlone-start_of, is_on-start_of}
 use Rattle.safety_laws.proofs.StartSlot.{starter-stands, joiner-stands, off-stays, first_due, has-begun}
 use Rattle.safety_laws.proofs.Waiting.{WaitAll-world}
 use Rattle.safety_laws.proofs.laws.start.Goals as goal
 
 pub returns-clause-known : goal.returns-clause-known
-returns-clause-known c = StartsAlone-start_of
+returns-clause-known c = alone-start
 
 pub returns-clause-all_on : goal.returns-clause-all_on
-returns-clause-all_on c = is_on-start_of
+returns-clause-all_on c = on-start
 
 pub returns-clause-waits : goal.returns-clause-waits
 returns-clause-waits c = λ list script start numbers valid alone early k node.

@@ -1,4 +1,4 @@
--- The start of a script that keeps the rule on it.
+-- The start that the hypothesis test knows: one node starts alone, and each node that is ever on is on by then.
 use Rattle.std.proofs.Common.{◌≡◌, ◌≢◌, ℕ, zero, suc, ◌+◌, ◌<◌, ◌≤◌, Bool, true, false, not, ◌||◌}
 use Rattle.std.proofs.Common.{List, [], ◌∷◌, length, Option, Some, None, refl, ap, sym, subst, ◌∙◌, inl, inr, arith}
 use Rattle.std.specs.Prelude.{if◌then◌else◌}
@@ -13,8 +13,8 @@ use Rattle.ttp_world.specs.declared.script.Script.{Script}
 use Rattle.ttp_world.specs.Hypothesis.{ClusterStart, lesser, least_of, start_slot, is_exactly, starts_in, are_all_on}
 use Rattle.ttp_world.specs.Hypothesis.{only_starter, start_in, start_of, nodes_of}
 use Rattle.ttp_world.specs.Script.{is_ever_on, is_on}
-use Rattle.fault_plan.specs.Kept.{IsLoneStart}
-use Rattle.fault_plan.proofs.Sieves.{each-sieve}
+use Rattle.ttp_world.specs.Starts.{StartsAlone}
+use Rattle.ttp_world.proofs.Filters.{each-sieve}
 
 -- what is found is the only one that passes
 only-found : (slot : ℕ) (ks : List ℕ) (start : ClusterStart) → only_starter slot ks ≡ Some start
@@ -96,13 +96,9 @@ least-range f a (suc n) k m from to is = elim (cases_eq a k) [
       (least-range f (a + 1) n k m (omega arith) (omega arith) is)
 ]
 
-on-by : (ever on : Bool) → (not ever || on) ≡ true → ever ≡ true → on ≡ true
-on-by true on either ever = either
-on-by false on either ever = absurd (both_ways false refl ever)
-
-pub lone-start : (list : Medl) (script : Script) (start : ClusterStart) → start_of list script ≡ Some start
-    → IsLoneStart list script start
-lone-start list script start is =
+pub alone-start : (list : Medl) (script : Script) (start : ClusterStart) → start_of list script ≡ Some start
+    → StartsAlone list script start
+alone-start list script start is =
     let n = length list.slots in
     let found = found-start list script start is in
     let starts = starts_in list script start.slot in
@@ -121,7 +117,16 @@ lone-start list script start is =
           let apart : slot ≢ start.slot =
           λ same. both_ways (starts k) off (ap (is_exactly start.slot) due ∙ eq-eqb slot start.slot same) in
           omega arith;
-      on = λ k less ever.
-          on-by (is_ever_on script k) (is_on script k start.slot)
-          (each-below (λ k. not (is_ever_on script k) || is_on script k start.slot) n k found.on less) ever;
     }
+
+on-by : (ever on : Bool) → (not ever || on) ≡ true → ever ≡ true → on ≡ true
+on-by true on either ever = either
+on-by false on either ever = absurd (both_ways false refl ever)
+
+pub on-start : (list : Medl) (script : Script) (start : ClusterStart) (k : ℕ) → start_of list script ≡ Some start
+    → k < length list.slots → is_ever_on script k ≡ true
+    → is_on script k start.slot ≡ true
+on-start list script start k is less ever =
+    on-by (is_ever_on script k) (is_on script k start.slot)
+    (each-below (λ j. not (is_ever_on script j) || is_on script j start.slot) (length list.slots) k
+    (found-start list script start is).on less) ever
