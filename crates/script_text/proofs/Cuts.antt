@@ -1,5 +1,5 @@
 -- A text cut at its first line feed, and a line at its first word.
-use Rattle.std.proofs.Common.{◌≡◌, ℕ, zero, suc, ◌+◌, ◌<◌, ◌≤◌, Bool, true, false, cond, List, [], ◌∷◌}
+use Rattle.std.proofs.Common.{◌≡◌, ℕ, zero, suc, ◌+◌, ◌<◌, ◌≤◌, ◌==◌, Bool, true, false, cond, List, [], ◌∷◌}
 use Rattle.std.proofs.Common.{length, take, drop, get_or, map, Some, None, filter, arith, refl, ap, sym, ◌∙◌}
 use Rattle.std.specs.List.{slice_split, position, position_or_len, list_all}
 use Rattle.std.proofs.lemmas.Bool.Decides.{nat_tests}
@@ -102,6 +102,10 @@ pub words_of-empty : words_of [] ≡ []
 unfolding words_of
 words_of-empty = refl
 
+pub no_bytes_no_words : (line : List ℕ) → (length line == 0) ≡ true → words_of line ≡ []
+no_bytes_no_words [] none = words_of-empty
+no_bytes_no_words (x ∷ xs) none = grind (arith, nat_tests)
+
 -- blanks at the front say nothing
 pub words_of-start : (line : List ℕ) (i : ℕ) → position is_part line ≡ Some i → words_of line ≡ words_of (drop i line)
 words_of-start line i here =
@@ -111,6 +115,11 @@ pub words_of-blanks : (line : List ℕ) → position is_part line ≡ None → w
 words_of-blanks line here =
     words_of-drop_blanks line ∙ ap words_of (drop_of_length-le line (no_position-length is_part line here))
     ∙ words_of-empty
+
+pub words_of-past : (line : List ℕ) → position is_part line ≡ None
+    → words_of (drop (length line) line) ≡ words_of line
+words_of-past line here =
+    ap words_of (drop_of_length-le line (omega arith)) ∙ words_of-empty ∙ sym (words_of-blanks line here)
 
 -- a line with a word at its front has a first byte, which is no blank
 front-first : (line : List ℕ) → position is_part line ≡ Some 0

@@ -167,6 +167,30 @@ impl<'a> Words<'a> {
     }
 }
 
+// How many blanks stand before the first word of a line.
+#[inline(never)]
+#[tactic(auto, using(crate::proofs::Cuts::cuts))]
+fn blanks(line: &[u8]) -> usize
+    ensures within { result ≤ length line.now }
+    ensures words { words_of (drop result line.now) ≡ words_of line.now }
+{
+    match word_start(line) {
+        Some(start) => start,
+        None => line.len(),
+    }
+}
+
+/// A line from its first word on.
+#[inline(always)]
+pub(crate) fn past_blanks(line: &[u8]) -> &[u8]
+    ensures { words_of result.now ≡ words_of line.now }
+{
+    if line.is_empty() || b' ' < line[0] {
+        return line;
+    }
+    &line[blanks(line)..]
+}
+
 /// All words of a line, of which the first was cut off. `None` where there are more than six.
 #[inline(never)]
 pub(crate) fn words_after(first: Cut<'_>) -> Option<Words<'_>>

@@ -9,7 +9,7 @@ ghost use Rattle.script_text.specs.SoFar.{HasNodes};
 ghost use Rattle.script_text.specs.Fields.{IsRight, IsTaken};
 
 use crate::event::{is_flipped_bit, is_span, is_within};
-use crate::fields::{next_channels, next_fault, next_number, next_value};
+use crate::fields::{is_end, next_channels, next_fault, next_number, next_value};
 use crate::keyword::Keyword;
 use crate::so_far::SoFar;
 use ttp_base::Memory;
@@ -40,7 +40,7 @@ fn right_send(rest: &[u8], list: &Medl, slots: u32) -> Option<Event>
     let fault = next_fault(channels.rest)?;
     let from = next_number(fault.rest)?;
     let to = next_number(from.rest)?;
-    if !to.rest.is_empty() || !is_node(list, node.value) || !is_span(slots, from.value, to.value) {
+    if !is_end(to.rest) || !is_node(list, node.value) || !is_span(slots, from.value, to.value) {
         return None;
     }
     Some(Event::Send {
@@ -62,7 +62,7 @@ fn right_receive(rest: &[u8], list: &Medl, slots: u32) -> Option<Event>
     let fault = next_fault(channels.rest)?;
     let from = next_number(fault.rest)?;
     let to = next_number(from.rest)?;
-    if !to.rest.is_empty() || !is_node(list, node.value) || !is_span(slots, from.value, to.value) {
+    if !is_end(to.rest) || !is_node(list, node.value) || !is_span(slots, from.value, to.value) {
         return None;
     }
     Some(Event::Receive {
@@ -83,7 +83,7 @@ fn right_flip(rest: &[u8], list: &Medl, slots: u32) -> Option<Event>
     let channels = next_channels(node.rest)?;
     let bit = next_number(channels.rest)?;
     let slot = next_number(bit.rest)?;
-    if !slot.rest.is_empty()
+    if !is_end(slot.rest)
         || !is_node(list, node.value)
         || !is_flipped_bit(bit.value)
         || !is_slot(slots, slot.value)
@@ -107,7 +107,7 @@ fn right_error(rest: &[u8], list: &Medl, slots: u32) -> Option<Event>
     let value = next_value(node.rest)?;
     let from = next_number(value.rest)?;
     let to = next_number(from.rest)?;
-    if !to.rest.is_empty() || !is_node(list, node.value) {
+    if !is_end(to.rest) || !is_node(list, node.value) {
         return None;
     }
     if !is_within(ERROR_LIMIT, value.value) || !is_span(slots, from.value, to.value) {
@@ -129,7 +129,7 @@ fn right_jump(rest: &[u8], list: &Medl, slots: u32) -> Option<Event>
     let node = next_number(rest)?;
     let value = next_value(node.rest)?;
     let slot = next_number(value.rest)?;
-    if !slot.rest.is_empty()
+    if !is_end(slot.rest)
         || !is_node(list, node.value)
         || !is_within(JUMP_LIMIT, value.value)
         || !is_slot(slots, slot.value)
@@ -150,7 +150,7 @@ fn right_arm(rest: &[u8], list: &Medl, slots: u32) -> Option<Event>
 {
     let node = next_number(rest)?;
     let slot = next_number(node.rest)?;
-    if !slot.rest.is_empty() || !is_node(list, node.value) || !is_slot(slots, slot.value) {
+    if !is_end(slot.rest) || !is_node(list, node.value) || !is_slot(slots, slot.value) {
         return None;
     }
     Some(Event::Arm {
@@ -175,7 +175,7 @@ fn is_kept(event: Option<Event>, so_far: &mut SoFar) -> Result<bool, Memory>
 }
 
 /// Takes a line of a form, by what follows its first word, if it says what happens in slots and nothing is wrong with
-/// it and its words stand one blank apart; whether it was taken.
+/// it; whether it was taken.
 pub(crate) fn is_taken(
     form: Keyword,
     rest: &[u8],
