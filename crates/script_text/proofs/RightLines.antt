@@ -63,27 +63,22 @@ IsRight-send list slots line a b c d e node channels fault from to first second 
       says = λ w. rw (first.reads, second.reads, third.reads, fourth.reads, fifth.reads) refl;
     })
 
-pub IsRight-receive : (list : Medl) (slots : ℕ) (line a b c d e : List ℕ)
+-- a `receive` line says what a `send` line with the same words says
+
+received : Option Event → Option Event
+received (Some (event.Send node channels fault from to)) = Some (event.Receive node channels fault from to)
+received e = e
+
+pub IsRight-receive : (list : Medl) (slots : ℕ) (fields : List (List ℕ))
     (node : ℕ) (channels : Channels) (fault : Fault) (from : ℕ) (to : ℕ)
-    → Begins is_number number_in line node a → Begins is_channels channels_in a channels b
-    → Begins is_fault fault_in b fault c → Begins is_number number_in c from d → Begins is_number number_in d to e
-    → words_of e ≡ [] → is_node list node ≡ true → is_span slots from to ≡ true
-    → IsRight list slots keyword.Receive (words_of line) (event.Receive node channels fault from to)
-IsRight-receive list slots line a b c d e node channels fault from to first second third fourth fifth end node_is span =
-    let fields : words_of line ≡ first.word ∷ second.word ∷ third.word ∷ fourth.word ∷ fifth.word ∷ [] =
-    rw (first.words, second.words, third.words, fourth.words, fifth.words, end) refl in
-    let in_list : is_node list (number_in first.word) ≡ true = rw first.reads at node_is in
-    let span' : is_span slots (number_in fourth.word) (number_in fifth.word) ≡ true =
-    rw (fourth.reads, fifth.reads) at span in
-    rw fields (record {
-      spelled = λ w. and (is_channels second.word) _ second.passes third.passes;
-      faults = λ w. event_faults-none
-          (w ∷ first.word ∷ second.word ∷ third.word ∷ fourth.word ∷ fifth.word ∷ []) list slots
-          keyword.Receive
-          (and (is_number first.word) _ first.passes (and (is_number fourth.word) _ fourth.passes fifth.passes))
-          in_list span';
-      says = λ w. rw (first.reads, second.reads, third.reads, fourth.reads, fifth.reads) refl;
-    })
+    → IsRight list slots keyword.Send fields (event.Send node channels fault from to)
+    → IsRight list slots keyword.Receive fields (event.Receive node channels fault from to)
+unfolding event_faults received
+IsRight-receive list slots fields node channels fault from to right = record {
+  spelled = right.spelled;
+  faults = right.faults;
+  says = λ w. ap received (right.says w);
+}
 
 pub IsRight-flip : (list : Medl) (slots : ℕ) (line a b c d : List ℕ)
     (node : ℕ) (channels : Channels) (bit : ℕ) (slot : ℕ)

@@ -178,7 +178,7 @@ fn script_from(
 /// `IsValidScript`, and so far no host writes or reads in it. The file has at most 1,048,576 bytes.
 ///
 /// The file is gone over once, a line after another, and a line once for its end and once for its
-/// words; once more where what it says of slots is wrong, or its words don't stand one blank apart.
+/// words; once more where what it says of slots is wrong.
 /// Memory is taken for what is said of each node and for what happens in slots, and none for other
 /// lines. At the end what happens in slots is put into an index, at the cost of a sort.
 #[tactic(auto, unfolding(crate::specs::ScriptFile::script_of, crate::specs::ScriptFile::file_script, crate::specs::ScriptFile::lines_script))]

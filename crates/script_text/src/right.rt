@@ -2,13 +2,14 @@
 //! words, by which it is told what is wrong with a line.
 ghost use Rattle.std.specs.Prelude.{◌≡◌, ◌++◌, IfOk, IfSome, OnOk, OnErr, is_some, option_to_list};
 ghost use Rattle.ttp_world.specs.Medl.{IsValid};
+ghost use Rattle.ttp_world.specs.declared.script.Event.TheVariants as event;
 ghost use Rattle.script_text.specs.declared.keyword.Keyword.TheVariants as keyword;
 ghost use Rattle.script_text.specs.Lines.{words_of};
 ghost use Rattle.script_text.specs.Faults.{is_node, is_slot};
 ghost use Rattle.script_text.specs.SoFar.{HasNodes};
 ghost use Rattle.script_text.specs.Fields.{IsRight, IsTaken};
 
-use crate::event::{is_flipped_bit, is_span, is_within};
+use crate::event::{Disturbance, is_flipped_bit, is_span, is_within};
 use crate::fields::{is_end, next_channels, next_fault, next_number, next_value};
 use crate::keyword::Keyword;
 use crate::so_far::SoFar;
@@ -30,10 +31,11 @@ fn is_slot(slots: u32, slot: u32) -> bool
     slot < slots
 }
 
-// The event that a `send` line says, by what follows its first word, where nothing is wrong.
-fn right_send(rest: &[u8], list: &Medl, slots: u32) -> Option<Event>
+// What a `send` or a `receive` line says, by what follows its first word, where nothing is wrong.
+fn right_disturbance(rest: &[u8], list: &Medl, slots: u32) -> Option<Disturbance>
     requires { IsValid list.now }
-    ensures { IfSome result (IsRight list.now slots keyword.Send (words_of rest.now)) }
+    ensures { IfSome result (λ said. IsRight list.now slots keyword.Send (words_of rest.now)
+        (event.Send said.node said.channels said.fault said.from said.to)) }
 {
     let node = next_number(rest)?;
     let channels = next_channels(node.rest)?;
@@ -43,7 +45,7 @@ fn right_send(rest: &[u8], list: &Medl, slots: u32) -> Option<Event>
     if !is_end(to.rest) || !is_node(list, node.value) || !is_span(slots, from.value, to.value) {
         return None;
     }
-    Some(Event::Send {
+    Some(Disturbance {
         node: node.value as u8,
         channels: channels.value,
         fault: fault.value,
@@ -52,25 +54,33 @@ fn right_send(rest: &[u8], list: &Medl, slots: u32) -> Option<Event>
     })
 }
 
+// The event that a `send` line says, by what follows its first word, where nothing is wrong.
+fn right_send(rest: &[u8], list: &Medl, slots: u32) -> Option<Event>
+    requires { IsValid list.now }
+    ensures { IfSome result (IsRight list.now slots keyword.Send (words_of rest.now)) }
+{
+    let said = right_disturbance(rest, list, slots)?;
+    Some(Event::Send {
+        node: said.node,
+        channels: said.channels,
+        fault: said.fault,
+        from: said.from,
+        to: said.to,
+    })
+}
+
 // The same of a `receive` line.
 fn right_receive(rest: &[u8], list: &Medl, slots: u32) -> Option<Event>
     requires { IsValid list.now }
     ensures { IfSome result (IsRight list.now slots keyword.Receive (words_of rest.now)) }
 {
-    let node = next_number(rest)?;
-    let channels = next_channels(node.rest)?;
-    let fault = next_fault(channels.rest)?;
-    let from = next_number(fault.rest)?;
-    let to = next_number(from.rest)?;
-    if !is_end(to.rest) || !is_node(list, node.value) || !is_span(slots, from.value, to.value) {
-        return None;
-    }
+    let said = right_disturbance(rest, list, slots)?;
     Some(Event::Receive {
-        node: node.value as u8,
-        channels: channels.value,
-        fault: fault.value,
-        from: from.value,
-        to: to.value,
+        node: said.node,
+        channels: said.channels,
+        fault: said.fault,
+        from: said.from,
+        to: said.to,
     })
 }
 

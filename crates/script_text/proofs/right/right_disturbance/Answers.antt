@@ -1,6 +1,6 @@
 use Rattle.std.proofs.Common.{sym, ◌∙◌}
 use Rattle.script_text.proofs.RightLines.{IsRight-send}
-use Rattle.script_text.proofs.right.right_send.Goals as goal
+use Rattle.script_text.proofs.right.right_disturbance.Goals as goal
 
 pub returns : goal.returns
 returns c = IsRight-send c.args.list.now c.args.slots c.args.rest.now _ _ _ _ _ _ _ _ _ _
