@@ -1,6 +1,6 @@
 -- A text cut at its first line feed, and a line at its first word.
-use Rattle.std.proofs.Common.{◌≡◌, ℕ, zero, suc, ◌+◌, ◌<◌, ◌≤◌, Bool, true, false, cond, List, [], ◌∷◌}
-use Rattle.std.proofs.Common.{length, take, drop, get_or, map, Some, None, filter, arith, refl, ap, sym, ◌∙◌}
+use Rattle.std.proofs.Common.{◌≡◌, ℕ, zero, suc, ◌+◌, ◌<◌, ◌≤◌, ◌==◌, Bool, true, false, cond, List, [], ◌∷◌}
+use Rattle.std.proofs.Common.{length, take, drop, get_or, map, Option, Some, None, filter, arith, refl, ap, sym, ◌∙◌}
 use Rattle.std.specs.List.{slice_split, position, position_or_len, list_all}
 use Rattle.std.proofs.lemmas.Bool.Decides.{nat_tests}
 use Rattle.std.proofs.lemmas.List.{length-map, length-take, get_or-take, take_all}
@@ -9,12 +9,32 @@ use Rattle.std.proofs.lemmas.List.Quantifiers.{position-Some}
 use Rattle.std.proofs.lemmas.List.Sums.{position_or_len_is, AllPass-from_list_all}
 use Rattle.std.proofs.Math.ListN.{drop_of_length-le}
 use Rattle.std.proofs.Math.Seq.{drop-cons}
+use Rattle.memchr.specs.Find.{IsFirstByte, is_byte}
 use Rattle.script_text.specs.Lines.{is_line_feed, is_blank, is_part, has_bytes}
 use Rattle.script_text.specs.Lines.{without_return, without_empty_end, lines_of, words_of}
 
 position_or_len-is : {X : Type 0} (p : X → Bool) (xs : List X) (i : ℕ) → position p xs ≡ Some i
     → (position_or_len p xs ≡ i) × (position_or_len p xs < length xs)
 position_or_len-is p xs i here = (grind (arith, nat_tests), grind (arith, nat_tests))
+
+fails : (b : Bool) → ¬ (b ≡ true) → b ≡ false
+fails true never = absurd (never refl)
+fails false never = refl
+
+-- the first byte that is a line feed, by a search for it
+pub first_line_feed : (text : List ℕ) (found : Option ℕ) → IsFirstByte (is_byte 10) text found
+    → found ≡ position is_line_feed text
+first_line_feed text None nowhere =
+    let at = position_or_len_is is_line_feed text (length text) 0 (omega arith)
+    (λ k below. fails (is_line_feed (get_or text k 0)) (nowhere k (omega arith) below))
+    (λ within. absurd (omega arith)) in
+    grind (arith, nat_tests)
+first_line_feed text (Some i) here =
+    let within = here.0.high in
+    let at = position_or_len_is is_line_feed text i 0 (omega arith)
+    (λ k below. fails (is_line_feed (get_or text k 0)) (here.0.before k (omega arith) below))
+    (λ _. here.1) in
+    grind (arith, nat_tests)
 
 -- the first piece ends where the test first passes
 slice_split_position : {X : Type 0} (p : X → Bool) (xs : List X) (i : ℕ) (d : X) → position p xs ≡ Some i
@@ -102,6 +122,10 @@ pub words_of-empty : words_of [] ≡ []
 unfolding words_of
 words_of-empty = refl
 
+pub no_bytes_no_words : (line : List ℕ) → (length line == 0) ≡ true → words_of line ≡ []
+no_bytes_no_words [] none = words_of-empty
+no_bytes_no_words (x ∷ xs) none = grind (arith, nat_tests)
+
 -- blanks at the front say nothing
 pub words_of-start : (line : List ℕ) (i : ℕ) → position is_part line ≡ Some i → words_of line ≡ words_of (drop i line)
 words_of-start line i here =
@@ -111,6 +135,11 @@ pub words_of-blanks : (line : List ℕ) → position is_part line ≡ None → w
 words_of-blanks line here =
     words_of-drop_blanks line ∙ ap words_of (drop_of_length-le line (no_position-length is_part line here))
     ∙ words_of-empty
+
+pub words_of-past : (line : List ℕ) → position is_part line ≡ None
+    → words_of (drop (length line) line) ≡ words_of line
+words_of-past line here =
+    ap words_of (drop_of_length-le line (omega arith)) ∙ words_of-empty ∙ sym (words_of-blanks line here)
 
 -- a line with a word at its front has a first byte, which is no blank
 front-first : (line : List ℕ) → position is_part line ≡ Some 0

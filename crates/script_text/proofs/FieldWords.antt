@@ -1,15 +1,38 @@
 -- Words at the front of a line, as what they say.
-use Rattle.std.proofs.Common.{◌≡◌, ℕ, ◌+◌, ◌-◌, ◌≤◌, ◌==◌, true, false}
+use Rattle.std.proofs.Common.{◌≡◌, ℕ, ◌+◌, ◌-◌, ◌≤◌, ◌==◌, Bool, true, false}
 use Rattle.std.proofs.Common.{pos, neg_ℤ, List, [], ◌∷◌, length, take, drop, get_or}
-use Rattle.std.proofs.Common.{arith, refl, ap, ◌∙◌, add-one}
+use Rattle.std.proofs.Common.{arith, refl, ap, sym, ◌∙◌, add-one}
 use Rattle.std.specs.Char.{is_ascii_digit}
 use Rattle.std.specs.List.{list_all}
 use Rattle.std.proofs.lemmas.Grind.{common_steps}
 use Rattle.std.proofs.lemmas.Bool.Decides.{nat_tests}
 use Rattle.std.proofs.lemmas.List.{length-take, length-drop, take_all}
+use Rattle.script_text.specs.declared.keyword.Keyword.{Keyword}
 use Rattle.script_text.specs.Lines.{is_part, words_of}
 use Rattle.script_text.specs.Numbers.{is_number, is_value, number_in, value_in}
-use Rattle.script_text.specs.Fields.{Begins}
+use Rattle.script_text.specs.Fields.{Begins, BeginsForm}
+
+-- A line, and the same from its first word on.
+
+pub Begins-later : {X : Type 0} (test : List ℕ → Bool) (read : List ℕ → X) (line later rest : List ℕ) (value : X)
+    → words_of later ≡ words_of line → Begins test read later value rest → Begins test read line value rest
+Begins-later test read line later rest value same begins = record {
+  word = begins.word;
+  words = sym same ∙ begins.words;
+  passes = begins.passes;
+  reads = begins.reads;
+}
+
+pub BeginsForm-later : (line later rest : List ℕ) (form : Keyword)
+    → words_of later ≡ words_of line → BeginsForm later form rest → BeginsForm line form rest
+BeginsForm-later line later rest form same begins = record {
+  word = begins.word;
+  words = sym same ∙ begins.words;
+  comment = begins.comment;
+  names = begins.names;
+}
+
+pub ruleset later_words = (Begins-later, BeginsForm-later)
 
 -- a digit is no blank
 digit_is_part : (b : ℕ) → is_ascii_digit b ≡ true → is_part b ≡ true

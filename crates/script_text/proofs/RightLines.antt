@@ -1,10 +1,9 @@
 -- A right line that says what happens in slots.
-use Rattle.std.proofs.Common.{◌≡◌, Bool, true, false, ◌&&◌, ℕ, ◌==◌, ℤ, List, [], ◌∷◌, ◌++◌, length}
+use Rattle.std.proofs.Common.{◌≡◌, Bool, true, false, ◌&&◌, ℕ, ℤ, List, [], ◌∷◌, ◌++◌}
 use Rattle.std.proofs.Common.{Option, Some, None, Result, Ok, Err, unwrap_or, is_some, option_to_list, arith, refl}
 use Rattle.std.proofs.Common.{ap, sym, ◌∙◌}
 use Rattle.std.specs.Prelude.{IfOk, OnOk, IfSome}
 use Rattle.std.proofs.lemmas.Grind.{common_steps}
-use Rattle.std.proofs.lemmas.Bool.Decides.{nat_tests}
 use Rattle.std.proofs.lemmas.List.{append-nil}
 use Rattle.ttp_base.specs.declared.fault.Memory.{Memory}
 use Rattle.ttp_world.specs.declared.medl.Medl.{Medl}
@@ -25,7 +24,6 @@ use Rattle.script_text.specs.Faults.{is_after_slots, line_faults, statements_aft
 use Rattle.script_text.specs.ScriptFile.{is_built}
 use Rattle.script_text.specs.SoFar.{event_faults, is_event_form, TakesForm, TakesLine}
 use Rattle.script_text.specs.Fields.{Begins, IsRight, IsTaken}
-use Rattle.script_text.proofs.Cuts.{words_of-empty}
 use Rattle.script_text.proofs.Kept.{takes_form, stated_faults-event, event_stated, StandsFor-event}
 
 -- Nothing is wrong.
@@ -42,19 +40,15 @@ and true true first second = refl
 and true false first second = second
 and false b first second = first
 
-nothing_left : (line : List ℕ) → (length line == 0) ≡ true → words_of line ≡ []
-nothing_left [] none = words_of-empty
-nothing_left (x ∷ xs) none = grind (arith, nat_tests)
-
 pub IsRight-send : (list : Medl) (slots : ℕ) (line a b c d e : List ℕ)
     (node : ℕ) (channels : Channels) (fault : Fault) (from : ℕ) (to : ℕ)
     → Begins is_number number_in line node a → Begins is_channels channels_in a channels b
     → Begins is_fault fault_in b fault c → Begins is_number number_in c from d → Begins is_number number_in d to e
-    → (length e == 0) ≡ true → is_node list node ≡ true → is_span slots from to ≡ true
+    → words_of e ≡ [] → is_node list node ≡ true → is_span slots from to ≡ true
     → IsRight list slots keyword.Send (words_of line) (event.Send node channels fault from to)
 IsRight-send list slots line a b c d e node channels fault from to first second third fourth fifth end node_is span =
     let fields : words_of line ≡ first.word ∷ second.word ∷ third.word ∷ fourth.word ∷ fifth.word ∷ [] =
-    rw (first.words, second.words, third.words, fourth.words, fifth.words, nothing_left e end) refl in
+    rw (first.words, second.words, third.words, fourth.words, fifth.words, end) refl in
     let in_list : is_node list (number_in first.word) ≡ true = rw first.reads at node_is in
     let span' : is_span slots (number_in fourth.word) (number_in fifth.word) ≡ true =
     rw (fourth.reads, fifth.reads) at span in
@@ -68,37 +62,32 @@ IsRight-send list slots line a b c d e node channels fault from to first second 
       says = λ w. rw (first.reads, second.reads, third.reads, fourth.reads, fifth.reads) refl;
     })
 
-pub IsRight-receive : (list : Medl) (slots : ℕ) (line a b c d e : List ℕ)
+-- a `receive` line says what a `send` line with the same words says
+
+received : Option Event → Option Event
+received (Some (event.Send node channels fault from to)) = Some (event.Receive node channels fault from to)
+received e = e
+
+pub IsRight-receive : (list : Medl) (slots : ℕ) (fields : List (List ℕ))
     (node : ℕ) (channels : Channels) (fault : Fault) (from : ℕ) (to : ℕ)
-    → Begins is_number number_in line node a → Begins is_channels channels_in a channels b
-    → Begins is_fault fault_in b fault c → Begins is_number number_in c from d → Begins is_number number_in d to e
-    → (length e == 0) ≡ true → is_node list node ≡ true → is_span slots from to ≡ true
-    → IsRight list slots keyword.Receive (words_of line) (event.Receive node channels fault from to)
-IsRight-receive list slots line a b c d e node channels fault from to first second third fourth fifth end node_is span =
-    let fields : words_of line ≡ first.word ∷ second.word ∷ third.word ∷ fourth.word ∷ fifth.word ∷ [] =
-    rw (first.words, second.words, third.words, fourth.words, fifth.words, nothing_left e end) refl in
-    let in_list : is_node list (number_in first.word) ≡ true = rw first.reads at node_is in
-    let span' : is_span slots (number_in fourth.word) (number_in fifth.word) ≡ true =
-    rw (fourth.reads, fifth.reads) at span in
-    rw fields (record {
-      spelled = λ w. and (is_channels second.word) _ second.passes third.passes;
-      faults = λ w. event_faults-none
-          (w ∷ first.word ∷ second.word ∷ third.word ∷ fourth.word ∷ fifth.word ∷ []) list slots
-          keyword.Receive
-          (and (is_number first.word) _ first.passes (and (is_number fourth.word) _ fourth.passes fifth.passes))
-          in_list span';
-      says = λ w. rw (first.reads, second.reads, third.reads, fourth.reads, fifth.reads) refl;
-    })
+    → IsRight list slots keyword.Send fields (event.Send node channels fault from to)
+    → IsRight list slots keyword.Receive fields (event.Receive node channels fault from to)
+unfolding event_faults received
+IsRight-receive list slots fields node channels fault from to right = record {
+  spelled = right.spelled;
+  faults = right.faults;
+  says = λ w. ap received (right.says w);
+}
 
 pub IsRight-flip : (list : Medl) (slots : ℕ) (line a b c d : List ℕ)
     (node : ℕ) (channels : Channels) (bit : ℕ) (slot : ℕ)
     → Begins is_number number_in line node a → Begins is_channels channels_in a channels b
-    → Begins is_number number_in b bit c → Begins is_number number_in c slot d → (length d == 0) ≡ true
+    → Begins is_number number_in b bit c → Begins is_number number_in c slot d → words_of d ≡ []
     → is_node list node ≡ true → is_flipped_bit bit ≡ true → is_slot slots slot ≡ true
     → IsRight list slots keyword.Flip (words_of line) (event.Flip node channels bit slot)
 IsRight-flip list slots line a b c d node channels bit slot first second third fourth end node_is flipped slot_is =
     let fields : words_of line ≡ first.word ∷ second.word ∷ third.word ∷ fourth.word ∷ [] =
-    rw (first.words, second.words, third.words, fourth.words, nothing_left d end) refl in
+    rw (first.words, second.words, third.words, fourth.words, end) refl in
     let in_list : is_node list (number_in first.word) ≡ true = rw first.reads at node_is in
     let flipped' : is_flipped_bit (number_in third.word) ≡ true = rw third.reads at flipped in
     let slot_is' : is_slot slots (number_in fourth.word) ≡ true = rw fourth.reads at slot_is in
@@ -113,12 +102,12 @@ IsRight-flip list slots line a b c d node channels bit slot first second third f
 
 pub IsRight-error : (list : Medl) (slots : ℕ) (line a b c d : List ℕ) (node : ℕ) (value : ℤ) (from : ℕ) (to : ℕ)
     → Begins is_number number_in line node a → Begins is_value value_in a value b
-    → Begins is_number number_in b from c → Begins is_number number_in c to d → (length d == 0) ≡ true
+    → Begins is_number number_in b from c → Begins is_number number_in c to d → words_of d ≡ []
     → is_node list node ≡ true → is_within ERROR_LIMIT value ≡ true → is_span slots from to ≡ true
     → IsRight list slots keyword.Error (words_of line) (event.Error node value from to)
 IsRight-error list slots line a b c d node value from to first second third fourth end node_is within span =
     let fields : words_of line ≡ first.word ∷ second.word ∷ third.word ∷ fourth.word ∷ [] =
-    rw (first.words, second.words, third.words, fourth.words, nothing_left d end) refl in
+    rw (first.words, second.words, third.words, fourth.words, end) refl in
     let in_list : is_node list (number_in first.word) ≡ true = rw first.reads at node_is in
     let within' : is_within ERROR_LIMIT (value_in second.word) ≡ true = rw second.reads at within in
     let span' : is_span slots (number_in third.word) (number_in fourth.word) ≡ true =
@@ -135,12 +124,12 @@ IsRight-error list slots line a b c d node value from to first second third four
 
 pub IsRight-jump : (list : Medl) (slots : ℕ) (line a b c : List ℕ) (node : ℕ) (value : ℤ) (slot : ℕ)
     → Begins is_number number_in line node a → Begins is_value value_in a value b
-    → Begins is_number number_in b slot c → (length c == 0) ≡ true → is_node list node ≡ true
+    → Begins is_number number_in b slot c → words_of c ≡ [] → is_node list node ≡ true
     → is_within JUMP_LIMIT value ≡ true → is_slot slots slot ≡ true
     → IsRight list slots keyword.Jump (words_of line) (event.Jump node value slot)
 IsRight-jump list slots line a b c node value slot first second third end node_is within slot_is =
     let fields : words_of line ≡ first.word ∷ second.word ∷ third.word ∷ [] =
-    rw (first.words, second.words, third.words, nothing_left c end) refl in
+    rw (first.words, second.words, third.words, end) refl in
     let in_list : is_node list (number_in first.word) ≡ true = rw first.reads at node_is in
     let within' : is_within JUMP_LIMIT (value_in second.word) ≡ true = rw second.reads at within in
     let slot_is' : is_slot slots (number_in third.word) ≡ true = rw third.reads at slot_is in
@@ -154,12 +143,12 @@ IsRight-jump list slots line a b c node value slot first second third end node_i
     })
 
 pub IsRight-arm : (list : Medl) (slots : ℕ) (line a b : List ℕ) (node : ℕ) (slot : ℕ)
-    → Begins is_number number_in line node a → Begins is_number number_in a slot b → (length b == 0) ≡ true
+    → Begins is_number number_in line node a → Begins is_number number_in a slot b → words_of b ≡ []
     → is_node list node ≡ true → is_slot slots slot ≡ true
     → IsRight list slots keyword.Arm (words_of line) (event.Arm node slot)
 IsRight-arm list slots line a b node slot first second end node_is slot_is =
     let fields : words_of line ≡ first.word ∷ second.word ∷ [] =
-    rw (first.words, second.words, nothing_left b end) refl in
+    rw (first.words, second.words, end) refl in
     let in_list : is_node list (number_in first.word) ≡ true = rw first.reads at node_is in
     let slot_is' : is_slot slots (number_in second.word) ≡ true = rw second.reads at slot_is in
     rw fields (record {

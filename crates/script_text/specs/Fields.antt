@@ -4,8 +4,8 @@ use Rattle.ttp_world.specs.declared.medl.Medl.{Medl}
 use Rattle.ttp_world.specs.declared.script.Event.{Event}
 use Rattle.script_text.specs.declared.keyword.Keyword.{Keyword}
 use Rattle.script_text.specs.declared.so_far.SoFar.{SoFar}
-use Rattle.script_text.specs.Lines.{words_of}
-use Rattle.script_text.specs.Statement.{is_spelled, statement_of}
+use Rattle.script_text.specs.Lines.{words_of, is_comment}
+use Rattle.script_text.specs.Statement.{keyword_of, is_spelled, statement_of}
 use Rattle.script_text.specs.Faults.{event_said}
 use Rattle.script_text.specs.SoFar.{event_faults, TakesForm}
 
@@ -16,6 +16,13 @@ pub record Begins {X : Type 0} (test : List ℕ → Bool) (read : List ℕ → X
   pub words : words_of line ≡ word ∷ words_of rest
   pub passes : test word ≡ true
   pub reads : value ≡ read word
+
+-- the first word of a line names this form, and the other words are those of what is left
+pub record BeginsForm (line : List ℕ) (form : Keyword) (rest : List ℕ) : Type 0 where
+  pub word : List ℕ
+  pub words : words_of line ≡ word ∷ words_of rest
+  pub comment : is_comment word ≡ false
+  pub names : keyword_of word ≡ Some form
 
 -- a line of a form, with these words after the first, has no fault in a run of so many slots, and says this event
 pub record IsRight (list : Medl) (slots : ℕ) (form : Keyword) (fields : List (List ℕ)) (event : Event) : Type 0 where

@@ -71,13 +71,14 @@ pub(crate) fn is_span(slots: u32, from: u32, to: u32) -> bool
     from < slots && to < slots && from <= to
 }
 
-// What a `send` or a `receive` line says.
-struct Disturbance {
-    node: u8,
-    channels: Channels,
-    fault: Fault,
-    from: u32,
-    to: u32,
+/// What a `send` or a `receive` line says.
+#[derive(Drop)]
+pub(crate) struct Disturbance {
+    pub(crate) node: u8,
+    pub(crate) channels: Channels,
+    pub(crate) fault: Fault,
+    pub(crate) from: u32,
+    pub(crate) to: u32,
 }
 
 // What a `send` or a `receive` line says, in a run of so many slots.

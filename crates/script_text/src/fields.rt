@@ -1,14 +1,16 @@
 //! A line read field by field: each word at once as what is due there.
-ghost use Rattle.std.specs.Prelude.{◌≡◌, ◌∷◌, ◌≤◌, true, length, take, pos, neg_ℤ, IfSome, FitsSigned};
+ghost use Rattle.std.specs.Prelude.{◌≡◌, [], ◌∷◌, ◌≤◌, true, false, length, take, pos, neg_ℤ, Some, IfSome, FitsSigned};
 ghost use Rattle.std.specs.Int.{w64};
 ghost use Rattle.std.specs.List.{list_all};
-ghost use Rattle.script_text.specs.Lines.{is_part, words_of};
+ghost use Rattle.script_text.specs.Lines.{is_part, words_of, is_comment};
 ghost use Rattle.script_text.specs.Numbers.{is_number, number_in, is_value, value_in};
 ghost use Rattle.script_text.specs.Numbers.{is_channels, channels_in, is_fault, fault_in};
-ghost use Rattle.script_text.specs.Fields.{Begins};
+ghost use Rattle.script_text.specs.Statement.{keyword_of};
+ghost use Rattle.script_text.specs.Fields.{Begins, BeginsForm};
 
-use crate::form::{channels_in, fault_in, is_channels, is_fault};
-use crate::lines::{cut_at, is_blank, next_word};
+use crate::form::{channels_in, fault_in, is_channels, is_fault, is_text};
+use crate::keyword::Keyword;
+use crate::lines::{cut_at, is_blank, next_word, past_blanks};
 use crate::number::front_digits;
 use ttp_world::{Channels, Fault};
 
@@ -36,8 +38,60 @@ fn after_word(line: &[u8], count: usize) -> Option<&[u8]>
     Some(cut_at(line, count).rest)
 }
 
-/// The number at the front of a line.
-pub(crate) fn next_number(line: &[u8]) -> Option<Field<'_, u32>>
+// What follows a text at the front of a line, where a word of the line is spelled like it.
+#[inline(always)]
+fn after_text<'a>(text: &[u8], line: &'a [u8]) -> Option<&'a [u8]>
+    requires some { 1 ≤ length text.now }
+    requires word { list_all is_part text.now ≡ true }
+    ensures { IfSome result (λ rest. words_of line.now ≡ text.now ∷ words_of rest.now) }
+{
+    if line.len() < text.len() || !is_text(text, &line[..text.len()]) {
+        return None;
+    }
+    after_word(line, text.len())
+}
+
+// A form, and what follows the text that names it, where that is the word at the front of a line.
+#[inline(always)]
+fn form_at<'a>(form: Keyword, text: &[u8], line: &'a [u8]) -> Option<Field<'a, Keyword>>
+    requires some { 1 ≤ length text.now }
+    requires word { list_all is_part text.now ≡ true }
+    requires comment { is_comment text.now ≡ false }
+    requires names { keyword_of text.now ≡ Some form }
+    ensures { IfSome result (λ field. BeginsForm line.now field.value field.rest.now) }
+{
+    let rest = after_text(text, line)?;
+    Some(Field { value: form, rest })
+}
+
+// The form that the word at the front of a line names, if lines of that form say what happens in slots.
+#[inline(always)]
+fn front_form(line: &[u8]) -> Option<Field<'_, Keyword>>
+    ensures { IfSome result (λ field. BeginsForm line.now field.value field.rest.now) }
+{
+    match line.first() {
+        Some(b's') => form_at(Keyword::Send, b"send", line),
+        Some(b'r') => form_at(Keyword::Receive, b"receive", line),
+        Some(b'f') => form_at(Keyword::Flip, b"flip", line),
+        Some(b'e') => form_at(Keyword::Error, b"error", line),
+        Some(b'j') => form_at(Keyword::Jump, b"jump", line),
+        Some(b'a') => form_at(Keyword::Arm, b"arm", line),
+        _ => None,
+    }
+}
+
+/// The form that the first word of a line names, if lines of that form say what happens in slots.
+#[inline(always)]
+#[tactic(auto, using(crate::proofs::FieldWords::later_words))]
+pub(crate) fn next_form(line: &[u8]) -> Option<Field<'_, Keyword>>
+    ensures { IfSome result (λ field. BeginsForm line.now field.value field.rest.now) }
+{
+    front_form(past_blanks(line))
+}
+
+// The number at the front of a line.
+#[inline(always)]
+fn front_number(line: &[u8]) -> Option<Field<'_, u32>>
     ensures { IfSome result (λ field. Begins is_number number_in line.now field.value field.rest.now) }
 {
     let digits = front_digits(line);
@@ -51,6 +105,15 @@ pub(crate) fn next_number(line: &[u8]) -> Option<Field<'_, u32>>
     })
 }
 
+/// The number that the first word of a line is.
+#[inline(always)]
+#[tactic(auto, using(crate::proofs::FieldWords::later_words))]
+pub(crate) fn next_number(line: &[u8]) -> Option<Field<'_, u32>>
+    ensures { IfSome result (λ field. Begins is_number number_in line.now field.value field.rest.now) }
+{
+    front_number(past_blanks(line))
+}
+
 fn negated(number: u32) -> i64
     ensures value { result ≡ neg_ℤ (pos number) }
     ensures fits { FitsSigned w64 result }
@@ -59,7 +122,8 @@ fn negated(number: u32) -> i64
 }
 
 // The number at the front of a line that has a `-` before it.
-fn next_negative(line: &[u8]) -> Option<Field<'_, i64>>
+#[inline(always)]
+fn front_negative(line: &[u8]) -> Option<Field<'_, i64>>
     ensures begins { IfSome result (λ field. Begins is_value value_in line.now field.value field.rest.now) }
     ensures fits { IfSome result (λ field. FitsSigned w64 field.value) }
 {
@@ -77,21 +141,32 @@ fn next_negative(line: &[u8]) -> Option<Field<'_, i64>>
     })
 }
 
-/// The number at the front of a line, with or without a `-` before it.
-pub(crate) fn next_value(line: &[u8]) -> Option<Field<'_, i64>>
+// The number at the front of a line, with or without a `-` before it.
+#[inline(always)]
+fn front_value(line: &[u8]) -> Option<Field<'_, i64>>
     ensures begins { IfSome result (λ field. Begins is_value value_in line.now field.value field.rest.now) }
     ensures fits { IfSome result (λ field. FitsSigned w64 field.value) }
 {
-    match next_number(line) {
+    match front_number(line) {
         Some(field) => Some(Field {
             value: i64::from(field.value),
             rest: field.rest,
         }),
-        None => next_negative(line),
+        None => front_negative(line),
     }
 }
 
-/// The channels at the front of a line.
+/// The number, with or without a `-` before it, that the first word of a line is.
+#[inline(always)]
+#[tactic(auto, using(crate::proofs::FieldWords::later_words))]
+pub(crate) fn next_value(line: &[u8]) -> Option<Field<'_, i64>>
+    ensures begins { IfSome result (λ field. Begins is_value value_in line.now field.value field.rest.now) }
+    ensures fits { IfSome result (λ field. FitsSigned w64 field.value) }
+{
+    front_value(past_blanks(line))
+}
+
+/// The channels that the first word of a line spells.
 pub(crate) fn next_channels(line: &[u8]) -> Option<Field<'_, Channels>>
     ensures { IfSome result (λ field. Begins is_channels channels_in line.now field.value field.rest.now) }
 {
@@ -105,7 +180,7 @@ pub(crate) fn next_channels(line: &[u8]) -> Option<Field<'_, Channels>>
     })
 }
 
-/// The fault at the front of a line.
+/// The fault that the first word of a line spells.
 pub(crate) fn next_fault(line: &[u8]) -> Option<Field<'_, Fault>>
     ensures { IfSome result (λ field. Begins is_fault fault_in line.now field.value field.rest.now) }
 {
@@ -117,4 +192,12 @@ pub(crate) fn next_fault(line: &[u8]) -> Option<Field<'_, Fault>>
         value: fault_in(word.piece),
         rest: word.rest,
     })
+}
+
+/// Whether a line has no words.
+#[tactic(auto, using(crate::proofs::Cuts::no_bytes_no_words))]
+pub(crate) fn is_end(line: &[u8]) -> bool
+    ensures { result ≡ true → words_of line.now ≡ [] }
+{
+    line.is_empty() || next_word(line).is_none()
 }

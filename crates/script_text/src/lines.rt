@@ -3,6 +3,7 @@ ghost use Rattle.std.specs.Prelude.{◌≡◌, ◌+◌, ◌<◌, ◌≤◌, [], 
 ghost use Rattle.std.specs.Prelude.{take, drop, Some, position, IfSome, IfNone};
 ghost use Rattle.script_text.specs.Lines.{is_line_feed, is_blank, is_part, without_return, lines_of, words_of, word_at};
 
+use memchr::memchr;
 use std::marker::Model;
 
 /// A first piece of a text, and what follows it.
@@ -30,10 +31,11 @@ fn without_return(line: &[u8]) -> &[u8]
 }
 
 // Where the first line of a text ends, if a line feed ends it.
+#[tactic(auto, using(crate::proofs::Cuts::first_line_feed))]
 fn line_end(text: &[u8]) -> Option<usize>
     ensures { result ≡ position is_line_feed text.now }
 {
-    text.iter().position(|byte| *byte == b'\n')
+    memchr(b'\n', text)
 }
 
 /// A text cut at a place, without the byte there.
@@ -165,6 +167,30 @@ impl<'a> Words<'a> {
     {
         if i < self.count { self.words[i] } else { &[] }
     }
+}
+
+// How many blanks stand before the first word of a line.
+#[inline(never)]
+#[tactic(auto, using(crate::proofs::Cuts::cuts))]
+fn blanks(line: &[u8]) -> usize
+    ensures within { result ≤ length line.now }
+    ensures words { words_of (drop result line.now) ≡ words_of line.now }
+{
+    match word_start(line) {
+        Some(start) => start,
+        None => line.len(),
+    }
+}
+
+/// A line from its first word on.
+#[inline(always)]
+pub(crate) fn past_blanks(line: &[u8]) -> &[u8]
+    ensures { words_of result.now ≡ words_of line.now }
+{
+    if line.is_empty() || b' ' < line[0] {
+        return line;
+    }
+    &line[blanks(line)..]
 }
 
 /// All words of a line, of which the first was cut off. `None` where there are more than six.

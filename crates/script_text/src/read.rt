@@ -11,6 +11,7 @@ ghost use Rattle.script_text.specs.ScriptFile.{stated_script, script_or_fault, s
 ghost use Rattle.script_text.specs.SoFar.{StandsFor, HasNodes, TakesForm, RefusesForm, TakesLine, RefusesLine};
 
 use crate::error::{LineFault, Refusal, ScriptError};
+use crate::fields::next_form;
 use crate::form::{is_spelled, keyword_of};
 use crate::keyword::Keyword;
 use crate::lines::{Words, next_line, next_word, words_after};
@@ -27,8 +28,7 @@ fn is_after_slots(form: Keyword, slots: Option<u32>) -> bool
     form == Keyword::Slots || slots.is_some()
 }
 
-// Takes a line of a form. Most lines are taken before they come here.
-#[inline(never)]
+// Takes a line of a form.
 #[tactic(auto, using(crate::proofs::Kept::kept))]
 fn take_form(list: &Medl, form: Keyword, words: &Words, so_far: &mut SoFar) -> Result<(), Refusal>
     requires valid { IsValid list.now }
@@ -52,9 +52,10 @@ fn take_form(list: &Medl, form: Keyword, words: &Words, so_far: &mut SoFar) -> R
     }
 }
 
-// Takes a line.
+// Takes a line by its words. Most lines are taken before they come here.
+#[inline(never)]
 #[tactic(auto, using(crate::proofs::Kept::kept), unfolding(crate::specs::Faults::line_faults, crate::specs::Faults::statements_after))]
-fn take_line(list: &Medl, line: &[u8], so_far: &mut SoFar) -> Result<(), Refusal>
+fn take_words(list: &Medl, line: &[u8], so_far: &mut SoFar) -> Result<(), Refusal>
     requires valid { IsValid list.now }
     requires nodes { HasNodes list.now so_far.old }
     ensures ok { OnOk result (TakesLine list.now (words_of line.now) so_far.old so_far.new) }
@@ -70,13 +71,28 @@ fn take_line(list: &Medl, line: &[u8], so_far: &mut SoFar) -> Result<(), Refusal
     let Some(form) = keyword_of(first.piece) else {
         return Err(LineFault::Word.into());
     };
-    if is_taken(form, first.rest, list, so_far)? {
-        return Ok(());
-    }
     let Some(words) = words_after(first) else {
         return Err(LineFault::Word.into());
     };
     take_form(list, form, &words, so_far)
+}
+
+// Takes a line.
+#[tactic(auto)]
+fn take_line(list: &Medl, line: &[u8], so_far: &mut SoFar) -> Result<(), Refusal>
+    requires valid { IsValid list.now }
+    requires nodes { HasNodes list.now so_far.old }
+    ensures ok { OnOk result (TakesLine list.now (words_of line.now) so_far.old so_far.new) }
+    ensures err { IfErr result (RefusesLine list.now (words_of line.now) so_far.old) }
+    ensures nodes { HasNodes list.now so_far.new }
+{
+    let Some(first) = next_form(line) else {
+        return take_words(list, line, so_far);
+    };
+    if is_taken(first.value, first.rest, list, so_far)? {
+        return Ok(());
+    }
+    take_words(list, line, so_far)
 }
 
 fn is_comment(word: &[u8]) -> bool
@@ -162,7 +178,7 @@ fn script_from(
 /// `IsValidScript`, and so far no host writes or reads in it. The file has at most 1,048,576 bytes.
 ///
 /// The file is gone over once, a line after another, and a line once for its end and once for its
-/// words; once more where what it says of slots is wrong, or its words don't stand one blank apart.
+/// words; once more where what it says of slots is wrong.
 /// Memory is taken for what is said of each node and for what happens in slots, and none for other
 /// lines. At the end what happens in slots is put into an index, at the cost of a sort.
 #[tactic(auto, unfolding(crate::specs::ScriptFile::script_of, crate::specs::ScriptFile::file_script, crate::specs::ScriptFile::lines_script))]

@@ -2,14 +2,15 @@
 //! words, by which it is told what is wrong with a line.
 ghost use Rattle.std.specs.Prelude.{◌≡◌, ◌++◌, IfOk, IfSome, OnOk, OnErr, is_some, option_to_list};
 ghost use Rattle.ttp_world.specs.Medl.{IsValid};
+ghost use Rattle.ttp_world.specs.declared.script.Event.TheVariants as event;
 ghost use Rattle.script_text.specs.declared.keyword.Keyword.TheVariants as keyword;
 ghost use Rattle.script_text.specs.Lines.{words_of};
 ghost use Rattle.script_text.specs.Faults.{is_node, is_slot};
 ghost use Rattle.script_text.specs.SoFar.{HasNodes};
 ghost use Rattle.script_text.specs.Fields.{IsRight, IsTaken};
 
-use crate::event::{is_flipped_bit, is_span, is_within};
-use crate::fields::{next_channels, next_fault, next_number, next_value};
+use crate::event::{Disturbance, is_flipped_bit, is_span, is_within};
+use crate::fields::{is_end, next_channels, next_fault, next_number, next_value};
 use crate::keyword::Keyword;
 use crate::so_far::SoFar;
 use ttp_base::Memory;
@@ -30,20 +31,21 @@ fn is_slot(slots: u32, slot: u32) -> bool
     slot < slots
 }
 
-// The event that a `send` line says, by what follows its first word, where nothing is wrong.
-fn right_send(rest: &[u8], list: &Medl, slots: u32) -> Option<Event>
+// What a `send` or a `receive` line says, by what follows its first word, where nothing is wrong.
+fn right_disturbance(rest: &[u8], list: &Medl, slots: u32) -> Option<Disturbance>
     requires { IsValid list.now }
-    ensures { IfSome result (IsRight list.now slots keyword.Send (words_of rest.now)) }
+    ensures { IfSome result (λ said. IsRight list.now slots keyword.Send (words_of rest.now)
+        (event.Send said.node said.channels said.fault said.from said.to)) }
 {
     let node = next_number(rest)?;
     let channels = next_channels(node.rest)?;
     let fault = next_fault(channels.rest)?;
     let from = next_number(fault.rest)?;
     let to = next_number(from.rest)?;
-    if !to.rest.is_empty() || !is_node(list, node.value) || !is_span(slots, from.value, to.value) {
+    if !is_end(to.rest) || !is_node(list, node.value) || !is_span(slots, from.value, to.value) {
         return None;
     }
-    Some(Event::Send {
+    Some(Disturbance {
         node: node.value as u8,
         channels: channels.value,
         fault: fault.value,
@@ -52,25 +54,33 @@ fn right_send(rest: &[u8], list: &Medl, slots: u32) -> Option<Event>
     })
 }
 
+// The event that a `send` line says, by what follows its first word, where nothing is wrong.
+fn right_send(rest: &[u8], list: &Medl, slots: u32) -> Option<Event>
+    requires { IsValid list.now }
+    ensures { IfSome result (IsRight list.now slots keyword.Send (words_of rest.now)) }
+{
+    let said = right_disturbance(rest, list, slots)?;
+    Some(Event::Send {
+        node: said.node,
+        channels: said.channels,
+        fault: said.fault,
+        from: said.from,
+        to: said.to,
+    })
+}
+
 // The same of a `receive` line.
 fn right_receive(rest: &[u8], list: &Medl, slots: u32) -> Option<Event>
     requires { IsValid list.now }
     ensures { IfSome result (IsRight list.now slots keyword.Receive (words_of rest.now)) }
 {
-    let node = next_number(rest)?;
-    let channels = next_channels(node.rest)?;
-    let fault = next_fault(channels.rest)?;
-    let from = next_number(fault.rest)?;
-    let to = next_number(from.rest)?;
-    if !to.rest.is_empty() || !is_node(list, node.value) || !is_span(slots, from.value, to.value) {
-        return None;
-    }
+    let said = right_disturbance(rest, list, slots)?;
     Some(Event::Receive {
-        node: node.value as u8,
-        channels: channels.value,
-        fault: fault.value,
-        from: from.value,
-        to: to.value,
+        node: said.node,
+        channels: said.channels,
+        fault: said.fault,
+        from: said.from,
+        to: said.to,
     })
 }
 
@@ -83,7 +93,7 @@ fn right_flip(rest: &[u8], list: &Medl, slots: u32) -> Option<Event>
     let channels = next_channels(node.rest)?;
     let bit = next_number(channels.rest)?;
     let slot = next_number(bit.rest)?;
-    if !slot.rest.is_empty()
+    if !is_end(slot.rest)
         || !is_node(list, node.value)
         || !is_flipped_bit(bit.value)
         || !is_slot(slots, slot.value)
@@ -107,7 +117,7 @@ fn right_error(rest: &[u8], list: &Medl, slots: u32) -> Option<Event>
     let value = next_value(node.rest)?;
     let from = next_number(value.rest)?;
     let to = next_number(from.rest)?;
-    if !to.rest.is_empty() || !is_node(list, node.value) {
+    if !is_end(to.rest) || !is_node(list, node.value) {
         return None;
     }
     if !is_within(ERROR_LIMIT, value.value) || !is_span(slots, from.value, to.value) {
@@ -129,7 +139,7 @@ fn right_jump(rest: &[u8], list: &Medl, slots: u32) -> Option<Event>
     let node = next_number(rest)?;
     let value = next_value(node.rest)?;
     let slot = next_number(value.rest)?;
-    if !slot.rest.is_empty()
+    if !is_end(slot.rest)
         || !is_node(list, node.value)
         || !is_within(JUMP_LIMIT, value.value)
         || !is_slot(slots, slot.value)
@@ -150,7 +160,7 @@ fn right_arm(rest: &[u8], list: &Medl, slots: u32) -> Option<Event>
 {
     let node = next_number(rest)?;
     let slot = next_number(node.rest)?;
-    if !slot.rest.is_empty() || !is_node(list, node.value) || !is_slot(slots, slot.value) {
+    if !is_end(slot.rest) || !is_node(list, node.value) || !is_slot(slots, slot.value) {
         return None;
     }
     Some(Event::Arm {
@@ -175,7 +185,7 @@ fn is_kept(event: Option<Event>, so_far: &mut SoFar) -> Result<bool, Memory>
 }
 
 /// Takes a line of a form, by what follows its first word, if it says what happens in slots and nothing is wrong with
-/// it and its words stand one blank apart; whether it was taken.
+/// it; whether it was taken.
 pub(crate) fn is_taken(
     form: Keyword,
     rest: &[u8],

@@ -21,5 +21,5 @@ returns c =
     (event.Error c.in_ok-node.node.value x c.in_ok-from.from.value c.in_ok-to.to.value) in
     subst P (sym same) (
     IsRight-error list slots c.args.rest.now _ _ _ _ _ v _ _ c.in_ok-node.ensures c.in_ok-value.ensures.begins
-    c.in_ok-from.ensures c.in_ok-to.ensures (sym c.is_empty.ensures ∙ c.if-not-is_empty.false)
+    c.in_ok-from.ensures c.in_ok-to.ensures (c.is_end.ensures c.if-not-is_end.false)
     (sym c.is_node.ensures ∙ c.if-not-is_node.false) within (sym c.is_span.ensures ∙ c.if-not-is_span.false))

@@ -21,5 +21,5 @@ returns c =
     (event.Jump c.in_ok-node.node.value x c.in_ok-slot.slot.value) in
     subst P (sym same) (
     IsRight-jump list slots c.args.rest.now _ _ _ _ v _ c.in_ok-node.ensures c.in_ok-value.ensures.begins
-    c.in_ok-slot.ensures (sym c.is_empty.ensures ∙ c.if-not-is_empty.false)
+    c.in_ok-slot.ensures (c.is_end.ensures c.if-not-is_end.false)
     (sym c.is_node.ensures ∙ c.if-not-is_node.false) within (sym c.is_slot.ensures ∙ c.if-not-is_slot.false))

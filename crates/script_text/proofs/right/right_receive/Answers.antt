@@ -1,9 +1,5 @@
-use Rattle.std.proofs.Common.{sym, ◌∙◌}
 use Rattle.script_text.proofs.RightLines.{IsRight-receive}
 use Rattle.script_text.proofs.right.right_receive.Goals as goal
 
 pub returns : goal.returns
-returns c = IsRight-receive c.args.list.now c.args.slots c.args.rest.now _ _ _ _ _ _ _ _ _ _
-    c.in_ok-node.ensures c.in_ok-channels.ensures c.in_ok-fault.ensures c.in_ok-from.ensures c.in_ok-to.ensures
-    (sym c.is_empty.ensures ∙ c.if-not-is_empty.false) (sym c.is_node.ensures ∙ c.if-not-is_node.false)
-    (sym c.is_span.ensures ∙ c.if-not-is_span.false)
+returns c = IsRight-receive _ _ _ _ _ _ _ _ c.in_ok-said.ensures

@@ -5,7 +5,7 @@ use Rattle.std.specs.List.{list_all}
 use Rattle.script_text.specs.Numbers.{is_value, number_in, value_in}
 use Rattle.script_text.specs.Fields.{Begins}
 use Rattle.script_text.proofs.FieldWords.{not_empty, whole_tail, parts-negative, Begins-negative}
-use Rattle.script_text.proofs.fields.next_negative.Goals as goal
+use Rattle.script_text.proofs.fields.front_negative.Goals as goal
 
 pub after_word-requires-clause-word : goal.after_word-requires-clause-word
 after_word-requires-clause-word c =
