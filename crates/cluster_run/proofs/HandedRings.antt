@@ -1,0 +1,165 @@
+-- What a slot hands on is in the rings of the world after it.
+use Rattle.std.proofs.Common.{◌≡◌, ◌≢◌, ℕ, List, [], ◌∷◌, ◌++◌, length, map, set}
+use Rattle.std.proofs.Common.{Option, Some, None, IsSomeAnd, cond, is_some, refl, sym, ap, subst, ◌∙◌, inl, inr, arith}
+use Rattle.std.proofs.lemmas.Bool.{cases_eq, cases_lt, eq-eqb, ne_eqb}
+use Rattle.std.proofs.lemmas.List.{append-nil, map-append, get_or-set_same, get_or-set_other, get_or_past, length-set}
+use Rattle.nbw_ring.specs.declared.view.Message.{Message}
+use Rattle.nbw_ring.specs.declared.view.Shape.{Shape}
+use Rattle.nbw_ring.specs.States.{WriterState}
+use Rattle.ttp_world.specs.declared.medl.Medl.{Medl}
+use Rattle.ttp_world.specs.declared.node.Delivered.{Delivered}
+use Rattle.ttp_world.specs.declared.node.Entry.{Entry}
+use Rattle.ttp_world.specs.declared.script.Script.{Script}
+use Rattle.ttp_world.specs.declared.script.Source.{Source}
+use Rattle.ttp_world.specs.declared.script.Source.TheVariants as source
+use Rattle.ttp_world.specs.Diary.{History}
+use Rattle.ttp_world.specs.Messages.{delivered_of, new_messages, ring_messages, status_words}
+use Rattle.ttp_world.specs.Words.{words_of_payload}
+use Rattle.ttp_world.specs.World.{node_past}
+use Rattle.controller.specs.declared.controller.Outcome.{Outcome}
+use Rattle.host_port.specs.Rings.{ControllerState, at_source, incoming_shape, place_of}
+use Rattle.host_port.specs.Writing.{written, written_at}
+use Rattle.cluster_run.specs.Ending.{delivered_to, handed_on}
+use Rattle.cluster_run.specs.Rings.{IsRing, IsRingOf, ring_words, words_read}
+
+-- The ring that is written, and the others.
+
+at_written : (end : ControllerState) (from : Source) (words : List ℕ)
+    → at_source (written_at end from words) from ≡ written (at_source end from) words
+at_written end from words =
+    elim (cases_lt (place_of from) (length end)) [
+      | inl within ↦ get_or-set_same end (place_of from) (written (at_source end from) words) None within
+      | inr past ↦
+          let none : at_source end from ≡ None = get_or_past end (place_of from) None past in
+          get_or_past (set end (place_of from) (written (at_source end from) words)) (place_of from) None
+          (omega (arith, past, length-set end (place_of from) (written (at_source end from) words)))
+          ∙ sym (ap (λ w. written w words) none)
+    ]
+
+at_other : (end : ControllerState) (from other : Source) (words : List ℕ) → place_of other ≢ place_of from
+    → at_source (written_at end from words) other ≡ at_source end other
+at_other end from other words ne =
+    get_or-set_other end (place_of from) (place_of other) (written (at_source end from) words) None ne
+
+-- One message more.
+
+one_more_some : (shape : Shape) (messages : List (List ℕ)) (pairs : List Message) (w : Option WriterState)
+    (words : List ℕ) → IsSomeAnd w (IsRing shape messages pairs)
+    → IsSomeAnd (written w words) (IsRing shape (messages ++ words ∷ []) pairs)
+one_more_some shape messages pairs None words ring = ring
+one_more_some shape messages pairs (Some w) words ring = record {
+  shape_is = ring.shape_is;
+  messages_are = ap (λ ms. ms ++ words ∷ []) ring.messages_are;
+  pairs_are = ring.pairs_are;
+  once = ring.once;
+}
+
+one_more : (shape : Option Shape) (messages : List (List ℕ)) (pairs : List Message) (w : Option WriterState)
+    (words : List ℕ) → IsRingOf shape messages pairs w → IsRingOf shape (messages ++ words ∷ []) pairs (written w words)
+one_more None messages pairs w words ring = ap (λ v. written v words) ring
+one_more (Some shape) messages pairs w words ring = one_more_some shape messages pairs w words ring
+
+more_words : (from : Source) (before : List (List ℕ)) (message : List ℕ)
+    → map (ring_words from) (before ++ message ∷ []) ≡ map (ring_words from) before ++ ring_words from message ∷ []
+more_words from before message = map-append (ring_words from) before (message ∷ [])
+
+-- What was delivered.
+
+-- the rings of other sources than the one that was delivered stay
+delivered_stays : (end : ControllerState) (d : Delivered) (p : ℕ) → d.sender ≢ p
+    → at_source (delivered_to end (Some d)) (source.Node p) ≡ at_source end (source.Node p)
+delivered_stays end d p other =
+    at_other end (source.Node d.sender) (source.Node p) (words_of_payload d.payload)
+    (λ same. other (omega (arith, same)))
+
+new_from : (d : Delivered) (p : ℕ) → d.sender ≡ p → new_messages p (Some d) ≡ d.payload ∷ []
+new_from d p same = ap (λ b. cond b (d.payload ∷ []) []) (eq-eqb d.sender p same)
+
+new_other : (d : Delivered) (p : ℕ) → d.sender ≢ p → new_messages p (Some d) ≡ []
+new_other d p other = ap (λ b. cond b (d.payload ∷ []) []) (ne_eqb d.sender p other)
+
+delivered_ring : (shape : Option Shape) (before : List (List ℕ)) (pairs : List Message) (end : ControllerState)
+    (delivered : Option Delivered) (p : ℕ)
+    → IsRingOf shape (map words_of_payload before) pairs (at_source end (source.Node p))
+    → IsRingOf shape (map words_of_payload (before ++ new_messages p delivered)) pairs
+    (at_source (delivered_to end delivered) (source.Node p))
+delivered_ring shape before pairs end None p ring =
+    subst (λ ms. IsRingOf shape (map words_of_payload ms) pairs (at_source end (source.Node p)))
+    (sym (append-nil before)) ring
+delivered_ring shape before pairs end (Some d) p ring =
+    elim (cases_eq d.sender p) [
+      | inl same ↦
+          let here : at_source (delivered_to end (Some d)) (source.Node p)
+          ≡ written (at_source end (source.Node p)) (words_of_payload d.payload) =
+          ap (λ j. at_source (delivered_to end (Some d)) (source.Node j)) (sym same)
+          ∙ at_written end (source.Node d.sender) (words_of_payload d.payload)
+          ∙ ap (λ j. written (at_source end (source.Node j)) (words_of_payload d.payload)) same in
+          let messages : map words_of_payload (before ++ new_messages p (Some d))
+          ≡ map words_of_payload before ++ words_of_payload d.payload ∷ [] =
+          ap (λ ms. map words_of_payload (before ++ ms)) (new_from d p same)
+          ∙ more_words (source.Node p) before d.payload in
+          subst (λ ms. IsRingOf shape ms pairs (at_source (delivered_to end (Some d)) (source.Node p))) (sym messages)
+          (subst (λ w. IsRingOf shape (map words_of_payload before ++ words_of_payload d.payload ∷ []) pairs w)
+          (sym here)
+          (one_more shape (map words_of_payload before) pairs (at_source end (source.Node p))
+          (words_of_payload d.payload) ring))
+      | inr other ↦
+          subst (λ ms. IsRingOf shape (map words_of_payload (before ++ ms)) pairs
+          (at_source (delivered_to end (Some d)) (source.Node p))) (sym (new_other d p other))
+          (subst (λ w. IsRingOf shape (map words_of_payload (before ++ [])) pairs w)
+          (sym (delivered_stays end d p other))
+          (subst (λ ms. IsRingOf shape (map words_of_payload ms) pairs (at_source end (source.Node p)))
+          (sym (append-nil before)) ring))
+    ]
+
+status_stays : (end : ControllerState) (delivered : Option Delivered)
+    → at_source (delivered_to end delivered) source.Status ≡ at_source end source.Status
+status_stays end None = refl
+status_stays end (Some d) =
+    at_other end (source.Node d.sender) source.Status (words_of_payload d.payload)
+    (λ same. absurd (omega (arith, same)))
+
+-- What is handed on: a slot's payload and status, in the rings of the world with one row more.
+
+pub record IsHandedOf (list : Medl) (script : Script) (row : List Entry) (before : History) (k : ℕ)
+    (outcome : Outcome) : Type 0 where
+  pub delivered : outcome.delivered ≡ delivered_of list script before row k
+  pub status : outcome.status.words
+      ≡ status_words list (length before) (node_past list script (row ∷ before) k)
+      (is_some (delivered_of list script before row k))
+
+pub handed_ring : (list : Medl) (script : Script) (row : List Entry) (before : History) (k : ℕ) (from : Source)
+    (pairs : List Message) (end : ControllerState) (outcome : Outcome)
+    → IsHandedOf list script row before k outcome
+    → IsRingOf (incoming_shape list k from) (words_read list script before k from) pairs (at_source end from)
+    → IsRingOf (incoming_shape list k from) (words_read list script (row ∷ before) k from) pairs
+    (at_source (handed_on end outcome) from)
+handed_ring list script row before k source.Status pairs end outcome handed ring =
+    let after = delivered_to end outcome.delivered in
+    let here : at_source (handed_on end outcome) source.Status
+    ≡ written (at_source end source.Status) outcome.status.words =
+    at_written after source.Status outcome.status.words
+    ∙ ap (λ w. written w outcome.status.words) (status_stays end outcome.delivered) in
+    let messages : words_read list script (row ∷ before) k source.Status
+    ≡ words_read list script before k source.Status ++ outcome.status.words ∷ [] =
+    more_words source.Status (ring_messages list script before k source.Status)
+    (status_words list (length before) (node_past list script (row ∷ before) k)
+    (is_some (delivered_of list script before row k)))
+    ∙ ap (λ ws. words_read list script before k source.Status ++ ws ∷ []) (sym handed.status) in
+    subst (λ ms. IsRingOf (incoming_shape list k source.Status) ms pairs
+    (at_source (handed_on end outcome) source.Status)) (sym messages)
+    (subst (λ w. IsRingOf (incoming_shape list k source.Status)
+    (words_read list script before k source.Status ++ outcome.status.words ∷ []) pairs w) (sym here)
+    (one_more (incoming_shape list k source.Status) (words_read list script before k source.Status) pairs
+    (at_source end source.Status) outcome.status.words ring))
+handed_ring list script row before k (source.Node p) pairs end outcome handed ring =
+    let shape = incoming_shape list k (source.Node p) in
+    let messages = ring_messages list script before k (source.Node p) in
+    let here : at_source (handed_on end outcome) (source.Node p)
+    ≡ at_source (delivered_to end outcome.delivered) (source.Node p) =
+    at_other (delivered_to end outcome.delivered) source.Status (source.Node p) outcome.status.words
+    (λ same. absurd (omega (arith, same))) in
+    subst (λ w. IsRingOf shape (words_read list script (row ∷ before) k (source.Node p)) pairs w) (sym here)
+    (subst (λ d. IsRingOf shape (map words_of_payload (messages ++ new_messages p d)) pairs
+    (at_source (delivered_to end outcome.delivered) (source.Node p))) handed.delivered
+    (delivered_ring shape messages pairs end outcome.delivered p ring))

@@ -1,0 +1,177 @@
+-- Lines that wait in queues, one for each host, are brought into the order of the reads.
+use Rattle.std.proofs.Common.{◌≡◌, ◌≢◌, ℕ, ◌+◌, ◌<◌, Bool, true, false, cond, List, [], ◌∷◌, ◌++◌, length, map, set}
+use Rattle.std.proofs.Common.{get_or, Option, Some, None, IfSome, inl, inr, refl, sym, ap, ◌∙◌}
+use Rattle.std.proofs.Common.{arith, append_assoc}
+use Rattle.std.specs.Prelude.{◌==◌, filter, reverse}
+use Rattle.std.specs.Option.{option_to_list}
+use Rattle.std.proofs.lemmas.Bool.{cases_eq, eq-eqb, eqb-true, false_from_ne_true}
+use Rattle.std.proofs.lemmas.List.{get_or-map, get_or-set_same, get_or-set_other, map-append, map-set, length-map}
+use Rattle.std.proofs.lemmas.List.{append_cancel_left, reverse-append, append-nil}
+use Rattle.std.proofs.lemmas.List.Elements.{filter-append}
+use Rattle.ttp_world.specs.declared.host_lines.HostRead.{HostRead}
+use Rattle.host_port.specs.declared.report.ReadLine.{ReadLine}
+use Rattle.cluster_run.specs.Reading.{is_host, read_of, lines_by, queue_of, AreDue}
+
+-- Queues in a list.
+
+pub queue_within : {A X : Type 0} (items : A → List X) (qs : List A) (k : ℕ) (q : A) → k < length qs
+    → q ≡ get_or qs k q → get_or (map items qs) k [] ≡ items q
+queue_within items qs k q within here = get_or-map items qs k q [] within ∙ ap items (sym here)
+
+pub queue_set : {A X : Type 0} (items : A → List X) (qs : List A) (k : ℕ) (q : A) → k < length qs
+    → get_or (map items (set qs k q)) k [] ≡ items q
+queue_set items qs k q within =
+    ap (λ xs. get_or xs k []) (map-set items qs k q)
+    ∙ (get_or-set_same (map items qs) k (items q) [] (omega (arith, length-map qs items)))
+
+pub queue_kept : {A X : Type 0} (items : A → List X) (qs : List A) (k other : ℕ) (q : A) → other ≢ k
+    → get_or (map items (set qs k q)) other [] ≡ get_or (map items qs) other []
+queue_kept items qs k other q apart =
+    ap (λ xs. get_or xs other []) (map-set items qs k q)
+    ∙ get_or-set_other (map items qs) k other (items q) [] apart
+
+pub if_first : {X : Type 0} (first : Option X) (old before new after : List X) → old ≡ before → new ≡ after
+    → before ≡ after ++ option_to_list first → IfSome first (λ x. old ≡ new ++ x ∷ [])
+if_first None old before new after was is popped = tt
+if_first (Some x) old before new after was is popped = was ∙ (popped ∙ ap (λ l. l ++ x ∷ []) (sym is))
+
+-- Lines of one host.
+
+pub map-kept : {A B : Type 0} (f : A → B) (b : Bool) (x : A) (xs : List A)
+    → cond b (f x ∷ map f xs) (map f xs) ≡ map f (cond b (x ∷ xs) xs)
+map-kept f true x xs = refl
+map-kept f false x xs = refl
+
+filter-map : {A B : Type 0} (p : B → Bool) (f : A → B) (xs : List A)
+    → filter p (map f xs) ≡ map f (filter (λ x. p (f x)) xs)
+filter-map p f [] = refl
+filter-map p f (x ∷ xs) =
+    ap (λ ys. cond (p (f x)) (f x ∷ ys) ys) (filter-map p f xs) ∙ map-kept f (p (f x)) x (filter (λ y. p (f y)) xs)
+
+lines_by-own : (k : ℕ) (lines : List ReadLine) (line : ReadLine) → line.host ≡ k
+    → lines_by k (lines ++ line ∷ []) ≡ lines_by k lines ++ line ∷ []
+lines_by-own k lines line own =
+    filter-append (λ (l : ReadLine). l.host == k) lines (line ∷ [])
+    ∙ ap (λ b. lines_by k lines ++ cond b (line ∷ []) []) (eq-eqb line.host k own)
+
+lines_by-other : (k : ℕ) (lines : List ReadLine) (line : ReadLine) → line.host ≢ k
+    → lines_by k (lines ++ line ∷ []) ≡ lines_by k lines
+lines_by-other k lines line other =
+    filter-append (λ (l : ReadLine). l.host == k) lines (line ∷ [])
+    ∙ ap (λ b. lines_by k lines ++ cond b (line ∷ []) [])
+    (false_from_ne_true (line.host == k) (λ same. other (eqb-true line.host k same)))
+    ∙ append-nil (lines_by k lines)
+
+-- After the first reads: their lines, and those that are left in the queues.
+pub record AreInOrder (reads done : List HostRead) (whole now : List (List ReadLine)) (lines : List ReadLine) : Type 0
+  where
+    pub told : AreDue reads whole → map read_of lines ≡ done
+    pub kept : AreDue reads whole → (k : ℕ) → lines_by k lines ++ reverse (queue_of now k) ≡ reverse (queue_of whole k)
+
+pub in_order_none : (reads : List HostRead) (queues : List (List ReadLine)) (lines : List ReadLine) → lines ≡ []
+    → AreInOrder reads [] queues queues lines
+in_order_none reads queues lines none = record {
+  told = λ due. ap (map read_of) none;
+  kept = λ due k. ap (λ ls. lines_by k ls ++ reverse (queue_of queues k)) none;
+}
+
+-- what is left for a host are its reads that are left
+left_due : (reads done rest : List HostRead) (whole now : List (List ReadLine)) (lines : List ReadLine) (k : ℕ)
+    → reads ≡ done ++ rest → AreInOrder reads done whole now lines → AreDue reads whole
+    → map read_of (reverse (queue_of now k)) ≡ filter (is_host k) rest
+left_due reads done rest whole now lines k split so due =
+    let told : map read_of (lines_by k lines) ≡ filter (is_host k) done =
+    sym (filter-map (is_host k) read_of lines) ∙ ap (filter (is_host k)) (so.told due) in
+    let all : map read_of (lines_by k lines) ++ map read_of (reverse (queue_of now k))
+    ≡ map read_of (lines_by k lines) ++ filter (is_host k) rest =
+    sym (map-append read_of (lines_by k lines) (reverse (queue_of now k)))
+    ∙ ap (map read_of) (so.kept due k)
+    ∙ due k
+    ∙ ap (filter (is_host k)) split
+    ∙ filter-append (is_host k) done rest
+    ∙ ap (λ xs. xs ++ filter (is_host k) rest) (sym told) in
+    append_cancel_left (map read_of (lines_by k lines)) (map read_of (reverse (queue_of now k)))
+    (filter (is_host k) rest) all
+
+due_next : (r : HostRead) (rest : List HostRead) → filter (is_host r.host) (r ∷ rest) ≡ r ∷ filter (is_host r.host) rest
+due_next r rest =
+    ap (λ b. cond b (r ∷ filter (is_host r.host) rest) (filter (is_host r.host) rest)) (eq-eqb r.host r.host refl)
+
+head_same : {X : Type 0} (x y : X) (xs ys : List X) → x ∷ xs ≡ y ∷ ys → x ≡ y
+head_same x y xs ys same = cc
+
+none_some : {X : Type 0} (x : X) (xs : List X) → [] ≡ x ∷ xs → ⊥
+none_some x xs same = cc
+
+-- A line that is taken is that of the next read.
+in_order_more : (reads done rest : List HostRead) (r : HostRead) (whole before after : List (List ReadLine))
+    (lines : List ReadLine) (line : ReadLine) → reads ≡ done ++ r ∷ rest → AreInOrder reads done whole before lines
+    → queue_of before r.host ≡ queue_of after r.host ++ line ∷ []
+    → ((other : ℕ) → other ≢ r.host → queue_of after other ≡ queue_of before other) → AreDue reads whole
+    → AreInOrder reads (done ++ r ∷ []) whole after (lines ++ line ∷ [])
+in_order_more reads done rest r whole before after lines line split so first others due =
+    let turned : reverse (queue_of before r.host) ≡ line ∷ reverse (queue_of after r.host) =
+    ap reverse first ∙ reverse-append (queue_of after r.host) (line ∷ []) in
+    let is : read_of line ≡ r =
+    head_same (read_of line) r (map read_of (reverse (queue_of after r.host))) (filter (is_host r.host) rest)
+    (ap (map read_of) (sym turned) ∙ left_due reads done (r ∷ rest) whole before lines r.host split so due
+    ∙ due_next r rest) in
+    let own : line.host ≡ r.host = ap (λ (x : HostRead). x.host) is in
+    record {
+      told = λ _. map-append read_of lines (line ∷ []) ∙ (λ i. so.told due i ++ is i ∷ []);
+      kept = λ _ k.
+          elim (cases_eq r.host k) [
+            | inl here ↦
+                ap (λ ls. ls ++ reverse (queue_of after k)) (lines_by-own k lines line (own ∙ here))
+                ∙ append_assoc (lines_by k lines) (line ∷ []) (reverse (queue_of after k))
+                ∙ ap (λ j. lines_by k lines ++ line ∷ reverse (queue_of after j)) (sym here)
+                ∙ ap (λ q. lines_by k lines ++ q) (sym turned)
+                ∙ ap (λ j. lines_by k lines ++ reverse (queue_of before j)) here
+                ∙ so.kept due k
+            | inr apart ↦
+                ap (λ ls. ls ++ reverse (queue_of after k))
+                (lines_by-other k lines line (λ same. apart (sym own ∙ same)))
+                ∙ ap (λ q. lines_by k lines ++ reverse q) (others k (λ same. apart (sym same)))
+                ∙ so.kept due k
+          ];
+    }
+
+-- the same where it is not known yet whether the lines are due
+pub line_taken : (reads done rest : List HostRead) (r : HostRead) (whole before after : List (List ReadLine))
+    (lines : List ReadLine) (line : ReadLine) → reads ≡ done ++ r ∷ rest → AreInOrder reads done whole before lines
+    → queue_of before r.host ≡ queue_of after r.host ++ line ∷ []
+    → ((other : ℕ) → other ≢ r.host → queue_of after other ≡ queue_of before other)
+    → AreInOrder reads (done ++ r ∷ []) whole after (lines ++ line ∷ [])
+line_taken reads done rest r whole before after lines line split so first others = record {
+  told = λ due. (in_order_more reads done rest r whole before after lines line split so first others due).told due;
+  kept = λ due. (in_order_more reads done rest r whole before after lines line split so first others due).kept due;
+}
+
+-- and where lines are due there is one
+pub line_missing : (reads done rest : List HostRead) (r : HostRead) (whole before after : List (List ReadLine))
+    (lines : List ReadLine) → reads ≡ done ++ r ∷ rest → AreInOrder reads done whole before lines
+    → queue_of before r.host ≡ [] → AreInOrder reads (done ++ r ∷ []) whole after lines
+line_missing reads done rest r whole before after lines split so none =
+    let never : AreDue reads whole → ⊥ = λ due.
+    none_some r (filter (is_host r.host) rest)
+    (ap (λ q. map read_of (reverse q)) (sym none)
+    ∙ left_due reads done (r ∷ rest) whole before lines r.host split so due
+    ∙ due_next r rest) in
+    record { told = λ due. absurd (never due); kept = λ due. absurd (never due) }
+
+-- At the end no line is left.
+
+pub map_nothing : {A B : Type 0} (f : A → B) (xs : List A) → map f xs ≡ [] → xs ≡ []
+map_nothing f [] same = refl
+map_nothing f (x ∷ xs) same = absurd (none_some (f x) (map f xs) (sym same))
+
+pub all_in_order : (reads : List HostRead) (whole now : List (List ReadLine)) (lines : List ReadLine)
+    → AreInOrder reads reads whole now lines → AreDue reads whole → (k : ℕ)
+    → lines_by k lines ≡ reverse (queue_of whole k)
+all_in_order reads whole now lines so due k =
+    let none : reverse (queue_of now k) ≡ [] =
+    map_nothing read_of (reverse (queue_of now k))
+    (left_due reads reads [] whole now lines k (sym (append-nil reads)) so due) in
+    sym (append-nil (lines_by k lines))
+    ∙ ap (λ q. lines_by k lines ++ q) (sym none)
+    ∙ so.kept due k

@@ -1,0 +1,201 @@
+-- The readers of a slot have room for all reads of it.
+use Rattle.std.proofs.Common.{◌≡◌, ◌≢◌, ℕ, ◌+◌, ◌<◌, ◌≤◌, Bool, true, false, cond, ◌||◌, List, [], ◌∷◌, length}
+use Rattle.std.proofs.Common.{Option, Some, None, IsSomeAnd, All, inl, inr, refl, sym, ap, ◌∙◌, subst, arith}
+use Rattle.std.specs.Prelude.{◌==◌, ◌⊎◌, is_some}
+use Rattle.std.specs.List.{AllByRecursion, cons_option, filter_map}
+use Rattle.std.specs.Option.{ForSome}
+use Rattle.std.proofs.lemmas.Bool.{cases_lt, eqb-true, false_from_ne_true, and_parts, false≢true}
+use Rattle.std.proofs.lemmas.List.{get_or_past}
+use Rattle.std.proofs.lemmas.List.Elements.{All-from_recursion, recursion_from_All}
+use Rattle.std.proofs.lemmas.List.Sums.{sum_by-cons}
+use Rattle.nbw_ring.specs.declared.view.Message.{Message}
+use Rattle.nbw_ring.specs.declared.view.Shape.{Shape}
+use Rattle.nbw_ring.specs.States.{WriterState, ReaderState}
+use Rattle.ttp_world.specs.declared.host_lines.HostRead.{HostRead}
+use Rattle.ttp_world.specs.declared.medl.Medl.{Medl}
+use Rattle.ttp_world.specs.declared.script.Event.{Event}
+use Rattle.ttp_world.specs.declared.script.Event.TheVariants as event
+use Rattle.ttp_world.specs.declared.script.Script.{Script}
+use Rattle.ttp_world.specs.declared.script.Source.{Source}
+use Rattle.ttp_world.specs.declared.script.Source.TheVariants as source
+use Rattle.ttp_world.specs.Medl.{plan_at}
+use Rattle.ttp_world.specs.Script.{IsSource, IsValidEvent, IsValidScript, read_in, reads_in}
+use Rattle.ttp_world.specs.Words.{word_count}
+use Rattle.host_port.specs.Reading.{ReadersState, is_read_at, reads_from, lent}
+use Rattle.host_port.specs.Rings.{ControllerState, place_of, at_source, shape_of, incoming_shape, message_shape}
+use Rattle.cluster_run.specs.Ports.{end_at}
+use Rattle.cluster_run.specs.Reading.{readers_at, reader_in, reader_at, calls_in, has_reads, AreLentTo}
+use Rattle.cluster_run.specs.Reading.{AreReadersLent, MayReadAll}
+use Rattle.cluster_run.specs.Rings.{IsRingOf}
+use Rattle.cluster_run.proofs.ReadAll.{same_place}
+
+-- The reads of a valid script are of nodes of its list, and each of a source that has a ring.
+
+abbrev pub IsReadOf : Medl → ℕ → Source → Type 0
+IsReadOf list k from = (k < length list.slots) × IsSource list k from
+
+consed : {X : Type 0} (P : X → Type 0) (b : Bool) (x : X) (xs : List X) → P x → AllByRecursion P xs
+    → AllByRecursion P (cons_option (cond b (Some x) None) xs)
+consed P true x xs here all = (here, all)
+consed P false x xs here all = all
+
+read_valid : (list : Medl) (script : Script) (slot : ℕ) (e : Event) (reads : List HostRead)
+    → IsValidEvent list script e → AllByRecursion (λ (r : HostRead). IsReadOf list r.host r.source) reads
+    → AllByRecursion (λ (r : HostRead). IsReadOf list r.host r.source) (cons_option (read_in slot e) reads)
+read_valid list script slot (event.Read node at from) reads valid all =
+    consed (λ (r : HostRead). IsReadOf list r.host r.source) (at == slot) (record { host = node; source = from }) reads
+    (valid.0, valid.2) all
+read_valid list script slot _ reads valid all = all
+
+reads_valid : (list : Medl) (script : Script) (slot : ℕ) (events : List Event)
+    → AllByRecursion (IsValidEvent list script) events
+    → AllByRecursion (λ (r : HostRead). IsReadOf list r.host r.source) (filter_map (read_in slot) events)
+reads_valid list script slot [] all = tt
+reads_valid list script slot (e ∷ events) all =
+    read_valid list script slot e (filter_map (read_in slot) events) all.0
+    (reads_valid list script slot events all.1)
+
+reads_of_valid : (list : Medl) (script : Script) (slot : ℕ) → IsValidScript list script
+    → AllByRecursion (λ (r : HostRead). IsReadOf list r.host r.source) (reads_in script slot)
+reads_of_valid list script slot valid =
+    reads_valid list script slot script.events
+    (recursion_from_All (IsValidEvent list script) script.events valid.events)
+
+each_within : (n : ℕ) (Q : ℕ → Source → Type 0) (reads : List HostRead)
+    → AllByRecursion (λ (r : HostRead). (r.host < n) × Q r.host r.source) reads
+    → AllByRecursion (λ (r : HostRead). r.host < n) reads
+each_within n Q [] all = tt
+each_within n Q (r ∷ reads) all = (all.0.0, each_within n Q reads all.1)
+
+pub hosts_within : (list : Medl) (script : Script) (slot : ℕ) → IsValidScript list script
+    → All (λ (read : HostRead). read.host < length list.slots) (reads_in script slot)
+hosts_within list script slot valid =
+    All-from_recursion (λ (r : HostRead). r.host < length list.slots) (reads_in script slot)
+    (each_within (length list.slots) (IsSource list) (reads_in script slot) (reads_of_valid list script slot valid))
+
+-- What holds of each read holds of a host and source that are read.
+
+one_more : (k : ℕ) (from : Source) (r : HostRead) (reads : List HostRead) (b : Bool)
+    → is_read_at k (place_of from) r ≡ b → 1 ≤ reads_from (r ∷ reads) k from → 1 ≤ cond b 1 0 + reads_from reads k from
+one_more k from r reads b is some =
+    subst (λ (n : ℕ). 1 ≤ n)
+    (sum_by-cons (λ x. cond (is_read_at k (place_of from) x) 1 0) r reads
+    ∙ ap (λ c. cond c 1 0 + reads_from reads k from) is) some
+
+own_read : (k : ℕ) (from : Source) (r : HostRead) → is_read_at k (place_of from) r ≡ true
+    → (r.host ≡ k) × (r.source ≡ from)
+own_read k from r is =
+    let parts = and_parts (r.host == k) (place_of r.source == place_of from) is in (
+      eqb-true r.host k parts.0,
+      same_place r.source from (eqb-true (place_of r.source) (place_of from) parts.1),
+    )
+
+read_here : (Q : ℕ → Source → Type 0) (k : ℕ) (from : Source) (r : HostRead) (b : Bool)
+    → is_read_at k (place_of from) r ≡ b → Q r.host r.source → (b ≡ false → Q k from) → Q k from
+read_here Q k from r true is here later =
+    let own = own_read k from r is in
+    subst (λ (j : ℕ). Q j from) own.0 (subst (λ (s : Source). Q r.host s) own.1 here)
+read_here Q k from r false is here later = later refl
+
+read_there : (Q : ℕ → Source → Type 0) (k : ℕ) (from : Source) (reads : List HostRead)
+    → AllByRecursion (λ (r : HostRead). Q r.host r.source) reads → 1 ≤ reads_from reads k from → Q k from
+read_there Q k from [] all some = absurd (omega arith)
+read_there Q k from (r ∷ reads) all some =
+    read_here Q k from r (is_read_at k (place_of from) r) refl all.0
+    (λ not_here. read_there Q k from reads all.1 (omega (arith, one_more k from r reads false not_here some)))
+
+or_right : (b c : Bool) → c ≡ true → (b || c) ≡ true
+or_right true c is = refl
+or_right false c is = is
+
+or_left : (b c : Bool) → b ≡ true → (b || c) ≡ true
+or_left b c is = ap (λ x. x || c) is
+
+bool_cases : (b : Bool) → (b ≡ true) ⊎ (b ≡ false)
+bool_cases true = inl refl
+bool_cases false = inr refl
+
+reads_there : (k : ℕ) (from : Source) (reads : List HostRead) → 1 ≤ reads_from reads k from
+    → has_reads reads k ≡ true
+reads_there k from [] some = absurd (omega arith)
+reads_there k from (r ∷ reads) some =
+    let b = is_read_at k (place_of from) r in
+    elim (bool_cases b) [
+      | inl own ↦
+          or_left (r.host == k) (has_reads reads k)
+          (and_parts (r.host == k) (place_of r.source == place_of from) own).0
+      | inr other ↦
+          or_right (r.host == k) (has_reads reads k)
+          (reads_there k from reads (omega (arith, one_more k from r reads false other some)))
+    ]
+
+-- The ring of a source is there, so is its reader.
+
+if_other : {A : Type 0} (b : Bool) (x : Option A) → b ≡ false → cond b None x ≡ x
+if_other b x is = ap (λ c. cond c None x) is
+
+source_ring : (list : Medl) (k : ℕ) (from : Source) → IsSource list k from
+    → (shape : Shape) × (incoming_shape list k from ≡ Some shape)
+source_ring list k source.Status is = (shape_of list 4, refl)
+source_ring list k (source.Node p) is =
+    let shape = shape_of list (word_count (plan_at list p).payload) in (
+      shape,
+      if_other (p == k) (message_shape list p) (false_from_ne_true (p == k) (λ same. is.2 (eqb-true p k same)))
+          ∙ if_other ((plan_at list p).payload == 0) (Some shape)
+          (false_from_ne_true ((plan_at list p).payload == 0)
+          (λ same. let none = eqb-true (plan_at list p).payload 0 same in absurd (omega (arith, none, is.1)))),
+    )
+
+lent_room : (shape : Shape) (messages : List (List ℕ)) (pairs : List Message) (w : Option WriterState) (n : ℕ)
+    → IsRingOf (Some shape) messages pairs w → IsSomeAnd (lent w n) (λ (r : ReaderState). n ≤ r.spare)
+lent_room shape messages pairs None n is = absurd is
+lent_room shape messages pairs (Some w) n is = omega arith
+
+some_there : (o : Option ReadersState) → is_some o ≡ true → (x : ReadersState) × (o ≡ Some x)
+some_there None is = absurd (false≢true is)
+some_there (Some x) is = (x, refl)
+
+lent_calls : (reads : List HostRead) (k : ℕ) (end : ControllerState) (o : Option ReadersState)
+    → ForSome o (AreLentTo reads k end) → calls_in o ≡ []
+lent_calls reads k end None are = refl
+lent_calls reads k end (Some x) are = (are x refl).calls
+
+room_lent : (list : Medl) (script : Script) (slot : ℕ) (ends : List ControllerState)
+    (readers : List (Option ReadersState)) (messages : ℕ → Source → List (List ℕ)) (pairs : ℕ → Source → List Message)
+    → IsValidScript list script → length ends ≡ length list.slots → AreReadersLent (reads_in script slot) ends readers
+    → ((k : ℕ) → k < length list.slots → (from : Source)
+    → IsRingOf (incoming_shape list k from) (messages k from) (pairs k from) (at_source (end_at ends k) from))
+    → (k : ℕ) (from : Source) → 1 ≤ reads_from (reads_in script slot) k from
+    → IsSomeAnd (reader_at readers k from) (λ (r : ReaderState). reads_from (reads_in script slot) k from ≤ r.spare)
+room_lent list script slot ends readers messages pairs valid count lent_are rings k from some =
+    let reads = reads_in script slot in
+    let n = reads_from reads k from in
+    let is = read_there (IsReadOf list) k from reads (reads_of_valid list script slot valid) some in
+    let near : k < length ends = omega (arith, is.0, count) in
+    let ring = source_ring list k from is.1 in
+    let w = at_source (end_at ends k) from in
+    let there = some_there (readers_at readers k) (lent_are.there k near ∙ reads_there k from reads some) in
+    let reader : reader_at readers k from ≡ lent w n =
+    ap (λ (o : Option ReadersState). reader_in o from) there.1 ∙ (lent_are.each k near there.0 there.1).readers from in
+    subst (λ (o : Option ReaderState). IsSomeAnd o (λ (r : ReaderState). n ≤ r.spare)) (sym reader)
+    (lent_room ring.0 (messages k from) (pairs k from) w n
+    (subst (λ (s : Option Shape). IsRingOf s (messages k from) (pairs k from) w) ring.1 (rings k is.0 from)))
+
+-- Readers that were lent for the reads of a valid script's slot, by ends whose rings are there, may make them all.
+pub may_read_all : (list : Medl) (script : Script) (slot : ℕ) (ends : List ControllerState)
+    (readers : List (Option ReadersState)) (messages : ℕ → Source → List (List ℕ)) (pairs : ℕ → Source → List Message)
+    → IsValidScript list script → length ends ≡ length list.slots → length readers ≡ length list.slots
+    → AreReadersLent (reads_in script slot) ends readers
+    → ((k : ℕ) → k < length list.slots → (from : Source)
+    → IsRingOf (incoming_shape list k from) (messages k from) (pairs k from) (at_source (end_at ends k) from))
+    → MayReadAll (reads_in script slot) readers
+may_read_all list script slot ends readers messages pairs valid ends_count count lent_are rings = record {
+  calls = λ k.
+      elim (cases_lt k (length list.slots)) [
+        | inl near ↦
+            lent_calls (reads_in script slot) k (end_at ends k) (readers_at readers k)
+            (lent_are.each k (omega (arith, near, ends_count)))
+        | inr past ↦ ap calls_in (get_or_past readers k None (omega (arith, past, count)))
+      ];
+  room = room_lent list script slot ends readers messages pairs valid ends_count lent_are rings;
+}

@@ -1,0 +1,38 @@
+-- A new cluster stands for no numbers.
+use Rattle.std.proofs.Common.{◌<◌, [], refl, arith}
+use Rattle.std.proofs.lemmas.List.Elements.{All-cons, All-nil, All-replicate}
+use Rattle.ttp_world.specs.declared.medl.Medl.{Medl}
+use Rattle.ttp_world.specs.declared.script.Script.{Script}
+use Rattle.ttp_world.specs.Medl.{plan_at}
+use Rattle.ttp_world.specs.Outgoing.{zeros_of}
+use Rattle.trace_text.specs.HostLines.{AreBytes}
+use Rattle.cluster_run.specs.declared.nodes.Nodes.{Nodes}
+use Rattle.cluster_run.specs.Choosing.{AreBytesBefore}
+use Rattle.cluster_run.specs.Nodes.{AreNewNodes}
+use Rattle.cluster_run.specs.Ports.{end_at, host_at}
+use Rattle.cluster_run.specs.Slots.{StandsForSome}
+use Rattle.cluster_run.specs.Standing.{desks_of, DesksStandFor}
+use Rattle.cluster_run.proofs.NewRings.{new_written, new_read}
+use Rattle.host_port.specs.Rings.{at_source}
+
+pub new_desks : (list : Medl) (script : Script) (nodes : Nodes) → AreNewNodes list nodes
+    → DesksStandFor list script (desks_of nodes) []
+new_desks list script nodes new = record {
+  seats = record { each = λ j seat here. new.stand.each j seat here };
+  written = λ k near.
+      new_written list script k (host_at nodes.host_ends.items k) (new.rings.outgoing k near);
+  read = λ k near from.
+      new_read list script k from (at_source (end_at nodes.controller_ends.items k) from)
+      (new.rings.incoming k near from);
+}
+
+-- and what hosts wrote before it, the zeros, is bytes
+pub new_bytes : (list : Medl) (script : Script) → AreBytesBefore list script 0
+new_bytes list script k =
+    All-cons AreBytes (zeros_of list k) []
+    (All-replicate (λ b. b < 256) (plan_at list k).payload 0 (omega arith)) (All-nil AreBytes)
+
+pub new_stands : (list : Medl) (script : Script) (nodes : Nodes) → AreNewNodes list nodes
+    → StandsForSome list script 0 (desks_of nodes)
+new_stands list script nodes new =
+    record { numbers = []; at = record { count = refl; stands = new_desks list script nodes new } }

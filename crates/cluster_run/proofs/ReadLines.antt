@@ -1,0 +1,64 @@
+-- The lines of all hosts, from the queues that their readers leave.
+use Rattle.std.proofs.Common.{◌≡◌, ℕ, ◌≤◌, Bool, true, false, cond, List, [], ◌∷◌, length, map, Option, None}
+use Rattle.std.proofs.Common.{inl, inr, refl, sym, ap, ◌∙◌, arith}
+use Rattle.std.specs.Prelude.{◌==◌, filter, reverse}
+use Rattle.std.proofs.lemmas.Bool.{cases_lt, eqb-true}
+use Rattle.std.proofs.lemmas.List.{get_or_past}
+use Rattle.ttp_world.specs.declared.host_lines.HostRead.{HostRead}
+use Rattle.ttp_world.specs.declared.script.Source.{Source}
+use Rattle.host_port.specs.declared.report.ReadLine.{ReadLine}
+use Rattle.host_port.specs.Reading.{ReadersState, got_of, pairs_from}
+use Rattle.cluster_run.specs.Reading.{reader_in, calls_in, is_host, sources_of, AllGot, read_of}
+use Rattle.cluster_run.specs.Reading.{lines_by, AreLinesOf, queue_of, AreQueuesOf, AreDue}
+use Rattle.cluster_run.proofs.LineOrder.{map_nothing}
+
+-- a host's reads are told by their sources
+hosted_kept : (k : ℕ) (r : HostRead) (rs : List HostRead) (b : Bool) → (r.host == k) ≡ b
+    → map (λ (from : Source). record { host = k; source = from }) (map (λ (x : HostRead). x.source) rs) ≡ rs
+    → map (λ (from : Source). record { host = k; source = from })
+    (map (λ (x : HostRead). x.source) (cond b (r ∷ rs) rs)) ≡ cond b (r ∷ rs) rs
+hosted_kept k r rs true is later =
+    λ i. record { host = sym (eqb-true r.host k is) i; source = r.source } ∷ later i
+hosted_kept k r rs false is later = later
+
+by_sources : (k : ℕ) (reads : List HostRead)
+    → map (λ (from : Source). record { host = k; source = from }) (sources_of reads k) ≡ filter (is_host k) reads
+by_sources k [] = refl
+by_sources k (r ∷ reads) =
+    hosted_kept k r (filter (is_host k) reads) (r.host == k) refl (by_sources k reads)
+
+due_past : (reads : List HostRead) (readers : List (Option ReadersState)) (k : ℕ) → length readers ≤ k
+    → AllGot reads readers → [] ≡ filter (is_host k) reads
+due_past reads readers k past got =
+    sym (map_nothing (λ (x : HostRead). x.source) (filter (is_host k) reads)
+    (sym (got k) ∙ ap calls_in (get_or_past readers k None past)))
+
+are_due : (reads : List HostRead) (readers : List (Option ReadersState)) (queues : List (List ReadLine))
+    → length queues ≡ length readers → AreQueuesOf readers queues → AllGot reads readers → AreDue reads queues
+are_due reads readers queues count are got = λ k.
+    elim (cases_lt k (length readers)) [
+      | inl near ↦
+          (are k near).reads
+          ∙ ap (map (λ (from : Source). record { host = k; source = from })) (got k)
+          ∙ by_sources k reads
+      | inr past ↦
+          ap (λ q. map read_of (reverse q)) (get_or_past queues k [] (omega arith))
+          ∙ due_past reads readers k past got
+    ]
+
+pub lines_of_all : (reads : List HostRead) (readers : List (Option ReadersState)) (queues : List (List ReadLine))
+    (lines : List ReadLine) → length queues ≡ length readers → AreQueuesOf readers queues
+    → (AreDue reads queues → map read_of lines ≡ reads)
+    → (AreDue reads queues → (k : ℕ) → lines_by k lines ≡ reverse (queue_of queues k))
+    → AllGot reads readers → AreLinesOf reads readers lines
+lines_of_all reads readers queues lines count are told own got =
+    let due = are_due reads readers queues count are got in record {
+      reads_are = told due;
+      pairs = λ k from.
+          elim (cases_lt k (length readers)) [
+            | inl near ↦ ap (pairs_from from) (own due k) ∙ (are k near).pairs from
+            | inr past ↦
+                ap (pairs_from from) (own due k ∙ ap reverse (get_or_past queues k [] (omega arith)))
+                ∙ ap (λ (o : Option ReadersState). got_of (reader_in o from)) (sym (get_or_past readers k None past))
+          ];
+    }

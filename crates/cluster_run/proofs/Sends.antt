@@ -1,0 +1,291 @@
+-- What the sending of a slot asks and gives, node by node.
+use Rattle.std.proofs.Common.{◌≡◌, ℕ, suc, ◌+◌, ◌<◌, ◌≤◌, Bool, true, false, List, [], ◌∷◌}
+use Rattle.std.proofs.Common.{length, map, get_or, Option, Some, None, IfSome, IsSomeAnd, All, refl, sym, ap, subst}
+use Rattle.std.proofs.Common.{◌∙◌, arith, add-one, inl, inr}
+use Rattle.std.specs.Prelude.{◌==◌, IsSome, slice_get, count_by, unwrap_or, ◌/◌}
+use Rattle.std.proofs.lemmas.Bool.{cases_Bool, cond_both}
+use Rattle.std.proofs.lemmas.List.{length-map}
+use Rattle.std.proofs.lemmas.List.Elements.{All-append, All-head, All-nil, All-tail, All-push}
+use Rattle.std.proofs.lemmas.Option.{get_or_from_slice_get, none-some, same_Some, slice_get_within}
+use Rattle.nbw_ring.specs.declared.view.Message.{Message}
+use Rattle.nbw_ring.specs.declared.view.Shape.{Shape}
+use Rattle.nbw_ring.specs.States.{WriterState, ReaderState, new_reader}
+use Rattle.ttp_world.specs.declared.medl.Medl.{Medl}
+use Rattle.ttp_world.specs.declared.medl.SlotPlan.{SlotPlan}
+use Rattle.ttp_world.specs.declared.node.Chosen.{Chosen}
+use Rattle.ttp_world.specs.declared.script.Script.{Script}
+use Rattle.ttp_world.specs.declared.script.TheConstants.{EVENT_LIMIT}
+use Rattle.ttp_world.specs.Medl.{plan_at, no_plan, IsValid}
+use Rattle.ttp_world.specs.Outgoing.{messages_before, nothing_chosen}
+use Rattle.ttp_world.specs.Script.{HostWrite, IsValidScript, messages_written, payload_of_host, write_in}
+use Rattle.ttp_world.specs.Script.{writes_in}
+use Rattle.ttp_world.specs.Words.{word_count, words_of_payload}
+use Rattle.ttp_world.specs.World.{BegunSlot, Numbers, is_loaded, world}
+use Rattle.trace_text.specs.HostLines.{AreBytes}
+use Rattle.controller.specs.Turn.{Seat}
+use Rattle.host_port.specs.Reading.{Attempts, is_intact}
+use Rattle.host_port.specs.Rings.{HostState, PortState, message_shape, shape_of}
+use Rattle.host_port.specs.Writing.{Takes}
+use Rattle.cluster_run.specs.Choosing.{AreBytesBefore, HaveBegunFor, HaveChosen, next_slot}
+use Rattle.cluster_run.specs.Ports.{host_at, ring_of}
+use Rattle.cluster_run.specs.Report.{writes_shown}
+use Rattle.cluster_run.specs.Rings.{IsRing, IsRingOf, pairs_sent, words_written}
+use Rattle.cluster_run.specs.Sending.{AreLent, FetchAll, Fetches, MayFetchAll, MaySettle, MayLend, MayWriteAll}
+use Rattle.cluster_run.specs.Sending.{SettlesFetch, WritesBytes, after_writes, fetcher_lent, message_count}
+use Rattle.cluster_run.specs.Sending.{write_lines}
+use Rattle.cluster_run.specs.Standing.{HoldsWritten}
+use Rattle.cluster_run.proofs.Choices.{node_choice, shape_there}
+use Rattle.cluster_run.proofs.Deliverable.{loaded-payload}
+use Rattle.cluster_run.proofs.HostMessages.{IsValidWrite, few_messages, filter_map-each, valid_write_at, valid_writes}
+use Rattle.cluster_run.proofs.PortLists.{at_any, same-count, same_at}
+use Rattle.cluster_run.proofs.Settling.{payload_few, plan_there}
+use Rattle.cluster_run.proofs.Writes.{filter_map-few}
+
+-- A node's ring, where it sends payload.
+
+pub record HasRing (list : Medl) (k : ℕ) (messages : List (List ℕ)) (pairs : List Message) (end : HostState) : Type 0
+  where
+    pub there : IsSomeAnd end (IsRing (shape_of list (word_count (plan_at list k).payload)) messages pairs)
+
+pub has_ring : (list : Medl) (k : ℕ) (messages : List (List ℕ)) (pairs : List Message) (end : HostState)
+    → 1 ≤ (plan_at list k).payload → IsRingOf (message_shape list k) messages pairs end
+    → HasRing list k messages pairs end
+has_ring list k messages pairs end some ring = record {
+  there = subst (λ (s : Option Shape). IsRingOf s messages pairs end) (shape_there list k some) ring;
+}
+
+ring_some : (shape : Shape) (messages : List (List ℕ)) (pairs : List Message) (end : HostState)
+    → IsSomeAnd end (IsRing shape messages pairs) → IsSome end
+ring_some shape messages pairs None ring = absurd ring
+ring_some shape messages pairs (Some w) ring = refl
+
+pub ring_count : (shape : Shape) (messages : List (List ℕ)) (pairs : List Message) (end : HostState)
+    → IsSomeAnd end (IsRing shape messages pairs) → message_count end ≡ length messages
+ring_count shape messages pairs None ring = absurd ring
+ring_count shape messages pairs (Some w) ring = ap length ring.messages_are
+
+pub ring_takes : (shape : Shape) (messages : List (List ℕ)) (pairs : List Message) (end : HostState) (size : ℕ)
+    → IsSomeAnd end (IsRing shape messages pairs) → size ≤ 240 → word_count size ≡ shape.width → Takes end size
+ring_takes shape messages pairs None size ring few wide = absurd ring
+ring_takes shape messages pairs (Some w) size ring few wide =
+    (few, wide ∙ sym (ap (λ (s : Shape). s.width) ring.shape_is))
+
+plan_found : (list : Medl) (k : ℕ) (found : Option SlotPlan) → IsValid list → slice_get list.slots k ≡ found
+    → (plan_at list k).payload ≤ 240
+plan_found list k (Some plan) valid here =
+    omega (arith, payload_few list k plan valid here, ap (λ (p : SlotPlan). p.payload) (plan_there list k plan here))
+plan_found list k None valid here =
+    omega (
+      arith,
+      ap (λ (o : Option SlotPlan). (unwrap_or o no_plan).payload)
+          here,
+    )
+
+pub plan_few : (list : Medl) (k : ℕ) → IsValid list → (plan_at list k).payload ≤ 240
+plan_few list k valid = plan_found list k (slice_get list.slots k) valid refl
+
+-- Fetchers may be lent.
+
+pub may_lend : {list : Medl} {script : Script} {slot : ℕ} {numbers : Numbers} {seats : List Seat}
+    {ends : List HostState} → length ends ≡ length list.slots → HaveBegunFor list script slot numbers seats ends
+    → MayLend seats ends
+may_lend {list = list} {script = script} {numbers = numbers} {ends = ends} count begun = record {
+  slot = next_slot list script numbers;
+  begun = begun.begun;
+  rings = λ k near loaded.
+      let node : k < length list.slots = omega (arith, near, count) in
+      let some = loaded-payload list script (world list script numbers) k node loaded in
+      ring_some _ _ _ (host_at ends k) (has_ring list k _ _ (host_at ends k) some (begun.written k node)).there;
+}
+
+-- Hosts may write.
+
+pub may_write_all : (list : Medl) (script : Script) (slot many : ℕ) (numbers : Numbers) (ends : List HostState)
+    → IsValid list → IsValidScript list script → slot < script.slots → many ≤ EVENT_LIMIT → length numbers ≡ slot
+    → ((k : ℕ) → k < length list.slots → HoldsWritten list script numbers ends k) → MayWriteAll script many ends
+may_write_all list script slot many numbers ends valid valid_script within few count written place w here =
+    let write = valid_write_at list script place w valid_script here in
+    let end = host_at ends w.host in
+    let ring = (has_ring list w.host (words_written list script w.host (length numbers))
+    (pairs_sent list script numbers w.host) end write.some (written w.host write.node)).there in
+    record {
+      takes = ring_takes _ _ _ end (length w.payload) ring
+          (omega (arith, write.size, plan_few list w.host valid)) (ap word_count write.size);
+      room = omega (
+        arith,
+        ring_count _ _ _ end ring,
+        length-map (messages_before list script w.host (length numbers)) words_of_payload,
+        few_messages list script w.host (length numbers) valid valid_script,
+        count,
+        within,
+        valid_script.slots,
+        few,
+      );
+    }
+
+pub few_writes : (script : Script) (slot : ℕ) → length script.events ≤ EVENT_LIMIT
+    → length (writes_in script slot) ≤ EVENT_LIMIT
+few_writes script slot few = omega (arith, filter_map-few (write_in slot) script.events, few)
+
+-- Their lines.
+
+lines_of : (list : Medl) (script : Script) (slot : ℕ) (ends : List HostState) (earlier writes : List HostWrite)
+    → ((k : ℕ) → k < length list.slots → 1 ≤ (plan_at list k).payload
+    → message_count (host_at ends k) ≡ length (messages_before list script k slot))
+    → All (IsValidWrite list) writes
+    → write_lines ends earlier writes ≡ writes_shown list script slot earlier writes
+lines_of list script slot ends earlier [] counts valid = refl
+lines_of list script slot ends earlier (w ∷ writes) counts valid =
+    let write = All-head (IsValidWrite list) w writes valid in
+    let count = counts w.host write.node write.some in
+    λ i. record { host = w.host; number = count i + count_by (λ e. e.host == w.host) earlier }
+    ∷ lines_of list script slot ends (w ∷ earlier) writes counts (All-tail (IsValidWrite list) w writes valid) i
+
+pub lines_shown : (list : Medl) (script : Script) (slot : ℕ) (numbers : Numbers) (ends : List HostState)
+    → IsValidScript list script → length numbers ≡ slot
+    → ((k : ℕ) → k < length list.slots → HoldsWritten list script numbers ends k)
+    → write_lines ends [] (writes_in script slot) ≡ writes_shown list script slot [] (writes_in script slot)
+lines_shown list script slot numbers ends valid count written =
+    lines_of list script slot ends [] (writes_in script slot)
+    (λ k node some.
+    ring_count _ _ _ (host_at ends k) (has_ring list k _ _ (host_at ends k) some (written k node)).there
+    ∙ length-map (messages_before list script k (length numbers)) words_of_payload
+    ∙ ap (λ n. length (messages_before list script k n)) count)
+    (valid_writes list script slot valid)
+
+-- What they write is bytes.
+
+own_bytes : (k : ℕ) (w : HostWrite) → WritesBytes w → IfSome (payload_of_host k w) AreBytes
+own_bytes k w bytes =
+    cond_both (w.host == k) (Some w.payload) None (λ o. IfSome o AreBytes) (λ own. bytes) (λ other. tt)
+
+pub more_bytes : (list : Medl) (script : Script) (slot : ℕ) → AreBytesBefore list script slot
+    → All WritesBytes (writes_in script slot) → AreBytesBefore list script (slot + 1)
+more_bytes list script slot bytes written k =
+    subst (λ n. All AreBytes (messages_before list script k n)) (sym (add-one slot))
+    (All-append AreBytes (messages_before list script k slot) (messages_written script k slot) (bytes k)
+    (filter_map-each (payload_of_host k) WritesBytes AreBytes (writes_in script slot) (own_bytes k) written))
+
+-- Controllers may fetch.
+
+-- a port's own end
+pub own_end : (ends : List HostState) (ports : List PortState) (k : ℕ) (port : PortState)
+    → map ring_of ends ≡ map (λ (p : PortState). p.outgoing) ports → slice_get ports k ≡ Some port
+    → ring_of (host_at ends k) ≡ port.outgoing
+own_end ends ports k port own here =
+    let outgoing = λ (p : PortState). p.outgoing in
+    let near : k < length ends =
+    omega (arith, same-count ring_of outgoing ends ports own, slice_get_within ports k port here) in
+    same_at ring_of outgoing ends ports k (host_at ends k) port own near (at_any ends k None (host_at ends k) near)
+    (sym (get_or_from_slice_get ports k port port here))
+
+record MayTry (end : HostState) (f : ReaderState) : Type 0 where
+  pub ring : Some f.ring ≡ ring_of end
+  pub room : 1 ≤ f.spare
+
+lent_may : (loaded : Bool) (end : HostState) (f : ReaderState) → fetcher_lent loaded end ≡ Some f → MayTry end f
+lent_may false end f is = absurd (none-some f is)
+lent_may true None f is = absurd (none-some f is)
+lent_may true (Some w) f is =
+    let same = same_Some (new_reader w 1) f is in record {
+      ring = ap (λ (r : ReaderState). Some r.ring) (sym same);
+      room = omega (arith, ap (λ (r : ReaderState). r.spare) same);
+    }
+
+pub may_fetch_all : {s : BegunSlot} {ends : List HostState} {fetchers : List (Option ReaderState)}
+    (ports : List PortState) → map ring_of ends ≡ map (λ (p : PortState). p.outgoing) ports
+    → AreLent s ends fetchers → MayFetchAll ports fetchers
+may_fetch_all {s = s} {ends = ends} ports own lent k port here f is =
+    let near : k < length ends =
+    omega (
+      arith,
+      same-count ring_of (λ (p : PortState). p.outgoing) ends ports own,
+      slice_get_within ports k port here,
+    ) in
+    let may = lent_may (is_loaded s k) (host_at ends k) f (sym (lent.each k near) ∙ is) in
+    (may.ring ∙ own_end ends ports k port own here, may.room)
+
+-- Fetchers may be settled.
+
+settled_words : (width : ℕ) (w : WriterState) (f : ReaderState) → Attempts (new_reader w 1) f
+    → w.ring.shape.width ≡ width → All (λ (pair : Message). length pair.words ≡ width) f.got
+settled_words width w f attempt wide =
+    let P = λ (pair : Message). length pair.words ≡ width in
+    elim (cases_Bool (is_intact f)) [
+      | inl intact ↦
+          let gets = attempt.got intact in
+          subst (All P) (sym gets.got)
+          (All-push P [] (record { number = f.first / 2; words = gets.words }) (All-nil P)
+          (gets.wide ∙ ap (λ r. r.shape.width) attempt.ring ∙ wide))
+      | inr late ↦ subst (All P) (sym (attempt.nothing late).got) (All-nil P)
+    ]
+
+fetched_may : (list : Medl) (k : ℕ) (port : PortState) (loaded : Bool) (end : HostState)
+    (messages : List (List ℕ)) (pairs : List Message) (f1 : Option ReaderState) (f : ReaderState)
+    → (loaded ≡ true → HasRing list k messages pairs end) → Fetches (fetcher_lent loaded end) f1 → f1 ≡ Some f
+    → ring_of end ≡ port.outgoing → MaySettle port (plan_at list k).payload f
+fetched_may list k port loaded end messages pairs None f ring fetches is own = absurd (none-some f is)
+fetched_may list k port false end messages pairs (Some f1) f ring fetches is own = absurd fetches
+fetched_may list k port true None messages pairs (Some f1) f ring fetches is own = absurd fetches
+fetched_may list k port true (Some w) messages pairs (Some f1) f ring fetches is own =
+    subst (MaySettle port (plan_at list k).payload) (same_Some f1 f is) (record {
+      own = ap Some fetches.ring ∙ own;
+      words = settled_words (word_count (plan_at list k).payload) w f1 fetches
+          (ap (λ (s : Shape). s.width) (ring refl).there.shape_is);
+    })
+
+pub may_settle : {list : Medl} {script : Script} {slot : ℕ} {numbers : Numbers} {seats : List Seat}
+    {ends : List HostState} {fetchers : List (Option ReaderState)} (ports : List PortState)
+    (tried : List (Option ReaderState)) → length ports ≡ length list.slots
+    → map ring_of ends ≡ map (λ (p : PortState). p.outgoing) ports
+    → HaveBegunFor list script slot numbers seats ends
+    → AreLent (next_slot list script numbers) ends fetchers → FetchAll fetchers tried → (k : ℕ) (port : PortState)
+    → slice_get ports k ≡ Some port → (f : ReaderState) → get_or tried k None ≡ Some f
+    → MaySettle port (plan_at list k).payload f
+may_settle {list = list} {script = script} {numbers = numbers} {ends = ends} ports tried
+    count own begun lent tries k port here f is =
+    let s = next_slot list script numbers in
+    let within = slice_get_within ports k port here in
+    let near : k < length ends =
+    omega (arith, same-count ring_of (λ (p : PortState). p.outgoing) ends ports own, within) in
+    let node : k < length list.slots = omega (arith, within, count) in
+    fetched_may list k port (is_loaded s k) (host_at ends k) (words_written list script k (length numbers))
+    (pairs_sent list script numbers k) (get_or tried k None) f
+    (λ loaded. has_ring list k _ _ (host_at ends k)
+    (loaded-payload list script (world list script numbers) k node loaded) (begun.written k node))
+    (subst (λ (o : Option ReaderState). Fetches o (get_or tried k None)) (lent.each k near)
+    (tries k (omega (arith, near, lent.count)))) is (own_end ends ports k port own here)
+
+-- So the messages in frames are chosen.
+
+pub have_chosen : {list : Medl} {script : Script} {slot : ℕ} {numbers : Numbers} {seats : List Seat}
+    {ends settled_ends : List HostState} {fetchers : List (Option ReaderState)} {chosen : List Chosen}
+    (after : List HostState) (tried : List (Option ReaderState)) (before : List Chosen)
+    → IsValidScript list script → AreBytesBefore list script (slot + 1) → length ends ≡ length list.slots
+    → HaveBegunFor list script slot numbers seats ends
+    → AreLent (next_slot list script numbers) ends fetchers → FetchAll fetchers tried
+    → ((k : ℕ) → host_at after k ≡ after_writes (writes_in script slot) k (host_at ends k))
+    → ((k : ℕ) → k < length list.slots → SettlesFetch (plan_at list k).payload (get_or tried k None) (host_at after k)
+    (host_at settled_ends k) (get_or before k nothing_chosen) (get_or chosen k nothing_chosen))
+    → HaveChosen list script numbers chosen settled_ends
+have_chosen {list = list} {script = script} {slot = slot} {numbers = numbers} {ends = ends}
+    {settled_ends = settled_ends} {chosen = chosen}
+    after tried before valid bytes ends_count begun lent tries writes settles =
+    let s = next_slot list script numbers in
+    let count = begun.count in
+    let each = λ (k : ℕ) (node : k < length list.slots).
+    let near : k < length ends = omega (arith, node, ends_count) in
+    node_choice list script (length numbers) k valid
+    (subst (λ n. All AreBytes (messages_before list script k n)) (add-one slot ∙ ap suc (sym count)) (bytes k))
+    (is_loaded s k) (pairs_sent list script numbers k) (host_at ends k) (host_at settled_ends k) _ (get_or tried k None)
+    (get_or before k nothing_chosen) (get_or chosen k nothing_chosen)
+    (loaded-payload list script (world list script numbers) k node) (begun.written k node) (lent.each k near)
+    (tries k (omega (arith, near, lent.count)))
+    (subst (λ (e : HostState). SettlesFetch (plan_at list k).payload (get_or tried k None) e (host_at settled_ends k)
+    (get_or before k nothing_chosen) (get_or chosen k nothing_chosen))
+    (writes k ∙ ap (λ n. after_writes (writes_in script n) k (host_at ends k)) (sym count)) (settles k node)) in
+    record {
+      messages = λ k node loaded. (each k node).message loaded;
+      legal = λ k node. (each k node).legal;
+      written = λ k node. (each k node).ring;
+    }

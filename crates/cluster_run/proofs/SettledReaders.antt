@@ -1,0 +1,128 @@
+-- The readers of hosts are settled, one after another, and leave their lines.
+use Rattle.std.proofs.Common.{◌≡◌, ℕ, zero, suc, ◌+◌, ◌<◌, ◌≤◌, List, [], ◌∷◌, ◌++◌, length, map, set, get_or}
+use Rattle.std.proofs.Common.{Option, Some, None, All, refl, sym, ap, ◌∙◌, subst, below_more, arith, length-append}
+use Rattle.std.specs.Prelude.{reverse}
+use Rattle.std.specs.List.{AllByRecursion}
+use Rattle.std.proofs.lemmas.List.{get_or-set_same, get_or-set_other, length-set, get_or_append_left, get_or_push}
+use Rattle.std.proofs.lemmas.List.{reverse-reverse}
+use Rattle.std.proofs.lemmas.List.Elements.{recursion_from_All}
+use Rattle.nbw_ring.specs.States.{WriterState, ReaderState}
+use Rattle.ttp_world.specs.declared.script.Source.{Source}
+use Rattle.host_port.specs.declared.report.ReadLine.{ReadLine}
+use Rattle.host_port.specs.Reading.{ReadersState, IsSettled, settled, all_settled, got_of, pairs_from}
+use Rattle.host_port.specs.Rings.{PortState, ControllerState, place_of, at_source}
+use Rattle.cluster_run.specs.Ports.{rings_of, end_at}
+use Rattle.cluster_run.specs.Reading.{readers_at, SettlesReadsOf, read_of, AreLinesBy, queue_of}
+use Rattle.cluster_run.proofs.PortLists.{at_any, read_alike}
+
+-- One host's.
+
+settled-none : (w : Option WriterState) → w ≡ settled w None
+settled-none None = refl
+settled-none (Some w) = refl
+
+is_settled-none : (w : Option WriterState) → IsSettled w None
+is_settled-none None = tt
+is_settled-none (Some w) = tt
+
+-- a host that doesn't read
+pub settles_none : (end : ControllerState) → SettlesReadsOf end None end
+settles_none end = record {
+  whole = λ from. is_settled-none (at_source end from);
+  settled_is = λ from. settled-none (at_source end from);
+}
+
+nothing_settled : (r : Option ReaderState) → None ≡ settled None r
+nothing_settled None = refl
+nothing_settled (Some r) = refl
+
+all_settled-at : (ws : List (Option WriterState)) (rs : List (Option ReaderState)) (i : ℕ)
+    → get_or (all_settled ws rs) i None ≡ settled (get_or ws i None) (get_or rs i None)
+all_settled-at [] rs i = nothing_settled (get_or rs i None)
+all_settled-at (w ∷ ws) [] zero = settled-none w
+all_settled-at (w ∷ ws) [] (suc i) = settled-none (get_or ws i None)
+all_settled-at (w ∷ ws) (r ∷ rs) zero = refl
+all_settled-at (w ∷ ws) (r ∷ rs) (suc i) = all_settled-at ws rs i
+
+-- one that does
+pub settles_readers : (old new : ControllerState) (r : ReadersState)
+    → ((from : Source) → IsSettled (at_source old from) (at_source r.readers from)) → new ≡ all_settled old r.readers
+    → SettlesReadsOf old (Some r) new
+settles_readers old new r whole joined = record {
+  whole = whole;
+  settled_is = λ from.
+      ap (λ (e : ControllerState). at_source e from) joined ∙ all_settled-at old r.readers (place_of from);
+}
+
+hosted : (k : ℕ) (lines : List ReadLine) → AllByRecursion (λ (line : ReadLine). line.host ≡ k) lines
+    → map read_of lines
+    ≡ map (λ (from : Source). record { host = k; source = from }) (map (λ (line : ReadLine). line.source) lines)
+hosted k [] all = refl
+hosted k (line ∷ lines) all = λ i. record { host = all.0 i; source = line.source } ∷ hosted k lines all.1 i
+
+-- with its lines, which lie in a queue, the last one first
+pub lines_queued : (k : ℕ) (r : ReadersState) (lines queue : List ReadLine) → queue ≡ reverse lines
+    → map (λ (line : ReadLine). line.source) lines ≡ r.calls → All (λ (line : ReadLine). line.host ≡ k) lines
+    → ((from : Source) → pairs_from from lines ≡ got_of (at_source r.readers from))
+    → AreLinesBy k (Some r) (reverse queue)
+lines_queued k r lines queue queued sources hosts pairs =
+    let turned : reverse queue ≡ lines = ap reverse queued ∙ reverse-reverse lines in record {
+      reads =
+          ap (map read_of) turned
+          ∙ hosted k lines (recursion_from_All (λ (line : ReadLine). line.host ≡ k) lines hosts)
+          ∙ ap (map (λ from. record { host = k; source = from })) sources;
+      pairs = λ from. ap (pairs_from from) turned ∙ pairs from;
+    }
+
+pub no_lines : (k : ℕ) → AreLinesBy k None (reverse [])
+no_lines k = record { reads = refl; pairs = λ from. refl }
+
+-- The first hosts', so many: the other ends and readers are as they were.
+pub record AreReadersSettled (ports : List PortState) (k : ℕ) (old_readers readers : List (Option ReadersState))
+    (old ends : List ControllerState) (queues : List (List ReadLine)) : Type 0 where
+  pub own : map rings_of ends ≡ map (λ (p : PortState). p.incoming) ports
+  pub settled_are : (i : ℕ) → i < k
+      → SettlesReadsOf (end_at old i) (readers_at old_readers i) (end_at ends i)
+  pub ends_rest : (i : ℕ) → k ≤ i → end_at ends i ≡ end_at old i
+  pub readers_rest : (i : ℕ) → k ≤ i → readers_at readers i ≡ readers_at old_readers i
+  pub readers_count : length readers ≡ length old_readers
+  pub queues_are : (i : ℕ) → i < k → AreLinesBy i (readers_at old_readers i) (reverse (queue_of queues i))
+  pub queues_count : length queues ≡ k
+
+pub readers_settled : (ports : List PortState) (k : ℕ) (old_readers readers : List (Option ReadersState))
+    (old ends : List ControllerState) (queues : List (List ReadLine)) (own left : Option ReadersState)
+    (end new : ControllerState) (queue : List ReadLine)
+    → AreReadersSettled ports k old_readers readers old ends queues → k < length ends → own ≡ readers_at readers k
+    → end ≡ get_or ends k end → rings_of new ≡ rings_of end → SettlesReadsOf end own new
+    → AreLinesBy k own (reverse queue)
+    → AreReadersSettled ports (k + 1) old_readers (set readers k left) old (set ends k new) (queues ++ queue ∷ [])
+readers_settled ports k old_readers readers old ends queues own left end new queue so near is_own is_end rings settles
+    lines =
+    let end_was : end ≡ end_at old k = is_end ∙ at_any ends k end [] near ∙ so.ends_rest k (omega arith) in
+    let own_was : own ≡ readers_at old_readers k = is_own ∙ so.readers_rest k (omega arith) in
+    record {
+      own = read_alike rings_of ends k end new is_end rings ∙ so.own;
+      settled_are =
+          below_more
+          (λ i. SettlesReadsOf (end_at old i) (readers_at old_readers i) (end_at (set ends k new) i)) k
+          (λ i earlier.
+          subst (SettlesReadsOf (end_at old i) (readers_at old_readers i))
+          (sym (get_or-set_other ends k i new [] (omega arith))) (so.settled_are i earlier))
+          (subst (SettlesReadsOf (end_at old k) (readers_at old_readers k))
+          (sym (get_or-set_same ends k new [] near))
+          (subst (λ (e : ControllerState). SettlesReadsOf e (readers_at old_readers k) new) end_was
+          (subst (λ (o : Option ReadersState). SettlesReadsOf end o new) own_was settles)));
+      ends_rest = λ i later. get_or-set_other ends k i new [] (omega arith) ∙ so.ends_rest i (omega arith);
+      readers_rest = λ i later. get_or-set_other readers k i left None (omega arith) ∙ so.readers_rest i (omega arith);
+      readers_count = length-set readers k left ∙ so.readers_count;
+      queues_are =
+          below_more (λ i. AreLinesBy i (readers_at old_readers i) (reverse (queue_of (queues ++ queue ∷ []) i))) k
+          (λ i earlier.
+          subst (λ (q : List ReadLine). AreLinesBy i (readers_at old_readers i) (reverse q))
+          (sym (get_or_append_left queues (queue ∷ []) [] i (omega (arith, so.queues_count))))
+          (so.queues_are i earlier))
+          (subst (λ (q : List ReadLine). AreLinesBy k (readers_at old_readers k) (reverse q))
+          (sym (get_or_push queues queue [] k so.queues_count))
+          (subst (λ (o : Option ReadersState). AreLinesBy k o (reverse queue)) own_was lines));
+      queues_count = length-append queues (queue ∷ []) ∙ (omega (arith, so.queues_count));
+    }

@@ -1,0 +1,222 @@
+-- What the writes of a slot make of the ends of hosts, write by write.
+use Rattle.std.proofs.Common.{◌≡◌, ℕ, zero, suc, ◌+◌, ◌<◌, ◌≤◌, Bool, true, false, cond, List, [], ◌∷◌, ◌++◌}
+use Rattle.std.proofs.Common.{length, map, set, take, drop, get_or, count_by, Option, Some, None, option_map, inl}
+use Rattle.std.proofs.Common.{inr, refl, sym, ap, subst}
+use Rattle.std.proofs.Common.{◌∙◌, append_assoc, arith, length-append}
+use Rattle.std.specs.Prelude.{◌==◌, IsSome}
+use Rattle.std.specs.List.{filter_map, cons_option}
+use Rattle.std.proofs.lemmas.Bool.{false≢true, cases_eq, eq-eqb, eqb-true, false_from_ne_true}
+use Rattle.std.proofs.lemmas.List.{append-nil, map-append, length-map, length-take, take_more}
+use Rattle.std.proofs.lemmas.List.{take-append-drop, get_or-set_same, get_or-set_other}
+use Rattle.std.proofs.lemmas.List.Elements.{filter_map-append}
+use Rattle.std.proofs.lemmas.List.Sums.{sum_by-cons, count_by-le-length}
+use Rattle.ttp_world.specs.Script.{HostWrite, payload_of_host}
+use Rattle.ttp_world.specs.Words.{words_of_payload}
+use Rattle.host_port.proofs.ReaderLists.{written_ring}
+use Rattle.host_port.specs.declared.report.WriteLine.{WriteLine}
+use Rattle.host_port.specs.Rings.{HostState}
+use Rattle.host_port.specs.Writing.{written, Takes, HasRoom}
+use Rattle.nbw_ring.specs.Numbers.{most_number}
+use Rattle.cluster_run.specs.Ports.{ring_of, host_at}
+use Rattle.cluster_run.specs.Sending.{messages_by, with_messages, after_writes, message_count, write_line, write_lines}
+use Rattle.cluster_run.proofs.PortLists.{at_any, read_alike}
+
+-- the ends and the lines once these writes were made
+pub record AreWritten (old : List HostState) (writes : List HostWrite) (ends : List HostState) (lines : List WriteLine)
+    : Type 0 where
+  pub rings : map ring_of ends ≡ map ring_of old
+  pub each : (k : ℕ) → host_at ends k ≡ after_writes writes k (host_at old k)
+  pub lines_are : lines ≡ write_lines old [] writes
+
+-- Of none.
+
+after_none : (k : ℕ) (end : HostState) → end ≡ after_writes [] k end
+after_none k None = refl
+after_none k (Some w) = λ i. Some (record w { messages = sym (append-nil w.messages) i })
+
+pub written_none : (old : List HostState) → AreWritten old [] old []
+written_none old = record { rings = refl; each = λ k. after_none k (host_at old k); lines_are = refl }
+
+-- Of one more: its host's ring has one message more.
+
+after_one : (own : Bool) (messages : List (List ℕ)) (payload : List ℕ) (end : HostState)
+    → option_map (λ w. with_messages w (messages ++ cons_option (cond own (Some payload) None) [])) end
+    ≡ cond own (written (option_map (λ w. with_messages w messages) end) (words_of_payload payload))
+    (option_map (λ w. with_messages w messages) end)
+after_one true messages payload None = refl
+after_one false messages payload None = refl
+after_one true messages payload (Some w) =
+    let more : w.messages ++ map words_of_payload (messages ++ payload ∷ [])
+    ≡ (w.messages ++ map words_of_payload messages) ++ words_of_payload payload ∷ [] =
+    ap (λ ms. w.messages ++ ms) (map-append words_of_payload messages (payload ∷ []))
+    ∙ sym (append_assoc w.messages (map words_of_payload messages) (words_of_payload payload ∷ [])) in
+    λ i. Some (record w { messages = more i })
+after_one false messages payload (Some w) =
+    λ i. Some (record w { messages = w.messages ++ map words_of_payload (append-nil messages i) })
+
+after_more : (writes : List HostWrite) (w : HostWrite) (k : ℕ) (end : HostState)
+    → after_writes (writes ++ w ∷ []) k end
+    ≡ cond (w.host == k) (written (after_writes writes k end) (words_of_payload w.payload)) (after_writes writes k end)
+after_more writes w k end =
+    ap (λ ms. option_map (λ v. with_messages v ms) end) (filter_map-append (payload_of_host k) writes (w ∷ []))
+    ∙ after_one (w.host == k) (messages_by k writes) w.payload end
+
+-- The line: its number follows those of the messages before it.
+
+by_host : ℕ → HostWrite → Bool
+by_host k e = e.host == k
+
+write_lines-more : (old : List HostState) (earlier writes : List HostWrite) (w : HostWrite)
+    → write_lines old earlier (writes ++ w ∷ [])
+    ≡ write_lines old earlier writes
+    ++ write_line old w.host (count_by (λ e. e.host == w.host) earlier + count_by (λ e. e.host == w.host) writes) ∷ []
+write_lines-more old earlier [] w =
+    ap (λ n. write_line old w.host n ∷ []) (omega arith)
+write_lines-more old earlier (v ∷ writes) w =
+    let p : HostWrite → Bool = λ e. e.host == w.host in
+    let sum : count_by p (v ∷ earlier) + count_by p writes ≡ count_by p earlier + count_by p (v ∷ writes) =
+    omega (
+      arith,
+      sum_by-cons (λ (x : HostWrite). cond (p x) 1 0) v earlier,
+      sum_by-cons (λ (x : HostWrite). cond (p x) 1 0) v writes,
+    ) in
+    ap (λ ls. write_line old v.host (count_by (λ e. e.host == v.host) earlier) ∷ ls)
+    (write_lines-more old (v ∷ earlier) writes w
+    ∙ ap (λ n. write_lines old (v ∷ earlier) writes ++ write_line old w.host n ∷ []) sum)
+
+counted_one : (own : Bool) (payload : List ℕ) (messages : List (List ℕ)) (n : ℕ) → length messages ≡ n
+    → length (cons_option (cond own (Some payload) None) messages) ≡ cond own 1 0 + n
+counted_one true payload messages n same = omega arith
+counted_one false payload messages n same = omega arith
+
+counted : (k : ℕ) (writes : List HostWrite) → length (messages_by k writes) ≡ count_by (λ e. e.host == k) writes
+counted k [] = refl
+counted k (w ∷ writes) =
+    counted_one (w.host == k) w.payload (messages_by k writes) (count_by (λ e. e.host == k) writes) (counted k writes)
+    ∙ sym (sum_by-cons (λ (x : HostWrite). cond (x.host == k) 1 0) w writes)
+
+count_after : (k : ℕ) (writes : List HostWrite) (end : HostState) → IsSome end
+    → message_count (after_writes writes k end) ≡ message_count end + count_by (λ e. e.host == k) writes
+count_after k writes None some = absurd (false≢true some)
+count_after k writes (Some w) some =
+    length-append w.messages (map words_of_payload (messages_by k writes))
+    ∙ ap (λ n. length w.messages + n) (length-map (messages_by k writes) words_of_payload ∙ counted k writes)
+
+was_some : (k : ℕ) (writes : List HostWrite) (end : HostState) → IsSome (after_writes writes k end) → IsSome end
+was_some k writes None some = some
+was_some k writes (Some w) some = some
+
+pub written_more : (old ends : List HostState) (writes : List HostWrite) (lines : List WriteLine) (w : HostWrite)
+    → AreWritten old writes ends lines → w.host < length ends → IsSome (host_at ends w.host)
+    → AreWritten old (writes ++ w ∷ [])
+    (set ends w.host (written (host_at ends w.host) (words_of_payload w.payload)))
+    (lines ++ write_line ends w.host 0 ∷ [])
+written_more old ends writes lines w so within some =
+    let h = w.host in
+    let new = written (host_at ends h) (words_of_payload w.payload) in
+    let earlier = count_by (λ e. e.host == h) writes in
+    let there : IsSome (host_at old h) = was_some h writes (host_at old h) (subst IsSome (so.each h) some) in
+    let count : message_count (host_at ends h) + 0 ≡ message_count (host_at old h) + (0 + earlier) =
+    omega (arith, ap message_count (so.each h), count_after h writes (host_at old h) there) in
+    let line : write_line ends h 0 ≡ write_line old h (0 + earlier) = λ i. record { host = h; number = count i } in
+    record {
+      rings =
+          read_alike ring_of ends h (host_at ends h) new (at_any ends h None (host_at ends h) within)
+          (written_ring (host_at ends h) (words_of_payload w.payload))
+          ∙ so.rings;
+      each = λ k. elim (cases_eq h k) as (λ _. host_at (set ends h new) k ≡ after_writes (writes ++ w ∷ []) k
+          (host_at old k)) [
+            | inl own ↦
+                ap (host_at (set ends h new)) (sym own)
+                ∙ get_or-set_same ends h new None within
+                ∙ ap (λ e. written e (words_of_payload w.payload)) (ap (host_at ends) own ∙ so.each k)
+                ∙ sym (ap (λ b. cond b (written (after_writes writes k (host_at old k)) (words_of_payload w.payload))
+                (after_writes writes k (host_at old k))) (eq-eqb h k own))
+                ∙ sym (after_more writes w k (host_at old k))
+            | inr other ↦
+                get_or-set_other ends h k new None (λ same. other (sym same))
+                ∙ so.each k
+                ∙ sym (ap (λ b. cond b (written (after_writes writes k (host_at old k)) (words_of_payload w.payload))
+                (after_writes writes k (host_at old k)))
+                (false_from_ne_true (h == k) (λ same. other (eqb-true h k same))))
+                ∙ sym (after_more writes w k (host_at old k))
+          ];
+      lines_are =
+          (λ i. so.lines_are i ++ line i ∷ [])
+          ∙ sym (write_lines-more old [] writes w);
+    }
+
+-- What a ring takes, it takes after the writes, and it has room for one more of so many.
+
+pub takes_after : (k : ℕ) (writes : List HostWrite) (end : HostState) (size : ℕ) → Takes end size
+    → Takes (after_writes writes k end) size
+takes_after k writes None size takes = takes
+takes_after k writes (Some w) size takes = takes
+
+pub room_after : (k : ℕ) (writes : List HostWrite) (end : HostState) (size many : ℕ) → Takes end size
+    → message_count end + many ≤ most_number → length writes < many → HasRoom (after_writes writes k end)
+room_after k writes None size many takes few more = takes
+room_after k writes (Some w) size many takes few more =
+    omega (
+      arith,
+      count_after k writes (Some w) refl,
+      count_by-le-length (λ (e : HostWrite). e.host == k) writes,
+    )
+
+pub takes-some : (end : HostState) (size : ℕ) → Takes end size → IsSome end
+takes-some None size takes = absurd takes
+takes-some (Some w) size takes = refl
+
+-- The writes at the first places.
+
+pub taken_some : {X Y : Type 0} (h : X → Option Y) (xs : List X) (i : ℕ) (x : X) (y : Y) → i < length xs
+    → x ≡ get_or xs i x → h x ≡ Some y → filter_map h (take (i + 1) xs) ≡ filter_map h (take i xs) ++ y ∷ []
+taken_some h xs i x y within here is =
+    ap (filter_map h) (take_more xs i x within)
+    ∙ filter_map-append h (take i xs) (get_or xs i x ∷ [])
+    ∙ ap (λ o. filter_map h (take i xs) ++ cons_option o []) (ap h (sym here) ∙ is)
+
+pub taken_none : {X Y : Type 0} (h : X → Option Y) (xs : List X) (i : ℕ) (x : X) → i < length xs
+    → x ≡ get_or xs i x → h x ≡ None → filter_map h (take (i + 1) xs) ≡ filter_map h (take i xs)
+taken_none h xs i x within here is =
+    ap (filter_map h) (take_more xs i x within)
+    ∙ filter_map-append h (take i xs) (get_or xs i x ∷ [])
+    ∙ ap (λ o. filter_map h (take i xs) ++ cons_option o []) (ap h (sym here) ∙ is)
+    ∙ append-nil (filter_map h (take i xs))
+
+-- one that is taken leaves room in the count of all
+pub taken_room : {X Y : Type 0} (h : X → Option Y) (xs : List X) (i : ℕ) (x : X) (y : Y) → i < length xs
+    → x ≡ get_or xs i x → h x ≡ Some y → length (filter_map h (take i xs)) < length (filter_map h xs)
+taken_room h xs i x y within here is =
+    let front = filter_map h (take (i + 1) xs) in
+    let back = filter_map h (drop (i + 1) xs) in
+    let one : length front ≡ length (filter_map h (take i xs) ++ y ∷ []) =
+    ap length (taken_some h xs i x y within here is) in
+    let whole : length (filter_map h xs) ≡ length (front ++ back) =
+    ap length
+    (ap (filter_map h) (sym (take-append-drop (i + 1) xs)) ∙ filter_map-append h (take (i + 1) xs) (drop (i + 1) xs)) in
+    omega (arith, one, whole, length-append (filter_map h (take i xs)) (y ∷ []), length-append front back)
+
+cons_option-length : {Y : Type 0} (o : Option Y) (ys : List Y) (n : ℕ) → length ys ≤ n
+    → length (cons_option o ys) ≤ suc n
+cons_option-length None ys n few = omega (arith, few)
+cons_option-length (Some y) ys n few = omega (arith, few)
+
+pub filter_map-few : {X Y : Type 0} (h : X → Option Y) (xs : List X) → length (filter_map h xs) ≤ length xs
+filter_map-few h [] = omega arith
+filter_map-few h (x ∷ xs) = cons_option-length (h x) (filter_map h xs) (length xs) (filter_map-few h xs)
+
+pub taken_few : {X Y : Type 0} (h : X → Option Y) (xs : List X) (i : ℕ) → i ≤ length xs
+    → length (filter_map h (take i xs)) ≤ i
+taken_few h xs i within = omega (arith, filter_map-few h (take i xs), length-take i xs)
+
+-- an end that takes something is there
+pub takes-within : (ends : List HostState) (k size : ℕ) → Takes (host_at ends k) size → k < length ends
+takes-within [] k size takes = absurd takes
+takes-within (end ∷ ends) zero size takes = omega arith
+takes-within (end ∷ ends) (suc k) size takes = omega (arith, takes-within ends k size takes)
+
+pub written_along : {old ends ends' : List HostState} {writes writes' : List HostWrite} {lines lines' : List WriteLine}
+    → writes' ≡ writes → ends' ≡ ends → lines' ≡ lines → AreWritten old writes ends lines
+    → AreWritten old writes' ends' lines'
+written_along {old} e f l so = rw (e, f, l) so

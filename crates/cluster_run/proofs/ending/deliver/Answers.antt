@@ -1,0 +1,18 @@
+use Rattle.std.proofs.Common.{Some, ap, subst}
+use Rattle.ttp_world.specs.declared.script.Source.TheVariants as source
+use Rattle.ttp_world.specs.Words.{words_of_payload}
+use Rattle.host_port.specs.Rings.{ControllerState, at_source}
+use Rattle.host_port.specs.Writing.{IsNewest}
+use Rattle.cluster_run.proofs.HandingOn.{number_written}
+use Rattle.cluster_run.proofs.ending.deliver.Goals as goal
+
+pub returns-in-Some-clause-number : goal.returns-in-Some-clause-number
+returns-in-Some-clause-number g c =
+    let got = c.in-Some.got in
+    let from = source.Node got.sender in
+    rw c.in-Some.is
+    (ap Some
+    (number_written c.args.end.now from (words_of_payload got.payload) c.deliver.result
+    (c.requires.room.room got c.in-Some.is)
+    (subst (λ (e : ControllerState). IsNewest (at_source e from) c.deliver.result) c.deliver.ensures.written
+    c.deliver.ensures.number)))

@@ -1,0 +1,5 @@
+use Rattle.cluster_run.proofs.HandingOn.{AreHandedOn}
+use Rattle.cluster_run.proofs.ending.end_part.Given as goal
+
+abbrev pub invariant-loop-j : goal.invariant-loop-j
+invariant-loop-j g l = AreHandedOn l.ports l.outcomes l.j l.fn.ends l.ends l.delivered

@@ -1,0 +1,5 @@
+use Rattle.cluster_run.proofs.LegalSlots.{legal-after}
+use Rattle.cluster_run.proofs.laws.legal_slots.Goals as goal
+
+pub returns : goal.returns
+returns c = legal-after

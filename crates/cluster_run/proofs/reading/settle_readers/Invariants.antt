@@ -1,0 +1,10 @@
+use Rattle.std.proofs.Common.{◌≡◌, map, length, vec_capacity}
+use Rattle.cluster_run.proofs.SettledReaders.{AreReadersSettled}
+use Rattle.cluster_run.proofs.reading.settle_readers.Given as goal
+
+abbrev pub invariant-loop-k : goal.invariant-loop-k
+invariant-loop-k l = record {
+  settled : AreReadersSettled l.ports l.k l.fn.readers.items l.readers.items l.fn.ends l.ends
+      (map (λ q. q.items) l.queues.items);
+  room : vec_capacity l.queues ≡ length l.ports;
+}

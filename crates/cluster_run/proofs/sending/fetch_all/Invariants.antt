@@ -1,0 +1,11 @@
+use Rattle.std.proofs.Common.{◌≡◌, ℕ, ◌<◌, ◌≤◌, length, get_or, None}
+use Rattle.cluster_run.specs.Sending.{Fetches}
+use Rattle.cluster_run.proofs.sending.fetch_all.Given as goal
+
+-- the first fetchers have made their attempt
+abbrev pub invariant-loop-k : goal.invariant-loop-k
+invariant-loop-k g l = record {
+  count : length l.fetchers.items ≡ length l.fn.fetchers.items;
+  done : (j : ℕ) → j < l.k → Fetches (get_or l.fn.fetchers.items j None) (get_or l.fetchers.items j None);
+  rest : (j : ℕ) → l.k ≤ j → get_or l.fetchers.items j None ≡ get_or l.fn.fetchers.items j None;
+}

@@ -1,0 +1,78 @@
+use Rattle.std.proofs.Common.{◌≡◌, ◌<◌, ◌∷◌, [], None, length, map, get_or, refl, sym, ap, ◌∙◌, subst}
+use Rattle.std.proofs.Common.{below_more, arith}
+use Rattle.std.specs.Prelude.{IsSome}
+use Rattle.std.proofs.lemmas.List.{get_or_append_left, get_or_push}
+use Rattle.std.proofs.lemmas.Option.{slice_get_read}
+use Rattle.ttp_world.specs.World.{is_loaded}
+use Rattle.host_port.proofs.ReaderLists.{set_back}
+use Rattle.host_port.specs.Rings.{PortState}
+use Rattle.controller.proofs.Parts.{each-of}
+use Rattle.cluster_run.specs.Ports.{ring_of, host_at}
+use Rattle.cluster_run.specs.Sending.{fetcher_lent}
+use Rattle.cluster_run.proofs.PortLists.{same-count, same_at, at_any}
+use Rattle.cluster_run.proofs.sending.lend_fetchers.Goals as goal
+
+pub lend_one-requires-clause-own : goal.lend_one-requires-clause-own
+lend_one-requires-clause-own c =
+    let outgoing = λ (p : PortState). p.outgoing in
+    let own = ap (λ xs. map ring_of xs) c.loop-k.invariant.ends ∙ c.requires.ports in
+    let count = same-count ring_of outgoing c.loop-k.ends c.args.ports.now own in
+    ap ring_of (sym c.index-ends-k.is)
+    ∙ same_at ring_of outgoing c.loop-k.ends c.args.ports.now c.loop-k.k c.index-ends-k.result
+    c.index-ports-k.result own
+    (omega (arith, count, c.loop-k-test.true)) c.index-ends-k.is c.index-ports-k.is
+
+pub lend_one-requires-clause-ring : goal.lend_one-requires-clause-ring
+lend_one-requires-clause-ring c = λ loaded.
+    let k = c.loop-k.k in
+    let ends = c.args.ends.now in
+    let count = same-count ring_of (λ (p : PortState). p.outgoing) ends c.args.ports.now c.requires.ports in
+    let within : k < length ends = omega (arith, count, c.loop-k-test.true) in
+    let seat = slice_get_read c.args.controllers.now (length c.args.controllers.now) k c.index-controllers-k.result refl
+    (omega (arith, c.requires.controllers, c.loop-k-test.true)) c.index-controllers-k.is in
+    let is = sym (c.is_loaded-loaded.ensures c.requires.rings.slot k (each-of c.requires.rings.begun k seat))
+    ∙ loaded in
+    subst IsSome
+    (at_any ends k None c.index-ends-k.result within
+    ∙ ap (λ xs. get_or xs k c.index-ends-k.result) (sym c.loop-k.invariant.ends))
+    (c.requires.rings.rings k within is)
+
+pub loop-k-preserved : goal.loop-k-preserved
+loop-k-preserved c =
+    let k = c.loop-k.k in
+    let ends = c.args.ends.now in
+    let old = c.loop-k.fetchers.items in
+    let new = c.in_ok-lend_one.field-0 in
+    let count = same-count ring_of (λ (p : PortState). p.outgoing) ends c.args.ports.now c.requires.ports in
+    let within : k < length ends = omega (arith, count, c.loop-k-test.true) in
+    let seat = slice_get_read c.args.controllers.now (length c.args.controllers.now) k c.index-controllers-k.result refl
+    (omega (arith, c.requires.controllers, c.loop-k-test.true)) c.index-controllers-k.is in
+    let end = ap (λ xs. get_or xs k c.index-ends-k.result) c.loop-k.invariant.ends
+    ∙ at_any ends k c.index-ends-k.result None within in
+    record {
+      ends =
+          set_back c.loop-k.ends k c.index-ends-k.result c.lend_one.new.end c.index-ends-k.is
+          (c.lend_one.ensures.end ∙ sym c.index-ends-k.is)
+          ∙ c.loop-k.invariant.ends;
+      count = omega (arith, c.push_reserved.ensures.len, c.loop-k.invariant.count);
+      room = c.push_reserved.ensures.capacity ∙ c.loop-k.invariant.room;
+      lent = λ s begun.
+          below_more
+          (λ j. get_or c.push_reserved.new.self.items j None ≡ fetcher_lent (is_loaded s j) (host_at ends j)) k
+          (λ j near.
+          ap (λ xs. get_or xs j None) c.push_reserved.ensures.items
+          ∙ get_or_append_left old (new ∷ []) None j (omega (arith, near, c.loop-k.invariant.count))
+          ∙ c.loop-k.invariant.lent s begun j near)
+          (ap (λ xs. get_or xs k None) c.push_reserved.ensures.items
+          ∙ get_or_push old new None k (omega (arith, c.loop-k.invariant.count))
+          ∙ c.in_ok-lend_one.ensures.fetcher
+          ∙ (λ i. fetcher_lent (c.is_loaded-loaded.ensures s k (each-of begun k seat) i) (end i)));
+    }
+
+pub returns-clause-fetchers : goal.returns-clause-fetchers
+returns-clause-fetchers c = λ s begun.
+    let count = same-count ring_of (λ (p : PortState). p.outgoing) c.args.ends.now c.args.ports.now c.requires.ports in
+    record {
+      count = omega (arith, count, c.loop-k.invariant.count, c.loop-k-test.false);
+      each = λ k near. c.loop-k.invariant.lent s begun k (omega (arith, near, count, c.loop-k-test.false));
+    }

@@ -1,0 +1,15 @@
+use Rattle.std.proofs.Common.{◌≡◌, ℕ, ◌<◌, length, get_or, None, vec_len, vec_capacity}
+use Rattle.ttp_world.specs.World.{BegunSlot, is_loaded}
+use Rattle.controller.specs.Passes.{HaveBegun}
+use Rattle.cluster_run.specs.Ports.{host_at}
+use Rattle.cluster_run.specs.Sending.{fetcher_lent}
+use Rattle.cluster_run.proofs.sending.lend_fetchers.Given as goal
+
+abbrev pub invariant-loop-k : goal.invariant-loop-k
+invariant-loop-k l = record {
+  ends : l.ends ≡ l.fn.ends;
+  count : vec_len l.fetchers ≡ l.k;
+  room : vec_capacity l.fetchers ≡ length l.ports;
+  lent : (s : BegunSlot) → HaveBegun s 0 l.controllers → (j : ℕ) → j < l.k
+      → get_or l.fetchers.items j None ≡ fetcher_lent (is_loaded s j) (host_at l.fn.ends j);
+}

@@ -1,0 +1,10 @@
+use Rattle.std.proofs.Common.{◌≡◌, ◌*◌, take, length}
+use Rattle.std.specs.Int.{w64, to_be_bytes}
+use Rattle.std.specs.List.{flat_map}
+use Rattle.cluster_run.proofs.sending.payload_of.Given as goal
+
+abbrev pub invariant-loop-i : goal.invariant-loop-i
+invariant-loop-i l = record {
+  size : length l.bytes ≡ 240;
+  front : take (8 * l.i) l.bytes ≡ flat_map (to_be_bytes w64) (take l.i l.words);
+}

@@ -1,0 +1,104 @@
+use Rattle.std.proofs.Common.{◌≡◌, ◌∷◌, ◌++◌, [], take, set, length, get_or, Some, None, sym, ap, ◌∙◌, subst, arith}
+use Rattle.std.proofs.Common.{All}
+use Rattle.std.specs.Prelude.{option_map, vec_len, vec_capacity}
+use Rattle.std.specs.List.{filter_map}
+use Rattle.std.proofs.lemmas.List.{with_items_is, length-set}
+use Rattle.std.proofs.lemmas.List.Elements.{All-push}
+use Rattle.ttp_world.specs.Script.{host_write, write_at}
+use Rattle.host_port.specs.Rings.{HostState}
+use Rattle.host_port.specs.Writing.{written, Takes, HasRoom}
+use Rattle.ttp_world.specs.Words.{words_of_payload}
+use Rattle.cluster_run.specs.Ports.{host_at}
+use Rattle.cluster_run.specs.Sending.{WritesBytes, write_line}
+use Rattle.cluster_run.proofs.PortLists.{at_any}
+use Rattle.cluster_run.proofs.Writes.{written_more, takes_after, room_after, takes-some, takes-within}
+use Rattle.cluster_run.proofs.Writes.{taken_some, taken_none, taken_room, written_along}
+use Rattle.cluster_run.proofs.sending.write_all.Goals as goal
+use Rattle.cluster_run.proofs.sending.write_all.Goals.{in-Some, in_default}
+
+pub write_one-requires-clause-takes : goal.write_one-requires-clause-takes
+write_one-requires-clause-takes g c κs within =
+    let w = host_write c.in-Some.write in
+    let place = get_or c.args.places.now c.loop-place.place-index 0 in
+    let may = c.requires.writes place w (sym c.write.ensures ∙ ap (option_map host_write) c.in-Some.is) in
+    let writes = filter_map (write_at c.args.script.now) (take c.loop-place.place-index c.args.places.now) in
+    subst (λ (e : HostState). Takes e (length w.payload))
+    (sym (ap (λ xs. host_at xs w.host) c.as_mut_slice.ensures.value ∙ c.loop-place.invariant.written.each w.host))
+    (takes_after w.host writes (host_at c.args.ends.items w.host) (length w.payload) may.takes)
+
+pub write_one-requires-clause-room : goal.write_one-requires-clause-room
+write_one-requires-clause-room g c κs within =
+    let w = host_write c.in-Some.write in
+    let places = c.args.places.now in
+    let i = c.loop-place.place-index in
+    let at = write_at c.args.script.now in
+    let place = get_or places i 0 in
+    let is : at place ≡ Some w = sym c.write.ensures ∙ ap (option_map host_write) c.in-Some.is in
+    let may = c.requires.writes place w is in
+    subst HasRoom
+    (sym (ap (λ xs. host_at xs w.host) c.as_mut_slice.ensures.value ∙ c.loop-place.invariant.written.each w.host))
+    (room_after w.host (filter_map at (take i places)) (host_at c.args.ends.items w.host) (length w.payload)
+    (length (filter_map at places)) may.takes may.room
+    (taken_room at places i place w c.loop-place-test.true (at_any places i 0 place c.loop-place-test.true) is))
+
+pub loop-place-preserved : goal.loop-place-preserved
+loop-place-preserved g c =
+    let places = c.args.places.now in
+    let i = c.loop-place.place-index in
+    let at = write_at c.args.script.now in
+    let place = get_or places i 0 in
+    let here = at_any places i 0 place c.loop-place-test.true in
+    let old = c.args.ends.items in
+    let ends = c.loop-place.ends.items in
+    let lines = c.loop-place.lines.items in
+    let so = c.loop-place.invariant.written in
+    elim c.match-write.branch [
+      | in-Some w ↦
+          let x = host_write w.in-Some.write in
+          let is : at place ≡ Some x = sym c.write.ensures ∙ ap (option_map host_write) w.in-Some.is in
+          let may = c.requires.writes place x is in
+          let there : Takes (host_at ends x.host) (length x.payload) =
+          subst (λ (e : HostState). Takes e (length x.payload)) (sym (so.each x.host))
+          (takes_after x.host (filter_map at (take i places)) (host_at old x.host) (length x.payload) may.takes) in
+          let value = w.as_mut_slice.ensures.value in
+          record {
+            written =
+                written_along (taken_some at places i place x c.loop-place-test.true here is)
+                (ap (λ v. v.items) w.ends-is
+                ∙ with_items_is c.loop-place.ends w.write_one.new.ends
+                (omega (
+                  arith,
+                  ap length w.write_one.ensures.ends,
+                  length-set w.as_mut_slice.result.now x.host
+                      (written (host_at w.as_mut_slice.result.now x.host) (words_of_payload x.payload)),
+                  w.as_mut_slice.ensures.len,
+                ))
+                ∙ w.write_one.ensures.ends
+                ∙ (λ j. set (value j) x.host (written (host_at (value j) x.host) (words_of_payload x.payload))))
+                (ap (λ v. v.items) w.lines-is
+                ∙ w.push_reserved.ensures.items
+                ∙ ap (λ l. lines ++ l ∷ []) (w.write_one.ensures.line ∙ ap (λ xs. write_line xs x.host 0) value))
+                (written_more old ends (filter_map at (take i places)) lines x so
+                (takes-within ends x.host (length x.payload) there)
+                (takes-some (host_at ends x.host) (length x.payload) there));
+            bytes =
+                subst (All WritesBytes) (sym (taken_some at places i place x c.loop-place-test.true here is))
+                (All-push WritesBytes (filter_map at (take i places)) x c.loop-place.invariant.bytes
+                w.write_one.ensures.bytes);
+            count = omega (arith, ap vec_len w.lines-is, w.push_reserved.ensures.len, c.loop-place.invariant.count);
+            room = ap vec_capacity w.lines-is ∙ w.push_reserved.ensures.capacity ∙ c.loop-place.invariant.room;
+          }
+      | in_default w ↦
+          let is : at place ≡ None = sym c.write.ensures ∙ ap (option_map host_write) w.in_default.is in
+          record {
+            written =
+                written_along (taken_none at places i place c.loop-place-test.true here is) (ap
+                (λ v. v.items) w.ends-is)
+                (ap (λ v. v.items) w.lines-is) so;
+            bytes =
+                subst (All WritesBytes) (sym (taken_none at places i place c.loop-place-test.true here is))
+                c.loop-place.invariant.bytes;
+            count = omega (arith, ap vec_len w.lines-is, c.loop-place.invariant.count);
+            room = ap vec_capacity w.lines-is ∙ c.loop-place.invariant.room;
+          }
+    ]

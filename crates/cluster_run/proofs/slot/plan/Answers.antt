@@ -1,0 +1,172 @@
+use Rattle.std.proofs.Common.{length, map, sym, ap, subst, ◌∙◌, arith}
+use Rattle.std.specs.Vec.{with_items}
+use Rattle.std.proofs.lemmas.List.{with_items_is}
+use Rattle.ttp_world.specs.World.{frames_in, world}
+use Rattle.ttp_world.proofs.Worlds.{length-world}
+use Rattle.controller.specs.Limits.{IsBegun, IsPlanned}
+use Rattle.controller.specs.Passes.{AreChosen, Carries, HaveBegun, HavePlanned, StandAfter}
+use Rattle.controller.specs.PlantWithin.{AreIncidents, AreSeats, most_ahead_in}
+use Rattle.host_port.specs.Rings.{PortState}
+use Rattle.cluster_run.specs.Choosing.{HaveBegunFor, HaveChosen, next_slot}
+use Rattle.cluster_run.specs.Ports.{rings_of}
+use Rattle.cluster_run.proofs.ChosenSizes.{chosen_sizes}
+use Rattle.cluster_run.proofs.slot.plan.Goals as goal
+
+pub choose-requires-clause-may : goal.choose-requires-clause-may
+choose-requires-clause-may g c κs within =
+    let list = c.args.list.now in
+    let script = c.args.script.now in
+    let nodes = c.args.nodes in
+    let numbers = c.requires.stands.numbers in
+    let at = c.requires.stands.at in
+    let s = next_slot list script numbers in
+    let begun = with_items_is nodes.controllers c.begin_all.new.controllers
+    (omega (arith, c.begin_all.ensures.count, c.deref_mut.ensures.len)) in
+    let stand = subst (StandAfter script (world list script numbers) 0) (sym c.deref_mut.ensures.value)
+    at.stands.seats in
+    let has_begun = c.begin_all.ensures.begin (world list script numbers) (length-world list script numbers ∙ at.count)
+    stand in
+    record {
+      numbers = numbers;
+      begun = record {
+        count = at.count;
+        begun = subst (HaveBegun s 0) (sym (c.deref-3.ensures.value ∙ begun)) has_begun;
+        written = at.stands.written;
+      };
+    }
+
+pub plan_all-requires-clause-seats : goal.plan_all-requires-clause-seats
+plan_all-requires-clause-seats g c =
+    let begun = with_items_is c.args.nodes.controllers c.begin_all.new.controllers
+    (omega (arith, c.begin_all.ensures.count, c.deref_mut.ensures.len)) in
+    subst (AreSeats c.args.list.now IsBegun (most_ahead_in c.args.slot) 0) (sym (c.deref_mut-5.ensures.value ∙ begun))
+    c.begin_all.ensures.seats
+
+pub plan_all-requires-clause-incidents : goal.plan_all-requires-clause-incidents
+plan_all-requires-clause-incidents g c =
+    let known = with_items_is c.args.nodes.incidents c.begin_all.new.incidents
+    (omega (arith, c.begin_all.ensures.room, c.deref_mut-2.ensures.len)) in
+    subst (AreIncidents c.args.script.now c.args.slot 0) (sym (c.deref-4.ensures.value ∙ known))
+    c.begin_all.ensures.incidents
+
+pub plan_all-requires-clause-chosen : goal.plan_all-requires-clause-chosen
+plan_all-requires-clause-chosen g c =
+    let list = c.args.list.now in
+    let script = c.args.script.now in
+    let nodes = c.args.nodes in
+    let numbers = c.requires.stands.numbers in
+    let at = c.requires.stands.at in
+    let s = next_slot list script numbers in
+    let begun = with_items_is nodes.controllers c.begin_all.new.controllers
+    (omega (arith, c.begin_all.ensures.count, c.deref_mut.ensures.len)) in
+    let stand = subst (StandAfter script (world list script numbers) 0) (sym c.deref_mut.ensures.value)
+    at.stands.seats in
+    let slots = length-world list script numbers ∙ at.count in
+    let has_begun = c.begin_all.ensures.begin (world list script numbers) slots stand in
+    let begun_for : HaveBegunFor list script c.args.slot numbers c.deref-3.result.now nodes.host_ends.items = record {
+      count = at.count;
+      begun = subst (HaveBegun s 0) (sym (c.deref-3.ensures.value ∙ begun)) has_begun;
+      written = at.stands.written;
+    } in
+    let told = with_items_is nodes.chosen c.choose.new.chosen
+    (omega (arith, c.in_ok-host_ends.ensures.chosen_count, c.deref_mut-4.ensures.len)) in
+    record {
+      history = world list script numbers;
+      slot_is = slots;
+      begun = subst (HaveBegun s 0) (sym (c.deref_mut-5.ensures.value ∙ begun)) has_begun;
+      chosen_are =
+          subst (AreChosen s) (sym (c.deref-5.ensures.value ∙ told))
+          (chosen_sizes list script numbers c.choose.new.chosen c.in_ok-host_ends.host_ends.items c.requires.script
+          (c.in_ok-host_ends.ensures.chooses numbers begun_for));
+    }
+
+pub returns-clause-nodes : goal.returns-clause-nodes
+returns-clause-nodes g c =
+    let list = c.args.list.now in
+    let nodes = c.args.nodes in
+    let begun = with_items_is nodes.controllers c.begin_all.new.controllers
+    (omega (arith, c.begin_all.ensures.count, c.deref_mut.ensures.len)) in
+    let planned = with_items_is (with_items nodes.controllers c.begin_all.new.controllers) c.plan_all.new.controllers
+    (omega (arith, c.plan_all.ensures.count, c.deref_mut-5.ensures.len)) in
+    let known = with_items_is nodes.incidents c.begin_all.new.incidents
+    (omega (arith, c.begin_all.ensures.room, c.deref_mut-2.ensures.len)) in
+    let told = with_items_is nodes.chosen c.choose.new.chosen
+    (omega (arith, c.in_ok-host_ends.ensures.chosen_count, c.deref_mut-4.ensures.len)) in
+    let ends = with_items_is nodes.controller_ends c.lend_readers.new.ends
+    (omega (arith, ap length c.lend_readers.ensures.ends, c.deref_mut-3.ensures.len))
+    ∙ c.lend_readers.ensures.ends ∙ c.deref_mut-3.ensures.value in
+    record {
+      controllers = omega (
+        arith,
+        ap length planned,
+        c.plan_all.ensures.count,
+        ap length (c.deref_mut-5.ensures.value ∙ begun),
+        c.begin_all.ensures.count,
+        ap length c.deref_mut.ensures.value,
+        c.requires.nodes.controllers,
+      );
+      seats = subst (AreSeats list IsPlanned (most_ahead_in c.args.slot) 0) (sym planned) c.plan_all.ensures.seats;
+      incidents_count = omega (
+        arith,
+        ap length known,
+        c.begin_all.ensures.room,
+        ap length c.deref_mut-2.ensures.value,
+        c.requires.nodes.incidents,
+      );
+      incidents = subst (AreIncidents c.args.script.now c.args.slot 0) (sym known) c.begin_all.ensures.incidents;
+      chosen = omega (
+        arith,
+        ap length told,
+        c.in_ok-host_ends.ensures.chosen_count,
+        ap length c.deref_mut-4.ensures.value,
+        c.requires.nodes.chosen,
+      );
+      outcomes = c.requires.nodes.outcomes;
+      delivered = c.requires.nodes.delivered;
+      ports_count = c.requires.nodes.ports_count;
+      ports = record {
+        nodes = c.requires.nodes.ports.nodes;
+        buffers = c.requires.nodes.ports.buffers;
+        controllers = ap (map rings_of) ends ∙ c.requires.nodes.ports.controllers;
+        hosts =
+            c.in_ok-host_ends.ensures.ports
+            ∙ ap (map (λ (p : PortState). p.outgoing)) c.deref-2.ensures.value;
+      };
+      slot_is = c.plan_all.ensures.slot;
+      medium = c.plan_all.ensures.medium;
+    }
+
+pub returns-clause-plans : goal.returns-clause-plans
+returns-clause-plans g c = λ numbers at.
+    let list = c.args.list.now in
+    let script = c.args.script.now in
+    let nodes = c.args.nodes in
+    let s = next_slot list script numbers in
+    let begun = with_items_is nodes.controllers c.begin_all.new.controllers
+    (omega (arith, c.begin_all.ensures.count, c.deref_mut.ensures.len)) in
+    let stand = subst (StandAfter script (world list script numbers) 0) (sym c.deref_mut.ensures.value)
+    at.stands.seats in
+    let slots = length-world list script numbers ∙ at.count in
+    let has_begun = c.begin_all.ensures.begin (world list script numbers) slots stand in
+    let begun_for : HaveBegunFor list script c.args.slot numbers c.deref-3.result.now nodes.host_ends.items = record {
+      count = at.count;
+      begun = subst (HaveBegun s 0) (sym (c.deref-3.ensures.value ∙ begun)) has_begun;
+      written = at.stands.written;
+    } in
+    let told = with_items_is nodes.chosen c.choose.new.chosen
+    (omega (arith, c.in_ok-host_ends.ensures.chosen_count, c.deref_mut-4.ensures.len)) in
+    let planned = with_items_is (with_items nodes.controllers c.begin_all.new.controllers) c.plan_all.new.controllers
+    (omega (arith, c.plan_all.ensures.count, c.deref_mut-5.ensures.len)) in
+    let begun_now = subst (HaveBegun s 0) (sym (c.deref_mut-5.ensures.value ∙ begun)) has_begun in
+    record {
+      chosen =
+          subst (λ xs. HaveChosen list script numbers xs c.in_ok-host_ends.host_ends.items) (sym told)
+          (c.in_ok-host_ends.ensures.chooses numbers begun_for);
+      planned =
+          subst (HavePlanned s (with_items nodes.chosen c.choose.new.chosen).items 0) (sym planned)
+          (subst (λ xs. HavePlanned s xs 0 c.plan_all.new.controllers) c.deref-5.ensures.value
+          (c.plan_all.ensures.plan (world list script numbers) begun_now));
+      carries =
+          subst (λ xs. Carries s (frames_in s xs) c.plan_all.new.medium) c.deref-5.ensures.value
+          (c.plan_all.ensures.carries (world list script numbers) slots begun_now);
+    }

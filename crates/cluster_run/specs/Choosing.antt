@@ -1,0 +1,58 @@
+-- Which messages the frames of a slot carry: each node whose frame carries one fetched it from its host.
+use Rattle.std.specs.Prelude.{◌≡◌, ℕ, suc, ◌<◌, true, List, ◌++◌, length, Option, Some, None, All, IsTrue}
+use Rattle.std.specs.Prelude.{if◌then◌else◌}
+use Rattle.ttp_world.specs.declared.medl.Medl.{Medl}
+use Rattle.ttp_world.specs.declared.node.Chosen.{Chosen}
+use Rattle.ttp_world.specs.declared.script.Script.{Script}
+use Rattle.ttp_world.specs.Legal.{is_legal_message}
+use Rattle.ttp_world.specs.Outgoing.{messages_before, message_chosen}
+use Rattle.ttp_world.specs.World.{BegunSlot, Numbers, slot_after, world, is_loaded, chosen_of}
+use Rattle.trace_text.specs.HostLines.{AreBytes}
+use Rattle.controller.specs.Passes.{HaveBegun}
+use Rattle.controller.specs.Turn.{Seat}
+use Rattle.host_port.specs.Rings.{HostState, message_shape}
+use Rattle.cluster_run.specs.Ports.{host_at}
+use Rattle.cluster_run.specs.Rings.{IsRingOf, words_written, pairs_sent, pair_sent}
+use Rattle.cluster_run.specs.Standing.{HoldsWritten}
+
+-- what hosts write before a slot of this number is bytes
+abbrev pub AreBytesBefore : Medl → Script → ℕ → Type 0
+AreBytesBefore list script slot = (k : ℕ) → All AreBytes (messages_before list script k slot)
+
+-- the slot after the world of some numbers
+abbrev pub next_slot : Medl → Script → Numbers → BegunSlot
+next_slot list script numbers = slot_after list script (world list script numbers)
+
+-- the controllers have begun the slot of this number, which is the one after the world of these numbers, and hosts have
+-- written up to it
+pub record HaveBegunFor (list : Medl) (script : Script) (slot : ℕ) (numbers : Numbers) (seats : List Seat)
+    (ends : List HostState) : Type 0 where
+  pub count : length numbers ≡ slot
+  pub begun : HaveBegun (next_slot list script numbers) 0 seats
+  pub written : (k : ℕ) → k < length list.slots → HoldsWritten list script numbers ends k
+
+-- so it is for some numbers
+pub record MayChoose (list : Medl) (script : Script) (slot : ℕ) (seats : List Seat) (ends : List HostState) : Type 0
+  where
+    pub numbers : Numbers
+    pub begun : HaveBegunFor list script slot numbers seats ends
+
+-- the number of the message in node k's frame, if it carries one
+abbrev pub number_sent : BegunSlot → List Chosen → ℕ → Option ℕ
+number_sent s chosen k = if is_loaded s k then Some (chosen_of chosen k).number else None
+
+-- what node k's host wrote up to the end of the slot is in its ring, and what its frame carries was settled there
+abbrev pub HoldsSent : Medl → Script → Numbers → Option ℕ → List HostState → ℕ → Type 0
+HoldsSent list script numbers sent ends k =
+    IsRingOf (message_shape list k) (words_written list script k (suc (length numbers)))
+    (pairs_sent list script numbers k ++ pair_sent list script (length numbers) k sent) (host_at ends k)
+
+-- each frame of the slot after the world of some numbers that carries a message carries one of its host, which is legal
+pub record HaveChosen (list : Medl) (script : Script) (numbers : Numbers) (chosen : List Chosen)
+    (ends : List HostState) : Type 0 where
+  pub messages : (k : ℕ) → k < length list.slots → is_loaded (next_slot list script numbers) k ≡ true
+      → chosen_of chosen k ≡ message_chosen list script (length numbers) k (Some (chosen_of chosen k).number)
+  pub legal : (k : ℕ) → k < length list.slots → IsTrue (is_legal_message list script (length numbers) k
+      (number_sent (next_slot list script numbers) chosen k))
+  pub written : (k : ℕ) → k < length list.slots
+      → HoldsSent list script numbers (number_sent (next_slot list script numbers) chosen k) ends k

@@ -1,0 +1,13 @@
+pub mod Nodes
+pub mod Ports
+pub mod Rings
+pub mod NextSlots
+pub mod Standing
+pub mod Sending
+pub mod Choosing
+pub mod Ending
+pub mod Reading
+pub mod Report
+pub mod ReportText
+pub mod Slots
+pub mod Clusters

@@ -1,0 +1,25 @@
+-- The nodes of a cluster between two slots, whatever they stand for.
+use Rattle.std.specs.Prelude.{◌≡◌, ℕ, length}
+use Rattle.ttp_world.specs.declared.medl.Medl.{Medl}
+use Rattle.controller.specs.PlantStands.{AllStandAtFirst}
+use Rattle.controller.specs.PlantWithin.{IsEnded, AreSeats, most_ahead}
+use Rattle.cluster_run.specs.declared.nodes.Nodes.{Nodes}
+use Rattle.cluster_run.specs.Ports.{ArePortsOf, AreNewPorts}
+
+-- There is a place for each node of the list in all that slots share. Each controller is its node's, with its clock
+-- within reach, and each end is of its node's port.
+pub record AreNodesOf (list : Medl) (slot : ℕ) (nodes : Nodes) : Type 0 where
+  pub controllers : length nodes.controllers.items ≡ length list.slots
+  pub seats : AreSeats list IsEnded (most_ahead slot) 0 nodes.controllers.items
+  pub incidents : length nodes.incidents.items ≡ length list.slots
+  pub chosen : length nodes.chosen.items ≡ length list.slots
+  pub outcomes : length nodes.outcomes.items ≡ length list.slots
+  pub delivered : length nodes.delivered.items ≡ length list.slots
+  pub ports_count : length nodes.ports.items ≡ length list.slots
+  pub ports : ArePortsOf list nodes.ports.items nodes.controller_ends.items nodes.host_ends.items
+
+-- those before the first slot: no controller has an entry, and no ring a message but the zeros
+pub record AreNewNodes (list : Medl) (nodes : Nodes) : Type 0 where
+  pub are : AreNodesOf list 0 nodes
+  pub stand : AllStandAtFirst nodes.controllers.items
+  pub rings : AreNewPorts list (length list.slots) nodes.controller_ends.items nodes.host_ends.items

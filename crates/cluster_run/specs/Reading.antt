@@ -1,0 +1,140 @@
+-- What hosts read of what came to their nodes, and the lines of it.
+use Rattle.std.specs.Prelude.{◌≡◌, ◌≢◌, ℕ, zero, suc, ◌<◌, ◌≤◌, ◌==◌, Bool, List, [], map, filter, length}
+use Rattle.std.specs.Prelude.{reverse, get_or, slice_get, Option, Some, None, IsSomeAnd, is_some}
+use Rattle.std.specs.List.{list_any}
+use Rattle.std.specs.Option.{ForSome}
+use Rattle.nbw_ring.specs.Numbers.{limit}
+use Rattle.nbw_ring.specs.States.{ReaderState}
+use Rattle.ttp_world.specs.declared.host_lines.HostRead.{HostRead}
+use Rattle.ttp_world.specs.declared.script.Source.{Source}
+use Rattle.host_port.specs.declared.report.ReadLine.{ReadLine}
+use Rattle.host_port.specs.Reading.{ReadersState, AreReadersOf, Reads, reads_from, lent, IsSettled, settled, got_of}
+use Rattle.host_port.specs.Reading.{pairs_from}
+use Rattle.host_port.specs.Rings.{PortState, ControllerState, at_source}
+use Rattle.cluster_run.specs.Ports.{end_at}
+
+-- Readers.
+
+-- what there is for node k's host, if it reads in the slot
+abbrev pub readers_at : List (Option ReadersState) → ℕ → Option ReadersState
+readers_at readers k = get_or readers k None
+
+-- the reader of a source
+abbrev pub reader_in : Option ReadersState → Source → Option ReaderState
+reader_in None from = None
+reader_in (Some r) from = at_source r.readers from
+
+abbrev pub reader_at : List (Option ReadersState) → ℕ → Source → Option ReaderState
+reader_at readers k from = reader_in (readers_at readers k) from
+
+-- the sources of the reads that got a message
+abbrev pub calls_in : Option ReadersState → List Source
+calls_in None = []
+calls_in (Some r) = r.calls
+
+-- there is a place for each port, and what is there reads the rings of that port
+pub record AreReadersOfAll (ports : List PortState) (readers : List (Option ReadersState)) : Type 0 where
+  pub count : length readers ≡ length ports
+  pub own : (k : ℕ) (port : PortState) → slice_get ports k ≡ Some port
+      → ForSome (readers_at readers k) (AreReadersOf port)
+
+-- Readers are lent.
+
+-- node k's host reads
+abbrev pub is_host : ℕ → HostRead → Bool
+is_host k read = read.host == k
+
+abbrev pub has_reads : List HostRead → ℕ → Bool
+has_reads reads k = list_any (is_host k) reads
+
+-- new readers of the rings of this end, each with room for the reads of its source
+pub record AreLentTo (reads : List HostRead) (k : ℕ) (end : ControllerState) (r : ReadersState) : Type 0 where
+  pub readers : (from : Source) → at_source r.readers from ≡ lent (at_source end from) (reads_from reads k from)
+  pub calls : r.calls ≡ []
+
+-- those of each host that reads, and of no other
+pub record AreReadersLent (reads : List HostRead) (ends : List ControllerState) (readers : List (Option ReadersState))
+    : Type 0 where
+  pub there : (k : ℕ) → k < length ends → is_some (readers_at readers k) ≡ has_reads reads k
+  pub each : (k : ℕ) → k < length ends → ForSome (readers_at readers k) (AreLentTo reads k (end_at ends k))
+
+-- Hosts read.
+
+-- so many reads of a reader, one after another
+abbrev pub ReadsMany : ℕ → ℕ → Option ReaderState → Option ReaderState → Type 0
+ReadsMany buffers zero old new = new ≡ old
+ReadsMany buffers (suc n) old new =
+    (mid : Option ReaderState) × ReadsMany buffers n old mid × Reads buffers mid new
+
+-- with two buffers or more, what was newest when the reader was lent is intact still at its newest load
+abbrev pub IsClear : ℕ → Option ReaderState → Option ReaderState → Type 0
+IsClear buffers (Some old) (Some new) = buffers ≢ 1 → new.seen < limit old.ring.shape old.floor
+IsClear buffers _ _ = Unit {0}
+
+-- the sources that node k's host reads, in the order of the script
+abbrev pub sources_of : List HostRead → ℕ → List Source
+sources_of reads k = map (λ read. read.source) (filter (is_host k) reads)
+
+-- Each reader has made the reads of its host and source. Where all of a host's readers are clear each of its reads got
+-- a message.
+pub record HaveRead (buffers : ℕ) (reads : List HostRead) (old new : List (Option ReadersState)) : Type 0 where
+  pub each : (k : ℕ) (from : Source)
+      → ReadsMany buffers (reads_from reads k from) (reader_at old k from) (reader_at new k from)
+  pub calls : (k : ℕ) → ((from : Source) → IsClear buffers (reader_at old k from) (reader_at new k from))
+      → calls_in (readers_at new k) ≡ sources_of reads k
+
+-- no host has read yet, and each has a reader of what it reads, with room for all its reads of it
+pub record MayReadAll (reads : List HostRead) (readers : List (Option ReadersState)) : Type 0 where
+  pub calls : (k : ℕ) → calls_in (readers_at readers k) ≡ []
+  pub room : (k : ℕ) (from : Source) → 1 ≤ reads_from reads k from
+      → IsSomeAnd (reader_at readers k from) (λ r. reads_from reads k from ≤ r.spare)
+
+-- Readers are settled.
+
+-- what each reader of a host got is its end's messages, and it is settled there
+pub record SettlesReadsOf (old : ControllerState) (readers : Option ReadersState) (new : ControllerState) : Type 0 where
+  pub whole : (from : Source) → IsSettled (at_source old from) (reader_in readers from)
+  pub settled_is : (from : Source) → at_source new from ≡ settled (at_source old from) (reader_in readers from)
+
+-- so it is of all hosts
+pub record SettlesReads (old : List ControllerState) (readers : List (Option ReadersState)) (new : List ControllerState)
+    : Type 0 where
+  pub each : (k : ℕ) → k < length readers → SettlesReadsOf (end_at old k) (readers_at readers k) (end_at new k)
+
+-- each read got a message
+abbrev pub AllGot : List HostRead → List (Option ReadersState) → Type 0
+AllGot reads readers = (k : ℕ) → calls_in (readers_at readers k) ≡ sources_of reads k
+
+-- Lines.
+
+-- the read that a line is of
+abbrev pub read_of : ReadLine → HostRead
+read_of line = record { host = line.host; source = line.source }
+
+abbrev pub lines_by : ℕ → List ReadLine → List ReadLine
+lines_by k lines = filter (λ line. line.host == k) lines
+
+-- the lines of the readers of node k's host: one for each read that got a message, with what its reader got
+pub record AreLinesBy (k : ℕ) (r : Option ReadersState) (lines : List ReadLine) : Type 0 where
+  pub reads : map read_of lines ≡ map (λ from. record { host = k; source = from }) (calls_in r)
+  pub pairs : (from : Source) → pairs_from from lines ≡ got_of (reader_in r from)
+
+-- the lines of all hosts, a line for each read
+pub record AreLinesOf (reads : List HostRead) (readers : List (Option ReadersState)) (lines : List ReadLine) : Type 0
+  where
+    pub reads_are : map read_of lines ≡ reads
+    pub pairs : (k : ℕ) (from : Source) → pairs_from from (lines_by k lines) ≡ got_of (reader_at readers k from)
+
+-- The lines of hosts wait in queues, the last one of each first.
+
+abbrev pub queue_of : List (List ReadLine) → ℕ → List ReadLine
+queue_of queues k = get_or queues k []
+
+-- those that readers leave
+abbrev pub AreQueuesOf : List (Option ReadersState) → List (List ReadLine) → Type 0
+AreQueuesOf readers queues =
+    (k : ℕ) → k < length readers → AreLinesBy k (readers_at readers k) (reverse (queue_of queues k))
+
+-- there is a line for each of these reads
+abbrev pub AreDue : List HostRead → List (List ReadLine) → Type 0
+AreDue reads queues = (k : ℕ) → map read_of (reverse (queue_of queues k)) ≡ filter (is_host k) reads

@@ -1,0 +1,85 @@
+-- What a slot makes of a cluster.
+use Rattle.std.specs.Prelude.{◌≡◌, ℕ, ◌<◌, ◌∷◌, length}
+use Rattle.ttp_world.specs.declared.medl.Medl.{Medl}
+use Rattle.ttp_world.specs.declared.script.Script.{Script}
+use Rattle.ttp_world.specs.declared.script.Source.{Source}
+use Rattle.ttp_world.specs.Legal.{IsLegal}
+use Rattle.ttp_world.specs.World.{Numbers, world, frames_in}
+use Rattle.controller.specs.Limits.{IsPlanned}
+use Rattle.controller.specs.Passes.{HavePlanned, Carries, HaveEnded}
+use Rattle.controller.specs.PlantWithin.{AreSeats, AreIncidents, IsFromWithin, most_ahead_in}
+use Rattle.host_port.specs.declared.report.SlotReport.{SlotReport}
+use Rattle.cluster_run.specs.declared.nodes.Nodes.{Nodes}
+use Rattle.cluster_run.specs.Choosing.{HaveChosen, next_slot}
+use Rattle.cluster_run.specs.Ports.{ArePortsOf}
+use Rattle.cluster_run.specs.Report.{numbers_in, ShowsNext}
+use Rattle.cluster_run.specs.Standing.{ClusterView, ClusterStandsFor, Desks, DesksStandFor, HoldsRead}
+
+-- Before the slot of this number.
+
+-- the desks stand for the numbers of as many slots
+pub record StandsAt (list : Medl) (script : Script) (slot : ℕ) (desks : Desks) (numbers : Numbers) : Type 0 where
+  pub count : length numbers ≡ slot
+  pub stands : DesksStandFor list script desks numbers
+
+-- so they do for some
+pub record StandsForSome (list : Medl) (script : Script) (slot : ℕ) (desks : Desks) : Type 0 where
+  pub numbers : Numbers
+  pub at : StandsAt list script slot desks numbers
+
+-- Once the slot is planned.
+
+-- There is a place for each node, each controller is its node's and has planned, and what is on the medium was sent by
+-- them.
+pub record ArePlannedNodes (list : Medl) (script : Script) (slot : ℕ) (nodes : Nodes) : Type 0 where
+  pub controllers : length nodes.controllers.items ≡ length list.slots
+  pub seats : AreSeats list IsPlanned (most_ahead_in slot) 0 nodes.controllers.items
+  pub incidents_count : length nodes.incidents.items ≡ length list.slots
+  pub incidents : AreIncidents script slot 0 nodes.incidents.items
+  pub chosen : length nodes.chosen.items ≡ length list.slots
+  pub outcomes : length nodes.outcomes.items ≡ length list.slots
+  pub delivered : length nodes.delivered.items ≡ length list.slots
+  pub ports_count : length nodes.ports.items ≡ length list.slots
+  pub ports : ArePortsOf list nodes.ports.items nodes.controller_ends.items nodes.host_ends.items
+  pub slot_is : nodes.medium.slot ≡ slot
+  pub medium : IsFromWithin nodes.medium script (most_ahead_in slot)
+
+-- the slot is the one after the world of these numbers
+pub record HavePlannedSlot (list : Medl) (script : Script) (numbers : Numbers) (nodes : Nodes) : Type 0 where
+  pub chosen : HaveChosen list script numbers nodes.chosen.items nodes.host_ends.items
+  pub planned : HavePlanned (next_slot list script numbers) nodes.chosen.items 0 nodes.controllers.items
+  pub carries : Carries (next_slot list script numbers) (frames_in (next_slot list script numbers) nodes.chosen.items)
+      nodes.medium
+
+-- and the rings that hosts read are those of the world of some
+pub record MayEndSlot (list : Medl) (script : Script) (slot : ℕ) (nodes : Nodes) : Type 0 where
+  pub numbers : Numbers
+  pub count : length numbers ≡ slot
+  pub planned : HavePlannedSlot list script numbers nodes
+  pub read : (k : ℕ) → k < length list.slots → (from : Source)
+      → HoldsRead list script numbers nodes.controller_ends.items k from
+
+-- Once it has ended.
+
+abbrev pub HaveEndedFor : Medl → Script → Numbers → Nodes → Nodes → Type 0
+HaveEndedFor list script numbers old new =
+    HaveEnded list script (world list script numbers) old.chosen.items 0 new.controllers.items new.outcomes.items
+
+-- The desks stand for these numbers and those in the report, which shows the world's slot for them, and where the older
+-- ones were legal, all are.
+pub record IsNextOf (list : Medl) (script : Script) (numbers : Numbers) (desks : Desks) (report : SlotReport) : Type 0
+  where
+    pub stands : DesksStandFor list script desks (numbers_in report ∷ numbers)
+    pub shows : ShowsNext list script numbers report
+    pub legal : IsLegal list script numbers → IsLegal list script (numbers_in report ∷ numbers)
+
+-- Whatever numbers it stood for, it stands for these and those in its report, which shows the world's slot for
+-- them, and where the older ones were legal, all are.
+
+pub record IsNext (new : ClusterView) (numbers : Numbers) : Type 0 where
+  pub stands : ClusterStandsFor new (numbers_in new.report ∷ numbers)
+  pub shows : ShowsNext new.list new.script numbers new.report
+  pub legal : IsLegal new.list new.script numbers → IsLegal new.list new.script (numbers_in new.report ∷ numbers)
+
+abbrev pub Steps : ClusterView → ClusterView → Type 0
+Steps old new = (numbers : Numbers) → ClusterStandsFor old numbers → IsNext new numbers

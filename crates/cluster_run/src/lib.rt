@@ -1,0 +1,27 @@
+//! A cluster: the controllers of all nodes, and beside each its host, which exchange messages over the
+//! rings of the node's port.
+//!
+//! A [`Cluster`] *stands for* message numbers: its controllers stand for the diaries of the world with
+//! these numbers, each ring holds the world's messages of its node and source, and the pairs that are
+//! settled in a ring are those that the numbers name for it. A new one stands for no numbers. A slot
+//! takes it from whatever numbers it stood for to these and those in the slot's report, which shows the
+//! world's slot for them; and where the older ones were legal, all are.
+//!
+//! In a slot hosts write beside their controllers' fetches, and the controllers end the slot, in two
+//! halves, beside the reads of hosts. Threads are started only where both sides have work. Whatever the
+//! threads do, the contract of a slot is the same. It does not say that a slot ends: with one buffer a
+//! host's read may wait.
+#![tactic(auto)]
+
+mod choosing;
+mod cluster;
+mod ending;
+pub mod laws;
+mod making;
+mod nodes;
+mod reading;
+mod reporting;
+mod sending;
+mod slot;
+
+pub use cluster::Cluster;

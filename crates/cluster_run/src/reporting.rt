@@ -1,0 +1,54 @@
+//! The lines of nodes.
+ghost use Rattle.std.specs.Prelude.{◌≡◌, List as Items, length, map, IfOk};
+ghost use Rattle.ttp_base.specs.NodeSet.{below};
+ghost use Rattle.ttp_world.specs.declared.medl.Medl.{Medl};
+ghost use Rattle.ttp_world.specs.declared.script.Script.{Script};
+ghost use Rattle.ttp_world.specs.Diary.{History};
+ghost use Rattle.cluster_run.specs.Report.{message_named, node_shown, HaveEndedSlot};
+
+use controller::Controller;
+use host_port::NodeLine;
+use std::alloc::Global;
+use ttp_base::{List, Memory};
+use ttp_world::{Entry, NodeState};
+
+// The message that a node's line names: the one in its frame, or the one that was delivered.
+fn message_shown(entry: &Entry, delivered: Option<u64>) -> Option<u64>
+    ensures { result ≡ message_named entry.now delivered }
+{
+    match entry {
+        Entry::Sent { message } => *message,
+        Entry::Judged { .. } => delivered,
+        _ => None,
+    }
+}
+
+// The line of a node in this state.
+fn node_line(state: NodeState, delivered: Option<u64>) -> NodeLine
+    ensures state { result.state ≡ state }
+    ensures message { result.message ≡ message_named state.entry delivered }
+{
+    NodeLine {
+        state,
+        message: message_shown(&state.entry, delivered),
+    }
+}
+
+/// The lines of all nodes after a slot, by the numbers of what they delivered in it.
+pub(crate) fn node_lines(
+    alloc: Global,
+    controllers: &[Controller],
+    delivered: &[Option<u64>],
+) -> Result<List<NodeLine>, Memory>
+    requires { length delivered.now ≡ length controllers.now }
+    ensures { IfOk result (λ lines. (list : Medl) (script : Script) (row : Items Entry) (before : History)
+        → HaveEndedSlot list script row before controllers.now delivered.now
+        → lines ≡ map (node_shown list script row before) (below (length controllers.now))) }
+{
+    let mut lines = Vec::with_capacity(alloc, controllers.len())?;
+    for k in 0..controllers.len() {
+        let state = controllers[k].state();
+        lines.push_reserved(node_line(state, delivered[k]));
+    }
+    Ok(List::from_vec(lines))
+}

@@ -1,0 +1,317 @@
+//! A slot of all nodes.
+ghost use Rattle.std.specs.Prelude.{◌≡◌, ◌+◌, ◌<◌, ℕ, [], All, IfOk, OnOk};
+ghost use Rattle.ttp_world.specs.Medl.{IsValid};
+ghost use Rattle.ttp_world.specs.Script.{IsValidScript, reads_in, writes_in};
+ghost use Rattle.ttp_world.specs.World.{Numbers};
+ghost use Rattle.cluster_run.specs.Choosing.{AreBytesBefore};
+ghost use Rattle.cluster_run.specs.Ending.{IsPartReady, HasPartEnded, HaveHandedOn};
+ghost use Rattle.cluster_run.specs.Nodes.{AreNodesOf};
+ghost use Rattle.cluster_run.specs.Reading.{AreReadersOfAll, AreReadersLent, MayReadAll, HaveRead};
+ghost use Rattle.cluster_run.specs.Report.{writes_shown};
+ghost use Rattle.cluster_run.specs.Slots.{StandsAt, StandsForSome, ArePlannedNodes, HavePlannedSlot, MayEndSlot};
+ghost use Rattle.cluster_run.specs.Slots.{HaveEndedFor, IsNextOf};
+ghost use Rattle.cluster_run.specs.Standing.{desks_of};
+
+use crate::choosing::choose;
+use crate::ending::{end_both, end_half};
+use crate::nodes::Nodes;
+use crate::reading::{lend_readers, read_all, read_lines};
+use crate::reporting::node_lines;
+use controller::{Controller, Outcome, begin_all, plan_all};
+use host_port::{ControllerEnd, HostReaders, Port, SlotReport, WriteLine};
+use medium::Medium;
+use std::alloc::Global;
+use std::sync::Wait;
+use std::thread::{Threads, join_mut};
+use ttp_base::{Gate, List, Memory};
+use ttp_world::{HostRead, Incidents, Medl, Script};
+
+// The two halves of the controllers end the slot, each in a thread.
+fn end_halves<R: Threads + Sync, G: Gate>(
+    rt: &R,
+    controllers: &mut [Controller],
+    outcomes: &mut [Outcome],
+    ends: &mut [ControllerEnd],
+    delivered: &mut [Option<u64>],
+    incidents: &[Incidents],
+    ports: &[Port],
+    medium: &Medium,
+    list: &Medl,
+    script: &Script,
+    gate: &G,
+)
+    requires { IsPartReady list.now script.now medium.now 0 controllers.old outcomes.old ends.old delivered.old
+        incidents.now ports.now }
+    ensures { HasPartEnded list.now script.now medium.now 0 controllers.old controllers.new outcomes.old outcomes.new
+        ends.old ends.new delivered.new ports.now }
+{
+    let half = controllers.len() / 2;
+    let (front, back) = controllers.split_at_mut(half);
+    let (front_outcomes, back_outcomes) = outcomes.split_at_mut(half);
+    let (front_ends, back_ends) = ends.split_at_mut(half);
+    let (front_delivered, back_delivered) = delivered.split_at_mut(half);
+    let (front_incidents, back_incidents) = incidents.split_at(half);
+    let (front_ports, back_ports) = ports.split_at(half);
+    end_both(
+        rt,
+        front,
+        front_outcomes,
+        front_ends,
+        front_delivered,
+        front_incidents,
+        front_ports,
+        back,
+        back_outcomes,
+        back_ends,
+        back_delivered,
+        back_incidents,
+        back_ports,
+        medium,
+        list,
+        script,
+        half as u8,
+        gate,
+    );
+}
+
+// The controllers end the slot beside the reads of hosts. Threads are started only where a host reads.
+fn end_and_read<R: Threads + Wait + Sync, G: Gate>(
+    rt: &R,
+    controllers: &mut [Controller],
+    outcomes: &mut [Outcome],
+    ends: &mut [ControllerEnd],
+    delivered: &mut [Option<u64>],
+    readers: &mut [Option<HostReaders>],
+    incidents: &[Incidents],
+    ports: &[Port],
+    medium: &Medium,
+    list: &Medl,
+    script: &Script,
+    reads: &[HostRead],
+    gate: &G,
+)
+    requires ready { IsPartReady list.now script.now medium.now 0 controllers.old outcomes.old ends.old delivered.old
+        incidents.now ports.now }
+    requires own { AreReadersOfAll ports.now readers.old }
+    requires left { MayReadAll reads.now readers.old }
+    ensures ended { HasPartEnded list.now script.now medium.now 0 controllers.old controllers.new outcomes.old
+        outcomes.new ends.old ends.new delivered.new ports.now }
+    ensures own { AreReadersOfAll ports.now readers.new }
+    ensures reads { (buffers : ℕ) → All (λ port. port.buffers ≡ buffers) ports.now
+        → HaveRead buffers reads.now readers.old readers.new }
+{
+    if reads.is_empty() {
+        end_half(
+            controllers,
+            outcomes,
+            ends,
+            delivered,
+            incidents,
+            ports,
+            medium,
+            list,
+            script,
+            0,
+            gate,
+        );
+        return;
+    }
+    let mut end = ||
+        requires { IsPartReady list.now script.now medium.now 0 controllers.now outcomes.now ends.now delivered.now
+            incidents.now ports.now }
+        ensures { HasPartEnded list.entry.now script.entry.now medium.entry.now 0 controllers.entry.now
+            controllers.exit.now outcomes.entry.now outcomes.exit.now ends.entry.now ends.exit.now
+            delivered.exit.now ports.entry.now }
+    {
+        end_halves(
+            rt,
+            controllers,
+            outcomes,
+            ends,
+            delivered,
+            incidents,
+            ports,
+            medium,
+            list,
+            script,
+            gate,
+        )
+    };
+    let mut read = ||
+        requires { AreReadersOfAll ports.now readers.now × MayReadAll reads.now readers.now }
+        ensures { AreReadersOfAll ports.entry.now readers.exit.now
+            × ((buffers : ℕ) → All (λ port. port.buffers ≡ buffers) ports.entry.now
+            → HaveRead buffers reads.entry.now readers.entry.now readers.exit.now) }
+    { read_all(rt, ports, readers, reads, gate) };
+    join_mut(rt, &mut end, &mut read);
+}
+
+// Controllers begin the slot, readers are lent, hosts write, and what is to be sent is planned and put
+// on the medium. The readers and the lines of the writes are handed out.
+fn plan<R: Threads + Sync, G: Gate>(
+    rt: &R,
+    alloc: Global,
+    list: &Medl,
+    script: &Script,
+    slot: u32,
+    nodes: Nodes,
+    gate: &G,
+) -> Result<(Nodes, Vec<Option<HostReaders>>, Vec<WriteLine>), Memory>
+    requires list { IsValid list.now }
+    requires script { IsValidScript list.now script.now }
+    requires slot { slot < script.now.slots }
+    requires nodes { AreNodesOf list.now slot nodes }
+    requires bytes { AreBytesBefore list.now script.now slot }
+    requires stands { StandsForSome list.now script.now slot (desks_of nodes) }
+    ensures nodes { IfOk result (λ r. ArePlannedNodes list.now script.now slot r.0) }
+    ensures ends { IfOk result (λ r. r.0.controller_ends.items ≡ nodes.controller_ends.items) }
+    ensures own { IfOk result (λ r. AreReadersOfAll r.0.ports.items r.1.items) }
+    ensures lent { IfOk result (λ r. AreReadersLent (reads_in script.now slot) nodes.controller_ends.items r.1.items) }
+    ensures bytes { OnOk result (AreBytesBefore list.now script.now (slot + 1)) }
+    ensures writes { IfOk result (λ r. r.2.items
+        ≡ writes_shown list.now script.now slot [] (writes_in script.now slot)) }
+    ensures plans { IfOk result (λ r. (numbers : Numbers) → StandsAt list.now script.now slot (desks_of nodes) numbers
+        → HavePlannedSlot list.now script.now numbers r.0) }
+{
+    let Nodes {
+        mut medium,
+        mut controllers,
+        mut incidents,
+        mut chosen,
+        outcomes,
+        delivered,
+        ports,
+        mut controller_ends,
+        host_ends,
+    } = nodes;
+    begin_all(&mut controllers, &mut incidents, list, script, 0, slot);
+    let readers = lend_readers(alloc, &ports, &mut controller_ends, script, slot)?;
+    let (host_ends, writes) = choose(
+        rt,
+        alloc,
+        list,
+        script,
+        slot,
+        &ports,
+        host_ends,
+        &controllers,
+        &mut chosen,
+        gate,
+    )?;
+    plan_all(
+        &mut controllers,
+        &mut medium,
+        &incidents,
+        list,
+        script,
+        slot,
+        &chosen,
+    );
+    Ok((
+        Nodes {
+            medium,
+            controllers,
+            incidents,
+            chosen,
+            outcomes,
+            delivered,
+            ports,
+            controller_ends,
+            host_ends,
+        },
+        readers,
+        writes,
+    ))
+}
+
+// Controllers end the slot, beside the reads of hosts.
+fn end<R: Threads + Wait + Sync, G: Gate>(
+    rt: &R,
+    list: &Medl,
+    script: &Script,
+    slot: u32,
+    nodes: &mut Nodes,
+    readers: &mut [Option<HostReaders>],
+    gate: &G,
+)
+    requires list { IsValid list.now }
+    requires script { IsValidScript list.now script.now }
+    requires slot { slot < script.now.slots }
+    requires nodes { ArePlannedNodes list.now script.now slot nodes.old }
+    requires own { AreReadersOfAll nodes.old.ports.items readers.old }
+    requires lent { AreReadersLent (reads_in script.now slot) nodes.old.controller_ends.items readers.old }
+    requires may { MayEndSlot list.now script.now slot nodes.old }
+    ensures nodes { AreNodesOf list.now (slot + 1) nodes.new }
+    ensures ports { nodes.new.ports ≡ nodes.old.ports }
+    ensures host_ends { nodes.new.host_ends ≡ nodes.old.host_ends }
+    ensures own { AreReadersOfAll nodes.new.ports.items readers.new }
+    ensures reads { HaveRead list.now.buffers (reads_in script.now slot) readers.old readers.new }
+    ensures handed { HaveHandedOn nodes.new.outcomes.items nodes.old.controller_ends.items
+        nodes.new.controller_ends.items nodes.new.delivered.items }
+    ensures ends { (numbers : Numbers) → HavePlannedSlot list.now script.now numbers nodes.old
+        → HaveEndedFor list.now script.now numbers nodes.old nodes.new }
+{
+    end_and_read(
+        rt,
+        &mut nodes.controllers,
+        &mut nodes.outcomes,
+        &mut nodes.controller_ends,
+        &mut nodes.delivered,
+        readers,
+        &nodes.incidents,
+        &nodes.ports,
+        &nodes.medium,
+        list,
+        script,
+        script.reads(slot),
+        gate,
+    );
+}
+
+/// Takes all nodes through a slot, and answers them with the slot's report.
+pub(crate) fn slot_of<R: Threads + Wait + Sync, G: Gate>(
+    rt: &R,
+    alloc: Global,
+    list: &Medl,
+    script: &Script,
+    slot: u32,
+    nodes: Nodes,
+    gate: &G,
+) -> Result<(Nodes, SlotReport), Memory>
+    requires list { IsValid list.now }
+    requires script { IsValidScript list.now script.now }
+    requires slot { slot < script.now.slots }
+    requires nodes { AreNodesOf list.now slot nodes }
+    requires bytes { AreBytesBefore list.now script.now slot }
+    requires stands { StandsForSome list.now script.now slot (desks_of nodes) }
+    ensures nodes { IfOk result (λ r. AreNodesOf list.now (slot + 1) r.0) }
+    ensures bytes { OnOk result (AreBytesBefore list.now script.now (slot + 1)) }
+    ensures steps { IfOk result (λ r. (numbers : Numbers) → StandsAt list.now script.now slot (desks_of nodes) numbers
+        → IsNextOf list.now script.now numbers (desks_of r.0) r.1) }
+{
+    let (mut nodes, mut readers, writes) = plan(rt, alloc, list, script, slot, nodes, gate)?;
+    end(
+        rt,
+        list,
+        script,
+        slot,
+        &mut nodes,
+        readers.as_mut_slice(),
+        gate,
+    );
+    let reads = read_lines(
+        alloc,
+        &nodes.ports,
+        &mut nodes.controller_ends,
+        readers,
+        script.reads(slot),
+    )?;
+    let lines = node_lines(alloc, &nodes.controllers, &nodes.delivered)?;
+    let report = SlotReport {
+        slot,
+        nodes: lines,
+        writes: List::from_vec(writes),
+        reads,
+    };
+    Ok((nodes, report))
+}
