@@ -21,8 +21,9 @@ use Rattle.fault_plan.proofs.KeptPlan.{kept-plan}
 use Rattle.safety_clocks.specs.NotedByPlan.{IsSoundIn, GoesOnByPlan}
 use Rattle.safety_clocks.proofs.Bounds.{sound-clocks, sound-deviations}
 use Rattle.safety_steps.specs.ByFate.{IsSoundAt}
+use Rattle.safety_steps.specs.Gone.{FaultyLeave}
 use Rattle.safety_steps.specs.Run.{IsBegun, StandsAfter}
-use Rattle.safety_steps.proofs.Safe.{safe-after, correct-sound as correct-at}
+use Rattle.safety_steps.proofs.Safe.{safe-after, faulty-leave, correct-sound as correct-at}
 use Rattle.safety.specs.ByPlan.{IsByPlan}
 use Rattle.safety.specs.SameFrames.{AcceptsAlikeSince}
 use Rattle.safety.proofs.Accepted.{alike-run}
@@ -78,6 +79,11 @@ module _ (list : Medl) (script : Script) (slot : ℕ) (valid : IsValid list) (sc
     pub kept-safe : IsSafe list script (world list script numbers)
     kept-safe =
         safe-after list script by_plan.start (plan_of list script by_plan.start) (length numbers - suc slot)
+        (world list script numbers) kept-stands
+
+    pub kept-leave : FaultyLeave list script (world list script numbers)
+    kept-leave =
+        faulty-leave list script by_plan.start (plan_of list script by_plan.start) (length numbers - suc slot)
         (world list script numbers) kept-stands
 
     -- the correct nodes are the sound ones

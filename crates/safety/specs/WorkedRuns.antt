@@ -38,6 +38,14 @@ silenced = with_event (event.Send 2 (record { a = true; b = true }) fault.Silenc
 abbrev pub deafened : Script
 deafened = with_event (event.Receive 3 (record { a = true; b = true }) fault.Noise 22 22)
 
+-- node 2 hears noise in slot 23, the slot after its own
+abbrev pub deafened_at_once : Script
+deafened_at_once = with_event (event.Receive 2 (record { a = true; b = true }) fault.Noise 23 23)
+
+-- node 2 hears nothing in slots 24 to 26
+abbrev pub deafened_on : Script
+deafened_on = with_event (event.Receive 2 (record { a = true; b = true }) fault.Silence 24 26)
+
 -- node 3's clock jumps by four windows in slot 22
 abbrev pub jumping : Script
 jumping = with_event (event.Jump 3 (pos 400) 22)

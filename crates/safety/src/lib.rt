@@ -21,6 +21,7 @@ ghost use Rattle.ttp_world.specs.Script.{IsValidScript};
 ghost use Rattle.ttp_world.specs.World.{Numbers, world};
 ghost use Rattle.precision.specs.Spread.{spread};
 ghost use Rattle.precision.specs.Together.{IsIn, clock_at, measured};
+ghost use Rattle.safety_steps.specs.Gone.{FaultyLeave};
 ghost use Rattle.safety.specs.SameFrames.{AcceptsAlikeSince};
 
 pub mod laws;
@@ -34,7 +35,8 @@ use ttp_world::{Medl, Script};
 /// After each slot from that one on, and for all legal message numbers, the four tests of safety hold
 /// (`safe`): correct nodes that are not in doubt hold one membership, each correct node that has started
 /// or sent is in it, no correct node has left, and each node that became faulty two rounds ago has left
-/// and is held by no correct node.
+/// and is held by no correct node. That is so a slot earlier than these tests ask: of n nodes one that
+/// became faulty in slot f has left, and is held by no correct node, from slot f + 2n - 2 on (`leave`).
 ///
 /// At the beginning of each later slot the clocks of any two nodes that are correct in it are no further
 /// apart than the list's spread (`clocks`), and what one of them measures of the other's frame lies no
@@ -48,6 +50,9 @@ pub fn safe(list: &Medl, script: &Script, start: u32)
     ensures safe { (numbers : Numbers) → IsLegal list.now script.now numbers
         → start < length numbers → length numbers ≤ script.now.slots
         → IsSafe list.now script.now (world list.now script.now numbers) }
+    ensures leave { (numbers : Numbers) → IsLegal list.now script.now numbers
+        → start < length numbers → length numbers ≤ script.now.slots
+        → FaultyLeave list.now script.now (world list.now script.now numbers) }
     ensures clocks { (numbers : Numbers) → IsLegal list.now script.now numbers
         → start < length numbers → length numbers < script.now.slots
         → (j k : ℕ) → j < length list.now.slots → k < length list.now.slots

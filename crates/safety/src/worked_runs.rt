@@ -11,7 +11,8 @@ ghost use Rattle.ttp_world.specs.Hypothesis.{keeps};
 ghost use Rattle.ttp_world.specs.Legal.{IsLegal};
 ghost use Rattle.ttp_world.specs.Safety.{members_of_node, IsSafe};
 ghost use Rattle.safety.specs.SameFrames.{accepts};
-ghost use Rattle.safety.specs.WorkedRuns.{five_nodes, silenced, deafened, jumping, bare_numbers, run_of};
+ghost use Rattle.safety.specs.WorkedRuns.{five_nodes, silenced, deafened, deafened_at_once, deafened_on};
+ghost use Rattle.safety.specs.WorkedRuns.{jumping, bare_numbers, run_of};
 
 /// The frame of node 2 in slot 22 is lost to all others. So after slot 23 it is no member. The frame of
 /// node 3 in that slot is its second candidate, which makes it doubt node 3, and node 4's frame in slot
@@ -38,6 +39,23 @@ fn a_doubt()
     ensures doubting { members_of_node five_nodes (run_of deafened 24) 2 ≡ 0 ∷ 1 ∷ 2 ∷ 3 ∷ 4 ∷ [] }
     ensures members { members_of_node five_nodes (run_of deafened 24) 0 ≡ 0 ∷ 1 ∷ 2 ∷ 4 ∷ [] }
     ensures safe { IsSafe five_nodes deafened (run_of deafened 24) }
+{}
+
+/// Node 2 loses node 3's frame in slot 23, the slot after its own. So it accepts nobody's frame, and none
+/// answers its own: it leaves in its next slot, the last of the round since then.
+fn an_early_leave()
+    ensures keeps { keeps five_nodes deafened_at_once ≡ keep.Yes 10 }
+    ensures waits { ack_of (diary_of (run_of deafened_at_once 27) 2) ≡ ack.First }
+    ensures left { phase_of (diary_of (run_of deafened_at_once 28) 2) ≡ phase.Left }
+{}
+
+/// Node 2 loses node 4's frame in slot 24 and hears nothing more until its own slot. It has accepted node
+/// 3's frame and rejects none, so it sends in slot 27. That frame is not answered: it leaves in slot 32,
+/// the last by which a node of five that became faulty in slot 24 may.
+fn a_late_leave()
+    ensures keeps { keeps five_nodes deafened_on ≡ keep.Yes 10 }
+    ensures stays { phase_of (diary_of (run_of deafened_on 32) 2) ≡ phase.Active }
+    ensures left { phase_of (diary_of (run_of deafened_on 33) 2) ≡ phase.Left }
 {}
 
 /// Node 3's clock jumps in slot 22, and its frame in slot 23 comes outside the window. It has left after

@@ -1,5 +1,5 @@
--- A node whose frame is not acknowledged stays so while no frame has it among its members; and another's slot brings no
--- node but its owner into what a node holds.
+-- A node whose frame is not acknowledged stays so while no frame has it among its members, or each has one that it
+-- lacks; and another's slot brings no node but its owner into what a node holds.
 use Rattle.std.proofs.Common.{◌≡◌, ◌≢◌, ℕ, ◌<◌, ℤ, pos, Bool, true, false, cond, List, length, refl, ap, sym}
 use Rattle.std.proofs.Common.{◌∙◌, ◌⊎◌, inl, inr, subst, arith}
 use Rattle.std.proofs.lemmas.Bool.{false≢true}
@@ -14,11 +14,12 @@ use Rattle.ttp_world.specs.Acknowledgement.{is_correct}
 use Rattle.ttp_world.specs.After.{settled_members, judged_members, ack_answered}
 use Rattle.ttp_world.specs.Reception.{candidates, verdict_of_view}
 use Rattle.ttp_world.proofs.Lists.{nodes-most}
-use Rattle.safety_laws.specs.Groups.{IsUnanswered, HearsNoAnswer, Lacks, Outside, NoFrame, StaysUnanswered}
+use Rattle.safety_laws.specs.Groups.{IsUnanswered, HearsNoAnswer, Lacks, HasThird, Outside}
+use Rattle.safety_laws.specs.Groups.{NoFrame, StaysUnanswered}
 use Rattle.safety_laws.specs.NodeSlot.{NodeSlot, next_past, owner_of, candidates_of}
 use Rattle.safety_laws.specs.SlotFrames.{is_second}
 use Rattle.safety_laws.specs.Standing.{HasJustLeft, IsJudgedAs}
-use Rattle.safety_laws.specs.Turns.{IsJudging}
+use Rattle.safety_laws.specs.Turns.{IsJudging, HearsMembers}
 use Rattle.safety_laws.proofs.GroupSets.{has_node-with_other, has_node-without_other, has_node-without_none}
 use Rattle.safety_laws.proofs.ListedSets.{has_node-put_in}
 use Rattle.safety_laws.proofs.Verdicts.{view-later, entry-by_view, judged-outside, judged-none, judged-by_verdict}
@@ -43,7 +44,7 @@ answered-unanswered k owner (ack.Doubt y) verdict.Denied unanswered wrong other 
 answered-unanswered k owner (ack.Doubt y) verdict.Tentative unanswered wrong other = other
 answered-unanswered k owner (ack.Doubt y) verdict.Correct unanswered wrong other = cc
 
-stays-judged : (x : NodeSlot) (v : Verdict) (deviation : ℤ) → IsJudging x → IsUnanswered x.node x.past.ack
+pub stays-judged : (x : NodeSlot) (v : Verdict) (deviation : ℤ) → IsJudging x → IsUnanswered x.node x.past.ack
     → is_correct v ≡ false → IsJudgedAs x v deviation → StaysUnanswered x
 stays-judged x v deviation is unanswered wrong judged = record {
   verdict = v;
@@ -63,20 +64,29 @@ own_in_first k owner members (ack.Doubt y) small unanswered =
     has_node-without_other (with_node (with_node members owner) k) y k (λ same. unanswered (sym same))
     ∙ has_node-put_in (with_node members owner) k small
 
--- so a frame without it is not correct
+-- and no third node that the node lacks
+third-apart : (k owner p : ℕ) (members : List ℕ) (a : Ack) → p < most_nodes → p ≢ k → p ≢ owner
+    → has_node members p ≡ false → IsUnanswered k a → has_node (candidates a k members owner).first p ≡ false
+third-apart k owner p members ack.Closed small other apart none unanswered = absurd unanswered
+third-apart k owner p members ack.First small other apart none unanswered =
+    has_node-with_other (with_node members owner) k p small other
+    ∙ has_node-with_other members owner p small apart ∙ none
+third-apart k owner p members (ack.Doubt y) small other apart none unanswered =
+    has_node-without_none (with_node (with_node members owner) k) y p
+    (has_node-with_other (with_node members owner) k p small other
+    ∙ has_node-with_other members owner p small apart ∙ none)
+
+-- so a frame without the node, or with the third one, is not correct
 wrong_view : (second : Bool) (a : Ack) → is_correct (verdict_of_view (cond second view.Second view.Other) a) ≡ false
 wrong_view true ack.Closed = refl
 wrong_view true ack.First = refl
 wrong_view true (ack.Doubt y) = refl
 wrong_view false a = refl
 
-pub stays-unanswered : (x : NodeSlot) → IsJudging x → IsUnanswered x.node x.past.ack → HearsNoAnswer x
+stays-apart : (x : NodeSlot) (sender : ℕ) (members : List ℕ) → IsJudging x → IsUnanswered x.node x.past.ack
+    → HearsMembers x sender members → members ≢ (candidates_of x).first
     → StaysUnanswered x ⊎ HasJustLeft (next_past x) reason.Denied (owner_of x)
-stays-unanswered x is unanswered (Lacks sender members hears lacks) =
-    let apart : members ≢ (candidates_of x).first =
-    λ same. false≢true (sym lacks ∙ ap (λ (s : List ℕ). has_node s x.node) same
-    ∙ own_in_first x.node (owner_of x) x.past.members x.past.ack (omega (arith, is.node, nodes-most x.list is.valid))
-    unanswered) in
+stays-apart x sender members is unanswered hears apart =
     elim (judged-by_verdict x _ (x.hearing.deviation sender) is
     (entry-by_view x sender members is hears _ (view-later (candidates_of x) members apart))) [
       | inl judged ↦
@@ -84,6 +94,19 @@ stays-unanswered x is unanswered (Lacks sender members hears lacks) =
           (wrong_view (is_second (candidates_of x).second members) x.past.ack) judged)
       | inr left ↦ inr left
     ]
+
+pub stays-unanswered : (x : NodeSlot) → IsJudging x → IsUnanswered x.node x.past.ack → HearsNoAnswer x
+    → StaysUnanswered x ⊎ HasJustLeft (next_past x) reason.Denied (owner_of x)
+stays-unanswered x is unanswered (Lacks sender members hears lacks) =
+    stays-apart x sender members is unanswered hears
+    (λ same. false≢true (sym lacks ∙ ap (λ (s : List ℕ). has_node s x.node) same
+    ∙ own_in_first x.node (owner_of x) x.past.members x.past.ack (omega (arith, is.node, nodes-most x.list is.valid))
+    unanswered))
+stays-unanswered x is unanswered (HasThird sender p members hears third has) =
+    stays-apart x sender members is unanswered hears
+    (λ same. false≢true (sym (third-apart x.node (owner_of x) p x.past.members x.past.ack
+    (omega (arith, third.listed, nodes-most x.list is.valid)) third.not_self third.not_owner third.held unanswered)
+    ∙ sym (ap (λ (s : List ℕ). has_node s p) same) ∙ has))
 stays-unanswered x is unanswered (Outside sender hears) =
     inl (stays-judged x verdict.Invalid (x.hearing.deviation sender) is unanswered refl
     (judged-outside x sender is hears))

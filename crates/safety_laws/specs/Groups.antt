@@ -1,5 +1,5 @@
 -- Nodes that hold one group for members, and nodes whose own frame is not answered.
-use Rattle.std.specs.Prelude.{◌≡◌, ◌≢◌, ℕ, ℤ, false, List, IsTrue}
+use Rattle.std.specs.Prelude.{◌≡◌, ◌≢◌, ℕ, ◌<◌, ℤ, false, true, List, length, IsTrue}
 use Rattle.ttp_base.specs.NodeSet.{has_node, with_node}
 use Rattle.ttp_world.specs.declared.medl.Medl.{Medl}
 use Rattle.ttp_world.specs.declared.node.Ack.{Ack}
@@ -9,7 +9,7 @@ use Rattle.ttp_world.specs.Acknowledgement.{is_correct, is_open}
 use Rattle.ttp_world.specs.Membership.{AreNodes}
 use Rattle.ttp_world.specs.Past.{NodePast}
 use Rattle.safety_laws.specs.Heard.{HearsNoFrame}
-use Rattle.safety_laws.specs.NodeSlot.{NodeSlot, next_past}
+use Rattle.safety_laws.specs.NodeSlot.{NodeSlot, next_past, owner_of}
 use Rattle.safety_laws.specs.Standing.{IsJudgedAs}
 use Rattle.safety_laws.specs.Turns.{HearsMembers, HearsOutside}
 
@@ -45,9 +45,20 @@ IsUnanswered k ack.Closed = ⊥
 IsUnanswered k ack.First = Unit {0}
 IsUnanswered k (ack.Doubt y) = y ≢ k
 
--- no frame comes to the node inside the window that has the node among its members
+-- node p is neither the node nor the slot's owner, and no member to the node
+pub record IsThird (x : NodeSlot) (p : ℕ) : Type 0 where
+  pub listed : p < length x.list.slots
+  pub not_self : p ≢ x.node
+  pub not_owner : p ≢ owner_of x
+  pub held : has_node x.past.members p ≡ false
+
+-- a frame that comes to the node inside the window lacks the node among its members, or has a third one that is no
+-- member to the node
 pub data HearsNoAnswer (x : NodeSlot) : Type 0 where
   Lacks : (sender : ℕ) (members : List ℕ) → HearsMembers x sender members → has_node members x.node ≡ false
+      → HearsNoAnswer x
+  HasThird : (sender p : ℕ) (members : List ℕ) → HearsMembers x sender members → IsThird x p
+      → has_node members p ≡ true
       → HearsNoAnswer x
   Outside : (sender : ℕ) → HearsOutside x sender → HearsNoAnswer x
   NoFrame : HearsNoFrame x.hearing → HearsNoAnswer x

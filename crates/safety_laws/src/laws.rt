@@ -244,9 +244,10 @@ pub fn groups()
         → HoldsGroup x.list x.node (with_node group x.node) (next_past x) }
 {}
 
-/// A node whose own frame is not acknowledged stays so, or leaves as denied, while no frame comes inside
-/// the window that has it among its members (`stays`). And whatever comes in another's slot, no node but
-/// its owner is held for a member that was not before (`not_held`).
+/// A node whose own frame is not acknowledged stays so, or leaves as denied, while each frame that comes
+/// inside the window lacks it among its members, or has a third node that it lacks itself (`stays`). And
+/// whatever comes in another's slot, no node but its owner is held for a member that was not before
+/// (`not_held`).
 pub fn unanswered()
     ensures stays { (x : NodeSlot) → IsJudging x → IsUnanswered x.node x.past.ack → HearsNoAnswer x
         → StaysUnanswered x ⊎ HasJustLeft (next_past x) reason.Denied (owner_of x) }

@@ -22,6 +22,7 @@ use Rattle.safety_laws.proofs.OneSender.{members-alone}
 use Rattle.safety_steps.specs.ByFate.{IsByFate, IsFallingAt, IsFallenAt}
 use Rattle.safety_steps.specs.Turn.{IsTurn}
 use Rattle.safety_steps.proofs.OwnTurns.{IsSoundOwner, sound-sends, falling-own, fallen-own}
+use Rattle.safety_steps.proofs.PlanSteps.{told-falling}
 use Rattle.safety_steps.proofs.Turns.{slot_of, e-node, has-turn, absent-off, unarmed, none-sends, sends-alone}
 
 module _ (list : Medl) (script : Script) (start : ClusterStart) (plan : Plan) (turn : ℕ) (new : SlotNumbers)
@@ -101,7 +102,7 @@ module _ (list : Medl) (script : Script) (start : ClusterStart) (plan : Plan) (t
         | inl left ↦ idle-left x left (unarmed list script start plan turn new numbers t e node (ap is_lost is))
         | inr at ↦
             fallen-own plan turn x t.planned.follows.good
-            (has-turn list script start plan turn new numbers t e node at.phase at.place refl) shown at
+            (has-turn list script start plan turn new numbers t e node at.phase at.place refl) since shown at
       ]
 
   -- One that was lost, and has its first slot since then, has left, or leaves, or sends what it holds.
@@ -111,8 +112,8 @@ module _ (list : Medl) (script : Script) (start : ClusterStart) (plan : Plan) (t
       (((next_past x).phase ≡ phase.Left) × (frames_made x ≡ []))
       ⊎ ((SendsAlone list script (world list script numbers)
       (messages_chosen list script (length numbers) new.sent) (sender plan (suc turn)))
-      × (IsFallingAt list plan turn change since x.past)
-      × (IsFallenAt list plan (suc turn) (sender plan (suc turn)) (suc turn) (next_past x)))
+      × (IsFallingAt list plan turn (sender plan (suc turn)) change since x.past)
+      × (IsFallenAt list plan (suc turn) (sender plan (suc turn)) since (suc turn) (next_past x)))
   falling-acts change since is =
       let e = sender plan (suc turn) in
       let node = e-node list script start plan turn new numbers t in
@@ -121,7 +122,8 @@ module _ (list : Medl) (script : Script) (start : ClusterStart) (plan : Plan) (t
         | inl left ↦ inl (idle-left x left.0 (unarmed list script start plan turn new numbers t e node (ap is_lost is)))
         | inr at ↦
             let own = has-turn list script start plan turn new numbers t e node at.phase at.place refl in
-            elim (falling-own plan turn x t.planned.follows.good own change since at) [
+            let told = told-falling plan turn e since change t.planned.follows.good is in
+            elim (falling-own plan turn x t.planned.follows.good own change since told refl at) [
               | inl left ↦ inl left
               | inr sends ↦ inr (sends-alone list script start plan turn new numbers t own sends.0, at, sends.1)
             ]

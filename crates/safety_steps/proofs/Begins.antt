@@ -179,6 +179,9 @@ module _ (list : Medl) (script : Script) (start : ClusterStart) (plan : Plan) (i
                 (node_past list script (world list script (new ∷ numbers)) k)) (sym starter-same) begun.group;
             counted = counted.0;
             doubted = λ y doubt. absurd (no-doubt _ y counted.1 doubt);
+            fresh = λ own.
+                subst (λ j. (node_past list script (world list script (new ∷ numbers)) j).ack ≡ ack.First)
+                (sym sender-first ∙ own) starter-begun.ack;
           }
 
       off-begun : (k : ℕ) → k < length list.slots → is_on script k start.slot ≡ false

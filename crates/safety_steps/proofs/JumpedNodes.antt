@@ -18,9 +18,8 @@ use Rattle.safety_steps.specs.Turn.{IsTurn}
 use Rattle.safety_steps.proofs.Arrivals.{at-fate, sound-alone, silent-absent, fallen-leaves}
 use Rattle.safety_steps.proofs.LostNodes.{IsJudgedWrong, HearsLate, NoFrame, Outside, late-wrong}
 use Rattle.safety_steps.proofs.PlanSteps.{struck-known, absent-stays, fallen-stays, sound-stays, falling-stays}
-use Rattle.safety_steps.proofs.PlanSteps.{falling-shown, struck-shown}
+use Rattle.safety_steps.proofs.PlanSteps.{falling-shown, struck-shown, told-falling}
 use Rattle.safety_steps.proofs.Silence.{frameless-silent}
-use Rattle.safety_steps.proofs.SoundSteps.{told-falling}
 use Rattle.safety_steps.proofs.Turns.{slot_of, e-node, judges, none-sends}
 
 module _ (list : Medl) (script : Script) (start : ClusterStart) (plan : Plan) (turn : ℕ) (new : SlotNumbers)

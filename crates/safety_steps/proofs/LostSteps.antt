@@ -2,6 +2,7 @@
 use Rattle.std.proofs.Common.{◌≡◌, ◌≢◌, ℕ, suc, ◌+◌, ◌<◌, Bool, true, false, length, refl, ap, sym, subst}
 use Rattle.std.proofs.Common.{◌∙◌, ◌⊎◌, inl, inr, mod-lt, arith}
 use Rattle.std.proofs.lemmas.Bool.{cases_lt, lt-ltb}
+use Rattle.ttp_base.specs.NodeSet.{with_node}
 use Rattle.ttp_world.specs.declared.medl.Medl.{Medl}
 use Rattle.ttp_world.specs.declared.node.Phase.TheVariants as phase
 use Rattle.ttp_world.specs.declared.script.Script.{Script}
@@ -10,14 +11,17 @@ use Rattle.ttp_world.specs.Reception.{is_within_window}
 use Rattle.ttp_world.specs.World.{SlotNumbers, Numbers, slot_after, deviation_in, messages_chosen, world}
 use Rattle.fault_plan.specs.Plan.{Change, Sending, Receiving, Jumping, Plan, sender}
 use Rattle.fault_plan.specs.Fates.{Fate, Absent, Sound, Falling, Fallen, fate_of, is_lost, may_stay}
+use Rattle.fault_plan.specs.Ledger.{planned_members}
+use Rattle.fault_plan.specs.Places.{planned_place}
 use Rattle.fault_plan.proofs.FateTells.{loss-sending, one-stays}
-use Rattle.fault_plan.proofs.Members.{fallen-member}
+use Rattle.fault_plan.proofs.Members.{fallen-member, sender-lost}
 use Rattle.fault_plan.proofs.Turns.{turns_apart}
-use Rattle.safety_laws.specs.Groups.{HearsNoAnswer, Lacks, Outside, NoFrame}
-use Rattle.safety_laws.specs.NodeSlot.{next_past}
+use Rattle.safety_laws.specs.Groups.{HearsNoAnswer, Lacks, HasThird, Outside, NoFrame}
+use Rattle.safety_laws.specs.NodeSlot.{next_past, owner_of}
 use Rattle.safety_laws.specs.Senders.{NoneSends}
+use Rattle.safety_laws.specs.Turns.{HearsMembers}
 use Rattle.ttp_world.proofs.Lists.{nodes-most}
-use Rattle.safety_laws.proofs.GroupSets.{has_node-with_other}
+use Rattle.safety_laws.proofs.GroupSets.{has_node-with_other, has_node-with_member}
 use Rattle.safety_laws.proofs.Idle.{idle-left}
 use Rattle.safety_laws.proofs.OneSender.{outside-alone, none-alone, silent-none_sends}
 use Rattle.safety_steps.specs.ByFate.{IsFallingAt, IsFallenAt}
@@ -26,9 +30,9 @@ use Rattle.safety_steps.proofs.Arrivals.{at-fate, sound-alone, hears-planned, si
 use Rattle.safety_steps.proofs.LostNodes.{deaf-judges, jumped-judges, fallen-judges, deaf-falls, jumped-falls}
 use Rattle.safety_steps.proofs.JumpedNodes.{jumped-wrong}
 use Rattle.safety_steps.proofs.Silence.{frameless-silent}
-use Rattle.safety_steps.proofs.PlanSteps.{IsStruck, falling-stays, struck-falls, round-turn, sound-fate, told-fallen}
+use Rattle.safety_steps.proofs.PlanSteps.{IsStruck, falling-stays, struck-falls, round-turn, sound-fate}
+use Rattle.safety_steps.proofs.PlanSteps.{told-falling, told-fallen}
 use Rattle.safety_steps.proofs.Receivers.{sound-judge}
-use Rattle.safety_steps.proofs.SoundSteps.{told-falling}
 use Rattle.safety_steps.proofs.Turns.{slot_of, slot_number, owner-is, judges, unarmed, none-sends}
 
 module _ (list : Medl) (script : Script) (start : ClusterStart) (plan : Plan) (turn : ℕ) (new : SlotNumbers)
@@ -42,7 +46,7 @@ module _ (list : Medl) (script : Script) (start : ClusterStart) (plan : Plan) (t
 
   -- a sound node that is lost in the turn
   deaf-next : fate_of plan turn k ≡ Sound → (is : IsStruck plan (suc turn) k) → is.incident.change ≡ Receiving
-      → IsFallingAt list plan (suc turn) Receiving (suc turn) (next_past (slot_of list script new numbers k))
+      → IsFallingAt list plan (suc turn) k Receiving (suc turn) (next_past (slot_of list script new numbers k))
   deaf-next sound is deaf =
       let loss = t.planned.follows.good.losses turn is.incident is.found in
       let sends = sound-fate (fate_of plan turn (sender plan (suc turn))) (loss.receiving deaf).1 in
@@ -58,19 +62,20 @@ module _ (list : Medl) (script : Script) (start : ClusterStart) (plan : Plan) (t
       ∙ hearing.deaf is.incident is.found deaf))
 
   pub struck-next : fate_of plan turn k ≡ Sound → (is : IsStruck plan (suc turn) k)
-      → IsFallingAt list plan (suc turn) is.incident.change (suc turn) (next_past (slot_of list script new numbers k))
+      → IsFallingAt list plan (suc turn) k is.incident.change (suc turn)
+      (next_past (slot_of list script new numbers k))
   struck-next sound is = by is.incident.change refl
     where
       by : (change : Change) → is.incident.change ≡ change
-          → IsFallingAt list plan (suc turn) is.incident.change (suc turn)
+          → IsFallingAt list plan (suc turn) k is.incident.change (suc turn)
           (next_past (slot_of list script new numbers k))
       by Sending how =
           absurd (other ((t.planned.follows.good.losses turn is.incident is.found).sending how ∙ is.node))
       by Receiving how =
-          subst (λ (c : Change). IsFallingAt list plan (suc turn) c (suc turn)
+          subst (λ (c : Change). IsFallingAt list plan (suc turn) k c (suc turn)
           (next_past (slot_of list script new numbers k))) (sym how) (deaf-next sound is how)
       by Jumping how =
-          subst (λ (c : Change). IsFallingAt list plan (suc turn) c (suc turn)
+          subst (λ (c : Change). IsFallingAt list plan (suc turn) k c (suc turn)
           (next_past (slot_of list script new numbers k))) (sym how)
           (jumped-falls plan turn (slot_of list script new numbers k)
           (sound-judge list script start plan turn new numbers t k node other sound)
@@ -78,10 +83,53 @@ module _ (list : Medl) (script : Script) (start : ClusterStart) (plan : Plan) (t
           (jumped-wrong list script start plan turn new numbers t k node (suc turn)
           (struck-falls plan turn k is other ∙ ap (λ (c : Change). Falling c (suc turn)) how)))
 
+  -- What comes to a node that was lost and may still stay: what a sound sender's frame is to it, or none.
+
+  by-silence : NoneSends list script (world list script numbers)
+      (messages_chosen list script (length numbers) new.sent)
+      → HearsNoAnswer (slot_of list script new numbers k)
+  by-silence none =
+      NoFrame (frameless-silent _ (silent-none_sends list script (world list script numbers) _ k none))
+
+  module _ (place : (slot_of list script new numbers k).past.place ≡ planned_place list plan turn)
+      (told : HearsMembers (slot_of list script new numbers k) (sender plan (suc turn))
+      (with_node (planned_members plan turn) (sender plan (suc turn)))
+      → HearsNoAnswer (slot_of list script new numbers k)) where
+    by-sound : fate_of plan turn (sender plan (suc turn)) ≡ Sound → HearsNoAnswer (slot_of list script new numbers k)
+    by-sound sends = by _ _ refl refl
+      where
+        by : (lost within : Bool)
+            → loses script (sender plan (suc turn)) (length (world list script numbers)) k ≡ lost
+            → is_within_window list
+            (deviation_in (slot_after list script (world list script numbers)) k (sender plan (suc turn)))
+            ≡ within
+            → HearsNoAnswer (slot_of list script new numbers k)
+        by true within lost _ =
+            NoFrame (none-alone list script (world list script numbers) _ (sender plan (suc turn)) k
+            (sound-alone list script start plan turn new numbers t sends) lost)
+        by false false kept outside =
+            Outside (sender plan (suc turn))
+            (outside-alone list script (world list script numbers) _ (sender plan (suc turn)) k
+            (sound-alone list script start plan turn new numbers t sends) kept outside)
+        by false true kept within =
+            told (hears-planned list script start plan turn new numbers t sends k place kept within)
+
+    no-answer : may_stay plan.nodes turn (fate_of plan turn k) ≡ true
+        → (fate : Fate) → fate_of plan turn (sender plan (suc turn)) ≡ fate
+        → HearsNoAnswer (slot_of list script new numbers k)
+    no-answer stays Sound sends = by-sound sends
+    no-answer stays Absent sends = by-silence (silent-absent list script start plan turn new numbers t sends)
+    no-answer stays (Fallen c s sh) sends =
+        by-silence (none-sends list script start plan turn new numbers t
+        (fallen-leaves list script start plan turn new numbers t c s sh sends).1)
+    no-answer stays (Falling c s) sends =
+        absurd (other (one-stays plan turn (sender plan (suc turn)) k t.planned.follows.good
+        (ap (may_stay plan.nodes turn) sends) stays))
+
   -- one that was lost, and has had no slot since
   deaf-on : (since : ℕ) → fate_of plan turn k ≡ Falling Receiving since →
       let past = next_past (slot_of list script new numbers k) in
-      (past.phase ≡ phase.Left) ⊎ IsFallingAt list plan (suc turn) Receiving since past
+      (past.phase ≡ phase.Left) ⊎ IsFallingAt list plan (suc turn) k Receiving since past
   deaf-on since is =
       let x = slot_of list script new numbers k in
       elim (at-fate list script start plan turn new numbers t k (Falling Receiving since) node is) [
@@ -90,20 +138,35 @@ module _ (list : Medl) (script : Script) (start : ClusterStart) (plan : Plan) (t
         | inr at ↦
             let told = told-falling plan turn k since Receiving t.planned.follows.good is in
             let lost_less : sender plan since < plan.nodes = mod-lt (plan.starter + since) few_nodes in
-            deaf-judges plan turn x
-            (judges list script start plan turn new numbers t k node at.phase at.place other) since at
-            (subst (λ n. sender plan since < n) t.planned.follows.nodes lost_less)
-            (λ same.
+            let listed = subst (λ n. sender plan since < n) t.planned.follows.nodes lost_less in
+            let owner = owner-is list script start plan turn new numbers t k node at.place in
             let from = told.from in
+            let apart : sender plan since ≢ sender plan (suc turn) =
+            λ same.
             let soon = told.soon in
-            let round = turns_apart plan since (suc turn) few_nodes (omega (arith, from))
-            (same ∙ owner-is list script start plan turn new numbers t k node at.place) in
-            omega (arith, soon, round))
+            let round = turns_apart plan since (suc turn) few_nodes (omega (arith, from)) same in
+            omega (arith, soon, round) in
+            let not_owner = λ (same : sender plan since ≡ owner_of x). apart (same ∙ owner) in
+            let lost = sender-lost plan turn k since t.planned.follows.good is in
+            let few = nodes-most list t.planned.valid in
+            deaf-judges plan turn x
+            (judges list script start plan turn new numbers t k node at.phase at.place other) since at listed not_owner
+            (no-answer at.place
+            (λ hears. HasThird (sender plan (suc turn)) (sender plan since) _ hears
+            (record {
+              listed = listed;
+              not_self = told.unshown since (omega arith) from;
+              not_owner = not_owner;
+              held = at.lacks refl;
+            })
+            (has_node-with_member (planned_members plan turn) (sender plan (suc turn)) (sender plan since)
+            (omega (arith, listed, few)) lost.member))
+            (ap (may_stay plan.nodes turn) is) (fate_of plan turn (sender plan (suc turn))) refl)
       ]
 
   pub falling-next : (change : Change) (since : ℕ) → fate_of plan turn k ≡ Falling change since →
       let past = next_past (slot_of list script new numbers k) in
-      ((past.phase ≡ phase.Left) × (change ≡ Receiving)) ⊎ IsFallingAt list plan (suc turn) change since past
+      ((past.phase ≡ phase.Left) × (change ≡ Receiving)) ⊎ IsFallingAt list plan (suc turn) k change since past
   falling-next Receiving since is = elim (deaf-on since is) [
     | inl left ↦ inl (left, refl)
     | inr at ↦ inr at
@@ -126,51 +189,14 @@ module _ (list : Medl) (script : Script) (start : ClusterStart) (plan : Plan) (t
 
   -- one that was lost, and has had its first slot since: no frame answers its own
   module _ (change : Change) (since shown : ℕ) (is : fate_of plan turn k ≡ Fallen change since shown) where
-    by-silence : NoneSends list script (world list script numbers)
-        (messages_chosen list script (length numbers) new.sent)
+    lacks-fallen : HearsMembers (slot_of list script new numbers k) (sender plan (suc turn))
+        (with_node (planned_members plan turn) (sender plan (suc turn)))
         → HearsNoAnswer (slot_of list script new numbers k)
-    by-silence none =
-        NoFrame (frameless-silent _ (silent-none_sends list script (world list script numbers) _ k none))
-
-    by-sound : fate_of plan turn (sender plan (suc turn)) ≡ Sound
-        → IsFallenAt list plan turn k shown (slot_of list script new numbers k).past
-        → HearsNoAnswer (slot_of list script new numbers k)
-    by-sound sends at = by _ _ refl refl
-      where
-        by : (lost within : Bool)
-            → loses script (sender plan (suc turn)) (length (world list script numbers)) k ≡ lost
-            → is_within_window list
-            (deviation_in (slot_after list script (world list script numbers)) k (sender plan (suc turn)))
-            ≡ within
-            → HearsNoAnswer (slot_of list script new numbers k)
-        by true within lost _ =
-            NoFrame (none-alone list script (world list script numbers) _ (sender plan (suc turn)) k
-            (sound-alone list script start plan turn new numbers t sends) lost)
-        by false false kept outside =
-            Outside (sender plan (suc turn))
-            (outside-alone list script (world list script numbers) _ (sender plan (suc turn)) k
-            (sound-alone list script start plan turn new numbers t sends) kept outside)
-        by false true kept within =
-            let few = nodes-most list t.planned.valid in
-            Lacks (sender plan (suc turn)) _
-            (hears-planned list script start plan turn new numbers t sends k at.place kept within)
-            (has_node-with_other _ (sender plan (suc turn)) k (omega (arith, node, few)) (λ same. other (sym same))
-            ∙ fallen-member plan turn k since shown change t.planned.follows.good less is)
-
-    no-answer : IsFallenAt list plan turn k shown (slot_of list script new numbers k).past
-        → (fate : Fate) → fate_of plan turn (sender plan (suc turn)) ≡ fate
-        → HearsNoAnswer (slot_of list script new numbers k)
-    no-answer at Sound sends = by-sound sends at
-    no-answer at Absent sends = by-silence (silent-absent list script start plan turn new numbers t sends)
-    no-answer at (Fallen c s sh) sends =
-        by-silence (none-sends list script start plan turn new numbers t
-        (fallen-leaves list script start plan turn new numbers t c s sh sends).1)
-    no-answer at (Falling c s) sends =
-        let soon = at.soon in
-        let stays : may_stay plan.nodes turn (fate_of plan turn k) ≡ true =
-        ap (may_stay plan.nodes turn) is ∙ lt-ltb turn (shown + plan.nodes) soon in
-        absurd (other (one-stays plan turn (sender plan (suc turn)) k t.planned.follows.good
-        (ap (may_stay plan.nodes turn) sends) stays))
+    lacks-fallen hears =
+        let few = nodes-most list t.planned.valid in
+        Lacks (sender plan (suc turn)) _ hears
+        (has_node-with_other _ (sender plan (suc turn)) k (omega (arith, node, few)) (λ same. other (sym same))
+        ∙ fallen-member plan turn k since shown change t.planned.follows.good less is)
 
     still-soon : turn < shown + plan.nodes → suc turn < shown + plan.nodes
     still-soon soon = elim (cases_lt (suc turn) (shown + plan.nodes)) [
@@ -183,7 +209,7 @@ module _ (list : Medl) (script : Script) (start : ClusterStart) (plan : Plan) (t
 
     pub fallen-next :
         let past = next_past (slot_of list script new numbers k) in
-        (past.phase ≡ phase.Left) ⊎ IsFallenAt list plan (suc turn) k shown past
+        (past.phase ≡ phase.Left) ⊎ IsFallenAt list plan (suc turn) k since shown past
     fallen-next =
         let x = slot_of list script new numbers k in
         elim (at-fate list script start plan turn new numbers t k (Fallen change since shown) node is) [
@@ -192,6 +218,8 @@ module _ (list : Medl) (script : Script) (start : ClusterStart) (plan : Plan) (t
           | inr at ↦
               let soon = at.soon in
               fallen-judges plan turn x
-              (judges list script start plan turn new numbers t k node at.phase at.place other) shown at
-              (no-answer at (fate_of plan turn (sender plan (suc turn))) refl) (still-soon soon)
+              (judges list script start plan turn new numbers t k node at.phase at.place other) since shown at
+              (no-answer at.place lacks-fallen
+              (ap (may_stay plan.nodes turn) is ∙ lt-ltb turn (shown + plan.nodes) soon)
+              (fate_of plan turn (sender plan (suc turn))) refl) (still-soon soon)
         ]

@@ -1,6 +1,6 @@
 -- A node in its own slot: a sound one sends, a lost one sends in its first and has left after its second.
-use Rattle.std.proofs.Common.{◌≡◌, ℕ, suc, ◌+◌, ◌<◌, ◌≤◌, Bool, true, false, List, [], length, refl, ap, sym}
-use Rattle.std.proofs.Common.{subst, ◌∙◌, ◌⊎◌, inl, inr, arith}
+use Rattle.std.proofs.Common.{◌≡◌, ℕ, suc, ◌+◌, ◌-◌, ◌<◌, ◌≤◌, Bool, true, false, List, [], length, refl, ap, sym}
+use Rattle.std.proofs.Common.{subst, ◌∙◌, ◌⊎◌, inl, inr, mod-lt, arith}
 use Rattle.std.proofs.lemmas.Bool.{false≢true, false_from_ne_true, cases_lt}
 use Rattle.ttp_base.specs.NodeSet.{with_node}
 use Rattle.ttp_world.specs.declared.node.Ack.{Ack}
@@ -14,6 +14,7 @@ use Rattle.fault_plan.specs.Plan.{Change, Plan, sender}
 use Rattle.fault_plan.specs.Fates.{is_good_slot}
 use Rattle.fault_plan.specs.GoodPlan.{IsGoodPlan}
 use Rattle.fault_plan.specs.Ledger.{Ledger, planned_members, ledger_of}
+use Rattle.fault_plan.specs.Told.{IsFalling}
 use Rattle.fault_plan.proofs.Counts.{bad-own, bad-first, seen-round, four-sound}
 use Rattle.safety_laws.specs.Groups.{IsUnanswered, HoldsGroup}
 use Rattle.safety_laws.specs.NodeSlot.{NodeSlot, frames_made, next_past, coming_place}
@@ -22,7 +23,7 @@ use Rattle.safety_laws.specs.Turns.{IsAtOwnSlot}
 use Rattle.safety_laws.proofs.Groups.{holds-sent}
 use Rattle.safety_laws.proofs.OwnSlots.{sent-own, left-unacknowledged, left-clique}
 use Rattle.safety_steps.specs.ByFate.{doubts, IsCounted, IsSoundAt, IsFallingAt, IsFallenAt}
-use Rattle.safety_steps.proofs.PlanSteps.{members-good, ledger-own}
+use Rattle.safety_steps.proofs.PlanSteps.{members-good, ledger-own, round-turn}
 
 -- its own frame is acknowledged, and it accepted more frames than it rejected
 pub record MaySend (x : NodeSlot) : Type 0 where
@@ -110,30 +111,52 @@ module _ (plan : Plan) (turn : ℕ) (x : NodeSlot) (is : IsSoundOwner plan turn 
         sound-sends.closed stands);
     counted = counted-sent;
     doubted = λ y doubt. let both : ack.Doubt y ≡ ack.First = sym doubt ∙ stands.ack in cc;
+    fresh = λ own. stands.ack;
   }
 
   -- one that is lost in its own slot sends all the same
-  pub lost-sent : IsFallenAt x.list plan (suc turn) x.node (suc turn) (next_past x)
+  pub lost-sent : IsFallenAt x.list plan (suc turn) x.node (suc turn) (suc turn) (next_past x)
   lost-sent = record {
     phase = stands.phase;
     place = stands.place ∙ ap (next_place x.list) is.at.place;
     later = stands.cold_start;
     unanswered = subst (IsUnanswered x.node) (sym stands.ack) tt;
     soon = let some = is.good.count in omega (arith, some);
+    early = let some = is.good.count in omega (arith, some);
   }
 
 -- A lost node.
 
 module _ (plan : Plan) (turn : ℕ) (x : NodeSlot) (good : IsGoodPlan plan) (own : IsAtOwnSlot x) where
-  -- in its first own slot it leaves, or sends and is not answered yet
-  pub falling-own : (change : Change) (since : ℕ) → IsFallingAt x.list plan turn change since x.past
+  -- in its first own slot it leaves, as it does in the last of the round since it was lost, or sends and is not
+  -- answered yet
+  pub falling-own : (change : Change) (since : ℕ) → IsFalling plan turn x.node change since
+      → sender plan (suc turn) ≡ x.node → IsFallingAt x.list plan turn x.node change since x.past
       → (((next_past x).phase ≡ phase.Left) × (frames_made x ≡ []))
-      ⊎ (MaySend x × IsFallenAt x.list plan (suc turn) x.node (suc turn) (next_past x))
-  falling-own change since at = by (is_open x.past.ack) refl
+      ⊎ (MaySend x × IsFallenAt x.list plan (suc turn) x.node since (suc turn) (next_past x))
+  falling-own change since told owner at = by (is_open x.past.ack) refl
     where
+      -- a round before that last slot it had one, and no answer to its frame since
+      not_last : x.past.ack ≡ ack.Closed → suc (suc turn) ≡ since + plan.nodes → ⊥
+      not_last closed last =
+          let late = told.loss.late in
+          let some = good.count in
+          let before = since - 1 in
+          let round : before + plan.nodes ≡ suc turn = omega (arith, late, some, last) in
+          let own : sender plan before ≡ x.node =
+          sym (round-turn plan before (sender plan before) (omega (arith, some))
+          (mod-lt (plan.starter + before) (omega (arith, some))) refl) ∙ ap (sender plan) round ∙ owner in
+          subst (IsUnanswered x.node) closed (at.waits before (omega (arith, late, some)) own)
+
+      early-sent : x.past.ack ≡ ack.Closed → suc (suc turn) < since + plan.nodes
+      early-sent closed = elim (cases_lt (suc (suc turn)) (since + plan.nodes)) [
+        | inl before ↦ before
+        | inr over ↦ let soon = told.soon in absurd (not_last closed (omega (arith, soon, over)))
+      ]
+
       leaves-or-sends : x.past.ack ≡ ack.Closed
           → (((next_past x).phase ≡ phase.Left) × (frames_made x ≡ []))
-          ⊎ (MaySend x × IsFallenAt x.list plan (suc turn) x.node (suc turn) (next_past x))
+          ⊎ (MaySend x × IsFallenAt x.list plan (suc turn) x.node since (suc turn) (next_past x))
       leaves-or-sends closed = elim (cases_lt x.past.rejected x.past.accepted) [
         | inl more ↦
             let stands = sent-own x own closed more in
@@ -145,6 +168,7 @@ module _ (plan : Plan) (turn : ℕ) (x : NodeSlot) (good : IsGoodPlan plan) (own
                 later = stands.cold_start;
                 unanswered = subst (IsUnanswered x.node) (sym stands.ack) tt;
                 soon = let some = good.count in omega (arith, some);
+                early = early-sent closed;
               }),
             )
         | inr few ↦ let left = left-clique x own closed few in inl (left.0.phase, left.1)
@@ -152,7 +176,7 @@ module _ (plan : Plan) (turn : ℕ) (x : NodeSlot) (good : IsGoodPlan plan) (own
 
       by : (opened : Bool) → is_open x.past.ack ≡ opened
           → (((next_past x).phase ≡ phase.Left) × (frames_made x ≡ []))
-          ⊎ (MaySend x × IsFallenAt x.list plan (suc turn) x.node (suc turn) (next_past x))
+          ⊎ (MaySend x × IsFallenAt x.list plan (suc turn) x.node since (suc turn) (next_past x))
       by true opened = let left = left-unacknowledged x own opened at.later in inl (left.0.phase, left.1)
       by false closed = leaves-or-sends (closed-ack x.past.ack closed)
 
@@ -162,8 +186,8 @@ module _ (plan : Plan) (turn : ℕ) (x : NodeSlot) (good : IsGoodPlan plan) (own
   open-unanswered k (ack.Doubt y) unanswered = refl
 
   -- in its second it leaves
-  pub fallen-own : (shown : ℕ) → IsFallenAt x.list plan turn x.node shown x.past
+  pub fallen-own : (since shown : ℕ) → IsFallenAt x.list plan turn x.node since shown x.past
       → ((next_past x).phase ≡ phase.Left) × (frames_made x ≡ [])
-  fallen-own shown at =
+  fallen-own since shown at =
       let left = left-unacknowledged x own (open-unanswered x.node x.past.ack at.unanswered) at.later in
       (left.0.phase, left.1)

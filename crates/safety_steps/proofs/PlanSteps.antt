@@ -9,7 +9,7 @@ use Rattle.fault_plan.specs.Fates.{Fate, Absent, Sound, Falling, Fallen, struck,
 use Rattle.fault_plan.specs.Fates.{is_sound_after, is_good_slot, is_first_slot, is_shown_in, may_stay}
 use Rattle.fault_plan.specs.GoodPlan.{IsGoodPlan}
 use Rattle.fault_plan.specs.Ledger.{opened, with_slot, planned_members, ledger_of}
-use Rattle.fault_plan.specs.Told.{IsFallen, IsTold}
+use Rattle.fault_plan.specs.Told.{IsFalling, IsFallen, IsTold}
 use Rattle.fault_plan.proofs.FateSteps.{strikes}
 use Rattle.fault_plan.proofs.FateTells.{fate-told}
 use Rattle.fault_plan.proofs.Ledgers.{ledger-told}
@@ -168,12 +168,19 @@ pub first-shown : (plan : Plan) (turn since : ℕ) (change : Change)
     → is_first_slot plan turn ≡ true
 first-shown plan turn since change is = ap (is_shown_in turn) is ∙ eq-eqb turn turn refl
 
--- Doubts.
+-- What a fate tells.
+
+pub told-falling : (plan : Plan) (turn k since : ℕ) (change : Change) → IsGoodPlan plan
+    → fate_of plan turn k ≡ Falling change since
+    → IsFalling plan turn k change since
+told-falling plan turn k since change good is = subst (IsTold plan turn k) is (fate-told plan turn k good)
 
 pub told-fallen : (plan : Plan) (turn k since shown : ℕ) (change : Change) → IsGoodPlan plan
     → fate_of plan turn k ≡ Fallen change since shown
     → IsFallen plan turn k change since shown
 told-fallen plan turn k since shown change good is = subst (IsTold plan turn k) is (fate-told plan turn k good)
+
+-- Doubts.
 
 -- A node k that lost since k's newest own slot, and has had a slot, is not the next sender.
 pub doubt-apart : (plan : Plan) (turn k y shown : ℕ) → IsGoodPlan plan → k < plan.nodes

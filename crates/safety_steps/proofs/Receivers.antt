@@ -217,7 +217,7 @@ module _ (list : Medl) (script : Script) (start : ClusterStart) (plan : Plan) (t
 
         -- the frame of a receiver that was lost
         pub receives-deaf : (since : ℕ) → IsDeafSender plan turn since
-            → IsFallingAt list plan turn Receiving since
+            → IsFallingAt list plan turn (sender plan (suc turn)) Receiving since
             (slot_of list script new numbers (sender plan (suc turn))).past
             → sender plan since ≢ sender plan (suc turn)
             → IsSoundAt list plan (suc turn) k (next_past (slot_of list script new numbers k))

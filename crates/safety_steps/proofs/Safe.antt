@@ -1,11 +1,10 @@
 -- What safety asks follows from what each node is by its fate.
 use Rattle.std.proofs.Common.{◌≡◌, ◌≢◌, ℕ, suc, ◌+◌, ◌-◌, ◌*◌, ◌<◌, ◌≤◌}
 use Rattle.std.proofs.Common.{Bool, true, false, not, ◌&&◌, ◌||◌, List, []}
-use Rattle.std.proofs.Common.{◌∷◌, length, refl, ap, sym, subst, ◌∙◌, inl, inr, arith}
+use Rattle.std.proofs.Common.{◌∷◌, length, refl, ap, sym, subst, ◌∙◌, ◌⊎◌, inl, inr, arith}
 use Rattle.std.specs.Prelude.{nat_le}
 use Rattle.std.specs.List.{AllByRecursion, list_all}
-use Rattle.std.proofs.lemmas.Bool.{false≢true, not_from_false, and_from, both_ways, or_right}
-use Rattle.std.proofs.lemmas.Bool.{leb-true, lt-ltb, le-ltb}
+use Rattle.std.proofs.lemmas.Bool.{false≢true, not_from_false, and_from, or_right, leb-true}
 use Rattle.std.proofs.lemmas.Slice.Eq.{bytes_eq-Decides}
 use Rattle.ttp_base.specs.NodeSet.{most_nodes, has_node}
 use Rattle.ttp_base.proofs.Below.{below-lt}
@@ -26,17 +25,18 @@ use Rattle.ttp_world.specs.World.{node_past}
 use Rattle.ttp_world.proofs.Filters.{each-filter}
 use Rattle.ttp_world.proofs.Lists.{nodes-most}
 use Rattle.fault_plan.specs.Plan.{Change, Sending, Plan}
-use Rattle.fault_plan.specs.Fates.{Fate, Absent, Sound, Falling, Fallen, fate_of, is_sound_after, lost_since, may_stay}
+use Rattle.fault_plan.specs.Fates.{Fate, Absent, Sound, Falling, Fallen, fate_of, is_sound_after, lost_since}
 use Rattle.fault_plan.specs.GoodPlan.{IsGoodPlan}
-use Rattle.fault_plan.specs.Ledger.{planned_members}
-use Rattle.fault_plan.proofs.FateTells.{loss-node, over}
+use Rattle.fault_plan.specs.Ledger.{planned_members, ledger_of}
+use Rattle.fault_plan.proofs.FateTells.{loss-node}
+use Rattle.fault_plan.proofs.Ledgers.{ledger-told}
 use Rattle.fault_plan.proofs.Members.{sound-member, fallen-member}
 use Rattle.safety_laws.specs.Groups.{held_with}
 use Rattle.safety_laws.proofs.GroupSets.{has_node-with_member, has_node-with_other}
-use Rattle.safety_steps.specs.ByFate.{IsSoundAt, IsByFate}
+use Rattle.safety_steps.specs.ByFate.{IsSoundAt, IsFallenAt, IsByFate}
+use Rattle.safety_steps.specs.Gone.{FaultyLeave}
 use Rattle.safety_steps.specs.Run.{StandsAfter}
-use Rattle.safety_steps.proofs.PlanSteps.{sound-fate, told-fallen, doubted-stays}
-use Rattle.safety_steps.proofs.SoundSteps.{told-falling}
+use Rattle.safety_steps.proofs.PlanSteps.{sound-fate, told-falling, told-fallen}
 use Rattle.std.proofs.lemmas.Option.{same_Some}
 use Rattle.std.proofs.Common.{Some}
 
@@ -47,6 +47,11 @@ all-by : {X : Type 0} (P : X → Type 0) (test : X → Bool) (xs : List X) → (
 all-by P test [] passes all = refl
 all-by P test (x ∷ xs) passes all =
     and_from (test x) (list_all test xs) (passes x all.0) (all-by P test xs passes all.1)
+
+each-of : {X : Type 0} {P Q : X → Type 0} (xs : List X) → ((x : X) → P x → Q x) → AllByRecursion P xs
+    → AllByRecursion Q xs
+each-of [] gives all = tt
+each-of (x ∷ xs) gives all = (gives x all.0, each-of xs gives all.1)
 
 -- What a sound node holds.
 
@@ -143,30 +148,42 @@ module _ (list : Medl) (script : Script) (start : ClusterStart) (plan : Plan) (t
       all-by IsCorrect _ (correct_nodes list script history)
       (λ k of_k. ap (λ (p : Phase). not (is_left_phase p)) (at-sound k of_k).phase) corrects
 
-  -- A faulty node has left two rounds after it became faulty, and no correct node holds it.
+  -- A faulty node has left two rounds after it became faulty, less two slots, and no correct node holds it.
 
-  soon-stays : (k since shown : ℕ) (change : Change) → fate_of plan turn k ≡ Fallen change since shown
-      → may_stay plan.nodes turn (fate_of plan turn k) ≡ false → turn < shown + plan.nodes → ⊥
-  soon-stays k since shown change fate gone soon =
-      both_ways (may_stay plan.nodes turn (fate_of plan turn k)) gone
-      (ap (may_stay plan.nodes turn) fate ∙ lt-ltb turn (shown + plan.nodes) soon)
-
-  left-fallen : (k since shown : ℕ) (change : Change) → k < length list.slots
+  fallen-stands : (k since shown : ℕ) (change : Change) → k < length list.slots
       → fate_of plan turn k ≡ Fallen change since shown
-      → may_stay plan.nodes turn (fate_of plan turn k) ≡ false
+      → ((node_past list script history k).phase ≡ phase.Left)
+      ⊎ IsFallenAt list plan turn k since shown (node_past list script history k)
+  fallen-stands k since shown change node fate =
+      subst (λ (f : Fate). IsByFate list plan turn k (node_past list script history k) f) fate
+      (is.holds.nodes k node)
+
+  -- it leaves in its first own slot, where that is the last of a round, and else a round later
+  left-fallen : (k since shown : ℕ) (change : Change) → k < length list.slots
+      → fate_of plan turn k ≡ Fallen change since shown → since + 2 * plan.nodes ≤ suc (suc turn)
       → (node_past list script history k).phase ≡ phase.Left
-  left-fallen k since shown change node fate gone =
-      elim (subst (λ (f : Fate). IsByFate list plan turn k (node_past list script history k) f) fate
-      (is.holds.nodes k node)) [
+  left-fallen k since shown change node fate late =
+      elim (fallen-stands k since shown change node fate) [
         | inl left ↦ left
-        | inr at ↦ let soon = at.soon in absurd (soon-stays k since shown change fate gone soon)
+        | inr at ↦ let soon = at.soon in let early = at.early in absurd (omega (arith, soon, early, late))
       ]
 
-  out-fallen : (k since shown : ℕ) (change : Change) → k < length list.slots
+  -- the one node that may doubt it has had a slot of its own since
+  doubted-early : (j k since shown : ℕ) (change : Change) → IsCorrect j
       → fate_of plan turn k ≡ Fallen change since shown
-      → may_stay plan.nodes turn (fate_of plan turn k) ≡ false
+      → (node_past list script history j).ack ≡ ack.Doubt k → turn < since + plan.nodes
+  doubted-early j k since shown change of_j fate doubt =
+      let at = at-sound j of_j in
+      let found = at.doubted k doubt in
+      let same : (ledger_of plan turn j).base ≡ since =
+      same_Some _ _ (sym (ap lost_since found.1) ∙ ap lost_since fate) in
+      let near = (ledger-told plan turn j good (less j of_j.0)).near in
+      omega (arith, same, near)
+
+  out-fallen : (k since shown : ℕ) (change : Change) → k < length list.slots
+      → fate_of plan turn k ≡ Fallen change since shown → since + plan.nodes ≤ turn
       → is_out list script history k ≡ true
-  out-fallen k since shown change node fate gone =
+  out-fallen k since shown change node fate late =
       all-by IsCorrect _ (correct_nodes list script history) (λ j of_j.
       let at = at-sound j of_j in
       not_from_false _
@@ -174,40 +191,53 @@ module _ (list : Medl) (script : Script) (start : ClusterStart) (plan : Plan) (t
       ∙ held-none (planned_members plan turn) (node_past list script history j).ack k (small k node)
       (fallen-member plan turn k since shown change good (less k node) fate)
       (λ y doubt same.
-      let found = at.doubted y doubt in
-      both_ways (may_stay plan.nodes turn (fate_of plan turn k)) gone
-      (ap (λ z. may_stay plan.nodes turn (fate_of plan turn z)) (sym same)
-      ∙ doubted-stays plan turn j y found.0 good (less j of_j.0) found.1)))) corrects
+      let early = doubted-early j k since shown change of_j fate
+      (doubt ∙ ap (λ (z : ℕ). ack.Doubt z) same) in
+      omega (arith, early, late)))) corrects
 
-  over-late : (k slot since : ℕ) → 2 * plan.nodes ≤ since → lost_since (fate_of plan turn k) ≡ Some since
-      → since ≡ slot - start.slot → slot + 2 * length list.slots ≤ suc (start.slot + turn)
-      → may_stay plan.nodes turn (fate_of plan turn k) ≡ false
-  over-late k slot since from lost same late =
-      let nodes = is.planned.follows.nodes in
-      let count = good.count in
-      over plan turn k since good lost (omega (arith, from, same, late, nodes, count))
-
-  -- by what its fate tells of its loss
+  -- and so by what its fate tells of its loss
   gone-by : (k slot : ℕ) (fate : Fate) → fate_of plan turn k ≡ fate → lost_since fate ≡ Some (slot - start.slot)
-      → slot + 2 * length list.slots ≤ suc (start.slot + turn)
+      → slot + 2 * length list.slots ≤ suc (suc (start.slot + turn))
       → (has_left history k && is_out list script history k) ≡ true
   gone-by k slot Absent fate lost late = cc
   gone-by k slot Sound fate lost late = cc
   gone-by k slot (Falling change since) fate lost late =
       let told = told-falling plan turn k since change good fate in
-      absurd (false≢true (sym (over-late k slot since (told.loss.late) (ap lost_since fate) (same_Some _ _ lost) late)
-      ∙ ap (may_stay plan.nodes turn) fate))
+      let same = same_Some _ _ lost in
+      let after = told.loss.late in
+      let soon = told.soon in
+      let nodes = is.planned.follows.nodes in
+      let count = good.count in
+      absurd (omega (arith, same, late, after, soon, nodes, count))
   gone-by k slot (Fallen change since shown) fate lost late =
       let told = told-fallen plan turn k since shown change good fate in
-      let gone = over-late k slot since (told.loss.late) (ap lost_since fate) (same_Some _ _ lost) late in
+      let same = same_Some _ _ lost in
+      let after = told.loss.late in
+      let nodes = is.planned.follows.nodes in
+      let count = good.count in
+      let over : since + 2 * plan.nodes ≤ suc (suc turn) = omega (arith, same, late, after, nodes, count) in
       let node : k < length list.slots =
       subst (λ n. k < n) is.planned.follows.nodes (loss-node plan k since change good told.loss) in
       and_from (has_left history k) (is_out list script history k)
-      (ap (λ (p : Phase). is_left_phase p) (left-fallen k since shown change node fate gone))
-      (out-fallen k since shown change node fate gone)
+      (ap (λ (p : Phase). is_left_phase p) (left-fallen k since shown change node fate over))
+      (out-fallen k since shown change node fate (omega (arith, over, count)))
 
-  gone : (f : FaultyNode) → lost_since (fate_of plan turn f.node) ≡ Some (f.slot - start.slot)
-      → is_gone list script history f ≡ true
+  abbrev IsLost : FaultyNode → Type 0
+  IsLost f = lost_since (fate_of plan turn f.node) ≡ Some (f.slot - start.slot)
+
+  all-lost : AllByRecursion IsLost (faulty_nodes_after list script (newest_slot history))
+  all-lost =
+      subst (λ slot. AllByRecursion IsLost (faulty_nodes_after list script slot)) (sym newest)
+      (is.faults.faulty turn is.within)
+
+  gone-lost : (f : FaultyNode) → IsLost f → f.slot + 2 * length list.slots ≤ suc (suc (newest_slot history))
+      → (has_left history f.node && is_out list script history f.node) ≡ true
+  gone-lost f lost late = gone-by f.node f.slot (fate_of plan turn f.node) refl lost (omega (arith, late, newest))
+
+  pub faulty-leave : FaultyLeave list script history
+  faulty-leave = each-of (faulty_nodes_after list script (newest_slot history)) gone-lost all-lost
+
+  gone : (f : FaultyNode) → IsLost f → is_gone list script history f ≡ true
   gone f lost = by (nat_le (f.slot + 2 * length list.slots) (suc (newest_slot history))) refl
     where
       by : (over : Bool) → nat_le (f.slot + 2 * length list.slots) (suc (newest_slot history)) ≡ over
@@ -216,14 +246,10 @@ module _ (list : Medl) (script : Script) (start : ClusterStart) (plan : Plan) (t
           ap (λ b. not b || (has_left history f.node && is_out list script history f.node)) is
       by true is =
           let passed = leb-true (f.slot + 2 * length list.slots) (suc (newest_slot history)) is in
-          or_right _ _ (gone-by f.node f.slot (fate_of plan turn f.node) refl lost (omega (arith, passed, newest)))
+          or_right _ _ (gone-lost f lost (omega (arith, passed)))
 
   faulty : faulty_are_gone list script history ≡ true
-  faulty =
-      all-by (λ f. lost_since (fate_of plan turn f.node) ≡ Some (f.slot - start.slot)) _
-      (faulty_nodes_after list script (newest_slot history)) gone
-      (subst (λ slot. AllByRecursion (λ f. lost_since (fate_of plan turn f.node) ≡ Some (f.slot - start.slot))
-      (faulty_nodes_after list script slot)) (sym newest) (is.faults.faulty turn is.within))
+  faulty = all-by IsLost _ (faulty_nodes_after list script (newest_slot history)) gone all-lost
 
   pub safe-after : IsSafe list script history
   safe-after = record { agree = agree; senders = senders; stay = stay; faulty = faulty }
@@ -239,8 +265,10 @@ module _ (list : Medl) (script : Script) (start : ClusterStart) (plan : Plan) (t
       → fate_of plan turn k ≡ Fallen change since shown → shown + plan.nodes ≤ turn
       → (node_past list script history k).phase ≡ phase.Left
   left-after k since shown change node fate past =
-      left-fallen k since shown change node fate
-      (ap (may_stay plan.nodes turn) fate ∙ le-ltb turn (shown + plan.nodes) past)
+      elim (fallen-stands k since shown change node fate) [
+        | inl left ↦ left
+        | inr at ↦ let soon = at.soon in absurd (omega (arith, soon, past))
+      ]
 
   -- so a sender has left a round after it was lost,
   pub left-sender : (k since shown : ℕ) → k < length list.slots → fate_of plan turn k ≡ Fallen Sending since shown
@@ -250,18 +278,22 @@ module _ (list : Medl) (script : Script) (start : ClusterStart) (plan : Plan) (t
       let at_once = (told-fallen plan turn k since shown Sending good fate).sending refl in
       left-after k since shown Sending node fate (omega (arith, at_once, past))
 
-  -- and each lost node two rounds after, less a slot
+  -- and each lost node two rounds after, less two slots
   pub left-lost : (k since : ℕ) → k < length list.slots → lost_since (fate_of plan turn k) ≡ Some since
-      → since + 2 * plan.nodes ≤ suc turn
+      → since + 2 * plan.nodes ≤ suc (suc turn)
       → (node_past list script history k).phase ≡ phase.Left
-  left-lost k since node lost past =
-      by (fate_of plan turn k) refl lost (over plan turn k since good lost past)
+  left-lost k since node lost late = by (fate_of plan turn k) refl lost
     where
       by : (fate : Fate) → fate_of plan turn k ≡ fate → lost_since fate ≡ Some since
-          → may_stay plan.nodes turn (fate_of plan turn k) ≡ false
           → (node_past list script history k).phase ≡ phase.Left
-      by Absent is of_loss gone = cc
-      by Sound is of_loss gone = cc
-      by (Falling change s) is of_loss gone =
-          absurd (false≢true (sym gone ∙ ap (may_stay plan.nodes turn) is))
-      by (Fallen change s shown) is of_loss gone = left-fallen k s shown change node is gone
+      by Absent is of_loss = cc
+      by Sound is of_loss = cc
+      by (Falling change s) is of_loss =
+          let told = told-falling plan turn k s change good is in
+          let same = same_Some _ _ of_loss in
+          let soon = told.soon in
+          let count = good.count in
+          absurd (omega (arith, same, soon, count, late))
+      by (Fallen change s shown) is of_loss =
+          let same = same_Some _ _ of_loss in
+          left-fallen k s shown change node is (omega (arith, same, late))

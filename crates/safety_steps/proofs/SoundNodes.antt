@@ -70,6 +70,7 @@ module _ (plan : Plan) (turn : ℕ) (x : NodeSlot) (is : IsSoundJudge plan turn 
         counted = counted-next true _ good_is refl
             (counted-correct x (ledger_of plan turn x.node) is.at.counted deviation _ judged holds.1);
         doubted = λ y doubt. absurd (false≢true (ap is_open (sym holds.1 ∙ doubt)));
+        fresh = λ own. absurd (others-slot own);
       }
 
   -- what is not accepted, where the slot is not good
@@ -92,6 +93,7 @@ module _ (plan : Plan) (turn : ℕ) (x : NodeSlot) (is : IsSoundJudge plan turn 
                   ∙ ap (λ (l : Ledger). Fallen Receiving l.base found.0)
                   (sym (ledger-other plan turn x.node others-slot)),
             );
+        fresh = λ own. absurd (others-slot own);
       }
 
   -- the frame of a receiver that lost this node's newest frame, judged tentative
@@ -115,4 +117,5 @@ module _ (plan : Plan) (turn : ℕ) (x : NodeSlot) (is : IsSoundJudge plan turn 
               ap (fate_of plan (suc turn)) same ∙ fallen
               ∙ ap (λ (l : Ledger). Fallen Receiving l.base shown) (sym (ledger-other plan turn x.node others-slot)),
         );
+        fresh = λ own. absurd (others-slot own);
       }

@@ -8,25 +8,19 @@ use Rattle.ttp_world.specs.World.{SlotNumbers, Numbers, messages_chosen, world}
 use Rattle.fault_plan.specs.Plan.{Change, Sending, Receiving, Jumping, Plan, sender, incident_at}
 use Rattle.fault_plan.specs.Fates.{Fate, Absent, Sound, Falling, Fallen, fate_of, is_sound, is_sound_after}
 use Rattle.fault_plan.specs.Fates.{is_good_slot, is_first_slot}
-use Rattle.fault_plan.specs.GoodPlan.{IsGoodPlan}
-use Rattle.fault_plan.specs.Told.{IsFalling, IsTold}
+use Rattle.fault_plan.specs.Told.{IsFalling}
 use Rattle.fault_plan.proofs.FateSteps.{strikes}
-use Rattle.fault_plan.proofs.FateTells.{loss-sending, fate-told}
+use Rattle.fault_plan.proofs.FateTells.{loss-sending}
 use Rattle.safety_laws.specs.NodeSlot.{next_past}
 use Rattle.safety_laws.specs.Senders.{SendsAlone}
 use Rattle.safety_steps.specs.ByFate.{IsSoundAt, IsFallingAt, IsFallenAt}
 use Rattle.safety_steps.specs.Turn.{IsTurn}
 use Rattle.safety_steps.proofs.Arrivals.{sound-alone, silent-absent, fallen-leaves, falling-acts}
 use Rattle.safety_steps.proofs.PlanSteps.{IsStruck, struck-known, absent-stays, fallen-stays, sound-stays}
-use Rattle.safety_steps.proofs.PlanSteps.{falling-shown, struck-shown, first-shown}
+use Rattle.safety_steps.proofs.PlanSteps.{falling-shown, struck-shown, first-shown, told-falling}
 use Rattle.safety_steps.proofs.Receivers.{receives-good, receives-silence, receives-none}
 use Rattle.safety_steps.proofs.Receivers.{receives-jumped, receives-deaf}
 use Rattle.safety_steps.proofs.Turns.{slot_of, slot_number, none-sends}
-
-pub told-falling : (plan : Plan) (turn k since : ℕ) (change : Change) → IsGoodPlan plan
-    → fate_of plan turn k ≡ Falling change since
-    → IsFalling plan turn k change since
-told-falling plan turn k since change good is = subst (IsTold plan turn k) is (fate-told plan turn k good)
 
 module _ (list : Medl) (script : Script) (start : ClusterStart) (plan : Plan) (turn : ℕ) (new : SlotNumbers)
     (numbers : Numbers) (t : IsTurn list script start plan turn new numbers) (k : ℕ) (node : k < length list.slots)
@@ -93,8 +87,9 @@ module _ (list : Medl) (script : Script) (start : ClusterStart) (plan : Plan) (t
       by : (c : Change) → change ≡ c
           → ((SendsAlone list script (world list script numbers)
           (messages_chosen list script (length numbers) new.sent) (sender plan (suc turn)))
-          × (IsFallingAt list plan turn change since (slot_of list script new numbers (sender plan (suc turn))).past)
-          × (IsFallenAt list plan (suc turn) (sender plan (suc turn)) (suc turn)
+          × (IsFallingAt list plan turn (sender plan (suc turn)) change since
+          (slot_of list script new numbers (sender plan (suc turn))).past)
+          × (IsFallenAt list plan (suc turn) (sender plan (suc turn)) since (suc turn)
           (next_past (slot_of list script new numbers (sender plan (suc turn))))))
           → IsSoundAt list plan (suc turn) k (next_past (slot_of list script new numbers k))
       by Sending how sends =
@@ -108,7 +103,7 @@ module _ (list : Medl) (script : Script) (start : ClusterStart) (plan : Plan) (t
             falling = falls ∙ ap (λ (c : Change). Falling c since) how;
             shown = shown ∙ ap (λ (c : Change). Fallen c since (suc turn)) how;
           })
-          (subst (λ (c : Change). IsFallingAt list plan turn c since
+          (subst (λ (c : Change). IsFallingAt list plan turn (sender plan (suc turn)) c since
           (slot_of list script new numbers (sender plan (suc turn))).past) how sends.1) apart
 
   by-fate : (fate : Fate) → fate_of plan turn (sender plan (suc turn)) ≡ fate

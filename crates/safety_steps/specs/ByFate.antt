@@ -41,25 +41,31 @@ pub record IsSoundAt (list : Medl) (plan : Plan) (turn k : ℕ) (past : NodePast
   -- which lost this node's newest frame as a receiver, and has had a slot of its own since
   pub doubted : (y : ℕ) → past.ack ≡ ack.Doubt y
       → (shown : ℕ) × (fate_of plan turn y ≡ Fallen Receiving (ledger_of plan turn k).base shown)
+  -- after its own slot its frame waits for an answer
+  pub fresh : sender plan turn ≡ k → past.ack ≡ ack.First
 
 -- Lost nodes.
 
 -- a lost node before its first own slot
-pub record IsFallingAt (list : Medl) (plan : Plan) (turn : ℕ) (change : Change) (since : ℕ) (past : NodePast)
+pub record IsFallingAt (list : Medl) (plan : Plan) (turn k : ℕ) (change : Change) (since : ℕ) (past : NodePast)
     : Type 0 where
   pub phase : past.phase ≡ phase.Active
   pub place : past.place ≡ planned_place list plan turn
   pub later : past.cold_start ≡ false
   -- a receiver lacks the sender whose frame it lost
   pub lacks : change ≡ Receiving → has_node past.members (sender plan since) ≡ false
+  -- a node that was lost in the slot after its own has no answer to its frame
+  pub waits : (before : ℕ) → since ≡ suc before → sender plan before ≡ k → IsUnanswered k past.ack
 
 -- from its first own slot to the last before its second: its own frame is not answered
-pub record IsFallenAt (list : Medl) (plan : Plan) (turn k shown : ℕ) (past : NodePast) : Type 0 where
+pub record IsFallenAt (list : Medl) (plan : Plan) (turn k since shown : ℕ) (past : NodePast) : Type 0 where
   pub phase : past.phase ≡ phase.Active
   pub place : past.place ≡ planned_place list plan turn
   pub later : past.cold_start ≡ false
   pub unanswered : IsUnanswered k past.ack
   pub soon : turn < shown + plan.nodes
+  -- that first slot is not the last of the round since it was lost: there it leaves
+  pub early : suc shown < since + plan.nodes
 
 -- All.
 
@@ -69,6 +75,6 @@ abbrev pub IsByFate : Medl → Plan → ℕ → ℕ → NodePast → Fate → Ty
 IsByFate list plan turn k past Absent = past.phase ≡ phase.Off
 IsByFate list plan turn k past Sound = IsSoundAt list plan turn k past
 IsByFate list plan turn k past (Falling change since) =
-    ((past.phase ≡ phase.Left) × (change ≡ Receiving)) ⊎ IsFallingAt list plan turn change since past
+    ((past.phase ≡ phase.Left) × (change ≡ Receiving)) ⊎ IsFallingAt list plan turn k change since past
 IsByFate list plan turn k past (Fallen change since shown) =
-    (past.phase ≡ phase.Left) ⊎ IsFallenAt list plan turn k shown past
+    (past.phase ≡ phase.Left) ⊎ IsFallenAt list plan turn k since shown past

@@ -10,6 +10,7 @@ ghost use Rattle.ttp_world.specs.World.{SlotNumbers, Numbers, node_past, world};
 ghost use Rattle.fault_plan.specs.Plan.{Change, Sending, Plan};
 ghost use Rattle.fault_plan.specs.Fates.{Fallen, fate_of, lost_since};
 ghost use Rattle.safety_steps.specs.ByFate.{IsSoundAt};
+ghost use Rattle.safety_steps.specs.Gone.{FaultyLeave};
 ghost use Rattle.safety_steps.specs.Turn.{HoldsAfter, IsTurn};
 ghost use Rattle.safety_steps.specs.Run.{IsBegun, StandsAfter};
 
@@ -28,8 +29,8 @@ pub fn by_fate()
 /// What that says of the nodes that the hypothesis test calls correct and faulty. A correct node holds the
 /// plan's members, and in doubt the node that it doubts (`correct`). A node that was lost has left a round
 /// after its first own slot since then (`gone`): so a sender has left a round after it was lost
-/// (`sender`), and every other node two rounds after, less a slot (`other`). And the tests of safety hold
-/// (`safe`).
+/// (`sender`), and every other node two rounds after, less two slots (`other`). By then no correct node
+/// holds it either (`leave`). And the tests of safety hold (`safe`).
 pub fn safe_by_fate()
     ensures correct { (list : Medl) (script : Script) (start : ClusterStart) (plan : Plan) (turn : ℕ)
         (history : History) → StandsAfter list script start plan turn history
@@ -48,8 +49,11 @@ pub fn safe_by_fate()
     ensures other { (list : Medl) (script : Script) (start : ClusterStart) (plan : Plan) (turn : ℕ) (history : History)
         → StandsAfter list script start plan turn history
         → (k since : ℕ) → k < length list.slots → lost_since (fate_of plan turn k) ≡ Some since
-        → since + 2 * plan.nodes ≤ suc turn
+        → since + 2 * plan.nodes ≤ suc (suc turn)
         → (node_past list script history k).phase ≡ phase.Left }
+    ensures leave { (list : Medl) (script : Script) (start : ClusterStart) (plan : Plan) (turn : ℕ) (history : History)
+        → StandsAfter list script start plan turn history
+        → FaultyLeave list script history }
     ensures safe { (list : Medl) (script : Script) (start : ClusterStart) (plan : Plan) (turn : ℕ) (history : History)
         → StandsAfter list script start plan turn history
         → IsSafe list script history }

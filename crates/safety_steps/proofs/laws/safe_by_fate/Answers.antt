@@ -1,4 +1,5 @@
 use Rattle.safety_steps.proofs.Safe.{safe-after, correct-sound, left-after, left-sender, left-lost}
+use Rattle.safety_steps.proofs.Safe.{faulty-leave}
 use Rattle.safety_steps.proofs.laws.safe_by_fate.Goals as goal
 
 pub returns-clause-correct : goal.returns-clause-correct
@@ -12,6 +13,9 @@ returns-clause-sender c = left-sender
 
 pub returns-clause-other : goal.returns-clause-other
 returns-clause-other c = left-lost
+
+pub returns-clause-leave : goal.returns-clause-leave
+returns-clause-leave c = faulty-leave
 
 pub returns-clause-safe : goal.returns-clause-safe
 returns-clause-safe c = safe-after
