@@ -30,3 +30,4 @@ pub mod ReadLines
 pub mod SlotParts
 pub mod NextClusters
 pub mod ReportTexts
+pub mod QuietScripts

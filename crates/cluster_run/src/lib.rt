@@ -25,3 +25,6 @@ mod sending;
 mod slot;
 
 pub use cluster::Cluster;
+
+#[cfg(test)]
+mod tests;
