@@ -91,7 +91,7 @@ shift-jump z c r j is = omega (arith, ints, is)
 
 module _ {list : Medl} {script : Script} {start : ClusterStart} {plan : Plan} {x base : ℕ} {jump : ℤ}
     (jumps : JumpsAfter list script start plan x base jump) where
-  -- what its next slot adds to that
+  -- what the next slot adds to the jump in its clock
   jumped-next : (slot q : ℕ) → start.slot + suc slot < script.slots → slot ≡ base + q
       → jumped_in jump (suc q) ≡ jumped_in jump q +ℤ jump_of script x (start.slot + suc slot)
   jumped-next slot zero within is =
