@@ -55,33 +55,6 @@ jumped_in jump zero = pos 0
 jumped_in jump (suc zero) = pos 0
 jumped_in jump (suc (suc q)) = jump
 
--- what its next slot adds to that
-jumped-next : (list : Medl) (script : Script) (start : ClusterStart) (plan : Plan) (x base slot q : ℕ) (jump : ℤ)
-    → JumpsAfter list script start plan x base jump → start.slot + suc slot < script.slots → slot ≡ base + q
-    → jumped_in jump (suc q) ≡ jumped_in jump q +ℤ jump_of script x (start.slot + suc slot)
-jumped-next list script start plan x base slot zero jump jumps within is =
-    none-of (jump_of script x (start.slot + suc slot))
-    (jumps.follows.planned.clocks (suc base) (suc slot) x jumps.inside
-    (subst (λ t. start.slot + suc t < script.slots) same within) (omega (arith, is)) jumps.sound)
-  where
-    same : slot ≡ base
-    same = omega (arith, is)
-
-    none-of : (j : ℤ) → j ≡ pos 0 → pos 0 ≡ pos 0 +ℤ j
-    none-of j none = omega (arith, ints, none)
-jumped-next list script start plan x base slot (suc zero) jump jumps within is =
-    let there : suc (suc base) ≡ suc slot = omega (arith, is) in
-    one-of (jump_of script x (start.slot + suc slot)) jump
-    (subst (λ t. jump_of script x (start.slot + t) ≡ jump) there jumps.here)
-  where
-    one-of : (j z : ℤ) → j ≡ z → z ≡ pos 0 +ℤ j
-    one-of j z is = omega (arith, ints, is)
-jumped-next list script start plan x base slot (suc (suc q)) jump jumps within is =
-    more-of (jump_of script x (start.slot + suc slot)) jump (jumps.once (suc slot) (omega (arith, is)))
-  where
-    more-of : (j z : ℤ) → j ≡ pos 0 → z ≡ z +ℤ j
-    more-of j z none = omega (arith, ints, none)
-
 -- x's place, and both clocks
 pub record StaysApart (list : Medl) (script : Script) (plan : Plan) (slot x k q : ℕ) (jumped : ℤ) (history : History)
     : Type 0 where
@@ -89,7 +62,7 @@ pub record StaysApart (list : Medl) (script : Script) (plan : Plan) (slot x k q 
   pub apart : Apart list (sender plan slot) q (clock_after list script history x -ℤ jumped)
       (clock_after list script history k) (round_notes list history x)
 
--- Slot base.
+-- Numbers.
 
 both-sides : (w v a b x y : ℤ) → (x -ℤ y) ≤ℤ w → (y -ℤ x) ≤ℤ w → x ≡ a → y ≡ b → w ≤ℤ v → IsUpTo v ((a -ℤ pos 0) -ℤ b)
 both-sides w v a b x y above below is was wide =
@@ -101,68 +74,6 @@ spread-fits share e b up some = omega (arith, ints, up, some)
 
 less-none : (z : ℤ) → z -ℤ pos 0 ≡ z
 less-none z = omega (arith, ints)
-
-stays-base : (list : Medl) (script : Script) (start : ClusterStart) (plan : Plan) (x k base slot : ℕ) (jump : ℤ)
-    (history : History)
-    → JumpsAfter list script start plan x base jump → GoesOnByPlan list script start plan slot history
-    → slot ≡ base → IsSoundIn list plan (suc slot) k
-    → StaysApart list script plan slot x k 0 (pos 0) history
-stays-base list script start plan x k base slot jump history jumps goes is q = record {
-  place = (counted-run list script start plan slot history jumps.follows.planned goes.noted).places x
-      (sound-back list plan slot x p);
-  apart = elim (cases_lt (suc m) (length list.slots)) [
-    | inl less ↦
-        Before less (omega arith) (near (noted_width list m) (fits m))
-        (same-near (noted_width list m) (clock_after list script history x) (clock_after list script history k)
-        (clock_after list script history x -ℤ pos 0) (clock_after list script history k)
-        (round_notes list history x) (less-none (clock_after list script history x)) refl
-        (known.near early less x k (sound-back list plan slot x p) (sound-back list plan slot k q)))
-    | inr ends ↦
-        Fresh refl (omega (arith, ends, inside))
-        (near (needed list) (fewer (drift_share list) list.error jumps.valid.error.0))
-  ];
-}
-  where
-    m : ℕ
-    m = sender plan slot
-
-    inside : sender plan slot < length list.slots
-    inside = sender-in list script start plan slot jumps.follows.planned
-
-    early : sender plan slot < slot
-    early = omega (arith, sender-in list script start plan slot jumps.follows.planned, jumps.late, is)
-
-    p : IsSoundIn list plan (suc slot) x
-    p = (jumps.inside, subst (λ t. is_sound_after plan (suc t) x ≡ true) (sym is) jumps.sound)
-
-    known : NotesKnown list script plan slot history
-    known = notes-known list script start plan slot history jumps.valid jumps.follows goes.noted
-        (omega (arith, goes.within, number-of list script start plan slot history goes.noted))
-
-    begun : (j : ℕ) → IsSoundIn list plan (suc slot) j
-        → clock_at list script history j ≡ clock_after list script history j
-    begun j r =
-        clock_at-still list script history j
-        (still-of goes j r)
-
-    near : (w : ℤ) → spread list ≤ℤ w
-        → IsUpTo w ((clock_after list script history x -ℤ pos 0) -ℤ clock_after list script history k)
-    near w wide =
-        both-sides (spread list) w (clock_after list script history x) (clock_after list script history k)
-        (clock_at list script history x) (clock_at list script history k)
-        (sound-clocks goes x k p q)
-        (sound-clocks goes k x q p)
-        (begun x p) (begun k q) wide
-
-    fewer : (share e : ℤ) → pos 0 ≤ℤ e
-        → (share +ℤ (e *ℤ pos 2 +ℤ pos 1)) ≤ℤ (share +ℤ (e *ℤ pos 3 +ℤ pos 1))
-    fewer share e up = omega (arith, ints, up)
-
-    fits : (i : ℕ) → spread list ≤ℤ noted_width list i
-    fits i = spread-fits (drift_share list) list.error (drift_in list (suc i)) jumps.valid.error.0
-        (product_up list.drift (suc i) jumps.valid.drift.0)
-
--- One slot more.
 
 -- x goes on in the slot, and what it notes is near k
 record NotesNear (list : Medl) (script : Script) (plan : Plan) (slot x k : ℕ) (jumped : ℤ) (row : List Entry)
@@ -178,125 +89,211 @@ drift-jumps o j d a b w is h = (omega (arith, ints, is, h.0, h.1), omega (arith,
 shift-jump : (z c r j : ℤ) → z ≡ c +ℤ r → z -ℤ j ≡ (c -ℤ j) +ℤ r
 shift-jump z c r j is = omega (arith, ints, is)
 
-stays-next : (list : Medl) (script : Script) (start : ClusterStart) (plan : Plan) (x k base slot q : ℕ) (jump : ℤ)
-    (row : List Entry) (history : History)
-    → JumpsAfter list script start plan x base jump → NextSlot list script start plan slot row history
-    → slot ≡ base + q → suc q ≤ length list.slots → IsSoundIn list plan (suc slot) k
-    → NotesNear list script plan slot x k (jumped_in jump (suc q)) row history
-    → StaysApart list script plan slot x k q (jumped_in jump q) history
-    → StaysApart list script plan (suc slot) x k (suc q) (jumped_in jump (suc q)) (row ∷ history)
-stays-next list script start plan x k base slot q jump row history jumps s is few p new before = record {
-  place = place;
-  apart = apart-next list (sender plan slot) q (clock_after list script history x -ℤ jumped_in jump q)
-      (clock_after list script history k) (round_notes list history x) (sender plan (suc slot))
-      (clock_after list script (row ∷ history) x -ℤ jumped_in jump (suc q))
-      (clock_after list script (row ∷ history) k) (round_notes list (row ∷ history) x)
-      (record {
-        many = jumps.valid.count.0;
-        needs = needed-up list jumps.valid;
-        later_c = clock_moved list script history x -ℤ jumped_in jump (suc q);
-        later_k = clock_moved list script history k;
-        moved = record {
-          up = jumps.valid.drift.0;
-          first = drift-jumps (clock_after list script history x) (jump_of script x (length history))
-              (drift_of script x) (jumped_in jump q) (jumped_in jump (suc q)) list.drift added
-              (drift_within list script x jumps.follows.bounds.clocks jumps.inside);
-          second = sound-moved s k p;
+module _ {list : Medl} {script : Script} {start : ClusterStart} {plan : Plan} {x base : ℕ} {jump : ℤ}
+    (jumps : JumpsAfter list script start plan x base jump) where
+  -- what the next slot adds to the jump in its clock
+  jumped-next : (slot q : ℕ) → start.slot + suc slot < script.slots → slot ≡ base + q
+      → jumped_in jump (suc q) ≡ jumped_in jump q +ℤ jump_of script x (start.slot + suc slot)
+  jumped-next slot zero within is =
+      none-of (jump_of script x (start.slot + suc slot))
+      (jumps.follows.planned.clocks (suc base) (suc slot) x jumps.inside
+      (subst (λ t. start.slot + suc t < script.slots) same within) (omega (arith, is)) jumps.sound)
+    where
+      same : slot ≡ base
+      same = omega (arith, is)
+
+      none-of : (j : ℤ) → j ≡ pos 0 → pos 0 ≡ pos 0 +ℤ j
+      none-of j none = omega (arith, ints, none)
+  jumped-next slot (suc zero) within is =
+      let there : suc (suc base) ≡ suc slot = omega (arith, is) in
+      one-of (jump_of script x (start.slot + suc slot)) jump
+      (subst (λ t. jump_of script x (start.slot + t) ≡ jump) there jumps.here)
+    where
+      one-of : (j z : ℤ) → j ≡ z → z ≡ pos 0 +ℤ j
+      one-of j z is = omega (arith, ints, is)
+  jumped-next slot (suc (suc q)) within is =
+      more-of (jump_of script x (start.slot + suc slot)) jump (jumps.once (suc slot) (omega (arith, is)))
+    where
+      more-of : (j z : ℤ) → j ≡ pos 0 → z ≡ z +ℤ j
+      more-of j z none = omega (arith, ints, none)
+
+  -- Slot base.
+
+  stays-base : {slot : ℕ} {history : History} (k : ℕ) → GoesOnByPlan list script start plan slot history
+      → slot ≡ base → IsSoundIn list plan (suc slot) k
+      → StaysApart list script plan slot x k 0 (pos 0) history
+  stays-base {slot = slot} {history = history} k goes is q = record {
+    place = (counted-run list script start plan slot history jumps.follows.planned goes.noted).places x
+        (sound-back list plan slot x p);
+    apart = elim (cases_lt (suc m) (length list.slots)) [
+      | inl less ↦
+          Before less (omega arith) (near (noted_width list m) (fits m))
+          (same-near (noted_width list m) (clock_after list script history x) (clock_after list script history k)
+          (clock_after list script history x -ℤ pos 0) (clock_after list script history k)
+          (round_notes list history x) (less-none (clock_after list script history x)) refl
+          (known.near early less x k (sound-back list plan slot x p) (sound-back list plan slot k q)))
+      | inr ends ↦
+          Fresh refl (omega (arith, ends, inside))
+          (near (needed list) (fewer (drift_share list) list.error jumps.valid.error.0))
+    ];
+  }
+    where
+      m : ℕ
+      m = sender plan slot
+
+      inside : sender plan slot < length list.slots
+      inside = sender-in list script start plan slot jumps.follows.planned
+
+      early : sender plan slot < slot
+      early = omega (arith, sender-in list script start plan slot jumps.follows.planned, jumps.late, is)
+
+      p : IsSoundIn list plan (suc slot) x
+      p = (jumps.inside, subst (λ t. is_sound_after plan (suc t) x ≡ true) (sym is) jumps.sound)
+
+      known : NotesKnown list script plan slot history
+      known = notes-known list script start plan slot history jumps.valid jumps.follows goes.noted
+          (omega (arith, goes.within, number-of list script start plan slot history goes.noted))
+
+      begun : (j : ℕ) → IsSoundIn list plan (suc slot) j
+          → clock_at list script history j ≡ clock_after list script history j
+      begun j r =
+          clock_at-still list script history j
+          (still-of goes j r)
+
+      near : (w : ℤ) → spread list ≤ℤ w
+          → IsUpTo w ((clock_after list script history x -ℤ pos 0) -ℤ clock_after list script history k)
+      near w wide =
+          both-sides (spread list) w (clock_after list script history x) (clock_after list script history k)
+          (clock_at list script history x) (clock_at list script history k)
+          (sound-clocks goes x k p q)
+          (sound-clocks goes k x q p)
+          (begun x p) (begun k q) wide
+
+      fewer : (share e : ℤ) → pos 0 ≤ℤ e
+          → (share +ℤ (e *ℤ pos 2 +ℤ pos 1)) ≤ℤ (share +ℤ (e *ℤ pos 3 +ℤ pos 1))
+      fewer share e up = omega (arith, ints, up)
+
+      fits : (i : ℕ) → spread list ≤ℤ noted_width list i
+      fits i = spread-fits (drift_share list) list.error (drift_in list (suc i)) jumps.valid.error.0
+          (product_up list.drift (suc i) jumps.valid.drift.0)
+
+  -- One slot more.
+
+  stays-next : {slot : ℕ} {row : List Entry} {history : History} (k q : ℕ)
+      → NextSlot list script start plan slot row history
+      → slot ≡ base + q → suc q ≤ length list.slots → IsSoundIn list plan (suc slot) k
+      → NotesNear list script plan slot x k (jumped_in jump (suc q)) row history
+      → StaysApart list script plan slot x k q (jumped_in jump q) history
+      → StaysApart list script plan (suc slot) x k (suc q) (jumped_in jump (suc q)) (row ∷ history)
+  stays-next {slot = slot} {row = row} {history = history} k q s is few p new before = record {
+    place = place;
+    apart = apart-next list (sender plan slot) q (clock_after list script history x -ℤ jumped_in jump q)
+        (clock_after list script history k) (round_notes list history x) (sender plan (suc slot))
+        (clock_after list script (row ∷ history) x -ℤ jumped_in jump (suc q))
+        (clock_after list script (row ∷ history) k) (round_notes list (row ∷ history) x)
+        (record {
+          many = jumps.valid.count.0;
+          needs = needed-up list jumps.valid;
+          later_c = clock_moved list script history x -ℤ jumped_in jump (suc q);
+          later_k = clock_moved list script history k;
+          moved = record {
+            up = jumps.valid.drift.0;
+            first = drift-jumps (clock_after list script history x) (jump_of script x (length history))
+                (drift_of script x) (jumped_in jump q) (jumped_in jump (suc q)) list.drift added
+                (drift_within list script x jumps.follows.bounds.clocks jumps.inside);
+            second = sound-moved s k p;
+          };
+          next = index-of list script start plan slot jumps.follows.planned;
+          new = notes_in list (planned_place list plan (suc slot)) (entry_of row x);
+          near = new.near;
+          noted = notes-next list row history x (sender plan slot) (planned_place list plan (suc slot))
+              (suc (sender plan slot) == length list.slots) new.goes place
+              (index ∙ index-of list script start plan slot jumps.follows.planned);
+          others = round_notes list (row ∷ history) k;
+          small = known.small early k p;
+          first = shift-jump (clock_after list script (row ∷ history) x) (clock_moved list script history x)
+              (correction list (sender plan (suc slot)) (round_notes list (row ∷ history) x)) (jumped_in jump (suc q))
+              (clock-next list script row history x (planned_place list plan (suc slot)) new.goes place
+              ∙ ap (λ m. clock_moved list script history x +ℤ correction list m (round_notes list (row ∷ history) x))
+              index);
+          second = sound-clock s k p;
+        }) few before.apart;
+  }
+    where
+      place : stint_place list x (diary_of (row ∷ history) x) ≡ planned_place list plan (suc slot)
+      place = place_continued list x (diary_of history x) (entry_of row x) new.goes ∙ ap (next_place list) before.place
+
+      index : (planned_place list plan (suc slot)).slot ≡ sender plan (suc slot)
+      index = place-slot list script start plan (suc slot) jumps.follows.planned
+
+      number : start.slot + suc slot ≡ length history
+      number = omega (arith, number-of list script start plan slot history s.before.noted)
+
+      added : jumped_in jump (suc q) ≡ jumped_in jump q +ℤ jump_of script x (length history)
+      added = jumped-next slot q s.before.within is
+          ∙ ap (λ t. jumped_in jump q +ℤ jump_of script x t) number
+
+      known : NotesKnown list script plan (suc slot) (row ∷ history)
+      known = notes-known list script start plan (suc slot) (row ∷ history) jumps.valid jumps.follows
+          (s.before.noted, s.noted) (omega (arith, s.before.within, number))
+
+      early : sender plan (suc slot) < suc slot
+      early = omega (arith, sender-in list script start plan (suc slot) jumps.follows.planned, jumps.late, is)
+
+  -- x is sound in the first of these slots, and has jumped in the others
+  notes-near : {slot : ℕ} {row : List Entry} {history : History} (k q : ℕ)
+      → NextSlot list script start plan slot row history
+      → slot ≡ base + q → IsSoundIn list plan (suc slot) k
+      → (suc (suc base) ≤ suc slot → fate_of plan (suc slot) x ≡ Falling Jumping (suc (suc base)))
+      → NotesNear list script plan slot x k (jumped_in jump (suc q)) row history
+  notes-near {slot = slot} {row = row} {history = history} k zero s is p falls =
+      let same : base ≡ slot = omega (arith, is) in
+      let sound : IsSoundIn list plan (suc slot) x =
+      (jumps.inside, subst (λ t. is_sound_after plan (suc t) x ≡ true) same jumps.sound) in
+      record {
+        goes = sound-goes list script plan (suc slot) x row history s.noted sound;
+        near = same-near (noted_width list (sender plan (suc slot))) (clock_moved list script history x)
+            (clock_moved list script history k) (clock_moved list script history x -ℤ pos 0)
+            (clock_moved list script history k) (notes_in list (planned_place list plan (suc slot)) (entry_of row x))
+            (less-none (clock_moved list script history x)) refl
+            (near-new s x k sound p);
+      }
+  notes-near {slot = slot} {row = row} {history = history} k (suc q) s is p falls =
+      let none : NotesNothing (entry_of row x) =
+      s.noted.jumped x (suc (suc base)) jumps.inside (falls (omega (arith, is))) in
+      record {
+        goes = goes-silent (entry_of row x) none;
+        near = subst (AreNear (noted_width list (sender plan (suc slot)))
+            (clock_moved list script history x -ℤ jump) (clock_moved list script history k))
+            (sym (none-silent list (planned_place list plan (suc slot)) (entry_of row x) none))
+            (All-nil (λ d. IsUpTo (noted_width list (sender plan (suc slot)))
+            (((clock_moved list script history x -ℤ jump) +ℤ d) -ℤ clock_moved list script history k)));
+      }
+
+  pub stays-apart : (k slot : ℕ) (history : History) (q : ℕ) → GoesOnByPlan list script start plan slot history
+      → slot ≡ base + q → q ≤ length list.slots
+      → IsSoundIn list plan (suc slot) k
+      → (suc (suc base) ≤ slot → fate_of plan slot x ≡ Falling Jumping (suc (suc base)))
+      → StaysApart list script plan slot x k q (jumped_in jump q) history
+  stays-apart k slot [] q goes is few p falls = absurd goes.noted
+  stays-apart k zero (row ∷ history) q goes is few p falls =
+      absurd (omega (arith, is, jumps.late, jumps.valid.count.0))
+  stays-apart k (suc slot) (row ∷ history) zero goes is few p falls =
+      stays-base k goes (omega (arith, is)) p
+  stays-apart k (suc slot) (row ∷ history) (suc q) goes is few p falls =
+      let s : NextSlot list script start plan slot row history = record {
+        before = record {
+          valid = jumps.valid;
+          follows = jumps.follows;
+          noted = goes.noted.0;
+          within = omega (arith, goes.within);
         };
-        next = index-of list script start plan slot jumps.follows.planned;
-        new = notes_in list (planned_place list plan (suc slot)) (entry_of row x);
-        near = new.near;
-        noted = notes-next list row history x (sender plan slot) (planned_place list plan (suc slot))
-            (suc (sender plan slot) == length list.slots) new.goes place
-            (index ∙ index-of list script start plan slot jumps.follows.planned);
-        others = round_notes list (row ∷ history) k;
-        small = known.small early k p;
-        first = shift-jump (clock_after list script (row ∷ history) x) (clock_moved list script history x)
-            (correction list (sender plan (suc slot)) (round_notes list (row ∷ history) x)) (jumped_in jump (suc q))
-            (clock-next list script row history x (planned_place list plan (suc slot)) new.goes place
-            ∙ ap (λ m. clock_moved list script history x +ℤ correction list m (round_notes list (row ∷ history) x))
-            index);
-        second = sound-clock s k p;
-      }) few before.apart;
-}
-  where
-    place : stint_place list x (diary_of (row ∷ history) x) ≡ planned_place list plan (suc slot)
-    place = place_continued list x (diary_of history x) (entry_of row x) new.goes ∙ ap (next_place list) before.place
-
-    index : (planned_place list plan (suc slot)).slot ≡ sender plan (suc slot)
-    index = place-slot list script start plan (suc slot) jumps.follows.planned
-
-    number : start.slot + suc slot ≡ length history
-    number = omega (arith, number-of list script start plan slot history s.before.noted)
-
-    added : jumped_in jump (suc q) ≡ jumped_in jump q +ℤ jump_of script x (length history)
-    added = jumped-next list script start plan x base slot q jump jumps s.before.within is
-        ∙ ap (λ t. jumped_in jump q +ℤ jump_of script x t) number
-
-    known : NotesKnown list script plan (suc slot) (row ∷ history)
-    known = notes-known list script start plan (suc slot) (row ∷ history) jumps.valid jumps.follows
-        (s.before.noted, s.noted) (omega (arith, s.before.within, number))
-
-    early : sender plan (suc slot) < suc slot
-    early = omega (arith, sender-in list script start plan (suc slot) jumps.follows.planned, jumps.late, is)
-
--- x is sound in the first of these slots, and has jumped in the others
-notes-near : (list : Medl) (script : Script) (start : ClusterStart) (plan : Plan) (x k base slot q : ℕ) (jump : ℤ)
-    (row : List Entry) (history : History)
-    → JumpsAfter list script start plan x base jump → NextSlot list script start plan slot row history
-    → slot ≡ base + q → IsSoundIn list plan (suc slot) k
-    → (suc (suc base) ≤ suc slot → fate_of plan (suc slot) x ≡ Falling Jumping (suc (suc base)))
-    → NotesNear list script plan slot x k (jumped_in jump (suc q)) row history
-notes-near list script start plan x k base slot zero jump row history jumps s is p falls =
-    let same : base ≡ slot = omega (arith, is) in
-    let sound : IsSoundIn list plan (suc slot) x =
-    (jumps.inside, subst (λ t. is_sound_after plan (suc t) x ≡ true) same jumps.sound) in
-    record {
-      goes = sound-goes list script plan (suc slot) x row history s.noted sound;
-      near = same-near (noted_width list (sender plan (suc slot))) (clock_moved list script history x)
-          (clock_moved list script history k) (clock_moved list script history x -ℤ pos 0)
-          (clock_moved list script history k) (notes_in list (planned_place list plan (suc slot)) (entry_of row x))
-          (less-none (clock_moved list script history x)) refl
-          (near-new s x k sound p);
-    }
-notes-near list script start plan x k base slot (suc q) jump row history jumps s is p falls =
-    let none : NotesNothing (entry_of row x) =
-    s.noted.jumped x (suc (suc base)) jumps.inside (falls (omega (arith, is))) in
-    record {
-      goes = goes-silent (entry_of row x) none;
-      near = subst (AreNear (noted_width list (sender plan (suc slot)))
-          (clock_moved list script history x -ℤ jump) (clock_moved list script history k))
-          (sym (none-silent list (planned_place list plan (suc slot)) (entry_of row x) none))
-          (All-nil (λ d. IsUpTo (noted_width list (sender plan (suc slot)))
-          (((clock_moved list script history x -ℤ jump) +ℤ d) -ℤ clock_moved list script history k)));
-    }
-
-pub stays-apart : (list : Medl) (script : Script) (start : ClusterStart) (plan : Plan) (x k base : ℕ) (jump : ℤ)
-    (slot : ℕ) (history : History) (q : ℕ)
-    → JumpsAfter list script start plan x base jump → GoesOnByPlan list script start plan slot history
-    → slot ≡ base + q → q ≤ length list.slots
-    → IsSoundIn list plan (suc slot) k
-    → (suc (suc base) ≤ slot → fate_of plan slot x ≡ Falling Jumping (suc (suc base)))
-    → StaysApart list script plan slot x k q (jumped_in jump q) history
-stays-apart list script start plan x k base jump slot [] q jumps goes is few p falls = absurd goes.noted
-stays-apart list script start plan x k base jump zero (row ∷ history) q jumps goes is few p falls =
-    absurd (omega (arith, is, jumps.late, jumps.valid.count.0))
-stays-apart list script start plan x k base jump (suc slot) (row ∷ history) zero jumps goes is few p falls =
-    stays-base list script start plan x k base (suc slot) jump (row ∷ history) jumps goes (omega (arith, is)) p
-stays-apart list script start plan x k base jump (suc slot) (row ∷ history) (suc q) jumps goes is few p falls =
-    let s : NextSlot list script start plan slot row history = record {
-      before = record {
-        valid = jumps.valid;
-        follows = jumps.follows;
-        noted = goes.noted.0;
-        within = omega (arith, goes.within);
-      };
-      noted = goes.noted.1;
-    } in
-    let same : slot ≡ base + q = omega (arith, is) in
-    let back : IsSoundIn list plan (suc slot) k = sound-back list plan (suc slot) k p in
-    stays-next list script start plan x k base slot q jump row history jumps s same (omega (arith, few)) back
-    (notes-near list script start plan x k base slot q jump row history jumps s same back falls)
-    (stays-apart list script start plan x k base jump slot history q jumps s.before same
-    (omega (arith, few)) back (λ late. jumped-back plan slot x (suc (suc base)) jumps.follows.planned.good
-    (inl (falls (omega (arith, late)))) (λ now. omega (arith, now, late))))
+        noted = goes.noted.1;
+      } in
+      let same : slot ≡ base + q = omega (arith, is) in
+      let back : IsSoundIn list plan (suc slot) k = sound-back list plan (suc slot) k p in
+      stays-next k q s same (omega (arith, few)) back
+      (notes-near k q s same back falls)
+      (stays-apart k slot history q s.before same
+      (omega (arith, few)) back (λ late. jumped-back plan slot x (suc (suc base)) jumps.follows.planned.good
+      (inl (falls (omega (arith, late)))) (λ now. omega (arith, now, late))))

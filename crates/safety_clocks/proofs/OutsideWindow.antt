@@ -32,7 +32,6 @@ use Rattle.precision.proofs.Rounds.{drift_in, product_four}
 use Rattle.precision.proofs.Runs.{clock_after}
 use Rattle.fault_plan.specs.Plan.{Jumping, Plan, sender}
 use Rattle.fault_plan.specs.Fates.{is_sound_after}
-use Rattle.fault_plan.specs.Kept.{FollowsWithin}
 use Rattle.safety_clocks.specs.Jumps.{HasJumped}
 use Rattle.safety_clocks.specs.NotedByPlan.{IsSoundIn, NotedByPlan, GoesOnByPlan}
 use Rattle.safety_clocks.proofs.Apart.{jump_width, apart-upto}
@@ -145,94 +144,91 @@ far-outside list script history r p inside other error (inr behind) =
 
 -- The jumped clock.
 
--- at the beginning of the slot it is as far ahead as after the slot before, and the jump is in it or comes to it now
-begun-jumped : (list : Medl) (script : Script) (start : ClusterStart) (plan : Plan) (x base slot q : ℕ) (jump : ℤ)
-    (history : History)
-    → JumpsAfter list script start plan x base jump → NotedByPlan list script start plan slot history
-    → slot ≡ base + suc q
-    → clock_at list script history x
-    ≡ (clock_after list script history x -ℤ jumped_in jump (suc q)) +ℤ jump
-begun-jumped list script start plan x base slot q jump [] jumps noted is = absurd noted
-begun-jumped list script start plan x base zero q jump (row ∷ history) jumps noted is = absurd (omega (arith, is))
-begun-jumped list script start plan x base (suc slot) zero jump (row ∷ history) jumps noted is =
-    let same : suc base ≡ suc slot = omega (arith, is) in
-    let here : start.slot + suc (suc base) ≡ suc (length history) =
-    omega (arith, is, number-of list script start plan (suc slot) (row ∷ history) noted) in
-    clock-jumps list script row history x
-    (sound-goes list script plan (suc slot) x row history noted.1
-    (jumps.inside, subst (λ t. is_sound_after plan t x ≡ true) same jumps.sound))
-    ∙ ap (λ z. clock_after list script (row ∷ history) x +ℤ z) (sym (ap (jump_of script x) here) ∙ jumps.here)
-    ∙ add-none (clock_after list script (row ∷ history) x) jump
-  where
-    add-none : (z j : ℤ) → z +ℤ j ≡ (z -ℤ pos 0) +ℤ j
-    add-none z j = omega (arith, ints)
-begun-jumped list script start plan x base (suc slot) (suc q) jump (row ∷ history) jumps noted is =
-    let here : start.slot + suc (suc slot) ≡ suc (length history) =
-    omega (arith, number-of list script start plan (suc slot) (row ∷ history) noted) in
-    clock_at-still list script (row ∷ history) x
-    (sym (ap (jump_of script x) here) ∙ jumps.once (suc (suc slot)) (omega (arith, is)))
-    ∙ less-more (clock_after list script (row ∷ history) x) jump
-  where
-    less-more : (z j : ℤ) → z ≡ (z -ℤ j) +ℤ j
-    less-more z j = omega (arith, ints)
+module _ {list : Medl} {script : Script} {start : ClusterStart} {plan : Plan} {x base : ℕ} {jump : ℤ}
+    (jumps : JumpsAfter list script start plan x base jump) where
+  -- at the beginning of the slot it is as far ahead as after the slot before, and the jump is in it or comes to it now
+  begun-jumped : (slot q : ℕ) (history : History) → NotedByPlan list script start plan slot history
+      → slot ≡ base + suc q
+      → clock_at list script history x
+      ≡ (clock_after list script history x -ℤ jumped_in jump (suc q)) +ℤ jump
+  begun-jumped slot q [] noted is = absurd noted
+  begun-jumped zero q (row ∷ history) noted is = absurd (omega (arith, is))
+  begun-jumped (suc slot) zero (row ∷ history) noted is =
+      let same : suc base ≡ suc slot = omega (arith, is) in
+      let here : start.slot + suc (suc base) ≡ suc (length history) =
+      omega (arith, is, number-of list script start plan (suc slot) (row ∷ history) noted) in
+      clock-jumps list script row history x
+      (sound-goes list script plan (suc slot) x row history noted.1
+      (jumps.inside, subst (λ t. is_sound_after plan t x ≡ true) same jumps.sound))
+      ∙ ap (λ z. clock_after list script (row ∷ history) x +ℤ z) (sym (ap (jump_of script x) here) ∙ jumps.here)
+      ∙ add-none (clock_after list script (row ∷ history) x) jump
+    where
+      add-none : (z j : ℤ) → z +ℤ j ≡ (z -ℤ pos 0) +ℤ j
+      add-none z j = omega (arith, ints)
+  begun-jumped (suc slot) (suc q) (row ∷ history) noted is =
+      let here : start.slot + suc (suc slot) ≡ suc (length history) =
+      omega (arith, number-of list script start plan (suc slot) (row ∷ history) noted) in
+      clock_at-still list script (row ∷ history) x
+      (sym (ap (jump_of script x) here) ∙ jumps.once (suc (suc slot)) (omega (arith, is)))
+      ∙ less-more (clock_after list script (row ∷ history) x) jump
+    where
+      less-more : (z j : ℤ) → z ≡ (z -ℤ j) +ℤ j
+      less-more z j = omega (arith, ints)
 
-pub far-apart : (list : Medl) (script : Script) (start : ClusterStart) (plan : Plan) (x k base slot : ℕ) (jump : ℤ)
-    (history : History)
-    → JumpsAfter list script start plan x base jump → GoesOnByPlan list script start plan slot history
-    → HasJumped plan (suc slot) x (suc (suc base)) → IsSoundIn list plan (suc slot) k → is_far_jump list jump ≡ true
-    → AreFar list (clock_at list script history x) (clock_at list script history k)
-far-apart list script start plan x k base slot jump history jumps goes has p far =
-    let told = jump-told plan (suc slot) x (suc (suc base)) jumps.follows.planned.good has in
-    let q = slot - suc base in
-    let is : slot ≡ base + suc q = omega (arith, told.from) in
-    let few : suc q ≤ length list.slots = omega (arith, told.from, told.soon, jumps.follows.planned.nodes) in
-    let stays = stays-apart list script start plan x k base jump slot history (suc q) jumps goes is few p
-    (λ late. jumped-back plan slot x (suc (suc base)) jumps.follows.planned.good has
-    (λ now. omega (arith, now, late))) in
-    let near : IsUpTo (jump_width list) ((clock_after list script history x -ℤ jumped_in jump (suc q))
-    -ℤ clock_after list script history k) =
-    apart-upto list (sender plan slot) (suc q) (clock_after list script history x -ℤ jumped_in jump (suc q))
-    (clock_after list script history k) _ jumps.valid.drift.0 (needed-up list jumps.valid) few stays.apart in
-    let first = begun-jumped list script start plan x base slot q jump history jumps goes.noted is in
-    let second : clock_at list script history k ≡ clock_after list script history k =
-    clock_at-still list script history k
-    (still-of goes k p) in
-    let less = clock_after list script history x -ℤ jumped_in jump (suc q) in
-    let there : IsUpTo (jump_width list) (less -ℤ clock_at list script history k) =
-    subst (λ z. IsUpTo (jump_width list) (less -ℤ z)) (sym second) near in
-    elim (is-far list jump far) [
-      | inl ahead ↦
-          inl (ahead-up (needed list) list.window (jump_width list) list.error (clock_at list script history x)
-          (clock_at list script history k) less jump first there (jump-exceeds list jumps.valid)
-          jumps.follows.bounds.window ahead)
-      | inr behind ↦
-          inr (behind-down (needed list) list.window (jump_width list) list.error (clock_at list script history x)
-          (clock_at list script history k) less jump first there (jump-exceeds list jumps.valid)
-          jumps.follows.bounds.window behind)
-    ]
+  pub far-apart : {slot : ℕ} {history : History} (k : ℕ) → GoesOnByPlan list script start plan slot history
+      → HasJumped plan (suc slot) x (suc (suc base)) → IsSoundIn list plan (suc slot) k → is_far_jump list jump ≡ true
+      → AreFar list (clock_at list script history x) (clock_at list script history k)
+  far-apart {slot = slot} {history = history} k goes has p far =
+      let told = jump-told plan (suc slot) x (suc (suc base)) jumps.follows.planned.good has in
+      let q = slot - suc base in
+      let is : slot ≡ base + suc q = omega (arith, told.from) in
+      let few : suc q ≤ length list.slots = omega (arith, told.from, told.soon, jumps.follows.planned.nodes) in
+      let stays = stays-apart jumps k slot history (suc q) goes is few p
+      (λ late. jumped-back plan slot x (suc (suc base)) jumps.follows.planned.good has
+      (λ now. omega (arith, now, late))) in
+      let near : IsUpTo (jump_width list) ((clock_after list script history x -ℤ jumped_in jump (suc q))
+      -ℤ clock_after list script history k) =
+      apart-upto list (sender plan slot) (suc q) (clock_after list script history x -ℤ jumped_in jump (suc q))
+      (clock_after list script history k) _ jumps.valid.drift.0 (needed-up list jumps.valid) few stays.apart in
+      let first = begun-jumped slot q history goes.noted is in
+      let second : clock_at list script history k ≡ clock_after list script history k =
+      clock_at-still list script history k
+      (still-of goes k p) in
+      let less = clock_after list script history x -ℤ jumped_in jump (suc q) in
+      let there : IsUpTo (jump_width list) (less -ℤ clock_at list script history k) =
+      subst (λ z. IsUpTo (jump_width list) (less -ℤ z)) (sym second) near in
+      elim (is-far list jump far) [
+        | inl ahead ↦
+            inl (ahead-up (needed list) list.window (jump_width list) list.error (clock_at list script history x)
+            (clock_at list script history k) less jump first there (jump-exceeds list jumps.valid)
+            jumps.follows.bounds.window ahead)
+        | inr behind ↦
+            inr (behind-down (needed list) list.window (jump_width list) list.error (clock_at list script history x)
+            (clock_at list script history k) less jump first there (jump-exceeds list jumps.valid)
+            jumps.follows.bounds.window behind)
+      ]
 
-jumps-after : (list : Medl) (script : Script) (start : ClusterStart) (plan : Plan) (x base slot : ℕ)
-    → IsValid list → FollowsWithin list script start plan → x < length list.slots
-    → start.slot + suc slot < script.slots → IsJumpTold plan (suc slot) x (suc (suc base))
+jumps-after : {list : Medl} {script : Script} {start : ClusterStart} {plan : Plan} {slot : ℕ} {history : History}
+    → GoesOnByPlan list script start plan slot history → (x base : ℕ) → x < length list.slots
+    → IsJumpTold plan (suc slot) x (suc (suc base))
     → (has_jump script x (start.slot + suc (suc base)) ≡ true)
     × JumpsAfter list script start plan x base (jump_of script x (start.slot + suc (suc base)))
-jumps-after list script start plan x base slot valid follows inside within told =
-    let since = suc (suc base) in
+jumps-after {list = list} {script = script} {start = start} {plan = plan} {slot = slot} is x base inside told =
     let jumps : has_jump script x (start.slot + suc (suc base)) ≡ true =
     subst (λ j. has_jump script j (start.slot + suc (suc base)) ≡ true) told.loss.node
-    ((follows.planned.hearing (suc (suc base)) (omega (arith, within, told.from))).jumps told.loss.incident
+    ((is.follows.planned.hearing (suc (suc base)) (omega (arith, is.within, told.from))).jumps told.loss.incident
     told.loss.found
     told.loss.how) in (
       jumps,
       record {
-        valid = valid;
-        follows = follows;
+        valid = is.valid;
+        follows = is.follows;
         inside = inside;
-        sound = sound-till plan x (suc base) Jumping follows.planned.good told.loss;
-        late = omega (arith, told.loss.late, follows.planned.nodes, valid.count.0);
+        sound = sound-till plan x (suc base) Jumping is.follows.planned.good told.loss;
+        late = omega (arith, told.loss.late, is.follows.planned.nodes, is.valid.count.0);
         here = refl;
-        once = λ turn later. follows.bounds.still x (start.slot + turn)
-            (follows.bounds.once x (start.slot + suc (suc base)) (start.slot + turn) (omega (arith, later)) jumps);
+        once = λ turn later. is.follows.bounds.still x (start.slot + turn)
+            (is.follows.bounds.once x (start.slot + suc (suc base)) (start.slot + turn) (omega (arith, later)) jumps);
       },
     )
 
@@ -249,10 +245,9 @@ jumped-far {plan = plan} {slot = slot} is x k (suc zero) inside has p =
     absurd (omega (arith, (jump-told plan (suc slot) x 1 good has).loss.late, good.count.0))
 jumped-far {list = list} {script = script} {start = start} {plan = plan} {slot = slot} {history = history} is x k
     (suc (suc base)) inside has p =
-    let jump = jump_of script x (start.slot + suc (suc base)) in
-    let after = jumps-after list script start plan x base slot is.valid is.follows inside is.within
+    let after = jumps-after is x base inside
     (jump-told plan (suc slot) x (suc (suc base)) is.follows.planned.good has) in
-    far-apart list script start plan x k base slot jump history after.1 is has p
+    far-apart after.1 k is has p
     (is.follows.bounds.jumps x (start.slot + suc (suc base)) after.0)
 
 swap-far : (list : Medl) (x y : ℤ) → AreFar list x y → AreFar list y x
