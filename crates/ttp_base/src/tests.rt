@@ -272,7 +272,7 @@ fn a_stream_gives_each_piece_whole(rt: HostRuntime) {
         (9, 99, 2, b"abcde".as_slice(), true, 5, 3),
         (9, 99, 1000, b"abcde".as_slice(), true, 5, 1001),
         (999, 999, 0, long.as_slice(), true, 640, 1),
-        (9, 99, 0, b"".as_slice(), true, 0, 0),
+        (9, 99, 0, b"".as_slice(), true, 0, 1),
         (0, 99, 0, b"abcde".as_slice(), false, 0, 1),
         (2, 3, 0, b"abcde".as_slice(), false, 3, 3),
     ];
