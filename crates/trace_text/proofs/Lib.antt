@@ -6,6 +6,7 @@ pub mod Options
 pub mod PayloadWords
 pub mod ReadLines
 pub mod ReadWords
+pub mod ReportTexts
 pub mod WordList
 pub mod WrittenLines
 pub mod WrittenWords

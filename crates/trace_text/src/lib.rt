@@ -24,6 +24,7 @@ mod node_line;
 mod numerals;
 mod put;
 mod read;
+mod slot;
 mod trace_line;
 mod words;
 
@@ -31,9 +32,12 @@ pub use host_line::RingMessage;
 pub use node_line::NodeLines;
 pub use put::{put_header, put_keep, put_node_line, put_read_line, put_write_line};
 pub use read::read_line;
+pub use slot::put_slot;
 pub use trace_line::{TraceLine, Word};
 
 #[cfg(test)]
 mod read_tests;
+#[cfg(test)]
+mod slot_tests;
 #[cfg(test)]
 mod tests;

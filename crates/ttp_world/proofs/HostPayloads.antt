@@ -1,0 +1,170 @@
+-- The messages that hosts read from another node are bytes, as many as the list gives that node.
+use Rattle.std.proofs.Common.{◌≡◌, ℕ, zero, suc, ◌+◌, ◌-◌, ◌<◌, ◌≤◌, true, List, [], ◌∷◌, ◌++◌, All, length, get_or}
+use Rattle.std.proofs.Common.{Option, Some, None, IfSome, refl, sym, ap, subst, ◌∙◌, arith, length-append}
+use Rattle.std.specs.Prelude.{◌==◌, nat_le, map}
+use Rattle.std.specs.List.{AllByRecursion, list_all}
+use Rattle.std.proofs.lemmas.Bool.{and_parts, cond_both, eqb-true, leb-true}
+use Rattle.std.proofs.lemmas.List.{length-replicate}
+use Rattle.std.proofs.lemmas.List.Elements.{All-nil, All-cons, All-append, All-head, All-tail, All-replicate}
+use Rattle.ttp_world.specs.declared.host_lines.HostRead.{HostRead}
+use Rattle.ttp_world.specs.declared.medl.Medl.{Medl}
+use Rattle.ttp_world.specs.declared.node.Chosen.{Chosen}
+use Rattle.ttp_world.specs.declared.node.Delivered.{Delivered}
+use Rattle.ttp_world.specs.declared.script.Event.{Event}
+use Rattle.ttp_world.specs.declared.script.Event.TheVariants as event
+use Rattle.ttp_world.specs.declared.script.Script.{Script}
+use Rattle.ttp_world.specs.declared.script.Source.{Source}
+use Rattle.ttp_world.specs.declared.script.Source.TheVariants as source
+use Rattle.ttp_world.specs.Diary.{History, entry_of}
+use Rattle.ttp_world.specs.Legal.{IsLegal, ReadMessage, is_legal_read, read_messages}
+use Rattle.ttp_world.specs.Medl.{plan_at}
+use Rattle.ttp_world.specs.Messages.{message_of, delivered_of, in_messages, new_messages, newest_number, ring_messages}
+use Rattle.ttp_world.specs.Outgoing.{zeros_of, messages_before}
+use Rattle.ttp_world.specs.Script.{IsValidEvent, IsValidScript, messages_written, read_in, reads_in}
+use Rattle.ttp_world.specs.World.{Numbers, SlotNumbers, delivered_in, frames_in, messages_chosen, slot_after, world}
+use Rattle.ttp_world.proofs.Carried.{delivered_of-told}
+use Rattle.ttp_world.proofs.DeliveredSizes.{HasSendersSize, delivered-size}
+use Rattle.ttp_world.proofs.FrameBytes.{AreBytes, BringsBytes, IsByte, delivered-bytes}
+use Rattle.ttp_world.proofs.HostMessages.{filter_map-each}
+use Rattle.ttp_world.proofs.LegalShapes.{legal-older, legal-reads, legal-shapes}
+use Rattle.ttp_world.proofs.Worlds.{length-world, row_of_world}
+
+-- a message of a source: a payload is bytes, as many as the list gives its node
+abbrev pub IsPayloadOf : Medl → Source → List ℕ → Type 0
+IsPayloadOf list source.Status message = Unit {0}
+IsPayloadOf list (source.Node p) message = AreBytes message × (length message ≡ (plan_at list p).payload)
+
+-- what all hosts wrote in the first slots, so many, is bytes
+abbrev pub AreBytesWritten : Medl → Script → ℕ → Type 0
+AreBytesWritten list script slot = (k : ℕ) → All AreBytes (messages_before list script k slot)
+
+front-of : {X : Type 0} (P : X → Type 0) (xs ys : List X) → All P (xs ++ ys) → All P xs
+front-of P [] ys all = All-nil P
+front-of P (x ∷ xs) ys all =
+    All-cons P x xs (All-head P x (xs ++ ys) all) (front-of P xs ys (All-tail P x (xs ++ ys) all))
+
+earlier : (list : Medl) (script : Script) (slot : ℕ) → AreBytesWritten list script (suc slot)
+    → AreBytesWritten list script slot
+earlier list script slot bytes k =
+    front-of AreBytes (messages_before list script k slot) (messages_written script k slot) (bytes k)
+
+-- One delivery.
+
+new-payloads : (list : Medl) (p : ℕ) (delivered : Option Delivered) → IfSome delivered BringsBytes
+    → IfSome delivered (HasSendersSize list) → All (IsPayloadOf list (source.Node p)) (new_messages p delivered)
+new-payloads list p None bytes size = All-nil (IsPayloadOf list (source.Node p))
+new-payloads list p (Some d) bytes size =
+    let P = IsPayloadOf list (source.Node p) in
+    cond_both (d.sender == p) (d.payload ∷ []) [] (All P)
+    (λ is. All-cons P d.payload [] (bytes, size ∙ ap (λ j. (plan_at list j).payload) (eqb-true d.sender p is))
+    (All-nil P))
+    (λ other. All-nil P)
+
+delivered_of-world-size : (list : Medl) (script : Script) (new : SlotNumbers) (numbers : Numbers) (k : ℕ)
+    → IsLegal list script (new ∷ numbers) → k < length list.slots
+    → IfSome (delivered_of list script (world list script numbers) (row_of_world list script new numbers) k)
+    (HasSendersSize list)
+delivered_of-world-size list script new numbers k legal node =
+    let history = world list script numbers in
+    let row = row_of_world list script new numbers in
+    let s = slot_after list script history in
+    let sent = (legal-shapes list script (new ∷ numbers) legal).0.sent in
+    let chosen = messages_chosen list script (length numbers) new.sent in
+    let same : messages_chosen list script (length history) (map message_of row) ≡ chosen =
+    λ i. messages_chosen list script (length-world list script numbers i) (sym sent i) in
+    let told : delivered_of list script history row k ≡ delivered_in s (frames_in s chosen) k (entry_of row k) =
+    delivered_of-told list script history row k
+    ∙ ap (λ (cs : List Chosen). delivered_in s (frames_in s cs) k (entry_of row k)) same in
+    subst (λ (o : Option Delivered). IfSome o (HasSendersSize list)) (sym told)
+    (delivered-size list script history chosen k node)
+
+-- All that has come from a node.
+
+pub in_messages-payloads : (list : Medl) (script : Script) (numbers : Numbers) (k p : ℕ)
+    → IsLegal list script numbers → AreBytesWritten list script (length numbers) → k < length list.slots
+    → All (IsPayloadOf list (source.Node p)) (in_messages list script (world list script numbers) k p)
+in_messages-payloads list script [] k p legal bytes node =
+    let P = IsPayloadOf list (source.Node p) in
+    let size = (plan_at list p).payload in
+    All-cons P (zeros_of list p) [] (All-replicate IsByte size 0 (omega arith), length-replicate size 0) (All-nil P)
+in_messages-payloads list script (new ∷ numbers) k p legal bytes node =
+    let history = world list script numbers in
+    let row = row_of_world list script new numbers in
+    let delivered = delivered_of list script history row k in
+    All-append (IsPayloadOf list (source.Node p)) (in_messages list script history k p) (new_messages p delivered)
+    (in_messages-payloads list script numbers k p (legal-older list script new numbers legal)
+    (earlier list script (length numbers) bytes) node)
+    (new-payloads list p delivered
+    (delivered-bytes list script history row k
+    (subst (λ n. AreBytesWritten list script (suc n)) (sym (length-world list script numbers)) bytes))
+    (delivered_of-world-size list script new numbers k legal node))
+
+pub in_messages-some : (list : Medl) (script : Script) (history : History) (k p : ℕ)
+    → 1 ≤ length (in_messages list script history k p)
+in_messages-some list script [] k p = omega arith
+in_messages-some list script (row ∷ history) k p =
+    let delivered = delivered_of list script history row k in
+    omega (
+      arith,
+      in_messages-some list script history k p,
+      length-append (in_messages list script history k p) (new_messages p delivered),
+    )
+
+-- What hosts read in a slot.
+
+valid_read-host : (list : Medl) (script : Script) (slot : ℕ) (e : Event) → IsValidEvent list script e
+    → IfSome (read_in slot e) (λ r. r.host < length list.slots)
+valid_read-host list script slot (event.Read node at from) valid =
+    cond_both (at == slot) (Some (record { host = node; source = from })) None
+    (λ (o : Option HostRead). IfSome o (λ r. r.host < length list.slots)) (λ now. valid.0) (λ other. tt)
+valid_read-host list script slot (event.Send node channels f from to) valid = tt
+valid_read-host list script slot (event.Receive node channels f from to) valid = tt
+valid_read-host list script slot (event.Flip node channels bit at) valid = tt
+valid_read-host list script slot (event.Error node value from to) valid = tt
+valid_read-host list script slot (event.Jump node value at) valid = tt
+valid_read-host list script slot (event.Arm node at) valid = tt
+valid_read-host list script slot (event.Write node at payload) valid = tt
+
+module _ (list : Medl) (script : Script) (new : SlotNumbers) (numbers : Numbers)
+    (legal : IsLegal list script (new ∷ numbers)) (bytes : AreBytesWritten list script (suc (length numbers))) where
+  abbrev IsPayloadRead : ReadMessage → Type 0
+  IsPayloadRead r =
+      IsPayloadOf list r.read.source
+      (get_or (ring_messages list script (world list script (new ∷ numbers)) r.read.host r.read.source) r.number [])
+
+  message_read : (host : ℕ) (from : Source) (i : ℕ) → host < length list.slots
+      → i ≤ newest_number (ring_messages list script (world list script (new ∷ numbers)) host from)
+      → IsPayloadOf list from
+      (get_or (ring_messages list script (world list script (new ∷ numbers)) host from) i [])
+  message_read host source.Status i node within = tt
+  message_read host (source.Node p) i node within =
+      in_messages-payloads list script (new ∷ numbers) host p legal bytes node i []
+      (omega (arith, within, in_messages-some list script (world list script (new ∷ numbers)) host p))
+
+  all_read : (reads : List HostRead) (ns : List ℕ) → All (λ r. r.host < length list.slots) reads
+      → list_all (is_legal_read list script (world list script numbers) (world list script (new ∷ numbers)))
+      (read_messages reads ns) ≡ true
+      → AllByRecursion IsPayloadRead (read_messages reads ns)
+  all_read [] ns hosts all = tt
+  all_read (r ∷ rs) [] hosts all = tt
+  all_read (r ∷ rs) (n ∷ ns) hosts all =
+      let test = is_legal_read list script (world list script numbers) (world list script (new ∷ numbers)) in
+      let first : ReadMessage = record { read = r; number = n } in
+      let parts = and_parts (test first) (list_all test (read_messages rs ns)) all in
+      let low = nat_le (newest_number (ring_messages list script (world list script numbers) r.host r.source)) n in
+      let high = newest_number (ring_messages list script (world list script (new ∷ numbers)) r.host r.source) in (
+        message_read r.host r.source n (All-head (λ (x : HostRead). x.host < length list.slots) r rs hosts)
+            (leb-true n high (and_parts low (nat_le n high) parts.0).1),
+        all_read rs ns (All-tail (λ (x : HostRead). x.host < length list.slots) r rs hosts) parts.1,
+      )
+
+  -- each payload read in the newest slot is bytes, as many as the list gives its node
+  pub payloads_read : IsValidScript list script
+      → AllByRecursion (λ (r : ReadMessage). IsPayloadOf list r.read.source
+      (get_or (ring_messages list script (world list script (new ∷ numbers)) r.read.host r.read.source) r.number []))
+      (read_messages (reads_in script (length numbers)) new.read)
+  payloads_read valid =
+      all_read (reads_in script (length numbers)) new.read
+      (filter_map-each (read_in (length numbers)) (IsValidEvent list script) (λ r. r.host < length list.slots)
+      script.events (valid_read-host list script (length numbers)) valid.events)
+      (legal-reads list script new numbers legal)
