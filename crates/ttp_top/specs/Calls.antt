@@ -1,5 +1,6 @@
 pub mod Precision
 pub mod Texts
+pub mod Answer
 pub mod Plan
 pub mod Outcome
 pub mod Files

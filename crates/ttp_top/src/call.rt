@@ -1,10 +1,11 @@
 //! A command, from its words to its status.
-ghost use Rattle.std.specs.Prelude.{◌≡◌, ◌≢◌, ℕ, List, Some, None};
+ghost use Rattle.std.specs.Prelude.{◌≡◌, ◌≢◌, ◌==◌, ◌&&◌, ℕ, List, Some, None, is_some};
+ghost use Rattle.ttp_top.specs.Calls.Answer.{answer};
 ghost use Rattle.ttp_top.specs.Calls.Forms.{plan_of};
 ghost use Rattle.ttp_top.specs.Calls.Outcome.{Follows};
 ghost use Rattle.ttp_top.specs.Calls.Plan.{outside};
 ghost use Rattle.ttp_top.specs.Calls.Promise.{Promise};
-ghost use Rattle.ttp_top.specs.Calls.Words.{run, texts_of, form_of, form_asked};
+ghost use Rattle.ttp_top.specs.Calls.Words.{run, is_run, texts_of, form_of, form_asked};
 ghost use Rattle.ttp_top.specs.Scripts.Promise.{RunPromise};
 
 use crate::faced::precision;
@@ -12,6 +13,7 @@ use crate::lines::say;
 use crate::run::{keeps, run};
 use crate::schedule::schedule;
 use crate::words::{Command, command_of};
+use cluster_run::Cluster;
 use std::alloc::Global;
 use std::sync::Wait;
 use std::thread::Threads;
@@ -21,19 +23,23 @@ const USAGE: &str = "usage: schedule MEDL | run MEDL SCRIPT | keeps MEDL SCRIPT 
     verify MEDL SCRIPT TRACE | sample MEDL SLOTS NUMBER | precision MEDL SCRIPT NODE\n";
 
 // What the words ask for.
-fn obey<L: Library, K: Sink>(
+fn obey<R: Threads + Wait + Sync, L: Library, K: Sink, G: Gate>(
+    rt: &R,
     alloc: Global,
     command: Command<'_>,
     library: &mut L,
     out: &mut K,
+    gate: &G,
+    kept: &mut Option<Cluster>,
 ) -> u8
+    requires { kept.old ≡ None }
     ensures follows { Follows (plan_of (form_asked command.entry)) (outside (L.files library.old) (K.output out.old))
-        (outside (L.files library.new) (K.output out.new)) result }
+        (outside (L.files library.new) (K.output out.new)) (answer result kept.new) }
     ensures no_form { form_asked command.entry ≡ None → result ≢ 7 }
 {
     match command {
         Command::Schedule { list } => schedule(alloc, list, library, out),
-        Command::Run { list, script } => run(alloc, list, script, library, out),
+        Command::Run { list, script } => run(rt, alloc, list, script, library, out, gate, kept),
         Command::Keeps { list, script } => keeps(alloc, list, script, library, out),
         Command::Precision { list, script, node } => {
             precision(alloc, list, script, node, library, out)
@@ -77,16 +83,21 @@ pub fn bench<R: Threads + Wait + Sync, L: Library, K: Sink, G: Gate>(
     library: &mut L,
     out: &mut K,
     gate: &G,
+    kept: &mut Option<Cluster>,
 ) -> u8
     // The promise of every form: what is asked for, how it ends, and what is written.
     ensures promise { Promise (form_of (texts_of words.now)) (outside (L.files library.old) (K.output out.old))
-        (outside (L.files library.new) (K.output out.new)) result }
+        (outside (L.files library.new) (K.output out.new)) (answer result kept.new) }
     // For `run`, in its own words: status 0 is the trace of the world's run for the numbers that the trace
     // names, which are legal, and where the script keeps the single-fault hypothesis, that run is safe from
-    // its start on; right files give one; and status 6 is one that was cut short.
+    // its start on; right files give one; with status 6 one was cut short, and with status 7 it ends with a
+    // whole line before its last one. After status 0 the cluster that ran is kept, and stands for these numbers.
     ensures run { (list script : List ℕ) → form_of (texts_of words.now) ≡ Some (run list script)
         → RunPromise list script (outside (L.files library.old) (K.output out.old))
-        (outside (L.files library.new) (K.output out.new)) result }
+        (outside (L.files library.new) (K.output out.new)) (answer result kept.new) }
+    // A cluster is kept exactly after status 0 of `run`, whatever was kept before.
+    ensures kept { is_some kept.new ≡ (is_run (form_of (texts_of words.now)) && (result == 0)) }
 {
-    obey(alloc, command_of(words), library, out)
+    *kept = None;
+    obey(rt, alloc, command_of(words), library, out, gate, kept)
 }

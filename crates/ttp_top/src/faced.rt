@@ -4,6 +4,7 @@ ghost use Rattle.std.specs.Fmt.{signed_decimal};
 ghost use Rattle.ttp_world.specs.Medl.{IsValid};
 ghost use Rattle.ttp_world.specs.Script.{IsValidScript};
 ghost use Rattle.plant_run.specs.FirstNumbers.{IsUnhosted};
+ghost use Rattle.ttp_top.specs.Calls.Answer.{alone};
 ghost use Rattle.ttp_top.specs.Calls.Forms.{precision_ending, plan_of};
 ghost use Rattle.ttp_top.specs.Calls.Outcome.{Shows, Follows};
 ghost use Rattle.ttp_top.specs.Calls.Plan.{outside};
@@ -70,7 +71,7 @@ fn show_precision<K: Sink>(alloc: Global, list: &Medl, script: &Script, node: u8
     requires valid { IsValid list.now }
     requires script { IsValidScript list.now script.now }
     requires hosts { IsUnhosted script.now }
-    ensures { Shows (precision_ending node list.now script.now) (K.output out.old) (K.output out.new) result }
+    ensures { Shows (precision_ending node list.now script.now) (K.output out.old) (K.output out.new) (alone result) }
 {
     match find_faced(list, script, node) {
         Faced::Yes { start } => match find_seen(alloc, list, script, node) {
@@ -92,7 +93,8 @@ pub(crate) fn precision<L: Library, K: Sink>(
     out: &mut K,
 ) -> u8
     ensures { Follows (plan_of (Some (precision list.now script.now node)))
-        (outside (L.files library.old) (K.output out.old)) (outside (L.files library.new) (K.output out.new)) result }
+        (outside (L.files library.old) (K.output out.old)) (outside (L.files library.new) (K.output out.new))
+        (alone result) }
 {
     match load_both(alloc, list, script, library, out) {
         Ok((medl, right)) => show_precision(alloc, &medl, &right, node, out),

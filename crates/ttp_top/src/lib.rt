@@ -15,6 +15,7 @@ mod load;
 mod read;
 mod run;
 mod schedule;
+mod trace;
 mod words;
 
 pub use call::bench;

@@ -1,6 +1,7 @@
 //! The lines that a call writes beside its output.
 ghost use Rattle.std.specs.Prelude.{◌≡◌, ◌+◌, ◌≤◌, ◌++◌, length, decimal};
 ghost use Rattle.std.specs.Fmt.{signed_decimal};
+ghost use Rattle.ttp_top.specs.Calls.Answer.{alone};
 ghost use Rattle.ttp_top.specs.Calls.Outcome.{Says};
 ghost use Rattle.ttp_top.specs.Calls.Plan.{line_ending};
 ghost use Rattle.ttp_top.specs.Files.Lines.{field_text, unknown_text, list_fault_text, line_fault_text};
@@ -146,7 +147,7 @@ pub(crate) fn fault_line(file: &str, fault: FileFault) -> Line
 
 /// Writes one line, and answers the status, or 6 where the line could not be written.
 pub(crate) fn say<K: Sink>(out: &mut K, line: &[u8], status: u8) -> u8
-    ensures { Says (line_ending status line.now) (K.output out.old) (K.output out.new) result }
+    ensures { Says (line_ending status line.now) (K.output out.old) (K.output out.new) (alone result) }
 {
     match out.write(line) {
         Ok(()) => status,

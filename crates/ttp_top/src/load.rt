@@ -6,6 +6,7 @@ ghost use Rattle.ttp_world.specs.declared.script.Script.{Script};
 ghost use Rattle.ttp_world.specs.Medl.{IsValid};
 ghost use Rattle.ttp_world.specs.Script.{IsValidScript};
 ghost use Rattle.plant_run.specs.FirstNumbers.{IsUnhosted};
+ghost use Rattle.ttp_top.specs.Calls.Answer.{alone};
 ghost use Rattle.ttp_top.specs.Calls.Files.{list_plan, script_plan, both_plan};
 ghost use Rattle.ttp_top.specs.Calls.Outcome.{Follows, CameTo};
 ghost use Rattle.ttp_top.specs.Calls.Plan.{Plan, outside};
@@ -29,7 +30,7 @@ pub(crate) fn load_list<L: Library, K: Sink>(
         (next list) (outside (L.files library.new) (K.output out.new))) }
     ensures err { IfErr result (λ status. (next : Medl → Plan)
         → Follows (list_plan name.now next) (outside (L.files library.old) (K.output out.old))
-        (outside (L.files library.new) (K.output out.new)) status) }
+        (outside (L.files library.new) (K.output out.new)) (alone status)) }
 {
     match library.load(alloc, name, LIST_LIMIT) {
         Ok(bytes) => match list_from(alloc, bytes.as_slice()) {
@@ -58,7 +59,7 @@ pub(crate) fn load_script<L: Library, K: Sink>(
         (next script) (outside (L.files library.new) (K.output out.new))) }
     ensures err { IfErr result (λ status. (next : Script → Plan)
         → Follows (script_plan list.now name.now next) (outside (L.files library.old) (K.output out.old))
-        (outside (L.files library.new) (K.output out.new)) status) }
+        (outside (L.files library.new) (K.output out.new)) (alone status)) }
 {
     match library.load(alloc, name, SCRIPT_LIMIT) {
         Ok(bytes) => match script_from(alloc, list, bytes.as_slice()) {
@@ -88,7 +89,7 @@ pub(crate) fn load_both<L: Library, K: Sink>(
         (next both.0 both.1) (outside (L.files library.new) (K.output out.new))) }
     ensures err { IfErr result (λ status. (next : Medl → Script → Plan)
         → Follows (both_plan list.now script.now next) (outside (L.files library.old) (K.output out.old))
-        (outside (L.files library.new) (K.output out.new)) status) }
+        (outside (L.files library.new) (K.output out.new)) (alone status)) }
 {
     match load_list(alloc, list, library, out) {
         Ok(medl) => match load_script(alloc, &medl, script, library, out) {

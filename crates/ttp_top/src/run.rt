@@ -1,26 +1,29 @@
 //! The commands `run MEDL SCRIPT` and `keeps MEDL SCRIPT`.
-ghost use Rattle.std.specs.Prelude.{Some};
+ghost use Rattle.std.specs.Prelude.{◌≡◌, Some, None};
 ghost use Rattle.ttp_world.specs.Medl.{IsValid};
 ghost use Rattle.ttp_world.specs.Script.{IsValidScript};
-ghost use Rattle.plant_run.specs.FirstNumbers.{IsUnhosted};
+ghost use Rattle.ttp_top.specs.Calls.Answer.{alone, answer};
 ghost use Rattle.ttp_top.specs.Calls.Forms.{trace_ending, keep_ending, plan_of};
 ghost use Rattle.ttp_top.specs.Calls.Outcome.{Says, Shows, Follows};
 ghost use Rattle.ttp_top.specs.Calls.Plan.{outside};
 ghost use Rattle.ttp_top.specs.Calls.Words.{run, keeps};
 
 use crate::load::load_both;
+use crate::trace::{RunFault, put_run};
+use cluster_run::Cluster;
 use hypothesis::keeps as keeps_of;
-use plant_run::{RunFault, put_run};
 use std::alloc::Global;
+use std::sync::Wait;
+use std::thread::Threads;
 use trace_text::put_keep;
-use ttp_base::{Library, Sink};
+use ttp_base::{Gate, Library, Sink};
 use ttp_world::{Medl, Script};
 
 // The line of the hypothesis test.
 fn show_keep<K: Sink>(list: &Medl, script: &Script, out: &mut K) -> u8
     requires valid { IsValid list.now }
     requires script { IsValidScript list.now script.now }
-    ensures { Says (keep_ending list.now script.now) (K.output out.old) (K.output out.new) result }
+    ensures { Says (keep_ending list.now script.now) (K.output out.old) (K.output out.new) (alone result) }
 {
     match put_keep(&keeps_of(list, script), out) {
         Ok(()) => 0,
@@ -28,34 +31,56 @@ fn show_keep<K: Sink>(list: &Medl, script: &Script, out: &mut K) -> u8
     }
 }
 
-// The trace, whose last line is that of the hypothesis test. Memory is taken before the first line
-// is written.
-fn show_trace<K: Sink>(alloc: Global, list: &Medl, script: &Script, out: &mut K) -> u8
-    requires valid { IsValid list.now }
-    requires script { IsValidScript list.now script.now }
-    requires hosts { IsUnhosted script.now }
-    ensures { Shows (trace_ending list.now script.now) (K.output out.old) (K.output out.new) result }
+// The trace, whose last line is that of the hypothesis test. The cluster is made before the first line is
+// written, and kept once the last one is.
+fn show_trace<R: Threads + Wait + Sync, K: Sink, G: Gate>(
+    rt: &R,
+    alloc: Global,
+    list: Medl,
+    script: Script,
+    out: &mut K,
+    gate: &G,
+    kept: &mut Option<Cluster>,
+) -> u8
+    requires valid { IsValid list }
+    requires script { IsValidScript list script }
+    requires none { kept.old ≡ None }
+    ensures { Shows (trace_ending list script) (K.output out.old) (K.output out.new) (answer result kept.new) }
 {
-    match put_run(alloc, list, script, out) {
-        Ok(()) => show_keep(list, script, out),
+    let Ok(mut cluster) = Cluster::make(alloc, list, script) else {
+        return 7;
+    };
+    match put_run(rt, &mut cluster, out, gate) {
+        Ok(()) => {
+            let status = show_keep(cluster.list(), cluster.script(), out);
+            if status == 0 {
+                *kept = Some(cluster);
+            }
+            status
+        }
         Err(RunFault::Failed) => 6,
         Err(RunFault::Memory) => 7,
     }
 }
 
-/// The trace of the script of this name, for the list of this name.
-pub(crate) fn run<L: Library, K: Sink>(
+/// The trace of the script of this name, for the list of this name. The cluster that ran is kept where all
+/// of the trace was written.
+pub(crate) fn run<R: Threads + Wait + Sync, L: Library, K: Sink, G: Gate>(
+    rt: &R,
     alloc: Global,
     list: &str,
     script: &str,
     library: &mut L,
     out: &mut K,
+    gate: &G,
+    kept: &mut Option<Cluster>,
 ) -> u8
+    requires { kept.old ≡ None }
     ensures { Follows (plan_of (Some (run list.now script.now))) (outside (L.files library.old) (K.output out.old))
-        (outside (L.files library.new) (K.output out.new)) result }
+        (outside (L.files library.new) (K.output out.new)) (answer result kept.new) }
 {
     match load_both(alloc, list, script, library, out) {
-        Ok((medl, right)) => show_trace(alloc, &medl, &right, out),
+        Ok((medl, right)) => show_trace(rt, alloc, medl, right, out, gate, kept),
         Err(status) => status,
     }
 }
@@ -69,7 +94,7 @@ pub(crate) fn keeps<L: Library, K: Sink>(
     out: &mut K,
 ) -> u8
     ensures { Follows (plan_of (Some (keeps list.now script.now))) (outside (L.files library.old) (K.output out.old))
-        (outside (L.files library.new) (K.output out.new)) result }
+        (outside (L.files library.new) (K.output out.new)) (alone result) }
 {
     match load_both(alloc, list, script, library, out) {
         Ok((medl, right)) => show_keep(&medl, &right, out),

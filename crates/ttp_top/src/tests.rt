@@ -66,7 +66,15 @@ fn answer_files<R: Threads + Wait + Sync + AllocGlobal>(
         texts.push(String::from_str(rt.alloc(), word)?)?;
     }
     let gate = OpenGate::new();
-    let status = bench(rt, rt.alloc(), &texts, &mut library, &mut out, &gate);
+    let status = bench(
+        rt,
+        rt.alloc(),
+        &texts,
+        &mut library,
+        &mut out,
+        &gate,
+        &mut None,
+    );
     Ok((status, Vec::from_slice(rt.alloc(), out.bytes())?))
 }
 

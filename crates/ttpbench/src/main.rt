@@ -29,7 +29,15 @@ fn main(rt: HostRuntime) -> ExitCode {
             };
             let mut out = StreamSink::new(buffered);
             let gate = OpenGate::new();
-            let status = bench(&rt, rt.alloc(), &words, &mut library, &mut out, &gate);
+            let status = bench(
+                &rt,
+                rt.alloc(),
+                &words,
+                &mut library,
+                &mut out,
+                &gate,
+                &mut None,
+            );
             ExitCode::from(if out.end().is_ok() { status } else { 6 })
         }
         Err(error) if error.kind() == io::ErrorKind::OutOfMemory => ExitCode::from(7),

@@ -6,8 +6,8 @@ use Rattle.ttp_world.specs.Hypothesis.{keeps as keeps_of}
 use Rattle.ttp_world.specs.Trace.{keep_line}
 use Rattle.medl_text.specs.Schedule.{slot_table}
 use Rattle.ttp_top.specs.Calls.Files.{list_plan, both_plan}
-use Rattle.ttp_top.specs.Calls.Plan.{Ending, Plan, line_ending, ends}
-use Rattle.ttp_top.specs.Calls.Texts.{one, traces, precisions}
+use Rattle.ttp_top.specs.Calls.Plan.{Ending, Plan, whole_ending, line_ending, ends}
+use Rattle.ttp_top.specs.Calls.Texts.{one, traces, fronts, precisions}
 use Rattle.ttp_top.specs.Calls.Words.{Form, schedule, run, keeps, precision}
 
 abbrev pub usage_line : List ℕ
@@ -20,11 +20,12 @@ usage_ending = line_ending 2 usage_line
 
 -- the slot table of a list
 abbrev pub table_ending : Medl → Ending
-table_ending list = record { status = 0; texts = one (slot_table list) }
+table_ending list = whole_ending 0 (one (slot_table list))
 
--- a trace of a list and a script
+-- a trace of a list and a script, which takes memory in each slot
 abbrev pub trace_ending : Medl → Script → Ending
-trace_ending list script = record { status = 0; texts = traces list script }
+trace_ending list script =
+    record { status = 0; texts = traces list script; unfinished = fronts list script }
 
 -- the line of the hypothesis test alone
 abbrev pub keep_ending : Medl → Script → Ending
@@ -32,7 +33,7 @@ keep_ending list script = line_ending 0 (keep_line (keeps_of list script))
 
 -- the line of the test for one two-faced sender
 abbrev pub precision_ending : ℕ → Medl → Script → Ending
-precision_ending node list script = record { status = 0; texts = precisions list script node }
+precision_ending node list script = whole_ending 0 (precisions list script node)
 
 -- the plan of a form, and of words that have none
 abbrev pub plan_of : Option Form → Plan

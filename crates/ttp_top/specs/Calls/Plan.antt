@@ -1,7 +1,7 @@
 -- How a command goes on: which file it asks for next, and how it ends, by what the files hold.
 use Rattle.std.specs.Prelude.{◌≡◌, ℕ, ◌+◌, List, [], ◌∷◌, take, Option, Some, None}
 use Rattle.ttp_base.specs.Outside.{Held, untold, absent, holds, Load, Files, Gives, Output}
-use Rattle.ttp_top.specs.Calls.Texts.{Texts, one}
+use Rattle.ttp_top.specs.Calls.Texts.{Texts, one, nothing}
 
 -- what a call sees of the outside, and leaves of it
 pub record Outside : Type 0 where
@@ -11,14 +11,19 @@ pub record Outside : Type 0 where
 abbrev pub outside : Files → Output → Outside
 outside files output = record { files = files; output = output }
 
--- the status, and the texts of which one is due with it
+-- the status, the texts of which one is due with it, and those of which one may stand where memory is refused
 pub record Ending : Type 0 where
   pub status : ℕ
   pub texts : Texts
+  pub unfinished : Texts
 
--- an ending with this line alone
+-- an ending for which all memory is taken before anything is written
+abbrev pub whole_ending : ℕ → Texts → Ending
+whole_ending status texts = record { status = status; texts = texts; unfinished = nothing }
+
+-- one with this line alone
 abbrev pub line_ending : ℕ → List ℕ → Ending
-line_ending status line = record { status = status; texts = one (line ∷ []) }
+line_ending status line = whole_ending status (one (line ∷ []))
 
 -- a file that is asked for: its name, how many bytes it may have, and the line that says that it could not be loaded
 pub record File : Type 0 where

@@ -18,8 +18,14 @@ pub data Texts : Type 0 where
   one : (lines : Lines) → Texts
   -- the traces of a list and a script: one for each choice of message numbers that is legal
   traces : (list : Medl) (script : Script) → Texts
+  -- what a trace of them begins with, as whole lines, fewer than all
+  fronts : (list : Medl) (script : Script) → Texts
   -- the one line on a node that may be two-faced, which is the same for each legal choice
   precisions : (list : Medl) (script : Script) (node : ℕ) → Texts
+
+-- no lines
+abbrev pub nothing : Texts
+nothing = one []
 
 -- the trace of the world's run for some legal numbers, of a valid list and a valid script
 pub record IsTrace (list : Medl) (script : Script) (lines : Lines) : Type 0 where
@@ -29,6 +35,14 @@ pub record IsTrace (list : Medl) (script : Script) (lines : Lines) : Type 0 wher
   pub legal : IsLegalRun list script numbers
   pub text : lines ≡ trace_lines list script numbers
 
+-- some first lines of a trace, or none, but not all
+pub record IsFront (list : Medl) (script : Script) (lines : Lines) : Type 0 where
+  pub whole : Lines
+  pub trace : IsTrace list script whole
+  pub next : List ℕ
+  pub rest : Lines
+  pub text : whole ≡ lines ++ next ∷ rest
+
 abbrev pub IsPrecision : Medl → Script → ℕ → Lines → Type 0
 IsPrecision list script node lines =
     (numbers : Numbers) → IsLegalRun list script numbers → lines ≡ precision_line list script node numbers ∷ []
@@ -36,6 +50,7 @@ IsPrecision list script node lines =
 abbrev pub IsAmong : Texts → Lines → Type 0
 IsAmong (one text) lines = lines ≡ text
 IsAmong (traces list script) lines = IsTrace list script lines
+IsAmong (fronts list script) lines = IsFront list script lines
 IsAmong (precisions list script node) lines = IsPrecision list script node lines
 
 -- one of these texts was written, each of its lines as one piece

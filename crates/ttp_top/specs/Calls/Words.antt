@@ -1,6 +1,6 @@
 -- The forms of a call's words.
 use Rattle.std.specs.Prelude.{List, [], ◌∷◌, ℕ, nat_le, nat_lt, length, map, codes, String, string_bytes}
-use Rattle.std.specs.Prelude.{Option, Some, None, option_map, option_and_then, if◌then◌else◌}
+use Rattle.std.specs.Prelude.{Bool, true, false, Option, Some, None, option_map, option_and_then, if◌then◌else◌}
 use Rattle.std.specs.Str.{bytes_eq}
 use Rattle.std.specs.declared.alloc.Global.{Global}
 use Rattle.ttp_base.specs.NodeSet.{most_nodes}
@@ -18,6 +18,10 @@ pub data Form : Type 0 where
   keeps : (list script : List ℕ) → Form
   -- the line of the test for one two-faced sender, this node, for the script and the list of these names
   precision : (list script : List ℕ) (node : ℕ) → Form
+
+abbrev pub is_run : Option Form → Bool
+is_run (Some (run list script)) = true
+is_run _ = false
 
 -- the words' bytes
 abbrev pub texts_of : List (String Global) → List (List ℕ)
