@@ -1,4 +1,5 @@
 pub mod Plans
 pub mod Precision
 pub mod Lines
+pub mod Kept
 pub mod Promises

@@ -1,3 +1,4 @@
 pub mod Safe
 pub mod Promises
+pub mod Fronts
 pub mod Traces

@@ -1,5 +1,6 @@
 -- Each piece that a call gives is one line.
-use Rattle.std.proofs.Common.{◌≡◌, ℕ, List, [], ◌∷◌, ◌++◌, true, Option, Some, None, Result, Ok, Err, refl, subst, sym}
+use Rattle.std.proofs.Common.{◌≡◌, ℕ, List, [], ◌∷◌, ◌++◌, true, Option, Some, None, Result, Ok, Err, refl, subst, sym, ◌∙◌}
+use Rattle.std.proofs.Common.{inl, inr}
 use Rattle.std.specs.Prelude.{codes}
 use Rattle.ttp_base.specs.Text.{Lines, is_line}
 use Rattle.ttp_world.specs.declared.medl.Medl.{Medl}
@@ -7,12 +8,13 @@ use Rattle.ttp_world.specs.declared.script.Script.{Script}
 use Rattle.ttp_world.specs.Hypothesis.{keeps as keeps_of}
 use Rattle.ttp_world.specs.Trace.{keep_line}
 use Rattle.ttp_world.proofs.TraceLines.{keep_line-IsLine, trace_lines-each}
+use Rattle.medl_text.specs.Schedule.{slot_table}
 use Rattle.medl_text.proofs.Lines.{slot_table-each}
 use Rattle.ttp_top.specs.declared.read.FileFault.{FileFault}
 use Rattle.ttp_top.specs.Calls.Files.{refused_list, after_list, refused_script, after_script, script_plan, both_plan}
 use Rattle.ttp_top.specs.Calls.Forms.{usage_line, table_ending, trace_ending, keep_ending, precision_ending, plan_of}
 use Rattle.ttp_top.specs.Calls.Plan.{Ending, File, Plan, line_ending, ends}
-use Rattle.ttp_top.specs.Calls.Texts.{IsAmong, AreLines}
+use Rattle.ttp_top.specs.Calls.Texts.{Texts, one, fronts, IsAmong, AreLines}
 use Rattle.ttp_top.specs.Calls.Words.{Form, schedule, run, keeps, precision}
 use Rattle.ttp_top.specs.Files.Lines.{fault_line}
 use Rattle.ttp_top.specs.Files.Read.{list_from, script_from}
@@ -20,12 +22,31 @@ use Rattle.ttp_top.proofs.Calls.Plans.{AllEnd, list_ends, both_end, EachFile}
 use Rattle.ttp_top.proofs.Calls.Precision.{precisions-each}
 use Rattle.ttp_top.proofs.Files.Lines.{fault_line-is_line}
 
--- each text of an ending is made of lines
-abbrev pub HasLines : Ending → Type 0
-HasLines ending = (lines : Lines) → IsAmong ending.texts lines → AreLines lines
+-- each of some texts is made of lines
+abbrev pub AreOfLines : Texts → Type 0
+AreOfLines texts = (lines : Lines) → IsAmong texts lines → AreLines lines
+
+-- so is each text of an ending
+pub record HasLines (ending : Ending) : Type 0 where
+  pub texts : AreOfLines ending.texts
+  pub unfinished : AreOfLines ending.unfinished
+
+one_text : (text : Lines) → AreLines text → AreOfLines (one text)
+one_text text are = λ lines among. subst AreLines (sym among) are
+
+-- the first ones of lines
+pub lines_front : (x y : Lines) → AreLines (x ++ y) → AreLines x
+lines_front [] y are = tt
+lines_front (line ∷ x) y are = (are.0, lines_front x y are.1)
+
+fronts-each : (list : Medl) (script : Script) → AreOfLines (fronts list script)
+fronts-each list script lines (inl none) = subst AreLines (sym none) tt
+fronts-each list script lines (inr front) =
+    lines_front lines (front.next ∷ front.rest)
+    (subst AreLines (sym front.trace.text ∙ front.text) (trace_lines-each list script front.trace.numbers))
 
 pub line_has : (status : ℕ) (line : List ℕ) → is_line line ≡ true → HasLines (line_ending status line)
-line_has status line is = λ lines among. subst AreLines (sym among) (is, tt)
+line_has status line is = record { texts = one_text (line ∷ []) (is, tt); unfinished = one_text [] tt }
 
 no_list : (fault : FileFault) → HasLines (refused_list fault)
 no_list fault = line_has 3 (fault_line (codes "list") fault) (fault_line-is_line (codes "list") fault refl)
@@ -37,16 +58,20 @@ pub plans_have : (form : Option Form) → AllEnd HasLines (plan_of form)
 plans_have None = line_has 2 usage_line refl
 plans_have (Some (schedule list)) = λ bytes.
     list_ends HasLines no_list (λ medl. ends (table_ending medl))
-    (λ medl lines among. subst AreLines (sym among) (slot_table-each medl)) (list_from bytes)
+    (λ medl. record { texts = one_text (slot_table medl) (slot_table-each medl); unfinished = one_text [] tt })
+    (list_from bytes)
 plans_have (Some (run list script)) =
     both_end HasLines no_list no_script list script trace_ending
-    (λ medl right lines among. subst AreLines (sym among.text) (trace_lines-each medl right among.numbers))
+    (λ medl right. record {
+      texts = λ lines among. subst AreLines (sym among.text) (trace_lines-each medl right among.numbers);
+      unfinished = fronts-each medl right;
+    })
 plans_have (Some (keeps list script)) =
     both_end HasLines no_list no_script list script keep_ending
     (λ medl right. line_has 0 (keep_line (keeps_of medl right)) (keep_line-IsLine (keeps_of medl right)))
 plans_have (Some (precision list script node)) =
     both_end HasLines no_list no_script list script (precision_ending node)
-    (λ medl right lines among. precisions-each medl right node lines among)
+    (λ medl right. record { texts = precisions-each medl right node; unfinished = one_text [] tt })
 
 -- and so is what is said of a file that could not be loaded
 abbrev pub SaysLine : File → Type 0
@@ -78,8 +103,3 @@ plans_say (Some (schedule list)) =
 plans_say (Some (run list script)) = both_files list script trace_ending
 plans_say (Some (keeps list script)) = both_files list script keep_ending
 plans_say (Some (precision list script node)) = both_files list script (precision_ending node)
-
--- the first ones of lines
-pub lines_front : (x y : Lines) → AreLines (x ++ y) → AreLines x
-lines_front [] y are = tt
-lines_front (line ∷ x) y are = (are.0, lines_front x y are.1)

@@ -18,6 +18,7 @@ use Rattle.two_faced.specs.declared.faced.Faced.TheVariants as faced
 use Rattle.two_faced.specs.declared.seen.Seen.{Seen}
 use Rattle.two_faced.specs.Faced.{bound, faced_of}
 use Rattle.two_faced.specs.Seen.{seen_of}
+use Rattle.ttp_top.specs.Calls.Answer.{Answer}
 use Rattle.ttp_top.specs.Calls.Forms.{precision_ending}
 use Rattle.ttp_top.specs.Calls.Outcome.{Says}
 use Rattle.ttp_top.specs.Calls.Plan.{line_ending}
@@ -80,7 +81,8 @@ broken_line-is list script node rule slot numbers answers =
 
 -- It was said.
 
-pub precision-said : (list : Medl) (script : Script) (node : ℕ) (line : List ℕ) (before now : Output) (answer : ℕ)
+pub precision-said : (list : Medl) (script : Script) (node : ℕ) (line : List ℕ) (before now : Output)
+    (answer : Answer)
     → ((numbers : Numbers) → IsLegalRun list script numbers → line ≡ precision_line list script node numbers)
     → Says (line_ending 0 line) before now answer → Says (precision_ending node list script) before now answer
 precision-said list script node line before now answer is (inl showed) =
@@ -91,6 +93,7 @@ precision-said list script node line before now answer is (inl showed) =
         among = λ numbers legal. showed.text.among ∙ ap (λ (l : List ℕ). l ∷ []) (is numbers legal);
         wrote = showed.text.wrote;
       };
+      kept = showed.kept;
     })
 precision-said list script node line before now answer is (inr stopped) =
     inr (record {
@@ -100,4 +103,5 @@ precision-said list script node line before now answer is (inr stopped) =
         among = λ numbers legal. stopped.text.among ∙ ap (λ (l : List ℕ). l ∷ []) (is numbers legal);
         cut = stopped.text.cut;
       };
+      none = stopped.none;
     })

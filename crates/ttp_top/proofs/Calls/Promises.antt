@@ -1,15 +1,18 @@
 -- The promise of a call, from the plan that it followed.
 use Rattle.std.proofs.Common.{◌≡◌, ◌≢◌, ◌⊎◌, ℕ, ◌≤◌, List, [], ◌∷◌, ◌++◌, Option, Some, None, refl, ap, sym, subst, ◌∙◌}
-use Rattle.std.proofs.Common.{inl, inr, append_assoc, append-nil, arith}
+use Rattle.std.proofs.Common.{false, inl, inr, append_assoc, append-nil, arith}
+use Rattle.std.specs.Prelude.{◌==◌, ◌&&◌, is_some}
 use Rattle.ttp_base.specs.Outside.{Held, Load, Files, Gives, HasRisen, NoneRose, NoneFell, HoldsTheSame}
 use Rattle.ttp_base.specs.Outside.{Output, Wrote}
+use Rattle.ttp_top.specs.Calls.Answer.{Answer, IsKeptBeside}
 use Rattle.ttp_top.specs.Calls.Outcome.{Showed, Refused, Says, Shows, Asked, Follows}
 use Rattle.ttp_top.specs.Calls.Plan.{Outside, outside, Ending, File, Plan, ends, asks, line_ending, load_of, unloaded}
 use Rattle.ttp_top.specs.Calls.Plan.{Comes, AsksFirst, told_ending}
-use Rattle.ttp_top.specs.Calls.Texts.{CutAmong, AreLines, GaveLines}
-use Rattle.ttp_top.specs.Calls.Promise.{Reached, Unloaded, IsDue, EachName, NoneAskedRose, Promise}
+use Rattle.ttp_top.specs.Calls.Texts.{Texts, nothing, WroteAmong, CutAmong, AreLines, GaveLines}
+use Rattle.ttp_top.specs.Calls.Promise.{Reached, Unloaded, IsDue, IsUnfinished, EachName, NoneAskedRose, Promise}
 use Rattle.ttp_top.specs.Calls.Forms.{plan_of}
-use Rattle.ttp_top.specs.Calls.Words.{Form}
+use Rattle.ttp_top.specs.Calls.Words.{Form, is_run}
+use Rattle.ttp_top.proofs.Calls.Kept.{plans_keep, none_kept, plans_let}
 use Rattle.ttp_top.proofs.Calls.Lines.{HasLines, line_has, plans_have, SaysLine, plans_say, lines_front}
 use Rattle.ttp_top.proofs.Calls.Plans.{AllEnd, all_come, file_comes, IsOfForm, IsFinal, forms_end, plans_end}
 use Rattle.ttp_top.proofs.Calls.Plans.{told_comes}
@@ -17,7 +20,7 @@ use Rattle.ttp_top.proofs.Calls.Plans.{told_comes}
 -- ---- what a call ended in, after which loads
 
 -- how it ended after these loads
-pub record Ended (plan : Plan) (before now : Outside) (answer : ℕ) : Type 0 where
+pub record Ended (plan : Plan) (before now : Outside) (answer : Answer) : Type 0 where
   pub loads : List Load
   pub asked : now.files.loads ≡ before.files.loads ++ loads
   pub in_order : AsksFirst before.files.held plan loads
@@ -25,7 +28,7 @@ pub record Ended (plan : Plan) (before now : Outside) (answer : ℕ) : Type 0 wh
   pub count : NoneFell before.files now.files
   pub how : ((ending : Ending) × Reached plan before now loads ending × Shows ending before.output now.output answer)
       ⊎ (((ending : Ending) × Unloaded plan before now loads ending × Says ending before.output now.output answer)
-      ⊎ (NoneRose before.files now.files × Refused before.output now.output answer))
+      ⊎ (NoneRose before.files now.files × Refused nothing before.output now.output answer))
 
 none_rose_then : (a b c : Files) → NoneRose a b → NoneRose b c → NoneRose a c
 none_rose_then a b c p q = λ name. q name ∙ p name
@@ -74,7 +77,7 @@ asks_more held file next bytes [] gives rest = refl
 asks_more held file next bytes (other ∷ loads) gives rest = (refl, (bytes, gives, rest))
 
 -- a call that went on by a file's bytes
-goes_on : (file : File) (next : List ℕ → Plan) (before now : Outside) (answer : ℕ) (bytes : List ℕ) (files : Files)
+goes_on : (file : File) (next : List ℕ → Plan) (before now : Outside) (answer : Answer) (bytes : List ℕ) (files : Files)
     → Asked file before.files files → Gives (before.files.held file.name) file.limit bytes
     → Ended (next bytes) (outside files before.output) now answer → Ended (asks file next) before now answer
 goes_on file next before now answer bytes files one gives rest =
@@ -125,7 +128,7 @@ goes_on file next before now answer bytes files one gives rest =
           ];
     }
 
-pub ended : (plan : Plan) (before now : Outside) (answer : ℕ) → Follows plan before now answer
+pub ended : (plan : Plan) (before now : Outside) (answer : Answer) → Follows plan before now answer
     → Ended plan before now answer
 ended (ends ending) before now answer follows =
     let same = follows.0 in
@@ -171,7 +174,7 @@ ended (asks file next) before now answer (inr (inr wants)) = record {
 }
 
 -- a line that was said, under another name
-pub said_as : (status : ℕ) (line text : List ℕ) (before now : Output) (answer : ℕ) → line ≡ text
+pub said_as : (status : ℕ) (line text : List ℕ) (before now : Output) (answer : Answer) → line ≡ text
     → Says (line_ending status line) before now answer → Says (line_ending status text) before now answer
 said_as status line text before now answer same said =
     subst (λ (t : List ℕ). Says (line_ending status t) before now answer) same said
@@ -211,15 +214,20 @@ up_to_7 answer (inr (inl b)) = omega (arith, b.0)
 up_to_7 answer (inr (inr (inl c))) = omega (arith, c.0)
 up_to_7 answer (inr (inr (inr d))) = omega (arith, d.0)
 
-abbrev CallWays : Plan → Outside → Outside → List Load → ℕ → Type 0
+abbrev CallWays : Plan → Outside → Outside → List Load → Answer → Type 0
 CallWays plan before now loads answer =
-    Ways answer
+    Ways answer.status
     ((ending : Ending) × Reached plan before now loads ending × Showed ending before.output now.output answer)
     ((ending : Ending) × Unloaded plan before now loads ending × Showed ending before.output now.output answer)
-    ((ending : Ending) × IsDue plan before now loads ending × CutAmong ending.texts before.output now.output)
-    (NoneRose before.files now.files × Wrote before.output now.output [])
+    ((answer.kept ≡ None)
+    × ((ending : Ending) × IsDue plan before now loads ending × CutAmong ending.texts before.output now.output))
+    ((answer.kept ≡ None) × (NoneRose before.files now.files × IsUnfinished plan before now loads))
 
-ways : (plan : Plan) (before now : Outside) (answer : ℕ) → AllEnd IsFinal plan → (e : Ended plan before now answer)
+-- a text without lines
+wrote_nothing : (before now : Output) → WroteAmong nothing before now → Wrote before now []
+wrote_nothing before now w = subst (Wrote before now) w.among w.wrote
+
+ways : (plan : Plan) (before now : Outside) (answer : Answer) → AllEnd IsFinal plan → (e : Ended plan before now answer)
     → CallWays plan before now e.loads answer
 ways plan before now answer all e =
     elim e.how [
@@ -230,29 +238,39 @@ ways plan before now answer all e =
                   | inl showed ↦
                       let final = all_come IsFinal before.files.held plan e.loads r.0 all r.1.comes in
                       inl (omega (arith, showed.status, final), (r.0, r.1, showed))
-                  | inr stopped ↦ inr (inr (inl (stopped.status, (r.0, inl r.1, stopped.text))))
+                  | inr stopped ↦
+                      inr (inr (inl (stopped.status, (stopped.none, (r.0, inl r.1, stopped.text)))))
                 ]
-            | inr refused ↦ inr (inr (inr (refused.status, (r.1.quiet, refused.text))))
+            | inr refused ↦
+                inr (inr (inr (
+                  refused.status,
+                  (refused.none, (r.1.quiet, inr (r.0, r.1, refused.text))),
+                )))
           ]
       | inr other ↦
           elim other [
             | inl u ↦
                 elim u.2 [
                   | inl showed ↦ inr (inl (showed.status ∙ ap (λ (x : Ending). x.status) u.1.line, (u.0, u.1, showed)))
-                  | inr stopped ↦ inr (inr (inl (stopped.status, (u.0, inr u.1, stopped.text))))
+                  | inr stopped ↦ inr (inr (inl (stopped.status, (stopped.none, (u.0, inr u.1, stopped.text)))))
                 ]
-            | inr m ↦ inr (inr (inr (m.1.status, (m.0, m.1.text))))
+            | inr m ↦
+                inr (inr (inr (
+                  m.1.status,
+                  (m.1.none, (m.0, inl (wrote_nothing before.output now.output m.1.text))),
+                )))
           ]
     ]
 
 -- ---- the sentences
 
-no_fault_fell : (plan : Plan) (before now : Outside) (loads : List Load) (answer : ℕ)
+no_fault_fell : (plan : Plan) (before now : Outside) (loads : List Load) (answer : Answer)
     → CallWays plan before now loads answer → before.output.faults ≤ now.output.faults
 no_fault_fell plan before now loads answer (inl a) = omega (arith, a.1.2.text.wrote.quiet)
 no_fault_fell plan before now loads answer (inr (inl b)) = omega (arith, b.1.2.text.wrote.quiet)
-no_fault_fell plan before now loads answer (inr (inr (inl c))) = c.1.2.cut.count
-no_fault_fell plan before now loads answer (inr (inr (inr d))) = omega (arith, d.1.1.quiet)
+no_fault_fell plan before now loads answer (inr (inr (inl c))) = c.1.1.2.cut.count
+no_fault_fell plan before now loads answer (inr (inr (inr d))) =
+    elim d.1.1.1 [ | inl none ↦ omega (arith, none.quiet) | inr some ↦ omega (arith, some.2.wrote.quiet) ]
 
 -- the texts of what is due are made of lines
 unloaded_has : (form : Option Form) (before now : Outside) (loads : List Load) (ending : Ending)
@@ -269,25 +287,65 @@ due_has form before now loads ending (inl reached) =
 due_has form before now loads ending (inr u) = unloaded_has form before now loads ending u
 
 -- each piece that was given whole is one line
-gave_lines : (form : Option Form) (before now : Outside) (loads : List Load) (answer : ℕ)
+gave_lines : (form : Option Form) (before now : Outside) (loads : List Load) (answer : Answer)
     → CallWays (plan_of form) before now loads answer → GaveLines before.output now.output
 gave_lines form before now loads answer (inl a) =
     let w = a.1.2.text in
     let have = all_come HasLines before.files.held (plan_of form) loads a.1.0 (plans_have form) a.1.1.comes in
-    record { pieces = w.lines; given = w.wrote.given; lines = have w.lines w.among }
+    record { pieces = w.lines; given = w.wrote.given; lines = have.texts w.lines w.among }
 gave_lines form before now loads answer (inr (inl b)) =
     let w = b.1.2.text in
-    record
-    { pieces = w.lines; given = w.wrote.given; lines = unloaded_has form before now loads b.1.0 b.1.1 w.lines w.among }
+    let have = unloaded_has form before now loads b.1.0 b.1.1 in
+    record { pieces = w.lines; given = w.wrote.given; lines = have.texts w.lines w.among }
 gave_lines form before now loads answer (inr (inr (inl c))) =
-    let k = c.1.2 in
-    let have = due_has form before now loads c.1.0 c.1.1 in
+    let k = c.1.1.2 in
+    let have = due_has form before now loads c.1.1.0 c.1.1.1 in
     record {
       pieces = k.cut.whole;
       given = k.cut.given;
-      lines = lines_front k.cut.whole (k.cut.next ∷ k.cut.rest) (subst AreLines k.cut.text (have k.lines k.among));
+      lines = lines_front k.cut.whole (k.cut.next ∷ k.cut.rest) (subst AreLines k.cut.text (have.texts k.lines k.among));
     }
-gave_lines form before now loads answer (inr (inr (inr d))) = record { pieces = []; given = d.1.1.given; lines = tt }
+gave_lines form before now loads answer (inr (inr (inr d))) =
+    elim d.1.1.1 [
+      | inl none ↦ record { pieces = []; given = none.given; lines = tt }
+      | inr some ↦
+          let w = some.2 in
+          let have = all_come HasLines before.files.held (plan_of form) loads some.0 (plans_have form) some.1.comes in
+          record { pieces = w.lines; given = w.wrote.given; lines = have.unfinished w.lines w.among }
+    ]
+
+-- nothing is kept beside the line of a file
+unloaded_keeps : (form : Option Form) (before now : Outside) (loads : List Load) (ending : Ending) (answer : Answer)
+    → Unloaded (plan_of form) before now loads ending → (showed : Showed ending before.output now.output answer)
+    → answer.kept ≡ None
+unloaded_keeps form before now loads ending answer u showed =
+    subst (λ (e : Ending). IsKeptBeside e.texts showed.text.lines answer.kept) u.line showed.kept
+
+-- but for `run`, nothing stands where memory is refused
+empty_at_7 : (form : Option Form) (before now : Outside) (loads : List Load)
+    → IsUnfinished (plan_of form) before now loads → is_run form ≡ false → Wrote before.output now.output []
+empty_at_7 form before now loads (inl none) other = none
+empty_at_7 form before now loads (inr some) other =
+    let lets = all_come _ before.files.held (plan_of form) loads some.0 (plans_let form) some.1.comes in
+    wrote_nothing before.output now.output
+    (subst (λ (texts : Texts). WroteAmong texts before.output now.output) (lets other) some.2)
+
+-- a cluster is kept exactly after status 0 of `run`
+kept_then : (form : Option Form) (before now : Outside) (loads : List Load) (answer : Answer)
+    → CallWays (plan_of form) before now loads answer
+    → is_some answer.kept ≡ (is_run form && (answer.status == 0))
+kept_then form before now loads answer (inl a) =
+    let showed = a.1.2 in
+    let keep = all_come _ before.files.held (plan_of form) loads a.1.0 (plans_keep form) a.1.1.comes in
+    keep showed.text.lines answer.kept showed.kept
+    ∙ ap (λ (n : ℕ). is_run form && (n == 0)) (sym showed.status)
+kept_then form before now loads answer (inr (inl b)) =
+    none_kept form answer (unloaded_keeps form before now loads b.1.0 answer b.1.1 b.1.2)
+    (λ zero. omega (arith, zero, b.0))
+kept_then form before now loads answer (inr (inr (inl c))) =
+    none_kept form answer c.1.0 (λ zero. omega (arith, zero, c.0))
+kept_then form before now loads answer (inr (inr (inr d))) =
+    none_kept form answer d.1.0 (λ zero. omega (arith, zero, d.0))
 
 usage_alone : (form : Option Form) (held : List ℕ → Held) (loads : List Load) (ending : Ending)
     → Comes held (plan_of form) loads (ends ending) → ending.status ≡ 2 → form ≡ None
@@ -300,11 +358,11 @@ pub each_last : (P : List ℕ → Type 0) (loads : List Load) (load : Load) → 
 each_last P [] load each = each.0
 each_last P (other ∷ loads) load each = each_last P loads load each.1
 
-told_way : (plan : Plan) (before now : Outside) (loads : List Load) (answer : ℕ) (ending : Ending)
+told_way : (plan : Plan) (before now : Outside) (loads : List Load) (answer : Answer) (ending : Ending)
     → CallWays plan before now loads answer
     → told_ending before.files.held plan
     ≡ Some ending → NoneAskedRose before now loads → ¬ HasRisen before.output.faults now.output.faults
-    → Showed ending before.output now.output answer ⊎ (answer ≡ 7)
+    → Showed ending before.output now.output answer ⊎ (answer.status ≡ 7)
 told_way plan before now loads answer ending (inl a) told quiet sink =
     let same = told_comes before.files.held plan loads a.1.0 ending a.1.1.comes told in
     inl (subst (λ (e : Ending). Showed e before.output now.output answer) same a.1.2)
@@ -312,11 +370,11 @@ told_way plan before now loads answer ending (inr (inl b)) told quiet sink =
     let P : List ℕ → Type 0 = λ name. ¬ HasRisen (before.files.faults name) (now.files.faults name) in
     let u = b.1.1 in
     absurd (each_last P u.earlier (load_of u.file) (subst (EachName P) u.last quiet) u.risen)
-told_way plan before now loads answer ending (inr (inr (inl c))) told quiet sink = absurd (sink c.1.2.cut.risen)
+told_way plan before now loads answer ending (inr (inr (inl c))) told quiet sink = absurd (sink c.1.1.2.cut.risen)
 told_way plan before now loads answer ending (inr (inr (inr d))) told quiet sink = inr d.0
 
-pub promise : (form : Option Form) (before now : Outside) (answer : ℕ) → Follows (plan_of form) before now answer
-    → (form ≡ None → answer ≢ 7)
+pub promise : (form : Option Form) (before now : Outside) (answer : Answer) → Follows (plan_of form) before now answer
+    → (form ≡ None → answer.status ≢ 7)
     → Promise form before now answer
 promise form before now answer follows never =
     let plan = plan_of form in
@@ -326,16 +384,18 @@ promise form before now answer follows never =
       loads = e.loads;
       asked = e.asked;
       in_order = e.in_order;
-      ended = up_to_4 answer w;
-      failed = at_5 answer w;
-      stopped = at_6 answer w;
-      refused = at_7 answer w;
-      statuses = up_to_7 answer w;
+      ended = up_to_4 answer.status w;
+      failed = at_5 answer.status w;
+      stopped = λ six. (at_6 answer.status w six).1;
+      refused = λ seven. (at_7 answer.status w seven).1;
+      empty = λ seven other. empty_at_7 form before now e.loads (at_7 answer.status w seven).1.1 other;
+      statuses = up_to_7 answer.status w;
       told = λ ending is quiet sink. told_way plan before now e.loads answer ending w is quiet sink;
       usage = λ two.
-          let final = up_to_4 answer w (omega (arith, two)) in
+          let final = up_to_4 answer.status w (omega (arith, two)) in
           usage_alone form before.files.held e.loads final.0 final.1.comes (sym final.2.status ∙ two);
       no_form = never;
+      kept = kept_then form before now e.loads answer w;
       pieces = gave_lines form before now e.loads answer w;
       counts = (e.count, no_fault_fell plan before now e.loads answer w);
       keeps = e.keeps;

@@ -18,11 +18,13 @@ use Rattle.script_text.specs.declared.error.ScriptError.{ScriptError}
 use Rattle.script_text.specs.ScriptFile.{script_of}
 use Rattle.ttp_top.specs.declared.read.FileFault.{FileFault}
 use Rattle.ttp_top.specs.declared.read.FileFault.TheVariants as wrong
+use Rattle.ttp_top.specs.Calls.Answer.{Answer}
 use Rattle.ttp_top.specs.Calls.Files.{refused_list, after_list, refused_script, after_script, script_plan}
 use Rattle.ttp_top.specs.Calls.Forms.{trace_ending, plan_of}
+use Rattle.ttp_top.specs.Calls.Outcome.{Showed}
 use Rattle.ttp_top.specs.Calls.Plan.{Outside, Ending, Plan, ends, load_of, Comes, AsksFirst, told_ending}
-use Rattle.ttp_top.specs.Calls.Promise.{IsDue, EachName, NoneAskedRose, Promise}
-use Rattle.ttp_top.specs.Calls.Texts.{traces, IsTrace, WroteAmong, CutAmong}
+use Rattle.ttp_top.specs.Calls.Promise.{IsDue, IsUnfinished, EachName, NoneAskedRose, Promise}
+use Rattle.ttp_top.specs.Calls.Texts.{traces, fronts, IsTrace, WroteAmong, CutAmong}
 use Rattle.ttp_top.specs.Calls.Words.{run}
 use Rattle.ttp_top.specs.Files.Read.{list_limit, list_read, list_from, script_limit, script_read, script_from}
 use Rattle.ttp_top.specs.Scripts.Promise.{MayBe, AreRight, IsSafeSince, WroteTraceOf, WroteTrace, AreTold, RunPromise}
@@ -158,9 +160,10 @@ own_numbers medl right lines t =
     ap (numbers_in medl right) t.text
     ∙ numbers_in-trace medl right t.numbers t.valid t.valid_script t.legal.count t.legal.legal
 
-wrote_trace_of : (medl : Medl) (right : Script) (before now : Output) → WroteAmong (traces medl right) before now
-    → WroteTraceOf medl right before now
-wrote_trace_of medl right before now w =
+wrote_trace_of : (medl : Medl) (right : Script) (before now : Output) (answer : Answer)
+    → Showed (trace_ending medl right) before now answer → WroteTraceOf medl right before now answer.kept
+wrote_trace_of medl right before now answer showed =
+    let w = showed.text in
     let t = w.among in
     let own = own_numbers medl right w.lines t in
     record {
@@ -172,10 +175,12 @@ wrote_trace_of medl right before now w =
           let safe = safe-since medl right start t.valid t.valid_script kept t.numbers t.legal.legal
           (omega (arith, t.legal.count)) in
           subst (λ (numbers : Numbers). IsSafeSince medl right start (world medl right numbers)) (sym own) safe;
+      ran = showed.kept;
     }
 
-wrote_trace : (list script : List ℕ) (before now : Outside) (answer : ℕ)
-    → Promise (Some (run list script)) before now answer → answer ≡ 0 → WroteTrace list script before now
+wrote_trace : (list script : List ℕ) (before now : Outside) (answer : Answer)
+    → Promise (Some (run list script)) before now answer → answer.status ≡ 0
+    → WroteTrace list script before now answer.kept
 wrote_trace list script before now answer p zero =
     let final = p.ended (omega (arith, zero)) in
     let t = traced before.files.held list script p.loads final.0 final.1.comes (sym final.2.status ∙ zero) in
@@ -188,8 +193,8 @@ wrote_trace list script before now answer p zero =
       script_file = t.script_file;
       are = t.are;
       text =
-          wrote_trace_of t.medl t.right before.output now.output
-          (subst (λ (e : Ending). WroteAmong e.texts before.output now.output) t.comes final.2.text);
+          wrote_trace_of t.medl t.right before.output now.output answer
+          (subst (λ (e : Ending). Showed e before.output now.output answer) t.comes final.2);
     }
 
 -- ---- right files
@@ -250,19 +255,36 @@ cut_trace list script before now medl right loads ending files quiet (inr u) =
     let Q : List ℕ → Type 0 = λ name. ¬ HasRisen (before.files.faults name) (now.files.faults name) in
     absurd (each_last Q u.earlier (load_of u.file) (subst (EachName Q) u.last quiet) u.risen)
 
-pub run_promise : (list script : List ℕ) (before now : Outside) (answer : ℕ)
+-- what was written when memory was refused begins one of them
+begun_trace : (list script : List ℕ) (before now : Outside) (medl : Medl) (right : Script) (loads : List Load)
+    → AreTold list script before now medl right → NoneAskedRose before now loads
+    → IsUnfinished (plan_of (Some (run list script))) before now loads
+    → WroteAmong (fronts medl right) before.output now.output
+begun_trace list script before now medl right loads files quiet (inl none) =
+    record { lines = []; among = inl refl; wrote = none }
+begun_trace list script before now medl right loads files quiet (inr some) =
+    let is = cut_trace list script before now medl right loads some.0 files quiet (inl some.1) in
+    subst (λ (e : Ending). WroteAmong e.unfinished before.output now.output) is some.2
+
+pub run_promise : (list script : List ℕ) (before now : Outside) (answer : Answer)
     → Promise (Some (run list script)) before now answer → RunPromise list script before now answer
-run_promise list script before now answer p = record {
-  trace = wrote_trace list script before now answer p;
-  complete = λ medl right files sink.
-      let quiet = none_rose list script before now medl right p.loads files p.in_order in
-      elim (p.told (trace_ending medl right) (run_told list script before now medl right files) quiet sink) [
-        | inl showed ↦ inl (showed.status, wrote_trace_of medl right before.output now.output showed.text)
-        | inr seven ↦ inr seven
-      ];
-  cut = λ medl right files six.
-      let stopped = p.stopped six in
-      let quiet = none_rose list script before now medl right p.loads files p.in_order in
-      let is = cut_trace list script before now medl right p.loads stopped.0 files quiet stopped.1 in
-      subst (λ (e : Ending). CutAmong e.texts before.output now.output) is stopped.2;
-}
+run_promise list script before now answer p =
+    let begun : (medl : Medl) (right : Script) → AreTold list script before now medl right → answer.status ≡ 7
+    → WroteAmong (fronts medl right) before.output now.output = λ medl right files seven.
+    begun_trace list script before now medl right p.loads files
+    (none_rose list script before now medl right p.loads files p.in_order) (p.refused seven).1 in
+    record {
+      trace = wrote_trace list script before now answer p;
+      complete = λ medl right files sink.
+          let quiet = none_rose list script before now medl right p.loads files p.in_order in
+          elim (p.told (trace_ending medl right) (run_told list script before now medl right files) quiet sink) [
+            | inl showed ↦ inl (showed.status, wrote_trace_of medl right before.output now.output answer showed)
+            | inr seven ↦ inr (seven, begun medl right files seven)
+          ];
+      cut = λ medl right files six.
+          let stopped = p.stopped six in
+          let quiet = none_rose list script before now medl right p.loads files p.in_order in
+          let is = cut_trace list script before now medl right p.loads stopped.0 files quiet stopped.1 in
+          subst (λ (e : Ending). CutAmong e.texts before.output now.output) is stopped.2;
+      begun = begun;
+    }

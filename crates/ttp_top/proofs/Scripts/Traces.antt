@@ -1,67 +1,96 @@
 -- A trace: the lines of a run, and then that of the hypothesis test.
-use Rattle.std.proofs.Common.{ℕ, [], ◌∷◌, refl, subst, inl, inr}
+use Rattle.std.proofs.Common.{◌≡◌, ◌≢◌, ℕ, [], ◌∷◌, Some, refl, sym, subst, ◌∙◌, inl, inr, arith}
 use Rattle.ttp_base.specs.Outside.{Output, WroteLines, CutShort}
-use Rattle.ttp_base.proofs.Outputs.{Wrote-join, CutShort-after, CutShort-more}
+use Rattle.ttp_base.proofs.Outputs.{Wrote-join, CutShort-after}
 use Rattle.ttp_world.specs.declared.medl.Medl.{Medl}
 use Rattle.ttp_world.specs.declared.script.Script.{Script}
 use Rattle.ttp_world.specs.Hypothesis.{keeps}
-use Rattle.ttp_world.specs.Legal.{IsLegalRun}
+use Rattle.ttp_world.specs.Legal.{IsLegal, IsLegalRun}
 use Rattle.ttp_world.specs.Medl.{IsValid}
 use Rattle.ttp_world.specs.Script.{IsValidScript}
 use Rattle.ttp_world.specs.Trace.{run_lines, trace_lines, keep_line}
+use Rattle.ttp_world.specs.TraceNumbers.{numbers_in}
 use Rattle.ttp_world.specs.World.{Numbers}
-use Rattle.plant_run.specs.Wrote.{WroteRun, CutRunShort}
+use Rattle.ttp_world.proofs.TraceNumbers.{numbers_in-trace}
+use Rattle.cluster_run.specs.Standing.{ClusterView, ClusterStandsFor}
+use Rattle.ttp_top.specs.declared.trace.RunFault.TheVariants as fault
+use Rattle.ttp_top.specs.Calls.Answer.{Answer, answer, alone, HasRun}
 use Rattle.ttp_top.specs.Calls.Forms.{trace_ending, keep_ending}
-use Rattle.ttp_top.specs.Calls.Outcome.{Says}
-use Rattle.ttp_top.specs.Calls.Texts.{IsTrace}
+use Rattle.ttp_top.specs.Calls.Outcome.{Says, Shows}
+use Rattle.ttp_top.specs.Scripts.Written.{HasWritten, Leaves}
+use Rattle.ttp_top.proofs.Scripts.Fronts.{is_trace}
 
-is_trace : (list : Medl) (script : Script) → IsValid list → IsValidScript list script → (numbers : Numbers)
-    → IsLegalRun list script numbers → IsTrace list script (trace_lines list script numbers)
-is_trace list script valid valid_script numbers legal = record {
-  valid = valid;
-  valid_script = valid_script;
-  numbers = numbers;
-  legal = legal;
-  text = refl;
+-- a run was written whole, and its cluster has its list and its script
+pub record HasWrittenAll (list : Medl) (script : Script) (before now : Output) (c : ClusterView) : Type 0 where
+  pub numbers : Numbers
+  pub legal : IsLegalRun list script numbers
+  pub lines : WroteLines before now (run_lines list script numbers)
+  pub run : HasRun list script numbers c
+
+pub all_written : (list : Medl) (script : Script) (before now : Output) (c : ClusterView) → c.list ≡ list
+    → c.script ≡ script → c.done ≡ script.slots → HasWritten before now c → HasWrittenAll list script before now c
+all_written list script before now c list_is script_is done w = record {
+  numbers = w.numbers;
+  legal = record {
+    count = sym w.stands.done ∙ done;
+    legal = subst (λ (s : Script). IsLegal list s w.numbers) script_is
+        (subst (λ (l : Medl). IsLegal l c.script w.numbers) list_is w.legal);
+  };
+  lines = subst (λ (s : Script). WroteLines before now (run_lines list s w.numbers)) script_is
+      (subst (λ (l : Medl). WroteLines before now (run_lines l c.script w.numbers)) list_is w.lines);
+  run = record { list_is = list_is; script_is = script_is; done = done; stands = w.stands };
 }
 
--- the last line was said after a run
-pub trace_said : (list : Medl) (script : Script) (a b c : Output) (answer : ℕ) → IsValid list
-    → IsValidScript list script
-    → WroteRun list script a b → Says (keep_ending list script) b c answer → Says (trace_ending list script) a c answer
-trace_said list script a b c answer valid valid_script run (inl showed) =
+-- a trace names the numbers that it was made with
+run_named : (list : Medl) (script : Script) (numbers : Numbers) (c : ClusterView) → IsValid list
+    → IsValidScript list script → IsLegalRun list script numbers → HasRun list script numbers c
+    → HasRun list script (numbers_in list script (trace_lines list script numbers)) c
+run_named list script numbers c valid valid_script legal run =
+    subst (λ (ns : Numbers). HasRun list script ns c)
+    (sym (numbers_in-trace list script numbers valid valid_script legal.count legal.legal)) run
+
+-- the last line was said after a run, with status 0, and the cluster kept
+pub trace_said : (list : Medl) (script : Script) (a b d : Output) (c : ClusterView) (status : ℕ) → IsValid list
+    → IsValidScript list script → HasWrittenAll list script a b c → Says (keep_ending list script) b d (alone status)
+    → status ≡ 0 → Shows (trace_ending list script) a d (answer status (Some c))
+trace_said list script a b d c status valid valid_script w (inl showed) zero =
     let last = keep_line (keeps list script) ∷ [] in
-    let wrote : WroteLines b c last = subst (WroteLines b c) showed.text.among showed.text.wrote in
-    inl (record {
-      status = showed.status;
+    let wrote : WroteLines b d last = subst (WroteLines b d) showed.text.among showed.text.wrote in
+    inl (inl (record {
+      status = zero;
       text = record {
-        lines = trace_lines list script run.numbers;
-        among = is_trace list script valid valid_script run.numbers run.legal;
-        wrote = Wrote-join a b c (run_lines list script run.numbers) last run.lines wrote;
+        lines = trace_lines list script w.numbers;
+        among = is_trace list script valid valid_script w.numbers w.legal;
+        wrote = Wrote-join a b d (run_lines list script w.numbers) last w.lines wrote;
       };
-    })
-trace_said list script a b c answer valid valid_script run (inr stopped) =
+      kept = run_named list script w.numbers c valid valid_script w.legal w.run;
+    }))
+trace_said list script a b d c status valid valid_script w (inr stopped) zero =
+    absurd (omega (arith, zero, stopped.status))
+
+-- or it was not, and none is kept
+pub trace_stopped : (list : Medl) (script : Script) (a b d : Output) (c : ClusterView) (status : ℕ) → IsValid list
+    → IsValidScript list script → HasWrittenAll list script a b c → Says (keep_ending list script) b d (alone status)
+    → status ≢ 0 → Shows (trace_ending list script) a d (alone status)
+trace_stopped list script a b d c status valid valid_script w (inl showed) other = absurd (other showed.status)
+trace_stopped list script a b d c status valid valid_script w (inr stopped) other =
     let last = keep_line (keeps list script) ∷ [] in
-    let cut : CutShort b c last = subst (CutShort b c) stopped.text.among stopped.text.cut in
-    inr (record {
+    let cut : CutShort b d last = subst (CutShort b d) stopped.text.among stopped.text.cut in
+    inl (inr (record {
       status = stopped.status;
       text = record {
-        lines = trace_lines list script run.numbers;
-        among = is_trace list script valid valid_script run.numbers run.legal;
-        cut = CutShort-after a b c (run_lines list script run.numbers) last run.lines cut;
+        lines = trace_lines list script w.numbers;
+        among = is_trace list script valid valid_script w.numbers w.legal;
+        cut = CutShort-after a b d (run_lines list script w.numbers) last w.lines cut;
       };
-    })
+      none = refl;
+    }))
 
--- a run was cut short
-pub trace_stopped : (list : Medl) (script : Script) (a b : Output) → IsValid list → IsValidScript list script
-    → CutRunShort list script a b → Says (trace_ending list script) a b 6
-trace_stopped list script a b valid valid_script run =
-    inr (record {
-      status = refl;
-      text = record {
-        lines = trace_lines list script run.numbers;
-        among = is_trace list script valid valid_script run.numbers run.legal;
-        cut =
-            CutShort-more a b (run_lines list script run.numbers) (keep_line (keeps list script) ∷ []) run.lines;
-      };
-    })
+-- a run was not written whole
+pub trace_left : (list : Medl) (script : Script) (a b : Output) → Leaves fault.Memory list script a b
+    → Shows (trace_ending list script) a b (alone 7)
+trace_left list script a b left = inr (record { status = refl; text = left; none = refl })
+
+pub trace_cut : (list : Medl) (script : Script) (a b : Output) → Leaves fault.Failed list script a b
+    → Shows (trace_ending list script) a b (alone 6)
+trace_cut list script a b cut = inl (inr (record { status = refl; text = cut; none = refl }))

@@ -1,5 +1,5 @@
 -- The texts that a call may write.
-use Rattle.std.specs.Prelude.{◌≡◌, ℕ, true, List, [], ◌∷◌, ◌++◌}
+use Rattle.std.specs.Prelude.{◌≡◌, ◌⊎◌, ℕ, true, List, [], ◌∷◌, ◌++◌}
 use Rattle.std.specs.List.{AllByRecursion}
 use Rattle.ttp_base.specs.Outside.{Output, WroteLines, CutShort}
 use Rattle.ttp_base.specs.Text.{Lines, is_line}
@@ -18,7 +18,7 @@ pub data Texts : Type 0 where
   one : (lines : Lines) → Texts
   -- the traces of a list and a script: one for each choice of message numbers that is legal
   traces : (list : Medl) (script : Script) → Texts
-  -- what a trace of them begins with, as whole lines, fewer than all
+  -- no lines, or the first lines of a trace of them, but not all
   fronts : (list : Medl) (script : Script) → Texts
   -- the one line on a node that may be two-faced, which is the same for each legal choice
   precisions : (list : Medl) (script : Script) (node : ℕ) → Texts
@@ -35,7 +35,7 @@ pub record IsTrace (list : Medl) (script : Script) (lines : Lines) : Type 0 wher
   pub legal : IsLegalRun list script numbers
   pub text : lines ≡ trace_lines list script numbers
 
--- some first lines of a trace, or none, but not all
+-- some first lines of a trace, but not all
 pub record IsFront (list : Medl) (script : Script) (lines : Lines) : Type 0 where
   pub whole : Lines
   pub trace : IsTrace list script whole
@@ -50,7 +50,7 @@ IsPrecision list script node lines =
 abbrev pub IsAmong : Texts → Lines → Type 0
 IsAmong (one text) lines = lines ≡ text
 IsAmong (traces list script) lines = IsTrace list script lines
-IsAmong (fronts list script) lines = IsFront list script lines
+IsAmong (fronts list script) lines = (lines ≡ []) ⊎ IsFront list script lines
 IsAmong (precisions list script node) lines = IsPrecision list script node lines
 
 -- one of these texts was written, each of its lines as one piece

@@ -1,4 +1,5 @@
 use Rattle.std.proofs.Common.{refl, inl}
+use Rattle.ttp_top.specs.Calls.Answer.{alone}
 use Rattle.ttp_top.specs.Calls.Forms.{keep_ending}
 use Rattle.ttp_top.specs.Calls.Plan.{outside, ends}
 use Rattle.ttp_top.proofs.run.keeps.Goals as goal
@@ -6,7 +7,7 @@ use Rattle.ttp_top.proofs.run.keeps.Goals as goal
 pub returns-in-Ok : goal.returns-in-Ok
 returns-in-Ok g c =
     let later = outside (g.L.Library.files c.load_both.new.library) (g.K.Sink.output c.show_keep.new.out) in
-    c.in-Ok.ensures.ok (λ medl right. ends (keep_ending medl right)) later c.show_keep.result
+    c.in-Ok.ensures.ok (λ medl right. ends (keep_ending medl right)) later (alone c.show_keep.result)
     (refl, inl c.show_keep.ensures)
 
 pub returns-in-Err : goal.returns-in-Err

@@ -1,0 +1,125 @@
+//! Threads that are held until others have come: the halves of the controllers run at once, and so do the
+//! controllers and the hosts' reads.
+
+use super::super::{HEAD, joined};
+use super::is_polled;
+use crate::bench;
+use crate::tests::texts::{list_of, script_of};
+use std::hint::spin_loop;
+use std::sync::Wait;
+use std::sync::atomic::AtomicU64;
+use std::sync::atomic::Ordering::SeqCst;
+use std::test::Fail;
+use std::thread::Threads;
+use ttp_base::{Gate, List, MemoryLibrary, MemorySink};
+
+// A hold lasts no longer.
+const TURNS: u64 = 10_000_000;
+
+// How many statuses five nodes publish before slot 11, and how many words these have.
+const STATUSES: u64 = 55;
+
+const WORDS: u64 = 220;
+
+// Counts the passes of each place. In slot 11 it holds the first status to be written until a second one
+// is, the first word of it until a read has begun, and the first word that is read until a word of a status
+// is written.
+#[derive(Drop)]
+struct Holds {
+    begins: AtomicU64,
+    words: AtomicU64,
+    ends: AtomicU64,
+    reads: AtomicU64,
+    words_read: AtomicU64,
+    reads_ended: AtomicU64,
+    // The longest that a thread was held, in turns.
+    longest: AtomicU64,
+}
+
+// Waits until so many have come, and keeps how many turns that took.
+fn hold(count: &AtomicU64, wanted: u64, longest: &AtomicU64) {
+    let mut turns = TURNS;
+    for turn in 0..TURNS {
+        if count.load(SeqCst) >= wanted {
+            turns = turn;
+            break;
+        }
+        spin_loop();
+    }
+    longest.fetch_max(turns, SeqCst);
+}
+
+impl Gate for Holds {
+    fn pass(&self, place: u32) {
+        match place {
+            1 => {
+                if self.begins.fetch_add(1, SeqCst) == STATUSES {
+                    hold(&self.begins, STATUSES + 2, &self.longest);
+                }
+            }
+            2 => {
+                if self.words.fetch_add(1, SeqCst) == WORDS {
+                    hold(&self.reads, 1, &self.longest);
+                }
+            }
+            3 => {
+                self.ends.fetch_add(1, SeqCst);
+            }
+            4 => {
+                self.reads.fetch_add(1, SeqCst);
+            }
+            5 => {
+                if self.words_read.fetch_add(1, SeqCst) == 0 {
+                    hold(&self.words, WORDS + 1, &self.longest);
+                }
+            }
+            _ => {
+                self.reads_ended.fetch_add(1, SeqCst);
+            }
+        }
+    }
+}
+
+impl Holds {
+    fn new() -> Holds {
+        Holds {
+            begins: AtomicU64::new(0),
+            words: AtomicU64::new(0),
+            ends: AtomicU64::new(0),
+            reads: AtomicU64::new(0),
+            words_read: AtomicU64::new(0),
+            reads_ended: AtomicU64::new(0),
+            longest: AtomicU64::new(0),
+        }
+    }
+
+    // Whether each place was passed in slot 11, and no thread was held to the end.
+    fn passed(&self) -> bool {
+        self.begins.load(SeqCst) > STATUSES
+            && self.words.load(SeqCst) > WORDS
+            && self.ends.load(SeqCst) > STATUSES
+            && self.reads.load(SeqCst) > 0
+            && self.words_read.load(SeqCst) > 0
+            && self.reads_ended.load(SeqCst) > 0
+            && self.longest.load(SeqCst) < TURNS
+    }
+}
+
+#[test]
+fn controllers_and_hosts_run_at_once(rt: HostRuntime) -> Result<(), Fail> {
+    let mut library = MemoryLibrary::new(rt.alloc(), List::new(rt.alloc()));
+    library.add("list", list_of(&rt, HEAD, "FSSSS")?.as_bytes())?;
+    library.add("script", script_of(&rt, "slots 15\n", 5, "read 1 11 status\n")?.as_bytes())?;
+    let mut words = Vec::new(rt.alloc());
+    for word in ["run", "list", "script"] {
+        words.push(joined(&rt, &[word])?)?;
+    }
+    let mut out = MemorySink::new(rt.alloc(), 10_000, List::new(rt.alloc()))?;
+    let gate = Holds::new();
+    let mut kept = None;
+    let status = bench(&rt, rt.alloc(), &words, &mut library, &mut out, &gate, &mut kept);
+    assert_eq!(rt; status, 0);
+    assert!(rt; is_polled(&rt, out.bytes())?);
+    assert!(rt; gate.passed());
+    Ok(())
+}

@@ -1,0 +1,153 @@
+//! Eight nodes with payload in four rounds, with clocks that drift, a noisy sender and later a deaf
+//! receiver, as they run without hosts. In slots 100 to 119 the host of node 1 writes a message, and that
+//! of node 5 reads its status and what came from node 1.
+
+use super::super::answer_files;
+use super::super::texts::{LOADED_HEAD, list_of, script_of};
+use std::test::Fail;
+
+const FAULTS: &str =
+    "drift 1 1\ndrift 4 -1\nerror 2 2 0 399\nerror 5 -2 0 399\nsend 0 AB noise 40 40\nreceive 3 AB silence 70 70\n";
+
+// Lines that are the same whatever the hosts read.
+const LINES: [&str; 8] = [
+    "slot 16 node 0 start peer 0 msg - mem 0001 acc 1 rej 0 ack first clock 0\n",
+    "slot 42 node 0 denied peer 2 msg - mem 0000 acc 0 rej 0 ack none clock -2\n",
+    "slot 74 node 3 incorrect peer 2 msg - mem 0038 acc 3 rej 3 ack none clock -4\n",
+    "slot 75 node 3 clique peer 3 msg - mem 0000 acc 0 rej 0 ack none clock -4\n",
+    "slot 97 node 1 send peer 1 msg 0 mem 00f6 ",
+    "slot 121 node 1 send peer 1 msg 20 mem 00f6 ",
+    "slot 399 node 5 correct peer 7 msg 48 mem 00f6 acc 3 rej 0 ack none clock -26\n",
+    "slot 399 node 7 send peer 7 msg 0 mem 00f6 acc 1 rej 0 ack first clock -24\n",
+];
+
+// What node 5's status shows by the slot of the round: flags, and the frames that it accepted. Nodes 0 and 3
+// have left.
+const FLAGS: [u32; 8] = [1, 17, 17, 1, 17, 41, 17, 145];
+
+const ACCEPTED: [u32; 8] = [3, 4, 5, 5, 6, 1, 2, 3];
+
+// Its status after a slot.
+fn status_after<R: AllocGlobal>(rt: &R, slot: u32) -> Result<String, Fail> {
+    let in_round = slot % 8;
+    let flags = FLAGS[in_round as usize];
+    let accepted = 256 * ACCEPTED[in_round as usize];
+    let time = slot.saturating_sub(16);
+    let round = time / 8 % 4;
+    Ok(format!(in rt.alloc();
+        "{slot:016x}{flags:016x}0000{time:04x}{round:02x}{in_round:02x}00f6{accepted:016x}")?)
+}
+
+// What node 1's frames carry: zeros until slot 105, then in turn the messages that its host wrote by slots
+// 105 and 113, of which each may be the one of that slot or of the one before.
+#[derive(Clone, Copy)]
+struct Frames {
+    early: u32,
+    late: u32,
+}
+
+// The number of the newest message that node 5 got from node 1 by the end of a slot.
+fn got_by(slot: u32) -> u32 {
+    if slot < 105 {
+        11
+    } else if slot < 113 {
+        12
+    } else {
+        13
+    }
+}
+
+// A message that came, by its number: 16 times the two digits of the slot in which it was written.
+fn message<R: AllocGlobal>(rt: &R, frames: Frames, number: u32) -> Result<String, Fail> {
+    let byte = if number < 12 {
+        0
+    } else if number < 13 {
+        frames.early
+    } else {
+        frames.late
+    };
+    let mut text = String::new(rt.alloc());
+    for _ in 0..16u8 {
+        text.push_str(&format!(in rt.alloc(); "{byte:02x}")?)?;
+    }
+    Ok(text)
+}
+
+// The host lines of a slot, where these messages were read.
+fn host_lines<R: AllocGlobal>(
+    rt: &R,
+    frames: Frames,
+    slot: u32,
+    status: u32,
+    number: u32,
+) -> Result<String, Fail> {
+    let written = slot.saturating_sub(99);
+    let words = status_after(rt, status.saturating_sub(1))?;
+    let payload = message(rt, frames, number)?;
+    Ok(format!(in rt.alloc();
+        "slot {slot} host 1 write {written}\nslot {slot} host 5 read status {status} {words}\nslot {slot} host 5 read 1 {number} {payload}\n")?)
+}
+
+// Whether the host lines of a slot are legal: the status before it or of it, and of node 1 the newest message
+// before it or after it.
+fn are_legal<R: AllocGlobal>(rt: &R, text: &str, frames: Frames, slot: u32) -> Result<bool, Fail> {
+    let mut found = false;
+    for status in [slot, slot.saturating_add(1)] {
+        for number in [got_by(slot.saturating_sub(1)), got_by(slot)] {
+            let lines = host_lines(rt, frames, slot, status, number)?;
+            found = found || text.contains(lines.as_str());
+        }
+    }
+    Ok(found)
+}
+
+// The message of a frame of node 1 in this slot, as the slot in which it was written.
+fn carried<R: AllocGlobal>(rt: &R, text: &str, slot: u32) -> Result<Option<u32>, Fail> {
+    let newest = slot.saturating_sub(99);
+    for older in 0..2u32 {
+        let number = newest.saturating_sub(older);
+        let line = format!(in rt.alloc(); "slot {slot} node 1 send peer 1 msg {number} mem 00f6 ")?;
+        if text.contains(line.as_str()) {
+            return Ok(Some(slot.saturating_sub(older)));
+        }
+    }
+    Ok(None)
+}
+
+#[test]
+fn hosts_of_a_loaded_cluster(rt: HostRuntime) -> Result<(), Fail> {
+    let list = list_of(&rt, LOADED_HEAD, "GGLLLLLL")?;
+    let mut script = script_of(&rt, "slots 400\n", 8, FAULTS)?;
+    for slot in 100..120u32 {
+        script.push_str(&format!(in rt.alloc(); "write 1 {slot} ")?)?;
+        for _ in 0..16u8 {
+            script.push_str(&format!(in rt.alloc(); "{slot:02x}")?)?;
+        }
+        script.push_str(&format!(in rt.alloc(); "\nread 5 {slot} status\nread 5 {slot} 1\n")?)?;
+    }
+    let words = ["run", "cluster.toml", "five.script"];
+    let files = (list.as_bytes(), Some(script.as_bytes()));
+    let (status, written) = answer_files(&rt, &words, files.0, files.1, 0, 0)?;
+    assert_eq!(rt; status, 0);
+    let text = str::from_utf8(&written)?;
+    for line in LINES {
+        assert!(rt; text.contains(line), "{line}");
+    }
+    assert!(rt; text.ends_with("\nkeeps yes start 16\n"));
+    let Some(early) = carried(&rt, text, 105)? else {
+        return Err(Fail::from("node 1's frame in slot 105"));
+    };
+    let Some(late) = carried(&rt, text, 113)? else {
+        return Err(Fail::from("node 1's frame in slot 113"));
+    };
+    for slot in 100..120u32 {
+        assert!(rt; are_legal(&rt, text, Frames { early, late }, slot)?, "slot {slot}");
+    }
+    // With a sink whose third write fails the first two lines are written.
+    let (status, written) = answer_files(&rt, &words, files.0, files.1, 0, 3)?;
+    assert_eq!(rt; status, 6);
+    let front = "ttpbench trace 1 nodes 8 rounds 4 slots 400 schedule 001234\n\
+        slot 0 node 0 wait peer - msg - mem 0000 acc 0 rej 0 ack none clock 0\n";
+    assert_eq!(rt; written.as_slice(), front.as_bytes());
+    Ok(())
+}
