@@ -208,22 +208,21 @@ stated_faults list before words form =
     unless (has_numbers form words) faults.Number ++ statement_faults list before words (statement_of form words)
 
 -- those of a line of a form
-unfoldable pub form_faults : (Keyword → Bool) → Medl → List Statement → List (List ℕ) → Keyword → List LineFault
-form_faults built list before words form =
+unfoldable pub form_faults : Medl → List Statement → List (List ℕ) → Keyword → List LineFault
+form_faults list before words form =
     unless (is_spelled form words) faults.Word
     ++ (unless (is_after_slots form (slots_of before)) faults.NoSlots
-    ++ (unless (built form) faults.NotBuilt
-    ++ stated_faults list before words form))
+    ++ stated_faults list before words form)
 
 -- those of a line whose first word names this form, or none
-abbrev pub keyword_faults : (Keyword → Bool) → Medl → List Statement → List (List ℕ) → Option Keyword → List LineFault
-keyword_faults built list before words None = faults.Word ∷ []
-keyword_faults built list before words (Some form) = form_faults built list before words form
+abbrev pub keyword_faults : Medl → List Statement → List (List ℕ) → Option Keyword → List LineFault
+keyword_faults list before words None = faults.Word ∷ []
+keyword_faults list before words (Some form) = form_faults list before words form
 
--- those of a line, where these forms are built
-unfoldable pub line_faults : (Keyword → Bool) → Medl → List Statement → List (List ℕ) → List LineFault
-line_faults built list before words =
-    if says_nothing words then [] else keyword_faults built list before words (keyword_of (word_at words 0))
+-- those of a line
+unfoldable pub line_faults : Medl → List Statement → List (List ℕ) → List LineFault
+line_faults list before words =
+    if says_nothing words then [] else keyword_faults list before words (keyword_of (word_at words 0))
 
 -- what the lines state with one line more, whose first word names this form, or none
 abbrev pub keyword_statements : List Statement → List (List ℕ) → Option Keyword → List Statement

@@ -2,7 +2,7 @@
 --
 -- The faults of a file are one list, over all its lines: those of each line in order, and at last the want of a
 -- `slots` line, which is told of the line after the last. A file with no fault is the script of what its lines state.
-use Rattle.std.specs.Prelude.{ℕ, suc, pos, Bool, true, false, List, [], ◌∷◌, ◌++◌, length}
+use Rattle.std.specs.Prelude.{ℕ, suc, pos, List, [], ◌∷◌, ◌++◌, length}
 use Rattle.std.specs.Prelude.{map, unwrap_or, is_some, Result, Ok, Err, if◌then◌else◌}
 use Rattle.ttp_base.specs.NodeSet.{below}
 use Rattle.ttp_world.specs.declared.medl.Medl.{Medl}
@@ -11,23 +11,9 @@ use Rattle.script_text.specs.declared.error.LineFault.{LineFault}
 use Rattle.script_text.specs.declared.error.LineFault.TheVariants as faults
 use Rattle.script_text.specs.declared.error.ScriptError.{ScriptError}
 use Rattle.script_text.specs.declared.error.ScriptError.TheVariants as errors
-use Rattle.script_text.specs.declared.keyword.Keyword.{Keyword}
-use Rattle.script_text.specs.declared.keyword.Keyword.TheVariants as keyword
 use Rattle.script_text.specs.Lines.{lines_of, words_of}
 use Rattle.script_text.specs.Statement.{Statement}
 use Rattle.script_text.specs.Faults.{slots_of, run_slots, on_of, drift_of, events_of, line_faults, statements_after}
-
--- Forms of lines that are read, and that the rest of the bench knows. The others are `NotBuilt`.
-
--- lines of this form are read
-abbrev pub is_built : Keyword → Bool
-is_built keyword.Write = false
-is_built keyword.Read = false
-is_built _ = true
-
--- lines of this form are known, as all are
-abbrev pub is_known : Keyword → Bool
-is_known form = true
 
 -- The faults of all lines.
 
@@ -40,12 +26,12 @@ abbrev pub end_faults : ℕ → List Statement → List ScriptError
 end_faults number before = if is_some (slots_of before) then [] else errors.Line number faults.NoSlots ∷ []
 
 -- the faults of the lines from this number on, after lines that state this
-abbrev pub file_faults : (Keyword → Bool) → Medl → ℕ → List Statement → List (List ℕ) → List ScriptError
-file_faults built list number before [] = end_faults number before
-file_faults built list number before (line ∷ lines) =
+abbrev pub file_faults : Medl → ℕ → List Statement → List (List ℕ) → List ScriptError
+file_faults list number before [] = end_faults number before
+file_faults list number before (line ∷ lines) =
     let words = words_of line in
-    errors_at number (line_faults built list before words)
-    ++ file_faults built list (suc number) (statements_after before words) lines
+    errors_at number (line_faults list before words)
+    ++ file_faults list (suc number) (statements_after before words) lines
 
 -- What lines without a fault say.
 
@@ -70,15 +56,10 @@ abbrev pub script_or_fault : List ScriptError → Script → Result Script Scrip
 script_or_fault [] script = Ok script
 script_or_fault (fault ∷ found) script = Err fault
 
--- what lines say where these forms are built
-unfoldable pub lines_script : (Keyword → Bool) → Medl → List (List ℕ) → Result Script ScriptError
-lines_script built list lines =
-    script_or_fault (file_faults built list 1 [] lines) (stated_script list (statements_of [] lines))
-
--- what the bytes of a file say where these forms are built
-unfoldable pub file_script : (Keyword → Bool) → Medl → List ℕ → Result Script ScriptError
-file_script built list bytes = lines_script built list (lines_of bytes)
+-- what lines say
+unfoldable pub lines_script : Medl → List (List ℕ) → Result Script ScriptError
+lines_script list lines = script_or_fault (file_faults list 1 [] lines) (stated_script list (statements_of [] lines))
 
 -- what the bytes of a file say: the script, or the first faulty line with its first fault
 unfoldable pub script_of : Medl → List ℕ → Result Script ScriptError
-script_of list bytes = file_script is_built list bytes
+script_of list bytes = lines_script list (lines_of bytes)

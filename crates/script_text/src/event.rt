@@ -7,10 +7,11 @@ ghost use Rattle.script_text.specs.Lines.{word_at};
 ghost use Rattle.script_text.specs.Numbers.{is_number, is_value, value_in, channels_in, fault_in};
 ghost use Rattle.script_text.specs.Statement.{number_at, statement_of};
 ghost use Rattle.script_text.specs.Faults.{is_node, is_span, is_within, is_flipped_bit, event_said};
-ghost use Rattle.script_text.specs.SoFar.{event_faults, is_event_form};
+ghost use Rattle.script_text.specs.SoFar.{event_faults, is_uncounted};
 
 use crate::error::LineFault;
 use crate::form::{channels_in, fault_in};
+use crate::host::read_in;
 use crate::keyword::Keyword;
 use crate::lines::Words;
 use crate::number::{number_in, value_in};
@@ -198,7 +199,8 @@ fn arm_in(words: &Words, list: &Medl, slots: u32) -> Result<Event, LineFault>
     Ok(Event::Arm { node, slot })
 }
 
-/// The event that a line of such a form says, in a run of so many slots.
+/// The event that a line of such a form says, in a run of so many slots. A `write` line, which is counted besides, is
+/// read by `message_in`.
 #[tactic(auto, unfolding(crate::specs::SoFar::event_faults))]
 pub(crate) fn event_in(
     form: Keyword,
@@ -206,7 +208,7 @@ pub(crate) fn event_in(
     list: &Medl,
     slots: u32,
 ) -> Result<Event, LineFault>
-    requires form { is_event_form form ≡ true }
+    requires form { is_uncounted form ≡ true }
     requires valid { IsValid list.now }
     ensures ok { IfOk result (λ _. event_faults words.now list.now slots form ≡ []) }
     ensures value { IfOk result (λ e. event_said (statement_of form words.now) ≡ Some e) }
@@ -250,6 +252,6 @@ pub(crate) fn event_in(
         Keyword::Error => error_in(words, list, slots),
         Keyword::Jump => jump_in(words, list, slots),
         Keyword::Arm => arm_in(words, list, slots),
-        _ => Err(LineFault::NotBuilt),
+        _ => read_in(words, list, slots),
     }
 }

@@ -2,17 +2,21 @@
 ghost use Rattle.std.specs.Prelude.{◌≡◌, [], ◌∷◌, ◌≤◌, true, false, length, take, pos, neg_ℤ, Some, IfSome, FitsSigned};
 ghost use Rattle.std.specs.Int.{w64};
 ghost use Rattle.std.specs.List.{list_all};
+ghost use Rattle.ttp_world.specs.Medl.{IsValid};
 ghost use Rattle.script_text.specs.Lines.{is_part, words_of, is_comment};
 ghost use Rattle.script_text.specs.Numbers.{is_number, number_in, is_value, value_in};
 ghost use Rattle.script_text.specs.Numbers.{is_channels, channels_in, is_fault, fault_in};
+ghost use Rattle.script_text.specs.Numbers.{is_source, source_in, hex_bytes_in};
 ghost use Rattle.script_text.specs.Statement.{keyword_of};
-ghost use Rattle.script_text.specs.Fields.{Begins, BeginsForm};
+ghost use Rattle.script_text.specs.Faults.{is_node, is_read_node};
+ghost use Rattle.script_text.specs.Fields.{Begins, BeginsForm, is_message};
 
 use crate::form::{channels_in, fault_in, is_channels, is_fault, is_text};
+use crate::hex::front_payload;
 use crate::keyword::Keyword;
 use crate::lines::{cut_at, is_blank, next_word, past_blanks};
 use crate::number::front_digits;
-use ttp_world::{Channels, Fault};
+use ttp_world::{Channels, Fault, Medl, PAYLOAD_LIMIT, Payload, Source};
 
 /// What the first word of a line says, and what follows that word.
 #[derive(Clone, Copy)]
@@ -71,11 +75,15 @@ fn front_form(line: &[u8]) -> Option<Field<'_, Keyword>>
 {
     match line.first() {
         Some(b's') => form_at(Keyword::Send, b"send", line),
-        Some(b'r') => form_at(Keyword::Receive, b"receive", line),
+        Some(b'r') => match form_at(Keyword::Receive, b"receive", line) {
+            Some(field) => Some(field),
+            None => form_at(Keyword::Read, b"read", line),
+        },
         Some(b'f') => form_at(Keyword::Flip, b"flip", line),
         Some(b'e') => form_at(Keyword::Error, b"error", line),
         Some(b'j') => form_at(Keyword::Jump, b"jump", line),
         Some(b'a') => form_at(Keyword::Arm, b"arm", line),
+        Some(b'w') => form_at(Keyword::Write, b"write", line),
         _ => None,
     }
 }
@@ -192,6 +200,76 @@ pub(crate) fn next_fault(line: &[u8]) -> Option<Field<'_, Fault>>
         value: fault_in(word.piece),
         rest: word.rest,
     })
+}
+
+// What the word at the front of a line names as read, where it is no node past the list's.
+#[inline(always)]
+fn front_source<'a>(line: &'a [u8], list: &Medl) -> Option<Field<'a, Source>>
+    requires { IsValid list.now }
+    ensures begins { IfSome result (λ field. Begins is_source source_in line.now field.value field.rest.now) }
+    ensures node { IfSome result (λ field. is_read_node (is_node list.now) field.value ≡ true) }
+{
+    if let Some(rest) = after_text(b"status", line) {
+        return Some(Field {
+            value: Source::Status,
+            rest,
+        });
+    }
+    let node = front_number(line)?;
+    if u32::from(list.nodes()) <= node.value {
+        return None;
+    }
+    Some(Field {
+        value: Source::Node(node.value as u8),
+        rest: node.rest,
+    })
+}
+
+/// What the first word of a line names as read, where it is no node past the list's.
+#[inline(always)]
+#[tactic(auto, using(crate::proofs::FieldWords::later_words))]
+pub(crate) fn next_source<'a>(line: &'a [u8], list: &Medl) -> Option<Field<'a, Source>>
+    requires { IsValid list.now }
+    ensures begins { IfSome result (λ field. Begins is_source source_in line.now field.value field.rest.now) }
+    ensures node { IfSome result (λ field. is_read_node (is_node list.now) field.value ≡ true) }
+{
+    front_source(past_blanks(line), list)
+}
+
+/// A message, and what follows its word.
+#[derive(Drop)]
+pub(crate) struct MessageField<'a> {
+    pub(crate) payload: Payload,
+    pub(crate) rest: &'a [u8],
+}
+
+// The message of so many bytes at the front of a line.
+#[inline(always)]
+fn front_message(line: &[u8], size: u8) -> Option<MessageField<'_>>
+    requires some { 1 ≤ size }
+    requires small { size ≤ PAYLOAD_LIMIT }
+    ensures { IfSome result (λ field.
+        Begins (is_message size) hex_bytes_in line.now field.payload field.rest.now) }
+{
+    let digits = 2 * size as usize;
+    if line.len() < digits {
+        return None;
+    }
+    let payload = front_payload(line, size)?;
+    let rest = after_word(line, digits)?;
+    Some(MessageField { payload, rest })
+}
+
+/// The message of so many bytes that the first word of a line is.
+#[inline(always)]
+#[tactic(auto, using(crate::proofs::FieldWords::later_words))]
+pub(crate) fn next_message(line: &[u8], size: u8) -> Option<MessageField<'_>>
+    requires some { 1 ≤ size }
+    requires small { size ≤ PAYLOAD_LIMIT }
+    ensures { IfSome result (λ field.
+        Begins (is_message size) hex_bytes_in line.now field.payload field.rest.now) }
+{
+    front_message(past_blanks(line), size)
 }
 
 /// Whether a line has no words.

@@ -1,12 +1,12 @@
 //! From the bytes of a file to the script.
 ghost use Rattle.std.specs.Prelude.{List as Items, ◌≡◌, ◌⊎◌, ◌≤◌, [], length, pos, Err};
-ghost use Rattle.std.specs.Prelude.{IfOk, IfErr, OnOk, All, map, unwrap_or, count_by};
+ghost use Rattle.std.specs.Prelude.{IfOk, IfErr, OnOk, All, map, unwrap_or};
 ghost use Rattle.ttp_world.specs.Medl.{IsValid};
-ghost use Rattle.ttp_world.specs.Script.{IsValidScript, IsBounded, is_host_event};
+ghost use Rattle.ttp_world.specs.Script.{IsValidScript, IsBounded};
 ghost use Rattle.script_text.specs.Lines.{is_comment, lines_of, words_of};
 ghost use Rattle.script_text.specs.Statement.{Statement};
 ghost use Rattle.script_text.specs.Faults.{is_after_slots};
-ghost use Rattle.script_text.specs.ScriptFile.{is_built, file_faults, end_faults, statements_of};
+ghost use Rattle.script_text.specs.ScriptFile.{file_faults, end_faults, statements_of};
 ghost use Rattle.script_text.specs.ScriptFile.{stated_script, script_or_fault, script_of};
 ghost use Rattle.script_text.specs.SoFar.{StandsFor, HasNodes, TakesForm, RefusesForm, TakesLine, RefusesLine};
 
@@ -47,7 +47,7 @@ fn take_form(list: &Medl, form: Keyword, words: &Words, so_far: &mut SoFar) -> R
         Keyword::Slots => Ok(so_far.take_slots(words)?),
         Keyword::On => Ok(so_far.take_on(words, list)?),
         Keyword::Drift => Ok(so_far.take_drift(words, list)?),
-        Keyword::Write | Keyword::Read => Err(LineFault::NotBuilt.into()),
+        Keyword::Write => so_far.take_write(words, list),
         _ => so_far.take_event(form, words, list),
     }
 }
@@ -113,7 +113,7 @@ fn take_lines(list: &Medl, text: &[u8], so_far: &mut SoFar) -> Result<u32, Scrip
     requires size { length text.now ≤ 1048576 }
     ensures stands { OnOk result (StandsFor so_far.new (statements_of [] (lines_of text.now))) }
     ensures faults { IfOk result (λ number.
-        file_faults is_built list.now 1 [] (lines_of text.now)
+        file_faults list.now 1 [] (lines_of text.now)
         ≡ end_faults number (statements_of [] (lines_of text.now))) }
     ensures err { IfErr result (λ e. (e ≡ ScriptError.Memory) ⊎ (script_of list.now text.now ≡ Err e)) }
     ensures nodes { HasNodes list.now so_far.new }
@@ -175,19 +175,19 @@ fn script_from(
 ///
 /// The answer is `script_of` of these bytes, which is the script or the first faulty line with its
 /// first fault; but for want of memory, which may be answered for any text. What is read meets
-/// `IsValidScript`, and so far no host writes or reads in it. The file has at most 1,048,576 bytes.
+/// `IsValidScript`. The file has at most 1,048,576 bytes.
 ///
 /// The file is gone over once, a line after another, and a line once for its end and once for its
 /// words; once more where what it says of slots is wrong.
-/// Memory is taken for what is said of each node and for what happens in slots, and none for other
-/// lines. At the end what happens in slots is put into an index, at the cost of a sort.
-#[tactic(auto, unfolding(crate::specs::ScriptFile::script_of, crate::specs::ScriptFile::file_script, crate::specs::ScriptFile::lines_script))]
+/// Memory is taken for what is said of each node, for what happens in slots, and once, where a host
+/// writes, a byte for each node and slot; none for other lines. At the end what happens in slots is
+/// put into an index, at the cost of a sort.
+#[tactic(auto, unfolding(crate::specs::ScriptFile::script_of, crate::specs::ScriptFile::lines_script))]
 pub fn read_script(alloc: Global, list: &Medl, text: &[u8]) -> Result<Script, ScriptError>
     requires valid { IsValid list.now }
     requires size { length text.now ≤ 1048576 }
     ensures exact { (result ≡ Err ScriptError.Memory) ⊎ (result ≡ script_of list.now text.now) }
     ensures valid { IfOk result (IsValidScript list.now) }
-    ensures hosts { IfOk result (λ script. count_by is_host_event script.events ≡ 0) }
 {
     let mut so_far = SoFar::new(alloc, list)?;
     let number = take_lines(list, text, &mut so_far)?;

@@ -1,31 +1,38 @@
 //! What is kept of the lines that were read.
-ghost use Rattle.std.specs.Prelude.{◌≡◌, [], ◌++◌, true, Some, IfOk, IfErr, OnOk, OnErr};
-ghost use Rattle.std.specs.Prelude.{slice_set, unwrap_or, option_to_list};
+ghost use Rattle.std.specs.Prelude.{◌≡◌, ◌+◌, ◌<◌, [], ◌∷◌, ◌++◌, true, Some, IfOk, IfErr, OnOk, OnErr};
+ghost use Rattle.std.specs.Prelude.{nat_lt, slice_set, unwrap_or, option_to_list};
 ghost use Rattle.ttp_base.specs.Faults.{first_fault};
 ghost use Rattle.ttp_world.specs.Medl.{IsValid};
+ghost use Rattle.ttp_world.specs.declared.medl.Medl.{Medl};
+ghost use Rattle.ttp_world.specs.declared.script.Event.TheVariants as event;
+ghost use Rattle.script_text.specs.declared.keyword.Keyword.TheVariants as keyword;
 ghost use Rattle.script_text.specs.Lines.{word_at};
 ghost use Rattle.script_text.specs.Numbers.{value_in};
 ghost use Rattle.script_text.specs.Statement.{number_at, statement_of};
 ghost use Rattle.script_text.specs.Faults.{event_said};
 ghost use Rattle.script_text.specs.SoFar.{StandsFor, HasNodes, slots_faults, on_faults, drift_faults};
-ghost use Rattle.script_text.specs.SoFar.{event_faults, is_event_form, RefusesEvent};
+ghost use Rattle.script_text.specs.SoFar.{event_faults, is_uncounted, RefusesEvent, writes_at, CountsMore};
+ghost use Rattle.script_text.specs.SoFar.{write_faults, RefusesWrite};
 
 use crate::error::{LineFault, Refusal};
 use crate::event::{event_in, is_within, node_of, number_at, value_at};
+use crate::host::{Message, message_in};
 use crate::keyword::Keyword;
 use crate::lines::Words;
+use crate::writes::WriteCounts;
 use std::alloc::Global;
 use ttp_base::{List, Memory};
 use ttp_world::{DRIFT_LIMIT, Event, Medl, SLOT_LIMIT};
 
 /// The slots of the run, for each node the slot in which it is switched on and its drift, where
-/// lines said so, and what happens in slots, in the order of the lines.
+/// lines said so, what happens in slots, in the order of the lines, and how often hosts write there.
 #[derive(Drop)]
 pub(crate) struct SoFar {
     pub(crate) slots: Option<u32>,
     pub(crate) on: Vec<Option<u32>>,
     pub(crate) drift: Vec<Option<i64>>,
     pub(crate) events: List<Event>,
+    pub(crate) writes: WriteCounts,
 }
 
 impl SoFar {
@@ -41,6 +48,7 @@ impl SoFar {
             on: vec![in alloc; None; nodes as usize]?,
             drift: vec![in alloc; None; nodes as usize]?,
             events: List::new(alloc),
+            writes: WriteCounts::new(alloc, nodes),
         })
     }
 
@@ -113,14 +121,14 @@ impl SoFar {
         Ok(())
     }
 
-    /// Takes a line that says what happens in slots, which stands after a `slots` line.
+    /// Takes a line that says what happens in slots and is no `write` line, and which stands after a `slots` line.
     pub(crate) fn take_event(
         &mut self,
         form: Keyword,
         words: &Words,
         list: &Medl,
     ) -> Result<(), Refusal>
-        requires form { is_event_form form ≡ true }
+        requires form { is_uncounted form ≡ true }
         requires valid { IsValid list.now }
         ensures ok { OnOk result (event_faults words.now list.now (unwrap_or self.old.slots 0) form ≡ []) }
         ensures value { OnOk result (self.new ≡ record self.old {
@@ -131,6 +139,66 @@ impl SoFar {
     {
         let event = event_in(form, words, list, self.slots.unwrap_or(0))?;
         self.events.push(event)?;
+        Ok(())
+    }
+
+    /// Whether the buffers have room for one message more of a node's host in a slot.
+    pub(crate) fn has_room(&self, list: &Medl, node: u8, slot: u32) -> bool
+        requires { IsValid list.now }
+        ensures { result ≡ nat_lt (writes_at self.now.writes node slot + 1) list.now.buffers }
+    {
+        self.writes.at(node, slot) < list.buffers - 1
+    }
+
+    /// Keeps a message of a node's host, in a run of so many slots, and counts it.
+    pub(crate) fn keep(&mut self, message: Message, slots: u32) -> Result<(), Memory>
+        requires node { message.node < self.old.writes.nodes }
+        requires slot { message.slot < slots }
+        requires few { writes_at self.old.writes message.node message.slot < 255 }
+        ensures value { OnOk result (self.new ≡ record self.old {
+          events = self.old.events ++ event.Write message.node message.slot message.payload ∷ [];
+          writes = self.new.writes;
+        }) }
+        ensures writes { OnOk result (CountsMore self.old.writes self.new.writes message.node message.slot) }
+        ensures nodes { (list : Medl) → HasNodes list self.old → HasNodes list self.new }
+    {
+        let Message {
+            node,
+            slot,
+            payload,
+        } = message;
+        self.writes.add(node, slot, slots)?;
+        self.events.push(Event::Write {
+            node,
+            slot,
+            payload,
+        })?;
+        Ok(())
+    }
+
+    /// Takes a `write` line, which stands after a `slots` line.
+    #[tactic(auto, unfolding(crate::specs::SoFar::write_faults))]
+    pub(crate) fn take_write(&mut self, words: &Words, list: &Medl) -> Result<(), Refusal>
+        requires valid { IsValid list.now }
+        requires nodes { HasNodes list.now self.old }
+        ensures ok { OnOk result (write_faults words.now list.now self.old ≡ []) }
+        ensures value { OnOk result (self.new ≡ record self.old {
+          events = self.old.events ++ option_to_list (event_said (statement_of keyword.Write words.now));
+          writes = self.new.writes;
+        }) }
+        ensures writes { OnOk result (CountsMore self.old.writes self.new.writes (number_at words.now 1) (number_at words.now 2)) }
+        ensures err { IfErr result (RefusesWrite words.now list.now self.old) }
+        ensures nodes { HasNodes list.now self.new }
+    {
+        let slots = self.slots.unwrap_or(0);
+        let message = message_in(words, list, slots)?;
+        if list.buffers == 1 {
+            return Err(LineFault::NoBuffer.into());
+        }
+        if !self.has_room(list, message.node, message.slot) {
+            return Err(LineFault::TooMany.into());
+        }
+        self.keep(message, slots)?;
         Ok(())
     }
 }
