@@ -1,7 +1,7 @@
 -- What nodes send and hear is bytes, where the payloads are, and so is what they deliver.
 use Rattle.std.proofs.Common.{◌≡◌, ℕ, zero, suc, ◌+◌, ◌-◌, ◌/◌, ◌%◌, ◌<◌, Bool, true, cond, List, [], ◌∷◌, ◌++◌, All, length}
 use Rattle.std.proofs.Common.{get_or, Option, Some, None, IfSome, refl, sym, subst, arith, drop}
-use Rattle.std.specs.Prelude.{◌&&◌, ◌==◌, nat_lt, map}
+use Rattle.std.specs.Prelude.{◌&&◌, nat_lt, map}
 use Rattle.std.specs.List.{flat_map, list_all}
 use Rattle.std.proofs.lemmas.Bool.{cond_both, ltb-true}
 use Rattle.std.proofs.lemmas.List.Concat.{flat_map-cons}
@@ -13,7 +13,7 @@ use Rattle.ttp_world.specs.declared.medl.Kind.{Kind}
 use Rattle.ttp_world.specs.declared.medl.Kind.TheVariants as kind
 use Rattle.ttp_world.specs.declared.medl.Medl.{Medl}
 use Rattle.ttp_world.specs.declared.node.Act.{Act}
-use Rattle.ttp_world.specs.declared.node.Act.TheVariants.{Off, Gone, Listen, Start, Retry, Leave, Send, Judge}
+use Rattle.ttp_world.specs.declared.node.Act.TheVariants.{Start, Send}
 use Rattle.ttp_world.specs.declared.node.Chosen.{Chosen}
 use Rattle.ttp_world.specs.declared.node.CState.{CState}
 use Rattle.ttp_world.specs.declared.node.Delivered.{Delivered}
@@ -33,7 +33,7 @@ use Rattle.ttp_world.specs.Fitting.{carried_length}
 use Rattle.ttp_world.specs.Frame.{big_endian, cstate_bytes, is_explicit, body, checked, word_bytes, frame, header_of}
 use Rattle.ttp_world.specs.Frame.{cold_start_header}
 use Rattle.ttp_world.specs.Medium.{SentFrame, Signal, Silence, Noise, Bits, flip_in_byte, flip_bit, flip_bits, remains}
-use Rattle.ttp_world.specs.Medium.{remaining_frames, signal_of, combined_signal, channel_signal, with_noise, heard}
+use Rattle.ttp_world.specs.Medium.{remaining_frames, combined_signal, channel_signal, with_noise, heard}
 use Rattle.ttp_world.specs.Medl.{member_width, kind_at}
 use Rattle.ttp_world.specs.Messages.{message_of, messages_of, delivered_of}
 use Rattle.ttp_world.specs.Outgoing.{nothing_chosen, out_messages, message_chosen}

@@ -1,6 +1,6 @@
 -- Each message that a host reads is one of its source: four words of a status, and else bytes, as many as the list
 -- gives the node that sent them.
-use Rattle.std.proofs.Common.{◌≡◌, ℕ, zero, suc, ◌+◌, ◌-◌, ◌<◌, ◌≤◌, true, List, [], ◌∷◌, ◌++◌, All, length, get_or}
+use Rattle.std.proofs.Common.{◌≡◌, ℕ, suc, ◌<◌, ◌≤◌, true, List, [], ◌∷◌, ◌++◌, All, length, get_or}
 use Rattle.std.proofs.Common.{Option, Some, None, IfSome, refl, sym, ap, subst, ◌∙◌, arith, length-append, is_some}
 use Rattle.std.specs.Prelude.{◌==◌, nat_le, map, replicate}
 use Rattle.std.specs.List.{AllByRecursion, list_all}
