@@ -1,7 +1,7 @@
 -- What nodes send and hear is bytes, where the payloads are, and so is what they deliver.
-use Rattle.std.proofs.Common.{◌≡◌, ℕ, zero, suc, ◌-◌, ◌/◌, ◌%◌, ◌<◌, Bool, true, cond, List, [], ◌∷◌, ◌++◌, All, length}
+use Rattle.std.proofs.Common.{◌≡◌, ℕ, zero, suc, ◌+◌, ◌-◌, ◌/◌, ◌%◌, ◌<◌, Bool, true, cond, List, [], ◌∷◌, ◌++◌, All, length}
 use Rattle.std.proofs.Common.{get_or, Option, Some, None, IfSome, refl, sym, subst, arith, drop}
-use Rattle.std.specs.Prelude.{◌&&◌, ◌==◌, nat_lt, map}
+use Rattle.std.specs.Prelude.{◌&&◌, nat_lt, map}
 use Rattle.std.specs.List.{flat_map, list_all}
 use Rattle.std.proofs.lemmas.Bool.{cond_both, ltb-true}
 use Rattle.std.proofs.lemmas.List.Concat.{flat_map-cons}
@@ -13,13 +13,14 @@ use Rattle.ttp_world.specs.declared.medl.Kind.{Kind}
 use Rattle.ttp_world.specs.declared.medl.Kind.TheVariants as kind
 use Rattle.ttp_world.specs.declared.medl.Medl.{Medl}
 use Rattle.ttp_world.specs.declared.node.Act.{Act}
-use Rattle.ttp_world.specs.declared.node.Act.TheVariants.{Off, Gone, Listen, Start, Retry, Leave, Send, Judge}
+use Rattle.ttp_world.specs.declared.node.Act.TheVariants.{Start, Send}
 use Rattle.ttp_world.specs.declared.node.Chosen.{Chosen}
 use Rattle.ttp_world.specs.declared.node.CState.{CState}
 use Rattle.ttp_world.specs.declared.node.Delivered.{Delivered}
 use Rattle.ttp_world.specs.declared.node.Entry.{Entry}
 use Rattle.ttp_world.specs.declared.node.Entry.TheVariants as entry
 use Rattle.ttp_world.specs.declared.script.Channel.{Channel}
+use Rattle.ttp_world.specs.declared.script.Channel.TheVariants as channel
 use Rattle.ttp_world.specs.declared.script.Fault.TheVariants as fault
 use Rattle.ttp_world.specs.declared.script.Script.{Script}
 use Rattle.ttp_world.specs.Acknowledgement.{is_correct}
@@ -32,7 +33,7 @@ use Rattle.ttp_world.specs.Fitting.{carried_length}
 use Rattle.ttp_world.specs.Frame.{big_endian, cstate_bytes, is_explicit, body, checked, word_bytes, frame, header_of}
 use Rattle.ttp_world.specs.Frame.{cold_start_header}
 use Rattle.ttp_world.specs.Medium.{SentFrame, Signal, Silence, Noise, Bits, flip_in_byte, flip_bit, flip_bits, remains}
-use Rattle.ttp_world.specs.Medium.{remaining_frames, signal_of, combined_signal, channel_signal, with_noise, heard}
+use Rattle.ttp_world.specs.Medium.{remaining_frames, combined_signal, channel_signal, with_noise, heard}
 use Rattle.ttp_world.specs.Medl.{member_width, kind_at}
 use Rattle.ttp_world.specs.Messages.{message_of, messages_of, delivered_of}
 use Rattle.ttp_world.specs.Outgoing.{nothing_chosen, out_messages, message_chosen}
@@ -78,9 +79,11 @@ big_endian-bytes (suc count) v =
 
 cstate-bytes : (width : ℕ) (c : CState) → AreBytes (cstate_bytes width c)
 cstate-bytes width c =
-    All-append IsByte (big_endian 2 c.time) _ (big_endian-bytes 2 c.time)
-    (All-append IsByte (big_endian 1 c.round) _ (big_endian-bytes 1 c.round)
-    (All-append IsByte (big_endian 1 c.slot) _ (big_endian-bytes 1 c.slot)
+    let members = big_endian width (set_bits c.members) in
+    All-append IsByte (big_endian 2 c.time) (big_endian 1 c.round ++ big_endian 1 c.slot ++ members)
+    (big_endian-bytes 2 c.time)
+    (All-append IsByte (big_endian 1 c.round) (big_endian 1 c.slot ++ members) (big_endian-bytes 1 c.round)
+    (All-append IsByte (big_endian 1 c.slot) members (big_endian-bytes 1 c.slot)
     (big_endian-bytes width (set_bits c.members))))
 
 frame-bytes : (width header : ℕ) (c : CState) (payload : List ℕ) (start : ℕ) → header < 256 → AreBytes payload
@@ -236,5 +239,5 @@ delivered-bytes list script history row r bytes =
     frames_in-bytes s chosen
     (λ k. get_or-each (λ (c : Chosen). AreBytes c.payload) chosen k nothing_chosen all no_bytes) in
     delivery-bytes list r (node_of s r).past (hearing_in s (frames_in s chosen) r) (entry_of row r)
-    (heard-bytes script slot r _ (frames_in s chosen) frames)
-    (heard-bytes script slot r _ (frames_in s chosen) frames)
+    (heard-bytes script slot r channel.A (frames_in s chosen) frames)
+    (heard-bytes script slot r channel.B (frames_in s chosen) frames)

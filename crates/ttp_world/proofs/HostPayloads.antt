@@ -1,7 +1,8 @@
--- The messages that hosts read from another node are bytes, as many as the list gives that node.
-use Rattle.std.proofs.Common.{◌≡◌, ℕ, zero, suc, ◌+◌, ◌-◌, ◌<◌, ◌≤◌, true, List, [], ◌∷◌, ◌++◌, All, length, get_or}
-use Rattle.std.proofs.Common.{Option, Some, None, IfSome, refl, sym, ap, subst, ◌∙◌, arith, length-append}
-use Rattle.std.specs.Prelude.{◌==◌, nat_le, map}
+-- Each message that a host reads is one of its source: four words of a status, and else bytes, as many as the list
+-- gives the node that sent them.
+use Rattle.std.proofs.Common.{◌≡◌, ℕ, suc, ◌<◌, ◌≤◌, true, List, [], ◌∷◌, ◌++◌, All, length, get_or}
+use Rattle.std.proofs.Common.{Option, Some, None, IfSome, refl, sym, ap, subst, ◌∙◌, arith, length-append, is_some}
+use Rattle.std.specs.Prelude.{◌==◌, nat_le, map, replicate}
 use Rattle.std.specs.List.{AllByRecursion, list_all}
 use Rattle.std.proofs.lemmas.Bool.{and_parts, cond_both, eqb-true, leb-true}
 use Rattle.std.proofs.lemmas.List.{length-replicate}
@@ -19,9 +20,11 @@ use Rattle.ttp_world.specs.Diary.{History, entry_of}
 use Rattle.ttp_world.specs.Legal.{IsLegal, ReadMessage, is_legal_read, read_messages}
 use Rattle.ttp_world.specs.Medl.{plan_at}
 use Rattle.ttp_world.specs.Messages.{message_of, delivered_of, in_messages, new_messages, newest_number, ring_messages}
+use Rattle.ttp_world.specs.Messages.{status_messages, status_words}
 use Rattle.ttp_world.specs.Outgoing.{zeros_of, messages_before}
-use Rattle.ttp_world.specs.Script.{IsValidEvent, IsValidScript, messages_written, read_in, reads_in}
+use Rattle.ttp_world.specs.Script.{IsValidEvent, IsValidScript, messages_written, read_in, reads_in, IsSource}
 use Rattle.ttp_world.specs.World.{Numbers, SlotNumbers, delivered_in, frames_in, messages_chosen, slot_after, world}
+use Rattle.ttp_world.specs.World.{node_past}
 use Rattle.ttp_world.proofs.Carried.{delivered_of-told}
 use Rattle.ttp_world.proofs.DeliveredSizes.{HasSendersSize, delivered-size}
 use Rattle.ttp_world.proofs.FrameBytes.{AreBytes, BringsBytes, IsByte, delivered-bytes}
@@ -29,10 +32,10 @@ use Rattle.ttp_world.proofs.HostMessages.{filter_map-each}
 use Rattle.ttp_world.proofs.LegalShapes.{legal-older, legal-reads, legal-shapes}
 use Rattle.ttp_world.proofs.Worlds.{length-world, row_of_world}
 
--- a message of a source: a payload is bytes, as many as the list gives its node
-abbrev pub IsPayloadOf : Medl → Source → List ℕ → Type 0
-IsPayloadOf list source.Status message = Unit {0}
-IsPayloadOf list (source.Node p) message = AreBytes message × (length message ≡ (plan_at list p).payload)
+-- a message of a source: a status has four words, and a payload is bytes, as many as the list gives its node
+abbrev pub IsMessageOf : Medl → Source → List ℕ → Type 0
+IsMessageOf list source.Status message = length message ≡ 4
+IsMessageOf list (source.Node p) message = AreBytes message × (length message ≡ (plan_at list p).payload)
 
 -- what all hosts wrote in the first slots, so many, is bytes
 abbrev pub AreBytesWritten : Medl → Script → ℕ → Type 0
@@ -51,10 +54,10 @@ earlier list script slot bytes k =
 -- One delivery.
 
 new-payloads : (list : Medl) (p : ℕ) (delivered : Option Delivered) → IfSome delivered BringsBytes
-    → IfSome delivered (HasSendersSize list) → All (IsPayloadOf list (source.Node p)) (new_messages p delivered)
-new-payloads list p None bytes size = All-nil (IsPayloadOf list (source.Node p))
+    → IfSome delivered (HasSendersSize list) → All (IsMessageOf list (source.Node p)) (new_messages p delivered)
+new-payloads list p None bytes size = All-nil (IsMessageOf list (source.Node p))
 new-payloads list p (Some d) bytes size =
-    let P = IsPayloadOf list (source.Node p) in
+    let P = IsMessageOf list (source.Node p) in
     cond_both (d.sender == p) (d.payload ∷ []) [] (All P)
     (λ is. All-cons P d.payload [] (bytes, size ∙ ap (λ j. (plan_at list j).payload) (eqb-true d.sender p is))
     (All-nil P))
@@ -82,16 +85,16 @@ delivered_of-world-size list script new numbers k legal node =
 
 pub in_messages-payloads : (list : Medl) (script : Script) (numbers : Numbers) (k p : ℕ)
     → IsLegal list script numbers → AreBytesWritten list script (length numbers) → k < length list.slots
-    → All (IsPayloadOf list (source.Node p)) (in_messages list script (world list script numbers) k p)
+    → All (IsMessageOf list (source.Node p)) (in_messages list script (world list script numbers) k p)
 in_messages-payloads list script [] k p legal bytes node =
-    let P = IsPayloadOf list (source.Node p) in
+    let P = IsMessageOf list (source.Node p) in
     let size = (plan_at list p).payload in
     All-cons P (zeros_of list p) [] (All-replicate IsByte size 0 (omega arith), length-replicate size 0) (All-nil P)
 in_messages-payloads list script (new ∷ numbers) k p legal bytes node =
     let history = world list script numbers in
     let row = row_of_world list script new numbers in
     let delivered = delivered_of list script history row k in
-    All-append (IsPayloadOf list (source.Node p)) (in_messages list script history k p) (new_messages p delivered)
+    All-append (IsMessageOf list (source.Node p)) (in_messages list script history k p) (new_messages p delivered)
     (in_messages-payloads list script numbers k p (legal-older list script new numbers legal)
     (earlier list script (length numbers) bytes) node)
     (new-payloads list p delivered
@@ -110,61 +113,103 @@ in_messages-some list script (row ∷ history) k p =
       length-append (in_messages list script history k p) (new_messages p delivered),
     )
 
+-- All that a node has published.
+
+status_messages-words : (list : Medl) (script : Script) (history : History) (k : ℕ)
+    → All (IsMessageOf list source.Status) (status_messages list script history k)
+status_messages-words list script [] k =
+    let P = IsMessageOf list source.Status in All-cons P (replicate 4 0) [] refl (All-nil P)
+status_messages-words list script (row ∷ history) k =
+    let P = IsMessageOf list source.Status in
+    All-append P (status_messages list script history k) _ (status_messages-words list script history k)
+    (All-cons P _ [] refl (All-nil P))
+
+status_messages-some : (list : Medl) (script : Script) (history : History) (k : ℕ)
+    → 1 ≤ length (status_messages list script history k)
+status_messages-some list script [] k = omega arith
+status_messages-some list script (row ∷ history) k =
+    let new = status_words list (length history) (node_past list script (row ∷ history) k)
+    (is_some (delivered_of list script history row k)) in
+    omega (
+      arith,
+      status_messages-some list script history k,
+      length-append (status_messages list script history k) (new ∷ []),
+    )
+
 -- What hosts read in a slot.
 
-valid_read-host : (list : Medl) (script : Script) (slot : ℕ) (e : Event) → IsValidEvent list script e
-    → IfSome (read_in slot e) (λ r. r.host < length list.slots)
-valid_read-host list script slot (event.Read node at from) valid =
+-- a host of the list reads a ring that it has
+pub record IsValidRead (list : Medl) (r : HostRead) : Type 0 where
+  pub node : r.host < length list.slots
+  pub source : IsSource list r.host r.source
+
+valid_read : (list : Medl) (script : Script) (slot : ℕ) (e : Event) → IsValidEvent list script e
+    → IfSome (read_in slot e) (IsValidRead list)
+valid_read list script slot (event.Read node at from) valid =
     cond_both (at == slot) (Some (record { host = node; source = from })) None
-    (λ (o : Option HostRead). IfSome o (λ r. r.host < length list.slots)) (λ now. valid.0) (λ other. tt)
-valid_read-host list script slot (event.Send node channels f from to) valid = tt
-valid_read-host list script slot (event.Receive node channels f from to) valid = tt
-valid_read-host list script slot (event.Flip node channels bit at) valid = tt
-valid_read-host list script slot (event.Error node value from to) valid = tt
-valid_read-host list script slot (event.Jump node value at) valid = tt
-valid_read-host list script slot (event.Arm node at) valid = tt
-valid_read-host list script slot (event.Write node at payload) valid = tt
+    (λ (o : Option HostRead). IfSome o (IsValidRead list))
+    (λ now. record { node = valid.0; source = valid.2 }) (λ other. tt)
+valid_read list script slot (event.Send node channels f from to) valid = tt
+valid_read list script slot (event.Receive node channels f from to) valid = tt
+valid_read list script slot (event.Flip node channels bit at) valid = tt
+valid_read list script slot (event.Error node value from to) valid = tt
+valid_read list script slot (event.Jump node value at) valid = tt
+valid_read list script slot (event.Arm node at) valid = tt
+valid_read list script slot (event.Write node at payload) valid = tt
+
+pub valid_reads : (list : Medl) (script : Script) (slot : ℕ) → IsValidScript list script
+    → All (IsValidRead list) (reads_in script slot)
+valid_reads list script slot valid =
+    filter_map-each (read_in slot) (IsValidEvent list script) (IsValidRead list) script.events
+    (valid_read list script slot) valid.events
+
+-- a read that got a message of its source
+pub record HasRead (list : Medl) (script : Script) (after : History) (r : ReadMessage) : Type 0 where
+  pub read : IsValidRead list r.read
+  pub message : IsMessageOf list r.read.source
+      (get_or (ring_messages list script after r.read.host r.read.source) r.number [])
 
 module _ (list : Medl) (script : Script) (new : SlotNumbers) (numbers : Numbers)
     (legal : IsLegal list script (new ∷ numbers)) (bytes : AreBytesWritten list script (suc (length numbers))) where
-  abbrev IsPayloadRead : ReadMessage → Type 0
-  IsPayloadRead r =
-      IsPayloadOf list r.read.source
-      (get_or (ring_messages list script (world list script (new ∷ numbers)) r.read.host r.read.source) r.number [])
+  abbrev before : History
+  before = world list script numbers
+
+  abbrev after : History
+  after = world list script (new ∷ numbers)
 
   message_read : (host : ℕ) (from : Source) (i : ℕ) → host < length list.slots
-      → i ≤ newest_number (ring_messages list script (world list script (new ∷ numbers)) host from)
-      → IsPayloadOf list from
-      (get_or (ring_messages list script (world list script (new ∷ numbers)) host from) i [])
-  message_read host source.Status i node within = tt
+      → i ≤ newest_number (ring_messages list script after host from)
+      → IsMessageOf list from (get_or (ring_messages list script after host from) i [])
+  message_read host source.Status i node within =
+      status_messages-words list script after host i []
+      (omega (arith, within, status_messages-some list script after host))
   message_read host (source.Node p) i node within =
       in_messages-payloads list script (new ∷ numbers) host p legal bytes node i []
-      (omega (arith, within, in_messages-some list script (world list script (new ∷ numbers)) host p))
+      (omega (arith, within, in_messages-some list script after host p))
 
-  all_read : (reads : List HostRead) (ns : List ℕ) → All (λ r. r.host < length list.slots) reads
-      → list_all (is_legal_read list script (world list script numbers) (world list script (new ∷ numbers)))
-      (read_messages reads ns) ≡ true
-      → AllByRecursion IsPayloadRead (read_messages reads ns)
-  all_read [] ns hosts all = tt
-  all_read (r ∷ rs) [] hosts all = tt
-  all_read (r ∷ rs) (n ∷ ns) hosts all =
-      let test = is_legal_read list script (world list script numbers) (world list script (new ∷ numbers)) in
+  all_read : (reads : List HostRead) (ns : List ℕ) → All (IsValidRead list) reads
+      → list_all (is_legal_read list script before after) (read_messages reads ns) ≡ true
+      → AllByRecursion (HasRead list script after) (read_messages reads ns)
+  all_read [] ns valid all = tt
+  all_read (r ∷ rs) [] valid all = tt
+  all_read (r ∷ rs) (n ∷ ns) valid all =
+      let test = is_legal_read list script before after in
       let first : ReadMessage = record { read = r; number = n } in
       let parts = and_parts (test first) (list_all test (read_messages rs ns)) all in
-      let low = nat_le (newest_number (ring_messages list script (world list script numbers) r.host r.source)) n in
-      let high = newest_number (ring_messages list script (world list script (new ∷ numbers)) r.host r.source) in (
-        message_read r.host r.source n (All-head (λ (x : HostRead). x.host < length list.slots) r rs hosts)
-            (leb-true n high (and_parts low (nat_le n high) parts.0).1),
-        all_read rs ns (All-tail (λ (x : HostRead). x.host < length list.slots) r rs hosts) parts.1,
+      let low = nat_le (newest_number (ring_messages list script before r.host r.source)) n in
+      let high = newest_number (ring_messages list script after r.host r.source) in
+      let read = All-head (IsValidRead list) r rs valid in (
+        record {
+          read = read;
+          message = message_read r.host r.source n read.node
+              (leb-true n high (and_parts low (nat_le n high) parts.0).1);
+        },
+        all_read rs ns (All-tail (IsValidRead list) r rs valid) parts.1,
       )
 
-  -- each payload read in the newest slot is bytes, as many as the list gives its node
-  pub payloads_read : IsValidScript list script
-      → AllByRecursion (λ (r : ReadMessage). IsPayloadOf list r.read.source
-      (get_or (ring_messages list script (world list script (new ∷ numbers)) r.read.host r.read.source) r.number []))
-      (read_messages (reads_in script (length numbers)) new.read)
-  payloads_read valid =
-      all_read (reads_in script (length numbers)) new.read
-      (filter_map-each (read_in (length numbers)) (IsValidEvent list script) (λ r. r.host < length list.slots)
-      script.events (valid_read-host list script (length numbers)) valid.events)
+  -- each read of the newest slot got a message of its source
+  pub messages_read : IsValidScript list script
+      → AllByRecursion (HasRead list script after) (read_messages (reads_in script (length numbers)) new.read)
+  messages_read valid =
+      all_read (reads_in script (length numbers)) new.read (valid_reads list script (length numbers) valid)
       (legal-reads list script new numbers legal)
