@@ -3,7 +3,6 @@ ghost use Rattle.std.specs.Prelude.{◌≡◌, ◌+◌, ◌≤◌, ◌++◌, Som
 ghost use Rattle.std.specs.Fmt.{signed_decimal};
 ghost use Rattle.ttp_world.specs.Medl.{IsValid};
 ghost use Rattle.ttp_world.specs.Script.{IsValidScript};
-ghost use Rattle.plant_run.specs.FirstNumbers.{IsUnhosted};
 ghost use Rattle.ttp_top.specs.Calls.Answer.{alone};
 ghost use Rattle.ttp_top.specs.Calls.Forms.{precision_ending, plan_of};
 ghost use Rattle.ttp_top.specs.Calls.Outcome.{Shows, Follows};
@@ -70,7 +69,6 @@ fn broken_line(rule: u8, slot: u32) -> Line
 fn show_precision<K: Sink>(alloc: Global, list: &Medl, script: &Script, node: u8, out: &mut K) -> u8
     requires valid { IsValid list.now }
     requires script { IsValidScript list.now script.now }
-    requires hosts { IsUnhosted script.now }
     ensures { Shows (precision_ending node list.now script.now) (K.output out.old) (K.output out.new) (alone result) }
 {
     match find_faced(list, script, node) {

@@ -5,7 +5,6 @@ ghost use Rattle.ttp_world.specs.declared.medl.Medl.{Medl};
 ghost use Rattle.ttp_world.specs.declared.script.Script.{Script};
 ghost use Rattle.ttp_world.specs.Medl.{IsValid};
 ghost use Rattle.ttp_world.specs.Script.{IsValidScript};
-ghost use Rattle.plant_run.specs.FirstNumbers.{IsUnhosted};
 ghost use Rattle.ttp_top.specs.Calls.Answer.{alone};
 ghost use Rattle.ttp_top.specs.Calls.Files.{list_plan, script_plan, both_plan};
 ghost use Rattle.ttp_top.specs.Calls.Outcome.{Follows, CameTo};
@@ -53,7 +52,6 @@ pub(crate) fn load_script<L: Library, K: Sink>(
 ) -> Result<Script, u8>
     requires { IsValid list.now }
     ensures valid { IfOk result (IsValidScript list.now) }
-    ensures hosts { IfOk result IsUnhosted }
     ensures ok { IfOk result (λ script. (next : Script → Plan)
         → CameTo (script_plan list.now name.now next) (outside (L.files library.old) (K.output out.old))
         (next script) (outside (L.files library.new) (K.output out.new))) }
@@ -83,7 +81,6 @@ pub(crate) fn load_both<L: Library, K: Sink>(
 ) -> Result<(Medl, Script), u8>
     ensures valid { IfOk result (λ both. IsValid both.0) }
     ensures script { IfOk result (λ both. IsValidScript both.0 both.1) }
-    ensures hosts { IfOk result (λ both. IsUnhosted both.1) }
     ensures ok { IfOk result (λ both. (next : Medl → Script → Plan)
         → CameTo (both_plan list.now script.now next) (outside (L.files library.old) (K.output out.old))
         (next both.0 both.1) (outside (L.files library.new) (K.output out.new))) }

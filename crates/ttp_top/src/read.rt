@@ -2,7 +2,6 @@
 ghost use Rattle.std.specs.Prelude.{◌≡◌, Ok, IfOk, IfErr};
 ghost use Rattle.ttp_world.specs.Medl.{IsValid};
 ghost use Rattle.ttp_world.specs.Script.{IsValidScript};
-ghost use Rattle.plant_run.specs.FirstNumbers.{IsUnhosted};
 ghost use Rattle.ttp_top.specs.Files.Read.{list_from, script_from, Refuses};
 
 use medl_text::{MedlError, read_medl};
@@ -59,7 +58,6 @@ pub(crate) fn script_from(alloc: Global, list: &Medl, bytes: &[u8]) -> Result<Sc
     requires valid { IsValid list.now }
     ensures ok { IfOk result (λ script. script_from list.now bytes.now ≡ Ok script) }
     ensures valid { IfOk result (IsValidScript list.now) }
-    ensures hosts { IfOk result IsUnhosted }
     ensures err { IfErr result (Refuses (script_from list.now bytes.now)) }
 {
     if bytes.len() > SCRIPT_LIMIT {

@@ -2,6 +2,7 @@
 //! text and from TOML's, never from a run.
 
 mod faced;
+mod hosts;
 mod keeps;
 mod refusals;
 mod rows;

@@ -71,6 +71,11 @@ fn the_old_message_or_the_new_one(rt: HostRuntime) -> Result<(), Fail> {
         }
         assert!(rt; found, "{}", str::from_utf8(&text)?);
     }
+    // With two buffers a host writes once in a slot.
+    let twice = "write 2 17 0102030405060708\nwrite 2 17 0102030405060708\n";
+    let (status, text) = ran(&rt, "FSNSS", "slots 20\n", twice)?;
+    assert_eq!(rt; status, 4);
+    assert_eq!(rt; text.as_slice(), b"script: line 8 too many\n".as_slice());
     Ok(())
 }
 

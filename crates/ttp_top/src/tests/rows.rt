@@ -427,7 +427,7 @@ fn runs_with_equal_traces(rt: HostRuntime) -> Result<(), Fail> {
 
 #[test]
 fn scripts_that_are_refused(rt: HostRuntime) -> Result<(), Fail> {
-    let wrong: [(&str, &str); 27] = [
+    let wrong: [(&str, &str); 33] = [
         ("", "script: line 1 no slots\n"),
         ("# nothing\n\n", "script: line 3 no slots\n"),
         ("on 0 0\n", "script: line 1 no slots\n"),
@@ -461,10 +461,19 @@ fn scripts_that_are_refused(rt: HostRuntime) -> Result<(), Fail> {
         ("slots 20\narm 0 20\n", "script: line 2 range\n"),
         ("slots 20\narm 4 19\n", "script: line 2 no node\n"),
         ("slots 20\narm 0\n", "script: line 2 word\n"),
-        // Hosts are not built.
-        ("slots 20\nwrite 1 3 0102\n", "script: line 2 not built\n"),
-        ("slots 20\nread 1 3 status\n", "script: line 2 not built\n"),
+        // Hosts: node 1 sends two bytes, and a host writes once in a slot.
         ("slots 20\nwrite 1 3\n", "script: line 2 word\n"),
+        ("slots 20\nwrite 1 3 0g02\n", "script: line 2 number\n"),
+        ("slots 20\nwrite 0 3 0102\n", "script: line 2 no data\n"),
+        ("slots 20\nwrite 1 3 01\n", "script: line 2 range\n"),
+        (
+            "slots 20\nwrite 1 3 0102\nwrite 1 3 0304\n",
+            "script: line 3 too many\n",
+        ),
+        ("slots 20\nread 0 3 any\n", "script: line 2 number\n"),
+        ("slots 20\nread 0 3 4\n", "script: line 2 no node\n"),
+        ("slots 20\nread 0 3 2\n", "script: line 2 no data\n"),
+        ("slots 20\nread 1 3 1\n", "script: line 2 range\n"),
     ];
     for (script, line) in wrong {
         let (status, text) = answered(&rt, "run", HEAD, "FTSS", script)?;

@@ -1,6 +1,6 @@
 //! Runs: whole traces, and files that are not taken.
 
-mod traces;
+pub(super) mod traces;
 
 use super::{FIRST, HEAD, SLOT, answer, answer_files, joined};
 use std::sync::Wait;

@@ -121,5 +121,15 @@ fn controllers_and_hosts_run_at_once(rt: HostRuntime) -> Result<(), Fail> {
     assert_eq!(rt; status, 0);
     assert!(rt; is_polled(&rt, out.bytes())?);
     assert!(rt; gate.passed());
+    // The cluster that ran is kept, until the next call.
+    let Some(cluster) = &kept else {
+        return Err(Fail::from("no cluster"));
+    };
+    assert!(rt; cluster.done() == 15 && cluster.slots() == 15);
+    assert!(rt; cluster.list().nodes() == 5 && cluster.script().events.len() == 1);
+    assert!(rt; cluster.report().slot == 14 && cluster.report().nodes.len() == 5);
+    words.clear();
+    let status = bench(&rt, rt.alloc(), &words, &mut library, &mut out, &gate, &mut kept);
+    assert!(rt; status == 2 && kept.is_none());
     Ok(())
 }

@@ -1,7 +1,7 @@
 //! Traces that were worked out from the protocol's rules.
 
 // Five nodes that are all on from slot 0, for 15 slots.
-pub(super) const FAULT_FREE: [&str; 77] = [
+pub(in super::super) const FAULT_FREE: [&str; 77] = [
     "ttpbench trace 1 nodes 5 rounds 1 slots 15 schedule 000000\n",
     "slot 0 node 0 wait peer - msg - mem 0000 acc 0 rej 0 ack none clock 0\n",
     "slot 0 node 1 wait peer - msg - mem 0000 acc 0 rej 0 ack none clock 0\n",
