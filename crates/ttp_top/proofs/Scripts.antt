@@ -1,4 +1,6 @@
 pub mod Safe
 pub mod Promises
 pub mod Fronts
+pub mod Slots
 pub mod Traces
+pub mod OneRun

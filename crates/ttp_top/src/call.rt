@@ -56,8 +56,7 @@ fn obey<R: Threads + Wait + Sync, L: Library, K: Sink, G: Gate>(
 /// test of the single-fault hypothesis, and `precision MEDL SCRIPT NODE` the answer of the test for one
 /// two-faced sender, which is the node of that number, and where it may be one, how far apart the other
 /// nodes' clocks came, in microticks. NODE is one or two decimal digits of a number below 24. They take
-/// any valid list, and any valid script without `write` and `read` lines, which are not built yet. So
-/// each frame with payload carries message 0, the zeros.
+/// any valid list and any valid script.
 ///
 /// | status | comes | what is written |
 /// |---|---|---|
@@ -67,15 +66,19 @@ fn obey<R: Threads + Wait + Sync, L: Library, K: Sink, G: Gate>(
 /// | 4 | exactly where the script is longer than 1,048,576 bytes or refused | a line that begins `script: ` |
 /// | 5 | only where the count of the file's name rose, and no earlier refusal came | `load: list` or `load: script` |
 /// | 6 | only where the sink's count rose | so many whole lines of a text that was due, and a front of the next |
-/// | 7 | want of memory | nothing |
+/// | 7 | want of memory | nothing, or for `run` some whole lines of a trace, fewer than all |
 ///
 /// The library is asked for the files of the form, each once, in the order of the words, and for a
 /// script only where the list is not refused. Each line is one piece, so the cost is one write for each
-/// line. `run` takes all memory before it writes the first line, and then writes slot by slot; a slot
-/// costs its nodes, with a few searches in the script's index for each, whatever its number. The
-/// hypothesis test takes no memory, and its slots cost the same way. `precision` runs the cluster as `run`
-/// does, where its test says yes. For words of no form the library is left alone and no memory is taken.
-/// The runtime and the gate are for commands that run hosts beside a cluster; no form uses them yet.
+/// line. `run` makes its cluster before it writes the first line, and then writes slot by slot; a slot
+/// costs its nodes, with a few searches in the script's index for each, whatever its number, and takes
+/// memory for its report and for the readers of its hosts. The hypothesis test takes no memory, and its
+/// slots cost the same way. `precision` runs the controllers alone, where its test says yes. For words of
+/// no form the library is left alone and no memory is taken.
+///
+/// `run` starts threads in slots in which hosts write or read, and their rings pass the gate before each
+/// step on a word. After its status 0 `kept` holds the cluster that ran, whose [`Cluster::done`] is the
+/// script's number of slots; after every other call it holds none, whatever it held before.
 pub fn bench<R: Threads + Wait + Sync, L: Library, K: Sink, G: Gate>(
     rt: &R,
     alloc: Global,

@@ -10,6 +10,7 @@
 
 mod call;
 mod faced;
+pub mod laws;
 mod lines;
 mod load;
 mod read;

@@ -1,10 +1,10 @@
 //! The trace of a run through a cluster, but for its last line.
-ghost use Rattle.std.specs.Prelude.{◌≡◌, ◌<◌, [], IfErr, OnOk};
+ghost use Rattle.std.specs.Prelude.{◌≡◌, ◌+◌, ◌<◌, [], IfErr, OnOk};
 ghost use Rattle.ttp_world.specs.Medl.{IsValid};
 ghost use Rattle.ttp_world.specs.Script.{IsValidScript};
 ghost use Rattle.ttp_base.specs.Outside.{Output};
 ghost use Rattle.cluster_run.specs.Standing.{ClusterStandsFor};
-ghost use Rattle.ttp_top.specs.Scripts.Written.{HasWritten, Leaves};
+ghost use Rattle.ttp_top.specs.Scripts.Written.{StandsLegally, HasWritten, Leaves};
 
 use cluster_run::Cluster;
 use std::sync::Wait;
@@ -32,16 +32,18 @@ fn put_next<R: Threads + Wait + Sync, K: Sink, G: Gate>(
     requires valid { IsValid cluster.old.list }
     requires script { IsValidScript cluster.old.list cluster.old.script }
     requires slot { cluster.old.done < cluster.old.script.slots }
+    requires legal { StandsLegally cluster.old }
     ensures list { cluster.new.list ≡ cluster.old.list }
     ensures script { cluster.new.script ≡ cluster.old.script }
+    ensures done { OnOk result (cluster.new.done ≡ cluster.old.done + 1) }
     ensures ok { OnOk result ((first : Output) → HasWritten first (K.output out.old) cluster.old
         → HasWritten first (K.output out.new) cluster.new) }
     ensures fault { IfErr result (λ fault. (first : Output) → HasWritten first (K.output out.old) cluster.old
         → Leaves fault cluster.old.list cluster.old.script first (K.output out.new)) }
 {
-    if cluster.slot(rt, gate).is_err() {
+    let Ok(()) = cluster.slot(rt, gate) else {
         return Err(RunFault::Memory);
-    }
+    };
     match put_slot(cluster.list(), cluster.report(), lines, out) {
         Ok(()) => Ok(()),
         Err(Failed) => Err(RunFault::Failed),
@@ -71,10 +73,9 @@ pub(crate) fn put_run<R: Threads + Wait + Sync, K: Sink, G: Gate>(
     ensures fault { IfErr result (λ fault. Leaves fault cluster.old.list cluster.old.script (K.output out.old)
         (K.output out.new)) }
 {
-    match put_header(cluster.list(), cluster.script(), out) {
-        Ok(()) => {}
-        Err(Failed) => return Err(RunFault::Failed),
-    }
+    let Ok(()) = put_header(cluster.list(), cluster.script(), out) else {
+        return Err(RunFault::Failed);
+    };
     let mut lines = NodeLines::new();
     for _ in 0..cluster.slots() {
         put_next(rt, cluster, &mut lines, out, gate)?;

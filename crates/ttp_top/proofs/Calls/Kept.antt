@@ -28,11 +28,11 @@ is_some-and P None is = absurd is
 is_some-and P (Some x) is = refl
 
 list_none : (form : Option Form) (fault : FileFault) → (is_run form && false) ≡ false → KeepsRuns form (refused_list fault)
-list_none form fault no = λ lines kept none. ap is_some none ∙ sym no
+list_none form fault never = λ lines kept none. ap is_some none ∙ sym never
 
 script_none : (form : Option Form) (fault : FileFault) → (is_run form && false) ≡ false
     → KeepsRuns form (refused_script fault)
-script_none form fault no = λ lines kept none. ap is_some none ∙ sym no
+script_none form fault never = λ lines kept none. ap is_some none ∙ sym never
 
 pub plans_keep : (form : Option Form) → AllEnd (KeepsRuns form) (plan_of form)
 plans_keep None = λ lines kept none. ap is_some none

@@ -1,4 +1,5 @@
 use Rattle.std.proofs.Common.{Some}
+use Rattle.ttp_top.specs.Calls.Answer.{answer}
 use Rattle.ttp_top.specs.Calls.Words.{run}
 use Rattle.ttp_top.proofs.Calls.Promises.{promise}
 use Rattle.ttp_top.proofs.Scripts.Promises.{run_promise}
@@ -6,11 +7,18 @@ use Rattle.ttp_top.proofs.call.bench.Goals as goal
 
 pub returns-clause-promise : goal.returns-clause-promise
 returns-clause-promise g c =
-    promise _ _ _ c.obey.result (rw c.command_of.ensures at c.obey.ensures.follows)
+    promise _ _ _ (answer c.obey.result c.obey.new.kept) (rw c.command_of.ensures at c.obey.ensures.follows)
     (rw c.command_of.ensures at c.obey.ensures.no_form)
 
 pub returns-clause-run : goal.returns-clause-run
 returns-clause-run g c = λ list script form.
-    run_promise list script _ _ c.obey.result
-    (promise (Some (run list script)) _ _ c.obey.result (rw (c.command_of.ensures, form) at c.obey.ensures.follows)
+    let ended = answer c.obey.result c.obey.new.kept in
+    run_promise list script _ _ ended
+    (promise (Some (run list script)) _ _ ended (rw (c.command_of.ensures, form) at c.obey.ensures.follows)
     (rw (c.command_of.ensures, form) at c.obey.ensures.no_form))
+
+pub returns-clause-kept : goal.returns-clause-kept
+returns-clause-kept g c =
+    let sentences = promise _ _ _ (answer c.obey.result c.obey.new.kept)
+    (rw c.command_of.ensures at c.obey.ensures.follows) (rw c.command_of.ensures at c.obey.ensures.no_form) in
+    sentences.kept

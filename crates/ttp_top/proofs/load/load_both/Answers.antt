@@ -1,3 +1,4 @@
+use Rattle.ttp_top.specs.Calls.Answer.{alone}
 use Rattle.ttp_top.specs.Calls.Files.{script_plan}
 use Rattle.ttp_top.proofs.load.load_both.Goals as goal
 
@@ -10,7 +11,7 @@ returns-in-Ok-load_script-clause-ok g c = λ next later answer follows.
 pub returns-in-Err-load_script-clause-err : goal.returns-in-Err-load_script-clause-err
 returns-in-Err-load_script-clause-err g c = λ next.
     let script = c.args.script.now in
-    c.in-Ok.ensures.ok (λ list. script_plan list script (next list)) _ c.in-Err-load_script.status
+    c.in-Ok.ensures.ok (λ list. script_plan list script (next list)) _ (alone c.in-Err-load_script.status)
     (c.in-Err-load_script.ensures.err (next c.in-Ok.medl))
 
 pub returns-in-Err-clause-err : goal.returns-in-Err-clause-err

@@ -1,0 +1,112 @@
+-- What the lines of a slot add to those that were written.
+use Rattle.std.proofs.Common.{◌≡◌, ℕ, ◌+◌, ◌<◌, ◌≤◌, List, [], ◌∷◌, ◌++◌, length, refl, sym, subst, ◌∙◌, arith}
+use Rattle.ttp_base.specs.Outside.{Output, WroteLines, CutShort}
+use Rattle.ttp_base.specs.Text.{Lines}
+use Rattle.ttp_base.proofs.Outputs.{Wrote-join, CutShort-after}
+use Rattle.ttp_world.specs.declared.medl.Medl.{Medl}
+use Rattle.ttp_world.specs.declared.script.Script.{Script}
+use Rattle.ttp_world.specs.Legal.{IsLegal}
+use Rattle.ttp_world.specs.Medl.{IsValid}
+use Rattle.ttp_world.specs.Script.{IsValidScript}
+use Rattle.ttp_world.specs.Trace.{trace_head, slot_lines, run_lines}
+use Rattle.ttp_world.specs.World.{Numbers, world}
+use Rattle.ttp_world.proofs.LegalRuns.{legal-none}
+use Rattle.trace_text.specs.ReportText.{report_lines}
+use Rattle.cluster_run.specs.Choosing.{AreBytesBefore}
+use Rattle.cluster_run.specs.NextSlots.{next_row}
+use Rattle.cluster_run.specs.Report.{numbers_in}
+use Rattle.cluster_run.specs.Slots.{Steps, IsNext}
+use Rattle.cluster_run.specs.Standing.{ClusterView, ClusterStandsFor}
+use Rattle.cluster_run.specs.Texts.{TellsNext}
+use Rattle.cluster_run.proofs.ReportTexts.{tells_next}
+use Rattle.ttp_top.specs.Calls.Texts.{fronts, traces, WroteAmong, CutAmong}
+use Rattle.ttp_top.specs.Scripts.Written.{StandsLegally, HasWritten}
+use Rattle.ttp_top.proofs.Scripts.Fronts.{wrote_front, cut_in}
+
+-- a cluster did a slot, and the list and the script are as they were
+pub record HasStepped (old new : ClusterView) : Type 0 where
+  pub list : new.list ≡ old.list
+  pub script : new.script ≡ old.script
+  pub valid : IsValid old.list
+  pub valid_script : IsValidScript old.list old.script
+  pub done : new.done ≡ old.done + 1
+  pub within : old.done < old.script.slots
+  pub steps : Steps old new
+  pub bytes : AreBytesBefore new.list new.script new.done
+
+-- what is so of list and script before the slot is so after it
+after : {old new : ClusterView} (P : Medl → Script → Type 0) → HasStepped old new → P old.list old.script
+    → P new.list new.script
+after {old} {new} P s before =
+    subst (λ (script : Script). P new.list script) (sym s.script)
+    (subst (λ (list : Medl). P list old.script) (sym s.list) before)
+
+before_it : {old new : ClusterView} (P : Medl → Script → Type 0) → HasStepped old new → P new.list new.script
+    → P old.list old.script
+before_it {old} {new} P s now =
+    subst (λ (script : Script). P old.list script) s.script (subst (λ (list : Medl). P list new.script) s.list now)
+
+-- the report may be written, and its text is the slot's
+pub tells : (old new : ClusterView) → HasStepped old new → (numbers : Numbers) → ClusterStandsFor old numbers
+    → IsLegal old.list old.script numbers → TellsNext new.list new.script numbers new.report
+tells old new s numbers stands legal =
+    tells_next new numbers (after (λ list script. IsValid list) s s.valid)
+    (after IsValidScript s s.valid_script) s.bytes (s.steps numbers stands)
+    (after (λ list script. IsLegal list script numbers) s legal)
+
+-- once it is written, the trace is written so far
+pub slot_written : (old new : ClusterView) → HasStepped old new → (first before now : Output)
+    → WroteLines before now (report_lines new.list new.report) → HasWritten first before old
+    → HasWritten first now new
+slot_written old new s first before now wrote w =
+    let told = tells old new s w.numbers w.stands w.legal in
+    let next = s.steps w.numbers w.stands in
+    let slot = slot_lines new.list new.script (next_row new.list new.script (numbers_in new.report) w.numbers)
+    (world new.list new.script w.numbers) (numbers_in new.report) in
+    record {
+      numbers = numbers_in new.report ∷ w.numbers;
+      stands = next.stands;
+      legal = next.legal (after (λ list script. IsLegal list script w.numbers) s w.legal);
+      lines =
+          Wrote-join first before now (run_lines new.list new.script w.numbers) slot
+          (after (λ list script. WroteLines first before (run_lines list script w.numbers)) s w.lines)
+          (subst (WroteLines before now) told.lines wrote);
+    }
+
+-- and where it is cut short, one of the traces is
+pub slot_cut : (old new : ClusterView) → HasStepped old new → (first before now : Output)
+    → CutShort before now (report_lines new.list new.report) → HasWritten first before old
+    → CutAmong (traces old.list old.script) first now
+slot_cut old new s first before now cut w =
+    let told = tells old new s w.numbers w.stands w.legal in
+    let next = s.steps w.numbers w.stands in
+    let numbers = numbers_in new.report ∷ w.numbers in
+    let slot = slot_lines new.list new.script (next_row new.list new.script (numbers_in new.report) w.numbers)
+    (world new.list new.script w.numbers) (numbers_in new.report) in
+    let all = CutShort-after first before now (run_lines new.list new.script w.numbers) slot
+    (after (λ list script. WroteLines first before (run_lines list script w.numbers)) s w.lines)
+    (subst (CutShort before now) told.lines cut) in
+    let legal = next.legal (after (λ list script. IsLegal list script w.numbers) s w.legal) in
+    cut_in old.list old.script first now s.valid s.valid_script numbers
+    (before_it (λ list script. IsLegal list script numbers) s legal)
+    (omega (arith, next.stands.done, s.done, s.within))
+    (before_it (λ list script. CutShort first now (run_lines list script numbers)) s all)
+
+-- where memory is refused for a slot, what was written begins a trace
+pub slot_refused : (c : ClusterView) (first now : Output) → IsValid c.list → IsValidScript c.list c.script
+    → c.done ≤ c.script.slots → HasWritten first now c → WroteAmong (fronts c.list c.script) first now
+slot_refused c first now valid valid_script few w =
+    wrote_front c.list c.script first now valid valid_script w.numbers w.legal (omega (arith, w.stands.done, few))
+    w.lines
+
+-- The first line.
+
+pub head_written : (c : ClusterView) (before now : Output) → ClusterStandsFor c []
+    → WroteLines before now (trace_head c.list c.script ∷ []) → HasWritten before now c
+head_written c before now stands wrote =
+    record { numbers = []; stands = stands; legal = legal-none c.list c.script; lines = wrote }
+
+pub head_cut : (list : Medl) (script : Script) (before now : Output) → IsValid list → IsValidScript list script
+    → CutShort before now (trace_head list script ∷ []) → CutAmong (traces list script) before now
+head_cut list script before now valid valid_script cut =
+    cut_in list script before now valid valid_script [] (legal-none list script) (omega arith) cut
