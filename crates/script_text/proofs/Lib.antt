@@ -2,6 +2,9 @@ pub mod Cuts
 pub mod WordList
 pub mod Digits
 pub mod Spelling
+pub mod HexDigits
+pub mod Zeros
+pub mod Counts
 pub mod Kept
 pub mod Reading
 pub mod Told

@@ -6,6 +6,7 @@ use Rattle.ttp_base.specs.Faults.{first_fault}
 use Rattle.ttp_world.specs.declared.medl.Medl.{Medl}
 use Rattle.ttp_world.specs.declared.script.Script.{Script}
 use Rattle.ttp_world.specs.declared.script.TheConstants.{EVENT_LIMIT}
+use Rattle.ttp_world.specs.Medl.{IsValid}
 use Rattle.ttp_world.specs.Script.{IsBounded}
 use Rattle.script_text.specs.declared.error.LineFault.{LineFault}
 use Rattle.script_text.specs.declared.error.Refusal.{Refusal}
@@ -16,8 +17,8 @@ use Rattle.script_text.specs.declared.so_far.SoFar.{SoFar}
 use Rattle.script_text.specs.Lines.{lines_of, words_of}
 use Rattle.script_text.specs.Statement.{Statement}
 use Rattle.script_text.specs.Faults.{events_of, line_faults, statements_after}
-use Rattle.script_text.specs.ScriptFile.{is_built, errors_at, file_faults, end_faults, statements_of}
-use Rattle.script_text.specs.ScriptFile.{stated_script, script_or_fault, lines_script, file_script, script_of}
+use Rattle.script_text.specs.ScriptFile.{errors_at, file_faults, end_faults, statements_of}
+use Rattle.script_text.specs.ScriptFile.{stated_script, script_or_fault, lines_script, script_of}
 use Rattle.script_text.specs.SoFar.{StandsFor, HasNodes, TakesLine, RefusesLine, error_at}
 use Rattle.script_text.proofs.Sizes.{size_of, size-lines_of}
 use Rattle.script_text.proofs.Valid.{AreValid, AreValid-none, line_right, events_bounded}
@@ -26,22 +27,22 @@ use Rattle.script_text.proofs.Valid.{AreValid, AreValid-none, line_right, events
 pub record IsReading (list : Medl) (text : List ℕ) (so_far : SoFar) (number : ℕ) (rest : List ℕ) : Type 0 where
   pub before : List Statement
   pub stands : StandsFor so_far before
-  pub faults : file_faults is_built list 1 [] (lines_of text) ≡ file_faults is_built list number before (lines_of rest)
+  pub faults : file_faults list 1 [] (lines_of text) ≡ file_faults list number before (lines_of rest)
   pub said : statements_of [] (lines_of text) ≡ statements_of before (lines_of rest)
   pub nodes : HasNodes list so_far
   pub valid : AreValid list before
   pub size : 8 * length (events_of before) + size_of (lines_of rest) ≤ length text + 1
   pub count : number + length rest ≤ length text + 1
 
-pub IsReading-none : (list : Medl) (text : List ℕ) (so_far : SoFar) → StandsFor so_far [] → HasNodes list so_far
-    → IsReading list text so_far 1 text
-IsReading-none list text so_far stands nodes = record {
+pub IsReading-none : (list : Medl) (text : List ℕ) (so_far : SoFar) → IsValid list → StandsFor so_far []
+    → HasNodes list so_far → IsReading list text so_far 1 text
+IsReading-none list text so_far right stands nodes = record {
   before = [];
   stands = stands;
   faults = refl;
   said = refl;
   nodes = nodes;
-  valid = AreValid-none list;
+  valid = AreValid-none list right;
   size = omega (arith, size-lines_of text);
   count = omega arith;
 }
@@ -49,15 +50,15 @@ IsReading-none list text so_far stands nodes = record {
 -- the faults of what is left, where the first line of it has none
 faults-more : (list : Medl) (number : ℕ) (before : List Statement) (lines : List (List ℕ)) (line : List ℕ)
     (more : List (List ℕ)) → lines ≡ line ∷ more
-    → line_faults is_built list before (words_of line) ≡ []
-    → file_faults is_built list number before lines
-    ≡ file_faults is_built list (number + 1) (statements_after before (words_of line)) more
+    → line_faults list before (words_of line) ≡ []
+    → file_faults list number before lines
+    ≡ file_faults list (number + 1) (statements_after before (words_of line)) more
 faults-more list number before lines line more cut none =
-    ap (file_faults is_built list number before) cut
+    ap (file_faults list number before) cut
     ∙ ap (λ (found : List LineFault).
     errors_at number found
-    ++ file_faults is_built list (suc number) (statements_after before (words_of line)) more) none
-    ∙ ap (λ (n : ℕ). file_faults is_built list n (statements_after before (words_of line)) more) (sym (add-one number))
+    ++ file_faults list (suc number) (statements_after before (words_of line)) more) none
+    ∙ ap (λ (n : ℕ). file_faults list n (statements_after before (words_of line)) more) (sym (add-one number))
 
 pub IsReading-more : (list : Medl) (text : List ℕ) (old new : SoFar) (number : ℕ) (rest line more : List ℕ)
     → IsReading list text old number rest
@@ -74,8 +75,8 @@ IsReading-more list text old new number rest line more reading cut shorter takes
           (takes.faults before reading.stands);
       said = reading.said ∙ ap (statements_of before) cut;
       nodes = nodes;
-      valid = right.0;
-      size = omega (arith, reading.size, right.1, ap size_of cut);
+      valid = right.valid;
+      size = omega (arith, reading.size, right.size, ap size_of cut);
       count = omega (arith, reading.count);
     }
 
@@ -92,13 +93,13 @@ pub script_of-refused : (list : Medl) (text : List ℕ) (so_far : SoFar) (number
     → IsReading list text so_far number rest → lines_of rest ≡ line ∷ lines_of more
     → RefusesLine list (words_of line) so_far refusal
     → (error_at number refusal ≡ errors.Memory) ⊎ (script_of list text ≡ Err (error_at number refusal))
-unfolding script_of file_script lines_script
+unfolding script_of lines_script
 script_of-refused list text so_far number rest line more (refusals.Fault fault) reading cut refuses =
     let before = reading.before in
     inr (ap (λ (found : List ScriptError). script_or_fault found
     (stated_script list (statements_of [] (lines_of text))))
-    (reading.faults ∙ ap (file_faults is_built list number before) cut)
-    ∙ script_or_fault-first number (line_faults is_built list before (words_of line)) fault _ _
+    (reading.faults ∙ ap (file_faults list number before) cut)
+    ∙ script_or_fault-first number (line_faults list before (words_of line)) fault _ _
     (refuses before reading.stands))
 script_of-refused list text so_far number rest line more refusals.Memory reading cut refuses = inl refl
 
@@ -112,9 +113,9 @@ stands-end list text so_far number rest reading done =
 
 pub faults-end : (list : Medl) (text : List ℕ) (so_far : SoFar) (number : ℕ) (rest : List ℕ)
     → IsReading list text so_far number rest → lines_of rest ≡ []
-    → file_faults is_built list 1 [] (lines_of text) ≡ end_faults number (statements_of [] (lines_of text))
+    → file_faults list 1 [] (lines_of text) ≡ end_faults number (statements_of [] (lines_of text))
 faults-end list text so_far number rest reading done =
-    reading.faults ∙ ap (file_faults is_built list number reading.before) done
+    reading.faults ∙ ap (file_faults list number reading.before) done
     ∙ ap (end_faults number) (sym (reading.said ∙ ap (statements_of reading.before) done))
 
 -- what happens in slots is as the index of events wants it
@@ -129,12 +130,12 @@ values-end list text so_far number rest reading =
 
 -- the answer for the whole file
 pub script_of-read : (list : Medl) (text : List ℕ) (number : ℕ) (result : Result Script ScriptError)
-    → file_faults is_built list 1 [] (lines_of text) ≡ end_faults number (statements_of [] (lines_of text))
+    → file_faults list 1 [] (lines_of text) ≡ end_faults number (statements_of [] (lines_of text))
     → (result ≡ Err errors.Memory)
     ⊎ (result ≡ script_or_fault (end_faults number (statements_of [] (lines_of text)))
     (stated_script list (statements_of [] (lines_of text))))
     → (result ≡ Err errors.Memory) ⊎ (result ≡ script_of list text)
-unfolding script_of file_script lines_script
+unfolding script_of lines_script
 script_of-read list text number result found (inl refused) = inl refused
 script_of-read list text number result found (inr told) = inr (rw found told)
 

@@ -9,11 +9,18 @@ use Rattle.std.proofs.lemmas.Bool.Decides.{nat_tests}
 use Rattle.std.proofs.lemmas.List.Elements.{filter_passes, All-head, All-tail}
 use Rattle.std.proofs.lemmas.Slice.Eq.{bytes_eq-Decides}
 use Rattle.script_text.specs.declared.keyword.Keyword.{Keyword}
+use Rattle.script_text.specs.declared.keyword.Keyword.TheVariants as keyword
 use Rattle.script_text.specs.Lines.{is_line_feed, is_blank, has_bytes, without_return, without_empty_end, lines_of}
 use Rattle.script_text.specs.Lines.{words_of, word_at}
 use Rattle.script_text.specs.Numbers.{is_text}
 use Rattle.script_text.specs.Statement.{keyword_of, is_spelled}
 use Rattle.script_text.specs.SoFar.{is_event_form}
+
+-- a line of this form says what a host does
+abbrev pub is_host_form : Keyword → Bool
+is_host_form keyword.Write = true
+is_host_form keyword.Read = true
+is_host_form form = false
 
 -- the bytes of a line or a word, with the one that ends it
 abbrev pub with_end : List ℕ → ℕ
@@ -119,6 +126,8 @@ length-keyword word form names of_event = grind (
   length-is_text (codes "error") word,
   length-is_text (codes "jump") word,
   length-is_text (codes "arm") word,
+  length-is_text (codes "write") word,
+  length-is_text (codes "read") word,
 )
 
 -- and the line has three words and more
@@ -137,7 +146,7 @@ size-event_words (word ∷ words) form has names of_event spelled = omega (
   size-two_each words (All-tail HasBytes word words has),
 )
 
--- so it takes eight bytes and more, as `arm 0 0` does
+-- so it takes eight bytes and more with the one that ends it, as `arm 0 0` does
 pub size-event_line : (line : List ℕ) (form : Keyword) → keyword_of (word_at (words_of line) 0) ≡ Some form
     → is_event_form form ≡ true → is_spelled form (words_of line) ≡ true
     → 8 ≤ with_end line
@@ -145,5 +154,43 @@ size-event_line line form names of_event spelled =
     omega (
       arith,
       size-event_words (words_of line) form (all-have_bytes line) names of_event spelled,
+      size-words_of line,
+    )
+
+-- Lines by which hosts write and read.
+
+-- they have four words, of which the first has four bytes and more
+length-host_keyword : (word : List ℕ) (form : Keyword) → keyword_of word ≡ Some form → is_host_form form ≡ true
+    → 4 ≤ length word
+length-host_keyword word form names of_host = grind (
+  arith,
+  common_steps,
+  length-is_text (codes "write") word,
+  length-is_text (codes "read") word,
+)
+
+count-host_words : (words : List (List ℕ)) (form : Keyword) → is_host_form form ≡ true → is_spelled form words ≡ true
+    → 4 ≤ length words
+count-host_words words form of_host spelled = grind (arith, common_steps, nat_tests)
+
+size-host_words : (words : List (List ℕ)) (form : Keyword) → All HasBytes words
+    → keyword_of (word_at words 0) ≡ Some form → is_host_form form ≡ true → is_spelled form words ≡ true
+    → 11 ≤ size_of words
+size-host_words [] form has names of_host spelled = absurd (omega (arith, count-host_words [] form of_host spelled))
+size-host_words (word ∷ words) form has names of_host spelled = omega (
+  arith,
+  length-host_keyword word form names of_host,
+  count-host_words (word ∷ words) form of_host spelled,
+  size-two_each words (All-tail HasBytes word words has),
+)
+
+-- so they take eleven bytes and more with the one that ends them, as `read 0 0 1` does
+pub size-host_line : (line : List ℕ) (form : Keyword) → keyword_of (word_at (words_of line) 0) ≡ Some form
+    → is_host_form form ≡ true → is_spelled form (words_of line) ≡ true
+    → 11 ≤ with_end line
+size-host_line line form names of_host spelled =
+    omega (
+      arith,
+      size-host_words (words_of line) form (all-have_bytes line) names of_host spelled,
       size-words_of line,
     )

@@ -109,6 +109,8 @@ pub(crate) fn message_in(words: &Words, list: &Medl, slots: u32) -> Result<Messa
       slot = number_at words.now 2;
       payload = hex_bytes_in (word_at words.now 3);
     }) }
+    ensures node { IfOk result (λ message. message.node < length list.now.slots) }
+    ensures slot { IfOk result (λ message. message.slot < slots) }
     ensures err { IfErr result (λ fault.
         first_fault (event_faults words.now list.now slots keyword.Write) ≡ Some fault) }
 {

@@ -1,5 +1,5 @@
 //! How often hosts write in a slot.
-ghost use Rattle.std.specs.Prelude.{◌≡◌, ◌<◌, ℕ, OnOk};
+ghost use Rattle.std.specs.Prelude.{◌≡◌, ◌+◌, ◌*◌, ◌<◌, ◌≤◌, ℕ, OnOk, slice_index, vec_len};
 ghost use Rattle.script_text.specs.SoFar.{writes_at, CountsMore};
 
 use std::alloc::Global;
@@ -42,6 +42,19 @@ impl WriteCounts {
         }
     }
 
+    // Makes room for the counts of a run of so many slots.
+    fn grow(&mut self, slots: u32) -> Result<(), Memory>
+        ensures room { OnOk result (slots * self.old.nodes ≤ vec_len self.new.counts) }
+        ensures same { (i : ℕ) → slice_index self.new.counts.items i ≡ slice_index self.old.counts.items i }
+        ensures nodes { self.new.nodes ≡ self.old.nodes }
+    {
+        let all = slots as usize * self.nodes as usize;
+        if self.counts.len() < all {
+            self.counts.resize(all, 0)?;
+        }
+        Ok(())
+    }
+
     /// Counts one write more of a node's host in a slot, of a run of so many.
     pub(crate) fn add(&mut self, node: u8, slot: u32, slots: u32) -> Result<(), Memory>
         requires node { node < self.old.nodes }
@@ -50,10 +63,8 @@ impl WriteCounts {
         ensures more { OnOk result (CountsMore self.old self.new node slot) }
         ensures nodes { self.new.nodes ≡ self.old.nodes }
     {
+        self.grow(slots)?;
         let place = self.place(node, slot);
-        if self.counts.len() <= place {
-            self.counts.resize(slots as usize * self.nodes as usize, 0)?;
-        }
         self.counts[place] += 1;
         Ok(())
     }

@@ -8,6 +8,7 @@ returns c =
     script_of-read c.args.list.now c.args.text.now c.in_ok-number.number c.script_from.result
     c.in_ok-number.ensures.faults
     (c.script_from.ensures _ c.in_ok-number.ensures.stands) in
-    let valid =
-    answer_valid c.args.list.now c.args.text.now c.script_from.result c.requires.valid c.requires.size exact in
-    record { exact = exact; valid = valid.0; hosts = valid.1 }
+    record {
+      exact = exact;
+      valid = answer_valid c.args.list.now c.args.text.now c.script_from.result c.requires.valid c.requires.size exact;
+    }

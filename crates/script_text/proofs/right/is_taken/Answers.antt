@@ -1,5 +1,5 @@
 use Rattle.std.proofs.Common.{refl}
-use Rattle.script_text.proofs.RightLines.{is_taken-kept}
+use Rattle.script_text.proofs.RightLines.{is_taken-kept, is_taken-message}
 use Rattle.script_text.proofs.right.is_taken.Goals as goal
 
 pub returns-in-Send-clause-taken : goal.returns-in-Send-clause-taken
@@ -25,3 +25,11 @@ returns-in-Jump-clause-taken c = is_taken-kept _ _ _ _ _ _ _ _ (rw c.in-Jump.is 
 pub returns-in-Arm-clause-taken : goal.returns-in-Arm-clause-taken
 returns-in-Arm-clause-taken c = is_taken-kept _ _ _ _ _ _ _ _ (rw c.in-Arm.is refl) c.in-Some.is
     (rw c.in-Arm.is c.right_arm.ensures) c.is_kept-in-Arm.ensures.kept c.is_kept-in-Arm.ensures.value
+
+pub returns-in-Read-clause-taken : goal.returns-in-Read-clause-taken
+returns-in-Read-clause-taken c = is_taken-kept _ _ _ _ _ _ _ _ (rw c.in-Read.is refl) c.in-Some.is
+    (rw c.in-Read.is c.right_read.ensures) c.is_kept-in-Read.ensures.kept c.is_kept-in-Read.ensures.value
+
+pub returns-in-Write-clause-taken : goal.returns-in-Write-clause-taken
+returns-in-Write-clause-taken c = rw c.in-Write.is (is_taken-message _ _ _ _ _ _ _ c.requires.nodes c.in-Some.is
+    c.right_write.ensures.right c.is_message_kept.ensures.kept)

@@ -1,0 +1,123 @@
+-- Messages of hexadecimal digits, two for each byte.
+use Rattle.std.proofs.Common.{◌≡◌, ℕ, suc, ◌+◌, ◌-◌, ◌*◌, ◌<◌, ◌≤◌, Bool, true, false, ◌&&◌, List, [], ◌∷◌, ◌++◌}
+use Rattle.std.proofs.Common.{length, get_or, take, drop, map, arith, refl, ap, sym, ◌∙◌, drop-cons, zero-add}
+use Rattle.std.specs.Char.{digit_value}
+use Rattle.std.specs.List.{list_all, range_with_len}
+use Rattle.std.proofs.lemmas.Bool.{lt-ltb, le-ltb}
+use Rattle.std.proofs.lemmas.Bool.Decides.{nat_tests}
+use Rattle.std.proofs.lemmas.Grind.{common_steps}
+use Rattle.std.proofs.lemmas.List.{append_assoc, get_or-take, length-take}
+use Rattle.std.proofs.lemmas.List.FromFn.{get_or-map-range_with_len}
+use Rattle.script_text.specs.declared.hex.TheConstants.{DIGITS}
+use Rattle.script_text.specs.Lines.{is_part}
+use Rattle.script_text.specs.Numbers.{is_hex_digit, is_hex, hex_bytes_in}
+
+-- each entry of the table is computed
+DIGITS_are : DIGITS ≡ map digit_value (range_with_len 0 256)
+DIGITS_are = refl
+
+pub get_or-DIGITS : (byte : ℕ) → byte < 256 → get_or DIGITS byte 0 ≡ digit_value byte
+get_or-DIGITS byte fits =
+    ap (λ (digits : List ℕ). get_or digits byte 0) DIGITS_are
+    ∙ get_or-map-range_with_len digit_value 0 256 byte byte 0 fits (zero-add byte)
+
+-- the next two digits of what is left
+next_pair : (word : List ℕ) (i : ℕ) → 2 * i + 1 < length word
+    → drop (2 * i) word ≡ get_or word (2 * i) 0 ∷ get_or word (2 * i + 1) 0 ∷ drop (2 * (i + 1)) word
+next_pair word i within =
+    let more : suc (suc (2 * i)) ≡ 2 * (i + 1) = omega arith in
+    let one : suc (2 * i) ≡ 2 * i + 1 = omega arith in
+    drop-cons word (2 * i) 0 (omega arith)
+    ∙ ap (λ (l : List ℕ). get_or word (2 * i) 0 ∷ l) (drop-cons word (suc (2 * i)) 0 (omega arith)
+    ∙ ap (λ (n : ℕ). get_or word n 0 ∷ drop (suc (suc (2 * i))) word) one
+    ∙ ap (λ (n : ℕ). get_or word (2 * i + 1) 0 ∷ drop n word) more)
+
+hex_bytes-next : (front word : List ℕ) (i byte : ℕ) → 2 * i + 1 < length word
+    → byte ≡ 16 * digit_value (get_or word (2 * i) 0) + digit_value (get_or word (2 * i + 1) 0)
+    → (front ++ byte ∷ []) ++ hex_bytes_in (drop (2 * (i + 1)) word) ≡ front ++ hex_bytes_in (drop (2 * i) word)
+hex_bytes-next front word i byte within is =
+    append_assoc front (byte ∷ []) (hex_bytes_in (drop (2 * (i + 1)) word))
+    ∙ ap (λ (l : List ℕ). front ++ l) (ap (λ (b : ℕ). b ∷ hex_bytes_in (drop (2 * (i + 1)) word)) is
+    ∙ sym (ap hex_bytes_in (next_pair word i within)))
+
+-- what is left is digits where these two are and the rest is
+is_hex-next : (word : List ℕ) (i : ℕ) (high low : Bool) → 2 * i + 1 < length word
+    → is_hex_digit (get_or word (2 * i) 0) ≡ high → is_hex_digit (get_or word (2 * i + 1) 0) ≡ low
+    → is_hex (drop (2 * i) word) ≡ (high && (low && is_hex (drop (2 * (i + 1)) word)))
+is_hex-next word i high low within high_is low_is =
+    ap is_hex (next_pair word i within)
+    ∙ ap (λ (b : Bool). b && (is_hex_digit (get_or word (2 * i + 1) 0) && is_hex (drop (2 * (i + 1)) word))) high_is
+    ∙ ap (λ (b : Bool). high && (b && is_hex (drop (2 * (i + 1)) word))) low_is
+
+-- two digits of a front, in the whole text
+record Pair (text : List ℕ) (size i high low : ℕ) : Type 0 where
+  within : 2 * i + 1 < length (take (2 * size) text)
+  high_is : high ≡ digit_value (get_or (take (2 * size) text) (2 * i) 0)
+  low_is : low ≡ digit_value (get_or (take (2 * size) text) (2 * i + 1) 0)
+
+pair_at : (text : List ℕ) (size i high low : ℕ) → 2 * size ≤ length text → i < size
+    → high ≡ digit_value (get_or text (2 * i) 0) → low ≡ digit_value (get_or text (2 * i + 1) 0)
+    → Pair text size i high low
+pair_at text size i high low long near high_is low_is = record {
+  within = omega (arith, length-take (2 * size) text);
+  high_is = high_is ∙ ap digit_value (sym (get_or-take (2 * size) text (2 * i) 0 (omega arith)));
+  low_is = low_is ∙ ap digit_value (sym (get_or-take (2 * size) text (2 * i + 1) 0 (omega arith)));
+}
+
+pub right_pair : (text : List ℕ) (size i high low : ℕ) → 2 * size ≤ length text → i < size
+    → high ≡ digit_value (get_or text (2 * i) 0) → low ≡ digit_value (get_or text (2 * i + 1) 0)
+    → high < 16 → low < 16
+    → is_hex (drop (2 * (i + 1)) (take (2 * size) text)) ≡ is_hex (drop (2 * i) (take (2 * size) text))
+right_pair text size i high low long near high_is low_is high_small low_small =
+    let pair = pair_at text size i high low long near high_is low_is in
+    sym (is_hex-next (take (2 * size) text) i true true pair.within
+    (lt-ltb _ 16 (omega (arith, pair.high_is))) (lt-ltb _ 16 (omega (arith, pair.low_is))))
+
+pub pair_byte : (text front : List ℕ) (size i high low : ℕ) → 2 * size ≤ length text → i < size
+    → high ≡ digit_value (get_or text (2 * i) 0) → low ≡ digit_value (get_or text (2 * i + 1) 0)
+    → (front ++ (16 * high + low) ∷ []) ++ hex_bytes_in (drop (2 * (i + 1)) (take (2 * size) text))
+    ≡ front ++ hex_bytes_in (drop (2 * i) (take (2 * size) text))
+pair_byte text front size i high low long near high_is low_is =
+    let pair = pair_at text size i high low long near high_is low_is in
+    hex_bytes-next front (take (2 * size) text) i (16 * high + low) pair.within
+    (omega (arith, pair.high_is, pair.low_is))
+
+-- where one of the two is no digit, the front has other bytes
+pub wrong_high : (text : List ℕ) (size i high low : ℕ) → 2 * size ≤ length text → i < size
+    → high ≡ digit_value (get_or text (2 * i) 0) → low ≡ digit_value (get_or text (2 * i + 1) 0)
+    → 16 ≤ high → is_hex (drop (2 * i) (take (2 * size) text)) ≡ false
+wrong_high text size i high low long near high_is low_is large =
+    let pair = pair_at text size i high low long near high_is low_is in
+    is_hex-next (take (2 * size) text) i false _ pair.within (le-ltb _ 16 (omega (arith, pair.high_is))) refl
+
+pub wrong_low : (text : List ℕ) (size i high low : ℕ) → 2 * size ≤ length text → i < size
+    → high ≡ digit_value (get_or text (2 * i) 0) → low ≡ digit_value (get_or text (2 * i + 1) 0)
+    → high < 16 → 16 ≤ low → is_hex (drop (2 * i) (take (2 * size) text)) ≡ false
+wrong_low text size i high low long near high_is low_is small large =
+    let pair = pair_at text size i high low long near high_is low_is in
+    is_hex-next (take (2 * size) text) i true false pair.within
+    (lt-ltb _ 16 (omega (arith, pair.high_is))) (le-ltb _ 16 (omega (arith, pair.low_is)))
+
+-- A digit is part of a word.
+
+hex_is_part : (b : ℕ) → is_hex_digit b ≡ true → is_part b ≡ true
+hex_is_part b digit = grind (arith, nat_tests)
+
+first_hex : (x : ℕ) (xs : List ℕ) → is_hex (x ∷ xs) ≡ true → (is_hex_digit x ≡ true) × (is_hex xs ≡ true)
+first_hex x xs digits = (grind (arith, common_steps), grind (arith, common_steps))
+
+pub parts-hex : (word : List ℕ) → is_hex word ≡ true → list_all is_part word ≡ true
+parts-hex [] digits = refl
+parts-hex (x ∷ xs) digits =
+    let step = first_hex x xs digits in
+    let part = hex_is_part x step.0 in
+    let rest = parts-hex xs step.1 in
+    grind (arith, common_steps)
+
+-- How many bytes there are.
+
+pub length-hex_bytes_in : (n : ℕ) (word : List ℕ) → length word ≡ 2 * n → length (hex_bytes_in word) ≡ n
+length-hex_bytes_in n [] size = omega arith
+length-hex_bytes_in n (high ∷ []) size = absurd (omega arith)
+length-hex_bytes_in n (high ∷ low ∷ word) size =
+    omega (arith, length-hex_bytes_in (n - 1) word (omega arith))
