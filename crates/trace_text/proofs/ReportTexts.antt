@@ -42,17 +42,15 @@ pub length-node_texts : (list : Medl) (slot first : ℕ) (nodes : List NodeLine)
 length-node_texts list slot first [] = refl
 length-node_texts list slot first (line ∷ lines) = ap suc (length-node_texts list slot (first + 1) lines)
 
-pub get_or-node_texts : (list : Medl) (slot first : ℕ) (nodes : List NodeLine) (i : ℕ) (line : NodeLine) (text : List ℕ)
-    → i < length nodes → get_or nodes i line ≡ line
-    → get_or (node_texts list slot first nodes) i text ≡ listed_line list slot (first + i) line.state line.message
-get_or-node_texts list slot first [] i line text less is = absurd (omega arith)
-get_or-node_texts list slot first (x ∷ xs) zero line text less is =
-    let here : first ≡ first + 0 = omega arith in
+pub get_or-node_texts : (list : Medl) (slot first : ℕ) (nodes : List NodeLine) (i k : ℕ) (line : NodeLine)
+    (text : List ℕ) → i < length nodes → first + i ≡ k → get_or nodes i line ≡ line
+    → get_or (node_texts list slot first nodes) i text ≡ listed_line list slot k line.state line.message
+get_or-node_texts list slot first [] i k line text less there is = absurd (omega arith)
+get_or-node_texts list slot first (x ∷ xs) zero k line text less there is =
+    let here : first ≡ k = omega (arith, there) in
     λ j. listed_line list slot (here j) (is j).state (is j).message
-get_or-node_texts list slot first (x ∷ xs) (suc i) line text less is =
-    let there : first + 1 + i ≡ first + suc i = omega arith in
-    get_or-node_texts list slot (first + 1) xs i line text (omega arith) is
-    ∙ ap (λ k. listed_line list slot k line.state line.message) there
+get_or-node_texts list slot first (x ∷ xs) (suc i) k line text less there is =
+    get_or-node_texts list slot (first + 1) xs i k line text (omega arith) (omega (arith, there)) is
 
 -- A list has few nodes.
 
