@@ -1,4 +1,4 @@
-use Rattle.std.proofs.Common.{List, map, ap, sym, subst, ◌∙◌}
+use Rattle.std.proofs.Common.{List, map, subst}
 use Rattle.std.proofs.lemmas.Result.{on_ok_weaker, on_err_weaker}
 use Rattle.ttp_base.specs.Outside.{WroteLines, CutShort}
 use Rattle.ttp_base.proofs.Outputs.{Wrote-join, CutShort-after}

@@ -1,6 +1,6 @@
-use Rattle.std.proofs.Common.{List, map, ap, sym, subst, ◌∙◌}
+use Rattle.std.proofs.Common.{List, subst}
 use Rattle.std.proofs.lemmas.Result.{on_ok_weaker, on_err_weaker}
-use Rattle.ttp_base.specs.Outside.{WroteLines, CutShort}
+use Rattle.ttp_base.specs.Outside.{WroteLines}
 use Rattle.ttp_base.proofs.Outputs.{Wrote-join, CutShort-after}
 use Rattle.host_port.specs.declared.report.NodeLine.{NodeLine}
 use Rattle.trace_text.specs.ReportText.{node_texts, host_lines}
