@@ -31,7 +31,7 @@ use Rattle.host_port.specs.Rings.{HostState, message_shape, shape_of}
 use Rattle.cluster_run.specs.Rings.{GotEach, IsRing, IsRingOf, pair_of, pair_sent, words_written}
 use Rattle.cluster_run.specs.Sending.{Fetches, SettlesFetch, after_writes, choice_by, fetcher_lent}
 use Rattle.cluster_run.specs.Sending.{with_messages}
-use Rattle.cluster_run.proofs.HostMessages.{message_sizes, some_message}
+use Rattle.ttp_world.proofs.HostMessages.{message_sizes, some_message}
 
 -- The ring of a node that sends payload is there.
 

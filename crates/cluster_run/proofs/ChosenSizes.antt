@@ -16,7 +16,7 @@ use Rattle.controller.specs.Passes.{AreChosen}
 use Rattle.host_port.specs.Rings.{HostState}
 use Rattle.std.specs.Prelude.{List}
 use Rattle.cluster_run.specs.Choosing.{HaveChosen, next_slot}
-use Rattle.cluster_run.proofs.HostMessages.{message_sizes, some_message}
+use Rattle.ttp_world.proofs.HostMessages.{message_sizes, some_message}
 
 pub chosen_sizes : (list : Medl) (script : Script) (numbers : Numbers) (chosen : List Chosen) (ends : List HostState)
     → IsValidScript list script → HaveChosen list script numbers chosen ends

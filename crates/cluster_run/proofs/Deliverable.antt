@@ -33,6 +33,7 @@ use Rattle.ttp_world.specs.Reception.{verdict_of, verdict_of_view, view_of, view
 use Rattle.ttp_world.specs.Script.{is_armed, is_on}
 use Rattle.ttp_world.specs.World.{BegunNode, chosen_of, frames_in, hearing_in, is_loaded, node_after, node_of}
 use Rattle.ttp_world.specs.World.{node_past, sends_payload, slot_after}
+use Rattle.ttp_world.proofs.DeliveredSizes.{carries, taken_size}
 use Rattle.ttp_world.proofs.EntriesMade.{listening_entry-holds}
 use Rattle.ttp_world.proofs.Slots.{node_of-slot_after, entry_of-row_in}
 use Rattle.controller.specs.Passes.{delivered_at}
@@ -43,87 +44,6 @@ pub record IsDeliverable (list : Medl) (k : ℕ) (d : Delivered) : Type 0 where
   pub other : d.sender ≢ k
   pub some : 1 ≤ (plan_at list d.sender).payload
   pub size : length d.payload ≡ (plan_at list d.sender).payload
-
--- Frames that carry payload.
-
-pub record Carries (list : Medl) (place : Place) : Type 0 where
-  pub size : payload_length list place.round place.slot ≡ (plan_at list place.slot).payload
-  pub some : 1 ≤ (plan_at list place.slot).payload
-
-carried_size : (bare : Bool) (size : ℕ) → not (cond bare 0 size == 0) ≡ true → cond bare 0 size ≡ size
-carried_size true size carries = absurd cc
-carried_size false size carries = refl
-
-carried_some : (bare : Bool) (size : ℕ) → not (cond bare 0 size == 0) ≡ true → 1 ≤ size
-carried_some bare size carries = grind (arith, nat_tests)
-
-pub carries : (list : Medl) (place : Place) → carries_payload list place ≡ true → Carries list place
-carries list place is = record {
-  size = carried_size (is_bare (kind_at list place.round place.slot)) (plan_at list place.slot).payload is;
-  some = carried_some (is_bare (kind_at list place.round place.slot)) (plan_at list place.slot).payload is;
-}
-
--- The size of what is taken of a correct frame.
-
-formed_size : (width header size start : ℕ) (bytes : List ℕ) → is_formed width bytes header size start ≡ true
-    → length (payload_in width header size bytes) ≡ size
-formed_size width header size start bytes formed =
-    let n = 1 + carried_length width header in
-    let whole = eqb-true (length bytes) (n + size + 3)
-    (and_parts (length bytes == n + size + 3) _ formed).0 in
-    omega (arith, length-take size (drop n bytes), length-drop n bytes, whole)
-
-of_form : (ok : Bool) (x : ChannelView) → cond ok x view.Bad ≡ view.First → ok ≡ true
-of_form true x is = refl
-of_form false x is = absurd cc
-
-heard_size : (list : Medl) (expected : Expected) (deviation : ℕ → ℤ) (signal : Signal)
-    → view_of list expected deviation signal ≡ view.First
-    → length (payload_heard list expected.place signal) ≡ expected_length list expected.place
-heard_size list expected deviation Silence first = absurd cc
-heard_size list expected deviation Noise first = absurd cc
-heard_size list expected deviation (Bits sender bytes) first =
-    let ok = of_form
-    (is_within_window list (deviation sender) && is_expected_form list expected bytes)
-    (view_of_frame list expected bytes)
-    first in
-    formed_size (member_width list) (expected_header list expected.place) (expected_length list expected.place)
-    list.schedule bytes (and_parts (is_within_window list (deviation sender)) _ ok).1
-
-first_is : (v : ChannelView) → is_first_view v ≡ true → v ≡ view.First
-first_is view.First is = refl
-first_is view.Second is = absurd cc
-first_is view.Other is = absurd cc
-first_is view.Bad is = absurd cc
-first_is view.Silent is = absurd cc
-
-better_first : (from_a : Bool) (a b : ChannelView) → cond from_a a b ≡ view.First → is_first_view a ≡ false
-    → b ≡ view.First
-better_first true a b first other = absurd (true≢false (sym (ap is_first_view first) ∙ other))
-better_first false a b first other = first
-
-correct_first : (v : ChannelView) (acknowledgement : Ack) → verdict_of_view v acknowledgement ≡ verdict.Correct
-    → v ≡ view.First
-correct_first view.First k is = refl
-correct_first view.Second ack.Closed is = absurd cc
-correct_first view.Second ack.First is = absurd cc
-correct_first view.Second (ack.Doubt x) is = absurd cc
-correct_first view.Other k is = absurd cc
-correct_first view.Bad k is = absurd cc
-correct_first view.Silent k is = absurd cc
-
-taken_size : (list : Medl) (expected : Expected) (h : Hearing) (acknowledgement : Ack)
-    → verdict_of (view_of list expected h.deviation h.a) (view_of list expected h.deviation h.b) acknowledgement
-    ≡ verdict.Correct
-    → length (payload_taken list expected h) ≡ expected_length list expected.place
-taken_size list expected h acknowledgement correct =
-    let a = view_of list expected h.deviation h.a in
-    let b = view_of list expected h.deviation h.b in
-    let first = correct_first (better_view a b) acknowledgement correct in
-    cond_both (is_first_view a) (payload_heard list expected.place h.a) (payload_heard list expected.place h.b)
-    (λ (p : List ℕ). length p ≡ expected_length list expected.place)
-    (λ is. heard_size list expected h.deviation h.a (first_is a is))
-    (λ other. heard_size list expected h.deviation h.b (better_first (is_taken_from_a a b) a b first other))
 
 -- So it is of the entry that a node makes.
 

@@ -6,7 +6,6 @@ pub mod Writes
 pub mod LegalSlots
 pub mod Settling
 pub mod HandingOn
-pub mod HostMessages
 pub mod Choices
 pub mod Deliverable
 pub mod Halves

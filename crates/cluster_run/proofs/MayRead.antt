@@ -23,43 +23,14 @@ use Rattle.ttp_world.specs.Script.{IsSource, IsValidEvent, IsValidScript, read_i
 use Rattle.ttp_world.specs.Words.{word_count}
 use Rattle.host_port.specs.Reading.{ReadersState, is_read_at, reads_from, lent}
 use Rattle.host_port.specs.Rings.{ControllerState, place_of, at_source, shape_of, incoming_shape, message_shape}
+use Rattle.ttp_world.proofs.HostPayloads.{IsReadOf, reads_of_valid}
 use Rattle.cluster_run.specs.Ports.{end_at}
 use Rattle.cluster_run.specs.Reading.{readers_at, reader_in, reader_at, calls_in, has_reads, AreLentTo}
 use Rattle.cluster_run.specs.Reading.{AreReadersLent, MayReadAll}
 use Rattle.cluster_run.specs.Rings.{IsRingOf}
 use Rattle.cluster_run.proofs.ReadAll.{same_place}
 
--- The reads of a valid script are of nodes of its list, and each of a source that has a ring.
-
-abbrev pub IsReadOf : Medl → ℕ → Source → Type 0
-IsReadOf list k from = (k < length list.slots) × IsSource list k from
-
-consed : {X : Type 0} (P : X → Type 0) (b : Bool) (x : X) (xs : List X) → P x → AllByRecursion P xs
-    → AllByRecursion P (cons_option (cond b (Some x) None) xs)
-consed P true x xs here all = (here, all)
-consed P false x xs here all = all
-
-read_valid : (list : Medl) (script : Script) (slot : ℕ) (e : Event) (reads : List HostRead)
-    → IsValidEvent list script e → AllByRecursion (λ (r : HostRead). IsReadOf list r.host r.source) reads
-    → AllByRecursion (λ (r : HostRead). IsReadOf list r.host r.source) (cons_option (read_in slot e) reads)
-read_valid list script slot (event.Read node at from) reads valid all =
-    consed (λ (r : HostRead). IsReadOf list r.host r.source) (at == slot) (record { host = node; source = from }) reads
-    (valid.0, valid.2) all
-read_valid list script slot _ reads valid all = all
-
-reads_valid : (list : Medl) (script : Script) (slot : ℕ) (events : List Event)
-    → AllByRecursion (IsValidEvent list script) events
-    → AllByRecursion (λ (r : HostRead). IsReadOf list r.host r.source) (filter_map (read_in slot) events)
-reads_valid list script slot [] all = tt
-reads_valid list script slot (e ∷ events) all =
-    read_valid list script slot e (filter_map (read_in slot) events) all.0
-    (reads_valid list script slot events all.1)
-
-reads_of_valid : (list : Medl) (script : Script) (slot : ℕ) → IsValidScript list script
-    → AllByRecursion (λ (r : HostRead). IsReadOf list r.host r.source) (reads_in script slot)
-reads_of_valid list script slot valid =
-    reads_valid list script slot script.events
-    (recursion_from_All (IsValidEvent list script) script.events valid.events)
+-- The reads of a valid script are of nodes of its list.
 
 each_within : (n : ℕ) (Q : ℕ → Source → Type 0) (reads : List HostRead)
     → AllByRecursion (λ (r : HostRead). (r.host < n) × Q r.host r.source) reads

@@ -1,27 +1,46 @@
--- The text of a report that shows a slot is the text of the slot.
-use Rattle.std.proofs.Common.{◌≡◌, ℕ, zero, suc, ◌+◌, List, [], ◌∷◌, ◌++◌, length, map, get_or, count_by}
-use Rattle.std.proofs.Common.{refl, sym, ap, ◌∙◌}
+-- The report of a slot may be written, and its text is the slot's of the trace.
+use Rattle.std.proofs.Common.{◌≡◌, ℕ, zero, suc, ◌+◌, ◌<◌, ◌≤◌, List, [], ◌∷◌, ◌++◌, All, length, map, get_or}
+use Rattle.std.proofs.Common.{count_by, refl, sym, ap, ◌∙◌, subst, append_assoc, arith}
 use Rattle.std.specs.Prelude.{◌==◌}
-use Rattle.std.specs.List.{range_with_len}
+use Rattle.std.specs.List.{AllByRecursion, range_with_len}
+use Rattle.std.proofs.lemmas.List.{length-map}
+use Rattle.std.proofs.lemmas.List.FromFn.{length-range_with_len}
+use Rattle.std.proofs.lemmas.List.Elements.{All-from_recursion, All-cons, All-nil}
+use Rattle.ttp_base.specs.NodeSet.{below}
+use Rattle.ttp_base.proofs.Below.{map_each-below}
 use Rattle.ttp_world.specs.declared.medl.Medl.{Medl}
 use Rattle.ttp_world.specs.declared.node.Entry.{Entry}
 use Rattle.ttp_world.specs.declared.script.Script.{Script}
 use Rattle.ttp_world.specs.declared.script.Source.{Source}
 use Rattle.ttp_world.specs.declared.script.Source.TheVariants as source
 use Rattle.ttp_world.specs.Diary.{History}
-use Rattle.ttp_world.specs.Legal.{ReadMessage, read_messages}
+use Rattle.ttp_world.specs.Legal.{IsLegal, ReadMessage, read_messages}
+use Rattle.ttp_world.specs.Medl.{IsValid, node_limit}
 use Rattle.ttp_world.specs.Messages.{ring_messages}
-use Rattle.ttp_world.specs.Script.{HostWrite, writes_in, reads_in}
+use Rattle.ttp_world.specs.Script.{HostWrite, IsSource, IsValidScript, writes_in, reads_in}
 use Rattle.ttp_world.specs.Trace.{node_line_of, write_line, more_write_lines, read_line, slot_lines}
-use Rattle.ttp_world.specs.Words.{words_of_payload}
-use Rattle.ttp_world.specs.World.{SlotNumbers}
+use Rattle.ttp_world.specs.Words.{words_of_payload, word_count}
+use Rattle.ttp_world.specs.World.{Numbers, SlotNumbers, world}
+use Rattle.ttp_world.proofs.HostPayloads.{HasRead, IsMessageOf, messages_read}
+use Rattle.ttp_world.proofs.Worlds.{length-world}
+use Rattle.host_port.specs.declared.report.NodeLine.{NodeLine}
+use Rattle.host_port.specs.declared.report.ReadLine.{ReadLine}
 use Rattle.host_port.specs.declared.report.SlotReport.{SlotReport}
+use Rattle.trace_text.specs.HostLines.{HasWords, bytes_in, message_in, message_line}
+use Rattle.trace_text.specs.LineParts.{HasDigits}
+use Rattle.trace_text.specs.ReportText.{HasMessage, IsListed, node_texts, write_text, payload_size, read_text, report_lines}
+use Rattle.trace_text.proofs.MemberDigits.{state_of-digits}
 use Rattle.trace_text.proofs.PayloadWords.{words_tell}
-use Rattle.trace_text.specs.HostLines.{bytes_in, message_in, message_line}
-use Rattle.cluster_run.specs.Report.{node_shown, writes_shown, read_shown, ShowsSlot}
-use Rattle.cluster_run.specs.ReportText.{node_texts, write_text, payload_size, read_text, report_lines, IsPayloadOf}
-use Rattle.cluster_run.specs.ReportText.{ArePayloadsRead}
+use Rattle.cluster_run.specs.Choosing.{AreBytesBefore}
+use Rattle.cluster_run.specs.NextSlots.{next_row}
+use Rattle.cluster_run.specs.Report.{node_shown, numbers_in, writes_shown, read_shown, ShowsSlot}
 use Rattle.cluster_run.specs.Rings.{ring_words}
+use Rattle.cluster_run.specs.Slots.{IsNext}
+use Rattle.cluster_run.specs.Standing.{ClusterView}
+use Rattle.cluster_run.specs.Texts.{TellsNext}
+use Rattle.cluster_run.proofs.Sends.{plan_few}
+
+-- The lines.
 
 nodes_told : (list : Medl) (script : Script) (row : List Entry) (before : History) (first many : ℕ)
     → node_texts list (length before) first (map (node_shown list script row before) (range_with_len first many))
@@ -38,30 +57,33 @@ writes_told list script slot earlier (w ∷ ws) =
     (writes_told list script slot (w ∷ earlier) ws)
 
 -- the words of a message tell it
-message_again : (list : Medl) (from : Source) (message : List ℕ) → IsPayloadOf list from message
+message_again : (list : Medl) (from : Source) (message : List ℕ) → IsMessageOf list from message
     → message_in from (payload_size list from) (ring_words from message) ≡ message
 message_again list source.Status message is = refl
 message_again list (source.Node p) message is =
     (λ i. bytes_in (sym is.1 i) (words_of_payload message)) ∙ words_tell message is.0
 
 reads_told : (list : Medl) (script : Script) (slot : ℕ) (after : History) (rs : List ReadMessage)
-    → ArePayloadsRead list script after rs
+    → AllByRecursion (HasRead list script after) rs
     → map (read_text list slot) (map (read_shown list script after) rs) ≡ map (read_line list script slot after) rs
 reads_told list script slot after [] are = refl
 reads_told list script slot after (r ∷ rs) are =
     let from = r.read.source in
     let message = get_or (ring_messages list script after r.read.host from) r.number [] in
     λ i.
-    message_line slot r.read.host from r.number (message_again list from message are.0 i)
+    message_line slot r.read.host from r.number (message_again list from message are.0.message i)
     ∷ reads_told list script slot after rs are.1 i
 
-pub report_told : (list : Medl) (script : Script) (row : List Entry) (before : History) (new : SlotNumbers)
+report_told : (list : Medl) (script : Script) (row : List Entry) (before : History) (new : SlotNumbers)
     (report : SlotReport) → ShowsSlot list script row before new report
-    → ArePayloadsRead list script (row ∷ before) (read_messages (reads_in script (length before)) new.read)
+    → AllByRecursion (HasRead list script (row ∷ before))
+    (read_messages (reads_in script (length before)) new.read)
     → report_lines list report ≡ slot_lines list script row before new
 report_told list script row before new report shows are =
     let slot = length before in
-    (λ i.
+    sym (append_assoc (node_texts list report.slot 0 report.nodes) (map (write_text report.slot) report.writes)
+    (map (read_text list report.slot) report.reads))
+    ∙ (λ i.
     node_texts list (shows.slot i) 0 (shows.nodes i)
     ++ map (write_text (shows.slot i)) (shows.writes i)
     ++ map (read_text list (shows.slot i)) (shows.reads i))
@@ -69,3 +91,71 @@ report_told list script row before new report shows are =
     nodes_told list script row before 0 (length list.slots) i
     ++ writes_told list script slot [] (writes_in script slot) i
     ++ reads_told list script slot (row ∷ before) (read_messages (reads_in script slot) new.read) are i)
+
+-- What is asked of a report that is written.
+
+listed : (list : Medl) (host : ℕ) (from : Source) → IsSource list host from → IsListed list from
+listed list host source.Status is = tt
+listed list host (source.Node p) is = is.0
+
+words_of : (list : Medl) (from : Source) (message : List ℕ) → IsValid list → IsMessageOf list from message
+    → HasWords from (payload_size list from) (ring_words from message)
+words_of list source.Status message valid is = is
+words_of list (source.Node p) message valid is = (
+  plan_few list p valid,
+  length-map (below (word_count (length message))) _ ∙ length-range_with_len 0 (word_count (length message)) ∙ ap word_count is.1,
+)
+
+reads_have : (list : Medl) (script : Script) (after : History) (rs : List ReadMessage) → IsValid list
+    → AllByRecursion (HasRead list script after) rs → All (HasMessage list) (map (read_shown list script after) rs)
+reads_have list script after [] valid are = All-nil (HasMessage list)
+reads_have list script after (r ∷ rs) valid are =
+    let from = r.read.source in
+    let message = get_or (ring_messages list script after r.read.host from) r.number [] in
+    All-cons (HasMessage list) (read_shown list script after r) (map (read_shown list script after) rs)
+    (record {
+      source = listed list r.read.host from are.0.read.1;
+      words = words_of list from message valid are.0.message;
+    })
+    (reads_have list script after rs valid are.1)
+
+nodes_have : (list : Medl) (script : Script) (row : List Entry) (before : History) (n : ℕ) → IsValid list
+    → All (λ (line : NodeLine). HasDigits list line.state) (map (node_shown list script row before) (below n))
+nodes_have list script row before n valid =
+    All-from_recursion (λ (line : NodeLine). HasDigits list line.state) (map (node_shown list script row before) (below n))
+    (map_each-below (λ (line : NodeLine). HasDigits list line.state) (node_shown list script row before) n
+    (λ k less. state_of-digits list script (row ∷ before) k valid))
+
+pub tells_next : (cluster : ClusterView) (numbers : Numbers) → IsValid cluster.list
+    → IsValidScript cluster.list cluster.script → AreBytesBefore cluster.list cluster.script cluster.done
+    → IsNext cluster numbers → IsLegal cluster.list cluster.script numbers
+    → TellsNext cluster.list cluster.script numbers cluster.report
+tells_next cluster numbers valid valid_script bytes next legal =
+    let list = cluster.list in
+    let script = cluster.script in
+    let report = cluster.report in
+    let new = numbers_in report in
+    let before = world list script numbers in
+    let row = next_row list script new numbers in
+    let shows = next.shows in
+    let reads : AllByRecursion (HasRead list script (row ∷ before))
+        (read_messages (reads_in script (length before)) new.read) =
+    subst (λ n. AllByRecursion (HasRead list script (row ∷ before)) (read_messages (reads_in script n) new.read))
+    (sym (length-world list script numbers))
+    (messages_read list script new numbers (next.legal legal)
+    (subst (AreBytesBefore list script) next.stands.done bytes) valid_script) in
+    record {
+      nodes =
+          omega (
+            arith,
+            ap length shows.nodes,
+            length-map (below (length list.slots)) (node_shown list script row before),
+            length-range_with_len 0 (length list.slots),
+            valid.count.1,
+          );
+      digits = subst (All (λ (line : NodeLine). HasDigits list line.state)) (sym shows.nodes)
+          (nodes_have list script row before (length list.slots) valid);
+      reads = subst (All (HasMessage list)) (sym shows.reads)
+          (reads_have list script (row ∷ before) (read_messages (reads_in script (length before)) new.read) valid reads);
+      lines = report_told list script row before new report shows reads;
+    }

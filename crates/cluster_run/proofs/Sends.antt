@@ -36,7 +36,7 @@ use Rattle.cluster_run.specs.Sending.{write_lines}
 use Rattle.cluster_run.specs.Standing.{HoldsWritten}
 use Rattle.cluster_run.proofs.Choices.{node_choice, shape_there}
 use Rattle.cluster_run.proofs.Deliverable.{loaded-payload}
-use Rattle.cluster_run.proofs.HostMessages.{IsValidWrite, few_messages, filter_map-each, valid_write_at, valid_writes}
+use Rattle.ttp_world.proofs.HostMessages.{IsValidWrite, few_messages, filter_map-each, valid_write_at, valid_writes}
 use Rattle.cluster_run.proofs.PortLists.{at_any, same-count, same_at}
 use Rattle.cluster_run.proofs.Settling.{payload_few, plan_there}
 use Rattle.cluster_run.proofs.Writes.{filter_map-few}

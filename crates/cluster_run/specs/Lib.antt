@@ -8,6 +8,6 @@ pub mod Choosing
 pub mod Ending
 pub mod Reading
 pub mod Report
-pub mod ReportText
+pub mod Texts
 pub mod Slots
 pub mod Clusters

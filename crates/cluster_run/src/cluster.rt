@@ -2,6 +2,7 @@
 ghost use Rattle.std.specs.Prelude.{◌≡◌, ◌+◌, ◌<◌, [], None, IfOk, IsErr, OnOk, OnErr};
 ghost use Rattle.ttp_world.specs.Medl.{IsValid};
 ghost use Rattle.ttp_world.specs.Script.{IsValidScript};
+ghost use Rattle.cluster_run.specs.Choosing.{AreBytesBefore};
 ghost use Rattle.cluster_run.specs.Slots.{Steps};
 ghost use Rattle.cluster_run.specs.Standing.{ClusterStandsFor};
 
@@ -74,7 +75,8 @@ impl Cluster {
     /// One slot, the first that it has not done yet.
     ///
     /// Whatever numbers it stood for, it then stands for these and those in the slot's report, which
-    /// shows the world's slot for them. Where the older ones were legal, all are.
+    /// shows the world's slot for them. Where the older ones were legal, all are. What hosts have written is
+    /// bytes, so that [`laws::reports_tell_slots`](crate::laws::reports_tell_slots) has the report's text.
     ///
     /// # Errors
     ///
@@ -88,6 +90,7 @@ impl Cluster {
         ensures list { self.new.list ≡ self.old.list }
         ensures script { self.new.script ≡ self.old.script }
         ensures steps { OnOk result (Steps self.old self.new) }
+        ensures bytes { OnOk result (AreBytesBefore self.new.list self.new.script self.new.done) }
         ensures done { OnOk result (self.new.done ≡ self.old.done + 1) }
         ensures undone { OnErr result (self.new.done ≡ self.old.done) }
         ensures gone { OnErr result (self.new.desks ≡ None) }

@@ -2,6 +2,7 @@ pub mod DecimalDigits
 pub mod FieldLists
 pub mod HexDigits
 pub mod LineValues
+pub mod MemberDigits
 pub mod Options
 pub mod PayloadWords
 pub mod ReadLines

@@ -1,13 +1,11 @@
 -- Lines that are written one after another, and those of the nodes in a report.
-use Rattle.std.proofs.Common.{◌≡◌, ℕ, zero, suc, ◌+◌, ◌<◌, ◌≤◌, ◌*◌, List, [], ◌∷◌, ◌++◌, length, get_or, take, drop}
-use Rattle.std.proofs.Common.{Bool, refl, sym, ap, subst, ◌∙◌, arith}
-use Rattle.std.proofs.lemmas.Bool.{cond_both}
+use Rattle.std.proofs.Common.{◌≡◌, ℕ, zero, suc, ◌+◌, ◌<◌, List, [], ◌∷◌, ◌++◌, length, get_or, take, drop}
+use Rattle.std.proofs.Common.{refl, sym, ap, subst, ◌∙◌, arith}
 use Rattle.std.proofs.lemmas.List.{take_more, take-append-drop}
 use Rattle.ttp_base.specs.Outside.{Output, WroteLines, CutShort}
 use Rattle.ttp_base.specs.Text.{Lines}
 use Rattle.ttp_base.proofs.Outputs.{Wrote-join, CutShort-after, CutShort-more}
 use Rattle.ttp_world.specs.declared.medl.Medl.{Medl}
-use Rattle.ttp_world.specs.Medl.{is_wide, member_bytes, node_limit}
 use Rattle.host_port.specs.declared.report.NodeLine.{NodeLine}
 use Rattle.trace_text.specs.LineParts.{listed_line}
 use Rattle.trace_text.specs.ReportText.{node_texts}
@@ -42,22 +40,12 @@ pub length-node_texts : (list : Medl) (slot first : ℕ) (nodes : List NodeLine)
 length-node_texts list slot first [] = refl
 length-node_texts list slot first (line ∷ lines) = ap suc (length-node_texts list slot (first + 1) lines)
 
-pub get_or-node_texts : (list : Medl) (slot first : ℕ) (nodes : List NodeLine) (i : ℕ) (line : NodeLine) (text : List ℕ)
-    → i < length nodes → get_or nodes i line ≡ line
-    → get_or (node_texts list slot first nodes) i text ≡ listed_line list slot (first + i) line.state line.message
-get_or-node_texts list slot first [] i line text less is = absurd (omega arith)
-get_or-node_texts list slot first (x ∷ xs) zero line text less is =
-    let here : first ≡ first + 0 = omega arith in
+pub get_or-node_texts : (list : Medl) (slot first : ℕ) (nodes : List NodeLine) (i k : ℕ) (line : NodeLine)
+    (text : List ℕ) → i < length nodes → first + i ≡ k → get_or nodes i line ≡ line
+    → get_or (node_texts list slot first nodes) i text ≡ listed_line list slot k line.state line.message
+get_or-node_texts list slot first [] i k line text less there is = absurd (omega arith)
+get_or-node_texts list slot first (x ∷ xs) zero k line text less there is =
+    let here : first ≡ k = omega (arith, there) in
     λ j. listed_line list slot (here j) (is j).state (is j).message
-get_or-node_texts list slot first (x ∷ xs) (suc i) line text less is =
-    let there : first + 1 + i ≡ first + suc i = omega arith in
-    get_or-node_texts list slot (first + 1) xs i line text (omega arith) is
-    ∙ ap (λ k. listed_line list slot k line.state line.message) there
-
--- A list has few nodes.
-
-wide_few : (wide : Bool) → 8 * member_bytes wide ≤ 24
-wide_few wide = cond_both wide 3 2 (λ n. 8 * n ≤ 24) (λ is. omega arith) (λ other. omega arith)
-
-pub node_limit-few : (list : Medl) → node_limit list ≤ 24
-node_limit-few list = wide_few (is_wide list)
+get_or-node_texts list slot first (x ∷ xs) (suc i) k line text less there is =
+    get_or-node_texts list slot (first + 1) xs i k line text (omega arith) (omega (arith, there)) is

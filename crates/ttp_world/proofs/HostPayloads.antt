@@ -6,7 +6,7 @@ use Rattle.std.specs.Prelude.{◌==◌, nat_le, map, replicate}
 use Rattle.std.specs.List.{AllByRecursion, list_all}
 use Rattle.std.proofs.lemmas.Bool.{and_parts, cond_both, eqb-true, leb-true}
 use Rattle.std.proofs.lemmas.List.{length-replicate}
-use Rattle.std.proofs.lemmas.List.Elements.{All-nil, All-cons, All-append, All-head, All-tail, All-replicate}
+use Rattle.std.proofs.lemmas.List.Elements.{recursion_from_All, All-nil, All-cons, All-append, All-head, All-tail, All-replicate}
 use Rattle.ttp_world.specs.declared.host_lines.HostRead.{HostRead}
 use Rattle.ttp_world.specs.declared.medl.Medl.{Medl}
 use Rattle.ttp_world.specs.declared.node.Chosen.{Chosen}
@@ -139,16 +139,17 @@ status_messages-some list script (row ∷ history) k =
 -- What hosts read in a slot.
 
 -- a host of the list reads a ring that it has
-pub record IsValidRead (list : Medl) (r : HostRead) : Type 0 where
-  pub node : r.host < length list.slots
-  pub source : IsSource list r.host r.source
+abbrev pub IsReadOf : Medl → ℕ → Source → Type 0
+IsReadOf list k from = (k < length list.slots) × IsSource list k from
+
+abbrev IsValidRead : Medl → HostRead → Type 0
+IsValidRead list r = IsReadOf list r.host r.source
 
 valid_read : (list : Medl) (script : Script) (slot : ℕ) (e : Event) → IsValidEvent list script e
     → IfSome (read_in slot e) (IsValidRead list)
 valid_read list script slot (event.Read node at from) valid =
     cond_both (at == slot) (Some (record { host = node; source = from })) None
-    (λ (o : Option HostRead). IfSome o (IsValidRead list))
-    (λ now. record { node = valid.0; source = valid.2 }) (λ other. tt)
+    (λ (o : Option HostRead). IfSome o (IsValidRead list)) (λ now. (valid.0, valid.2)) (λ other. tt)
 valid_read list script slot (event.Send node channels f from to) valid = tt
 valid_read list script slot (event.Receive node channels f from to) valid = tt
 valid_read list script slot (event.Flip node channels bit at) valid = tt
@@ -157,15 +158,16 @@ valid_read list script slot (event.Jump node value at) valid = tt
 valid_read list script slot (event.Arm node at) valid = tt
 valid_read list script slot (event.Write node at payload) valid = tt
 
-pub valid_reads : (list : Medl) (script : Script) (slot : ℕ) → IsValidScript list script
-    → All (IsValidRead list) (reads_in script slot)
-valid_reads list script slot valid =
-    filter_map-each (read_in slot) (IsValidEvent list script) (IsValidRead list) script.events
-    (valid_read list script slot) valid.events
+pub reads_of_valid : (list : Medl) (script : Script) (slot : ℕ) → IsValidScript list script
+    → AllByRecursion (λ (r : HostRead). IsReadOf list r.host r.source) (reads_in script slot)
+reads_of_valid list script slot valid =
+    recursion_from_All (IsValidRead list) (reads_in script slot)
+    (filter_map-each (read_in slot) (IsValidEvent list script) (IsValidRead list) script.events
+    (valid_read list script slot) valid.events)
 
 -- a read that got a message of its source
 pub record HasRead (list : Medl) (script : Script) (after : History) (r : ReadMessage) : Type 0 where
-  pub read : IsValidRead list r.read
+  pub read : IsReadOf list r.read.host r.read.source
   pub message : IsMessageOf list r.read.source
       (get_or (ring_messages list script after r.read.host r.read.source) r.number [])
 
@@ -187,7 +189,7 @@ module _ (list : Medl) (script : Script) (new : SlotNumbers) (numbers : Numbers)
       in_messages-payloads list script (new ∷ numbers) host p legal bytes node i []
       (omega (arith, within, in_messages-some list script after host p))
 
-  all_read : (reads : List HostRead) (ns : List ℕ) → All (IsValidRead list) reads
+  all_read : (reads : List HostRead) (ns : List ℕ) → AllByRecursion (IsValidRead list) reads
       → list_all (is_legal_read list script before after) (read_messages reads ns) ≡ true
       → AllByRecursion (HasRead list script after) (read_messages reads ns)
   all_read [] ns valid all = tt
@@ -197,19 +199,18 @@ module _ (list : Medl) (script : Script) (new : SlotNumbers) (numbers : Numbers)
       let first : ReadMessage = record { read = r; number = n } in
       let parts = and_parts (test first) (list_all test (read_messages rs ns)) all in
       let low = nat_le (newest_number (ring_messages list script before r.host r.source)) n in
-      let high = newest_number (ring_messages list script after r.host r.source) in
-      let read = All-head (IsValidRead list) r rs valid in (
+      let high = newest_number (ring_messages list script after r.host r.source) in (
         record {
-          read = read;
-          message = message_read r.host r.source n read.node
+          read = valid.0;
+          message = message_read r.host r.source n valid.0.0
               (leb-true n high (and_parts low (nat_le n high) parts.0).1);
         },
-        all_read rs ns (All-tail (IsValidRead list) r rs valid) parts.1,
+        all_read rs ns valid.1 parts.1,
       )
 
   -- each read of the newest slot got a message of its source
   pub messages_read : IsValidScript list script
       → AllByRecursion (HasRead list script after) (read_messages (reads_in script (length numbers)) new.read)
   messages_read valid =
-      all_read (reads_in script (length numbers)) new.read (valid_reads list script (length numbers) valid)
+      all_read (reads_in script (length numbers)) new.read (reads_of_valid list script (length numbers) valid)
       (legal-reads list script new numbers legal)

@@ -1,0 +1,33 @@
+use Rattle.std.proofs.Common.{List, subst}
+use Rattle.std.proofs.lemmas.Result.{on_ok_weaker, on_err_weaker}
+use Rattle.ttp_base.specs.Outside.{WroteLines}
+use Rattle.ttp_base.proofs.Outputs.{Wrote-join, CutShort-after}
+use Rattle.host_port.specs.declared.report.NodeLine.{NodeLine}
+use Rattle.trace_text.specs.ReportText.{node_texts, host_lines}
+use Rattle.trace_text.proofs.slot.put_slot.Goals as goal
+
+pub returns-clause-ok : goal.returns-clause-ok
+returns-clause-ok g c =
+    let a = g.K.Sink.output c.args.out.now in
+    let b = g.K.Sink.output c.put_nodes.new.out in
+    let end = g.K.Sink.output c.put_hosts.new.out in
+    let list = c.args.list.now in
+    let report = c.args.report.now in
+    let wrote = subst (λ (nodes : List NodeLine). WroteLines a b (node_texts list report.slot 0 nodes))
+    c.as_slice.ensures c.in_ok-put_nodes.ensures.ok in
+    on_ok_weaker c.put_hosts.result
+    (Wrote-join a b end (node_texts list report.slot 0 report.nodes) (host_lines list report) wrote)
+    c.put_hosts.ensures.ok
+
+pub returns-clause-failed : goal.returns-clause-failed
+returns-clause-failed g c =
+    let a = g.K.Sink.output c.args.out.now in
+    let b = g.K.Sink.output c.put_nodes.new.out in
+    let end = g.K.Sink.output c.put_hosts.new.out in
+    let list = c.args.list.now in
+    let report = c.args.report.now in
+    let wrote = subst (λ (nodes : List NodeLine). WroteLines a b (node_texts list report.slot 0 nodes))
+    c.as_slice.ensures c.in_ok-put_nodes.ensures.ok in
+    on_err_weaker c.put_hosts.result
+    (CutShort-after a b end (node_texts list report.slot 0 report.nodes) (host_lines list report) wrote)
+    c.put_hosts.ensures.failed
