@@ -10,6 +10,7 @@ pub mod Filters
 pub mod Jumps
 pub mod Starts
 pub mod HostLists
+pub mod HostMessages
 pub mod LegalNumbers
 pub mod LegalRuns
 pub mod LegalShapes
