@@ -145,7 +145,7 @@ HavePasts-next list script one other row row_too valid same made made_too =
 -- The runs.
 
 -- the slots before the newest
-older : {list : Medl} {script : Script} {one other : History} {row row_too : List Entry}
+pub older : {list : Medl} {script : Script} {one other : History} {row row_too : List Entry}
     → AreRuns list script (row ∷ one) (row_too ∷ other) → AreRuns list script one other
 older runs = record {
   valid = runs.valid;
@@ -162,6 +162,11 @@ runs-pasts list script (row ∷ one) [] runs = absurd (omega (arith, runs.slots)
 runs-pasts list script (row ∷ one) (row_too ∷ other) runs =
     HavePasts-next list script one other row row_too runs.valid (runs-pasts list script one other (older runs))
     runs.first.0 runs.second.0
+
+pub runs-clocks : (list : Medl) (script : Script) (one other : History) (k : ℕ) → AreRuns list script one other
+    → k < length list.slots → (node_past list script one k).offset ≡ (node_past list script other k).offset
+runs-clocks list script one other k runs node =
+    ap (λ (past : NodePast). past.offset) ((runs-pasts list script one other runs).pasts k node)
 
 newest-alike : (list : Medl) (script : Script) (one other : History) (row row_too : List Entry)
     → AreRuns list script (row ∷ one) (row_too ∷ other) → unnumbered_row row ≡ unnumbered_row row_too

@@ -1,6 +1,5 @@
-use Rattle.std.proofs.Common.{ap}
-use Rattle.ttp_world.specs.Past.{NodePast}
-use Rattle.frame_fates.proofs.RunsAlike.{runs-pasts, runs-entries, runs-deliveries, runs-received, runs-status}
+use Rattle.frame_fates.proofs.RunsAlike.{runs-pasts, runs-clocks, runs-entries, runs-deliveries, runs-received}
+use Rattle.frame_fates.proofs.RunsAlike.{runs-status}
 use Rattle.frame_fates.proofs.laws.runs_are_alike.Goals as goal
 
 pub returns-clause-entries : goal.returns-clause-entries
@@ -10,8 +9,7 @@ pub returns-clause-pasts : goal.returns-clause-pasts
 returns-clause-pasts c list script one other k runs = (runs-pasts list script one other runs).pasts k
 
 pub returns-clause-clocks : goal.returns-clause-clocks
-returns-clause-clocks c list script one other k runs node =
-    ap (λ (past : NodePast). past.offset) ((runs-pasts list script one other runs).pasts k node)
+returns-clause-clocks c = runs-clocks
 
 pub returns-clause-deliveries : goal.returns-clause-deliveries
 returns-clause-deliveries c = runs-deliveries
