@@ -5,3 +5,6 @@ pub mod QuietPlan
 pub mod Judged
 pub mod Widest
 pub mod SeenWithin
+pub mod SeenAlike
+pub mod ZerosPayloads
+pub mod ZerosRun

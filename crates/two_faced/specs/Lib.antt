@@ -3,3 +3,4 @@ pub mod Halved
 pub mod Seen
 pub mod Spans
 pub mod WorkedCases
+pub mod ZerosRun

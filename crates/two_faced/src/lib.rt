@@ -29,6 +29,7 @@ mod clocks;
 mod faced;
 mod faults;
 mod law;
+mod run;
 mod seen;
 #[cfg(test)]
 mod tests;

@@ -4,13 +4,12 @@ ghost use Rattle.ttp_world.specs.Legal.{IsLegalRun};
 ghost use Rattle.ttp_world.specs.Medl.{IsValid};
 ghost use Rattle.ttp_world.specs.Script.{IsValidScript};
 ghost use Rattle.ttp_world.specs.World.{Numbers};
-ghost use Rattle.plant_run.specs.FirstNumbers.{IsUnhosted, first_world};
-ghost use Rattle.plant_run.specs.RunAfter.{StandsAfter};
 ghost use Rattle.two_faced.specs.Seen.{apart_after, with_slot, seen_in, seen_of};
 ghost use Rattle.two_faced.specs.Spans.{with_clock, IsNearClock, IsNearSpan};
+ghost use Rattle.two_faced.specs.ZerosRun.{zeros_world, StandsAfter};
 
+use crate::run::Run;
 use hypothesis::start_of;
-use plant_run::Run;
 use std::alloc::Global;
 use ttp_base::Memory;
 use ttp_world::{Medl, Script};
@@ -54,12 +53,12 @@ fn apart_after(run: &Run, list: &Medl, script: &Script, node: u8, slot: u32) -> 
     requires script { IsValidScript list.now script.now }
     requires slot { slot < script.now.slots }
     requires stands { StandsAfter run.now list.now script.now (slot + 1) }
-    ensures { result ≡ apart_after list.now script.now node slot (first_world list.now script.now (slot + 1)) }
+    ensures { result ≡ apart_after list.now script.now node slot (zeros_world list.now script.now (slot + 1)) }
 {
     let mut span = None;
     for k in 0..list.nodes() {
         if k != node && script.is_on(k, slot) {
-            span = Some(with_clock(span, run.node(list, k).offset));
+            span = Some(with_clock(span, run.clock(list, k)));
         }
     }
     match span {
@@ -84,7 +83,7 @@ fn seen_in(run: Run, list: &Medl, script: &Script, node: u8, start: u32) -> Seen
     requires valid { IsValid list.now }
     requires script { IsValidScript list.now script.now }
     requires stands { StandsAfter run list.now script.now 0 }
-    ensures { result ≡ seen_in list.now script.now node start (first_world list.now script.now script.now.slots) }
+    ensures { result ≡ seen_in list.now script.now node start (zeros_world list.now script.now script.now.slots) }
 {
     let mut run = run;
     let mut seen = Seen {
@@ -103,13 +102,13 @@ fn seen_in(run: Run, list: &Medl, script: &Script, node: u8, start: u32) -> Seen
 /// slot of the run from its start on, with the least such slot. Where the run ends before the start, or
 /// two such nodes are never on together, it is 0 with the slot of the start.
 ///
-/// The script has no writes or reads of hosts, and so one list of legal message numbers. Where it breaks
-/// the rule on the start, the answer is 0 with slot 0. The cluster is run through its controllers:
-/// memory is taken before the first slot, and a slot costs its nodes, whatever its number.
+/// It is the same for all legal message numbers, whatever hosts write and read. Where the script breaks
+/// the rule on the start, the answer is 0 with slot 0. The cluster is run through its controllers, with
+/// zeros for the payload of every frame: memory is taken before the first slot, and a slot costs its
+/// nodes, whatever its number.
 pub fn find_seen(alloc: Global, list: &Medl, script: &Script, node: u8) -> Result<Seen, Memory>
     requires valid { IsValid list.now }
     requires script { IsValidScript list.now script.now }
-    requires hosts { IsUnhosted script.now }
     ensures { IfOk result (λ seen. (numbers : Numbers) → IsLegalRun list.now script.now numbers
         → seen ≡ seen_of list.now script.now numbers node) }
 {

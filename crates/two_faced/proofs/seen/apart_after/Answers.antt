@@ -4,11 +4,10 @@ use Rattle.std.specs.Prelude.{◌==◌, IfSome}
 use Rattle.std.specs.List.{filter_map, range_with_len}
 use Rattle.std.proofs.lemmas.Bool.{ne_eqb}
 use Rattle.std.proofs.lemmas.Int.{to_z-of_z}
-use Rattle.ttp_world.specs.declared.node.NodeState.{NodeState}
 use Rattle.ttp_world.specs.Script.{is_on}
 use Rattle.ttp_world.specs.World.{node_past}
 use Rattle.hypothesis.proofs.Least.{range-next}
-use Rattle.plant_run.specs.FirstNumbers.{first_world}
+use Rattle.two_faced.specs.ZerosRun.{zeros_world}
 use Rattle.two_faced.specs.Seen.{clock_beside, apart_after}
 use Rattle.two_faced.specs.Spans.{IsNearSpan}
 use Rattle.two_faced.proofs.Spans.{widest_with, widest-clock, widest-none, difference_is}
@@ -22,7 +21,7 @@ returns-in-Some c =
     let list = c.args.list.now in
     let script = c.args.script.now in
     let slot = c.args.slot in
-    let clock : ℕ → Option ℤ = clock_beside list script c.args.node slot (first_world list script (slot + 1)) in
+    let clock : ℕ → Option ℤ = clock_beside list script c.args.node slot (zeros_world list script (slot + 1)) in
     let near = subst (λ s. IfSome s IsNearSpan) c.in-Some.is c.loop-k.invariant.1 in
     let end : length list.slots - c.loop-k.k ≡ 0 = omega arith in
     difference_is c.in-Some.span near
@@ -36,23 +35,23 @@ loop-k-preserved c =
     let slot = c.args.slot in
     let k = c.loop-k.k in
     let n = length list.slots in
-    let clock : ℕ → Option ℤ = clock_beside list script c.args.node slot (first_world list script (slot + 1)) in
+    let clock : ℕ → Option ℤ = clock_beside list script c.args.node slot (zeros_world list script (slot + 1)) in
     let rest = range_with_len (k + 1) (n - (k + 1)) in
     let so_far : widest_with c.loop-k.span (filter_map clock (k ∷ rest))
-    ≡ apart_after list script c.args.node slot (first_world list script (slot + 1)) =
+    ≡ apart_after list script c.args.node slot (zeros_world list script (slot + 1)) =
     ap (λ ks. widest_with c.loop-k.span (filter_map clock ks)) (sym (range-next k n (omega arith)))
     ∙ c.loop-k.invariant.0 in
-    let past = node_past list script (first_world list script (slot + 1)) k in
+    let past = node_past list script (zeros_world list script (slot + 1)) k in
     elim c.if-k-node.branch [
       | then-k-node+then-is_on w ↦
-          let shows = w.node.ensures.shows script (slot + 1) c.requires.stands in
-          let fits : FitsSigned w64 w.node.result.offset = search rules in
-          let ahead = to_z w64 (of_z w64 w.node.result.offset) in
+          let shows = w.clock.ensures.shows script (slot + 1) c.requires.stands in
+          let fits : FitsSigned w64 w.clock.result = search rules in
+          let ahead = to_z w64 (of_z w64 w.clock.result) in
           let counts : clock k ≡ Some ahead =
           clock_counts (k == c.args.node) (is_on script k slot) past.offset (ne_eqb k c.args.node w.if-k-node.true)
           (sym w.is_on.ensures ∙ w.if-is_on.true)
-          ∙ sym (ap Some (to_z-of_z w64 w.node.result.offset fits)
-          ∙ ap (λ (state : NodeState). Some state.offset) shows) in (
+          ∙ sym (ap Some (to_z-of_z w64 w.clock.result fits)
+          ∙ ap Some shows) in (
             (λ i. widest_with (w.span-is i) (filter_map clock rest))
                 ∙ (λ i. widest_with (Some (w.with_clock.ensures.value i)) (filter_map clock rest))
                 ∙ widest-clock clock k rest ahead c.loop-k.span counts ∙ so_far,

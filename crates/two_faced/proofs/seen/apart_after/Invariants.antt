@@ -1,7 +1,7 @@
 use Rattle.std.proofs.Common.{◌≡◌, ◌+◌, ◌-◌, length}
 use Rattle.std.specs.Prelude.{IfSome}
 use Rattle.std.specs.List.{filter_map, range_with_len}
-use Rattle.plant_run.specs.FirstNumbers.{first_world}
+use Rattle.two_faced.specs.ZerosRun.{zeros_world}
 use Rattle.two_faced.specs.Seen.{clock_beside, apart_after}
 use Rattle.two_faced.specs.Spans.{IsNearSpan}
 use Rattle.two_faced.proofs.Spans.{widest_with}
@@ -11,7 +11,7 @@ use Rattle.two_faced.proofs.seen.apart_after.Given as goal
 abbrev pub invariant-loop-k : goal.invariant-loop-k
 invariant-loop-k l =
     (widest_with l.span
-    (filter_map (clock_beside l.list l.script l.node l.slot (first_world l.list l.script (l.slot + 1)))
+    (filter_map (clock_beside l.list l.script l.node l.slot (zeros_world l.list l.script (l.slot + 1)))
     (range_with_len l.k (length l.list.slots - l.k)))
-    ≡ apart_after l.list l.script l.node l.slot (first_world l.list l.script (l.slot + 1)))
+    ≡ apart_after l.list l.script l.node l.slot (zeros_world l.list l.script (l.slot + 1)))
     × IfSome l.span IsNearSpan

@@ -2,21 +2,21 @@ use Rattle.std.proofs.Common.{◌≡◌, ℕ, ◌+◌, ℤ, w64, FitsSigned, to_
 use Rattle.std.proofs.lemmas.Int.{to_z-of_z}
 use Rattle.ttp_world.specs.declared.medl.Medl.{Medl}
 use Rattle.ttp_world.specs.declared.script.Script.{Script}
-use Rattle.plant_run.specs.FirstNumbers.{first_world}
-use Rattle.plant_run.proofs.FirstRows.{length-first_world, first_world-more}
+use Rattle.two_faced.specs.ZerosRun.{zeros_world}
+use Rattle.two_faced.proofs.ZerosRun.{length-zeros_world, zeros_world-more}
 use Rattle.two_faced.specs.declared.seen.Seen.{Seen}
 use Rattle.two_faced.specs.Seen.{apart_after, with_slot, seen_in}
 use Rattle.two_faced.proofs.seen.seen_in.Goals as goal
 
 -- one slot more
 seen_more : (list : Medl) (script : Script) (z start slot : ℕ) (seen : Seen) (value : ℤ)
-    → seen ≡ seen_in list script z start (first_world list script slot)
-    → value ≡ apart_after list script z slot (first_world list script (slot + 1))
+    → seen ≡ seen_in list script z start (zeros_world list script slot)
+    → value ≡ apart_after list script z slot (zeros_world list script (slot + 1))
     → with_slot start seen (record { value = value; slot = slot })
-    ≡ seen_in list script z start (first_world list script (slot + 1))
+    ≡ seen_in list script z start (zeros_world list script (slot + 1))
 seen_more list script z start slot seen value before now =
-    let more = first_world-more list script slot in
-    let count = sym (length-first_world list script slot) in
+    let more = zeros_world-more list script slot in
+    let count = sym (length-zeros_world list script slot) in
     let apart = now ∙ (λ i. apart_after list script z (count i) (more i)) in
     (λ i. with_slot start (before i) (record { value = apart i; slot = count i }))
     ∙ sym (ap (seen_in list script z start) more)
@@ -25,7 +25,7 @@ pub loop-slot-preserved : goal.loop-slot-preserved
 loop-slot-preserved c =
     let value = c.apart_after-value.result in
     let fits : FitsSigned w64 value = search rules in (
-      c.step.ensures.stands,
+      c.step.ensures,
       c.with_slot-seen.ensures
           ∙ seen_more c.args.list.now c.args.script.now c.args.node c.args.start c.loop-slot.slot c.loop-slot.seen
           (to_z w64 (of_z w64 value)) c.loop-slot.invariant.1

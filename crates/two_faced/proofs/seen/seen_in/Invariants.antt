@@ -1,6 +1,6 @@
 use Rattle.std.proofs.Common.{◌≡◌}
-use Rattle.plant_run.specs.FirstNumbers.{first_world}
-use Rattle.plant_run.specs.RunAfter.{StandsAfter}
+use Rattle.two_faced.specs.ZerosRun.{zeros_world}
+use Rattle.two_faced.specs.ZerosRun.{StandsAfter}
 use Rattle.two_faced.specs.Seen.{seen_in}
 use Rattle.two_faced.proofs.seen.seen_in.Given as goal
 
@@ -8,4 +8,4 @@ use Rattle.two_faced.proofs.seen.seen_in.Given as goal
 abbrev pub invariant-loop-slot : goal.invariant-loop-slot
 invariant-loop-slot l =
     StandsAfter l.run l.list l.script l.slot
-    × (l.seen ≡ seen_in l.list l.script l.node l.start (first_world l.list l.script l.slot))
+    × (l.seen ≡ seen_in l.list l.script l.node l.start (zeros_world l.list l.script l.slot))

@@ -1,0 +1,70 @@
+-- What is seen of clocks does not depend on the messages of frames.
+use Rattle.std.proofs.Common.{◌≡◌, ℕ, suc, ◌+◌, ◌<◌, ◌≤◌, ℤ, List, [], ◌∷◌, length, Option, Some, None, refl, ap, sym, ◌∙◌}
+use Rattle.std.proofs.Common.{cond, not, ◌&&◌, arith}
+use Rattle.std.specs.Prelude.{◌==◌}
+use Rattle.std.specs.List.{filter_map, cons_option, AllByRecursion}
+use Rattle.ttp_base.proofs.Below.{below-lt}
+use Rattle.ttp_world.specs.declared.medl.Medl.{Medl}
+use Rattle.ttp_world.specs.declared.script.Script.{Script}
+use Rattle.ttp_world.specs.Diary.{History}
+use Rattle.ttp_world.specs.Hypothesis.{nodes_of, start_of}
+use Rattle.ttp_world.specs.Legal.{IsLegalRun}
+use Rattle.ttp_world.specs.Script.{IsValidScript, is_on}
+use Rattle.ttp_world.specs.World.{Numbers, node_past, world}
+use Rattle.ttp_world.proofs.Worlds.{length-world}
+use Rattle.frame_fates.specs.Runs.{IsRun, AreRuns}
+use Rattle.frame_fates.proofs.NamedRuns.{named-run, legal-names}
+use Rattle.frame_fates.proofs.RunsAlike.{older, runs-clocks}
+use Rattle.two_faced.specs.declared.seen.Seen.{Seen}
+use Rattle.two_faced.specs.Seen.{clock_beside, apart_after, widest, with_slot, seen_in, seen_of, seen_since}
+use Rattle.two_faced.specs.ZerosRun.{zeros_world}
+use Rattle.two_faced.proofs.ZerosRun.{length-zeros_world, zeros-run}
+
+filter_map-agree : (f g : ℕ → Option ℤ) (n : ℕ) (ks : List ℕ) → ((k : ℕ) → k < n → f k ≡ g k)
+    → AllByRecursion (λ k. k < n) ks → filter_map f ks ≡ filter_map g ks
+filter_map-agree f g n [] agree within = refl
+filter_map-agree f g n (k ∷ ks) agree within = λ i.
+    cons_option (agree k within.0 i) (filter_map-agree f g n ks agree within.1 i)
+
+apart-alike : (list : Medl) (script : Script) (z slot : ℕ) (one other : History) → AreRuns list script one other
+    → apart_after list script z slot one ≡ apart_after list script z slot other
+apart-alike list script z slot one other runs =
+    ap widest
+    (filter_map-agree (clock_beside list script z slot one) (clock_beside list script z slot other)
+    (length list.slots) (nodes_of list)
+    (λ k node i. cond (not (k == z) && is_on script k slot) (Some (runs-clocks list script one other k runs node i))
+    None)
+    (below-lt (length list.slots)))
+
+seen_in-alike : (list : Medl) (script : Script) (z start : ℕ) (one other : History) → AreRuns list script one other
+    → seen_in list script z start one ≡ seen_in list script z start other
+seen_in-alike list script z start [] [] runs = refl
+seen_in-alike list script z start [] (row ∷ other) runs = absurd (omega (arith, runs.slots))
+seen_in-alike list script z start (row ∷ one) [] runs = absurd (omega (arith, runs.slots))
+seen_in-alike list script z start (row ∷ one) (row_too ∷ other) runs =
+    let before = seen_in-alike list script z start one other (older runs) in
+    let slots = (older runs).slots in
+    let apart : apart_after list script z (length one) (row ∷ one)
+    ≡ apart_after list script z (length other) (row_too ∷ other) =
+    apart-alike list script z (length one) (row ∷ one) (row_too ∷ other) runs
+    ∙ ap (λ slot. apart_after list script z slot (row_too ∷ other)) slots in
+    λ i. with_slot start (before i) (record { value = apart i; slot = slots i })
+
+-- so what is seen where frames carry zeros is what is seen by any legal numbers
+zeros-legal : (list : Medl) (script : Script) (numbers : Numbers) → IsValidScript list script
+    → IsLegalRun list script numbers
+    → AreRuns list script (zeros_world list script script.slots) (world list script numbers)
+zeros-legal list script numbers valid legal = record {
+  valid = valid;
+  first = zeros-run list script script.slots;
+  second = named-run list script numbers valid (legal-names list script numbers legal.legal);
+  slots = length-zeros_world list script script.slots ∙ sym (length-world list script numbers ∙ legal.count);
+}
+
+pub seen_of-zeros : (list : Medl) (script : Script) (z start : ℕ) (numbers : Numbers) → IsValidScript list script
+    → IsLegalRun list script numbers
+    → seen_in list script z start (zeros_world list script script.slots)
+    ≡ seen_in list script z start (world list script numbers)
+seen_of-zeros list script z start numbers valid legal =
+    seen_in-alike list script z start (zeros_world list script script.slots) (world list script numbers)
+    (zeros-legal list script numbers valid legal)

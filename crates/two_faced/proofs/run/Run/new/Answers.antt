@@ -1,0 +1,8 @@
+use Rattle.two_faced.proofs.run.Run.new.Goals as goal
+
+pub returns : goal.returns
+returns c = λ script. record {
+  same = c.in_ok-new.ensures.list;
+  plant = c.in_ok-new.ensures.stands script;
+  zeros = c.in_ok-all_zeros.ensures;
+}

@@ -1,0 +1,34 @@
+use Rattle.std.proofs.Common.{length, ap, ◌∙◌, arith}
+use Rattle.two_faced.proofs.ZerosRun.{length-all_zeros, length-zeros_world, may_step, plant_next}
+use Rattle.two_faced.proofs.run.Run.step.Goals as goal
+
+pub slot-requires-clause-slot : goal.slot-requires-clause-slot
+slot-requires-clause-slot c =
+    omega (
+      arith,
+      c.requires.stands.plant.slot,
+      length-zeros_world c.args.list.now c.args.script.now c.args.slot,
+      c.requires.slot,
+    )
+
+pub slot-requires-clause-count : goal.slot-requires-clause-count
+slot-requires-clause-count c =
+    ap length (c.as_slice.ensures ∙ c.requires.stands.zeros) ∙ length-all_zeros c.args.list.now
+
+pub slot-requires-clause-chosen : goal.slot-requires-clause-chosen
+slot-requires-clause-chosen c =
+    let stands = c.requires.stands in
+    may_step c.args.list.now c.args.script.now c.args.slot c.args.self.now.plant c.as_slice.result.now stands.same
+    (c.as_slice.ensures ∙ stands.zeros) stands.plant
+
+pub returns : goal.returns
+returns c =
+    let stands = c.requires.stands in
+    let same = c.slot.ensures.list ∙ stands.same in
+    record {
+      same = same;
+      plant =
+          plant_next c.args.list.now c.args.script.now c.args.slot c.args.self.now.plant c.slot.new.self
+          c.as_slice.result.now same (c.as_slice.ensures ∙ stands.zeros) c.slot.ensures.steps stands.plant;
+      zeros = stands.zeros;
+    }

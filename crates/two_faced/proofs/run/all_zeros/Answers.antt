@@ -1,0 +1,22 @@
+use Rattle.std.proofs.Common.{◌≡◌, ap, sym, ◌∙◌, ◌++◌, [], ◌∷◌, arith}
+use Rattle.std.specs.Prelude.{slice_get, Some}
+use Rattle.std.proofs.lemmas.List.FromFn.{map-range_with_len_more}
+use Rattle.two_faced.specs.ZerosRun.{zeros_chosen}
+use Rattle.two_faced.proofs.ZerosPayloads.{plan_payload, zeros_chosen-plan}
+use Rattle.two_faced.proofs.run.all_zeros.Goals as goal
+
+pub zeros-payload-requires : goal.zeros-payload-requires
+zeros-payload-requires c = plan_payload c.args.list.now c.from.result c.get.result.now c.requires c.get.ensures
+
+pub loop-node-preserved : goal.loop-node-preserved
+loop-node-preserved c =
+    let list = c.args.list.now in
+    let node = c.loop-node.node in
+    let plan = c.get.result.now in
+    let at : slice_get list.slots node ≡ Some plan = ap (slice_get list.slots) (sym c.from.ensures) ∙ c.get.ensures in
+    let new : record { number = 0; payload = c.zeros-payload.result }
+    ≡ zeros_chosen list node = zeros_chosen-plan list node plan c.zeros-payload.result at c.zeros-payload.ensures
+    in
+    c.in_ok-push.ensures.ok
+    ∙ (λ i. c.loop-node.invariant i ++ new i ∷ [])
+    ∙ sym (map-range_with_len_more (zeros_chosen list) 0 node node (omega arith))
