@@ -1,4 +1,0 @@
-pub mod Deliveries
-pub mod FirstNumbers
-pub mod Wrote
-pub mod RunAfter
