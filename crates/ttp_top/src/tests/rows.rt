@@ -2,7 +2,9 @@
 //! lines that its trace must have. Then scripts of which each has one fault.
 
 use super::HEAD;
-use super::texts::{DRIFT_HEAD, LOADED_HEAD, WIDE_HEAD, WINDOW_HEAD, answered, script_of};
+use super::texts::{
+    DRIFT_HEAD, LOADED_HEAD, ONE_BUFFER_HEAD, WIDE_HEAD, WINDOW_HEAD, answered, script_of,
+};
 use std::process::Abort;
 use std::sync::Wait;
 use std::test::Fail;
@@ -427,7 +429,7 @@ fn runs_with_equal_traces(rt: HostRuntime) -> Result<(), Fail> {
 
 #[test]
 fn scripts_that_are_refused(rt: HostRuntime) -> Result<(), Fail> {
-    let wrong: [(&str, &str); 27] = [
+    let wrong: [(&str, &str); 31] = [
         ("", "script: line 1 no slots\n"),
         ("# nothing\n\n", "script: line 3 no slots\n"),
         ("on 0 0\n", "script: line 1 no slots\n"),
@@ -461,15 +463,26 @@ fn scripts_that_are_refused(rt: HostRuntime) -> Result<(), Fail> {
         ("slots 20\narm 0 20\n", "script: line 2 range\n"),
         ("slots 20\narm 4 19\n", "script: line 2 no node\n"),
         ("slots 20\narm 0\n", "script: line 2 word\n"),
-        // Hosts are not built.
-        ("slots 20\nwrite 1 3 0102\n", "script: line 2 not built\n"),
-        ("slots 20\nread 1 3 status\n", "script: line 2 not built\n"),
+        // What hosts do.
         ("slots 20\nwrite 1 3\n", "script: line 2 word\n"),
+        ("slots 20\nwrite 0 3 0102\n", "script: line 2 no data\n"),
+        ("slots 20\nwrite 1 3 01\n", "script: line 2 range\n"),
+        ("slots 20\nwrite 1 3 zz01\n", "script: line 2 number\n"),
+        ("slots 20\nread 1 3 1\n", "script: line 2 range\n"),
+        ("slots 20\nread 0 3 2\n", "script: line 2 no data\n"),
+        (
+            "slots 20\nwrite 1 3 0102\nwrite 1 3 0102\n",
+            "script: line 3 too many\n",
+        ),
     ];
     for (script, line) in wrong {
         let (status, text) = answered(&rt, "run", HEAD, "FTSS", script)?;
         assert_eq!(rt; status, 4, "{script}");
         assert_eq!(rt; text.as_slice(), line.as_bytes(), "{script}");
     }
+    let script = "slots 20\nwrite 1 3 0102\n";
+    let (status, text) = answered(&rt, "run", ONE_BUFFER_HEAD, "FTSS", script)?;
+    assert_eq!(rt; status, 4);
+    assert_eq!(rt; text.as_slice(), b"script: line 2 no buffer\n".as_slice());
     Ok(())
 }
