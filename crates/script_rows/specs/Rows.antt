@@ -9,7 +9,7 @@ use Rattle.ttp_world.specs.declared.script.Script.{Script}
 use Rattle.script_text.specs.declared.error.LineFault.{LineFault}
 use Rattle.script_text.specs.declared.error.ScriptError.{ScriptError}
 use Rattle.script_text.specs.declared.error.ScriptError.TheVariants as errors
-use Rattle.script_text.specs.ScriptFile.{is_known, file_script, script_of}
+use Rattle.script_text.specs.ScriptFile.{script_of}
 
 -- a slot of a list of one round and one mode
 abbrev pub plain_slot : Kind → ℕ → Bool → SlotPlan
@@ -55,16 +55,9 @@ five_nodes = small_list 1 2 (bare_slot true ∷ bare_slot false ∷ full_slot 8 
 abbrev pub wide_list : Medl
 wide_list = small_list 2 2 (bare_slot true ∷ replicate 23 (bare_slot false))
 
--- what a text says where all forms of lines are read, and where those alone are that are built
-abbrev pub all_of : List ℕ → Result Script ScriptError
-all_of text = file_script is_known (four_nodes 2) text
-
-abbrev pub built_of : List ℕ → Result Script ScriptError
-built_of text = script_of (four_nodes 2) text
-
--- what a text says for five nodes where all forms are read
-abbrev pub five_of : List ℕ → Result Script ScriptError
-five_of text = file_script is_known five_nodes text
+-- what a text says for four nodes with two buffers
+abbrev pub told_by : List ℕ → Result Script ScriptError
+told_by text = script_of (four_nodes 2) text
 
 -- a line with a fault
 abbrev pub fault_at : ℕ → LineFault → Result Script ScriptError

@@ -260,10 +260,13 @@ stated_valid list script slots words form (event.Jump node value slot) says same
 stated_valid list script slots words form (event.Arm node slot) says same nodes range payload =
     event_valid list script slots words (event.Arm node slot) same refl nodes range
 stated_valid list script slots words form (event.Write node slot bytes) says same nodes range payload =
-    let both = and_parts (is_slot slots slot) (length (word_at words 3) == 2 * payload_size list node) range in
-    (leb-true _ _ nodes, rw same (leb-true _ _ both.0), leb-true _ _ payload,
-    rw (bytes_stated form words node slot bytes says)
-    (length-hex_bytes_in (payload_size list node) (word_at words 3) (grind (arith, nat_tests))))
+    let both = and_parts (is_slot slots slot) (length (word_at words 3) == 2 * payload_size list node) range in (
+      leb-true _ _ nodes,
+      rw same (leb-true _ _ both.0),
+      leb-true _ _ payload,
+      rw (bytes_stated form words node slot bytes says)
+          (length-hex_bytes_in (payload_size list node) (word_at words 3) (grind (arith, nat_tests))),
+    )
 stated_valid list script slots words form (event.Read node slot from) says same nodes range payload =
     let named = and_parts (is_node list node) (is_read_node (is_node list) from) nodes in
     let both = and_parts (is_slot slots slot) (is_read_node (λ k. not (k == node)) from) range in

@@ -10,7 +10,7 @@ pub enum LineFault {
     Word,
     /// The line is no `slots` line, and none came before.
     NoSlots,
-    /// The line has a form that can't be run. No line is told this: all forms are read.
+    /// The line has a form that can't be run yet. No line of a script is told this.
     NotBuilt,
     /// A number, a source or hexadecimal digits are due where something else stands.
     Number,

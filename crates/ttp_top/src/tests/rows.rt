@@ -2,7 +2,9 @@
 //! lines that its trace must have. Then scripts of which each has one fault.
 
 use super::HEAD;
-use super::texts::{DRIFT_HEAD, LOADED_HEAD, WIDE_HEAD, WINDOW_HEAD, answered, script_of};
+use super::texts::{
+    DRIFT_HEAD, LOADED_HEAD, ONE_BUFFER_HEAD, WIDE_HEAD, WINDOW_HEAD, answered, script_of,
+};
 use std::process::Abort;
 use std::sync::Wait;
 use std::test::Fail;
@@ -480,5 +482,9 @@ fn scripts_that_are_refused(rt: HostRuntime) -> Result<(), Fail> {
         assert_eq!(rt; status, 4, "{script}");
         assert_eq!(rt; text.as_slice(), line.as_bytes(), "{script}");
     }
+    let script = "slots 20\nwrite 1 3 0102\n";
+    let (status, text) = answered(&rt, "run", ONE_BUFFER_HEAD, "FTSS", script)?;
+    assert_eq!(rt; status, 4);
+    assert_eq!(rt; text.as_slice(), b"script: line 2 no buffer\n".as_slice());
     Ok(())
 }

@@ -18,6 +18,9 @@ pub(super) const NARROW_HEAD: &str =
 pub(super) const WINDOW_HEAD: &str =
     "version = 1\nrounds = 1\nschedule = 0\nbuffers = 2\ndrift = 0\nerror = 0\nwindow = 2\n";
 
+pub(super) const ONE_BUFFER_HEAD: &str =
+    "version = 1\nrounds = 1\nschedule = 0\nbuffers = 1\ndrift = 0\nerror = 0\nwindow = 1\n";
+
 pub(super) const LOADED_HEAD: &str =
     "version = 1\nrounds = 4\nschedule = 4660\nbuffers = 4\ndrift = 1\nerror = 2\nwindow = 64\n";
 

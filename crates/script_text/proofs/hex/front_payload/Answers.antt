@@ -1,7 +1,7 @@
-use Rattle.std.proofs.Common.{◌≡◌, ℕ, ◌+◌, ◌*◌, ◌++◌, List, true, false, get_or, take, drop, refl, arith, sym, ap, ◌∙◌}
+use Rattle.std.proofs.Common.{ℕ, ◌+◌, ◌*◌, ◌++◌, List, take, drop, refl, arith, sym, ap, ◌∙◌}
 use Rattle.std.proofs.lemmas.Bool.{false≢true}
 use Rattle.std.proofs.lemmas.List.{take_more_set, length-set, get_or-set_other}
-use Rattle.script_text.specs.Numbers.{is_hex, hex_bytes_in}
+use Rattle.script_text.specs.Numbers.{hex_bytes_in}
 use Rattle.script_text.proofs.HexDigits.{right_pair, pair_byte, wrong_high, wrong_low}
 use Rattle.script_text.proofs.Zeros.{get_or-zeros, zeros_behind}
 use Rattle.script_text.proofs.hex.front_payload.Goals as goal
@@ -17,10 +17,10 @@ returns-then-high-ge16 c =
     let size = c.args.size in
     let i = c.loop-i.i in
     elim c.then-high-ge16.branch [
-      then-high-ge16-via-then-high-ge16 w ↦ λ yes. false≢true
+      | then-high-ge16-via-then-high-ge16 w ↦ λ yes. false≢true
           (sym (wrong_high text size i c.digit_of-high.result c.digit_of-low.result c.requires.within (omega arith)
           c.digit_of-high.ensures c.digit_of-low.ensures (omega arith)) ∙ c.loop-i.invariant.digits ∙ yes)
-    | then-high-ge16-via-else-high-ge16+then-low-ge16 w ↦ λ yes. false≢true
+      | then-high-ge16-via-else-high-ge16+then-low-ge16 w ↦ λ yes. false≢true
           (sym (wrong_low text size i c.digit_of-high.result c.digit_of-low.result c.requires.within (omega arith)
           c.digit_of-high.ensures c.digit_of-low.ensures (omega arith) (omega arith)) ∙ c.loop-i.invariant.digits ∙ yes)
     ]
