@@ -1,5 +1,5 @@
 -- What is seen of clocks does not depend on the messages of frames.
-use Rattle.std.proofs.Common.{◌≡◌, ℕ, suc, ◌+◌, ◌<◌, ◌≤◌, ℤ, List, [], ◌∷◌, length, Option, Some, None, refl, ap, sym, ◌∙◌}
+use Rattle.std.proofs.Common.{◌≡◌, ℕ, ◌<◌, ℤ, List, [], ◌∷◌, length, Option, Some, None, refl, ap, sym, ◌∙◌}
 use Rattle.std.proofs.Common.{cond, not, ◌&&◌, arith}
 use Rattle.std.specs.Prelude.{◌==◌}
 use Rattle.std.specs.List.{filter_map, cons_option, AllByRecursion}
@@ -7,16 +7,15 @@ use Rattle.ttp_base.proofs.Below.{below-lt}
 use Rattle.ttp_world.specs.declared.medl.Medl.{Medl}
 use Rattle.ttp_world.specs.declared.script.Script.{Script}
 use Rattle.ttp_world.specs.Diary.{History}
-use Rattle.ttp_world.specs.Hypothesis.{nodes_of, start_of}
+use Rattle.ttp_world.specs.Hypothesis.{nodes_of}
 use Rattle.ttp_world.specs.Legal.{IsLegalRun}
 use Rattle.ttp_world.specs.Script.{IsValidScript, is_on}
-use Rattle.ttp_world.specs.World.{Numbers, node_past, world}
+use Rattle.ttp_world.specs.World.{Numbers, world}
 use Rattle.ttp_world.proofs.Worlds.{length-world}
-use Rattle.frame_fates.specs.Runs.{IsRun, AreRuns}
+use Rattle.frame_fates.specs.Runs.{AreRuns}
 use Rattle.frame_fates.proofs.NamedRuns.{named-run, legal-names}
 use Rattle.frame_fates.proofs.RunsAlike.{older, runs-clocks}
-use Rattle.two_faced.specs.declared.seen.Seen.{Seen}
-use Rattle.two_faced.specs.Seen.{clock_beside, apart_after, widest, with_slot, seen_in, seen_of, seen_since}
+use Rattle.two_faced.specs.Seen.{clock_beside, apart_after, widest, with_slot, seen_in}
 use Rattle.two_faced.specs.ZerosRun.{zeros_world}
 use Rattle.two_faced.proofs.ZerosRun.{length-zeros_world, zeros-run}
 

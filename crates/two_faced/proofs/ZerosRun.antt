@@ -1,5 +1,5 @@
 -- The run in which frames carry zeros: a plant takes it slot by slot, and it is a run of the world.
-use Rattle.std.proofs.Common.{◌≡◌, ℕ, zero, suc, ◌+◌, ◌<◌, List, ◌∷◌, length, refl, ap, sym, subst, ◌∙◌, add-one, arith}
+use Rattle.std.proofs.Common.{◌≡◌, ℕ, zero, suc, ◌+◌, List, length, refl, ap, sym, subst, ◌∙◌, add-one, arith}
 use Rattle.std.proofs.lemmas.List.{length-replicate}
 use Rattle.std.proofs.lemmas.List.FromFn.{get_or-map-range_with_len, length-map-range_with_len}
 use Rattle.ttp_world.specs.declared.medl.Medl.{Medl}
@@ -8,7 +8,7 @@ use Rattle.ttp_world.specs.declared.script.Script.{Script}
 use Rattle.ttp_world.specs.Diary.{History}
 use Rattle.ttp_world.specs.Medl.{plan_at}
 use Rattle.ttp_world.specs.Outgoing.{nothing_chosen}
-use Rattle.ttp_world.specs.World.{slot_after, chosen_of, step}
+use Rattle.ttp_world.specs.World.{slot_after, step}
 use Rattle.controller.specs.Passes.{AreChosen}
 use Rattle.controller.specs.PlantStands.{PlantStandsFor, MayStep, Steps}
 use Rattle.controller.specs.PlantView.{PlantView}

@@ -1,5 +1,5 @@
 -- A run in which every frame with payload carries message 0 of its node, the zeros.
-use Rattle.std.specs.Prelude.{◌≡◌, ℕ, zero, suc, List, [], ◌∷◌, map, length}
+use Rattle.std.specs.Prelude.{◌≡◌, ℕ, zero, suc, List, [], map, length}
 use Rattle.ttp_base.specs.NodeSet.{below}
 use Rattle.ttp_world.specs.declared.medl.Medl.{Medl}
 use Rattle.ttp_world.specs.declared.node.Chosen.{Chosen}

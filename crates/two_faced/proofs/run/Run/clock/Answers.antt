@@ -1,4 +1,4 @@
-use Rattle.std.proofs.Common.{◌≡◌, ◌≤◌, ◌^◌, ℤ, w64, FitsSigned, to_z, of_z, ap, sym, subst, ◌∙◌, rules, arith}
+use Rattle.std.proofs.Common.{◌≤◌, ◌^◌, ℤ, w64, FitsSigned, ap, sym, subst, ◌∙◌, rules, arith}
 use Rattle.std.specs.Prelude.{unsigned_abs}
 use Rattle.std.proofs.lemmas.Int.{to_z-of_z}
 use Rattle.ttp_world.specs.declared.medl.Medl.{Medl}
