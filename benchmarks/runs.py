@@ -8,32 +8,30 @@ from programs import TOP, rattle_program
 
 PROGRAM = os.path.join(TOP, "crates", "ttpbench", "out", "ttpbench")
 
-# It reads a list and a script, the script so many times more, then tests the hypothesis so many times, and then runs the
-# script so many times into a sink that takes the bytes away with no call of the system.
+# It reads a list and a script, the script so many times more, then tests the hypothesis so many times, and then runs
+# them so many times from memory, which reads and tests them each time, into a sink that takes the bytes away with no call
+# of the system.
 TIMED = """//! Reads, tests and runs a script without the writing: the words are the files of list and script, readings, tests, runs.
 #![tactic(auto)]
 ghost use Rattle.std.specs.Prelude.{◌≤◌, length};
 ghost use Rattle.ttp_world.specs.Medl.{IsValid};
-ghost use Rattle.ttp_world.specs.Script.{IsValidScript};
-ghost use Rattle.plant_run.specs.FirstNumbers.{IsUnhosted};
 
 use hypothesis::keeps;
 use medl_text::read_medl;
-use plant_run::put_run;
 use script_text::read_script;
 use std::alloc::Global;
 use std::io::Write;
 use std::process::ExitCode;
 use std::{env, fs, io};
-use ttp_base::StreamSink;
-use ttp_world::{Keep, Medl, Script};
+use ttp_base::{List, MemoryLibrary, OpenGate, StreamSink};
+use ttp_top::bench;
+use ttp_world::{Keep, Medl};
 
-// How many times each part is done.
+// How many times the script is read, and tested.
 #[derive(Clone, Copy)]
 struct Times {
     readings: u32,
     tests: u32,
-    runs: u32,
 }
 
 fn main(rt: HostRuntime) -> ExitCode {
@@ -58,20 +56,25 @@ fn work(rt: &HostRuntime) -> io::Result<bool> {
     let Ok(runs) = words[4].as_str().parse::<u32>() else {
         return Ok(false);
     };
-    let times = Times { readings, tests, runs };
-    let list = fs::read(rt, words[0].as_str())?;
+    let times = Times { readings, tests };
+    let bytes = fs::read(rt, words[0].as_str())?;
     let text = fs::read(rt, words[1].as_str())?;
-    let Ok(list) = read_medl(rt.alloc(), &list) else {
+    let Ok(list) = read_medl(rt.alloc(), &bytes) else {
         return Ok(false);
     };
-    if text.len() > 1_048_576 {
+    if text.len() > 1_048_576 || !is_done(rt.alloc(), &list, &text, times) {
         return Ok(false);
     }
-    Ok(is_done(rt.alloc(), &list, &text, times))
+    for _ in 0..runs {
+        if !is_run(rt, &bytes, &text)? {
+            return Ok(false);
+        }
+    }
+    Ok(true)
 }
 
-// Reads the script once and so many times more, tests it and runs it so many times; whether all was
-// done, and the script keeps the hypothesis if it was tested.
+// Reads the script once and so many times more, and tests it so many times; whether all was done, and the
+// script keeps the hypothesis if it was tested.
 fn is_done(alloc: Global, list: &Medl, text: &[u8], times: Times) -> bool
     requires valid { IsValid list.now }
     requires size { length text.now ≤ 1048576 }
@@ -89,32 +92,32 @@ fn is_done(alloc: Global, list: &Medl, text: &[u8], times: Times) -> bool
             return false;
         }
     }
-    for _ in 0..times.runs {
-        if !is_run(alloc, list, &script) {
-            return false;
-        }
-    }
     true
 }
 
-// Whether a script is run to its end. Behind the writer's type no compiler sees that the bytes are
+// Whether list and script are run to the end. Behind the writer's type no compiler sees that the bytes are
 // not used, and so spares their making.
-fn is_run(alloc: Global, list: &Medl, script: &Script) -> bool
-    requires valid { IsValid list.now }
-    requires script { IsValidScript list.now script.now }
-    requires hosts { IsUnhosted script.now }
-{
+fn is_run(rt: &HostRuntime, list: &[u8], text: &[u8]) -> io::Result<bool> {
+    let mut library = MemoryLibrary::new(rt.alloc(), List::new(rt.alloc()));
+    if library.add("list", list).is_err() || library.add("script", text).is_err() {
+        return Ok(false);
+    }
+    let mut words = Vec::new(rt.alloc());
+    for word in ["run", "list", "script"] {
+        words.push(String::from_str(rt.alloc(), word)?)?;
+    }
     let mut nowhere = io::sink();
     let writer: &mut dyn Write = &mut nowhere;
     let mut out = StreamSink::new(writer);
-    put_run(alloc, list, script, &mut out).is_ok()
+    let gate = OpenGate::new();
+    Ok(bench(rt, rt.alloc(), &words, &mut library, &mut out, &gate, &mut None) == 0)
 }
 """
 
 
 def timing_program(folder):
     """The program above, built over a copy of the crates below it."""
-    return rattle_program(folder, "run_speed", "ttp_base ttp_world medl_text script_text hypothesis plant_run", TIMED)
+    return rattle_program(folder, "run_speed", "ttp_base ttp_world medl_text script_text hypothesis ttp_top", TIMED)
 
 
 def list_text(kinds, data, *, drift=0, error=0, window=1, schedule=0, starters=(0,)):
