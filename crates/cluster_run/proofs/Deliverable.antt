@@ -1,17 +1,10 @@
 -- What a node delivers came from another node, which sends payload, and is as long as the list gives that node.
-use Rattle.std.proofs.Common.{◌≡◌, ◌≢◌, ℕ, ◌+◌, ◌<◌, ◌≤◌, ℤ, Bool, true, false, cond, ◌&&◌, not, List}
-use Rattle.std.proofs.Common.{length, drop, Option, Some, None, IfSome, refl, sym, ap, subst, ◌∙◌, arith}
-use Rattle.std.specs.Prelude.{◌==◌}
-use Rattle.std.proofs.lemmas.Bool.{cond_both, and_parts, eqb-true, true≢false}
-use Rattle.std.proofs.lemmas.Bool.Decides.{nat_tests}
-use Rattle.std.proofs.lemmas.List.{length-take, length-drop}
+use Rattle.std.proofs.Common.{◌≡◌, ◌≢◌, ℕ, ◌<◌, ◌≤◌, ℤ, true, List}
+use Rattle.std.proofs.Common.{length, Option, Some, None, IfSome, refl, sym, subst, ◌∙◌}
+use Rattle.std.proofs.lemmas.Bool.{cond_both}
 use Rattle.ttp_world.specs.declared.medl.Medl.{Medl}
-use Rattle.ttp_world.specs.declared.node.Ack.{Ack}
-use Rattle.ttp_world.specs.declared.node.Ack.TheVariants as ack
 use Rattle.ttp_world.specs.declared.node.Act.{Act}
 use Rattle.ttp_world.specs.declared.node.Act.TheVariants.{Off, Gone, Listen, Start, Retry, Leave, Send, Judge}
-use Rattle.ttp_world.specs.declared.node.ChannelView.{ChannelView}
-use Rattle.ttp_world.specs.declared.node.ChannelView.TheVariants as view
 use Rattle.ttp_world.specs.declared.node.Chosen.{Chosen}
 use Rattle.ttp_world.specs.declared.node.CState.{CState}
 use Rattle.ttp_world.specs.declared.node.Delivered.{Delivered}
@@ -22,14 +15,12 @@ use Rattle.ttp_world.specs.declared.node.Verdict.TheVariants as verdict
 use Rattle.ttp_world.specs.declared.script.Script.{Script}
 use Rattle.ttp_world.specs.Act.{coming_place}
 use Rattle.ttp_world.specs.Conduct.{carries_payload, delivery, new_entry, payload_taken, verdict_entry}
-use Rattle.ttp_world.specs.Diary.{History, Place}
-use Rattle.ttp_world.specs.Fitting.{carried_length, is_formed, joinable, payload_in}
-use Rattle.ttp_world.specs.Medium.{Signal, Silence, Noise, Bits}
-use Rattle.ttp_world.specs.Medl.{is_bare, kind_at, member_width, payload_length, plan_at}
+use Rattle.ttp_world.specs.Diary.{History}
+use Rattle.ttp_world.specs.Fitting.{joinable}
+use Rattle.ttp_world.specs.Medl.{plan_at}
 use Rattle.ttp_world.specs.Past.{NodePast}
-use Rattle.ttp_world.specs.Reception.{Expected, Hearing, better_view, expected_header, expected_length, expected_of}
-use Rattle.ttp_world.specs.Reception.{is_expected_form, is_first_view, is_taken_from_a, is_within_window, payload_heard}
-use Rattle.ttp_world.specs.Reception.{verdict_of, verdict_of_view, view_of, view_of_frame}
+use Rattle.ttp_world.specs.Reception.{Hearing, expected_length, expected_of}
+use Rattle.ttp_world.specs.Reception.{verdict_of, view_of}
 use Rattle.ttp_world.specs.Script.{is_armed, is_on}
 use Rattle.ttp_world.specs.World.{BegunNode, chosen_of, frames_in, hearing_in, is_loaded, node_after, node_of}
 use Rattle.ttp_world.specs.World.{node_past, sends_payload, slot_after}

@@ -1,5 +1,5 @@
 -- The report of a slot may be written, and its text is the slot's of the trace.
-use Rattle.std.proofs.Common.{◌≡◌, ℕ, zero, suc, ◌+◌, ◌<◌, ◌≤◌, List, [], ◌∷◌, ◌++◌, All, length, map, get_or}
+use Rattle.std.proofs.Common.{◌≡◌, ℕ, zero, suc, ◌+◌, List, [], ◌∷◌, ◌++◌, All, length, map, get_or}
 use Rattle.std.proofs.Common.{count_by, refl, sym, ap, ◌∙◌, subst, append_assoc, arith}
 use Rattle.std.specs.Prelude.{◌==◌}
 use Rattle.std.specs.List.{AllByRecursion, range_with_len}
@@ -15,7 +15,7 @@ use Rattle.ttp_world.specs.declared.script.Source.{Source}
 use Rattle.ttp_world.specs.declared.script.Source.TheVariants as source
 use Rattle.ttp_world.specs.Diary.{History}
 use Rattle.ttp_world.specs.Legal.{IsLegal, ReadMessage, read_messages}
-use Rattle.ttp_world.specs.Medl.{IsValid, node_limit}
+use Rattle.ttp_world.specs.Medl.{IsValid}
 use Rattle.ttp_world.specs.Messages.{ring_messages}
 use Rattle.ttp_world.specs.Script.{HostWrite, IsSource, IsValidScript, writes_in, reads_in}
 use Rattle.ttp_world.specs.Trace.{node_line_of, write_line, more_write_lines, read_line, slot_lines}
@@ -24,7 +24,6 @@ use Rattle.ttp_world.specs.World.{Numbers, SlotNumbers, world}
 use Rattle.ttp_world.proofs.HostPayloads.{HasRead, IsMessageOf, messages_read}
 use Rattle.ttp_world.proofs.Worlds.{length-world}
 use Rattle.host_port.specs.declared.report.NodeLine.{NodeLine}
-use Rattle.host_port.specs.declared.report.ReadLine.{ReadLine}
 use Rattle.host_port.specs.declared.report.SlotReport.{SlotReport}
 use Rattle.trace_text.specs.HostLines.{HasWords, bytes_in, message_in, message_line}
 use Rattle.trace_text.specs.LineParts.{HasDigits}
@@ -139,7 +138,7 @@ tells_next cluster numbers valid valid_script bytes next legal =
     let row = next_row list script new numbers in
     let shows = next.shows in
     let reads : AllByRecursion (HasRead list script (row ∷ before))
-        (read_messages (reads_in script (length before)) new.read) =
+    (read_messages (reads_in script (length before)) new.read) =
     subst (λ n. AllByRecursion (HasRead list script (row ∷ before)) (read_messages (reads_in script n) new.read))
     (sym (length-world list script numbers))
     (messages_read list script new numbers (next.legal legal)

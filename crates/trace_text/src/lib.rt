@@ -7,6 +7,8 @@
 //! `message_line` of this crate, which are those of the definition of a trace; which state and which
 //! message a line shows, and which answer the last line does, is the caller's.
 //!
+//! [`put_slot`] writes all lines of a slot from its report.
+//!
 //! [`read_line`] goes the other way: it gives the value whose line some bytes are, `text_of` of
 //! `specs/TraceLines.antt`. It asks of a line what its form does, and not whether it belongs into a trace.
 //!
