@@ -270,7 +270,7 @@ no_fault_fell plan before now loads answer (inl a) = omega (arith, a.1.2.text.wr
 no_fault_fell plan before now loads answer (inr (inl b)) = omega (arith, b.1.2.text.wrote.quiet)
 no_fault_fell plan before now loads answer (inr (inr (inl c))) = c.1.1.2.cut.count
 no_fault_fell plan before now loads answer (inr (inr (inr d))) =
-    elim d.1.1.1 [ | inl none ↦ omega (arith, none.quiet) | inr some ↦ omega (arith, some.2.wrote.quiet) ]
+    elim d.1.1.1 [ inl none ↦ omega (arith, none.quiet) | inr some ↦ omega (arith, some.2.wrote.quiet) ]
 
 -- the texts of what is due are made of lines
 unloaded_has : (form : Option Form) (before now : Outside) (loads : List Load) (ending : Ending)

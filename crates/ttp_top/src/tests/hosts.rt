@@ -37,7 +37,10 @@ fn ran<R: Threads + Wait + Sync + AllocGlobal>(
 
 // The trace of the exchange with these lines of nodes in its slot, and this line of the read.
 fn exchange<R: AllocGlobal>(rt: &R, nodes: &[&str], read: &str) -> Result<String, Fail> {
-    let mut trace = joined(rt, &["ttpbench trace 1 nodes 5 rounds 1 slots 20 schedule 000000\n"])?;
+    let mut trace = joined(
+        rt,
+        &["ttpbench trace 1 nodes 5 rounds 1 slots 20 schedule 000000\n"],
+    )?;
     for lines in [
         FAULT_FREE.get(1..61).ok_or("few lines")?,
         &BEFORE,

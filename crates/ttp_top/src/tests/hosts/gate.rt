@@ -109,7 +109,10 @@ impl Holds {
 fn controllers_and_hosts_run_at_once(rt: HostRuntime) -> Result<(), Fail> {
     let mut library = MemoryLibrary::new(rt.alloc(), List::new(rt.alloc()));
     library.add("list", list_of(&rt, HEAD, "FSSSS")?.as_bytes())?;
-    library.add("script", script_of(&rt, "slots 15\n", 5, "read 1 11 status\n")?.as_bytes())?;
+    library.add(
+        "script",
+        script_of(&rt, "slots 15\n", 5, "read 1 11 status\n")?.as_bytes(),
+    )?;
     let mut words = Vec::new(rt.alloc());
     for word in ["run", "list", "script"] {
         words.push(joined(&rt, &[word])?)?;
@@ -117,7 +120,15 @@ fn controllers_and_hosts_run_at_once(rt: HostRuntime) -> Result<(), Fail> {
     let mut out = MemorySink::new(rt.alloc(), 10_000, List::new(rt.alloc()))?;
     let gate = Holds::new();
     let mut kept = None;
-    let status = bench(&rt, rt.alloc(), &words, &mut library, &mut out, &gate, &mut kept);
+    let status = bench(
+        &rt,
+        rt.alloc(),
+        &words,
+        &mut library,
+        &mut out,
+        &gate,
+        &mut kept,
+    );
     assert_eq!(rt; status, 0);
     assert!(rt; is_polled(&rt, out.bytes())?);
     assert!(rt; gate.passed());
@@ -129,7 +140,15 @@ fn controllers_and_hosts_run_at_once(rt: HostRuntime) -> Result<(), Fail> {
     assert!(rt; cluster.list().nodes() == 5 && cluster.script().on.len() == 5);
     assert!(rt; cluster.report().slot == 14 && cluster.report().nodes.len() == 5);
     words.clear();
-    let status = bench(&rt, rt.alloc(), &words, &mut library, &mut out, &gate, &mut kept);
+    let status = bench(
+        &rt,
+        rt.alloc(),
+        &words,
+        &mut library,
+        &mut out,
+        &gate,
+        &mut kept,
+    );
     assert!(rt; status == 2 && kept.is_none());
     Ok(())
 }

@@ -23,19 +23,20 @@ const LINES: [&str; 8] = [
 
 // What node 5's status shows by the slot of the round: flags, and the frames that it accepted. Nodes 0 and 3
 // have left.
-const FLAGS: [u32; 8] = [1, 17, 17, 1, 17, 41, 17, 145];
+const FLAGS: [u8; 8] = [1, 17, 17, 1, 17, 41, 17, 145];
 
-const ACCEPTED: [u32; 8] = [3, 4, 5, 5, 6, 1, 2, 3];
+const ACCEPTED: [u8; 8] = [3, 4, 5, 5, 6, 1, 2, 3];
 
 // Its status after a slot.
 fn status_after<R: AllocGlobal>(rt: &R, slot: u32) -> Result<String, Fail> {
     let in_round = slot % 8;
     let flags = FLAGS[in_round as usize];
-    let accepted = 256 * ACCEPTED[in_round as usize];
+    let accepted = 256 * u32::from(ACCEPTED[in_round as usize]);
     let time = slot.saturating_sub(16);
     let round = time / 8 % 4;
     Ok(format!(in rt.alloc();
-        "{slot:016x}{flags:016x}0000{time:04x}{round:02x}{in_round:02x}00f6{accepted:016x}")?)
+        "{slot:016x}{flags:016x}0000{time:04x}{round:02x}{in_round:02x}00f6{accepted:016x}"
+    )?)
 }
 
 // What node 1's frames carry: zeros until slot 105, then in turn the messages that its host wrote by slots
@@ -85,7 +86,8 @@ fn host_lines<R: AllocGlobal>(
     let words = status_after(rt, status.saturating_sub(1))?;
     let payload = message(rt, frames, number)?;
     Ok(format!(in rt.alloc();
-        "slot {slot} host 1 write {written}\nslot {slot} host 5 read status {status} {words}\nslot {slot} host 5 read 1 {number} {payload}\n")?)
+        "slot {slot} host 1 write {written}\nslot {slot} host 5 read status {status} {words}\nslot {slot} host 5 read 1 {number} {payload}\n"
+    )?)
 }
 
 // Whether the host lines of a slot are legal: the status before it or of it, and of node 1 the newest message
@@ -141,7 +143,10 @@ fn hosts_of_a_loaded_cluster(rt: HostRuntime) -> Result<(), Fail> {
         return Err(Fail::from("node 1's frame in slot 113"));
     };
     for slot in 100..120u32 {
-        assert!(rt; are_legal(&rt, text, Frames { early, late }, slot)?, "slot {slot}");
+        assert!(rt;
+            are_legal(&rt, text, Frames { early, late }, slot)?,
+            "slot {slot}"
+        );
     }
     // With a sink whose third write fails the first two lines are written.
     let (status, written) = answer_files(&rt, &words, files.0, files.1, 0, 3)?;
