@@ -27,7 +27,8 @@ is_some-and : {X : Type 0} (P : X → Type 0) (x : Option X) → IsSomeAnd x P �
 is_some-and P None is = absurd is
 is_some-and P (Some x) is = refl
 
-list_none : (form : Option Form) (fault : FileFault) → (is_run form && false) ≡ false → KeepsRuns form (refused_list fault)
+list_none : (form : Option Form) (fault : FileFault) → (is_run form && false) ≡ false
+    → KeepsRuns form (refused_list fault)
 list_none form fault never = λ lines kept none. ap is_some none ∙ sym never
 
 script_none : (form : Option Form) (fault : FileFault) → (is_run form && false) ≡ false
@@ -76,8 +77,8 @@ plans_let (Some (run list script)) =
     both_end (LetsNothing (Some (run list script))) (λ fault other. refl) (λ fault other. refl) list script trace_ending
     (λ medl right other. absurd (cc))
 plans_let (Some (keeps list script)) =
-    both_end (LetsNothing (Some (keeps list script))) (λ fault other. refl) (λ fault other. refl) list script keep_ending
-    (λ medl right other. refl)
+    both_end (LetsNothing (Some (keeps list script))) (λ fault other. refl) (λ fault other. refl) list script
+    keep_ending (λ medl right other. refl)
 plans_let (Some (precision list script node)) =
     both_end (LetsNothing (Some (precision list script node))) (λ fault other. refl) (λ fault other. refl) list script
     (precision_ending node) (λ medl right other. refl)

@@ -303,7 +303,9 @@ gave_lines form before now loads answer (inr (inr (inl c))) =
     record {
       pieces = k.cut.whole;
       given = k.cut.given;
-      lines = lines_front k.cut.whole (k.cut.next ∷ k.cut.rest) (subst AreLines k.cut.text (have.texts k.lines k.among));
+      lines =
+          lines_front k.cut.whole (k.cut.next ∷ k.cut.rest)
+          (subst AreLines k.cut.text (have.texts k.lines k.among));
     }
 gave_lines form before now loads answer (inr (inr (inr d))) =
     elim d.1.1.1 [

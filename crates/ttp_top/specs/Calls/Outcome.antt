@@ -6,8 +6,8 @@ use Rattle.ttp_top.specs.Calls.Answer.{Answer, IsKeptBeside}
 use Rattle.ttp_top.specs.Calls.Plan.{Outside, outside, Ending, File, Plan, ends, asks, unloaded}
 use Rattle.ttp_top.specs.Calls.Texts.{Texts, nothing, WroteAmong, CutAmong}
 
--- this ending was shown: its status was answered, one of its texts was written, a piece a line, and what belongs to that
--- text was kept
+-- this ending was shown: its status was answered, one of its texts was written, a piece a line, and what belongs to
+-- that text was kept
 pub record Showed (ending : Ending) (before now : Output) (answer : Answer) : Type 0 where
   pub status : answer.status ≡ ending.status
   pub text : WroteAmong ending.texts before now

@@ -6,8 +6,12 @@ use Rattle.ttp_top.proofs.run.show_trace.Goals as goal
 
 pub returns-in_default : goal.returns-in_default
 returns-in_default g c =
-    let text = record { lines = []; among = inl refl; wrote = Wrote-none (g.K.Sink.output c.args.out.now) } in
-    rw c.requires.none (inr (record { status = refl; text = text; none = refl }))
+    rw c.requires.none
+    (inr (record {
+      status = refl;
+      text = record { lines = []; among = inl refl; wrote = Wrote-none (g.K.Sink.output c.args.out.now) };
+      none = refl;
+    }))
 
 pub returns-then-status-eq0 : goal.returns-then-status-eq0
 returns-then-status-eq0 g c =
