@@ -1,16 +1,13 @@
 -- A call keeps a cluster exactly after status 0 of `run`, and only `run` leaves lines where memory is refused.
-use Rattle.std.proofs.Common.{◌≡◌, ◌≢◌, ℕ, Bool, true, false, ◌&&◌, List, [], Option, Some, None, refl, ap, sym, ◌∙◌}
+use Rattle.std.proofs.Common.{◌≡◌, ◌≢◌, Bool, true, false, ◌&&◌, Option, Some, None, refl, ap, sym, ◌∙◌}
 use Rattle.std.specs.Prelude.{◌==◌, is_some, IsSomeAnd}
 use Rattle.std.proofs.lemmas.Bool.{ne_eqb}
 use Rattle.ttp_base.specs.Text.{Lines}
-use Rattle.ttp_world.specs.declared.medl.Medl.{Medl}
-use Rattle.ttp_world.specs.declared.script.Script.{Script}
 use Rattle.cluster_run.specs.Standing.{ClusterView}
-use Rattle.medl_text.specs.Schedule.{slot_table}
 use Rattle.ttp_top.specs.declared.read.FileFault.{FileFault}
 use Rattle.ttp_top.specs.Calls.Answer.{Answer, IsKeptBeside}
 use Rattle.ttp_top.specs.Calls.Files.{refused_list, refused_script}
-use Rattle.ttp_top.specs.Calls.Forms.{usage_ending, table_ending, trace_ending, keep_ending, precision_ending, plan_of}
+use Rattle.ttp_top.specs.Calls.Forms.{table_ending, trace_ending, keep_ending, precision_ending, plan_of}
 use Rattle.ttp_top.specs.Calls.Plan.{Ending, ends}
 use Rattle.ttp_top.specs.Calls.Texts.{nothing}
 use Rattle.ttp_top.specs.Calls.Words.{Form, schedule, run, keeps, precision, is_run}

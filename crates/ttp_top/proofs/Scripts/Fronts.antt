@@ -1,6 +1,6 @@
 -- The lines of a run's first slots begin one of its traces.
 use Rattle.std.proofs.Common.{◌≡◌, ℕ, zero, suc, ◌+◌, ◌-◌, ◌≤◌, List, [], ◌∷◌, ◌++◌, length, drop, refl, ap, sym, ◌∙◌}
-use Rattle.std.proofs.Common.{append_assoc, append-nil, subst, arith, inl, inr}
+use Rattle.std.proofs.Common.{append_assoc, append-nil, subst, arith, inr}
 use Rattle.ttp_base.specs.Outside.{Output, WroteLines, CutShort}
 use Rattle.ttp_base.specs.Text.{Lines}
 use Rattle.ttp_base.proofs.Outputs.{CutShort-more}
@@ -11,7 +11,7 @@ use Rattle.ttp_world.specs.Legal.{IsLegal, IsLegalRun}
 use Rattle.ttp_world.specs.Medl.{IsValid}
 use Rattle.ttp_world.specs.Script.{IsValidScript}
 use Rattle.ttp_world.specs.Trace.{trace_head, slot_lines, history_lines, run_lines, trace_lines, keep_line}
-use Rattle.ttp_world.specs.World.{SlotNumbers, Numbers, world}
+use Rattle.ttp_world.specs.World.{Numbers, world}
 use Rattle.ttp_world.proofs.LegalRuns.{legal-whole}
 use Rattle.cluster_run.specs.NextSlots.{next_row}
 use Rattle.ttp_top.specs.Calls.Texts.{fronts, traces, IsTrace, IsFront, WroteAmong, CutAmong}

@@ -1,7 +1,6 @@
 -- What the lines of a slot add to those that were written.
-use Rattle.std.proofs.Common.{◌≡◌, ℕ, ◌+◌, ◌<◌, ◌≤◌, List, [], ◌∷◌, ◌++◌, length, refl, sym, subst, ◌∙◌, arith}
+use Rattle.std.proofs.Common.{◌≡◌, ◌+◌, ◌<◌, ◌≤◌, [], ◌∷◌, sym, subst, arith}
 use Rattle.ttp_base.specs.Outside.{Output, WroteLines, CutShort}
-use Rattle.ttp_base.specs.Text.{Lines}
 use Rattle.ttp_base.proofs.Outputs.{Wrote-join, CutShort-after}
 use Rattle.ttp_world.specs.declared.medl.Medl.{Medl}
 use Rattle.ttp_world.specs.declared.script.Script.{Script}
@@ -15,12 +14,12 @@ use Rattle.trace_text.specs.ReportText.{report_lines}
 use Rattle.cluster_run.specs.Choosing.{AreBytesBefore}
 use Rattle.cluster_run.specs.NextSlots.{next_row}
 use Rattle.cluster_run.specs.Report.{numbers_in}
-use Rattle.cluster_run.specs.Slots.{Steps, IsNext}
+use Rattle.cluster_run.specs.Slots.{Steps}
 use Rattle.cluster_run.specs.Standing.{ClusterView, ClusterStandsFor}
 use Rattle.cluster_run.specs.Texts.{TellsNext}
 use Rattle.cluster_run.proofs.ReportTexts.{tells_next}
 use Rattle.ttp_top.specs.Calls.Texts.{fronts, traces, WroteAmong, CutAmong}
-use Rattle.ttp_top.specs.Scripts.Written.{StandsLegally, HasWritten}
+use Rattle.ttp_top.specs.Scripts.Written.{HasWritten}
 use Rattle.ttp_top.proofs.Scripts.Fronts.{wrote_front, cut_in}
 
 -- a cluster did a slot, and the list and the script are as they were

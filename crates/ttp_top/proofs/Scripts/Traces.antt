@@ -12,9 +12,9 @@ use Rattle.ttp_world.specs.Trace.{run_lines, trace_lines, keep_line}
 use Rattle.ttp_world.specs.TraceNumbers.{numbers_in}
 use Rattle.ttp_world.specs.World.{Numbers}
 use Rattle.ttp_world.proofs.TraceNumbers.{numbers_in-trace}
-use Rattle.cluster_run.specs.Standing.{ClusterView, ClusterStandsFor}
+use Rattle.cluster_run.specs.Standing.{ClusterView}
 use Rattle.ttp_top.specs.declared.trace.RunFault.TheVariants as fault
-use Rattle.ttp_top.specs.Calls.Answer.{Answer, answer, alone, HasRun}
+use Rattle.ttp_top.specs.Calls.Answer.{answer, alone, HasRun}
 use Rattle.ttp_top.specs.Calls.Forms.{trace_ending, keep_ending}
 use Rattle.ttp_top.specs.Calls.Outcome.{Says, Shows}
 use Rattle.ttp_top.specs.Scripts.Written.{HasWritten, Leaves}

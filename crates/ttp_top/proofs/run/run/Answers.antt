@@ -1,4 +1,4 @@
-use Rattle.std.proofs.Common.{refl, sym, ap, subst}
+use Rattle.std.proofs.Common.{refl}
 use Rattle.ttp_top.specs.Calls.Answer.{answer}
 use Rattle.ttp_top.specs.Calls.Forms.{trace_ending}
 use Rattle.ttp_top.specs.Calls.Plan.{outside, ends}
