@@ -27,7 +27,8 @@ use Rattle.host_port.specs.declared.report.NodeLine.{NodeLine}
 use Rattle.host_port.specs.declared.report.SlotReport.{SlotReport}
 use Rattle.trace_text.specs.HostLines.{HasWords, bytes_in, message_in, message_line}
 use Rattle.trace_text.specs.LineParts.{HasDigits}
-use Rattle.trace_text.specs.ReportText.{HasMessage, IsListed, node_texts, write_text, payload_size, read_text, report_lines}
+use Rattle.trace_text.specs.ReportText.{HasMessage, IsListed, node_texts, payload_size, read_text, report_lines}
+use Rattle.trace_text.specs.ReportText.{write_text}
 use Rattle.trace_text.proofs.MemberDigits.{state_of-digits}
 use Rattle.trace_text.proofs.PayloadWords.{words_tell}
 use Rattle.cluster_run.specs.Choosing.{AreBytesBefore}
@@ -102,7 +103,9 @@ words_of : (list : Medl) (from : Source) (message : List ℕ) → IsValid list �
 words_of list source.Status message valid is = is
 words_of list (source.Node p) message valid is = (
   plan_few list p valid,
-  length-map (below (word_count (length message))) _ ∙ length-range_with_len 0 (word_count (length message)) ∙ ap word_count is.1,
+  length-map (below (word_count (length message))) _
+      ∙ length-range_with_len 0 (word_count (length message))
+      ∙ ap word_count is.1,
 )
 
 reads_have : (list : Medl) (script : Script) (after : History) (rs : List ReadMessage) → IsValid list
@@ -121,7 +124,8 @@ reads_have list script after (r ∷ rs) valid are =
 nodes_have : (list : Medl) (script : Script) (row : List Entry) (before : History) (n : ℕ) → IsValid list
     → All (λ (line : NodeLine). HasDigits list line.state) (map (node_shown list script row before) (below n))
 nodes_have list script row before n valid =
-    All-from_recursion (λ (line : NodeLine). HasDigits list line.state) (map (node_shown list script row before) (below n))
+    All-from_recursion (λ (line : NodeLine). HasDigits list line.state)
+    (map (node_shown list script row before) (below n))
     (map_each-below (λ (line : NodeLine). HasDigits list line.state) (node_shown list script row before) n
     (λ k less. state_of-digits list script (row ∷ before) k valid))
 
@@ -155,6 +159,7 @@ tells_next cluster numbers valid valid_script bytes next legal =
       digits = subst (All (λ (line : NodeLine). HasDigits list line.state)) (sym shows.nodes)
           (nodes_have list script row before (length list.slots) valid);
       reads = subst (All (HasMessage list)) (sym shows.reads)
-          (reads_have list script (row ∷ before) (read_messages (reads_in script (length before)) new.read) valid reads);
+          (reads_have list script (row ∷ before) (read_messages (reads_in script (length before)) new.read) valid
+          reads);
       lines = report_told list script row before new report shows reads;
     }

@@ -21,7 +21,8 @@ pub WroteLines-next : (a b c : Output) (lines : Lines) (i : ℕ) (line : List �
     → get_or lines i line ≡ line → WroteLines a b (take i lines) → WroteLines b c (line ∷ [])
     → WroteLines a c (take (i + 1) lines)
 WroteLines-next a b c lines i line less is before more =
-    subst (WroteLines a c) (sym (next_line lines i line less is)) (Wrote-join a b c (take i lines) (line ∷ []) before more)
+    subst (WroteLines a c) (sym (next_line lines i line less is))
+    (Wrote-join a b c (take i lines) (line ∷ []) before more)
 
 pub CutShort-next : (a b c : Output) (lines : Lines) (i : ℕ) (line : List ℕ) → i < length lines
     → get_or lines i line ≡ line → WroteLines a b (take i lines) → CutShort b c (line ∷ []) → CutShort a c lines

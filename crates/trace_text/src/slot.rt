@@ -3,8 +3,8 @@ ghost use Rattle.std.specs.Prelude.{◌≡◌, ◌≤◌, [], ◌∷◌, length,
 ghost use Rattle.ttp_base.specs.Outside.{WroteLines, CutShort};
 ghost use Rattle.ttp_world.specs.Medl.{node_limit};
 ghost use Rattle.trace_text.specs.LineParts.{HasDigits};
-ghost use Rattle.trace_text.specs.ReportText.{node_texts, write_text, payload_size, read_text, host_lines, report_lines};
-ghost use Rattle.trace_text.specs.ReportText.{IsListed, HasMessage};
+ghost use Rattle.trace_text.specs.ReportText.{node_texts, write_text, payload_size, read_text, host_lines};
+ghost use Rattle.trace_text.specs.ReportText.{report_lines, IsListed, HasMessage};
 
 use crate::host_line::RingMessage;
 use crate::node_line::NodeLines;

@@ -1,5 +1,6 @@
 -- What nodes send and hear is bytes, where the payloads are, and so is what they deliver.
-use Rattle.std.proofs.Common.{◌≡◌, ℕ, zero, suc, ◌+◌, ◌-◌, ◌/◌, ◌%◌, ◌<◌, Bool, true, cond, List, [], ◌∷◌, ◌++◌, All, length}
+use Rattle.std.proofs.Common.{◌≡◌, ℕ, zero, suc, ◌+◌, ◌-◌, ◌/◌, ◌%◌, ◌<◌, Bool, true, cond, List, [], ◌∷◌, ◌++◌}
+use Rattle.std.proofs.Common.{All, length}
 use Rattle.std.proofs.Common.{get_or, Option, Some, None, IfSome, refl, sym, subst, arith, drop}
 use Rattle.std.specs.Prelude.{◌&&◌, nat_lt, map}
 use Rattle.std.specs.List.{flat_map, list_all}
@@ -167,7 +168,8 @@ combined-bytes script slot c [] are = tt
 combined-bytes script slot c (sent ∷ []) are =
     let bits = flipped_bits script sent.sender c slot in
     cond_both (has_send_fault script fault.Noise sent.sender c slot) Noise
-    (Bits sent.sender (flip_bits sent.bytes bits)) IsOfBytes (λ noisy. tt) (λ clear. flip_bits-bytes bits sent.bytes (All-head HoldsBytes sent [] are))
+    (Bits sent.sender (flip_bits sent.bytes bits)) IsOfBytes (λ noisy. tt)
+    (λ clear. flip_bits-bytes bits sent.bytes (All-head HoldsBytes sent [] are))
 combined-bytes script slot c (sent ∷ more ∷ others) are = tt
 
 with_noise-bytes : (noisy : Bool) (signal : Signal) → IsOfBytes signal → IsOfBytes (with_noise noisy signal)

@@ -6,7 +6,8 @@ use Rattle.std.specs.Prelude.{◌==◌, nat_le, map, replicate}
 use Rattle.std.specs.List.{AllByRecursion, list_all}
 use Rattle.std.proofs.lemmas.Bool.{and_parts, cond_both, eqb-true, leb-true}
 use Rattle.std.proofs.lemmas.List.{length-replicate}
-use Rattle.std.proofs.lemmas.List.Elements.{recursion_from_All, All-nil, All-cons, All-append, All-head, All-tail, All-replicate}
+use Rattle.std.proofs.lemmas.List.Elements.{All-nil, All-cons, All-append, All-head, All-tail, All-replicate}
+use Rattle.std.proofs.lemmas.List.Elements.{recursion_from_All}
 use Rattle.ttp_world.specs.declared.host_lines.HostRead.{HostRead}
 use Rattle.ttp_world.specs.declared.medl.Medl.{Medl}
 use Rattle.ttp_world.specs.declared.node.Chosen.{Chosen}

@@ -17,7 +17,8 @@ returns-in_err-put_node_line-clause-failed g c =
     let node = c.index-nodes-node.result in
     let line = listed_line list slot i node.state node.message in
     let is : get_or (node_texts list slot 0 nodes) i line ≡ line =
-    get_or-node_texts list slot 0 nodes i i node line c.loop-node-test.true (omega arith) (sym c.index-nodes-node.is) in
+    get_or-node_texts list slot 0 nodes i i node line c.loop-node-test.true (omega arith)
+    (sym c.index-nodes-node.is) in
     rw failed.1
     (CutShort-next (g.K.Sink.output c.args.out.now) (g.K.Sink.output c.loop-node.out)
     (g.K.Sink.output c.put_node_line.new.out) (node_texts list slot 0 nodes) i line
@@ -34,7 +35,8 @@ loop-node-preserved g c =
     let node = c.index-nodes-node.result in
     let line = listed_line list slot i node.state node.message in
     let is : get_or (node_texts list slot 0 nodes) i line ≡ line =
-    get_or-node_texts list slot 0 nodes i i node line c.loop-node-test.true (omega arith) (sym c.index-nodes-node.is) in (
+    get_or-node_texts list slot 0 nodes i i node line c.loop-node-test.true (omega arith)
+    (sym c.index-nodes-node.is) in (
       c.in_ok-put_node_line.ensures.slot ∙ c.loop-node.invariant.0,
       WroteLines-next (g.K.Sink.output c.args.out.now) (g.K.Sink.output c.loop-node.out)
           (g.K.Sink.output c.put_node_line.new.out) (node_texts list slot 0 nodes) i line

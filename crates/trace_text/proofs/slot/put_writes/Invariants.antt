@@ -6,4 +6,5 @@ use Rattle.trace_text.proofs.slot.put_writes.Given as goal
 -- the lines so far were written
 abbrev pub invariant-loop-write : goal.invariant-loop-write
 invariant-loop-write g l =
-    WroteLines (g.K.Sink.output l.fn.out) (g.K.Sink.output l.out) (take l.write-index (map (write_text l.slot) l.writes))
+    WroteLines (g.K.Sink.output l.fn.out) (g.K.Sink.output l.out)
+    (take l.write-index (map (write_text l.slot) l.writes))
