@@ -9,6 +9,8 @@ pub mod Kept
 pub mod Reading
 pub mod Told
 pub mod Sizes
+pub mod ValidEvents
 pub mod Valid
+pub mod RightFiles
 pub mod FieldWords
 pub mod RightLines

@@ -21,7 +21,8 @@ use Rattle.script_text.specs.ScriptFile.{errors_at, file_faults, end_faults, sta
 use Rattle.script_text.specs.ScriptFile.{stated_script, script_or_fault, lines_script, script_of}
 use Rattle.script_text.specs.SoFar.{StandsFor, HasNodes, TakesLine, RefusesLine, error_at}
 use Rattle.script_text.proofs.Sizes.{size_of, size-lines_of}
-use Rattle.script_text.proofs.Valid.{AreValid, AreValid-none, line_right, events_bounded}
+use Rattle.script_text.proofs.Valid.{AreValid, AreValid-none}
+use Rattle.script_text.proofs.RightFiles.{line_right, events_bounded}
 
 -- The lines so far have no fault, so that what is left decides; and what they state is kept.
 pub record IsReading (list : Medl) (text : List ℕ) (so_far : SoFar) (number : ℕ) (rest : List ℕ) : Type 0 where

@@ -186,7 +186,8 @@ impl SoFar {
           events = self.old.events ++ option_to_list (event_said (statement_of keyword.Write words.now));
           writes = self.new.writes;
         }) }
-        ensures writes { OnOk result (CountsMore self.old.writes self.new.writes (number_at words.now 1) (number_at words.now 2)) }
+        ensures writes { OnOk result
+            (CountsMore self.old.writes self.new.writes (number_at words.now 1) (number_at words.now 2)) }
         ensures err { IfErr result (RefusesWrite words.now list.now self.old) }
         ensures nodes { HasNodes list.now self.new }
     {

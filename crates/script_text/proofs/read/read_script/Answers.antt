@@ -1,5 +1,5 @@
 use Rattle.script_text.proofs.Reading.{script_of-read}
-use Rattle.script_text.proofs.Valid.{answer_valid}
+use Rattle.script_text.proofs.RightFiles.{answer_valid}
 use Rattle.script_text.proofs.read.read_script.Goals as goal
 
 pub returns : goal.returns

@@ -26,8 +26,9 @@ returns-clause-more c =
     record {
       nodes = same;
       counts = λ k t near.
-          rw c.place-place.ensures (counted grown.counts.items n node slot k t (c.index_mut.result.now + 1) (omega arith)
-          (omega arith) within (ap (λ (m : ℕ). m + 1) is))
+          rw c.place-place.ensures (
+          counted grown.counts.items n node slot k t (c.index_mut.result.now + 1) (omega arith) (omega arith) within
+          (ap (λ (m : ℕ). m + 1) is))
           ∙ ap (λ (m : ℕ). m + (if (node == k) && (slot == t) then 1 else 0))
           (c.grow.ensures.same (t * n + k) ∙ ap (λ (m : ℕ). get_or old.counts.items (t * m + k) 0) same);
     }
