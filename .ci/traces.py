@@ -1,0 +1,108 @@
+"""Traces, written and compared by the second reading of the rules."""
+
+import os
+import random
+import subprocess
+
+import rules
+
+PROGRAM = os.path.join(os.path.dirname(os.path.dirname(os.path.abspath(__file__))), "ttpbench")
+
+
+class Differs(Exception):
+    """The first line that no legal numbers give after the lines before it: its number, what was found, and what is legal."""
+
+
+class Compared:
+    """A text that is compared line by line."""
+
+    def __init__(self, text):
+        # What follows the last line feed is a line without one, if it is anything.
+        *self.lines, self.rest = text.split("\n")
+        self.at = 0
+
+    def found(self):
+        if self.at <= len(self.lines):
+            return repr(self.lines[self.at - 1])
+        return f"{self.rest!r} without a line feed" if self.rest else "no line"
+
+    def take(self, legal):
+        self.at += 1
+        if self.at > len(self.lines) or self.lines[self.at - 1] not in legal:
+            raise Differs(self.at, self.found(), [repr(line) for line in legal])
+        return self.lines[self.at - 1]
+
+    def end(self):
+        self.at += 1
+        if self.at <= len(self.lines) or self.rest:
+            raise Differs(self.at, self.found(), ["no line"])
+
+
+def compare(medl, script, text):
+    """Returns where the text is a trace of the script for some legal message numbers, and raises `Differs` elsewhere."""
+    compared = Compared(text)
+    rules.lines_of(medl, script, compared.take)
+    compared.end()
+
+
+def oldest(legal):
+    return legal[0]
+
+
+def newest(legal):
+    return legal[-1]
+
+
+def by_chance(seed):
+    return random.Random(seed).choice
+
+
+def trace(medl, script, choose):
+    """A trace in which each line is the one of the legal ones that is chosen."""
+    lines = []
+
+    def take(legal):
+        lines.append(choose(legal))
+        return lines[-1]
+
+    rules.lines_of(medl, script, take)
+    return "".join(f"{line}\n" for line in lines)
+
+
+def list_in(path):
+    with open(path, encoding="utf-8") as file:
+        return rules.List(file.read())
+
+
+def script_in(path):
+    with open(path, encoding="latin-1", newline="") as file:
+        return rules.Script(file.read())
+
+
+def text_in(path):
+    with open(path, encoding="latin-1", newline="") as file:
+        return file.read()
+
+
+def written(folder, name, text):
+    """The path of a file of this name in the folder, with this text."""
+    path = os.path.join(folder, name)
+    with open(path, "w", encoding="ascii") as file:
+        file.write(text)
+    return path
+
+
+def failure_of(program, folder, listed, told):
+    """What is wrong with the run of a script, given by its text, if something is; and what the program wrote."""
+    files = [written(folder, "cluster.toml", listed), written(folder, "run.script", told)]
+    ran = subprocess.run([program, "run", *files], capture_output=True, encoding="latin-1", check=False)
+    if ran.returncode != 0:
+        return f"status {ran.returncode}: {ran.stdout[-200:]}{ran.stderr[-200:]}", ran.stdout
+    medl, script = rules.List(listed), rules.Script(told)
+    try:
+        compare(medl, script, ran.stdout)
+    except Differs as differs:
+        line, found, legal = differs.args
+        return f"line {line}: found {found}, legal {', '.join(legal)}", ran.stdout
+    keeps = subprocess.run([program, "keeps", *files], capture_output=True, encoding="latin-1", check=False).stdout
+    return None if ran.stdout.endswith(keeps) and keeps else f"keeps writes {keeps!r}", ran.stdout
