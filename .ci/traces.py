@@ -45,6 +45,15 @@ def compare(medl, script, text):
     compared.end()
 
 
+def is_front(medl, script, text):
+    """Whether a text is some whole first lines of a trace, or none, or all."""
+    try:
+        compare(medl, script, text)
+    except Differs as differs:
+        return differs.args[0] == text.count("\n") + 1 and not text.rpartition("\n")[2]
+    return True
+
+
 def oldest(legal):
     return legal[0]
 
