@@ -582,6 +582,13 @@ def broken_by_forbidden_lines(medl, script):
     return min(slots, default=None)
 
 
+def start_of(medl, script):
+    """The slot in which the first starters are due, these starters, and whether all nodes are on by then."""
+    due = {k: on + 2 * medl.nodes + k for k, on in script.on.items() if medl.slots[k].start}
+    start = min(due.values(), default=None)
+    return start, [k for k in due if due[k] == start], start is not None and max(script.on.values()) <= start
+
+
 def losing_node(medl, script, t, sender, others):
     """The node that is to blame for a slot in which frames were lost: None, a node, or "nobody" where the rule breaks."""
     def is_lost(node):
@@ -606,10 +613,8 @@ def hypothesis_line(medl, script):
     slot = broken_by_forbidden_lines(medl, script)
     if slot is not None:
         return f"keeps no H3 {slot}"
-    due = {k: on + 2 * n + k for k, on in script.on.items() if medl.slots[k].start}
-    start = min(due.values(), default=None)
-    first = [k for k, slot in due.items() if slot == start]
-    if len(first) != 1 or any(on > start for on in script.on.values()):
+    start, first, is_in_time = start_of(medl, script)
+    if len(first) != 1 or not is_in_time:
         return "keeps no H4 0"
 
     faulty, faults, left_at = set(), [], {}
@@ -645,3 +650,49 @@ def hypothesis_line(medl, script):
         if not are_four_left(left_at[t]):
             return f"keeps no H7 {t}"
     return f"keeps yes start {start}"
+
+
+# One two-faced sender.
+
+
+def rule_broken_by_faced(medl, script, faced):
+    """The first rule that is broken where this node is to be the two-faced one, with its slot, or None."""
+    n = medl.nodes
+    bound = 12 * medl.drift * n + 6 * medl.error + 2
+    start, first, is_in_time = start_of(medl, script)
+    if faced >= n:
+        return 0, 0
+
+    def allowed(t):
+        is_turn = len(first) == 1 and t >= start + 2 * n and (first[0] + t - start) % n == faced
+        return max(medl.error, medl.window - bound) if is_turn else medl.error
+
+    if any(abs(value) > medl.drift for value in script.drift.values()):
+        return 1, 0
+    wide = [t for (_, t), value in script.errors.items() if abs(value) > allowed(t)]
+    if wide:
+        return 1, min(wide)
+    if medl.window < 12 * medl.drift * n + 7 * medl.error + 2:
+        return 2, 0
+    disturbed = [t for _, _, t in (*script.send, *script.receive, *script.flips)] + [t for _, t in script.jumps]
+    if disturbed:
+        return 3, min(disturbed)
+    if len(first) != 1 or not is_in_time:
+        return 4, 0
+    return (5, 0) if sum(medl.slots[k].sync for k in script.on) < 4 else None
+
+
+def precision_line(medl, script, faced):
+    """What `precision` writes of a node: how far apart the clocks of the others come."""
+    broken = rule_broken_by_faced(medl, script, faced)
+    if broken is not None:
+        return f"precision no F{broken[0]} {broken[1]}"
+    start, _, _ = start_of(medl, script)
+    cluster, seen, at = Cluster(medl), 0, start
+    for t in range(script.slots):
+        tell_slot(cluster, medl, script, t, lambda legal: legal[0])
+        clocks = [node.clock for node in cluster.nodes if node.phase != "off" and node.number != faced]
+        if t >= start and len(clocks) > 1 and max(clocks) - min(clocks) > seen:
+            seen, at = max(clocks) - min(clocks), t
+    bound = 12 * medl.drift * medl.nodes + 6 * medl.error + 2
+    return f"precision node {faced} start {start} bound {bound} seen {seen} slot {at}"

@@ -104,14 +104,26 @@ def written(folder, name, text):
 def failure_of(program, folder, listed, told):
     """What is wrong with the run of a script, given by its text, if something is; and what the program wrote."""
     files = [written(folder, "cluster.toml", listed), written(folder, "run.script", told)]
-    ran = subprocess.run([program, "run", *files], capture_output=True, encoding="latin-1", check=False)
-    if ran.returncode != 0:
-        return f"status {ran.returncode}: {ran.stdout[-200:]}{ran.stderr[-200:]}", ran.stdout
+
+    def ran(command, *more):
+        words = [program, command, *files, *more]
+        return subprocess.run(words, capture_output=True, encoding="latin-1", check=False)
+
     medl, script = rules.List(listed), rules.Script(told)
+    run = ran("run")
+    if run.returncode != 0:
+        return f"status {run.returncode}: {run.stdout[-200:]}{run.stderr[-200:]}", run.stdout
     try:
-        compare(medl, script, ran.stdout)
+        compare(medl, script, run.stdout)
     except Differs as differs:
         line, found, legal = differs.args
-        return f"line {line}: found {found}, legal {', '.join(legal)}", ran.stdout
-    keeps = subprocess.run([program, "keeps", *files], capture_output=True, encoding="latin-1", check=False).stdout
-    return None if ran.stdout.endswith(keeps) and keeps else f"keeps writes {keeps!r}", ran.stdout
+        return f"line {line}: found {found}, legal {', '.join(legal)}", run.stdout
+    right = {"keeps": rules.hypothesis_line(medl, script)}
+    for node in range(0, min(medl.nodes + 1, 24), 3):
+        right[f"precision {node}"] = rules.precision_line(medl, script, node)
+    for words, line in right.items():
+        command, *more = words.split()
+        answer = ran(command, *more).stdout
+        if answer != line + "\n":
+            return f"{words}: found {answer!r}, right is {line!r}", run.stdout
+    return None, run.stdout
