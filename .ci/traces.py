@@ -101,29 +101,33 @@ def written(folder, name, text):
     return path
 
 
-def failure_of(program, folder, listed, told):
-    """What is wrong with the run of a script, given by its text, if something is; and what the program wrote."""
-    files = [written(folder, "cluster.toml", listed), written(folder, "run.script", told)]
+def answer(program, words, files):
+    """How the program ends, by the words of a command with a list and a script behind the first one."""
+    command = [program, words[0], *files, *words[1:]]
+    return subprocess.run(command, capture_output=True, encoding="latin-1", check=False)
 
-    def ran(command, *more):
-        words = [program, command, *files, *more]
-        return subprocess.run(words, capture_output=True, encoding="latin-1", check=False)
 
-    medl, script = rules.List(listed), rules.Script(told)
-    run = ran("run")
+def fault_of_run(program, files):
+    """What is wrong with the run of a script for a list, if something is; and what the program wrote."""
+    run = answer(program, ["run"], files)
     if run.returncode != 0:
         return f"status {run.returncode}: {run.stdout[-200:]}{run.stderr[-200:]}", run.stdout
     try:
-        compare(medl, script, run.stdout)
+        compare(list_in(files[0]), script_in(files[1]), run.stdout)
     except Differs as differs:
         line, found, legal = differs.args
         return f"line {line}: found {found}, legal {', '.join(legal)}", run.stdout
-    right = {"keeps": rules.hypothesis_line(medl, script)}
-    for node in range(0, min(medl.nodes + 1, 24), 3):
-        right[f"precision {node}"] = rules.precision_line(medl, script, node)
-    for words, line in right.items():
-        command, *more = words.split()
-        answer = ran(command, *more).stdout
-        if answer != line + "\n":
-            return f"{words}: found {answer!r}, right is {line!r}", run.stdout
     return None, run.stdout
+
+
+def fault_of_lines(program, files):
+    """What is wrong with the lines that `keeps` and `precision` write, if something is."""
+    medl, script = list_in(files[0]), script_in(files[1])
+    right = {("keeps",): rules.hypothesis_line(medl, script)}
+    for node in range(0, min(medl.nodes + 1, 24), 3):
+        right["precision", str(node)] = rules.precision_line(medl, script, node)
+    for words, line in right.items():
+        found = answer(program, words, files).stdout
+        if found != line + "\n":
+            return f"{' '.join(words)}: found {found!r}, right is {line!r}"
+    return None
