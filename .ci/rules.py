@@ -43,6 +43,7 @@ class List:
                 meant = value[1:-1] if value[0] == '"' else value == "true" if value in ("true", "false") else int(value)
                 (slots[-1] if slots and key in ("kinds", "data", "sync", "start", "requests", "live") else top)[key] = meant
         self.version, self.rounds, self.schedule = top["version"], top["rounds"], top["schedule"]
+        self.buffers = top["buffers"]
         self.drift, self.error, self.window = top["drift"], top["error"], top["window"]
         self.slots = [Slot(keys) for keys in slots]
         self.nodes = len(slots)

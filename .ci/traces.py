@@ -96,7 +96,7 @@ def text_in(path):
 def written(folder, name, text):
     """The path of a file of this name in the folder, with this text."""
     path = os.path.join(folder, name)
-    with open(path, "w", encoding="ascii") as file:
+    with open(path, "w", encoding="latin-1", newline="") as file:
         file.write(text)
     return path
 
@@ -118,6 +118,14 @@ def fault_of_run(program, files):
         line, found, legal = differs.args
         return f"line {line}: found {found}, legal {', '.join(legal)}", run.stdout
     return None, run.stdout
+
+
+def fault_of_refusal(program, files, line):
+    """What is wrong with the answer to a script that is refused by this line, if something is."""
+    run = answer(program, ["run"], files)
+    if (run.returncode, run.stdout) == (4, line + "\n"):
+        return None
+    return f"status {run.returncode}: found {run.stdout[:200]!r}, right is {line!r}"
 
 
 def fault_of_lines(program, files):
