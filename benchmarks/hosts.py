@@ -2,8 +2,8 @@
 """Times `run` where hosts write and read: 20,000 slots of 8 nodes whose frames carry 16 bytes.
 
 A host writes in every third slot, and in each slot one reads its status and one reads another node's messages. Beside it
-stand the same list and slots without host lines, and a program in C that starts and joins as many threads as the run
-does, one after another, and has them do nothing. Printed are nanoseconds a slot, by the clock and by how long processors
+stand the same list and slots without host lines, and a program that it builds, which starts and joins as many threads as
+the run does, one after another, and has them do nothing. Printed are nanoseconds a slot, by the clock and by how long processors
 were at work, each the least of some runs with the trace to /dev/null.
 
 It prints the most memory that the process held, for 2,000 and for 20,000 slots: with the same number of host lines, which
@@ -19,22 +19,33 @@ import tempfile
 import time
 
 from peak import memory_of
-from programs import c_program
+from programs import rattle_program
 from runs import list_text, program, script_text, written
 
 NODES = 8
 SLOTS = 20_000
 RUNS = 7
 LIMIT = 1_048_576
-BARE = """#include <pthread.h>
-#include <stdlib.h>
-static void *nothing(void *with) { return with; }
-int main(int count, char **words) {
-    for (long left = atol(words[count - 1]); left > 0; left--) {
-        pthread_t thread;
-        if (pthread_create(&thread, 0, nothing, 0) || pthread_join(thread, 0)) return 1;
+BARE = """//! Starts and joins threads that do nothing, as many as its word says.
+#![tactic(auto)]
+
+use std::env;
+use std::process::ExitCode;
+use std::thread::join;
+
+fn main(rt: HostRuntime) -> ExitCode {
+    let Ok(words) = env::args(&rt) else {
+        return ExitCode::from(1);
+    };
+    for word in words.skip(1) {
+        let Ok(count) = word.as_str().parse::<u32>() else {
+            return ExitCode::from(1);
+        };
+        for _ in 0..count {
+            join(&rt, || {}, || {});
+        }
     }
-    return 0;
+    ExitCode::from(0)
 }
 """
 
@@ -106,9 +117,8 @@ def main():
         print(f"{NODES} nodes, {SLOTS} slots, {len(host_lines(SLOTS))} host lines")
         print(told("with hosts", least([program(), "run", medl, hosts])))
         print(told("without", least([program(), "run", medl, quiet])))
-        bare = c_program(folder, BARE, "-pthread")
-        if bare is not None:
-            print(told(f"{joins_in(SLOTS)} bare joins in C", least([bare, str(joins_in(SLOTS))])))
+        bare = rattle_program(folder, "bare_joins", "", BARE)
+        print(told(f"{joins_in(SLOTS)} bare joins", least([bare, str(joins_in(SLOTS))])))
         short = SLOTS // 10
         same = script("spread.script", SLOTS, host_lines(SLOTS, 10))
         for name, slots, path in (
