@@ -2,11 +2,10 @@
 """Times runs whose scripts have 50,000 `error` lines, beside the same runs without them.
 
 In one kind of script each line covers all 20,000 slots, in the other one slot. Two lines each add up to 0, so that the
-trace is that of the run without them, for 4 and for 24 nodes without payload. It builds a program over `bench`, whose
+trace is that of the run without them, for 4 and for 24 nodes without payload. It builds a program over plant_run, whose
 sink takes the bytes away with no call of the system, and prints the milliseconds to read the script and the nanoseconds
-of a slot, with the test of the hypothesis and without the reading: by how long a processor was at work, the least of
-some runs. It prints figures alone; nothing passes or fails here. A path given to it is that of the program that it would
-build.
+of a slot: by how long a processor was at work, the least of some runs. It prints figures alone; nothing passes or fails
+here. A path given to it is that of the program that it would build.
 """
 
 import sys
@@ -39,8 +38,7 @@ def seconds_of(timing, medl, script):
         return min(processor_seconds_of(unwritten(timing, medl, script, **times)) for _ in range(RUNS))
 
     start = least()
-    reading = (least(readings=READINGS) - start) / READINGS
-    return reading, least(runs=1) - start - reading
+    return (least(readings=READINGS) - start) / READINGS, least(runs=1) - start
 
 
 def main():

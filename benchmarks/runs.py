@@ -8,28 +8,25 @@ from programs import TOP, rattle_program
 
 PROGRAM = os.path.join(TOP, "crates", "ttpbench", "out", "ttpbench")
 
-# It reads a list and a script, the script so many times more, then tests the hypothesis so many times, and then gives
-# the command `run` so many times, with a sink that takes the bytes away with no call of the system.
-TIMED = """//! Reads, tests and runs a script without the writing: the words are `run`, the files of list and script, and how many
-//! readings, tests and runs.
+# It reads a list and a script, the script so many times more, then tests the hypothesis so many times, and then runs the
+# script so many times into a sink that takes the bytes away with no call of the system.
+TIMED = """//! Reads, tests and runs a script without the writing: the words are the files of list and script, readings, tests, runs.
 #![tactic(auto)]
 ghost use Rattle.std.specs.Prelude.{◌≤◌, length};
 ghost use Rattle.ttp_world.specs.Medl.{IsValid};
+ghost use Rattle.ttp_world.specs.Script.{IsValidScript};
+ghost use Rattle.plant_run.specs.FirstNumbers.{IsUnhosted};
 
 use hypothesis::keeps;
 use medl_text::read_medl;
+use plant_run::put_run;
 use script_text::read_script;
 use std::alloc::Global;
-use std::env::Env;
-use std::fs::Files;
 use std::io::Write;
 use std::process::ExitCode;
-use std::sync::Wait;
-use std::thread::Threads;
 use std::{env, fs, io};
-use ttp_base::{FileLibrary, OpenGate, StreamSink};
-use ttp_top::bench;
-use ttp_world::{Keep, Medl};
+use ttp_base::StreamSink;
+use ttp_world::{Keep, Medl, Script};
 
 // How many times each part is done.
 #[derive(Clone, Copy)]
@@ -46,36 +43,36 @@ fn main(rt: HostRuntime) -> ExitCode {
     }
 }
 
-// Whether the words are the command and three numbers of times, and all was done.
-fn work<R: Env + Files + AllocGlobal + Threads + Wait + Sync>(rt: &R) -> io::Result<bool> {
+// Whether the words name a list and a script that are read, and three numbers of times.
+fn work(rt: &HostRuntime) -> io::Result<bool> {
     let words: Vec<String> = env::args(rt)?.skip(1).collect(rt.alloc())?;
-    if words.len() != 6 {
+    if words.len() != 5 {
         return Ok(false);
     }
-    let Ok(readings) = words[3].as_str().parse::<u32>() else {
+    let Ok(readings) = words[2].as_str().parse::<u32>() else {
         return Ok(false);
     };
-    let Ok(tests) = words[4].as_str().parse::<u32>() else {
+    let Ok(tests) = words[3].as_str().parse::<u32>() else {
         return Ok(false);
     };
-    let Ok(runs) = words[5].as_str().parse::<u32>() else {
+    let Ok(runs) = words[4].as_str().parse::<u32>() else {
         return Ok(false);
     };
     let times = Times { readings, tests, runs };
-    let list = fs::read(rt, words[1].as_str())?;
-    let text = fs::read(rt, words[2].as_str())?;
+    let list = fs::read(rt, words[0].as_str())?;
+    let text = fs::read(rt, words[1].as_str())?;
     let Ok(list) = read_medl(rt.alloc(), &list) else {
         return Ok(false);
     };
     if text.len() > 1_048_576 {
         return Ok(false);
     }
-    Ok(is_read(rt.alloc(), &list, &text, times) && is_run(rt, &words[..3], times))
+    Ok(is_done(rt.alloc(), &list, &text, times))
 }
 
-// Reads the script once and so many times more, and tests it so many times; whether all was done, and
-// the script keeps the hypothesis if it was tested.
-fn is_read(alloc: Global, list: &Medl, text: &[u8], times: Times) -> bool
+// Reads the script once and so many times more, tests it and runs it so many times; whether all was
+// done, and the script keeps the hypothesis if it was tested.
+fn is_done(alloc: Global, list: &Medl, text: &[u8], times: Times) -> bool
     requires valid { IsValid list.now }
     requires size { length text.now ≤ 1048576 }
 {
@@ -92,30 +89,32 @@ fn is_read(alloc: Global, list: &Medl, text: &[u8], times: Times) -> bool
             return false;
         }
     }
-    true
-}
-
-// Gives the command so many times; whether its status was 0 each time. Behind the writer's type no
-// compiler sees that the bytes are not used, and so spares their making.
-fn is_run<R: Files + AllocGlobal + Threads + Wait + Sync>(rt: &R, words: &[String], times: Times) -> bool {
     for _ in 0..times.runs {
-        let mut nowhere = io::sink();
-        let writer: &mut dyn Write = &mut nowhere;
-        let mut out = StreamSink::new(writer);
-        let mut library = FileLibrary::new(rt);
-        let gate = OpenGate::new();
-        if bench(rt, rt.alloc(), words, &mut library, &mut out, &gate, &mut None) != 0 {
+        if !is_run(alloc, list, &script) {
             return false;
         }
     }
     true
+}
+
+// Whether a script is run to its end. Behind the writer's type no compiler sees that the bytes are
+// not used, and so spares their making.
+fn is_run(alloc: Global, list: &Medl, script: &Script) -> bool
+    requires valid { IsValid list.now }
+    requires script { IsValidScript list.now script.now }
+    requires hosts { IsUnhosted script.now }
+{
+    let mut nowhere = io::sink();
+    let writer: &mut dyn Write = &mut nowhere;
+    let mut out = StreamSink::new(writer);
+    put_run(alloc, list, script, &mut out).is_ok()
 }
 """
 
 
 def timing_program(folder):
     """The program above, built over a copy of the crates below it."""
-    return rattle_program(folder, "run_speed", "ttp_base ttp_world medl_text script_text hypothesis ttp_top", TIMED)
+    return rattle_program(folder, "run_speed", "ttp_base ttp_world medl_text script_text hypothesis plant_run", TIMED)
 
 
 def list_text(kinds, data, *, drift=0, error=0, window=1, schedule=0, starters=(0,)):
@@ -162,5 +161,5 @@ def processor_seconds_of(command, path=os.devnull):
 
 
 def unwritten(timing, medl, script, *, readings=0, tests=0, runs=0):
-    """The command that reads a script once, and so many times more; then tests it, and gives `run` without writing."""
-    return [timing, "run", medl, script, str(readings), str(tests), str(runs)]
+    """The command that reads a script once, and so many times more; then tests it and runs it without writing."""
+    return [timing, medl, script, str(readings), str(tests), str(runs)]
