@@ -82,10 +82,10 @@ length-all n = whole (below n) ∙ length-range_with_len 0 n
 -- as many elements pass a test as places of such elements
 pub count-places : {X : Type 0} (p : X → Bool) (xs : List X) (d : X)
     → length (filter (λ k. p (unwrap_or (slice_get xs k) d)) (below (length xs))) ≡ count_by p xs
-count-places p xs d =
+count-places {X = X} p xs d =
     let at = λ (k : ℕ). unwrap_or (slice_get xs k) d in
     let all : xs ≡ map at (below (length xs)) =
     fill_by_all at xs (length xs) d refl (λ k less. sym (unwrap_or-slice_get xs k d)) in
     length-filter (λ k. p (at k)) (below (length xs))
-    ∙ sym (fold-map (λ (sum : ℕ) x. sum + cond (p x) 1 0) at 0 (below (length xs)))
+    ∙ sym (fold-map (λ (sum : ℕ) (x : X). sum + cond (p x) 1 0) at 0 (below (length xs)))
     ∙ sym (ap (count_by p) all)

@@ -19,7 +19,7 @@ use Rattle.ttp_world.specs.Hypothesis.{clocks_broken, window_broken, outside_bro
 use Rattle.ttp_world.specs.Medl.{IsValid, no_plan, plan_at}
 use Rattle.ttp_world.specs.Script.{is_ever_on}
 use Rattle.script_gen.specs.Generator.{first_starter, starter_of, first_start, most_faults, fault_slot, generated}
-use Rattle.script_gen.proofs.Clocks.{clocks-hold}
+use Rattle.script_gen.proofs.DrawnClocks.{clocks-hold}
 use Rattle.script_gen.proofs.Counts.{without-some, count-places}
 use Rattle.script_gen.proofs.FaultEvents.{faults-apart, outside-holds}
 use Rattle.script_gen.proofs.Parts.{IsGenerated, generated-is}
@@ -130,7 +130,7 @@ keeps-all list number script valid is window first =
 
 starter-found : (list : Medl) (found : Option ℕ) → first_starter list ≡ found → IsSome found
     → IsFirst list (starter_of list)
-starter-found list None is some = absurd some
+starter-found list None is some = absurd (false≢true some)
 starter-found list (Some k0) is some = starter-first list k0 is
 
 pub keeps-generated : (list : Medl) (slots number : ℕ) → IsValid list → window_broken list ≡ None

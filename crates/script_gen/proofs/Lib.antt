@@ -1,10 +1,11 @@
-pub mod Draws
+pub mod DrawSteps
+pub mod LoopSteps
 pub mod Ranges
 pub mod Counts
 pub mod Turns
 pub mod Parts
 pub mod Valid
-pub mod Clocks
+pub mod DrawnClocks
 pub mod Starter
 pub mod FaultEvents
 pub mod Struck

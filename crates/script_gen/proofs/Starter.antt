@@ -1,7 +1,7 @@
 -- The start of a script of the generator: all nodes are on, and the least that may start does.
 use Rattle.std.proofs.Common.{◌≡◌, ℕ, zero, suc, ◌+◌, ◌*◌, ◌<◌, ◌≤◌, Bool, true, false, cond, not, ◌||◌, List, [], ◌∷◌}
 use Rattle.std.proofs.Common.{length, replicate, get_or, unwrap_or, Option, Some, None, refl, ap, sym, subst, ◌∙◌, inl}
-use Rattle.std.proofs.Common.{inr, option_map, arith}
+use Rattle.std.proofs.Common.{inr, option_map, zero-add, arith}
 use Rattle.std.specs.Prelude.{◌==◌, IfSome, nat_lt, slice_get, position}
 use Rattle.std.specs.List.{filter, filter_map, cons_option, position_or_len, range_with_len}
 use Rattle.std.proofs.lemmas.List.Sums.{position_or_len_is}
@@ -44,11 +44,11 @@ pub record IsFirst (list : Medl) (k0 : ℕ) : Type 0 where
   pub before : (k : ℕ) → k < k0 → may_start list k ≡ false
 
 may-at : (list : Medl) (k : ℕ) → may_start list k ≡ (get_or list.slots k no_plan).start
-may-at list k = ap (λ plan. plan.start) (unwrap_or-slice_get list.slots k no_plan)
+may-at list k = ap (λ (plan : SlotPlan). plan.start) (unwrap_or-slice_get list.slots k no_plan)
 
 pub first-is : (list : Medl) (k0 : ℕ) → first_starter list ≡ Some k0 → IsFirst list k0
 first-is list k0 is =
-    let parts = position-Some (λ plan. plan.start) list.slots k0 no_plan is in
+    let parts = position-Some (λ (plan : SlotPlan). plan.start) list.slots k0 no_plan is in
     record {
       node = parts.0;
       may = may-at list k0 ∙ parts.1;
@@ -112,6 +112,7 @@ behind : (list : Medl) (number : ℕ) (script : Script) → IsGenerated list num
 behind list number script is k less =
     ap (λ on. cond (may_start list k) (option_map (λ on. on + 2 * length list.slots + k) on) None)
     (on-is list number script k is less)
+    ∙ ap (λ behind. cond (may_start list k) (Some (behind + k)) None) (zero-add (2 * length list.slots))
 
 exactly-other : (may : Bool) (base slot k t : ℕ) → slot ≡ base + t → (k ≡ t → ⊥)
     → is_exactly slot (cond may (Some (base + k)) None) ≡ false

@@ -5,7 +5,7 @@ use Rattle.std.proofs.Common.{◌≢◌, ◌∙◌, inl, inr, mod-lt, arith}
 use Rattle.std.specs.Prelude.{◌==◌, is_some, nat_lt, if◌then◌else◌}
 use Rattle.std.specs.List.{filter, range_with_len}
 use Rattle.std.proofs.Math.Nat.{add-mul-mod_self_right}
-use Rattle.std.proofs.lemmas.Bool.{and_right, cases_Bool, cases_eq, cases_lt, eq-eqb, eqb-true, lt-ltb, le-ltb, ne_eqb}
+use Rattle.std.proofs.lemmas.Bool.{and_from, and_right, cases_Bool, cases_eq, cases_lt, eq-eqb, eqb-true, lt-ltb, le-ltb, ne_eqb}
 use Rattle.std.proofs.lemmas.Bool.{false≢true, or_from}
 use Rattle.ttp_base.specs.NodeSet.{below, has_node}
 use Rattle.ttp_base.proofs.NodeSets.{filter-filter, same_sieve}
@@ -68,7 +68,7 @@ not-yet list number (suc c) x later less =
     or_from (struck_at list number c == turn list x) (has_node (numbers_of (struck list number c)) (turn list x)) apart
     (not-yet list number c x (omega arith) less)
 
-length-struck : (list : Medl) (number c : ℕ) → length (numbers_of (struck list number c)) ≡ c
+pub length-struck : (list : Medl) (number c : ℕ) → length (numbers_of (struck list number c)) ≡ c
 length-struck list number zero = refl
 length-struck list number (suc c) = ap suc (length-struck list number c)
 
@@ -178,10 +178,11 @@ quiet-slot list number script faulty slot is quiet =
     (ap (loss_among sender others) lost))
 
 -- in that of a fault its node becomes faulty
-asked : (script : Script) (faulty : List ℕ) (sender : ℕ) (loss : Loss) → is_ever_on script sender ≡ true
-    → has_node faulty sender ≡ false
-    → cond (not (is_ever_on script sender) || has_node faulty sender) Harmless loss ≡ loss
-asked script faulty sender loss on sound = rw (on, sound) refl
+asked : (ever among : Bool) (loss : Loss) → ever ≡ true → among ≡ false → cond (not ever || among) Harmless loss ≡ loss
+asked ever among loss on sound = λ i. cond (not (on i) || sound i) Harmless loss
+
+passes : (on among same : Bool) → on ≡ true → among ≡ false → same ≡ false → (on && (not among && not same)) ≡ true
+passes on among same is sound other = λ i. is i && (not (sound i) && not (other i))
 
 receiver-lost : (list : Medl) (number : ℕ) (script : Script) (faulty : List ℕ) (j : ℕ) → IsGenerated list number script
     → j < most_faults list → fault_slot list j < script.slots → is_even list number j ≡ false
@@ -200,7 +201,9 @@ receiver-lost list number script faulty j is less within odd node sound other =
     let both = λ (r : ℕ). is_other script faulty sender slot r && loses script sender slot r in
     filter-filter (is_other script faulty sender slot) (loses script sender slot) (below n)
     ∙ filter-only both n receiver
-    (rw (on-always list number script receiver slot is node, sound, ne_eqb receiver sender other)
+    (and_from (is_other script faulty sender slot receiver) (loses script sender slot receiver)
+    (passes (is_on script receiver slot) (has_node faulty receiver) (receiver == sender)
+    (on-always list number script receiver slot is node) sound (ne_eqb receiver sender other))
     (who receiver ∙ eq-eqb receiver receiver refl))
     (λ r small apart. and_right (is_other script faulty sender slot r) _
     (who r ∙ ne_eqb receiver r (λ same. apart (sym same)))) node
@@ -229,23 +232,25 @@ strike list number script j valid is less within =
     (sym same) in
     let ever : is_ever_on script sender ≡ true = ap is_some (on-is list number script sender is node) in
     let since : nat_lt slot (first_start list) ≡ false = le-ltb slot (first_start list) (omega arith) in
-    loss-without_jumps list number script faulty slot is
-    ∙ ap (λ b. cond b Harmless (sender_loss list script faulty slot (expected_sender list (start_at list) slot))) since
-    ∙ ap (sender_loss list script faulty slot) (expected-at list j)
-    ∙ asked script faulty sender (receivers_loss script sender slot others) ever sound
-    ∙ elim (cases_Bool (is_even list number j)) [
+    let lost : receivers_loss script sender slot others ≡ Makes (struck_at list number j) =
+    elim (cases_Bool (is_even list number j)) [
       | inl even ↦
           ap (loss_among sender others)
           (filter-all (loses script sender slot) others
-          (λ r. who-loses list number script j r is less within ∙ ap (λ b. b || (receiver == r)) even))
+          (λ r. who-loses list number script j r is less within ∙ ap (λ b. b || (receiver_at list j == r)) even))
           ∙ all-lose sender others two
-          ∙ ap Makes (sym (ap (λ b. cond b sender receiver) even))
+          ∙ ap Makes (sym (ap (λ b. cond b (sender_at list j) (receiver_at list j)) even))
       | inr odd ↦
           ap (loss_among sender others)
           (receiver-lost list number script faulty j is less within odd receiver_node receiver_sound apart)
           ∙ one-loses sender receiver others two
-          ∙ ap Makes (sym (ap (λ b. cond b sender receiver) odd))
-    ]
+          ∙ ap Makes (sym (ap (λ b. cond b (sender_at list j) (receiver_at list j)) odd))
+    ] in
+    loss-without_jumps list number script faulty slot is
+    ∙ ap (λ b. cond b Harmless (sender_loss list script faulty slot (expected_sender list (start_at list) slot))) since
+    ∙ ap (sender_loss list script faulty slot) (expected-at list j)
+    ∙ asked (is_ever_on script sender) (has_node faulty sender) (receivers_loss script sender slot others) ever sound
+    ∙ lost
 
 -- Slot by slot.
 

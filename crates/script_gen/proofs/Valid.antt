@@ -5,6 +5,7 @@ use Rattle.std.proofs.Common.{None, refl, ap, sym, subst, ◌∙◌, inl, inr, m
 use Rattle.std.specs.Prelude.{◌==◌, All, count_by, nat_le, nat_lt, slice_get, unwrap_or}
 use Rattle.std.specs.List.{AllByRecursion, filter_map, flat_map, cons_option}
 use Rattle.std.proofs.lemmas.Bool.{leb-true, lt-leb, le-leb, ne_eqb, eq-eqb, cases_lt}
+use Rattle.std.proofs.lemmas.Int.{ints}
 use Rattle.std.proofs.lemmas.List.{length-replicate, append-nil}
 use Rattle.std.proofs.lemmas.List.Elements.{All-from_recursion, All-replicate, filter_map-append}
 use Rattle.std.proofs.lemmas.List.FromFn.{length-map-range_with_len}
@@ -27,16 +28,16 @@ use Rattle.script_gen.specs.Draws.{drawn}
 use Rattle.script_gen.specs.Generator.{drift_by, error_by, spread_over, most_faults, fault_slot, fault_by, fault_within}
 use Rattle.script_gen.specs.Generator.{has_payload, write_by, reads_by, host_events_in, error_events, fault_events}
 use Rattle.script_gen.specs.Generator.{host_events, all_events, generated}
-use Rattle.script_gen.proofs.Clocks.{spread-within}
+use Rattle.script_gen.proofs.DrawnClocks.{spread-within}
 use Rattle.script_gen.proofs.Parts.{IsGenerated, generated-is, each-fault, each-event}
 use Rattle.script_gen.proofs.Turns.{turns-differ}
 use Rattle.script_gen.proofs.Ranges.{nothing-each, filter_map-flat_map, flat_map-most, length-flat_map}
 
 -- Each event is valid.
 
-span-of : (low high z : ℤ) (limit : ℕ) → pos 0 ≤ℤ high → high ≤ℤ pos limit → neg_ℤ high ≤ℤ z → z ≤ℤ high
+span-of : (high z : ℤ) (narrow limit : ℕ) → high ≤ℤ pos narrow → narrow ≤ limit → neg_ℤ high ≤ℤ z → z ≤ℤ high
     → IsWithinSpan limit z
-span-of low high z limit from to above under = (omega arith, omega arith)
+span-of high z narrow limit to fits above under = (omega (arith, ints), omega (arith, ints))
 
 events-valid : (list : Medl) (number : ℕ) (script : Script) → IsValid list → 1 ≤ script.slots
     → AllByRecursion (IsValidEvent list script) (all_events list script.slots number)
@@ -48,7 +49,7 @@ events-valid list number script valid some =
     (λ k less.
     let within = spread-within list.error (drawn number (2 * k + 1)) valid.error.0 in (
       less,
-      span-of list.error list.error _ ERROR_LIMIT valid.error.0 (omega (arith, valid.error.1)) within.0 within.1,
+      span-of list.error _ 1000 ERROR_LIMIT valid.error.1 (omega arith) within.0 within.1,
       (omega arith, omega arith),
     ))
     (record {
@@ -223,7 +224,7 @@ all-valid list slots number valid some few =
           (map_each-below (IsWithinSpan DRIFT_LIMIT) (drift_by list number) n
           (λ k less.
           let within = spread-within list.drift (drawn number (2 * k)) valid.drift.0 in
-          span-of list.drift list.drift _ DRIFT_LIMIT valid.drift.0 (omega (arith, valid.drift.1)) within.0 within.1));
+          span-of list.drift _ 1000 DRIFT_LIMIT valid.drift.1 (omega arith) within.0 within.1));
       events = All-from_recursion (IsValidEvent list script) events (events-valid list number script valid some);
       writes = λ k slot. few-messages list number script k slot valid (generated-is list slots number);
       event_count = omega (arith, count);

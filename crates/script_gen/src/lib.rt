@@ -17,11 +17,11 @@
 mod clocks;
 mod draws;
 mod faults;
-mod generate;
 mod hosts;
+mod script;
 mod worked_cases;
 
-pub use generate::generate;
+pub use script::generate;
 
 #[cfg(test)]
 mod tests;

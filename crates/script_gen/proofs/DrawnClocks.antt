@@ -4,9 +4,9 @@ use Rattle.std.proofs.Common.{true, false, not, cond, ◌&&◌, List, [], ◌∷
 use Rattle.std.proofs.Common.{refl, ap, sym, ◌∙◌, subst, mod-lt, arith}
 use Rattle.std.specs.Prelude.{◌==◌, ◌-ℤ◌, int_le, nat_le}
 use Rattle.std.specs.Int.RustNames.{unsigned_abs}
-use Rattle.std.specs.List.{AllByRecursion, filter_map, find, flat_map}
+use Rattle.std.specs.List.{AllByRecursion, cons_option, filter_map, find, flat_map}
 use Rattle.std.proofs.lemmas.Bool.{eq-eqb, ne_eqb, le-leb}
-use Rattle.std.proofs.lemmas.List.{append-nil}
+use Rattle.std.proofs.lemmas.Int.{ints}
 use Rattle.std.proofs.lemmas.List.Concat.{flat_map_single}
 use Rattle.std.proofs.lemmas.List.Elements.{filter_map-append}
 use Rattle.std.proofs.lemmas.List.FromFn.{get_or-map-range_with_len}
@@ -31,7 +31,7 @@ pub spread-within : (bound : ℤ) (draw : ℕ) → pos 0 ≤ℤ bound
     → (neg_ℤ bound ≤ℤ spread_over bound draw) × (spread_over bound draw ≤ℤ bound)
 spread-within (pos b) draw from =
     let less : draw % (2 * b + 1) < 2 * b + 1 = mod-lt draw (omega arith) in
-    (omega arith, omega arith)
+    (omega (arith, ints), omega (arith, ints))
 spread-within (negsuc b) draw from = absurd (omega arith)
 
 test-within : (bound z : ℤ) → neg_ℤ bound ≤ℤ z → z ≤ℤ bound → is_within_bound bound z ≡ true
@@ -63,13 +63,6 @@ error-other list slots number k j slot other =
     ap (λ b. cond (b && covers 0 (slots - 1) slot) (Some (spread_over list.error (drawn number (2 * j + 1)))) None)
     (ne_eqb j k other)
 
-abbrev one : Option ℤ → List ℤ
-one (Some z) = z ∷ []
-one None = []
-
-one-given : (found : Option ℤ) (z : ℤ) → found ≡ Some z → one found ≡ z ∷ []
-one-given found z is = ap one is
-
 errors-told : (list : Medl) (slots number k slot : ℕ) → k < length list.slots → slot < slots
     → filter_map (error_in k slot) (error_events list slots number)
     ≡ spread_over list.error (drawn number (2 * k + 1)) ∷ []
@@ -79,8 +72,8 @@ errors-told list slots number k slot node less =
     ap (filter_map (error_in k slot)) (sym (flat_map_single (error_by list slots number) (below n)))
     ∙ filter_map-flat_map (error_in k slot) (λ j. error_by list slots number j ∷ []) (below n)
     ∙ flat_map-one each n k
-    (λ j other. rw (error-other list slots number k j slot other) refl) node
-    ∙ rw (error-own list slots number k slot less) refl
+    (λ j other. ap (λ found. cons_option found []) (error-other list slots number k j slot other)) node
+    ∙ ap (λ found. cons_option found []) (error-own list slots number k slot less)
 
 no-errors : (list : Medl) (slots number k slot : ℕ)
     → filter_map (error_in k slot) (fault_events list slots number ++ host_events list slots) ≡ []
@@ -96,7 +89,7 @@ no-errors list slots number k slot =
     })))
 
 plus-zero : (z : ℤ) → z +ℤ pos 0 ≡ z
-plus-zero z = omega arith
+plus-zero z = omega (arith, ints)
 
 pub error-is : (list : Medl) (number : ℕ) (script : Script) (k slot : ℕ) → IsGenerated list number script
     → k < length list.slots → slot < script.slots

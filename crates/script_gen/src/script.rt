@@ -1,5 +1,5 @@
 //! The script, part after part.
-ghost use Rattle.std.specs.Prelude.{◌≡◌, ◌≤◌, [], None, IsSome, IfOk};
+ghost use Rattle.std.specs.Prelude.{◌≡◌, ◌≤◌, [], replicate, Some, None, IsSome, IfOk};
 ghost use Rattle.ttp_world.specs.declared.keep.Keep.TheVariants as keep;
 ghost use Rattle.ttp_world.specs.Hypothesis.{window_broken, keeps};
 ghost use Rattle.ttp_world.specs.Medl.{IsValid};
@@ -21,6 +21,13 @@ fn room(alloc: Global, nodes: u8, slots: u32) -> Result<List<Event>, Memory>
 {
     let most = 2 * nodes as usize + 3 * slots as usize;
     Ok(List::from_vec(Vec::with_capacity(alloc, most)?))
+}
+
+// Nodes that are all on from slot 0.
+fn all_on(alloc: Global, nodes: u8) -> Result<List<Option<u32>>, Memory>
+    ensures { IfOk result (λ on. on ≡ replicate nodes (Some 0)) }
+{
+    Ok(List::from_vec(vec![in alloc; Some(0u32); nodes as usize]?))
 }
 
 /// The script that a number gives for a list, in a run of so many slots.
@@ -46,11 +53,11 @@ pub fn generate(alloc: Global, list: &Medl, slots: u32, number: u64) -> Result<S
     add_clocks(list, slots, &mut draws, &mut drift, &mut events)?;
     add_faults(list, slots, &mut draws, &mut events)?;
     add_host_events(list, slots, &mut events)?;
-    let on = vec![in alloc; Some(0u32); list.nodes() as usize]?;
+    let on = all_on(alloc, list.nodes())?;
     let events = Events::index(alloc, events)?;
     Ok(Script {
         slots,
-        on: List::from_vec(on),
+        on,
         drift,
         events,
     })
