@@ -1,0 +1,12 @@
+pub mod DrawSteps
+pub mod LoopSteps
+pub mod Ranges
+pub mod Counts
+pub mod Turns
+pub mod Parts
+pub mod Valid
+pub mod DrawnClocks
+pub mod Starter
+pub mod FaultEvents
+pub mod Struck
+pub mod Kept

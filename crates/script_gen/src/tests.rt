@@ -1,0 +1,230 @@
+//! Scripts for a few lists, worked out by a program of its own.
+ghost use Rattle.std.specs.Prelude.{◌≡◌, ◌≤◌, ◌×◌, ℕ, IfOk, [], ◌∷◌, replicate, true, false, Bool};
+ghost use Rattle.ttp_world.specs.declared.medl.Kind.TheVariants as kind;
+ghost use Rattle.ttp_world.specs.Medl.{IsValid};
+
+use crate::draws::Draws;
+use crate::generate;
+use std::alloc::Global;
+use std::test::Fail;
+use ttp_base::{List, Memory};
+use ttp_world::{Channels, Event, Fault, Kind, Medl, SlotPlan, Source};
+
+const BOTH: Channels = Channels { a: true, b: true };
+
+// An event of a script, by what tells it from others.
+#[derive(Clone, Copy, Debug, PartialEq, Eq)]
+enum Line {
+    Error(u8, i64, u32, u32),
+    Send(u8, u32),
+    Receive(u8, u32),
+    Write(u8, u32, u8, u8),
+    ReadStatus(u8, u32),
+    Read(u8, u32, u8),
+    Other,
+}
+
+// A fault by noise on both channels in one slot.
+fn is_struck(channels: Channels, fault: Fault, from: u32, to: u32) -> bool {
+    channels == BOTH && fault == Fault::Noise && from == to
+}
+
+// A message of one byte repeated.
+fn written(node: u8, slot: u32, bytes: &[u8]) -> Line {
+    match bytes.last() {
+        Some(last) if bytes.iter().all(|byte| *byte == *last) && bytes.len() < 256 => {
+            Line::Write(node, slot, bytes.len() as u8, *last)
+        }
+        _ => Line::Other,
+    }
+}
+
+fn line_of(event: &Event) -> Line {
+    match event {
+        Event::Error {
+            node,
+            value,
+            from,
+            to,
+        } => Line::Error(*node, *value, *from, *to),
+        Event::Send {
+            node,
+            channels,
+            fault,
+            from,
+            to,
+        } if is_struck(*channels, *fault, *from, *to) => Line::Send(*node, *from),
+        Event::Receive {
+            node,
+            channels,
+            fault,
+            from,
+            to,
+        } if is_struck(*channels, *fault, *from, *to) => Line::Receive(*node, *from),
+        Event::Write {
+            node,
+            slot,
+            payload,
+        } => written(*node, *slot, payload.bytes()),
+        Event::Read { node, slot, source } => match source {
+            Source::Status => Line::ReadStatus(*node, *slot),
+            Source::Node(sender) => Line::Read(*node, *slot, *sender),
+        },
+        _ => Line::Other,
+    }
+}
+
+fn plan(alloc: Global, kind: Kind, payload: u8, start: bool) -> Result<SlotPlan, Memory>
+    ensures { IfOk result (λ plan. plan ≡ record {
+      kinds = kind ∷ [];
+      payload = payload;
+      sync = true;
+      start = start;
+      requests = false;
+      live = 1;
+    }) }
+{
+    let mut kinds = List::new(alloc);
+    kinds.push(kind)?;
+    Ok(SlotPlan {
+        kinds,
+        payload,
+        sync: true,
+        start,
+        requests: false,
+        live: 1,
+    })
+}
+
+// Six nodes, of which the first and the fifth send payload and the second may start.
+fn six_nodes(alloc: Global) -> Result<Medl, Memory>
+    ensures { IfOk result IsValid }
+{
+    let mut slots = List::new(alloc);
+    slots.push(plan(alloc, Kind::N, 2, false)?)?;
+    slots.push(plan(alloc, Kind::I, 0, true)?)?;
+    slots.push(plan(alloc, Kind::I, 0, false)?)?;
+    slots.push(plan(alloc, Kind::I, 0, false)?)?;
+    slots.push(plan(alloc, Kind::N, 3, false)?)?;
+    slots.push(plan(alloc, Kind::I, 0, false)?)?;
+    Ok(Medl {
+        version: 1,
+        rounds: 1,
+        schedule: 0,
+        buffers: 2,
+        drift: 3,
+        error: 5,
+        window: 88,
+        modes: 1,
+        slots,
+    })
+}
+
+// A slot with a frame of the largest payload in each of the most rounds.
+fn largest_plan(alloc: Global) -> Result<SlotPlan, Memory>
+    ensures { IfOk result (λ plan. plan ≡ record {
+      kinds = replicate 64 kind.X;
+      payload = 240;
+      sync = true;
+      start = true;
+      requests = false;
+      live = 1;
+    }) }
+{
+    Ok(SlotPlan {
+        kinds: List::from_vec(vec![in alloc; Kind::X; 64]?),
+        payload: 240,
+        sync: true,
+        start: true,
+        requests: false,
+        live: 1,
+    })
+}
+
+// The most nodes, with the largest numbers.
+fn largest_list(alloc: Global) -> Result<Medl, Memory>
+    ensures { IfOk result IsValid }
+{
+    let mut slots = List::new(alloc);
+    for _ in 0..24 {
+        slots.push(largest_plan(alloc)?)?;
+    }
+    Ok(Medl {
+        version: 2,
+        rounds: 64,
+        schedule: 0,
+        buffers: 16,
+        drift: 1000,
+        error: 1000,
+        window: 1_000_000,
+        modes: 1,
+        slots,
+    })
+}
+
+#[test]
+fn draws_by_their_places(rt: HostRuntime) -> Result<(), Fail> {
+    let table = [
+        (0, [167_951_807, 218_396_424, 1_299_921_937, 861_605_236]),
+        (1, [908_834_774, 1_093_944_153, 1_392_341_196, 822_192_870]),
+        (
+            7,
+            [1_059_165_278, 2_052_263_231, 1_946_856_753, 585_718_673],
+        ),
+        (
+            u64::MAX,
+            [1_574_552_488, 1_490_332_343, 1_207_502_677, 901_017_602],
+        ),
+    ];
+    for (number, drawn) in table {
+        let mut draws = Draws::from(number);
+        for draw in drawn {
+            assert!(rt; draws.count < 100);
+            assert_eq!(rt; draws.draw(), draw);
+        }
+    }
+    Ok(())
+}
+
+#[test]
+fn a_script_of_six_nodes(rt: HostRuntime) -> Result<(), Fail> {
+    let list = six_nodes(rt.alloc())?;
+    let script = generate(rt.alloc(), &list, 60, 5)?;
+    let lines = [
+        Line::Error(0, 0, 0, 59),
+        Line::Error(1, 4, 0, 59),
+        Line::Error(2, 5, 0, 59),
+        Line::Error(3, 5, 0, 59),
+        Line::Error(4, -5, 0, 59),
+        Line::Error(5, -2, 0, 59),
+        Line::Send(1, 25),
+        Line::Receive(4, 39),
+        Line::Write(0, 0, 2, 0),
+        Line::ReadStatus(1, 0),
+        Line::Read(1, 0, 0),
+        Line::ReadStatus(2, 1),
+        Line::ReadStatus(3, 2),
+        Line::ReadStatus(4, 3),
+        Line::Write(4, 4, 3, 4),
+        Line::ReadStatus(5, 4),
+        Line::Read(5, 4, 4),
+        Line::ReadStatus(0, 5),
+        Line::Write(0, 6, 2, 6),
+    ];
+    let events = script.events.as_slice();
+    assert!(rt; events.iter().take(19).map(line_of).eq(lines));
+    assert_eq!(rt; script.slots, 60);
+    assert_eq!(rt; script.on.as_slice(), [Some(0); 6].as_slice());
+    assert_eq!(rt; script.drift.as_slice(), [-3, 1, 2, 0, 2, -2].as_slice());
+    Ok(())
+}
+
+#[test]
+fn the_largest_script(rt: HostRuntime) -> Result<(), Fail> {
+    let list = largest_list(rt.alloc())?;
+    let script = generate(rt.alloc(), &list, 20_000, 1)?;
+    let events = script.events.as_slice();
+    assert_eq!(rt; events.len(), 60_036);
+    assert!(rt; events.iter().all(|event| line_of(event) != Line::Other));
+    Ok(())
+}
