@@ -26,7 +26,8 @@ use Rattle.ttp_world.specs.Past.{NodePast}
 use Rattle.ttp_world.specs.Reception.{Hearing}
 use Rattle.ttp_world.specs.Script.{jump_of, drift_of, reading_error, is_on, is_armed}
 use Rattle.ttp_world.specs.World.{BegunNode, BegunSlot, jump_taken, begun_node, no_node, node_of, sends_payload}
-use Rattle.ttp_world.specs.World.{is_loaded, chosen_of, frames_of, frames_in, deviation_in, hearing_in, entry_in, row_in}
+use Rattle.ttp_world.specs.World.{is_loaded, chosen_of, frames_of, frames_in}
+use Rattle.ttp_world.specs.World.{deviation_in, hearing_in, entry_in, row_in}
 use Rattle.frame_fates.specs.Alike.{unnumbered, unnumbered_row, unnumbered_past, sender_delivered}
 
 -- One node.
@@ -169,7 +170,8 @@ is_loaded-unnumbered s k =
     ap (λ (node : BegunNode). sends_payload s.list node.past node.act) (node_of-unnumbered s k)
     ∙ sends_payload-unnumbered s.list (node_of s k).past (node_of s k).act
 
-frames_in-unnumbered : (s : BegunSlot) (chosen : List Chosen) → frames_in (unnumbered_slot s) chosen ≡ frames_in s chosen
+frames_in-unnumbered : (s : BegunSlot) (chosen : List Chosen)
+    → frames_in (unnumbered_slot s) chosen ≡ frames_in s chosen
 frames_in-unnumbered s chosen =
     let each : (k : ℕ) → frames_of (unnumbered_slot s) chosen k ≡ frames_of s chosen k = λ k.
     ap (λ (node : BegunNode). node_frames s.list k node.past (chosen_of chosen k) node.act) (node_of-unnumbered s k)
