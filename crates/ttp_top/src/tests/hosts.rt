@@ -35,23 +35,26 @@ fn ran<R: Threads + Wait + Sync + AllocGlobal>(
     answer_files(rt, &words, list.as_bytes(), Some(script.as_bytes()), 0, 0)
 }
 
+// Adds lines to a trace.
+fn add_lines(trace: &mut String, lines: &[&str]) -> Result<(), Fail> {
+    for line in lines {
+        trace.push_str(line)?;
+    }
+    Ok(())
+}
+
 // The trace of the exchange with these lines of nodes in its slot, and this line of the read.
 fn exchange<R: AllocGlobal>(rt: &R, nodes: &[&str], read: &str) -> Result<String, Fail> {
     let mut trace = joined(
         rt,
         &["ttpbench trace 1 nodes 5 rounds 1 slots 20 schedule 000000\n"],
     )?;
-    for lines in [
-        FAULT_FREE.get(1..61).ok_or("few lines")?,
-        &BEFORE,
-        nodes,
-        &["slot 17 host 2 write 1\n", read],
-        &AFTER,
-    ] {
-        for line in lines {
-            trace.push_str(line)?;
-        }
-    }
+    add_lines(&mut trace, FAULT_FREE.get(1..61).ok_or("few lines")?)?;
+    add_lines(&mut trace, &BEFORE)?;
+    add_lines(&mut trace, nodes)?;
+    trace.push_str("slot 17 host 2 write 1\n")?;
+    trace.push_str(read)?;
+    add_lines(&mut trace, &AFTER)?;
     Ok(trace)
 }
 
@@ -91,9 +94,7 @@ const STATUSES: [&str; 2] = [
 fn polled<R: AllocGlobal>(rt: &R, read: &str) -> Result<String, Fail> {
     let mut trace = joined(rt, FAULT_FREE.get(..61).ok_or("few lines")?)?;
     trace.push_str(read)?;
-    for line in FAULT_FREE.get(61..).ok_or("few lines")? {
-        trace.push_str(line)?;
-    }
+    add_lines(&mut trace, FAULT_FREE.get(61..).ok_or("few lines")?)?;
     Ok(trace)
 }
 
