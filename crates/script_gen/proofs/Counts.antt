@@ -24,7 +24,8 @@ and-true true = refl
 and-true false = refl
 
 -- without one number, at most one less is kept
-kept-here : (b : Bool) (a : ℕ) (ks : List ℕ) → length (cond b (a ∷ ks) ks) ≤ suc (length (cond (b && false) (a ∷ ks) ks))
+kept-here : (b : Bool) (a : ℕ) (ks : List ℕ)
+    → length (cond b (a ∷ ks) ks) ≤ suc (length (cond (b && false) (a ∷ ks) ks))
 kept-here true a ks = omega arith
 kept-here false a ks = omega arith
 

@@ -76,7 +76,8 @@ and-true false = refl
 -- a fault of either kind at a slot
 abbrev fault_at : Bool → ℕ → ℕ → ℕ → Event
 fault_at even sender receiver at =
-    cond even (event.Send sender both_channels fault.Noise at at) (event.Receive receiver both_channels fault.Noise at at)
+    cond even (event.Send sender both_channels fault.Noise at at)
+    (event.Receive receiver both_channels fault.Noise at at)
 
 send-other : (kind : Fault) (k : ℕ) (c : Channel) (slot : ℕ) (even : Bool) (sender receiver at : ℕ)
     → (at ≡ slot → ⊥) → is_send_fault kind k c slot (fault_at even sender receiver at) ≡ false

@@ -1,6 +1,7 @@
 -- A script of the generator keeps the single-fault hypothesis.
 use Rattle.std.proofs.Common.{◌≡◌, ℕ, zero, suc, ◌+◌, ◌-◌, ◌*◌, ◌≤◌, Bool, true, false, cond, not, ◌&&◌, []}
-use Rattle.std.proofs.Common.{◌∷◌, ◌++◌, length, map, reverse, Option, Some, None, refl, ap, sym, subst, ◌∙◌, add-one, arith}
+use Rattle.std.proofs.Common.{◌∷◌, ◌++◌, length, map, reverse, Option, Some, None, refl, ap, sym, subst}
+use Rattle.std.proofs.Common.{◌∙◌, add-one, arith}
 use Rattle.std.specs.Prelude.{count_by, is_some, IsSome}
 use Rattle.std.specs.List.{filter, find, range_with_len}
 use Rattle.std.proofs.lemmas.Bool.{false≢true, le-leb, le-ltb}

@@ -111,7 +111,8 @@ two-others list number script sender slot c valid is few =
     let same =
     same_sieve (is_other script faulty sender slot) (λ k. true && not (has_node (sender ∷ faulty) k)) n
     (λ k less. ap (λ b. is_on script k slot && (not (has_node faulty k) && not b)) (turned k sender)
-    ∙ same-test (is_on script k slot) (has_node faulty k) (sender == k) (on-always list number script k slot is less)) in
+    ∙ same-test (is_on script k slot) (has_node faulty k) (sender == k)
+    (on-always list number script k slot is less)) in
     omega (
       arith,
       ap length same,

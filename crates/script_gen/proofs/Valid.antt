@@ -60,7 +60,8 @@ events-valid list number script valid some =
       writes = λ slot less loaded. (node slot, less, leb-true 1 _ loaded, length-replicate _ (slot % 256));
       statuses = λ slot less. (node (slot + 1), less, tt);
       reads = λ slot less loaded.
-          (node (slot + 1), less, (node slot, leb-true 1 _ loaded, turns-differ n slot (slot + 1) (omega arith) (omega (arith, valid.count))));
+          let other = turns-differ n slot (slot + 1) (omega arith) (omega (arith, valid.count)) in
+          (node (slot + 1), less, (node slot, leb-true 1 _ loaded, other));
     })
 
 event-bounded : (list : Medl) (script : Script) (e : Event) → IsValidEvent list script e → IsBounded e
