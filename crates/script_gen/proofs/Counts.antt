@@ -1,6 +1,6 @@
 -- How many numbers of a range are left where some are taken out.
-use Rattle.std.proofs.Common.{◌≡◌, ℕ, zero, suc, ◌+◌, ◌<◌, ◌≤◌, Bool, true, false, cond, not, ◌&&◌, ◌||◌, List, []}
-use Rattle.std.proofs.Common.{◌∷◌, length, map, get_or, refl, ap, sym, subst, ◌∙◌, inl, inr, arith}
+use Rattle.std.proofs.Common.{◌≡◌, ℕ, zero, suc, ◌+◌, ◌≤◌, Bool, true, false, cond, not, ◌&&◌, ◌||◌, List, []}
+use Rattle.std.proofs.Common.{◌∷◌, length, map, refl, ap, sym, ◌∙◌, inl, inr, arith}
 use Rattle.std.specs.Prelude.{◌==◌, count_by, slice_get, unwrap_or}
 use Rattle.std.specs.List.{filter, range_with_len}
 use Rattle.std.proofs.lemmas.Bool.{cases_eq, eq-eqb, ne_eqb}
@@ -24,7 +24,8 @@ and-true true = refl
 and-true false = refl
 
 -- without one number, at most one less is kept
-kept-here : (b : Bool) (a : ℕ) (ks : List ℕ) → length (cond b (a ∷ ks) ks) ≤ suc (length (cond (b && false) (a ∷ ks) ks))
+kept-here : (b : Bool) (a : ℕ) (ks : List ℕ)
+    → length (cond b (a ∷ ks) ks) ≤ suc (length (cond (b && false) (a ∷ ks) ks))
 kept-here true a ks = omega arith
 kept-here false a ks = omega arith
 

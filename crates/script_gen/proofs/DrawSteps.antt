@@ -1,5 +1,5 @@
 -- One draw more.
-use Rattle.std.proofs.Common.{◌≡◌, ℕ, suc, ◌+◌, ◌*◌, ◌/◌, ◌%◌, ◌^◌, refl, ap, sym, ◌∙◌, add-one}
+use Rattle.std.proofs.Common.{◌≡◌, ℕ, ◌+◌, ◌*◌, ◌/◌, ◌%◌, ◌^◌, ap, sym, ◌∙◌, add-one}
 use Rattle.std.proofs.Math.Nat.{mod-add-mod}
 use Rattle.script_gen.specs.declared.draws.TheConstants.{MULTIPLIER, INCREMENT}
 use Rattle.script_gen.specs.Draws.{next_state, state_after, drawn}

@@ -1,10 +1,9 @@
 -- Drifts and reading errors lie within the list's bounds.
-use Rattle.std.proofs.Common.{◌≡◌, ℕ, zero, suc, ◌+◌, ◌-◌, ◌*◌, ◌%◌, ◌<◌, ◌≤◌, ℤ, pos, negsuc, neg_ℤ, ◌+ℤ◌, ◌≤ℤ◌, Bool}
-use Rattle.std.proofs.Common.{true, false, not, cond, ◌&&◌, List, [], ◌∷◌, ◌++◌, length, map, get_or, Option, Some, None}
-use Rattle.std.proofs.Common.{refl, ap, sym, ◌∙◌, subst, mod-lt, arith}
-use Rattle.std.specs.Prelude.{◌==◌, ◌-ℤ◌, int_le, nat_le}
-use Rattle.std.specs.Int.RustNames.{unsigned_abs}
-use Rattle.std.specs.List.{AllByRecursion, cons_option, filter_map, find, flat_map}
+use Rattle.std.proofs.Common.{◌≡◌, ℕ, ◌+◌, ◌-◌, ◌*◌, ◌%◌, ◌<◌, ℤ, pos, negsuc, neg_ℤ, ◌+ℤ◌, ◌≤ℤ◌}
+use Rattle.std.proofs.Common.{true, not, cond, ◌&&◌, [], ◌∷◌, ◌++◌, length, get_or, Some, None}
+use Rattle.std.proofs.Common.{refl, ap, sym, ◌∙◌, mod-lt, arith}
+use Rattle.std.specs.Prelude.{nat_le}
+use Rattle.std.specs.List.{cons_option, filter_map, find}
 use Rattle.std.proofs.lemmas.Bool.{eq-eqb, ne_eqb, le-leb}
 use Rattle.std.proofs.lemmas.Int.{ints}
 use Rattle.std.proofs.lemmas.List.Concat.{flat_map_single}
@@ -14,15 +13,14 @@ use Rattle.ttp_base.specs.NodeSet.{below}
 use Rattle.ttp_base.proofs.Below.{all-below}
 use Rattle.ttp_world.specs.declared.medl.Medl.{Medl}
 use Rattle.ttp_world.specs.declared.script.Event.{Event}
-use Rattle.ttp_world.specs.declared.script.Event.TheVariants as event
 use Rattle.ttp_world.specs.declared.script.Script.{Script}
 use Rattle.ttp_world.specs.Events.{covers, error_in, sum_ℤ}
 use Rattle.ttp_world.specs.Hypothesis.{is_within_bound, drifts_hold, errors_hold_in, clocks_broken}
 use Rattle.ttp_world.specs.Medl.{IsValid}
 use Rattle.ttp_world.specs.Script.{drift_of, reading_error}
 use Rattle.script_gen.specs.Draws.{drawn}
-use Rattle.script_gen.specs.Generator.{spread_over, drift_by, error_by, error_events, fault_within, fault_events}
-use Rattle.script_gen.specs.Generator.{host_events_in, host_events, most_faults}
+use Rattle.script_gen.specs.Generator.{spread_over, drift_by, error_by, error_events, fault_events}
+use Rattle.script_gen.specs.Generator.{host_events}
 use Rattle.script_gen.proofs.Parts.{IsGenerated, each-fault, each-host}
 use Rattle.script_gen.proofs.Ranges.{filter_map-flat_map, flat_map-one, find-none, nothing-each, each-append}
 

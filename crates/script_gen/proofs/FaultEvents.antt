@@ -1,12 +1,11 @@
 -- Who loses a frame in a script of the generator: in the slot of a fault all others or one node, by what was drawn.
-use Rattle.std.proofs.Common.{◌≡◌, ℕ, suc, ◌+◌, ◌-◌, ◌*◌, ◌%◌, ◌<◌, ◌≤◌, ℤ, Bool, true, false, cond, not, ◌&&◌, ◌||◌, List, []}
-use Rattle.std.proofs.Common.{◌∷◌, ◌++◌, length, Option, Some, None, refl, ap, sym, subst, ◌∙◌, inl, inr, arith}
+use Rattle.std.proofs.Common.{◌≡◌, ℕ, ◌+◌, ◌-◌, ◌*◌, ◌<◌, ◌≤◌, ℤ, Bool, true, false, cond, not, ◌&&◌, ◌||◌, List, []}
+use Rattle.std.proofs.Common.{◌∷◌, length, None, refl, ap, ◌∙◌, inl, inr, arith}
 use Rattle.std.specs.Prelude.{◌==◌, is_some, nat_le, nat_lt}
-use Rattle.std.specs.List.{AllByRecursion, filter_map, list_any}
+use Rattle.std.specs.List.{filter_map, list_any}
 use Rattle.std.proofs.Math.Nat.{mul-le-mul_right}
 use Rattle.std.proofs.lemmas.Bool.{and_parts, and_right, cases_lt, eq-eqb, false≢true, false_from_ne_true, le-leb}
 use Rattle.std.proofs.lemmas.Bool.{leb-true, lt-ltb}
-use Rattle.ttp_base.specs.NodeSet.{below}
 use Rattle.ttp_world.specs.declared.medl.Medl.{Medl}
 use Rattle.ttp_world.specs.declared.script.Channel.{Channel}
 use Rattle.ttp_world.specs.declared.script.Channel.TheVariants as channel
@@ -18,11 +17,10 @@ use Rattle.ttp_world.specs.declared.script.Script.{Script}
 use Rattle.ttp_world.specs.declared.script.Source.{Source}
 use Rattle.ttp_world.specs.Events.{covers, is_among, is_send_fault, is_receive_fault, jump_in}
 use Rattle.ttp_world.specs.Hypothesis.{outside_slot, outside_broken, least_of, is_covered, loses}
-use Rattle.ttp_world.specs.Script.{has_jump, has_send_fault, has_receive_fault}
-use Rattle.script_gen.specs.Draws.{drawn}
-use Rattle.script_gen.specs.Generator.{starter_of, most_faults, fault_slot, both_channels, fault_by, fault_within}
+use Rattle.ttp_world.specs.Script.{has_jump}
+use Rattle.script_gen.specs.Generator.{most_faults, fault_slot, both_channels, fault_within}
 use Rattle.script_gen.specs.Generator.{all_events}
-use Rattle.script_gen.proofs.Parts.{IsGenerated, OfFaults, OfHosts, sender_at, receiver_at, is_even, each-event}
+use Rattle.script_gen.proofs.Parts.{IsGenerated, OfHosts, sender_at, receiver_at, is_even, each-event}
 use Rattle.script_gen.proofs.Parts.{any-fault}
 use Rattle.script_gen.proofs.Ranges.{any-each, any-none, any-one, nothing-each}
 
@@ -78,7 +76,8 @@ and-true false = refl
 -- a fault of either kind at a slot
 abbrev fault_at : Bool → ℕ → ℕ → ℕ → Event
 fault_at even sender receiver at =
-    cond even (event.Send sender both_channels fault.Noise at at) (event.Receive receiver both_channels fault.Noise at at)
+    cond even (event.Send sender both_channels fault.Noise at at)
+    (event.Receive receiver both_channels fault.Noise at at)
 
 send-other : (kind : Fault) (k : ℕ) (c : Channel) (slot : ℕ) (even : Bool) (sender receiver at : ℕ)
     → (at ≡ slot → ⊥) → is_send_fault kind k c slot (fault_at even sender receiver at) ≡ false

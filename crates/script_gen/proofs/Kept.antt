@@ -1,31 +1,31 @@
 -- A script of the generator keeps the single-fault hypothesis.
-use Rattle.std.proofs.Common.{◌≡◌, ℕ, zero, suc, ◌+◌, ◌-◌, ◌*◌, ◌<◌, ◌≤◌, Bool, true, false, cond, not, ◌&&◌, List, []}
-use Rattle.std.proofs.Common.{◌∷◌, ◌++◌, length, map, reverse, Option, Some, None, refl, ap, sym, subst, ◌∙◌, add-one, arith}
-use Rattle.std.specs.Prelude.{nat_le, nat_lt, count_by, is_some, IsSome}
+use Rattle.std.proofs.Common.{◌≡◌, ℕ, zero, suc, ◌+◌, ◌-◌, ◌*◌, ◌≤◌, Bool, true, false, cond, not, ◌&&◌, []}
+use Rattle.std.proofs.Common.{◌∷◌, ◌++◌, length, map, reverse, Option, Some, None, refl, ap, sym, subst}
+use Rattle.std.proofs.Common.{◌∙◌, add-one, arith}
+use Rattle.std.specs.Prelude.{count_by, is_some, IsSome}
 use Rattle.std.specs.List.{filter, find, range_with_len}
 use Rattle.std.proofs.lemmas.Bool.{false≢true, le-leb, le-ltb}
 use Rattle.std.proofs.lemmas.Grind.{reverse_onto}
 use Rattle.ttp_base.specs.NodeSet.{below, has_node}
 use Rattle.ttp_base.proofs.Below.{map-next}
 use Rattle.ttp_base.proofs.NodeSets.{same_sieve}
-use Rattle.ttp_world.specs.declared.keep.Keep.{Keep}
 use Rattle.ttp_world.specs.declared.keep.Keep.TheVariants as keep
 use Rattle.ttp_world.specs.declared.medl.Medl.{Medl}
 use Rattle.ttp_world.specs.declared.script.Script.{Script}
-use Rattle.ttp_world.specs.Hypothesis.{ClusterStart, FaultyNode, nodes_of, numbers_of, faulty_nodes_before, breaks_in}
-use Rattle.ttp_world.specs.Hypothesis.{loss_broken, first_too_early, fault_slots, distance_broken, is_steady}
+use Rattle.ttp_world.specs.Hypothesis.{FaultyNode, nodes_of, numbers_of, faulty_nodes_before, breaks_in}
+use Rattle.ttp_world.specs.Hypothesis.{loss_broken, first_too_early, distance_broken, is_steady}
 use Rattle.ttp_world.specs.Hypothesis.{has_four_steady, lacks_steady_after, slots_since_start, sync_broken, unless}
-use Rattle.ttp_world.specs.Hypothesis.{clocks_broken, window_broken, outside_broken, start_of, started_keep, keeps}
+use Rattle.ttp_world.specs.Hypothesis.{window_broken, started_keep, keeps}
 use Rattle.ttp_world.specs.Medl.{IsValid, no_plan, plan_at}
 use Rattle.ttp_world.specs.Script.{is_ever_on}
-use Rattle.script_gen.specs.Generator.{first_starter, starter_of, first_start, most_faults, fault_slot, generated}
+use Rattle.script_gen.specs.Generator.{first_starter, starter_of, first_start, fault_slot, generated}
 use Rattle.script_gen.proofs.DrawnClocks.{clocks-hold}
 use Rattle.script_gen.proofs.Counts.{without-some, count-places}
 use Rattle.script_gen.proofs.FaultEvents.{faults-apart, outside-holds}
 use Rattle.script_gen.proofs.Parts.{IsGenerated, generated-is}
 use Rattle.script_gen.proofs.Ranges.{find-none}
 use Rattle.script_gen.proofs.Starter.{IsFirst, start_at, on-is, starter-first, start_of-generated}
-use Rattle.script_gen.proofs.Struck.{struck, length-struck, AreShown, IsReached, reached}
+use Rattle.script_gen.proofs.Struck.{struck, length-struck, AreShown, reached}
 use Rattle.script_gen.proofs.Struck.{never-breaks}
 
 -- Losses.

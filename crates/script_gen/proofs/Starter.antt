@@ -2,21 +2,20 @@
 use Rattle.std.proofs.Common.{◌≡◌, ℕ, zero, suc, ◌+◌, ◌*◌, ◌<◌, ◌≤◌, Bool, true, false, cond, not, ◌||◌, List, [], ◌∷◌}
 use Rattle.std.proofs.Common.{length, replicate, get_or, unwrap_or, Option, Some, None, refl, ap, sym, subst, ◌∙◌, inl}
 use Rattle.std.proofs.Common.{inr, option_map, zero-add, arith}
-use Rattle.std.specs.Prelude.{◌==◌, IfSome, nat_lt, slice_get, position}
+use Rattle.std.specs.Prelude.{IfSome, nat_lt, slice_get}
 use Rattle.std.specs.List.{filter, filter_map, cons_option, position_or_len, range_with_len}
 use Rattle.std.proofs.lemmas.List.Sums.{position_or_len_is}
 use Rattle.std.proofs.lemmas.Bool.{cases_eq, eq-eqb, ne_eqb, le-leb, le-ltb, lt-ltb, or_right}
-use Rattle.std.proofs.lemmas.List.{get_or-replicate, length-replicate}
+use Rattle.std.proofs.lemmas.List.{get_or-replicate}
 use Rattle.std.proofs.lemmas.List.Quantifiers.{position-Some}
 use Rattle.std.proofs.lemmas.Option.{unwrap_or-slice_get}
-use Rattle.ttp_base.specs.NodeSet.{below}
 use Rattle.ttp_base.proofs.Below.{all-below}
 use Rattle.ttp_world.specs.declared.medl.Medl.{Medl}
 use Rattle.ttp_world.specs.declared.medl.SlotPlan.{SlotPlan}
 use Rattle.ttp_world.specs.declared.script.Script.{Script}
 use Rattle.ttp_world.specs.Hypothesis.{ClusterStart, lesser, least_of, start_slot, is_exactly, starts_in, are_all_on}
 use Rattle.ttp_world.specs.Hypothesis.{only_starter, start_in, start_of, nodes_of}
-use Rattle.ttp_world.specs.Medl.{no_plan, plan_at, may_start}
+use Rattle.ttp_world.specs.Medl.{no_plan, may_start}
 use Rattle.ttp_world.specs.Script.{on_slot, is_ever_on, is_on, has_come}
 use Rattle.script_gen.specs.Generator.{first_starter, starter_of, first_start}
 use Rattle.script_gen.proofs.Parts.{IsGenerated}

@@ -1,28 +1,28 @@
 -- The nodes that the faults of a generated script make faulty, one after another.
-use Rattle.std.proofs.Common.{◌≡◌, ℕ, zero, suc, ◌+◌, ◌-◌, ◌*◌, ◌/◌, ◌%◌, ◌<◌, ◌≤◌, min, Bool, true, false, cond, not}
-use Rattle.std.proofs.Common.{◌&&◌, ◌||◌, List, [], ◌∷◌, ◌++◌, length, map, Option, Some, None, refl, ap, sym, subst}
+use Rattle.std.proofs.Common.{◌≡◌, ℕ, zero, suc, ◌+◌, ◌-◌, ◌*◌, ◌%◌, ◌<◌, ◌≤◌, Bool, true, false, cond, not}
+use Rattle.std.proofs.Common.{◌&&◌, ◌||◌, List, [], ◌∷◌, ◌++◌, length, map, refl, ap, sym}
 use Rattle.std.proofs.Common.{◌≢◌, ◌∙◌, inl, inr, mod-lt, arith}
-use Rattle.std.specs.Prelude.{◌==◌, is_some, nat_lt, if◌then◌else◌}
-use Rattle.std.specs.List.{filter, range_with_len}
+use Rattle.std.specs.Prelude.{◌==◌, is_some, nat_lt}
+use Rattle.std.specs.List.{filter}
 use Rattle.std.proofs.Math.Nat.{add-mul-mod_self_right}
-use Rattle.std.proofs.lemmas.Bool.{and_from, and_right, cases_Bool, cases_eq, cases_lt, eq-eqb, eqb-true, lt-ltb, le-ltb, ne_eqb}
+use Rattle.std.proofs.lemmas.Bool.{and_from, and_right, cases_Bool, cases_eq, cases_lt, eq-eqb, le-ltb, ne_eqb}
 use Rattle.std.proofs.lemmas.Bool.{false≢true, or_from}
 use Rattle.ttp_base.specs.NodeSet.{below, has_node}
 use Rattle.ttp_base.proofs.NodeSets.{filter-filter, same_sieve}
 use Rattle.ttp_world.specs.declared.medl.Medl.{Medl}
 use Rattle.ttp_world.specs.declared.script.Script.{Script}
-use Rattle.ttp_world.specs.Hypothesis.{ClusterStart, FaultyNode, Loss, Harmless, Makes, Breaks, nodes_of, numbers_of}
+use Rattle.ttp_world.specs.Hypothesis.{FaultyNode, Loss, Harmless, Makes, Breaks, nodes_of, numbers_of}
 use Rattle.ttp_world.specs.Hypothesis.{expected_sender, loses, is_other, others_in, loss_among, receivers_loss}
 use Rattle.ttp_world.specs.Hypothesis.{sender_loss, jumps_now, jumpers_in, loss_in, nodes_made, faulty_nodes_in}
 use Rattle.ttp_world.specs.Hypothesis.{faulty_nodes_before, is_breaking, breaks_in}
 use Rattle.ttp_world.specs.Medl.{IsValid}
-use Rattle.ttp_world.specs.Script.{is_ever_on, is_on, has_jump}
+use Rattle.ttp_world.specs.Script.{is_ever_on, is_on}
 use Rattle.script_gen.specs.Generator.{starter_of, first_start, most_faults, fault_slot}
 use Rattle.script_gen.proofs.Counts.{without-some, length-all}
 use Rattle.script_gen.proofs.FaultEvents.{faults-apart, no-jumps, none-loses, who-loses}
 use Rattle.script_gen.proofs.Parts.{IsGenerated, sender_at, receiver_at, is_even}
 use Rattle.script_gen.proofs.Ranges.{filter-only}
-use Rattle.script_gen.proofs.Starter.{IsFirst, start_at, on-is, on-always}
+use Rattle.script_gen.proofs.Starter.{start_at, on-is, on-always}
 use Rattle.script_gen.proofs.Turns.{turns-differ}
 
 -- whom a fault strikes
@@ -111,7 +111,8 @@ two-others list number script sender slot c valid is few =
     let same =
     same_sieve (is_other script faulty sender slot) (λ k. true && not (has_node (sender ∷ faulty) k)) n
     (λ k less. ap (λ b. is_on script k slot && (not (has_node faulty k) && not b)) (turned k sender)
-    ∙ same-test (is_on script k slot) (has_node faulty k) (sender == k) (on-always list number script k slot is less)) in
+    ∙ same-test (is_on script k slot) (has_node faulty k) (sender == k)
+    (on-always list number script k slot is less)) in
     omega (
       arith,
       ap length same,

@@ -1,8 +1,8 @@
 -- A script of the generator is valid.
-use Rattle.std.proofs.Common.{◌≡◌, ◌≢◌, ℕ, zero, suc, ◌+◌, ◌-◌, ◌*◌, ◌/◌, ◌%◌, ◌<◌, ◌≤◌, min, ℤ, pos, neg_ℤ, ◌≤ℤ◌, Bool}
-use Rattle.std.proofs.Common.{true, false, cond, ◌&&◌, List, [], ◌∷◌, ◌++◌, length, map, replicate, get_or, Option, Some}
-use Rattle.std.proofs.Common.{None, refl, ap, sym, subst, ◌∙◌, inl, inr, mod-lt, length-append, arith}
-use Rattle.std.specs.Prelude.{◌==◌, All, count_by, nat_le, nat_lt, slice_get, unwrap_or}
+use Rattle.std.proofs.Common.{◌≡◌, ℕ, suc, ◌+◌, ◌*◌, ◌/◌, ◌%◌, ◌<◌, ◌≤◌, ℤ, pos, neg_ℤ, ◌≤ℤ◌, Bool}
+use Rattle.std.proofs.Common.{true, false, cond, ◌&&◌, List, [], ◌∷◌, ◌++◌, length, replicate, get_or, Option, Some}
+use Rattle.std.proofs.Common.{None, refl, ap, ◌∙◌, inl, inr, mod-lt, length-append, arith}
+use Rattle.std.specs.Prelude.{◌==◌, All, nat_le, nat_lt}
 use Rattle.std.specs.List.{AllByRecursion, filter_map, flat_map, cons_option}
 use Rattle.std.proofs.lemmas.Bool.{leb-true, lt-leb, le-leb, ne_eqb, eq-eqb, cases_lt}
 use Rattle.std.proofs.lemmas.Int.{ints}
@@ -17,15 +17,15 @@ use Rattle.ttp_world.specs.declared.script.Event.{Event}
 use Rattle.ttp_world.specs.declared.script.Event.TheVariants as event
 use Rattle.ttp_world.specs.declared.script.Script.{Script}
 use Rattle.ttp_world.specs.declared.script.Source.TheVariants as source
-use Rattle.ttp_world.specs.declared.script.TheConstants.{SLOT_LIMIT, EVENT_LIMIT, HOST_EVENT_LIMIT, DRIFT_LIMIT}
+use Rattle.ttp_world.specs.declared.script.TheConstants.{SLOT_LIMIT, EVENT_LIMIT, DRIFT_LIMIT}
 use Rattle.ttp_world.specs.declared.script.TheConstants.{ERROR_LIMIT}
 use Rattle.ttp_world.specs.Events.{IsWithinSpan, IsBounded}
 use Rattle.ttp_world.specs.Medl.{IsValid, plan_at}
-use Rattle.ttp_world.specs.Script.{HostWrite, write_in, is_host_event, payload_of_host, writes_in, messages_written}
+use Rattle.ttp_world.specs.Script.{write_in, is_host_event, payload_of_host, writes_in, messages_written}
 use Rattle.ttp_world.specs.Script.{IsValidEvent, IsValidScript, IsWithinRun}
 use Rattle.ttp_world.proofs.Lists.{nodes-most}
 use Rattle.script_gen.specs.Draws.{drawn}
-use Rattle.script_gen.specs.Generator.{drift_by, error_by, spread_over, most_faults, fault_slot, fault_by, fault_within}
+use Rattle.script_gen.specs.Generator.{drift_by, error_by, most_faults, fault_slot, fault_by, fault_within}
 use Rattle.script_gen.specs.Generator.{has_payload, write_by, reads_by, host_events_in, error_events, fault_events}
 use Rattle.script_gen.specs.Generator.{host_events, all_events, generated}
 use Rattle.script_gen.proofs.DrawnClocks.{spread-within}
@@ -60,7 +60,8 @@ events-valid list number script valid some =
       writes = λ slot less loaded. (node slot, less, leb-true 1 _ loaded, length-replicate _ (slot % 256));
       statuses = λ slot less. (node (slot + 1), less, tt);
       reads = λ slot less loaded.
-          (node (slot + 1), less, (node slot, leb-true 1 _ loaded, turns-differ n slot (slot + 1) (omega arith) (omega (arith, valid.count))));
+          let other = turns-differ n slot (slot + 1) (omega arith) (omega (arith, valid.count)) in
+          (node (slot + 1), less, (node slot, leb-true 1 _ loaded, other));
     })
 
 event-bounded : (list : Medl) (script : Script) (e : Event) → IsValidEvent list script e → IsBounded e

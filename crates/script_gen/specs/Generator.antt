@@ -54,10 +54,11 @@ both_channels = record { a = true; b = true }
 
 abbrev pub fault_by : Medl → ℕ → ℕ → Event
 fault_by list j draw =
+    let slot = fault_slot list j in
     let turn = starter_of list + 2 * j in
     if draw % 2 == 0
-    then event.Send (turn % length list.slots) both_channels fault.Noise (fault_slot list j) (fault_slot list j)
-    else event.Receive ((turn + 1) % length list.slots) both_channels fault.Noise (fault_slot list j) (fault_slot list j)
+    then event.Send (turn % length list.slots) both_channels fault.Noise slot slot
+    else event.Receive ((turn + 1) % length list.slots) both_channels fault.Noise slot slot
 
 -- the fault of a number, where its slot is one of the run
 abbrev pub fault_within : Medl → ℕ → ℕ → ℕ → List Event

@@ -1,6 +1,5 @@
 //! Scripts for a few lists, worked out by a program of its own.
-ghost use Rattle.std.specs.Prelude.{◌≡◌, ◌≤◌, ◌×◌, ℕ, IfOk, [], ◌∷◌, replicate, true, false, Bool};
-ghost use Rattle.ttp_world.specs.declared.medl.Kind.TheVariants as kind;
+ghost use Rattle.std.specs.Prelude.{◌≡◌, [], ◌∷◌, true, false, IfOk};
 ghost use Rattle.ttp_world.specs.Medl.{IsValid};
 
 use crate::draws::Draws;
@@ -120,48 +119,6 @@ fn six_nodes(alloc: Global) -> Result<Medl, Memory>
     })
 }
 
-// A slot with a frame of the largest payload in each of the most rounds.
-fn largest_plan(alloc: Global) -> Result<SlotPlan, Memory>
-    ensures { IfOk result (λ plan. plan ≡ record {
-      kinds = replicate 64 kind.X;
-      payload = 240;
-      sync = true;
-      start = true;
-      requests = false;
-      live = 1;
-    }) }
-{
-    Ok(SlotPlan {
-        kinds: List::from_vec(vec![in alloc; Kind::X; 64]?),
-        payload: 240,
-        sync: true,
-        start: true,
-        requests: false,
-        live: 1,
-    })
-}
-
-// The most nodes, with the largest numbers.
-fn largest_list(alloc: Global) -> Result<Medl, Memory>
-    ensures { IfOk result IsValid }
-{
-    let mut slots = List::new(alloc);
-    for _ in 0..24 {
-        slots.push(largest_plan(alloc)?)?;
-    }
-    Ok(Medl {
-        version: 2,
-        rounds: 64,
-        schedule: 0,
-        buffers: 16,
-        drift: 1000,
-        error: 1000,
-        window: 1_000_000,
-        modes: 1,
-        slots,
-    })
-}
-
 #[test]
 fn draws_by_their_places(rt: HostRuntime) -> Result<(), Fail> {
     let table = [
@@ -216,15 +173,5 @@ fn a_script_of_six_nodes(rt: HostRuntime) -> Result<(), Fail> {
     assert_eq!(rt; script.slots, 60);
     assert_eq!(rt; script.on.as_slice(), [Some(0); 6].as_slice());
     assert_eq!(rt; script.drift.as_slice(), [-3, 1, 2, 0, 2, -2].as_slice());
-    Ok(())
-}
-
-#[test]
-fn the_largest_script(rt: HostRuntime) -> Result<(), Fail> {
-    let list = largest_list(rt.alloc())?;
-    let script = generate(rt.alloc(), &list, 20_000, 1)?;
-    let events = script.events.as_slice();
-    assert_eq!(rt; events.len(), 60_036);
-    assert!(rt; events.iter().all(|event| line_of(event) != Line::Other));
     Ok(())
 }

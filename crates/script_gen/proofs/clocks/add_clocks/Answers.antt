@@ -26,8 +26,11 @@ loop-node-preserved c =
       number = twice ∙ before.number;
       count = omega (arith, c.spread.ensures.count, c.spread-in-loop-node.ensures.count, before.count);
       drift = drifts-next list draws.number node draws.count c.loop-node.drift c.push.new.self c.spread.result
-          (c.in_ok-push.ensures.ok ∙ ap (λ z. c.loop-node.drift ++ z ∷ []) (to_z-of_z w64 c.spread.result fits)) before.drift
-          (c.spread.ensures.value ∙ ap (λ bound. spread_over bound (drawn draws.number draws.count)) (to_z-of_z w64 list.drift drift_fits))
+          (c.in_ok-push.ensures.ok
+          ∙ ap (λ z. c.loop-node.drift ++ z ∷ []) (to_z-of_z w64 c.spread.result fits)) before.drift
+          (c.spread.ensures.value
+          ∙ ap (λ bound. spread_over bound (drawn draws.number draws.count))
+          (to_z-of_z w64 list.drift drift_fits))
           before.count
           ∙ ap (λ number. map (drift_by list number) (below (node + 1))) (sym twice);
       events = errors-next list slots draws.number node middle.count c.args.events.now c.loop-node.events

@@ -1,5 +1,4 @@
-use Rattle.std.proofs.Common.{◌≡◌, true, ap, ◌∙◌, rules, arith}
-use Rattle.ttp_world.specs.Medl.{may_start}
+use Rattle.std.proofs.Common.{rules, arith}
 use Rattle.script_gen.proofs.Starter.{starter-at, starter-nowhere}
 use Rattle.script_gen.proofs.faults.starter_of.Goals as goal
 

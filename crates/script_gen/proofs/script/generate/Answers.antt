@@ -1,12 +1,11 @@
-use Rattle.std.proofs.Common.{◌≡◌, ◌≤◌, List, length, map, replicate, get_or, Option, Some, ap, sym, ◌∙◌, subst, rules, arith}
+use Rattle.std.proofs.Common.{◌≡◌, ◌≤◌, length, map, replicate, Some, ap, sym, ◌∙◌, subst}
 use Rattle.std.specs.Prelude.{All}
 use Rattle.ttp_base.specs.NodeSet.{below}
 use Rattle.ttp_world.specs.declared.script.TheConstants.{EVENT_LIMIT}
-use Rattle.ttp_world.specs.declared.keep.Keep.TheVariants as keep
 use Rattle.ttp_world.specs.Events.{IsBounded}
 use Rattle.ttp_world.specs.Hypothesis.{keeps}
 use Rattle.ttp_world.specs.Script.{IsValidScript}
-use Rattle.script_gen.specs.Generator.{drift_by, first_start, all_events, generated}
+use Rattle.script_gen.specs.Generator.{drift_by}
 use Rattle.script_gen.proofs.LoopSteps.{events-made, script-made}
 use Rattle.script_gen.proofs.Valid.{all-valid, all-indexed}
 use Rattle.script_gen.proofs.Kept.{keeps-generated}
