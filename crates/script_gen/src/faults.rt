@@ -1,8 +1,7 @@
 //! Faults: so far apart that each is over when the next one comes, and so few that four nodes with `sync`
 //! are left.
-ghost use Rattle.std.specs.Prelude.{◌≡◌, ◌+◌, ◌-◌, ◌*◌, ◌<◌, ◌≤◌, ◌++◌, length, position, count_by, unwrap_or, OnOk};
+ghost use Rattle.std.specs.Prelude.{◌≡◌, ◌*◌, ◌<◌, ◌++◌, length, count_by, OnOk};
 ghost use Rattle.ttp_world.specs.Medl.{IsValid};
-ghost use Rattle.script_gen.specs.Draws.{drawn};
 ghost use Rattle.script_gen.specs.Generator.{starter_of, most_faults, fault_slot, fault_by, fault_events};
 
 use crate::draws::Draws;

@@ -1,7 +1,7 @@
 //! What hosts do: in each slot the sender's host writes, and that of the node after it reads.
-ghost use Rattle.std.specs.Prelude.{◌≡◌, ◌+◌, ◌<◌, ◌≤◌, ◌%◌, ◌++◌, length, replicate, OnOk};
+ghost use Rattle.std.specs.Prelude.{◌≡◌, ◌<◌, ◌≤◌, ◌++◌, length, replicate, OnOk};
 ghost use Rattle.ttp_world.specs.Medl.{IsValid};
-ghost use Rattle.script_gen.specs.Generator.{has_payload, write_by, reads_by, host_events_in, host_events};
+ghost use Rattle.script_gen.specs.Generator.{write_by, reads_by, host_events};
 
 use ttp_base::{List, Memory};
 use ttp_world::{Event, Medl, PAYLOAD_LIMIT, Payload, SLOT_LIMIT, Source};

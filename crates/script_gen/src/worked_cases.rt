@@ -7,9 +7,9 @@ ghost use Rattle.ttp_world.specs.declared.keep.Keep.TheVariants as keep;
 ghost use Rattle.ttp_world.specs.declared.script.Event.TheVariants as event;
 ghost use Rattle.ttp_world.specs.declared.script.Fault.TheVariants as fault;
 ghost use Rattle.ttp_world.specs.declared.script.Source.TheVariants as source;
-ghost use Rattle.ttp_world.specs.Hypothesis.{keeps, window_broken};
+ghost use Rattle.ttp_world.specs.Hypothesis.{keeps};
 ghost use Rattle.script_gen.specs.Draws.{drawn};
-ghost use Rattle.script_gen.specs.Generator.{both_channels, first_starter, first_start, most_faults, error_events};
+ghost use Rattle.script_gen.specs.Generator.{both_channels, first_starter, first_start, error_events};
 ghost use Rattle.script_gen.specs.Generator.{fault_events, host_events_in, generated};
 ghost use Rattle.script_gen.specs.WorkedCases.{four_nodes, six_nodes, poll};
 
