@@ -1,0 +1,14 @@
+use Rattle.std.proofs.Common.{◌≡◌, drop}
+use Rattle.std.specs.List.{filter_map}
+use Rattle.ttp_world.specs.Hypothesis.{least_of}
+use Rattle.ttp_world.specs.Returning.{arm_slot, arms_broken}
+use Rattle.hypothesis.specs.Standing.{told_start}
+use Rattle.hypothesis.proofs.Least.{lesser_of}
+use Rattle.hypothesis.proofs.arms.arms_broken.Given as goal
+
+-- the least so far and that of the events that are left is that of all
+abbrev pub invariant-loop-event : goal.invariant-loop-event
+invariant-loop-event l =
+    lesser_of l.least
+    (least_of (filter_map (arm_slot l.list l.script (told_start l.start)) (drop l.event-index l.script.events)))
+    ≡ arms_broken l.list l.script (told_start l.start)
