@@ -1,18 +1,19 @@
 -- The slots of a run in which nodes come back, the newest first.
-use Rattle.std.proofs.Common.{◌≡◌, ℕ, zero, suc, ◌+◌, ◌-◌, ◌<◌, ◌≤◌, List, [], ◌∷◌, ◌++◌, length, get_or, refl, ap, sym}
+use Rattle.std.proofs.Common.{◌≡◌, ◌≢◌, ℕ, zero, suc, ◌+◌, ◌-◌, ◌%◌, ◌<◌, ◌≤◌, List, length, get_or, set, refl, ap, sym}
 use Rattle.std.proofs.Common.{subst, ◌∙◌, inl, inr, not, ◌&&◌, filter, arith}
+use Rattle.std.proofs.lemmas.Bool.{cases_eq}
+use Rattle.std.proofs.lemmas.List.{length-set, get_or-set_same, get_or-set_other}
 use Rattle.ttp_base.specs.NodeSet.{has_node}
-use Rattle.std.proofs.lemmas.Bool.{cases_lt}
-use Rattle.std.proofs.lemmas.List.{get_or_append_left, get_or-append_right, length-append}
 use Rattle.ttp_world.specs.declared.medl.Medl.{Medl}
 use Rattle.ttp_world.specs.declared.script.Script.{Script}
 use Rattle.ttp_world.specs.Hypothesis.{ClusterStart, FaultyNode, numbers_of}
 use Rattle.ttp_world.specs.Returning.{no_slot, slots_before, faulty_since, faulty_then}
 use Rattle.ttp_world.specs.Returning.{faulty_at, four_rounds}
 use Rattle.ttp_world.specs.Script.{is_armed}
-use Rattle.hypothesis.specs.declared.arms.FaultySlot.{FaultySlot}
+use Rattle.hypothesis.specs.declared.newest.FaultySlot.{FaultySlot}
+use Rattle.hypothesis.specs.declared.newest.NewestSlots.{NewestSlots}
 use Rattle.hypothesis.specs.declared.walk.SlotFaults.{SlotFaults}
-use Rattle.hypothesis.specs.FaultySlots.{IsFaultySlot, AreFaultySlots}
+use Rattle.hypothesis.specs.FaultySlots.{kept_slots, IsFaultySlot, AreNewest}
 use Rattle.hypothesis.specs.Standing.{HaveSameNodes}
 use Rattle.hypothesis.specs.Walks.{back_course, AreFaultsIn, AreFaultsOf}
 
@@ -33,24 +34,31 @@ slots_before-past list script start (suc slot) zero past = absurd (omega arith)
 slots_before-past list script start (suc slot) (suc i) past =
     slots_before-past list script start slot i (omega arith)
 
--- one slot more
-pub faulty_slots-more : (list : Medl) (script : Script) (start : ClusterStart) (slots : List FaultySlot)
-    (s : FaultySlot) → AreFaultySlots list script start slots → IsFaultySlot list script start (length slots) s
-    → AreFaultySlots list script start (slots ++ s ∷ [])
-faulty_slots-more list script start slots s are is t nothing less = elim (cases_lt t (length slots)) [
-  | inl before ↦
-      subst (IsFaultySlot list script start t) (sym (get_or_append_left slots (s ∷ []) nothing t before))
-      (are t nothing before)
-  | inr from ↦
-      let size = length-append slots (s ∷ []) in
-      let same : t ≡ length slots = omega (arith, less, size, from) in
-      let first : t - length slots ≡ 0 = omega (arith, same) in
-      let here : get_or (slots ++ s ∷ []) t nothing ≡ s =
-      get_or-append_right slots (s ∷ []) (length slots) t nothing refl from
-      ∙ ap (λ i. get_or (s ∷ []) i nothing) first in
-      subst (IsFaultySlot list script start t) (sym here)
-      (subst (λ j. IsFaultySlot list script start j s) (sym same) is)
-]
+-- one slot more is kept
+pub newest-more : (list : Medl) (script : Script) (start : ClusterStart) (newest next : NewestSlots) (s : FaultySlot)
+    → AreNewest list script start newest → IsFaultySlot list script start newest.end s
+    → next.end ≡ newest.end + 1 → next.slots ≡ set newest.slots (newest.end % kept_slots) s
+    → AreNewest list script start next
+newest-more list script start newest next s are is end slots =
+    record {
+      room = ap length slots ∙ length-set newest.slots (newest.end % kept_slots) s ∙ are.room;
+      told = λ t nothing less near. elim (cases_eq t newest.end) [
+        | inl same ↦
+            let place : newest.end % kept_slots < length newest.slots = omega (arith, are.room) in
+            let here : get_or next.slots (t % kept_slots) nothing ≡ s =
+            (λ i. get_or (slots i) (same i % kept_slots) nothing)
+            ∙ get_or-set_same newest.slots (newest.end % kept_slots) s nothing place in
+            subst (IsFaultySlot list script start t) (sym here)
+            (subst (λ j. IsFaultySlot list script start j s) (sym same) is)
+        | inr other ↦
+            let apart : t % kept_slots ≢ newest.end % kept_slots = λ same. omega (arith, same, other) in
+            let there : get_or next.slots (t % kept_slots) nothing ≡ get_or newest.slots (t % kept_slots) nothing =
+            ap (λ kept. get_or kept (t % kept_slots) nothing) slots
+            ∙ get_or-set_other newest.slots (newest.end % kept_slots) (t % kept_slots) s nothing apart in
+            subst (IsFaultySlot list script start t) (sym there)
+            (are.told t nothing (omega (arith, end, other)) (omega (arith, end)))
+      ];
+    }
 
 -- those that stayed are faulty at the beginning of the slot
 pub stayed-at : (list : Medl) (script : Script) (start : ClusterStart) (slot then_slot : ℕ) (stayed : List ℕ)

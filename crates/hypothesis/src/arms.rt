@@ -311,7 +311,10 @@ fn is_long_faulty(
     ensures { result ≡ (is_long_faulty list.now script.now (told_start start) node slot
         && is_apart list.now script.now (told_start start) slot) }
 {
-    is_apart(list, script, newest, slot) && slot_at(newest, slot).stayed.has(node)
+    if !is_apart(list, script, newest, slot) {
+        return false;
+    }
+    slot_at(newest, slot).stayed.has(node)
 }
 
 // Whether an arm line meets all that is asked of it.

@@ -1,10 +1,10 @@
 //! The walk over the slots of a run in which faulty nodes come back.
-ghost use Rattle.std.specs.Prelude.{◌≡◌, ◌+◌, ◌*◌, ◌<◌, true, Some, None, MatchOption};
+ghost use Rattle.std.specs.Prelude.{◌≡◌, ℕ, ◌+◌, ◌*◌, ◌<◌, ◌≤◌, true, false, Some, None, MatchOption};
 ghost use Rattle.ttp_base.specs.NodeSet.{most_nodes};
 ghost use Rattle.ttp_world.specs.Hypothesis.{start_of, numbers_of};
 ghost use Rattle.ttp_world.specs.Medl.{IsValid};
 ghost use Rattle.ttp_world.specs.Returning.{disturbance_broken, slots_before, faulty_since, breaks_back_in, arms_broken};
-ghost use Rattle.ttp_world.specs.Returning.{unless_back, started_back};
+ghost use Rattle.ttp_world.specs.Returning.{four_rounds, breaks_arm_in, unless_back, started_back};
 ghost use Rattle.ttp_world.specs.Script.{IsValidScript};
 ghost use Rattle.ttp_world.specs.declared.keep.Back.TheVariants as back;
 ghost use Rattle.hypothesis.specs.FaultySlots.{AreNewest};
@@ -85,8 +85,34 @@ fn back_over(
     walk_with(list, script, start, slot, walk, faults)
 }
 
-// The first slot with a node that is armed and does not meet what is asked of it. A slot is asked about
-// once four rounds from it on have come, or the run has ended.
+// The first slot with a node that is armed and does not meet what is asked of it, where the run has ended
+// and no slot that four rounds of it follow is one.
+fn late_arms_broken(
+    list: &Medl,
+    script: &Script,
+    start: Start,
+    newest: &NewestSlots,
+    last: &mut LastLookUps,
+) -> Option<u32>
+    requires valid { IsValid list.now }
+    requires script { IsValidScript list.now script.now }
+    requires end { newest.now.end ≡ script.now.slots }
+    requires newest { AreNewest list.now script.now (told_start start) newest.now }
+    requires before { (t : ℕ) → t + four_rounds list.now ≤ script.now.slots
+        → breaks_arm_in list.now script.now (told_start start) t ≡ false }
+    ensures { result ≡ arms_broken list.now script.now (told_start start) }
+{
+    let from = (script.slots + 1).saturating_sub(four_rounds(list));
+    for slot in from..script.slots {
+        if breaks_arm_in(list, script, start, newest, slot, last) {
+            return Some(slot);
+        }
+    }
+    None
+}
+
+// The first slot with a node that is armed and does not meet what is asked of it. Each is asked about once
+// four rounds from it on have come, or the run has ended.
 fn arms_broken(list: &Medl, script: &Script, start: Start) -> Option<u32>
     requires valid { IsValid list.now }
     requires script { IsValidScript list.now script.now }
@@ -100,18 +126,12 @@ fn arms_broken(list: &Medl, script: &Script, start: Start) -> Option<u32>
     let mut arms = no_look_ups();
     for slot in 0..script.slots {
         faulty = back_faults_in(list, script, start, &mut newest, faulty, &mut last).faulty;
-        if slot + 1 >= rounds
-            && breaks_arm_in(list, script, start, &newest, slot + 1 - rounds, &mut arms)
-        {
+        let has_come = slot + 1 >= rounds;
+        if has_come && breaks_arm_in(list, script, start, &newest, slot + 1 - rounds, &mut arms) {
             return Some(slot + 1 - rounds);
         }
     }
-    for slot in (script.slots + 1).saturating_sub(rounds)..script.slots {
-        if breaks_arm_in(list, script, start, &newest, slot, &mut arms) {
-            return Some(slot);
-        }
-    }
-    None
+    late_arms_broken(list, script, start, &newest, &mut arms)
 }
 
 // What a walk over the whole run says of the rules on the distances of faults, on nodes to measure and on

@@ -6,4 +6,4 @@ use Rattle.hypothesis.proofs.arms.is_offered.Given as goal
 -- in none of the slots so far
 abbrev pub invariant-loop-at : goal.invariant-loop-at
 invariant-loop-at l =
-    (t : ℕ) → l.slot ≤ t → t < l.at → offers_place l.list l.script (told_start l.start) l.node t ≡ false
+    (t : ℕ) → t < l.at → l.slot ≤ t → offers_place l.list l.script (told_start l.start) l.node t ≡ false
