@@ -234,10 +234,15 @@ may_return list script start k slot =
     && (is_left_alone list script k slot
     && (is_heard list script start k slot && is_offered list script start k slot))))
 
--- a node that is armed in a slot does not meet them
+-- a node does not meet them, if it is armed in the slot
+abbrev pub fails_if_armed : Medl → Script → ClusterStart → ℕ → ℕ → Bool → Bool
+fails_if_armed list script start k slot false = false
+fails_if_armed list script start k slot true = not (may_return list script start k slot)
+
+-- some node that is armed in a slot does not
 abbrev pub breaks_arm_in : Medl → Script → ClusterStart → ℕ → Bool
 breaks_arm_in list script start slot =
-    list_any (λ k. is_armed script k slot && not (may_return list script start k slot)) (nodes_of list)
+    list_any (λ k. fails_if_armed list script start k slot (is_armed script k slot)) (nodes_of list)
 
 abbrev pub arms_broken : Medl → Script → ClusterStart → Option ℕ
 arms_broken list script start = find (breaks_arm_in list script start) (below script.slots)

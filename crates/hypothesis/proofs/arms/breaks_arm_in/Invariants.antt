@@ -1,5 +1,5 @@
-use Rattle.std.proofs.Common.{◌≡◌, ℕ, ◌<◌, false, not, ◌&&◌}
-use Rattle.ttp_world.specs.Returning.{may_return}
+use Rattle.std.proofs.Common.{◌≡◌, ℕ, ◌<◌, false}
+use Rattle.ttp_world.specs.Returning.{fails_if_armed}
 use Rattle.ttp_world.specs.Script.{is_armed}
 use Rattle.hypothesis.specs.Standing.{told_start}
 use Rattle.hypothesis.proofs.arms.breaks_arm_in.Given as goal
@@ -8,4 +8,4 @@ use Rattle.hypothesis.proofs.arms.breaks_arm_in.Given as goal
 abbrev pub invariant-loop-node : goal.invariant-loop-node
 invariant-loop-node l =
     (k : ℕ) → k < l.node
-    → (is_armed l.script k l.slot && not (may_return l.list l.script (told_start l.start) k l.slot)) ≡ false
+    → fails_if_armed l.list l.script (told_start l.start) k l.slot (is_armed l.script k l.slot) ≡ false
