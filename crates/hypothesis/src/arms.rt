@@ -7,7 +7,8 @@ ghost use Rattle.ttp_world.specs.Medl.{IsValid};
 ghost use Rattle.ttp_world.specs.Returning.{is_long_faulty, two_rounds, four_rounds, is_apart, is_only_arm};
 ghost use Rattle.ttp_world.specs.Returning.{is_arm_line, is_left_alone};
 ghost use Rattle.ttp_world.specs.Returning.{is_line_of, touches, is_sound, is_deaf, is_missed_in, is_heard, round_of};
-ghost use Rattle.ttp_world.specs.Returning.{offers_place, is_offered, may_return, breaks_arm_in, faulty_at};
+ghost use Rattle.ttp_world.specs.Returning.{offers_place, is_offered, may_return, fails_if_armed, breaks_arm_in};
+ghost use Rattle.ttp_world.specs.Returning.{faulty_at};
 ghost use Rattle.ttp_world.specs.Script.{IsValidScript};
 ghost use Rattle.ttp_world.specs.declared.medl.Medl.{Medl};
 ghost use Rattle.ttp_world.specs.declared.script.Script.{Script};
@@ -341,6 +342,30 @@ fn may_return(
         && is_offered(list, script, start, newest, node, slot)
 }
 
+// Whether a node does not meet what is asked of it, if it is armed in the slot.
+fn fails_if_armed(
+    list: &Medl,
+    script: &Script,
+    start: Start,
+    newest: &NewestSlots,
+    node: u8,
+    slot: u32,
+    armed: bool,
+) -> bool
+    requires valid { IsValid list.now }
+    requires script { IsValidScript list.now script.now }
+    requires slot { slot < script.now.slots }
+    requires node { node < length list.now.slots }
+    requires come { HasRoundsFrom list.now script.now slot newest.now.end }
+    requires newest { AreNewest list.now script.now (told_start start) newest.now }
+    ensures { result ≡ fails_if_armed list.now script.now (told_start start) node slot armed }
+{
+    if !armed {
+        return false;
+    }
+    !may_return(list, script, start, newest, node, slot)
+}
+
 /// Whether a node that is armed in a slot does not meet what is asked of it, looked up after the last
 /// slot's.
 pub(crate) fn breaks_arm_in(
@@ -360,7 +385,7 @@ pub(crate) fn breaks_arm_in(
 {
     for node in 0..list.nodes() {
         let incidents = script.incidents_after(node, slot, &mut last.nodes[node as usize]);
-        if incidents.armed && !may_return(list, script, start, newest, node, slot) {
+        if fails_if_armed(list, script, start, newest, node, slot, incidents.armed) {
             return true;
         }
     }
