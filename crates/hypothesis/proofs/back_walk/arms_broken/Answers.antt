@@ -1,8 +1,9 @@
 use Rattle.std.proofs.Common.{◌≡◌, ℕ, ◌+◌, ◌-◌, ◌≤◌, ◌<◌, false, inl, inr, ap, sym, subst, ◌∙◌, rules, arith}
 use Rattle.std.proofs.lemmas.Bool.{cases_lt}
 use Rattle.ttp_base.specs.NodeSet.{has_node}
-use Rattle.ttp_world.specs.Returning.{four_rounds, breaks_arm_in}
-use Rattle.hypothesis.specs.Standing.{told_start}
+use Rattle.ttp_world.specs.Hypothesis.{numbers_of}
+use Rattle.ttp_world.specs.Returning.{four_rounds, slots_before, faulty_since, breaks_arm_in}
+use Rattle.hypothesis.specs.Standing.{told_start, HaveSameNodes}
 use Rattle.hypothesis.proofs.Ranges.{first-below}
 use Rattle.hypothesis.proofs.back_walk.arms_broken.Goals as goal
 use Rattle.hypothesis.proofs.back_walk.arms_broken.Goals.{else-has_come-via-then-has_come+else-breaks_arm_in}
@@ -10,6 +11,12 @@ use Rattle.hypothesis.proofs.back_walk.arms_broken.Goals.{else-has_come-via-else
 
 pub breaks_arm_in-requires-clause-come : goal.breaks_arm_in-requires-clause-come
 breaks_arm_in-requires-clause-come c = record { come = omega arith; near = omega arith }
+
+pub back_faults_in-requires-clause-faulty : goal.back_faults_in-requires-clause-faulty
+back_faults_in-requires-clause-faulty c =
+    subst (λ t. HaveSameNodes c.loop-slot.faulty
+    (numbers_of (faulty_since (slots_before c.args.list.now c.args.script.now (told_start c.args.start) t))))
+    (sym c.loop-slot.invariant.end) c.loop-slot.invariant.faulty
 
 pub loop-slot-init : goal.loop-slot-init
 loop-slot-init c = record {
@@ -35,7 +42,9 @@ loop-slot-preserved c =
     record {
       end = search rules;
       newest = search rules;
-      faulty = search rules;
+      faulty = subst (λ t. HaveSameNodes c.back_faults_in.result.faulty
+          (numbers_of (faulty_since (slots_before list script start (t + 1))))) c.loop-slot.invariant.end
+          c.back_faults_in.ensures.faults.faulty;
       fine = λ t less. elim (cases_lt slot (t + four_rounds list)) [
         | inl last ↦ now t (omega (arith, less, last))
         | inr earlier ↦ c.loop-slot.invariant.fine t earlier

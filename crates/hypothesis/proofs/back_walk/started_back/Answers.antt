@@ -4,6 +4,26 @@ use Rattle.hypothesis.specs.Walks.{HasWalked, back_course}
 use Rattle.hypothesis.proofs.Walks.{broken-back, walked-back}
 use Rattle.hypothesis.proofs.back_walk.started_back.Goals as goal
 
+pub back_over-requires-clause-walked : goal.back_over-requires-clause-walked
+back_over-requires-clause-walked c =
+    let list = c.args.list.now in
+    let script = c.args.script.now in
+    let start = told_start c.args.start in
+    subst (λ t. HasWalked list script start (back_course list script start) t c.loop-slot.walk)
+    (sym c.loop-slot.invariant.end) c.loop-slot.invariant.walked
+
+pub loop-slot-preserved : goal.loop-slot-preserved
+loop-slot-preserved c =
+    let list = c.args.list.now in
+    let script = c.args.script.now in
+    let start = told_start c.args.start in
+    record {
+      end = search rules;
+      newest = search rules;
+      walked = subst (λ t. HasWalked list script start (back_course list script start) (t + 1) c.in-Some.next)
+          c.loop-slot.invariant.end c.in-Some.ensures.walk;
+    }
+
 pub returns-in-None : goal.returns-in-None
 returns-in-None c =
     let found = rw c.loop-slot.invariant.end at c.in-None.ensures.walk in
