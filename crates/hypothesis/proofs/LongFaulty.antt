@@ -147,8 +147,8 @@ long-all k good (f ∷ faulty) none =
     ∙ ap (λ b. (f.node == k) || b) (long-all k good faulty parts.1)
 
 true-false : {X : Type 0} (b : Bool) → b ≡ true → b ≡ false → X
-true-false true yes no = grind arith
-true-false false yes no = grind arith
+true-false true holds fails = grind arith
+true-false false holds fails = grind arith
 
 early-good : (gap many slot t : ℕ) → t < slot → 0 < many → (nat_lt slot (t + gap) && nat_lt t (slot + many)) ≡ false
     → not (nat_le (t + gap) slot) ≡ false
@@ -165,8 +165,8 @@ nothing-or-some zero = inl refl
 nothing-or-some (suc n) = inr (omega arith)
 
 not-both : (b : Bool) → (b ≡ true → ⊥) → b ≡ false
-not-both true no = absurd (no refl)
-not-both false no = refl
+not-both true never = absurd (never refl)
+not-both false never = refl
 
 pub long-faulty : (list : Medl) (script : Script) (start : ClusterStart) (k slot : ℕ) → slot ≤ script.slots
     → 0 < four_rounds list

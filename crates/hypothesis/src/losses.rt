@@ -2,8 +2,9 @@
 ghost use Rattle.std.specs.Prelude.{◌≡◌, ℕ, ◌<◌, ◌≤◌, ◌++◌, nat_lt, if◌then◌else◌, length, filter, All, None};
 ghost use Rattle.ttp_base.specs.NodeSet.{most_nodes};
 ghost use Rattle.ttp_world.specs.Hypothesis.{Harmless, nodes_made, is_breaking, is_other, others_in, jumps_now, loses};
-ghost use Rattle.ttp_world.specs.Hypothesis.{loss_among, sender_loss, expected_sender, jumpers_in, outside_broken};
+ghost use Rattle.ttp_world.specs.Hypothesis.{loss_among, sender_loss, expected_sender, jumpers_in};
 ghost use Rattle.ttp_world.specs.Medl.{IsValid};
+ghost use Rattle.ttp_world.specs.Returning.{disturbance_broken};
 ghost use Rattle.ttp_world.specs.Script.{incidents_of, has_jump, IsValidScript};
 ghost use Rattle.ttp_world.specs.declared.medl.Medl.{Medl};
 ghost use Rattle.ttp_world.specs.declared.script.Script.{Script};

@@ -1,10 +1,12 @@
-use Rattle.std.proofs.Common.{◌≡◌, ◌<◌, true, length, sym, ◌∙◌, rules, arith}
-use Rattle.ttp_base.specs.NodeSet.{most_nodes}
+use Rattle.std.proofs.Common.{◌≡◌, true, length, sym, below_more, ◌∙◌, rules, arith}
 use Rattle.ttp_world.specs.Returning.{is_deaf}
 use Rattle.ttp_world.proofs.Lists.{nodes-most}
 use Rattle.hypothesis.proofs.ArmLines.{deaf-same}
 use Rattle.hypothesis.proofs.Ranges.{one-passes, none-passes}
 use Rattle.hypothesis.proofs.arms.is_any_deaf.Goals as goal
+
+pub loop-node-preserved : goal.loop-node-preserved
+loop-node-preserved c = below_more _ _ c.loop-node.invariant (search rules)
 
 pub returns-then-is_deaf : goal.returns-then-is_deaf
 returns-then-is_deaf c = λ faulties same.

@@ -1,4 +1,4 @@
-use Rattle.std.proofs.Common.{◌≡◌, ◌+◌, ◌-◌, ◌<◌, ◌≤◌, min, true, false, not, ap, sym, ◌∙◌, below_more, rules, arith}
+use Rattle.std.proofs.Common.{◌≡◌, ◌+◌, ◌-◌, ◌≤◌, min, true, false, not, ap, sym, ◌∙◌, below_more, rules, arith}
 use Rattle.ttp_world.specs.Returning.{four_rounds, is_missed_in}
 use Rattle.ttp_world.proofs.Lists.{nodes-most}
 use Rattle.hypothesis.specs.Standing.{told_start}

@@ -1,7 +1,7 @@
-use Rattle.std.proofs.Common.{◌≡◌, ◌+◌, ◌-◌, ◌<◌, ◌≤◌, min, true, false, ◌||◌, ap, sym, ◌∙◌, below_more, rules, arith}
+use Rattle.std.proofs.Common.{◌≡◌, ◌+◌, ◌-◌, ◌≤◌, min, true, false, ◌||◌, ap, sym, ◌∙◌, below_more, rules, arith}
 use Rattle.std.specs.Prelude.{nat_lt}
 use Rattle.std.specs.List.{list_any}
-use Rattle.std.proofs.lemmas.Bool.{lt-ltb, le-ltb}
+use Rattle.std.proofs.lemmas.Bool.{le-ltb}
 use Rattle.ttp_world.specs.Returning.{two_rounds, offers_place, run_slots}
 use Rattle.ttp_world.proofs.Lists.{nodes-most}
 use Rattle.hypothesis.specs.Standing.{told_start}

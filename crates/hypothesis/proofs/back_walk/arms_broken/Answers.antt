@@ -12,12 +12,6 @@ use Rattle.hypothesis.proofs.back_walk.arms_broken.Goals.{else-has_come-via-else
 pub breaks_arm_in-requires-clause-come : goal.breaks_arm_in-requires-clause-come
 breaks_arm_in-requires-clause-come c = record { come = omega arith; near = omega arith }
 
-pub back_faults_in-requires-clause-faulty : goal.back_faults_in-requires-clause-faulty
-back_faults_in-requires-clause-faulty c =
-    subst (λ t. HaveSameNodes c.loop-slot.faulty
-    (numbers_of (faulty_since (slots_before c.args.list.now c.args.script.now (told_start c.args.start) t))))
-    (sym c.loop-slot.invariant.end) c.loop-slot.invariant.faulty
-
 pub loop-slot-init : goal.loop-slot-init
 loop-slot-init c = record {
   end = search rules;
@@ -35,7 +29,7 @@ loop-slot-preserved c =
     let now : (t : ℕ) → t + four_rounds list ≡ slot + 1 → breaks_arm_in list script start t ≡ false = λ t is.
     elim c.else-has_come.branch [
       | else-has_come-via-then-has_come+else-breaks_arm_in w ↦
-          let same : slot + 1 - four_rounds list ≡ t = omega (arith, is) in
+          let same : slot + 1 - c.four_rounds-rounds.result ≡ t = omega (arith, is) in
           ap (breaks_arm_in list script start) (sym same) ∙ sym w.breaks_arm_in.ensures ∙ search rules
       | else-has_come-via-else-has_come w ↦ absurd (omega (arith, is))
     ] in
@@ -54,7 +48,7 @@ loop-slot-preserved c =
 pub returns-then-breaks_arm_in : goal.returns-then-breaks_arm_in
 returns-then-breaks_arm_in c =
     let list = c.args.list.now in
-    let rounds = four_rounds list in
+    let rounds = c.four_rounds-rounds.result in
     sym (first-below (breaks_arm_in list c.args.script.now (told_start c.args.start)) c.args.script.now.slots
     (c.loop-slot.slot + 1 - rounds) (omega (arith, c.requires.valid.count))
     (λ t less. c.loop-slot.invariant.fine t (omega (arith, less)))

@@ -2,9 +2,6 @@ use Rattle.hypothesis.specs.Standing.{told_start}
 use Rattle.hypothesis.specs.Walks.{back_course}
 use Rattle.hypothesis.proofs.back_walk.back_over.Goals as goal
 
-pub back_faults_in-requires-clause-faulty : goal.back_faults_in-requires-clause-faulty
-back_faults_in-requires-clause-faulty c = c.requires.walked.faulty
-
 pub returns-clause-walk : goal.returns-clause-walk
 returns-clause-walk c =
     c.walk_with.ensures (back_course c.args.list.now c.args.script.now (told_start c.args.start))

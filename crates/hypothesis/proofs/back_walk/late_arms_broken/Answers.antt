@@ -1,4 +1,4 @@
-use Rattle.std.proofs.Common.{◌≡◌, ℕ, ◌+◌, ◌-◌, ◌≤◌, below_more, sym, ◌∙◌, rules, arith}
+use Rattle.std.proofs.Common.{◌≡◌, ◌+◌, ◌-◌, sym, ◌∙◌, rules, arith}
 use Rattle.ttp_world.specs.Returning.{four_rounds, breaks_arm_in}
 use Rattle.hypothesis.specs.Standing.{told_start}
 use Rattle.hypothesis.proofs.Ranges.{none-below, first-below}

@@ -1,4 +1,4 @@
-use Rattle.std.proofs.Common.{◌≡◌, max, sym, subst, ◌∙◌, rules, arith}
+use Rattle.std.proofs.Common.{◌≡◌, ◌+◌, max, sym, subst, ◌∙◌, rules, arith}
 use Rattle.hypothesis.specs.Standing.{told_start}
 use Rattle.hypothesis.specs.Walks.{HasWalked, back_course}
 use Rattle.hypothesis.proofs.Walks.{broken-back, walked-back}
@@ -11,6 +11,15 @@ back_over-requires-clause-walked c =
     let start = told_start c.args.start in
     subst (λ t. HasWalked list script start (back_course list script start) t c.loop-slot.walk)
     (sym c.loop-slot.invariant.end) c.loop-slot.invariant.walked
+
+pub loop-slot-init : goal.loop-slot-init
+loop-slot-init c = record {
+  end = search rules;
+  newest = search rules;
+  walked =
+      c.first_walk-walk.ensures c.args.script.now
+      (back_course c.args.list.now c.args.script.now (told_start c.args.start)) c.requires.starts;
+}
 
 pub loop-slot-preserved : goal.loop-slot-preserved
 loop-slot-preserved c =

@@ -1,4 +1,3 @@
-use Rattle.std.proofs.Common.{rules}
 use Rattle.hypothesis.proofs.newest.slot_at.Goals as goal
 
 pub returns : goal.returns
