@@ -1,5 +1,5 @@
 -- What a walk over the whole run says of the rules on faults.
-use Rattle.std.proofs.Common.{◌≡◌, ℕ, ◌+◌, ◌-◌, ◌<◌, max, min, true, Option, Some, None, map, reverse, ap, sym, ◌∙◌}
+use Rattle.std.proofs.Common.{◌≡◌, ℕ, ◌+◌, ◌-◌, ◌<◌, max, min, true, Some, None, map, reverse, ap, sym, ◌∙◌}
 use Rattle.std.proofs.Common.{arith}
 use Rattle.std.specs.Prelude.{find, if◌then◌else◌}
 use Rattle.ttp_base.specs.NodeSet.{below}
@@ -8,9 +8,9 @@ use Rattle.ttp_world.specs.declared.keep.Back.TheVariants as back
 use Rattle.ttp_world.specs.declared.keep.Keep.TheVariants as keep
 use Rattle.ttp_world.specs.declared.medl.Medl.{Medl}
 use Rattle.ttp_world.specs.declared.script.Script.{Script}
-use Rattle.ttp_world.specs.Hypothesis.{ClusterStart, breaks_in, loss_broken, distance_broken, sync_broken}
+use Rattle.ttp_world.specs.Hypothesis.{ClusterStart, breaks_in, distance_broken, sync_broken}
 use Rattle.ttp_world.specs.Hypothesis.{first_too_early, slots_since_start, unless, started_keep}
-use Rattle.ttp_world.specs.Returning.{breaks_back_in, back_loss_broken, back_distance_broken, back_sync_broken}
+use Rattle.ttp_world.specs.Returning.{breaks_back_in, back_distance_broken, back_sync_broken}
 use Rattle.ttp_world.specs.Returning.{arms_broken, unless_back, started_back}
 use Rattle.hypothesis.specs.declared.walk.Walk.{Walk}
 use Rattle.hypothesis.specs.Walks.{Course, keep_course, back_course, HasWalked, two_rounds, has_four_in, lacks_four_in}

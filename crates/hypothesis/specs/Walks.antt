@@ -1,5 +1,5 @@
 -- What a walk over the slots of a run finds of the rules on faults.
-use Rattle.std.specs.Prelude.{◌≡◌, ℕ, zero, suc, ◌+◌, ◌-◌, ◌*◌, ◌<◌, min, nat_lt, Bool, false, not, List, [], ◌∷◌, ◌++◌}
+use Rattle.std.specs.Prelude.{◌≡◌, ℕ, suc, ◌+◌, ◌-◌, ◌*◌, ◌<◌, min, nat_lt, Bool, false, not, List, [], ◌∷◌, ◌++◌}
 use Rattle.std.specs.Prelude.{map, length, reverse, find, Option, Some, None, if◌then◌else◌, refl}
 use Rattle.std.specs.List.{range_with_len}
 use Rattle.ttp_world.specs.declared.medl.Medl.{Medl}

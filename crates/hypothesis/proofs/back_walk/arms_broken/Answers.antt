@@ -1,4 +1,4 @@
-use Rattle.std.proofs.Common.{◌≡◌, ℕ, ◌+◌, ◌-◌, ◌≤◌, ◌<◌, false, inl, inr, ap, sym, subst, ◌∙◌, rules, arith}
+use Rattle.std.proofs.Common.{◌≡◌, ℕ, ◌+◌, ◌-◌, false, inl, inr, ap, sym, subst, ◌∙◌, rules, arith}
 use Rattle.std.proofs.lemmas.Bool.{cases_lt}
 use Rattle.ttp_base.specs.NodeSet.{has_node}
 use Rattle.ttp_world.specs.Hypothesis.{numbers_of}
@@ -36,9 +36,9 @@ loop-slot-preserved c =
     record {
       end = search rules;
       newest = search rules;
-      faulty = subst (λ t. HaveSameNodes c.back_faults_in.result.faulty
+      faulty = subst (λ t. HaveSameNodes c.back_faults_in-faulty.result.faulty
           (numbers_of (faulty_since (slots_before list script start (t + 1))))) c.loop-slot.invariant.end
-          c.back_faults_in.ensures.faults.faulty;
+          c.back_faults_in-faulty.ensures.faults.faulty;
       fine = λ t less. elim (cases_lt slot (t + four_rounds list)) [
         | inl last ↦ now t (omega (arith, less, last))
         | inr earlier ↦ c.loop-slot.invariant.fine t earlier
