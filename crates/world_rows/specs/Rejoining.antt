@@ -1,5 +1,5 @@
 -- Scripts and diaries of nodes that are armed to listen again.
-use Rattle.std.specs.Prelude.{ℕ, ◌==◌, pos, Bool, true, List, [], ◌∷◌, map, replicate, Some, None}
+use Rattle.std.specs.Prelude.{ℕ, ◌==◌, pos, Bool, true, false, List, [], ◌∷◌, map, replicate, Some, None}
 use Rattle.ttp_base.specs.NodeSet.{below}
 use Rattle.ttp_world.specs.declared.medl.Kind.TheVariants as kind
 use Rattle.ttp_world.specs.declared.medl.Medl.{Medl}
