@@ -1,15 +1,65 @@
--- Where nothing stands outside the hypothesis, each jump goes far, so that a slot's sum of jumps tells
+-- Where nothing but arm lines stands outside the hypothesis, each jump goes far, so that a slot's sum of jumps tells
 -- whether there is one.
-use Rattle.std.proofs.Common.{◌≡◌, ◌≢◌, ℕ, pos, ◌≤ℤ◌, true, None, arith}
+use Rattle.std.proofs.Common.{◌≡◌, ◌≢◌, ℕ, pos, ◌≤ℤ◌, true, false, List, [], ◌∷◌, Option, None, inl, inr, refl, ◌∙◌}
+use Rattle.std.proofs.Common.{arith}
+use Rattle.std.specs.Prelude.{is_some}
+use Rattle.std.specs.List.{AllByRecursion, list_any, filter_map}
+use Rattle.std.proofs.lemmas.Bool.{both_ways, or_cases}
 use Rattle.ttp_world.specs.declared.medl.Medl.{Medl}
+use Rattle.ttp_world.specs.declared.script.Event.{Event}
+use Rattle.ttp_world.specs.declared.script.Event.TheVariants as event
 use Rattle.ttp_world.specs.declared.script.Script.{Script}
-use Rattle.ttp_world.specs.Hypothesis.{outside_broken, is_allowed_jump}
-use Rattle.ttp_world.specs.Script.{jump_of, has_jump}
-use Rattle.ttp_world.proofs.Jumps.{allowed-jump}
+use Rattle.ttp_world.specs.Hypothesis.{least_of, outside_slot, outside_broken, is_allowed_jump}
+use Rattle.ttp_world.specs.Returning.{disturbed_slot, disturbance_broken}
+use Rattle.ttp_world.specs.Script.{jump_in, jump_of, has_jump}
+use Rattle.ttp_world.proofs.Jumps.{each-none}
+
+allowed : (list : Medl) (script : Script) (k slot : ℕ) (e : Event) → disturbed_slot list script e ≡ None
+    → is_some (jump_in k slot e) ≡ true
+    → is_allowed_jump list script k slot ≡ true
+allowed list script k slot e none here = grind arith
+
+all_allowed : (list : Medl) (script : Script) (k slot : ℕ) (events : List Event)
+    → AllByRecursion (λ e. disturbed_slot list script e ≡ None) events
+    → list_any (λ e. is_some (jump_in k slot e)) events ≡ true → is_allowed_jump list script k slot ≡ true
+all_allowed list script k slot [] none has = absurd (both_ways false refl has)
+all_allowed list script k slot (e ∷ events) none has =
+    elim (or_cases (is_some (jump_in k slot e)) (list_any (λ e. is_some (jump_in k slot e)) events) has) [
+      | inl here ↦ allowed list script k slot e none.0 here
+      | inr later ↦ all_allowed list script k slot events none.1 later
+    ]
 
 pub far_jump-sum : (list : Medl) (script : Script) (k slot : ℕ) → pos 1 ≤ℤ list.window
-    → outside_broken list script ≡ None → has_jump script k slot ≡ true
+    → disturbance_broken list script ≡ None → has_jump script k slot ≡ true
     → jump_of script k slot ≢ pos 0
-far_jump-sum list script k slot wide outside has nothing =
-    let far : is_allowed_jump list script k slot ≡ true = allowed-jump list script k slot outside has in
+far_jump-sum list script k slot wide undisturbed has nothing =
+    let far : is_allowed_jump list script k slot ≡ true =
+    all_allowed list script k slot script.events
+    (each-none (disturbed_slot list script) script.events undisturbed) has in
     grind arith
+
+-- Where nothing stands outside the hypothesis, nothing does beside arm lines.
+
+undisturbed-one : (list : Medl) (script : Script) (e : Event) → outside_slot list script e ≡ None
+    → disturbed_slot list script e ≡ None
+undisturbed-one list script (event.Arm node slot) none = refl
+undisturbed-one list script (event.Flip node channels bit slot) none = none
+undisturbed-one list script (event.Jump node value slot) none = none
+undisturbed-one list script _ none = refl
+
+undisturbed-next : {X : Type 0} (f : X → Option ℕ) (x : X) (xs : List X) → f x ≡ None
+    → least_of (filter_map f (x ∷ xs)) ≡ least_of (filter_map f xs)
+undisturbed-next f x xs none = rw none refl
+
+undisturbed-all : (list : Medl) (script : Script) (events : List Event)
+    → AllByRecursion (λ e. outside_slot list script e ≡ None) events
+    → least_of (filter_map (disturbed_slot list script) events) ≡ None
+undisturbed-all list script [] none = refl
+undisturbed-all list script (e ∷ events) none =
+    undisturbed-next (disturbed_slot list script) e events (undisturbed-one list script e none.0)
+    ∙ undisturbed-all list script events none.1
+
+pub undisturbed : (list : Medl) (script : Script) → outside_broken list script ≡ None
+    → disturbance_broken list script ≡ None
+undisturbed list script none =
+    undisturbed-all list script script.events (each-none (outside_slot list script) script.events none)

@@ -3,14 +3,12 @@ use Rattle.std.proofs.Common.{◌≡◌, ℕ, zero, suc, ◌+◌, ◌<◌, ◌�
 use Rattle.std.proofs.Common.{replicate, cond, Bool, true, false, Option, Some, refl, ap, sym, ◌∙◌, inl, inr, arith}
 use Rattle.std.specs.Prelude.{nat_lt}
 use Rattle.std.proofs.lemmas.Bool.{cases_lt, lt-ltb}
-use Rattle.std.proofs.lemmas.List.{length-map, map-append, reverse-append, replicate_more, append-nil}
+use Rattle.std.proofs.lemmas.List.{map-append, reverse-append, replicate_more, append-nil}
 use Rattle.std.proofs.lemmas.Grind.{reverse_onto}
 use Rattle.std.specs.Option.{option_or}
-use Rattle.ttp_world.specs.declared.medl.Medl.{Medl}
 use Rattle.ttp_world.specs.declared.script.Script.{Script}
-use Rattle.ttp_world.specs.Hypothesis.{ClusterStart, FaultyNode, numbers_of, nodes_made, loss_in, jumpers_in}
-use Rattle.ttp_world.specs.Hypothesis.{faulty_nodes_before, faulty_nodes_in, first_too_early}
-use Rattle.hypothesis.specs.Walks.{earliest_after, fault_slots_before}
+use Rattle.ttp_world.specs.Hypothesis.{FaultyNode, first_too_early}
+use Rattle.hypothesis.specs.Walks.{Course, all_in, earliest_after, fault_slots_before}
 use Rattle.hypothesis.proofs.Firsts.{or-head}
 
 pub first_too_early-append : (gap earliest : ℕ) (xs ys : List ℕ)
@@ -59,9 +57,6 @@ too_early-many gap earliest slot (suc n) wide many =
 abbrev slots_of : List FaultyNode → List ℕ
 slots_of faulty = map (λ f. f.slot) faulty
 
-abbrev all_in : ℕ → List ℕ → List FaultyNode
-all_in slot ks = map (λ k. record { slot = slot; node = k }) ks
-
 slots-all_in : (slot : ℕ) (ks : List ℕ) → slots_of (all_in slot ks) ≡ replicate (length ks) slot
 slots-all_in slot [] = refl
 slots-all_in slot (k ∷ ks) = ap (λ rest. slot ∷ rest) (slots-all_in slot ks)
@@ -75,44 +70,32 @@ reverse-replicate (suc n) slot =
     ∙ ap (λ m. replicate m slot) next
 
 slots-later : (slot : ℕ) (ks : List ℕ) (faulty : List FaultyNode)
-    → reverse (slots_of (all_in slot ks ++ faulty))
-    ≡ reverse (slots_of faulty) ++ replicate (length (all_in slot ks)) slot
+    → reverse (slots_of (all_in slot ks ++ faulty)) ≡ reverse (slots_of faulty) ++ replicate (length ks) slot
 slots-later slot ks faulty =
     ap reverse (map-append (λ (f : FaultyNode). f.slot) (all_in slot ks) faulty)
     ∙ reverse-append (slots_of (all_in slot ks)) (slots_of faulty)
     ∙ ap (λ slots. reverse (slots_of faulty) ++ reverse slots) (slots-all_in slot ks)
     ∙ ap (λ slots. reverse (slots_of faulty) ++ slots) (reverse-replicate (length ks) slot)
-    ∙ ap (λ n. reverse (slots_of faulty) ++ replicate n slot)
-    (sym (length-map ks (λ (k : ℕ). let f : FaultyNode = record { slot = slot; node = k } in f)))
 
-pub fault_slots-none : (list : Medl) (script : Script) (start : ClusterStart)
-    → fault_slots_before list script start 0 ≡ []
-fault_slots-none list script start =
+pub fault_slots-none : (script : Script) (course : Course) → fault_slots_before script course 0 ≡ []
+fault_slots-none script course =
     let none : min 0 script.slots ≡ 0 = omega arith in
-    ap (λ t. reverse (slots_of (faulty_nodes_before list script start t))) none
+    ap (λ t. reverse (slots_of (course.all t))) none ∙ ap (λ all. reverse (slots_of all)) course.none
 
 -- the faults of a slot of the run come after those of the slots before it
-pub fault_slots-next : (list : Medl) (script : Script) (start : ClusterStart) (slot count : ℕ)
-    → (slot < script.slots
-    → count ≡ length (faulty_nodes_in list script start slot (faulty_nodes_before list script start slot)))
-    → (script.slots ≤ slot → count ≡ 0)
-    → fault_slots_before list script start (slot + 1)
-    ≡ fault_slots_before list script start slot ++ replicate count slot
-fault_slots-next list script start slot count within past = elim (cases_lt slot script.slots) [
+pub fault_slots-next : (script : Script) (course : Course) (slot count : ℕ)
+    → (slot < script.slots → count ≡ length (course.joined slot)) → (script.slots ≤ slot → count ≡ 0)
+    → fault_slots_before script course (slot + 1) ≡ fault_slots_before script course slot ++ replicate count slot
+fault_slots-next script course slot count within past = elim (cases_lt slot script.slots) [
   | inl less ↦
       let next : min (slot + 1) script.slots ≡ suc slot = omega arith in
       let now : slot ≡ min slot script.slots = omega arith in
-      let before = faulty_nodes_before list script start slot in
-      let made =
-      nodes_made (loss_in list script start (numbers_of before) slot)
-      ++ jumpers_in list script (numbers_of before) slot in
-      ap (λ t. reverse (slots_of (faulty_nodes_before list script start t))) next
-      ∙ slots-later slot made before
-      ∙ ap (λ n. reverse (slots_of before) ++ replicate n slot) (sym (within less))
-      ∙ ap (λ t. reverse (slots_of (faulty_nodes_before list script start t)) ++ replicate count slot) now
+      ap (λ t. reverse (slots_of (course.all t))) next ∙ ap (λ all. reverse (slots_of all)) (course.next slot)
+      ∙ slots-later slot (course.joined slot) (course.all slot)
+      ∙ ap (λ n. reverse (slots_of (course.all slot)) ++ replicate n slot) (sym (within less))
+      ∙ ap (λ t. reverse (slots_of (course.all t)) ++ replicate count slot) now
   | inr from ↦
       let same : min (slot + 1) script.slots ≡ min slot script.slots = omega arith in
-      ap (λ t. reverse (slots_of (faulty_nodes_before list script start t))) same
-      ∙ sym (append-nil (fault_slots_before list script start slot))
-      ∙ ap (λ n. fault_slots_before list script start slot ++ replicate n slot) (sym (past from))
+      ap (λ t. reverse (slots_of (course.all t))) same ∙ sym (append-nil (fault_slots_before script course slot))
+      ∙ ap (λ n. fault_slots_before script course slot ++ replicate n slot) (sym (past from))
 ]

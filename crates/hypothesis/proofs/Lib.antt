@@ -8,3 +8,7 @@ pub mod Firsts
 pub mod FaultSlots
 pub mod Starts
 pub mod Walks
+pub mod Stayers
+pub mod BackSlots
+pub mod LongFaulty
+pub mod ArmLines

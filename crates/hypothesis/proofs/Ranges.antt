@@ -1,11 +1,11 @@
 -- Tests of the numbers below a number, and the first that passes.
-use Rattle.std.proofs.Common.{◌≡◌, ◌≢◌, ℕ, zero, suc, ◌+◌, ◌<◌, ◌≤◌, Bool, true, false, cond, ◌&&◌, Option, Some, None}
-use Rattle.std.proofs.Common.{get_or, refl, ap, sym, subst, ◌∙◌, arith}
+use Rattle.std.proofs.Common.{◌≡◌, ◌≢◌, ℕ, zero, suc, ◌+◌, ◌<◌, ◌≤◌, Bool, true, false, cond, ◌&&◌, ◌||◌, Option, Some}
+use Rattle.std.proofs.Common.{None, get_or, refl, ap, sym, subst, ◌∙◌, arith}
 use Rattle.std.specs.Prelude.{◌==◌}
 use Rattle.std.proofs.lemmas.Bool.{eqb-true, eqb-false}
 use Rattle.std.proofs.lemmas.List.Elements.{All-filter}
 use Rattle.std.proofs.lemmas.List.FromFn.{length-range_with_len, get_or-range_with_len}
-use Rattle.std.specs.List.{All, filter, list_all, find, range_with_len}
+use Rattle.std.specs.List.{All, filter, list_all, list_any, find, range_with_len}
 use Rattle.ttp_base.specs.NodeSet.{below}
 
 -- Where one fails, not all pass.
@@ -70,3 +70,30 @@ small-sieve p n m few =
   where
     at : (k d : ℕ) → k < n → get_or (below n) k d < m
     at k d less = subst (λ j. j < m) (sym (get_or-range_with_len 0 n k d less)) (omega arith)
+
+-- Whether one passes.
+
+pub or-true : (b : Bool) → (b || true) ≡ true
+or-true true = refl
+or-true false = refl
+
+passes-step : (p : ℕ → Bool) (a k : ℕ) (rest b : Bool) → (a == k) ≡ b → p k ≡ true → a ≤ k → (a < k → rest ≡ true)
+    → (p a || rest) ≡ true
+passes-step p a k rest true same passes from later = ap (λ b. b || rest) (ap p (eqb-true a k same) ∙ passes)
+passes-step p a k rest false other passes from later =
+    let apart : a ≢ k = eqb-false a k other in
+    ap (λ b. p a || b) (later (omega (arith, apart))) ∙ or-true (p a)
+
+pub one-passes : (p : ℕ → Bool) (a n k : ℕ) → a ≤ k → k < a + n → p k ≡ true
+    → list_any p (range_with_len a n) ≡ true
+one-passes p a zero k from to passes = absurd (omega arith)
+one-passes p a (suc n) k from to passes =
+    passes-step p a k (list_any p (range_with_len (a + 1) n)) (a == k) refl passes from
+    (λ less. one-passes p (a + 1) n k (omega arith) (omega arith) passes)
+
+pub none-passes : (p : ℕ → Bool) (a n : ℕ) → ((k : ℕ) → a ≤ k → k < a + n → p k ≡ false)
+    → list_any p (range_with_len a n) ≡ false
+none-passes p a zero each = refl
+none-passes p a (suc n) each =
+    ap (λ b. b || list_any p (range_with_len (a + 1) n)) (each a (omega arith) (omega arith))
+    ∙ none-passes p (a + 1) n (λ k from to. each k (omega arith) (omega arith))

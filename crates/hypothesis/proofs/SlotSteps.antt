@@ -3,7 +3,7 @@ use Rattle.std.proofs.Common.{◌≡◌, ℕ, suc, ◌+◌, ◌<◌, ◌≤◌, 
 use Rattle.std.proofs.Common.{◌∷◌, ◌++◌, length, refl, ap, sym, ◌∙◌, arith}
 use Rattle.std.specs.Prelude.{◌==◌, map, nat_lt, if◌then◌else◌}
 use Rattle.std.specs.List.{filter}
-use Rattle.std.proofs.lemmas.List.{append_assoc, length-append, length-map}
+use Rattle.std.proofs.lemmas.List.{append_assoc, length-append}
 use Rattle.std.proofs.lemmas.List.FromFn.{length-range_with_len}
 use Rattle.std.proofs.lemmas.List.Folds.{list_any-append}
 use Rattle.ttp_base.specs.NodeSet.{most_nodes, has_node, below}
@@ -16,6 +16,7 @@ use Rattle.ttp_world.specs.Hypothesis.{expected_sender, jumps_now, jumpers_in, i
 use Rattle.ttp_world.specs.Medl.{plan_at}
 use Rattle.ttp_world.specs.Script.{is_on, is_ever_on, has_jump}
 use Rattle.hypothesis.specs.Standing.{HaveSameNodes}
+use Rattle.hypothesis.specs.Walks.{made_in}
 
 pub same_jumpers : (list : Medl) (script : Script) (s t : List ℕ) (slot : ℕ) → length list.slots ≤ most_nodes
     → HaveSameNodes s t
@@ -101,12 +102,11 @@ pub count-next : (list : Medl) (script : Script) (start : ClusterStart) (slot : 
     (made jumpers : List ℕ)
     → made ≡ nodes_made (loss_in list script start (numbers_of faulty) slot)
     → jumpers ≡ jumpers_in list script (numbers_of faulty) slot
-    → length made + length jumpers ≡ length (faulty_nodes_in list script start slot faulty)
+    → length made + length jumpers ≡ length (made_in list script start slot faulty)
 count-next list script start slot faulty made jumpers is jump =
     let M = nodes_made (loss_in list script start (numbers_of faulty) slot) in
     let J = jumpers_in list script (numbers_of faulty) slot in
     (λ i. length (is i) + length (jump i)) ∙ sym (length-append M J)
-    ∙ sym (length-map (M ++ J) (λ k. record { slot = slot; node = k }))
 
 few_made : (loss : Loss) → length (nodes_made loss) ≤ 1
 few_made Harmless = omega arith

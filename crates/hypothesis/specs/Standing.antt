@@ -1,9 +1,7 @@
 -- What the code's values stand for.
 use Rattle.std.specs.Prelude.{◌≡◌, ℕ, ◌<◌, List, Option, Some, None}
 use Rattle.ttp_base.specs.NodeSet.{most_nodes, has_node}
-use Rattle.ttp_world.specs.declared.medl.Medl.{Medl}
-use Rattle.ttp_world.specs.declared.script.Script.{Script}
-use Rattle.ttp_world.specs.Hypothesis.{ClusterStart, numbers_of, faulty_nodes_before}
+use Rattle.ttp_world.specs.Hypothesis.{ClusterStart}
 use Rattle.ttp_world.specs.Hypothesis.{Loss, Harmless, Makes, Breaks}
 use Rattle.hypothesis.specs.declared.start.Start.{Start}
 use Rattle.hypothesis.specs.declared.losses.SlotLoss.{SlotLoss}
@@ -32,8 +30,3 @@ IsOfNodes slot_loss.Breaks = Unit {0}
 -- two lists have the same nodes, in whatever order
 abbrev pub HaveSameNodes : List ℕ → List ℕ → Type 0
 HaveSameNodes first second = (k : ℕ) → k < most_nodes → has_node first k ≡ has_node second k
-
--- a set of the nodes that became faulty before a slot
-abbrev pub AreFaultyBefore : Medl → Script → ClusterStart → ℕ → List ℕ → Type 0
-AreFaultyBefore list script start slot faulty =
-    HaveSameNodes faulty (numbers_of (faulty_nodes_before list script start slot))

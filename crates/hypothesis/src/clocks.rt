@@ -1,9 +1,10 @@
 //! Clocks and the window: each drift and each sum of reading errors is within its bound, and the
 //! window is as wide as a deviation between correct nodes needs.
-ghost use Rattle.std.specs.Prelude.{◌≡◌, ◌<◌, pos, ◌≤ℤ◌, length, All};
+ghost use Rattle.std.specs.Prelude.{◌≡◌, ◌*◌, ◌<◌, pos, ◌*ℤ◌, ◌≤ℤ◌, length, All};
 ghost use Rattle.ttp_world.specs.Hypothesis.{is_within_bound, drifts_hold, errors_hold_in, clocks_broken};
 ghost use Rattle.ttp_world.specs.Hypothesis.{window_broken};
-ghost use Rattle.ttp_world.specs.Medl.{IsValid};
+ghost use Rattle.ttp_world.specs.Medl.{IsWithin, IsValid};
+ghost use Rattle.ttp_world.specs.Returning.{needed_back, back_window_broken};
 ghost use Rattle.ttp_world.specs.Script.{drift_of, IsWithinSpan, IsValidScript};
 ghost use Rattle.hypothesis.specs.Errors.{errors_hold_within};
 
@@ -106,6 +107,35 @@ pub(crate) fn window_broken(list: &Medl) -> Option<u32>
     ensures { result ≡ window_broken list.now }
 {
     if needed(list) <= list.window {
+        None
+    } else {
+        Some(0)
+    }
+}
+
+// What drifts make of it where a node came back: 8 D n.
+fn back_drift_share(list: &Medl) -> i64
+    requires { IsValid list.now }
+    ensures value { result ≡ list.now.drift *ℤ pos (8 * length list.now.slots) }
+    ensures within { IsWithin 0 192000 result }
+{
+    list.drift * (8 * list.nodes()) as i64
+}
+
+// How far a deviation may lie from 0 between nodes of which one came back, in microticks.
+fn needed_back(list: &Medl) -> i64
+    requires { IsValid list.now }
+    ensures { result ≡ needed_back list.now }
+{
+    back_drift_share(list) + (list.error * 6 + 2)
+}
+
+/// Slot 0 where the window is too narrow for nodes that come back.
+pub(crate) fn back_window_broken(list: &Medl) -> Option<u32>
+    requires { IsValid list.now }
+    ensures { result ≡ back_window_broken list.now }
+{
+    if needed_back(list) <= list.window {
         None
     } else {
         Some(0)

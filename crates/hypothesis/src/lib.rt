@@ -23,27 +23,33 @@
 ghost use Rattle.std.specs.Prelude.{◌≡◌};
 ghost use Rattle.ttp_world.specs.Hypothesis.{keeps};
 ghost use Rattle.ttp_world.specs.Medl.{IsValid};
+ghost use Rattle.ttp_world.specs.Returning.{returns};
 ghost use Rattle.ttp_world.specs.Script.{IsValidScript};
 
+mod arms;
+mod back_walk;
 mod clocks;
 mod distances;
+mod forgiven;
 mod incidents;
 mod losses;
+mod newest;
 mod nodes;
 mod outside;
 mod start;
 mod steady;
 mod walk;
 
+use crate::back_walk::started_back;
 pub use crate::clocks::{drifts_hold, errors_hold_within};
-use crate::clocks::{clocks_broken, window_broken};
+use crate::clocks::{back_window_broken, clocks_broken, window_broken};
 pub use crate::losses::expected_sender;
 pub use crate::nodes::lesser;
-use crate::outside::outside_broken;
+use crate::outside::{disturbance_broken, outside_broken};
 pub use crate::start::{Start, sole_start, start_of};
 pub use crate::steady::has_four_steady;
 use crate::walk::started_keep;
-use ttp_world::{Keep, Medl, Script};
+use ttp_world::{Back, Keep, Medl, Script};
 
 /// Whether a script keeps the single-fault hypothesis for a list: the slot of the start, or the
 /// first rule that is broken with the slot that is named for it.
@@ -82,5 +88,41 @@ pub fn keeps(list: &Medl, script: &Script) -> Keep
     match start_of(list, script) {
         Some(start) => started_keep(list, script, start),
         None => Keep::No { rule: 4, slot: 0 },
+    }
+}
+
+/// Whether each node that is armed to listen again is owed its place within four rounds: the slot of
+/// the start, or the first rule that is broken with the slot that is named for it.
+///
+/// 1. Clocks, 4. the start, 6. distances and 7. nodes to measure are asked as in [`keeps`].
+/// 2. The window: slot 0 where it is narrower than clocks need of which one came back.
+/// 3. What stands outside: as in [`keeps`], but nodes may be armed.
+/// 5. Losses: as in [`keeps`], but four rounds after it was armed a node that was faulty is faulty no
+///    longer.
+/// 8. Arm lines: the least slot of one that does not meet what is asked of it. Its node has been faulty
+///    for two rounds. In these and in the four rounds from the slot on no node becomes faulty. In the
+///    four rounds no other arm line stands, nothing is done to the node's sending, hearing and clock, and
+///    each correct node hears its frames on one channel at least. In the first two of them, unless the
+///    run ends before they do, another correct node sends a frame that can be joined on.
+///
+/// Takes no memory. Each slot costs what it does in [`keeps`], twice. For each arm line that meets what is
+/// asked before, all events are gone over.
+pub fn returns(list: &Medl, script: &Script) -> Back
+    requires valid { IsValid list.now }
+    requires script { IsValidScript list.now script.now }
+    ensures { result ≡ returns list.now script.now }
+{
+    if let Some(slot) = clocks_broken(list, script) {
+        return Back::No { rule: 1, slot };
+    }
+    if let Some(slot) = back_window_broken(list) {
+        return Back::No { rule: 2, slot };
+    }
+    if let Some(slot) = disturbance_broken(list, script) {
+        return Back::No { rule: 3, slot };
+    }
+    match start_of(list, script) {
+        Some(start) => started_back(list, script, start),
+        None => Back::No { rule: 4, slot: 0 },
     }
 }

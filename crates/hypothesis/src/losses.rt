@@ -2,8 +2,9 @@
 ghost use Rattle.std.specs.Prelude.{◌≡◌, ℕ, ◌<◌, ◌≤◌, ◌++◌, nat_lt, if◌then◌else◌, length, filter, All, None};
 ghost use Rattle.ttp_base.specs.NodeSet.{most_nodes};
 ghost use Rattle.ttp_world.specs.Hypothesis.{Harmless, nodes_made, is_breaking, is_other, others_in, jumps_now, loses};
-ghost use Rattle.ttp_world.specs.Hypothesis.{loss_among, sender_loss, expected_sender, jumpers_in, outside_broken};
+ghost use Rattle.ttp_world.specs.Hypothesis.{loss_among, sender_loss, expected_sender, jumpers_in};
 ghost use Rattle.ttp_world.specs.Medl.{IsValid};
+ghost use Rattle.ttp_world.specs.Returning.{disturbance_broken};
 ghost use Rattle.ttp_world.specs.Script.{incidents_of, has_jump, IsValidScript};
 ghost use Rattle.ttp_world.specs.declared.medl.Medl.{Medl};
 ghost use Rattle.ttp_world.specs.declared.script.Script.{Script};
@@ -128,7 +129,7 @@ fn sender_loss(
 // Whether the clock of a node to which this happens jumps. Each jump goes far, so that the sum of a
 // slot's is not 0.
 fn has_jump(incidents: Incidents) -> bool
-    ensures { (list : Medl) (script : Script) (k slot : ℕ) → IsValid list → outside_broken list script ≡ None
+    ensures { (list : Medl) (script : Script) (k slot : ℕ) → IsValid list → disturbance_broken list script ≡ None
         → incidents ≡ incidents_of script k slot → result ≡ has_jump script k slot }
 {
     incidents.jump != 0
@@ -138,7 +139,7 @@ fn has_jump(incidents: Incidents) -> bool
 fn jumps_now(script: &Script, incidents: Incidents, faulty: NodeSet, slot: u32, node: u8) -> bool
     requires on { node < length script.now.on }
     requires node { node < most_nodes }
-    ensures { (list : Medl) → IsValid list → outside_broken list script.now ≡ None
+    ensures { (list : Medl) → IsValid list → disturbance_broken list script.now ≡ None
         → incidents ≡ incidents_of script.now node slot → result ≡ jumps_now script.now faulty slot node }
 {
     script.is_on(node, slot) && !faulty.has(node) && has_jump(incidents)
@@ -154,7 +155,7 @@ pub(crate) fn jumpers_in(
 ) -> NodeSet
     requires valid { IsValid list.now }
     requires script { IsValidScript list.now script.now }
-    requires inside { outside_broken list.now script.now ≡ None }
+    requires inside { disturbance_broken list.now script.now ≡ None }
     requires incidents { AreIncidentsIn list.now script.now slot incidents.now }
     ensures { result ≡ jumpers_in list.now script.now faulty slot }
 {
@@ -180,15 +181,14 @@ pub(crate) fn united(first: NodeSet, second: NodeSet) -> NodeSet
     all
 }
 
-/// The node that is due to send in a slot from the start on.
+/// The node that is due to send in a slot from the start on. Before it, the one that starts.
 pub fn expected_sender(list: &Medl, start: Start, slot: u32) -> u8
-    requires valid { IsValid list.now }
-    requires order { start.slot ≤ slot }
+    requires { IsValid list.now }
     ensures value { result ≡ expected_sender list.now (told_start start) slot }
     ensures bound { result < length list.now.slots }
 {
     let count = u64::from(list.nodes());
-    ((u64::from(start.node) + u64::from(slot - start.slot)) % count) as u8
+    ((u64::from(start.node) + u64::from(slot.saturating_sub(start.slot))) % count) as u8
 }
 
 /// The loss in a slot, where these nodes are faulty once their clocks have jumped. Before the start

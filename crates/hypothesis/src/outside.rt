@@ -5,6 +5,7 @@ ghost use Rattle.std.specs.List.{list_any};
 ghost use Rattle.ttp_base.specs.NodeSet.{most_nodes};
 ghost use Rattle.ttp_world.specs.Hypothesis.{four_windows, is_far_jump, is_allowed_jump, outside_slot, outside_broken};
 ghost use Rattle.ttp_world.specs.Medl.{IsValid, IsWithin};
+ghost use Rattle.ttp_world.specs.Returning.{disturbed_slot, disturbance_broken};
 ghost use Rattle.ttp_world.specs.Script.{IsValidEvent, IsValidScript, AreBounded};
 ghost use Rattle.hypothesis.specs.Jumps.{AreFirstJumps};
 
@@ -62,15 +63,15 @@ fn is_allowed_jump(list: &Medl, script: &Script, first: &FirstJumps, node: u8, s
     is_far_jump(list, script.incidents(node, slot).jump) && !(first.slots[node as usize] < slot)
 }
 
-// The slot that an event puts outside the hypothesis, if it does.
-fn outside_slot(list: &Medl, script: &Script, first: &FirstJumps, event: &Event) -> Option<u32>
+// The slot that a flipped bit or a jump puts outside the hypothesis, if it does.
+fn disturbed_slot(list: &Medl, script: &Script, first: &FirstJumps, event: &Event) -> Option<u32>
     requires valid { IsValid list.now }
     requires event { IsValidEvent list.now script.now event.now }
     requires first { AreFirstJumps script.now.events first.now.slots }
-    ensures { result ≡ outside_slot list.now script.now event.now }
+    ensures { result ≡ disturbed_slot list.now script.now event.now }
 {
     match event {
-        Event::Flip { slot, .. } | Event::Arm { slot, .. } => Some(*slot),
+        Event::Flip { slot, .. } => Some(*slot),
         Event::Jump { node, slot, .. } => {
             if is_allowed_jump(list, script, first, *node, *slot) {
                 None
@@ -80,6 +81,35 @@ fn outside_slot(list: &Medl, script: &Script, first: &FirstJumps, event: &Event)
         }
         _ => None,
     }
+}
+
+// The slot that an event puts outside the hypothesis, if it does.
+fn outside_slot(list: &Medl, script: &Script, first: &FirstJumps, event: &Event) -> Option<u32>
+    requires valid { IsValid list.now }
+    requires event { IsValidEvent list.now script.now event.now }
+    requires first { AreFirstJumps script.now.events first.now.slots }
+    ensures { result ≡ outside_slot list.now script.now event.now }
+{
+    match event {
+        Event::Arm { slot, .. } => Some(*slot),
+        _ => disturbed_slot(list, script, first, event),
+    }
+}
+
+/// The least slot of what stands outside the hypothesis where nodes may be armed.
+pub(crate) fn disturbance_broken(list: &Medl, script: &Script) -> Option<u32>
+    requires valid { IsValid list.now }
+    requires script { IsValidScript list.now script.now }
+    ensures { result ≡ disturbance_broken list.now script.now }
+{
+    let first = first_jumps(list, script);
+    let mut least = None;
+    for event in script.events.as_slice() {
+        if let Some(slot) = disturbed_slot(list, script, &first, event) {
+            least = Some(lesser(slot, least));
+        }
+    }
+    least
 }
 
 /// The least slot of what stands outside the hypothesis.

@@ -2,11 +2,11 @@
 //! faulty.
 ghost use Rattle.std.specs.Prelude.{◌≡◌, ◌+◌, ◌*◌, ◌<◌, nat_le, length, filter};
 ghost use Rattle.ttp_base.specs.NodeSet.{most_nodes};
-ghost use Rattle.ttp_world.specs.Hypothesis.{is_steady, nodes_of};
+ghost use Rattle.ttp_world.specs.Hypothesis.{is_steady, nodes_of, numbers_of};
 ghost use Rattle.ttp_world.specs.Medl.{IsValid};
 ghost use Rattle.ttp_world.specs.Script.{IsValidScript};
-ghost use Rattle.hypothesis.specs.Standing.{told_start, AreFaultyBefore};
-ghost use Rattle.hypothesis.specs.Walks.{first_unsteady};
+ghost use Rattle.hypothesis.specs.Standing.{told_start, HaveSameNodes};
+ghost use Rattle.hypothesis.specs.Walks.{Course, first_unsteady};
 
 use crate::start::{Start, is_ever_on};
 use ttp_base::NodeSet;
@@ -50,9 +50,9 @@ pub(crate) fn unsteady_with(
     requires valid { IsValid list.now }
     requires script { IsValidScript list.now script.now }
     requires bound { slot < SLOT_LIMIT + 3 * most_nodes }
-    requires faulty { AreFaultyBefore list.now script.now (told_start start) (slot + 1) faulty }
-    requires unsteady { unsteady ≡ first_unsteady list.now script.now (told_start start) slot }
-    ensures { result ≡ first_unsteady list.now script.now (told_start start) (slot + 1) }
+    ensures { (course : Course) → HaveSameNodes faulty (numbers_of (course.after (slot + 1)))
+        → unsteady ≡ first_unsteady list.now script.now (told_start start) course slot
+        → result ≡ first_unsteady list.now script.now (told_start start) course (slot + 1) }
 {
     if unsteady.is_some() || slot + 1 < start.slot {
         return unsteady;

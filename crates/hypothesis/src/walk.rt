@@ -1,14 +1,14 @@
 //! The walk over the slots of a run, in which nodes become faulty.
-ghost use Rattle.std.specs.Prelude.{◌≡◌, ◌+◌, ◌*◌, ◌<◌, Some, None, true, length, MatchOption};
+ghost use Rattle.std.specs.Prelude.{◌≡◌, ◌+◌, ◌*◌, ◌<◌, List, Some, None, true, length, MatchOption};
 ghost use Rattle.ttp_base.specs.NodeSet.{most_nodes};
-ghost use Rattle.ttp_world.specs.Hypothesis.{faulty_nodes_before, faulty_nodes_in, breaks_in, start_of, started_keep};
-ghost use Rattle.ttp_world.specs.Hypothesis.{unless, outside_broken};
+ghost use Rattle.ttp_world.specs.Hypothesis.{FaultyNode, numbers_of, breaks_in, start_of, started_keep, unless};
+ghost use Rattle.ttp_world.specs.Medl.{IsValid};
+ghost use Rattle.ttp_world.specs.Returning.{disturbance_broken};
+ghost use Rattle.ttp_world.specs.Script.{IsValidScript};
 ghost use Rattle.ttp_world.specs.declared.keep.Keep.TheVariants as keep;
 ghost use Rattle.ttp_world.specs.declared.script.Script.{Script};
-ghost use Rattle.ttp_world.specs.Medl.{IsValid};
-ghost use Rattle.ttp_world.specs.Script.{IsValidScript};
-ghost use Rattle.hypothesis.specs.Standing.{told_start, AreFaultyBefore};
-ghost use Rattle.hypothesis.specs.Walks.{HasWalked};
+ghost use Rattle.hypothesis.specs.Standing.{told_start, HaveSameNodes};
+ghost use Rattle.hypothesis.specs.Walks.{Course, keep_course, AreFaultsIn, AreFaultsOf, HasWalked};
 
 use crate::distances::{earliest_with, early_with};
 use crate::incidents::{LastLookUps, incidents_in, no_look_ups};
@@ -20,31 +20,31 @@ use ttp_world::{Keep, Medl, SLOT_LIMIT, Script};
 
 /// What a slot makes of the faulty nodes.
 #[derive(Clone, Copy)]
-struct SlotFaults {
+pub(crate) struct SlotFaults {
     /// The faulty nodes after the slot.
-    faulty: NodeSet,
+    pub(crate) faulty: NodeSet,
     /// How many became faulty in it.
-    count: u8,
+    pub(crate) count: u8,
     /// Whether its losses are those of more than one fault.
-    breaks: bool,
+    pub(crate) breaks: bool,
 }
 
 /// What the slots so far have shown.
 #[derive(Clone, Copy)]
-struct Walk {
+pub(crate) struct Walk {
     /// The faulty nodes.
-    faulty: NodeSet,
+    pub(crate) faulty: NodeSet,
     /// The first slot in which a fault may come.
-    earliest: u32,
+    pub(crate) earliest: u32,
     /// The first slot with a fault that came too early.
-    early: Option<u32>,
+    pub(crate) early: Option<u32>,
     /// The first slot, from that of the start on, after which fewer than four nodes to measure are
     /// left.
-    unsteady: Option<u32>,
+    pub(crate) unsteady: Option<u32>,
 }
 
-// What a slot makes of the nodes that were faulty before it.
-fn faults_in(
+/// What a slot makes of the nodes that are faulty at its beginning.
+pub(crate) fn faults_in(
     list: &Medl,
     script: &Script,
     start: Start,
@@ -54,12 +54,9 @@ fn faults_in(
 ) -> SlotFaults
     requires valid { IsValid list.now }
     requires script { IsValidScript list.now script.now }
-    requires inside { outside_broken list.now script.now ≡ None }
-    requires faulty { AreFaultyBefore list.now script.now (told_start start) slot faulty }
-    ensures faulty { AreFaultyBefore list.now script.now (told_start start) (slot + 1) result.faulty }
-    ensures count { result.count ≡ length (faulty_nodes_in list.now script.now (told_start start) slot
-        (faulty_nodes_before list.now script.now (told_start start) slot)) }
-    ensures breaks { result.breaks ≡ breaks_in list.now script.now (told_start start) slot }
+    requires inside { disturbance_broken list.now script.now ≡ None }
+    ensures { (before : List FaultyNode) → HaveSameNodes faulty (numbers_of before)
+        → AreFaultsIn list.now script.now (told_start start) slot before result }
 {
     let incidents = incidents_in(list, script, slot, last);
     let jumpers = jumpers_in(list, script, &incidents, faulty, slot);
@@ -73,12 +70,12 @@ fn faults_in(
     }
 }
 
-// A walk before the first slot.
-fn first_walk(list: &Medl, start: Start) -> Walk
+/// A walk before the first slot.
+pub(crate) fn first_walk(list: &Medl, start: Start) -> Walk
     requires valid { IsValid list.now }
     requires bound { start.slot < SLOT_LIMIT + 3 * most_nodes }
-    ensures { (script : Script) → start_of list.now script ≡ Some (told_start start)
-        → HasWalked list.now script (told_start start) 0 result }
+    ensures { (script : Script) (course : Course) → start_of list.now script ≡ Some (told_start start)
+        → HasWalked list.now script (told_start start) course 0 result }
 {
     Walk {
         faulty: NodeSet::empty(),
@@ -86,6 +83,37 @@ fn first_walk(list: &Medl, start: Start) -> Walk
         early: None,
         unsteady: None,
     }
+}
+
+/// The walk over one slot more, which makes these faults, unless its losses are those of more than one.
+pub(crate) fn walk_with(
+    list: &Medl,
+    script: &Script,
+    start: Start,
+    slot: u32,
+    walk: Walk,
+    faults: SlotFaults,
+) -> Option<Walk>
+    requires valid { IsValid list.now }
+    requires script { IsValidScript list.now script.now }
+    requires bound { slot < SLOT_LIMIT + 3 * most_nodes }
+    ensures { (course : Course) → HasWalked list.now script.now (told_start start) course slot walk
+        → AreFaultsOf course slot faults
+        → MatchOption result ((slot < script.now.slots) × (course.breaks slot ≡ true))
+        (λ walk. HasWalked list.now script.now (told_start start) course (slot + 1) walk) }
+{
+    let is_within_run = slot < script.slots;
+    if is_within_run && faults.breaks {
+        return None;
+    }
+    let count = if is_within_run { faults.count } else { 0 };
+    let gap = 2 * u32::from(list.nodes());
+    Some(Walk {
+        faulty: faults.faulty,
+        earliest: earliest_with(gap, walk.earliest, count, slot),
+        early: early_with(walk.early, walk.earliest, count, slot),
+        unsteady: unsteady_with(list, script, start, slot, faults.faulty, walk.unsteady),
+    })
 }
 
 // The walk over one slot more, unless the slot's losses are those of more than one fault.
@@ -99,26 +127,17 @@ fn walk_over(
 ) -> Option<Walk>
     requires valid { IsValid list.now }
     requires script { IsValidScript list.now script.now }
-    requires inside { outside_broken list.now script.now ≡ None }
+    requires inside { disturbance_broken list.now script.now ≡ None }
     requires bound { slot < SLOT_LIMIT + 3 * most_nodes }
-    requires walked { HasWalked list.now script.now (told_start start) slot walk }
+    requires walked { HasWalked list.now script.now (told_start start)
+        (keep_course list.now script.now (told_start start)) slot walk }
     ensures { MatchOption result
         ((slot < script.now.slots) × (breaks_in list.now script.now (told_start start) slot ≡ true))
-        (λ walk. HasWalked list.now script.now (told_start start) (slot + 1) walk) }
+        (λ walk. HasWalked list.now script.now (told_start start)
+        (keep_course list.now script.now (told_start start)) (slot + 1) walk) }
 {
     let faults = faults_in(list, script, start, slot, walk.faulty, last);
-    let is_within_run = slot < script.slots;
-    if is_within_run && faults.breaks {
-        return None;
-    }
-    let count = if is_within_run { faults.count } else { 0 };
-    let gap = 2 * u32::from(list.nodes());
-    Some(Walk {
-        faulty: faults.faulty,
-        earliest: earliest_with(gap, walk.earliest, count, slot),
-        early: early_with(walk.early, walk.earliest, count, slot),
-        unsteady: unsteady_with(list, script, start, slot, faults.faulty, walk.unsteady),
-    })
+    walk_with(list, script, start, slot, walk, faults)
 }
 
 // What a walk over the whole run says of the rules on the distances of faults and on nodes to
@@ -138,7 +157,7 @@ fn walk_keep(start: Start, walk: Walk) -> Keep
 pub(crate) fn started_keep(list: &Medl, script: &Script, start: Start) -> Keep
     requires valid { IsValid list.now }
     requires script { IsValidScript list.now script.now }
-    requires inside { outside_broken list.now script.now ≡ None }
+    requires inside { disturbance_broken list.now script.now ≡ None }
     requires starts { start_of list.now script.now ≡ Some (told_start start) }
     requires bound { start.slot < SLOT_LIMIT + 3 * most_nodes }
     ensures { result ≡ started_keep list.now script.now (Some (told_start start)) }

@@ -8,6 +8,8 @@ use Rattle.std.proofs.lemmas.List.Concat.{flat_map-append}
 use Rattle.std.proofs.lemmas.List.Elements.{All-get_or, All-tail}
 use Rattle.std.proofs.lemmas.Nat.{from_be_bytes-to_be_bytes_8}
 use Rattle.ttp_base.specs.Text.{newline, hex_digit, hex, byte_hex, hex_bytes}
+use Rattle.ttp_world.specs.declared.keep.Back.{Back}
+use Rattle.ttp_world.specs.declared.keep.Back.TheVariants as back
 use Rattle.ttp_world.specs.declared.keep.Keep.{Keep}
 use Rattle.ttp_world.specs.declared.keep.Keep.TheVariants as keep
 use Rattle.ttp_world.specs.declared.medl.Medl.{Medl}
@@ -18,7 +20,7 @@ use Rattle.ttp_world.specs.declared.node.Reason.TheVariants as reason
 use Rattle.ttp_world.specs.declared.node.Verdict.TheVariants as verdict
 use Rattle.ttp_world.specs.declared.script.Source.TheVariants as source
 use Rattle.ttp_world.specs.Fitting.{append_byte}
-use Rattle.ttp_world.specs.Trace.{entry_word, word_hex, host_head, keep_line}
+use Rattle.ttp_world.specs.Trace.{entry_word, word_hex, host_head, keep_line, back_line}
 use Rattle.trace_text.specs.declared.trace_line.TraceLine.TheVariants as line
 use Rattle.trace_text.specs.TraceLines.{word_text, text_of}
 use Rattle.trace_text.specs.HostLines.{message_line}
@@ -122,3 +124,7 @@ status-value slot host number words small =
 pub keep-value : (k : Keep) → keep_line k ≡ text_of (line.Keep k) ++ newline
 keep-value (keep.Yes start) = refl
 keep-value (keep.No rule slot) = refl
+
+pub back-value : (b : Back) → back_line b ≡ text_of (line.Back b) ++ newline
+back-value (back.Yes start) = refl
+back-value (back.No rule slot) = refl

@@ -15,7 +15,9 @@ use Rattle.trace_text.specs.Reading.{numeral_in, byte_in, offset_in, byte_or_das
 use Rattle.trace_text.specs.Reading.{ack_in}
 use Rattle.trace_text.specs.Reading.{source_in, schedule_in, members_word_in, payload_in, has_size}
 use Rattle.trace_text.specs.Reading.{head_labels, node_labels, write_labels, read_labels, kept_labels, broken_labels}
-use Rattle.trace_text.specs.Reading.{head_in, node_in, write_in, read_in, kept_in, broken_in, or_else, line_in}
+use Rattle.trace_text.specs.Reading.{owed_labels, refused_labels}
+use Rattle.trace_text.specs.Reading.{head_in, node_in, write_in, read_in, kept_in, broken_in, owed_in, refused_in}
+use Rattle.trace_text.specs.Reading.{or_else, line_in}
 use Rattle.trace_text.specs.TraceLines.{slot_digits, message_digits, fits_word, text_of, Fits}
 use Rattle.trace_text.proofs.FieldLists.{fields_in-cons, fields_in-nil}
 use Rattle.trace_text.proofs.Options.{bound, guarded, some_same}
@@ -131,6 +133,33 @@ broken-takes bytes v e =
       words_take broken_labels bytes b.value b.read
           ∙ two_nested (codes "keeps no H") (word_at b.value 0) (codes " ") (word_at b.value 1)
           ∙ (λ i. codes "keeps no H" ++ r.text i ++ codes " " ++ t.text i),
+    )
+
+pub owed-takes : (bytes : List ℕ) (v : TraceLine) → owed_in bytes ≡ Some v → IsRead bytes v
+unfolding owed_in
+owed-takes bytes v e =
+    let b = bound (fields_in owed_labels bytes) _ v e in
+    let start = bound (numeral_in slot_digits (word_at b.value 0)) _ v b.gives in
+    let t = numeral-takes slot_digits (word_at b.value 0) start.value slots_are_few start.read in
+    subst (IsRead bytes) (some_same _ v start.gives) (
+      t.small,
+      words_take owed_labels bytes b.value b.read ∙ one_nested (codes "returns yes start ") (word_at b.value 0)
+          ∙ (λ i. codes "returns yes start " ++ t.text i),
+    )
+
+pub refused-takes : (bytes : List ℕ) (v : TraceLine) → refused_in bytes ≡ Some v → IsRead bytes v
+unfolding refused_in
+refused-takes bytes v e =
+    let b = bound (fields_in refused_labels bytes) _ v e in
+    let rule = bound (byte_in (word_at b.value 0)) _ v b.gives in
+    let slot = bound (numeral_in slot_digits (word_at b.value 1)) _ v rule.gives in
+    let r = byte-takes (word_at b.value 0) rule.value rule.read in
+    let t = numeral-takes slot_digits (word_at b.value 1) slot.value slots_are_few slot.read in
+    subst (IsRead bytes) (some_same _ v slot.gives) (
+      (r.small, t.small),
+      words_take refused_labels bytes b.value b.read
+          ∙ two_nested (codes "returns no Q") (word_at b.value 0) (codes " ") (word_at b.value 1)
+          ∙ (λ i. codes "returns no Q" ++ r.text i ++ codes " " ++ t.text i),
     )
 
 pub write-takes : (bytes : List ℕ) (v : TraceLine) → write_in bytes ≡ Some v → IsRead bytes v
@@ -274,7 +303,9 @@ line-takes bytes v =
     (one_or P (read_in bytes) _ v (read-takes bytes v)
     (one_or P (write_in bytes) _ v (write-takes bytes v)
     (one_or P (head_in bytes) _ v (head-takes bytes v)
-    (one_or P (kept_in bytes) _ v (kept-takes bytes v) (broken-takes bytes v)))))
+    (one_or P (kept_in bytes) _ v (kept-takes bytes v)
+    (one_or P (broken_in bytes) _ v (broken-takes bytes v)
+    (one_or P (owed_in bytes) _ v (owed-takes bytes v) (refused-takes bytes v)))))))
 
 pub read_is_line : (bytes : List ℕ) (result : Option TraceLine) → result ≡ line_in bytes
     → IfSome result (λ v. Fits v × (bytes ≡ text_of v))

@@ -13,6 +13,7 @@ use Rattle.std.proofs.lemmas.List.{take_at, drop_at}
 use Rattle.ttp_base.specs.NodeSet.{set_bits}
 use Rattle.ttp_base.specs.Text.{hex, hex_bytes}
 use Rattle.ttp_base.proofs.Numerals.{has, has-decimal, has-signed, has-hex, has-hex_bytes}
+use Rattle.ttp_world.specs.declared.keep.Back.TheVariants as back
 use Rattle.ttp_world.specs.declared.keep.Keep.TheVariants as keep
 use Rattle.ttp_world.specs.declared.node.Ack.{Ack}
 use Rattle.ttp_world.specs.declared.script.Source.{Source}
@@ -27,7 +28,9 @@ use Rattle.trace_text.specs.declared.trace_line.Word.{Word}
 use Rattle.trace_text.specs.declared.trace_line.Word.TheVariants as word
 use Rattle.trace_text.specs.Reading.{◌>>=◌, is_space, after_label, word_end, fields_in, source_in, has_size}
 use Rattle.trace_text.specs.Reading.{head_labels, node_labels, write_labels, read_labels, kept_labels, broken_labels}
-use Rattle.trace_text.specs.Reading.{head_in, node_in, write_in, read_in, kept_in, broken_in, line_in}
+use Rattle.trace_text.specs.Reading.{owed_labels, refused_labels}
+use Rattle.trace_text.specs.Reading.{head_in, node_in, write_in, read_in, kept_in, broken_in, owed_in, refused_in}
+use Rattle.trace_text.specs.Reading.{line_in}
 use Rattle.trace_text.specs.TraceLines.{slot_digits, message_digits, word_text, text_of, Fits, FitsSource}
 use Rattle.trace_text.proofs.FieldLists.{fields_in-cons, fields_in-nil}
 use Rattle.trace_text.proofs.ReadLines.{labelled, one_nested, two_nested, host_nested, five_nested, read_nested}
@@ -242,6 +245,41 @@ broken-again rule slot few small =
       numeral-again slot_digits slot slots_are_some slots_are_few small,
     ) refl
 
+owed-again : (start : ℕ) → start < 10 ^ slot_digits → IsRead (line.Back (back.Yes start))
+unfolding line_in node_in read_in write_in head_in kept_in broken_in owed_in begins
+owed-again start small =
+    let text = codes "returns yes start " ++ (decimal start ++ []) in
+    sym (ap line_in (one_nested (codes "returns yes start ") (decimal start)))
+    ∙ rw (
+      fields_in-other (codes "slot ") (drop 1 node_labels) text refl,
+      fields_in-other (codes "slot ") (drop 1 read_labels) text refl,
+      fields_in-other (codes "slot ") (drop 1 write_labels) text refl,
+      fields_in-other (codes "ttpbench trace ") (drop 1 head_labels) text refl,
+      fields_in-other (codes "keeps yes start ") (drop 1 kept_labels) text refl,
+      fields_in-other (codes "keeps no H") (drop 1 broken_labels) text refl,
+      fields-again (codes "returns yes start ") [] (decimal start) [] refl tt (bare start, tt),
+      numeral-again slot_digits start slots_are_some slots_are_few small,
+    ) refl
+
+refused-again : (rule slot : ℕ) → rule < 256 → slot < 10 ^ slot_digits → IsRead (line.Back (back.No rule slot))
+unfolding line_in node_in read_in write_in head_in kept_in broken_in owed_in refused_in begins
+refused-again rule slot few small =
+    let text = codes "returns no Q" ++ (decimal rule ++ (codes " " ++ (decimal slot ++ []))) in
+    sym (ap line_in (two_nested (codes "returns no Q") (decimal rule) (codes " ") (decimal slot)))
+    ∙ rw (
+      fields_in-other (codes "slot ") (drop 1 node_labels) text refl,
+      fields_in-other (codes "slot ") (drop 1 read_labels) text refl,
+      fields_in-other (codes "slot ") (drop 1 write_labels) text refl,
+      fields_in-other (codes "ttpbench trace ") (drop 1 head_labels) text refl,
+      fields_in-other (codes "keeps yes start ") (drop 1 kept_labels) text refl,
+      fields_in-other (codes "keeps no H") (drop 1 broken_labels) text refl,
+      fields_in-other (codes "returns yes start ") (drop 1 owed_labels) text refl,
+      fields-again (codes "returns no Q") (drop 1 refused_labels) (decimal rule) (decimal slot ∷ []) refl (refl, tt)
+          (bare rule, (bare slot, tt)),
+      byte-again rule few,
+      numeral-again slot_digits slot slots_are_some slots_are_few small,
+    ) refl
+
 head-again : (version nodes rounds slots schedule : ℕ) → Fits (line.Header version nodes rounds slots schedule)
     → IsRead (line.Header version nodes rounds slots schedule)
 unfolding line_in node_in read_in write_in head_in begins
@@ -379,3 +417,5 @@ line-again (line.Write slot host number) fits = write-again slot host number fit
 line-again (line.Read slot host from number payload) fits = read-again slot host from number payload fits
 line-again (line.Keep (keep.Yes start)) fits = kept-again start fits
 line-again (line.Keep (keep.No rule slot)) fits = broken-again rule slot fits.0 fits.1
+line-again (line.Back (back.Yes start)) fits = owed-again start fits
+line-again (line.Back (back.No rule slot)) fits = refused-again rule slot fits.0 fits.1

@@ -6,6 +6,7 @@ use Rattle.std.specs.Prelude.{unwrap_or, slice_get, if◌then◌else◌, positio
 use Rattle.std.specs.List.{list_all}
 use Rattle.std.specs.Str.{bytes_eq}
 use Rattle.ttp_base.specs.NodeSet.{members_in}
+use Rattle.ttp_world.specs.declared.keep.Back.TheVariants as back
 use Rattle.ttp_world.specs.declared.keep.Keep.TheVariants as keep
 use Rattle.ttp_world.specs.declared.node.Ack.{Ack}
 use Rattle.ttp_world.specs.declared.node.Ack.TheVariants as ack
@@ -171,6 +172,12 @@ kept_labels = codes "keeps yes start " ∷ []
 abbrev pub broken_labels : List (List ℕ)
 broken_labels = codes "keeps no H" ∷ codes " " ∷ []
 
+abbrev pub owed_labels : List (List ℕ)
+owed_labels = codes "returns yes start " ∷ []
+
+abbrev pub refused_labels : List (List ℕ)
+refused_labels = codes "returns no Q" ∷ codes " " ∷ []
+
 unfoldable pub head_in : List ℕ → Option TraceLine
 head_in bytes = do
   words ← fields_in head_labels bytes
@@ -228,6 +235,19 @@ broken_in bytes = do
   slot ← numeral_in slot_digits (word_at words 1)
   Some (line.Keep (keep.No rule slot))
 
+unfoldable pub owed_in : List ℕ → Option TraceLine
+owed_in bytes = do
+  words ← fields_in owed_labels bytes
+  start ← numeral_in slot_digits (word_at words 0)
+  Some (line.Back (back.Yes start))
+
+unfoldable pub refused_in : List ℕ → Option TraceLine
+refused_in bytes = do
+  words ← fields_in refused_labels bytes
+  rule ← byte_in (word_at words 0)
+  slot ← numeral_in slot_digits (word_at words 1)
+  Some (line.Back (back.No rule slot))
+
 abbrev pub or_else : Option TraceLine → Option TraceLine → Option TraceLine
 or_else None other = other
 or_else (Some v) other = Some v
@@ -236,4 +256,5 @@ or_else (Some v) other = Some v
 unfoldable pub line_in : List ℕ → Option TraceLine
 line_in bytes =
     or_else (node_in bytes) (or_else (read_in bytes) (or_else (write_in bytes) (
-    or_else (head_in bytes) (or_else (kept_in bytes) (broken_in bytes)))))
+    or_else (head_in bytes) (or_else (kept_in bytes) (or_else (broken_in bytes) (
+    or_else (owed_in bytes) (refused_in bytes)))))))

@@ -5,6 +5,8 @@ use Rattle.std.specs.Prelude.{if◌then◌else◌}
 use Rattle.std.specs.Fmt.{signed_decimal}
 use Rattle.ttp_base.specs.NodeSet.{set_bits, members_in}
 use Rattle.ttp_base.specs.Text.{hex, hex_bytes}
+use Rattle.ttp_world.specs.declared.keep.Back.{Back}
+use Rattle.ttp_world.specs.declared.keep.Back.TheVariants as back
 use Rattle.ttp_world.specs.declared.keep.Keep.{Keep}
 use Rattle.ttp_world.specs.declared.keep.Keep.TheVariants as keep
 use Rattle.ttp_world.specs.declared.node.Ack.{Ack}
@@ -42,6 +44,10 @@ abbrev pub keep_text : Keep → List ℕ
 keep_text (keep.Yes start) = codes "keeps yes start " ++ decimal start
 keep_text (keep.No rule slot) = codes "keeps no H" ++ decimal rule ++ codes " " ++ decimal slot
 
+abbrev pub back_text : Back → List ℕ
+back_text (back.Yes start) = codes "returns yes start " ++ decimal start
+back_text (back.No rule slot) = codes "returns no Q" ++ decimal rule ++ codes " " ++ decimal slot
+
 -- the line of a value, without its line feed
 abbrev pub text_of : TraceLine → List ℕ
 text_of (line.Header version nodes rounds slots schedule) =
@@ -59,6 +65,7 @@ text_of (line.Read slot host from number payload) =
     host_head slot host ++ codes " read " ++ source_word from ++ codes " " ++ decimal number
     ++ codes " " ++ hex_bytes payload
 text_of (line.Keep k) = keep_text k
+text_of (line.Back b) = back_text b
 
 -- What fits.
 
@@ -93,6 +100,10 @@ fits_word w peer message =
 abbrev pub FitsKeep : Keep → Type 0
 FitsKeep (keep.Yes start) = start < 10 ^ slot_digits
 FitsKeep (keep.No rule slot) = (rule < 256) × (slot < 10 ^ slot_digits)
+
+abbrev pub FitsBack : Back → Type 0
+FitsBack (back.Yes start) = start < 10 ^ slot_digits
+FitsBack (back.No rule slot) = (rule < 256) × (slot < 10 ^ slot_digits)
 
 abbrev pub FitsAck : Ack → Type 0
 FitsAck ack.Closed = Unit {0}
@@ -153,3 +164,4 @@ Fits (line.Node slot k w peer message wide members accepted rejected a offset) =
 Fits (line.Write slot host number) = FitsWrite slot host number
 Fits (line.Read slot host from number payload) = FitsRead slot host from number payload
 Fits (line.Keep k) = FitsKeep k
+Fits (line.Back b) = FitsBack b

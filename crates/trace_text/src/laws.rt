@@ -1,13 +1,14 @@
 //! Laws over the definitions. The functions do nothing; their contracts are the laws.
 ghost use Rattle.std.specs.Prelude.{◌≡◌, ℕ, ◌<◌, ◌^◌, ◌++◌, All, List, Option, length};
 ghost use Rattle.ttp_base.specs.Text.{newline};
+ghost use Rattle.ttp_world.specs.declared.keep.Back.{Back};
 ghost use Rattle.ttp_world.specs.declared.keep.Keep.{Keep};
 ghost use Rattle.ttp_world.specs.declared.medl.Medl.{Medl};
 ghost use Rattle.ttp_world.specs.declared.node.NodeState.{NodeState};
 ghost use Rattle.ttp_world.specs.declared.script.Script.{Script};
 ghost use Rattle.ttp_world.specs.declared.script.Source.{Source};
 ghost use Rattle.ttp_world.specs.declared.script.Source.TheVariants as source;
-ghost use Rattle.ttp_world.specs.Trace.{trace_head, keep_line};
+ghost use Rattle.ttp_world.specs.Trace.{trace_head, keep_line, back_line};
 ghost use Rattle.ttp_world.specs.Words.{words_of_payload};
 ghost use Rattle.trace_text.specs.declared.trace_line.TraceLine.{TraceLine};
 ghost use Rattle.trace_text.specs.declared.trace_line.TraceLine.TheVariants as line;
@@ -41,4 +42,5 @@ pub fn lines_of_traces()
         → message_line slot host (source.Node p) number payload
         ≡ text_of (line.Read slot host (source.Node p) number payload) ++ newline }
     ensures keep { (k : Keep) → keep_line k ≡ text_of (line.Keep k) ++ newline }
+    ensures back { (b : Back) → back_line b ≡ text_of (line.Back b) ++ newline }
 {}

@@ -1,11 +1,11 @@
 //! The lines of a trace: its first line, the line of a node after a slot, the lines of what a host
-//! wrote and read in it, and the line of the hypothesis test, which is the last.
+//! wrote and read in it, and at its end the line of the hypothesis test and the one on armed nodes.
 //!
 //! Each line is formed in a buffer of fixed size and written as one piece, so no call takes memory. The
 //! lines of nodes and hosts, which are many, are formed in a buffer of the caller's, one for all of them.
-//! What a line says is `trace_head`, `node_line` and `keep_line` of `ttp_world`, and `written_line` and
-//! `message_line` of this crate, which are those of the definition of a trace; which state and which
-//! message a line shows, and which answer the last line does, is the caller's.
+//! What a line says is `trace_head`, `node_line`, `keep_line` and `back_line` of `ttp_world`, and
+//! `written_line` and `message_line` of this crate, which are those of the definition of a trace; which
+//! state and which message a line shows, and which answer the last lines do, is the caller's.
 //!
 //! [`put_slot`] writes all lines of a slot from its report.
 //!
@@ -15,6 +15,7 @@
 //! The crate runs and tests nothing, and knows nothing of histories.
 #![tactic(auto)]
 
+mod back_line;
 mod digits;
 mod fields;
 mod head_line;
@@ -32,7 +33,7 @@ mod words;
 
 pub use host_line::RingMessage;
 pub use node_line::NodeLines;
-pub use put::{put_header, put_keep, put_node_line, put_read_line, put_write_line};
+pub use put::{put_back, put_header, put_keep, put_node_line, put_read_line, put_write_line};
 pub use read::read_line;
 pub use slot::put_slot;
 pub use trace_line::{TraceLine, Word};

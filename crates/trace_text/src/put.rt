@@ -2,16 +2,17 @@
 ghost use Rattle.std.specs.Prelude.{◌≡◌, [], ◌∷◌, OnOk, OnErr};
 ghost use Rattle.ttp_base.specs.Outside.{WroteLines, CutShort};
 ghost use Rattle.ttp_world.specs.Medl.{IsValid};
-ghost use Rattle.ttp_world.specs.Trace.{trace_head, keep_line};
+ghost use Rattle.ttp_world.specs.Trace.{trace_head, keep_line, back_line};
 ghost use Rattle.trace_text.specs.HostLines.{message_in, HasWords, written_line, message_line};
 ghost use Rattle.trace_text.specs.LineParts.{HasDigits, listed_line};
 
+use crate::back_line::back_line;
 use crate::head_line::head_line;
 use crate::host_line::{RingMessage, make_read_line, make_write_line};
 use crate::keep_line::keep_line;
 use crate::node_line::NodeLines;
 use ttp_base::{Failed, Line, Sink};
-use ttp_world::{Keep, Medl, NodeState, Script};
+use ttp_world::{Back, Keep, Medl, NodeState, Script};
 
 /// Writes the first line of a trace, as one piece. `Failed` is the sink's: some first bytes of the
 /// line were written, or none. Takes no memory.
@@ -100,4 +101,13 @@ pub fn put_keep<K: Sink>(keep: &Keep, out: &mut K) -> Result<(), Failed>
     ensures failed { OnErr result (CutShort (K.output out.old) (K.output out.new) (keep_line keep.now ∷ [])) }
 {
     out.write(keep_line(keep).bytes())
+}
+
+/// Writes the line on armed nodes, `returns yes start S` or `returns no QR T`, as one piece. `Failed`
+/// is the sink's: some first bytes of the line were written, or none. Takes no memory.
+pub fn put_back<K: Sink>(back: &Back, out: &mut K) -> Result<(), Failed>
+    ensures ok { OnOk result (WroteLines (K.output out.old) (K.output out.new) (back_line back.now ∷ [])) }
+    ensures failed { OnErr result (CutShort (K.output out.old) (K.output out.new) (back_line back.now ∷ [])) }
+{
+    out.write(back_line(back).bytes())
 }

@@ -2,7 +2,8 @@
 ghost use Rattle.std.specs.Prelude.{◌≡◌, IfSome};
 ghost use Rattle.trace_text.specs.TraceLines.{text_of, Fits};
 ghost use Rattle.trace_text.specs.declared.trace_line.TraceLine.{TraceLine as Line};
-ghost use Rattle.trace_text.specs.Reading.{head_in, node_in, write_in, read_in, kept_in, broken_in, line_in};
+ghost use Rattle.trace_text.specs.Reading.{head_in, node_in, write_in, read_in, kept_in, broken_in, owed_in};
+ghost use Rattle.trace_text.specs.Reading.{refused_in, line_in};
 
 use crate::digits::{is_wide, members_in, payload_in, schedule_in};
 use crate::fields::fields_in;
@@ -11,7 +12,7 @@ use crate::numerals::{
     byte_in, byte_or_dash_in, message_in, message_or_dash_in, offset_in, slot_in,
 };
 use crate::trace_line::TraceLine;
-use ttp_world::Keep;
+use ttp_world::{Back, Keep};
 
 // The first line.
 #[tactic(auto, unfolding(crate::specs::Reading::head_in))]
@@ -139,6 +140,27 @@ fn broken_in(bytes: &[u8]) -> Option<TraceLine>
     Some(TraceLine::Keep(Keep::No { rule, slot }))
 }
 
+// The line on armed nodes where each is owed its place.
+#[tactic(auto, unfolding(crate::specs::Reading::owed_in))]
+fn owed_in(bytes: &[u8]) -> Option<TraceLine>
+    ensures { result ≡ owed_in bytes.now }
+{
+    let words = fields_in(&["returns yes start "], bytes)?;
+    let start = slot_in(words.at(0))?;
+    Some(TraceLine::Back(Back::Yes { start }))
+}
+
+// The line on armed nodes where a rule is broken.
+#[tactic(auto, unfolding(crate::specs::Reading::refused_in))]
+fn refused_in(bytes: &[u8]) -> Option<TraceLine>
+    ensures { result ≡ refused_in bytes.now }
+{
+    let words = fields_in(&["returns no Q", " "], bytes)?;
+    let rule = byte_in(words.at(0))?;
+    let slot = slot_in(words.at(1))?;
+    Some(TraceLine::Back(Back::No { rule, slot }))
+}
+
 // The value of a line, if it is one.
 #[tactic(auto, unfolding(crate::specs::Reading::line_in))]
 fn line_in(bytes: &[u8]) -> Option<TraceLine>
@@ -159,7 +181,13 @@ fn line_in(bytes: &[u8]) -> Option<TraceLine>
     if let Some(line) = kept_in(bytes) {
         return Some(line);
     }
-    broken_in(bytes)
+    if let Some(line) = broken_in(bytes) {
+        return Some(line);
+    }
+    if let Some(line) = owed_in(bytes) {
+        return Some(line);
+    }
+    refused_in(bytes)
 }
 
 /// The value whose line these bytes are, without the line feed.

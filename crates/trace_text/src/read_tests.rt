@@ -1,7 +1,7 @@
 //! Lines of the format of the trace, and what is no such line.
 use crate::{TraceLine, Word, read_line};
 use ttp_base::Line;
-use ttp_world::{Ack, Keep, Source};
+use ttp_world::{Ack, Back, Keep, Source};
 
 #[test]
 fn lines(rt: HostRuntime) {
@@ -32,6 +32,8 @@ fn lines(rt: HostRuntime) {
         "slot 17 host 0 read 255 999999 fe",
         "keeps yes start 99999",
         "keeps no H255 99999",
+        "returns yes start 99999",
+        "returns no Q255 99999",
     ];
     for text in texts {
         assert!(rt; read_line(text.as_bytes()).is_some(), "{text}");
@@ -71,6 +73,12 @@ fn no_lines(rt: HostRuntime) {
         "keeps no 4 1",
         "keeps no H04 1",
         "keeps no H4",
+        "returns yes start 100000",
+        "returns yes 12",
+        "returns no Q256 1",
+        "returns no H8 1",
+        "returns no Q08 1",
+        "returns no Q8",
         "ttpbench trace 1 nodes 4 rounds 1 slots 12 schedule 00000",
         "ttpbench trace 1 nodes 4 rounds 1 slots 12 schedule 00000A",
         "ttpbench trace 256 nodes 4 rounds 1 slots 12 schedule 000000",
@@ -175,6 +183,12 @@ fn values_of_lines(rt: HostRuntime) {
         matches!(
             read_line(b"keeps no H6 41".as_slice()),
             Some(TraceLine::Keep(Keep::No { rule: 6, slot: 41 }))
+        )
+    );
+    assert!(rt;
+        matches!(
+            read_line(b"returns no Q8 37".as_slice()),
+            Some(TraceLine::Back(Back::No { rule: 8, slot: 37 }))
         )
     );
 }

@@ -3,11 +3,13 @@ ghost use Rattle.std.specs.Prelude.{◌≡◌};
 ghost use Rattle.trace_text.specs.LineParts.{HasDigits};
 
 use crate::host_line::{make_read_line, make_write_line};
-use crate::{NodeLines, RingMessage, put_keep, put_node_line, put_read_line, put_write_line};
+use crate::{
+    NodeLines, RingMessage, put_back, put_keep, put_node_line, put_read_line, put_write_line,
+};
 use std::alloc::Global;
 use std::test::Fail;
 use ttp_base::{Line, List, Memory, MemorySink, NodeSet};
-use ttp_world::{Ack, CState, Entry, Keep, Medl, NodeState, Phase, Reason, Source, Verdict};
+use ttp_world::{Ack, Back, CState, Entry, Keep, Medl, NodeState, Phase, Reason, Source, Verdict};
 
 // A list without slots: of it a line needs the version alone.
 fn list(rt: &HostRuntime, version: u8) -> Medl
@@ -384,6 +386,24 @@ fn answers_of_the_hypothesis_test(rt: HostRuntime) -> Result<(), Fail> {
     }
     let mut narrow = MemorySink::new(rt.alloc(), 13, List::new(rt.alloc()))?;
     assert!(rt; put_keep(&Keep::No { rule: 4, slot: 0 }, &mut narrow).is_err());
+    assert!(rt; narrow.bytes().is_empty(), "a part of a line was written");
+    Ok(())
+}
+
+#[test]
+fn answers_on_armed_nodes(rt: HostRuntime) -> Result<(), Fail> {
+    let rows = [
+        (Back::Yes { start: 12 }, "returns yes start 12\n"),
+        (Back::No { rule: 8, slot: 37 }, "returns no Q8 37\n"),
+        (Back::No { rule: 2, slot: 0 }, "returns no Q2 0\n"),
+    ];
+    for (back, text) in rows {
+        let mut out = MemorySink::new(rt.alloc(), 21, List::new(rt.alloc()))?;
+        assert!(rt; put_back(&back, &mut out).is_ok());
+        assert!(rt; out.bytes() == text.as_bytes(), "{text}");
+    }
+    let mut narrow = MemorySink::new(rt.alloc(), 15, List::new(rt.alloc()))?;
+    assert!(rt; put_back(&Back::No { rule: 2, slot: 0 }, &mut narrow).is_err());
     assert!(rt; narrow.bytes().is_empty(), "a part of a line was written");
     Ok(())
 }

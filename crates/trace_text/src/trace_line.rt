@@ -1,6 +1,6 @@
 //! The lines of a trace as values.
 use ttp_base::NodeSet;
-use ttp_world::{Ack, Keep, Payload, Source};
+use ttp_world::{Ack, Back, Keep, Payload, Source};
 
 /// What a node did in a slot, as the word of its line.
 #[derive(Clone, Copy, Debug, PartialEq, Eq)]
@@ -68,4 +68,6 @@ pub enum TraceLine {
     },
     /// The answer of the hypothesis test.
     Keep(Keep),
+    /// Whether each armed node is owed its place.
+    Back(Back),
 }

@@ -27,6 +27,7 @@ pub mod World
 pub mod Messages
 pub mod Hypothesis
 pub mod Starts
+pub mod Returning
 pub mod Safety
 pub mod Legal
 pub mod Trace

@@ -6,6 +6,8 @@ use Rattle.std.specs.Fmt.{signed_decimal}
 pub use Rattle.std.specs.Fmt.{digits}
 use Rattle.ttp_base.specs.NodeSet.{below, set_bits}
 use Rattle.ttp_base.specs.Text.{Lines, newline, hex, hex_bytes}
+use Rattle.ttp_world.specs.declared.keep.Back.{Back}
+use Rattle.ttp_world.specs.declared.keep.Back.TheVariants as back
 use Rattle.ttp_world.specs.declared.keep.Keep.{Keep}
 use Rattle.ttp_world.specs.declared.keep.Keep.TheVariants as keep
 use Rattle.ttp_world.specs.declared.medl.Medl.{Medl}
@@ -181,6 +183,12 @@ history_lines list script (row ∷ history) (new ∷ numbers) =
 abbrev pub keep_line : Keep → List ℕ
 keep_line (keep.Yes start) = codes "keeps yes start " ++ decimal start ++ newline
 keep_line (keep.No rule slot) = codes "keeps no H" ++ decimal rule ++ codes " " ++ decimal slot ++ newline
+
+-- The line on armed nodes.
+
+abbrev pub back_line : Back → List ℕ
+back_line (back.Yes start) = codes "returns yes start " ++ decimal start ++ newline
+back_line (back.No rule slot) = codes "returns no Q" ++ decimal rule ++ codes " " ++ decimal slot ++ newline
 
 -- the trace before its last line, and the whole
 abbrev pub run_lines : Medl → Script → Numbers → Lines

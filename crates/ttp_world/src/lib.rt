@@ -28,7 +28,7 @@ mod weights;
 
 pub use events::{Events, FlippedBit, Incidents, LastLookUp};
 pub use host_lines::{HostRead, Written};
-pub use keep::Keep;
+pub use keep::{Back, Keep};
 pub use medl::{Kind, Medl, SlotPlan};
 pub use node::{
     Ack, Act, CState, ChannelView, Chosen, Delivered, Entry, NodeState, Phase, Reason, StatusWords,

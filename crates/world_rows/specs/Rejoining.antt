@@ -1,11 +1,14 @@
 -- Scripts and diaries of nodes that are armed to listen again.
-use Rattle.std.specs.Prelude.{ℕ, pos, Bool, true, [], ◌∷◌, map, replicate, Some, None}
+use Rattle.std.specs.Prelude.{ℕ, ◌==◌, pos, Bool, true, false, List, [], ◌∷◌, map, replicate, Some, None}
 use Rattle.ttp_base.specs.NodeSet.{below}
+use Rattle.ttp_world.specs.declared.medl.Kind.TheVariants as kind
 use Rattle.ttp_world.specs.declared.medl.Medl.{Medl}
+use Rattle.ttp_world.specs.declared.medl.SlotPlan.{SlotPlan}
 use Rattle.ttp_world.specs.declared.node.Entry.{Entry}
 use Rattle.ttp_world.specs.declared.node.Entry.TheVariants as entry
 use Rattle.ttp_world.specs.declared.node.Reason.TheVariants as reason
 use Rattle.ttp_world.specs.declared.node.Verdict.TheVariants as verdict
+use Rattle.ttp_world.specs.declared.script.Event.{Event}
 use Rattle.ttp_world.specs.declared.script.Event.TheVariants as event
 use Rattle.ttp_world.specs.declared.script.Fault.TheVariants as fault
 use Rattle.ttp_world.specs.declared.script.Script.{Script}
@@ -25,6 +28,24 @@ window_of_two = list_with (pos 0) (pos 0) (pos 2) (map (bare_slot (0 ∷ [])) (b
 -- node 2 sends noise, leaves in slot 28, and is armed in a slot
 abbrev pub armed_in : ℕ → Script
 armed_in slot = script_of 6 72 (event.Send 2 both fault.Noise 26 26 ∷ event.Arm 2 slot ∷ [])
+
+-- six nodes, whose frames carry a payload and no C-state
+abbrev pub implicit_slot : ℕ → SlotPlan
+implicit_slot k = record {
+  kinds = kind.N ∷ [];
+  payload = 8;
+  sync = true;
+  start = k == 0;
+  requests = false;
+  live = 1;
+}
+
+abbrev pub implicit_list : Medl
+implicit_list = list_with (pos 0) (pos 0) (pos 2) (map implicit_slot (below 6))
+
+-- node 2 sends noise and is armed in slot 40, in a run of so many slots with these events beside
+abbrev pub armed_until : ℕ → List Event → Script
+armed_until slots events = script_of 6 slots (event.Send 2 both fault.Noise 26 26 ∷ event.Arm 2 40 ∷ events)
 
 -- node 2 of five sends noise, and is armed before it leaves in slot 24 and in that slot
 abbrev pub armed_too_early : Script

@@ -16,6 +16,7 @@ pub mod messages;
 pub mod moves;
 pub mod pasts;
 pub mod rejoining;
+pub mod returning;
 pub mod starts;
 pub mod tests_of_hypothesis;
 pub mod version_2;

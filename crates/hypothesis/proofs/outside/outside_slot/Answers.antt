@@ -1,17 +1,18 @@
-use Rattle.std.proofs.Common.{◌≡◌, true, false, cond, Some, None, ap, sym, ◌∙◌, rules}
-use Rattle.ttp_world.specs.Hypothesis.{outside_slot, is_allowed_jump}
+use Rattle.std.proofs.Common.{◌≡◌, ◌≢◌, ℕ, refl, ◌∙◌}
+use Rattle.ttp_world.specs.declared.medl.Medl.{Medl}
+use Rattle.ttp_world.specs.declared.script.Event.{Event}
+use Rattle.ttp_world.specs.declared.script.Event.TheVariants as event
+use Rattle.ttp_world.specs.declared.script.Script.{Script}
+use Rattle.ttp_world.specs.Hypothesis.{outside_slot}
+use Rattle.ttp_world.specs.Returning.{disturbed_slot}
 use Rattle.hypothesis.proofs.outside.outside_slot.Goals as goal
 
-pub returns-then-is_allowed_jump : goal.returns-then-is_allowed_jump
-returns-then-is_allowed_jump c =
-    let allowed : is_allowed_jump c.args.list.now c.args.script.now c.in-Jump.node c.in-Jump.slot ≡ true =
-    search rules in
-    sym (ap (outside_slot c.args.list.now c.args.script.now) c.in-Jump.is
-    ∙ ap (λ b. cond b None (Some c.in-Jump.slot)) allowed)
+-- an event that is no arm line is outside where it disturbs
+no_arm : (list : Medl) (script : Script) (e : Event) → ((node at : ℕ) → e ≢ event.Arm node at)
+    → disturbed_slot list script e ≡ outside_slot list script e
+no_arm list script (event.Arm node at) other = absurd (other node at refl)
+no_arm list script _ other = refl
 
-pub returns-else-is_allowed_jump : goal.returns-else-is_allowed_jump
-returns-else-is_allowed_jump c =
-    let allowed : is_allowed_jump c.args.list.now c.args.script.now c.in-Jump.node c.in-Jump.slot ≡ false =
-    search rules in
-    sym (ap (outside_slot c.args.list.now c.args.script.now) c.in-Jump.is
-    ∙ ap (λ b. cond b None (Some c.in-Jump.slot)) allowed)
+pub returns-in_default : goal.returns-in_default
+returns-in_default c =
+    c.disturbed_slot.ensures ∙ no_arm c.args.list.now c.args.script.now c.args.event.now c.in_default.not-Arm

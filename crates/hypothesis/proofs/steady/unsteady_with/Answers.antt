@@ -3,66 +3,64 @@ use Rattle.std.proofs.Common.{filter, Some, None, ap, sym, ◌∙◌, rules, ari
 use Rattle.ttp_base.specs.NodeSet.{most_nodes}
 use Rattle.ttp_world.specs.declared.medl.Medl.{Medl}
 use Rattle.ttp_world.specs.declared.script.Script.{Script}
-use Rattle.ttp_world.specs.Hypothesis.{ClusterStart, numbers_of, nodes_of, is_steady, faulty_nodes_before}
-use Rattle.ttp_world.specs.Hypothesis.{has_four_steady, lacks_steady_after}
+use Rattle.ttp_world.specs.Hypothesis.{ClusterStart, numbers_of, nodes_of, is_steady}
 use Rattle.ttp_world.specs.Medl.{IsValid}
 use Rattle.ttp_world.proofs.Lists.{nodes-most}
-use Rattle.hypothesis.specs.Standing.{told_start, AreFaultyBefore}
-use Rattle.hypothesis.specs.Walks.{first_unsteady}
+use Rattle.hypothesis.specs.Standing.{told_start, HaveSameNodes}
+use Rattle.hypothesis.specs.Walks.{Course, first_unsteady, has_four_in, lacks_four_in}
 use Rattle.hypothesis.proofs.Firsts.{lack-found, lack-early, lack-next}
 use Rattle.hypothesis.proofs.SlotSteps.{same_steady}
 use Rattle.hypothesis.proofs.steady.unsteady_with.Goals as goal
 use Rattle.hypothesis.proofs.steady.unsteady_with.Goals.{then-is_some-via-then-is_some}
 use Rattle.hypothesis.proofs.steady.unsteady_with.Goals.{then-is_some-via-else-is_some+then-slot-start}
 
-unsteady-next : (list : Medl) (script : Script) (start : ClusterStart) (slot : ℕ) (faulty : List ℕ) (fine : Bool)
-    → IsValid list
-    → AreFaultyBefore list script start (slot + 1) faulty
+unsteady-next : (list : Medl) (script : Script) (start : ClusterStart) (course : Course) (slot : ℕ) (faulty : List ℕ)
+    (fine : Bool) → IsValid list
+    → HaveSameNodes faulty (numbers_of (course.after (slot + 1)))
     → fine ≡ nat_le 4 (length (filter (is_steady list script faulty) (nodes_of list)))
-    → start.slot ≤ slot + 1 → is_some (first_unsteady list script start slot) ≡ false
-    → first_unsteady list script start (slot + 1) ≡ cond fine None (Some (max slot start.slot))
-unsteady-next list script start slot faulty fine valid are is near none =
+    → start.slot ≤ slot + 1 → is_some (first_unsteady list script start course slot) ≡ false
+    → first_unsteady list script start course (slot + 1) ≡ cond fine None (Some (max slot start.slot))
+unsteady-next list script start course slot faulty fine valid are is near none =
     let few : length list.slots ≤ most_nodes = nodes-most list valid in
-    let enough : ℕ → Bool = λ t. has_four_steady list script (faulty_nodes_before list script start t) in
+    let enough : ℕ → Bool = has_four_in list script course in
     let next : suc slot ≡ slot + 1 = omega arith in
     let now : fine ≡ enough (slot + 1) = is
     ∙ ap (λ nodes. nat_le 4 (length nodes))
-    (same_steady list script faulty (numbers_of (faulty_nodes_before list script start (slot + 1))) few are) in
-    lack-next (enough start.slot) fine (lacks_steady_after list script start) start.slot slot near none
+    (same_steady list script faulty (numbers_of (course.after (slot + 1))) few are) in
+    lack-next (enough start.slot) fine (lacks_four_in list script course) start.slot slot near none
     (λ here. ap enough (sym here) ∙ sym now) (ap (λ t. not (enough t)) next ∙ ap not (sym now))
 
 pub returns-then-is_some : goal.returns-then-is_some
-returns-then-is_some c =
+returns-then-is_some c = λ course are so_far.
     let list = c.args.list.now in
     let script = c.args.script.now in
     let start = told_start c.args.start in
     let slot = c.args.slot in
-    let enough : Bool = has_four_steady list script (faulty_nodes_before list script start start.slot) in
+    let enough : Bool = has_four_in list script course start.slot in
     elim c.then-is_some.branch [
       | then-is_some-via-then-is_some w ↦
           let found : is_some c.args.unsteady ≡ true = search rules in
-          c.requires.unsteady
-          ∙ lack-found enough (lacks_steady_after list script start) start.slot slot
-          (ap is_some (sym c.requires.unsteady) ∙ found)
+          so_far
+          ∙ lack-found enough (lacks_four_in list script course) start.slot slot (ap is_some (sym so_far) ∙ found)
       | then-is_some-via-else-is_some+then-slot-start w ↦
-          c.requires.unsteady ∙ lack-early enough (lacks_steady_after list script start) start.slot slot (omega arith)
+          so_far ∙ lack-early enough (lacks_four_in list script course) start.slot slot (omega arith)
     ]
 
 pub returns-then-has_four_steady : goal.returns-then-has_four_steady
-returns-then-has_four_steady c =
+returns-then-has_four_steady c = λ course are so_far.
     let none : is_some c.args.unsteady ≡ false = search rules in
     let fine : c.has_four_steady.result ≡ true = search rules in
     sym (unsteady-next c.args.list.now c.args.script.now
-    (told_start c.args.start) c.args.slot c.args.faulty c.has_four_steady.result c.requires.valid
-    c.requires.faulty c.has_four_steady.ensures (omega arith) (ap is_some (sym c.requires.unsteady) ∙ none)
+    (told_start c.args.start) course c.args.slot c.args.faulty c.has_four_steady.result c.requires.valid
+    are c.has_four_steady.ensures (omega arith) (ap is_some (sym so_far) ∙ none)
     ∙ ap (λ b. cond b None (Some (max c.args.slot c.args.start.slot))) fine)
 
 pub returns-else-has_four_steady : goal.returns-else-has_four_steady
-returns-else-has_four_steady c =
+returns-else-has_four_steady c = λ course are so_far.
     let none : is_some c.args.unsteady ≡ false = search rules in
     let few : c.has_four_steady.result ≡ false = search rules in
     let last : max c.args.slot c.args.start.slot ≡ c.max.result = search rules in
     sym (unsteady-next c.args.list.now c.args.script.now
-    (told_start c.args.start) c.args.slot c.args.faulty c.has_four_steady.result c.requires.valid
-    c.requires.faulty c.has_four_steady.ensures (omega arith) (ap is_some (sym c.requires.unsteady) ∙ none)
+    (told_start c.args.start) course c.args.slot c.args.faulty c.has_four_steady.result c.requires.valid
+    are c.has_four_steady.ensures (omega arith) (ap is_some (sym so_far) ∙ none)
     ∙ ap (λ b. cond b None (Some (max c.args.slot c.args.start.slot))) few ∙ ap Some last)

@@ -1,11 +1,11 @@
-use Rattle.std.proofs.Common.{◌≡◌, ℕ, ◌+◌, ◌-◌, ◌%◌, ◌<◌, ◌≤◌, length, mod-lt, suc, subst, ap, sym, ◌∙◌, arith}
+use Rattle.std.proofs.Common.{◌≡◌, ℕ, ◌+◌, ◌-◌, ◌%◌, ◌<◌, ◌≤◌, length, mod-lt, ap, ◌∙◌, arith}
 use Rattle.ttp_base.specs.NodeSet.{most_nodes}
 use Rattle.ttp_world.specs.declared.medl.Medl.{Medl}
 use Rattle.ttp_world.specs.Medl.{IsValid}
-use Rattle.ttp_world.specs.Hypothesis.{ClusterStart, numbers_of, nodes_made, is_breaking, faulty_nodes_before, loss_in}
+use Rattle.ttp_world.specs.Hypothesis.{ClusterStart, numbers_of, nodes_made, is_breaking, loss_in}
 use Rattle.ttp_world.specs.Hypothesis.{expected_sender}
 use Rattle.ttp_world.proofs.Lists.{nodes-most}
-use Rattle.hypothesis.specs.Standing.{told_start, told_loss, HaveSameNodes}
+use Rattle.hypothesis.specs.Standing.{told_start, told_loss}
 use Rattle.hypothesis.proofs.SlotSteps.{fallen-same, same_jumpers, same_loss, faulty-next, count-next, count-fits}
 use Rattle.hypothesis.proofs.walk.faults_in.Goals as goal
 
@@ -26,58 +26,28 @@ overflow_add-result c =
     (told_loss c.loss_in-loss.result) few c.nodes_made-made.ensures c.jumpers_in-jumpers.ensures in
     omega (arith, fits, c.count.ensures, c.count-2.ensures)
 
-pub returns-clause-breaks : goal.returns-clause-breaks
-returns-clause-breaks c =
+pub returns : goal.returns
+returns c = λ so_far same.
     let list = c.args.list.now in
     let script = c.args.script.now in
     let start = told_start c.args.start in
-    let before = numbers_of (faulty_nodes_before list script start c.args.slot) in
-    let few : length list.slots ≤ most_nodes = nodes-most list c.requires.valid in
-    let fell =
-    fallen-same list script c.args.faulty before c.jumpers_in-jumpers.result c.united-fallen.result c.args.slot few
-    c.requires.faulty c.jumpers_in-jumpers.ensures c.united-fallen.ensures in
-    let loss : told_loss c.loss_in-loss.result ≡ loss_in list script start before c.args.slot =
-    c.loss_in-loss.ensures.value
-    ∙ same_loss list script start before c.united-fallen.result c.args.slot few
-    (sender-small list start c.args.slot c.requires.valid) fell in
-    c.is_breaking.ensures ∙ ap is_breaking loss
-
-pub returns-clause-faulty : goal.returns-clause-faulty
-returns-clause-faulty c =
-    let list = c.args.list.now in
-    let script = c.args.script.now in
-    let start = told_start c.args.start in
-    let so_far = faulty_nodes_before list script start c.args.slot in
+    let slot = c.args.slot in
     let before = numbers_of so_far in
     let few : length list.slots ≤ most_nodes = nodes-most list c.requires.valid in
     let fell =
-    fallen-same list script c.args.faulty before c.jumpers_in-jumpers.result c.united-fallen.result c.args.slot few
-    c.requires.faulty c.jumpers_in-jumpers.ensures c.united-fallen.ensures in
-    let loss : told_loss c.loss_in-loss.result ≡ loss_in list script start before c.args.slot =
+    fallen-same list script c.args.faulty before c.jumpers_in-jumpers.result c.united-fallen.result slot few same
+    c.jumpers_in-jumpers.ensures c.united-fallen.ensures in
+    let loss : told_loss c.loss_in-loss.result ≡ loss_in list script start before slot =
     c.loss_in-loss.ensures.value
-    ∙ same_loss list script start before c.united-fallen.result c.args.slot few
-    (sender-small list start c.args.slot c.requires.valid) fell in
-    let next : c.args.slot + 1 ≡ suc c.args.slot = omega arith in
-    subst (λ slot. HaveSameNodes c.united.result (numbers_of (faulty_nodes_before list script start slot))) (sym next)
-    (faulty-next list script start c.args.slot so_far c.nodes_made-made.result c.united-fallen.result c.united.result
-    (c.nodes_made-made.ensures ∙ ap nodes_made loss) fell c.united.ensures)
-
-pub returns-clause-count : goal.returns-clause-count
-returns-clause-count c =
-    let list = c.args.list.now in
-    let script = c.args.script.now in
-    let start = told_start c.args.start in
-    let so_far = faulty_nodes_before list script start c.args.slot in
-    let before = numbers_of so_far in
-    let few : length list.slots ≤ most_nodes = nodes-most list c.requires.valid in
-    let fell =
-    fallen-same list script c.args.faulty before c.jumpers_in-jumpers.result c.united-fallen.result c.args.slot few
-    c.requires.faulty c.jumpers_in-jumpers.ensures c.united-fallen.ensures in
-    let loss : told_loss c.loss_in-loss.result ≡ loss_in list script start before c.args.slot =
-    c.loss_in-loss.ensures.value
-    ∙ same_loss list script start before c.united-fallen.result c.args.slot few
-    (sender-small list start c.args.slot c.requires.valid) fell in
-    (λ i. c.count.ensures i + c.count-2.ensures i)
-    ∙ count-next list script start c.args.slot so_far c.nodes_made-made.result c.jumpers_in-jumpers.result
-    (c.nodes_made-made.ensures ∙ ap nodes_made loss)
-    (c.jumpers_in-jumpers.ensures ∙ same_jumpers list script c.args.faulty before c.args.slot few c.requires.faulty)
+    ∙ same_loss list script start before c.united-fallen.result slot few
+    (sender-small list start slot c.requires.valid) fell in
+    let made = c.nodes_made-made.ensures ∙ ap nodes_made loss in
+    record {
+      faulty =
+          faulty-next list script start slot so_far c.nodes_made-made.result c.united-fallen.result c.united.result
+          made fell c.united.ensures;
+      count = (λ i. c.count.ensures i + c.count-2.ensures i)
+          ∙ count-next list script start slot so_far c.nodes_made-made.result c.jumpers_in-jumpers.result made
+          (c.jumpers_in-jumpers.ensures ∙ same_jumpers list script c.args.faulty before slot few same);
+      breaks = c.is_breaking.ensures ∙ ap is_breaking loss;
+    }

@@ -1,29 +1,29 @@
 use Rattle.std.proofs.Common.{◌≡◌, ◌+◌, ◌*◌, ◌<◌, subst, ap, sym, ◌∙◌, rules, arith}
 use Rattle.std.specs.Prelude.{IfSome}
 use Rattle.ttp_base.specs.NodeSet.{has_node}
-use Rattle.ttp_world.specs.Hypothesis.{first_too_early, faulty_nodes_before, has_four_steady, lacks_steady_after}
+use Rattle.ttp_world.specs.Hypothesis.{first_too_early, numbers_of}
 use Rattle.hypothesis.specs.Standing.{told_start}
-use Rattle.hypothesis.specs.Walks.{earliest_after, two_rounds}
+use Rattle.hypothesis.specs.Walks.{earliest_after, two_rounds, has_four_in, lacks_four_in}
 use Rattle.hypothesis.proofs.FaultSlots.{fault_slots-none}
 use Rattle.hypothesis.proofs.Firsts.{lack-before}
 use Rattle.hypothesis.proofs.Starts.{start_of-later}
 use Rattle.hypothesis.proofs.walk.first_walk.Goals as goal
 
 pub returns : goal.returns
-returns c = λ script starts.
+returns c = λ script course starts.
     let list = c.args.list.now in
     let start = told_start c.args.start in
     let gap = two_rounds list in
-    let none = fault_slots-none list script start in
+    let none = fault_slots-none script course in
     let later : 0 < start.slot =
     subst (λ found. IfSome found (λ start. 0 < start.slot)) starts (start_of-later list script c.requires.valid) in
     let size : c.args.start.slot + 2 * c.from.result ≡ start.slot + gap = search rules in
     record {
       whole = λ k less within. absurd (omega arith);
-      faulty = λ k small. ap (λ nodes. has_node nodes k) c.empty.ensures;
+      faulty = λ k small. ap (λ nodes. has_node nodes k) c.empty.ensures
+          ∙ sym (ap (λ after. has_node (numbers_of after) k) course.clear);
       earliest = size ∙ sym (ap (earliest_after gap (start.slot + gap)) none);
       early = sym (ap (first_too_early gap (start.slot + gap)) none);
-      unsteady =
-          sym (lack-before (has_four_steady list script (faulty_nodes_before list script start start.slot))
-          (lacks_steady_after list script start) start.slot 0 later);
+      unsteady = sym (lack-before (has_four_in list script course start.slot)
+          (lacks_four_in list script course) start.slot 0 later);
     }

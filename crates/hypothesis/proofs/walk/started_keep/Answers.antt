@@ -1,7 +1,13 @@
 use Rattle.std.proofs.Common.{◌≡◌, max, ◌∙◌, rules, arith}
 use Rattle.hypothesis.specs.Standing.{told_start}
+use Rattle.hypothesis.specs.Walks.{keep_course}
 use Rattle.hypothesis.proofs.Walks.{broken-keep, walked-keep}
 use Rattle.hypothesis.proofs.walk.started_keep.Goals as goal
+
+pub loop-slot-init : goal.loop-slot-init
+loop-slot-init c =
+    c.first_walk-walk.ensures c.args.script.now
+    (keep_course c.args.list.now c.args.script.now (told_start c.args.start)) c.requires.starts
 
 pub returns-in-None : goal.returns-in-None
 returns-in-None c =

@@ -1,13 +1,8 @@
-use Rattle.std.proofs.Common.{◌≡◌, ◌+◌, ◌*◌, ◌<◌, ◌≤◌, replicate, false, length, ap, sym, ◌∙◌, below_more, rules, arith}
-use Rattle.std.specs.Option.{option_or}
-use Rattle.ttp_world.specs.Hypothesis.{first_too_early, breaks_in, faulty_nodes_before, faulty_nodes_in}
-use Rattle.hypothesis.specs.Standing.{told_start}
-use Rattle.hypothesis.specs.Walks.{earliest_after, fault_slots_before, two_rounds}
-use Rattle.hypothesis.proofs.FaultSlots.{fault_slots-next, earliest_after-append, first_too_early-append}
+use Rattle.std.proofs.Common.{◌≡◌, suc, ◌+◌, subst, sym, arith}
+use Rattle.ttp_world.specs.Hypothesis.{numbers_of, faulty_nodes_before}
+use Rattle.hypothesis.specs.Standing.{told_start, HaveSameNodes}
+use Rattle.hypothesis.specs.Walks.{keep_course}
 use Rattle.hypothesis.proofs.walk.walk_over.Goals as goal
-use Rattle.hypothesis.proofs.walk.walk_over.Goals.{then-is_within_run-2, else-is_within_run-2}
-use Rattle.hypothesis.proofs.walk.walk_over.Goals.{else-is_within_run-via-then-is_within_run+else-faults}
-use Rattle.hypothesis.proofs.walk.walk_over.Goals.{else-is_within_run-via-else-is_within_run}
 
 pub returns : goal.returns
 returns c =
@@ -16,38 +11,11 @@ returns c =
     let start = told_start c.args.start in
     let slot = c.args.slot in
     let walked = c.requires.walked in
-    let gap = two_rounds list in
-    let from = start.slot + gap in
-    let count = c.if-is_within_run-2.count in
-    let before = fault_slots_before list script start slot in
-    let within : slot < script.slots
-    → count ≡ length (faulty_nodes_in list script start slot (faulty_nodes_before list script start slot)) =
-    λ less.
-    elim c.if-is_within_run-2.branch [
-      | then-is_within_run-2 w ↦ w.count-is ∙ c.faults_in-faults.ensures.count
-      | else-is_within_run-2 w ↦ absurd (omega arith)
-    ] in
-    let past : script.slots ≤ slot → count ≡ 0 = λ over. elim c.if-is_within_run-2.branch [
-      | then-is_within_run-2 w ↦ absurd (omega arith)
-      | else-is_within_run-2 w ↦ w.count-is
-    ] in
-    let fine : slot < script.slots → breaks_in list script start slot ≡ false =
-    λ less. elim c.else-is_within_run.branch [
-      | else-is_within_run-via-then-is_within_run+else-faults w ↦ search rules
-      | else-is_within_run-via-else-is_within_run w ↦ absurd (omega arith)
-    ] in
-    let next = fault_slots-next list script start slot count within past in
-    let size : 2 * c.from-gap.result ≡ gap = search rules in
-    let some : 0 < 2 * c.from-gap.result = omega (arith, c.requires.valid.count) in
-    record {
-      whole = below_more (λ k. k < script.slots → breaks_in list script start k ≡ false) slot walked.whole fine;
-      faulty = c.faults_in-faults.ensures.faulty;
-      earliest = c.earliest_with.ensures ∙ (λ i. earliest_after (size i) (walked.earliest i) (replicate count slot))
-          ∙ sym (earliest_after-append gap from before (replicate count slot))
-          ∙ sym (ap (earliest_after gap from) next);
-      early = c.early_with.ensures gap (omega (arith, size, some))
-          ∙ (λ i. option_or (walked.early i) (first_too_early gap (walked.earliest i) (replicate count slot)))
-          ∙ sym (first_too_early-append gap from before (replicate count slot))
-          ∙ sym (ap (first_too_early gap from) next);
-      unsteady = c.unsteady_with.ensures;
-    }
+    let made = c.faults_in-faults.ensures (faulty_nodes_before list script start slot) walked.faulty in
+    let next : slot + 1 ≡ suc slot = omega arith in
+    c.walk_with.ensures (keep_course list script start) walked (record {
+      faulty = subst (λ t. HaveSameNodes c.faults_in-faults.result.faulty
+          (numbers_of (faulty_nodes_before list script start t))) (sym next) made.faulty;
+      count = made.count;
+      breaks = made.breaks;
+    })

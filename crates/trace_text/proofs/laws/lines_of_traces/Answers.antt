@@ -1,5 +1,5 @@
 use Rattle.std.proofs.Common.{refl}
-use Rattle.trace_text.proofs.LineValues.{node-value, status-value, keep-value}
+use Rattle.trace_text.proofs.LineValues.{node-value, status-value, keep-value, back-value}
 use Rattle.trace_text.proofs.laws.lines_of_traces.Goals as goal
 
 pub returns : goal.returns
@@ -10,4 +10,5 @@ returns c = record {
   status = status-value;
   read = λ slot host p number payload. refl;
   keep = keep-value;
+  back = back-value;
 }

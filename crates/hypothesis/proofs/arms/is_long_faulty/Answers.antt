@@ -1,0 +1,44 @@
+use Rattle.std.proofs.Common.{◌≡◌, ◌<◌, Bool, true, false, ◌&&◌, refl, ap, sym, ◌∙◌, rules, arith}
+use Rattle.ttp_base.specs.NodeSet.{most_nodes}
+use Rattle.ttp_world.specs.Returning.{is_long_faulty, is_apart}
+use Rattle.ttp_world.proofs.Lists.{nodes-most}
+use Rattle.hypothesis.specs.Standing.{told_start}
+use Rattle.hypothesis.proofs.LongFaulty.{long-faulty}
+use Rattle.hypothesis.proofs.arms.is_long_faulty.Goals as goal
+
+and-false : (b : Bool) → (b && false) ≡ false
+and-false true = refl
+and-false false = refl
+
+and-true : (b : Bool) → (b && true) ≡ b
+and-true true = refl
+and-true false = refl
+
+pub returns-then-not-is_apart : goal.returns-then-not-is_apart
+returns-then-not-is_apart c =
+    let list = c.args.list.now in
+    let script = c.args.script.now in
+    let start = told_start c.args.start in
+    let apart : is_apart list script start c.args.slot ≡ false =
+    sym (c.is_apart.ensures start c.requires.newest) ∙ search rules in
+    sym (ap (λ b. is_long_faulty list script start c.args.node c.args.slot && b) apart
+    ∙ and-false (is_long_faulty list script start c.args.node c.args.slot))
+
+pub slot_at-requires-clause-kept : goal.slot_at-requires-clause-kept
+slot_at-requires-clause-kept c = let few = nodes-most c.args.list.now c.requires.valid in omega arith
+
+pub returns : goal.returns
+returns c =
+    let list = c.args.list.now in
+    let script = c.args.script.now in
+    let start = told_start c.args.start in
+    let node = c.args.node in
+    let slot = c.args.slot in
+    let few = nodes-most list c.requires.valid in
+    let small : node < most_nodes = omega arith in
+    let apart : is_apart list script start slot ≡ true =
+    sym (c.is_apart.ensures start c.requires.newest) ∙ search rules in
+    c.has.ensures ∙ (c.slot_at.ensures list script start c.requires.newest).stayed node small
+    ∙ sym (long-faulty list script start node slot (omega arith) (omega (arith, c.requires.valid.count)) apart)
+    ∙ sym (ap (λ b. is_long_faulty list script start node slot && b) apart
+    ∙ and-true (is_long_faulty list script start node slot))

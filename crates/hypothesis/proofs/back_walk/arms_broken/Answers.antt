@@ -1,0 +1,55 @@
+use Rattle.std.proofs.Common.{◌≡◌, ℕ, ◌+◌, ◌-◌, false, inl, inr, ap, sym, subst, ◌∙◌, rules, arith}
+use Rattle.std.proofs.lemmas.Bool.{cases_lt}
+use Rattle.ttp_base.specs.NodeSet.{has_node}
+use Rattle.ttp_world.specs.Hypothesis.{numbers_of}
+use Rattle.ttp_world.specs.Returning.{four_rounds, slots_before, faulty_since, breaks_arm_in}
+use Rattle.hypothesis.specs.Standing.{told_start, HaveSameNodes}
+use Rattle.hypothesis.proofs.Ranges.{first-below}
+use Rattle.hypothesis.proofs.back_walk.arms_broken.Goals as goal
+use Rattle.hypothesis.proofs.back_walk.arms_broken.Goals.{else-has_come-via-then-has_come+else-breaks_arm_in}
+use Rattle.hypothesis.proofs.back_walk.arms_broken.Goals.{else-has_come-via-else-has_come}
+
+pub breaks_arm_in-requires-clause-come : goal.breaks_arm_in-requires-clause-come
+breaks_arm_in-requires-clause-come c = record { come = omega arith; near = omega arith }
+
+pub loop-slot-init : goal.loop-slot-init
+loop-slot-init c = record {
+  end = search rules;
+  newest = search rules;
+  faulty = λ k small. ap (λ nodes. has_node nodes k) c.empty-faulty.ensures;
+  fine = λ t less. absurd (omega (arith, c.requires.valid.count, less));
+}
+
+pub loop-slot-preserved : goal.loop-slot-preserved
+loop-slot-preserved c =
+    let list = c.args.list.now in
+    let script = c.args.script.now in
+    let start = told_start c.args.start in
+    let slot = c.loop-slot.slot in
+    let now : (t : ℕ) → t + four_rounds list ≡ slot + 1 → breaks_arm_in list script start t ≡ false = λ t is.
+    elim c.else-has_come.branch [
+      | else-has_come-via-then-has_come+else-breaks_arm_in w ↦
+          let same : slot + 1 - c.four_rounds-rounds.result ≡ t = omega (arith, is) in
+          ap (breaks_arm_in list script start) (sym same) ∙ sym w.breaks_arm_in.ensures ∙ search rules
+      | else-has_come-via-else-has_come w ↦ absurd (omega (arith, is))
+    ] in
+    record {
+      end = search rules;
+      newest = search rules;
+      faulty = subst (λ t. HaveSameNodes c.back_faults_in-faulty.result.faulty
+          (numbers_of (faulty_since (slots_before list script start (t + 1))))) c.loop-slot.invariant.end
+          c.back_faults_in-faulty.ensures.faults.faulty;
+      fine = λ t less. elim (cases_lt slot (t + four_rounds list)) [
+        | inl last ↦ now t (omega (arith, less, last))
+        | inr earlier ↦ c.loop-slot.invariant.fine t earlier
+      ];
+    }
+
+pub returns-then-breaks_arm_in : goal.returns-then-breaks_arm_in
+returns-then-breaks_arm_in c =
+    let list = c.args.list.now in
+    let rounds = c.four_rounds-rounds.result in
+    sym (first-below (breaks_arm_in list c.args.script.now (told_start c.args.start)) c.args.script.now.slots
+    (c.loop-slot.slot + 1 - rounds) (omega (arith, c.requires.valid.count))
+    (λ t less. c.loop-slot.invariant.fine t (omega (arith, less)))
+    (sym c.breaks_arm_in.ensures ∙ search rules))

@@ -1,0 +1,36 @@
+use Rattle.std.proofs.Common.{◌≡◌, ℕ, ◌<◌, Bool, ◌&&◌, not, filter, ap, sym, ◌∙◌, rules, arith}
+use Rattle.ttp_base.specs.NodeSet.{most_nodes, has_node, with_node, below}
+use Rattle.ttp_base.proofs.NodeLists.{with_node-next, filter-next}
+use Rattle.ttp_base.proofs.NodeSets.{has_node-filter, has_node-sieve}
+use Rattle.ttp_world.specs.Hypothesis.{numbers_of}
+use Rattle.ttp_world.specs.Script.{is_armed}
+use Rattle.hypothesis.proofs.Stayers.{numbers-filter}
+use Rattle.hypothesis.proofs.forgiven.stayed_in.Goals as goal
+use Rattle.hypothesis.proofs.forgiven.stayed_in.Goals.{then-stays, else-stays}
+
+pub loop-node-preserved : goal.loop-node-preserved
+loop-node-preserved c =
+    let is_in : ℕ → Bool =
+    λ k. not (has_node c.args.then k && is_armed c.args.script.now k c.args.slot) && has_node c.args.faulty k in
+    let node = c.loop-node.node in
+    let small : node < most_nodes = search rules in
+    elim c.if-stays.branch [
+      | then-stays w ↦
+          w.stayed-is ∙ w.with-stayed.ensures ∙ ap (λ s. with_node s node) c.loop-node.invariant
+          ∙ with_node-next is_in node small (search rules)
+      | else-stays w ↦ w.stayed-is ∙ c.loop-node.invariant ∙ filter-next is_in node small (search rules)
+    ]
+
+pub returns : goal.returns
+returns c = λ thens before then are k small.
+    let script = c.args.script.now in
+    let slot = c.args.slot in
+    let is_in : ℕ → Bool =
+    λ j. not (has_node c.args.then j && is_armed script j slot) && has_node c.args.faulty j in
+    let stays : ℕ → Bool = λ j. not (has_node thens j && is_armed script j slot) in
+    let all : c.loop-node.node ≡ most_nodes = omega arith in
+    ap (λ s. has_node s k) c.loop-node.invariant ∙ ap (λ n. has_node (filter is_in (below n)) k) all
+    ∙ has_node-sieve is_in most_nodes k small
+    ∙ (λ i. not (then k small i && is_armed script k slot) && are k small i)
+    ∙ sym (has_node-filter stays (numbers_of before) k)
+    ∙ ap (λ nodes. has_node nodes k) (sym (numbers-filter stays before))

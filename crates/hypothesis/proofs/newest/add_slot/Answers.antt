@@ -1,0 +1,7 @@
+use Rattle.std.proofs.Common.{refl}
+use Rattle.hypothesis.proofs.BackSlots.{newest-more}
+use Rattle.hypothesis.proofs.newest.add_slot.Goals as goal
+
+pub returns-clause-newest : goal.returns-clause-newest
+returns-clause-newest c = λ list script start are is.
+    newest-more list script start c.args.newest.now _ c.args.slot are is refl refl
