@@ -29,4 +29,5 @@ pub mod ReadLines
 pub mod SlotParts
 pub mod NextClusters
 pub mod ReportTexts
+pub mod QuietReads
 pub mod QuietScripts
