@@ -30,4 +30,5 @@ pub mod SlotParts
 pub mod NextClusters
 pub mod ReportTexts
 pub mod QuietReads
+pub mod Alone
 pub mod QuietScripts
