@@ -29,4 +29,6 @@ pub mod ReadLines
 pub mod SlotParts
 pub mod NextClusters
 pub mod ReportTexts
+pub mod QuietReads
+pub mod Alone
 pub mod QuietScripts

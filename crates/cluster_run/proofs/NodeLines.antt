@@ -3,6 +3,7 @@ use Rattle.std.proofs.Common.{◌≡◌, ℕ, List, ◌∷◌, Option, refl, ◌
 use Rattle.ttp_world.specs.declared.medl.Medl.{Medl}
 use Rattle.ttp_world.specs.declared.node.Entry.{Entry}
 use Rattle.ttp_world.specs.declared.node.Entry.TheVariants as entry
+use Rattle.ttp_world.specs.declared.node.NodeState.{NodeState}
 use Rattle.ttp_world.specs.declared.script.Script.{Script}
 use Rattle.ttp_world.specs.Diary.{History, Diary, Surroundings, diary_of}
 use Rattle.ttp_world.specs.Medium.{surroundings_of}
@@ -32,20 +33,25 @@ stands_now : {seat : Seat} {diary : Diary} {surroundings : Surroundings} → Sta
     → Stands seat diary surroundings seat.turn
 stands_now stands = record { past = stands.past; slots = stands.slots; turn = refl }
 
--- what a controller that stands for its diary shows, with the number of what was delivered
+-- what a controller that stands for its diary shows, with the number of what was delivered: the message is that of the
+-- entry in any state that it shows
 pub line_shown : (list : Medl) (script : Script) (row : List Entry) (before : History) (bound k : ℕ) (seat : Seat)
-    (delivered : Option ℕ) (line : NodeLine) → IsSeatOf list IsEnded bound k seat
+    (delivered : Option ℕ) (line : NodeLine) (again : NodeState) → IsSeatOf list IsEnded bound k seat
     → StandsAfter script (row ∷ before) k seat → delivered ≡ number_told list script row before k
-    → ShowsState seat line.state → line.message ≡ message_named line.state.entry delivered
+    → ShowsState seat line.state → ShowsState seat again → line.message ≡ message_named again.entry delivered
     → line ≡ node_shown list script row before k
-line_shown list script row before bound k seat delivered line is stands number shows message =
+line_shown list script row before bound k seat delivered line again is stands number shows shows_again message =
     let after = row ∷ before in
-    let state : line.state ≡ state_of (node_past list script after k) =
-    shows (diary_of after k) (surroundings_of script after k) seat.turn (stands_now stands)
-    ∙ (λ i. state_of (past_of (is.list i) (is.node i) (diary_of after k) (surroundings_of script after k))) in
+    let past = past_of seat.list seat.node (diary_of after k) (surroundings_of script after k) in
+    let state : line.state ≡ state_of past =
+    shows (diary_of after k) (surroundings_of script after k) seat.turn (stands_now stands) in
+    let state_again : again ≡ state_of past =
+    shows_again (diary_of after k) (surroundings_of script after k) seat.turn (stands_now stands) in
+    let here : state_of past ≡ state_of (node_past list script after k) =
+    λ i. state_of (past_of (is.list i) (is.node i) (diary_of after k) (surroundings_of script after k)) in
     let named : line.message
     ≡ message_shown list script row before k (state_of (node_past list script after k)).entry =
     message
-    ∙ (λ i. message_named (state i).entry (number i))
+    ∙ (λ i. message_named ((state_again ∙ here) i).entry (number i))
     ∙ named_shown list script row before k (state_of (node_past list script after k)).entry in
-    λ i. record { state = state i; message = named i }
+    λ i. record { state = (state ∙ here) i; message = named i }

@@ -54,7 +54,7 @@ has_ring list k messages pairs end some ring = record {
   there = subst (λ (s : Option Shape). IsRingOf s messages pairs end) (shape_there list k some) ring;
 }
 
-ring_some : (shape : Shape) (messages : List (List ℕ)) (pairs : List Message) (end : HostState)
+pub ring_some : (shape : Shape) (messages : List (List ℕ)) (pairs : List Message) (end : HostState)
     → IsSomeAnd end (IsRing shape messages pairs) → IsSome end
 ring_some shape messages pairs None ring = absurd ring
 ring_some shape messages pairs (Some w) ring = refl
@@ -86,7 +86,7 @@ plan_few list k valid = plan_found list k (slice_get list.slots k) valid refl
 
 -- Fetchers may be lent.
 
-pub may_lend : {list : Medl} {script : Script} {slot : ℕ} {numbers : Numbers} {seats : List Seat}
+abbrev pub may_lend : {list : Medl} {script : Script} {slot : ℕ} {numbers : Numbers} {seats : List Seat}
     {ends : List HostState} → length ends ≡ length list.slots → HaveBegunFor list script slot numbers seats ends
     → MayLend seats ends
 may_lend {list = list} {script = script} {numbers = numbers} {ends = ends} count begun = record {
@@ -179,11 +179,11 @@ own_end ends ports k port own here =
     same_at ring_of outgoing ends ports k (host_at ends k) port own near (at_any ends k None (host_at ends k) near)
     (sym (get_or_from_slice_get ports k port port here))
 
-record MayTry (end : HostState) (f : ReaderState) : Type 0 where
+pub record MayTry (end : HostState) (f : ReaderState) : Type 0 where
   pub ring : Some f.ring ≡ ring_of end
   pub room : 1 ≤ f.spare
 
-lent_may : (loaded : Bool) (end : HostState) (f : ReaderState) → fetcher_lent loaded end ≡ Some f → MayTry end f
+pub lent_may : (loaded : Bool) (end : HostState) (f : ReaderState) → fetcher_lent loaded end ≡ Some f → MayTry end f
 lent_may false end f is = absurd (none-some f is)
 lent_may true None f is = absurd (none-some f is)
 lent_may true (Some w) f is =
@@ -220,7 +220,7 @@ settled_words width w f attempt wide =
       | inr late ↦ subst (All P) (sym (attempt.nothing late).got) (All-nil P)
     ]
 
-fetched_may : (list : Medl) (k : ℕ) (port : PortState) (loaded : Bool) (end : HostState)
+pub fetched_may : (list : Medl) (k : ℕ) (port : PortState) (loaded : Bool) (end : HostState)
     (messages : List (List ℕ)) (pairs : List Message) (f1 : Option ReaderState) (f : ReaderState)
     → (loaded ≡ true → HasRing list k messages pairs end) → Fetches (fetcher_lent loaded end) f1 → f1 ≡ Some f
     → ring_of end ≡ port.outgoing → MaySettle port (plan_at list k).payload f

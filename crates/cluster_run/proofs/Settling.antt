@@ -46,7 +46,7 @@ pub record AreSettled (list : Medl) (ports : List PortState) (k : ℕ) (old_fetc
   pub chosen_rest : (j : ℕ) → k ≤ j → get_or chosen j nothing_chosen ≡ get_or old_chosen j nothing_chosen
   pub fetchers_rest : (j : ℕ) → k ≤ j → get_or fetchers j None ≡ get_or old_fetchers j None
 
-settled_ring : (w : HostState) (r : Option ReaderState) → ring_of (settled w r) ≡ ring_of w
+pub settled_ring : (w : HostState) (r : Option ReaderState) → ring_of (settled w r) ≡ ring_of w
 settled_ring (Some w) (Some r) = refl
 settled_ring (Some w) None = refl
 settled_ring None r = refl

@@ -7,7 +7,9 @@ use Rattle.std.specs.Option.{ForSome}
 use Rattle.nbw_ring.specs.declared.view.Message.{Message}
 use Rattle.nbw_ring.specs.Numbers.{most_number}
 use Rattle.nbw_ring.specs.States.{WriterState, ReaderState}
+use Rattle.ttp_world.specs.declared.medl.Medl.{Medl}
 use Rattle.ttp_world.specs.declared.script.Script.{Script}
+use Rattle.ttp_world.specs.Medl.{plan_at}
 use Rattle.ttp_world.specs.Script.{HostWrite, payload_of_host, write_at}
 use Rattle.ttp_world.specs.Words.{words_of_payload, word_count}
 use Rattle.ttp_world.specs.World.{BegunSlot, is_loaded}
@@ -122,3 +124,23 @@ pub record SettlesFetch (len : ℕ) (fetcher : Option ReaderState) (old new : Ho
     pub whole : IsSettled old fetcher
     pub settled_is : new ≡ settled old fetcher
     pub choice_is : after ≡ choice_of fetcher len before
+
+-- A controller fetches where no host writes.
+
+-- whatever its attempt leaves of the fetcher that is lent may be settled
+abbrev pub MaySettleAfter : PortState → ℕ → Bool → HostState → Type 0
+MaySettleAfter port len loaded end =
+    (tried : Option ReaderState) → Fetches (fetcher_lent loaded end) tried → ForSome tried (MaySettle port len)
+
+-- there is one attempt, if the node's frame carries a message, and what it got is chosen
+pub record FetchesAlone (len : ℕ) (loaded : Bool) (old new : HostState) (before after : Chosen) : Type 0 where
+  pub tried : Option ReaderState
+  pub fetches : Fetches (fetcher_lent loaded old) tried
+  pub settles : SettlesFetch len tried old new before after
+
+-- the controllers have begun some slot, and each may fetch what its node's frame carries there
+pub record MayFetchAlone (list : Medl) (ports : List PortState) (seats : List Seat) (ends : List HostState) : Type 0
+  where
+    pub lend : MayLend seats ends
+    pub settle : (k : ℕ) (port : PortState) → slice_get ports k ≡ Some port
+        → MaySettleAfter port (plan_at list k).payload (is_loaded lend.slot k) (host_at ends k)

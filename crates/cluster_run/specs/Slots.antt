@@ -1,17 +1,23 @@
 -- What a slot makes of a cluster.
-use Rattle.std.specs.Prelude.{◌≡◌, ℕ, ◌<◌, ◌∷◌, length}
+use Rattle.std.specs.Prelude.{◌≡◌, ℕ, ◌<◌, List, ◌∷◌, length, Option}
 use Rattle.ttp_world.specs.declared.medl.Medl.{Medl}
 use Rattle.ttp_world.specs.declared.script.Script.{Script}
 use Rattle.ttp_world.specs.declared.script.Source.{Source}
 use Rattle.ttp_world.specs.Legal.{IsLegal}
+use Rattle.ttp_world.specs.Script.{reads_in}
 use Rattle.ttp_world.specs.World.{Numbers, world, frames_in}
 use Rattle.controller.specs.Limits.{IsPlanned}
 use Rattle.controller.specs.Passes.{HavePlanned, Carries, HaveEnded}
 use Rattle.controller.specs.PlantWithin.{AreSeats, AreIncidents, IsFromWithin, most_ahead_in}
+use Rattle.host_port.specs.declared.report.ReadLine.{ReadLine}
 use Rattle.host_port.specs.declared.report.SlotReport.{SlotReport}
+use Rattle.host_port.specs.Reading.{ReadersState}
+use Rattle.host_port.specs.Rings.{ControllerState}
 use Rattle.cluster_run.specs.declared.nodes.Nodes.{Nodes}
 use Rattle.cluster_run.specs.Choosing.{HaveChosen, next_slot}
+use Rattle.cluster_run.specs.Ending.{HaveHandedOn}
 use Rattle.cluster_run.specs.Ports.{ArePortsOf}
+use Rattle.cluster_run.specs.Reading.{AllGot, AreLinesOf, AreReadersLent, HaveRead, SettlesReads}
 use Rattle.cluster_run.specs.Report.{numbers_in, ShowsNext}
 use Rattle.cluster_run.specs.Standing.{ClusterView, ClusterStandsFor, Desks, DesksStandFor, HoldsRead}
 
@@ -64,6 +70,22 @@ pub record MayEndSlot (list : Medl) (script : Script) (slot : ℕ) (nodes : Node
 abbrev pub HaveEndedFor : Medl → Script → Numbers → Nodes → Nodes → Type 0
 HaveEndedFor list script numbers old new =
     HaveEnded list script (world list script numbers) old.chosen.items 0 new.controllers.items new.outcomes.items
+
+-- The controllers have handed on what the slot left, and hosts have read what these lines tell: each that reads by
+-- readers that were lent before, which are settled after it. `first` are the readers as they were lent, `last` those once
+-- they have read, and `handed` the controllers' ends before these are settled.
+pub record TellsReads (list : Medl) (script : Script) (slot : ℕ) (old new : Nodes) (lines : List ReadLine) : Type 0
+  where
+    pub handed : List ControllerState
+    pub first : List (Option ReadersState)
+    pub last : List (Option ReadersState)
+    pub first_count : length first ≡ length list.slots
+    pub last_count : length last ≡ length list.slots
+    pub handed_are : HaveHandedOn new.outcomes.items old.controller_ends.items handed new.delivered.items
+    pub lent : AreReadersLent (reads_in script slot) old.controller_ends.items first
+    pub read : HaveRead list.buffers (reads_in script slot) first last
+    pub settles : SettlesReads handed last new.controller_ends.items
+    pub told : AllGot (reads_in script slot) last → AreLinesOf (reads_in script slot) last lines
 
 -- The desks stand for these numbers and those in the report, which shows the world's slot for them, and where the older
 -- ones were legal, all are.

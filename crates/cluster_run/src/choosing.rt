@@ -1,12 +1,14 @@
 //! Which messages the frames of a slot carry.
 ghost use Rattle.std.specs.Prelude.{◌≡◌, ◌+◌, ◌<◌, [], length, map, IfOk, OnOk};
 ghost use Rattle.ttp_world.specs.Medl.{IsValid};
-ghost use Rattle.ttp_world.specs.Script.{IsValidScript, writes_in};
+ghost use Rattle.std.specs.List.{filter_map};
+ghost use Rattle.ttp_world.specs.Script.{IsValidScript, write_at, writes_in};
 ghost use Rattle.ttp_world.specs.World.{Numbers};
 ghost use Rattle.cluster_run.specs.Choosing.{AreBytesBefore, HaveBegunFor, MayChoose, HaveChosen};
 ghost use Rattle.cluster_run.specs.Ports.{ring_of};
 ghost use Rattle.cluster_run.specs.Report.{writes_shown};
 
+use crate::fetching::fetch_each;
 use crate::sending::{lend_fetchers, settle_fetchers, write_and_fetch};
 use controller::Controller;
 use host_port::{HostEnd, Port, WriteLine};
@@ -14,6 +16,84 @@ use std::alloc::Global;
 use std::thread::Threads;
 use ttp_base::{Gate, Memory};
 use ttp_world::{Chosen, Medl, Script};
+
+// Hosts write at these places of the script, beside the fetches of controllers. The lines of the writes are
+// handed out with the ends.
+fn write_and_choose<R: Threads + Sync, G: Gate>(
+    rt: &R,
+    alloc: Global,
+    list: &Medl,
+    script: &Script,
+    slot: u32,
+    places: &[usize],
+    ports: &[Port],
+    mut ends: Vec<HostEnd>,
+    controllers: &[Controller],
+    chosen: &mut [Chosen],
+    gate: &G,
+) -> Result<(Vec<HostEnd>, Vec<WriteLine>), Memory>
+    requires list { IsValid list.now }
+    requires script { IsValidScript list.now script.now }
+    requires slot { slot < script.now.slots }
+    requires places { filter_map (write_at script.now) places.now ≡ writes_in script.now slot }
+    requires count { length ports.now ≡ length list.now.slots }
+    requires ports { map ring_of ends.items ≡ map (λ port. port.outgoing) ports.now }
+    requires controllers { length controllers.now ≡ length ports.now }
+    requires chosen_count { length chosen.old ≡ length ports.now }
+    requires bytes { AreBytesBefore list.now script.now slot }
+    requires may { MayChoose list.now script.now slot controllers.now ends.items }
+    ensures chosen_count { length chosen.new ≡ length chosen.old }
+    ensures ports { IfOk result (λ r. map ring_of r.0.items ≡ map (λ port. port.outgoing) ports.now) }
+    ensures bytes { OnOk result (AreBytesBefore list.now script.now (slot + 1)) }
+    ensures lines { IfOk result (λ r. r.1.items
+        ≡ writes_shown list.now script.now slot [] (writes_in script.now slot)) }
+    ensures chooses { IfOk result (λ r. (numbers : Numbers)
+        → HaveBegunFor list.now script.now slot numbers controllers.now ends.items
+        → HaveChosen list.now script.now numbers chosen.new r.0.items) }
+{
+    let fetchers = lend_fetchers(alloc, ports, ends.as_mut_slice(), controllers)?;
+    let lines = Vec::with_capacity(alloc, places.len())?;
+    let (mut ends, lines, fetchers) = write_and_fetch(
+        rt, ports, ends, fetchers, script, places, lines, gate,
+    );
+    settle_fetchers(list, ports, ends.as_mut_slice(), fetchers, chosen)?;
+    Ok((ends, lines))
+}
+
+// No host writes in the slot. The lines, which are none, are handed out with the ends.
+fn fetch_and_choose<G: Gate>(
+    alloc: Global,
+    list: &Medl,
+    script: &Script,
+    slot: u32,
+    ports: &[Port],
+    mut ends: Vec<HostEnd>,
+    controllers: &[Controller],
+    chosen: &mut [Chosen],
+    gate: &G,
+) -> Result<(Vec<HostEnd>, Vec<WriteLine>), Memory>
+    requires list { IsValid list.now }
+    requires script { IsValidScript list.now script.now }
+    requires slot { slot < script.now.slots }
+    requires quiet { writes_in script.now slot ≡ [] }
+    requires count { length ports.now ≡ length list.now.slots }
+    requires ports { map ring_of ends.items ≡ map (λ port. port.outgoing) ports.now }
+    requires controllers { length controllers.now ≡ length ports.now }
+    requires chosen_count { length chosen.old ≡ length ports.now }
+    requires bytes { AreBytesBefore list.now script.now slot }
+    requires may { MayChoose list.now script.now slot controllers.now ends.items }
+    ensures chosen_count { length chosen.new ≡ length chosen.old }
+    ensures ports { IfOk result (λ r. map ring_of r.0.items ≡ map (λ port. port.outgoing) ports.now) }
+    ensures bytes { OnOk result (AreBytesBefore list.now script.now (slot + 1)) }
+    ensures lines { IfOk result (λ r. r.1.items
+        ≡ writes_shown list.now script.now slot [] (writes_in script.now slot)) }
+    ensures chooses { IfOk result (λ r. (numbers : Numbers)
+        → HaveBegunFor list.now script.now slot numbers controllers.now ends.items
+        → HaveChosen list.now script.now numbers chosen.new r.0.items) }
+{
+    fetch_each(list, ports, ends.as_mut_slice(), controllers, chosen, gate)?;
+    Ok((ends, Vec::new(alloc)))
+}
 
 /// Hosts write what they do in the slot, and each controller whose node's frame carries a message
 /// fetches it. The lines of the writes are handed out with the ends.
@@ -24,7 +104,7 @@ pub(crate) fn choose<R: Threads + Sync, G: Gate>(
     script: &Script,
     slot: u32,
     ports: &[Port],
-    mut ends: Vec<HostEnd>,
+    ends: Vec<HostEnd>,
     controllers: &[Controller],
     chosen: &mut [Chosen],
     gate: &G,
@@ -47,12 +127,31 @@ pub(crate) fn choose<R: Threads + Sync, G: Gate>(
         → HaveBegunFor list.now script.now slot numbers controllers.now ends.items
         → HaveChosen list.now script.now numbers chosen.new r.0.items) }
 {
-    let fetchers = lend_fetchers(alloc, ports, ends.as_mut_slice(), controllers)?;
     let places = script.writes(slot);
-    let lines = Vec::with_capacity(alloc, places.len())?;
-    let (mut ends, lines, fetchers) = write_and_fetch(
-        rt, ports, ends, fetchers, script, places, lines, gate,
-    );
-    settle_fetchers(list, ports, ends.as_mut_slice(), fetchers, chosen)?;
-    Ok((ends, lines))
+    if places.is_empty() {
+        return fetch_and_choose(
+            alloc,
+            list,
+            script,
+            slot,
+            ports,
+            ends,
+            controllers,
+            chosen,
+            gate,
+        );
+    }
+    write_and_choose(
+        rt,
+        alloc,
+        list,
+        script,
+        slot,
+        places,
+        ports,
+        ends,
+        controllers,
+        chosen,
+        gate,
+    )
 }

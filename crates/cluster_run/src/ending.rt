@@ -128,9 +128,9 @@ pub(crate) fn end_half<G: Gate>(
     first: u8,
     gate: &G,
 )
-    requires { IsPartReady list.now script.now medium.now first controllers.old outcomes.old ends.old delivered.old
-        incidents.now ports.now }
-    ensures { HasPartEnded list.now script.now medium.now first controllers.old controllers.new outcomes.old
+    requires ready { IsPartReady list.now script.now medium.now first controllers.old outcomes.old ends.old
+        delivered.old incidents.now ports.now }
+    ensures ended { HasPartEnded list.now script.now medium.now first controllers.old controllers.new outcomes.old
         outcomes.new ends.old ends.new delivered.new ports.now }
 {
     end_part(

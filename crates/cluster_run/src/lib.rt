@@ -16,6 +16,7 @@
 mod choosing;
 mod cluster;
 mod ending;
+mod fetching;
 pub mod laws;
 mod making;
 mod nodes;

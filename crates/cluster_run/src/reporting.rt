@@ -10,7 +10,7 @@ use controller::Controller;
 use host_port::NodeLine;
 use std::alloc::Global;
 use ttp_base::{List, Memory};
-use ttp_world::{Entry, NodeState};
+use ttp_world::Entry;
 
 // The message that a node's line names: the one in its frame, or the one that was delivered.
 fn message_shown(entry: &Entry, delivered: Option<u64>) -> Option<u64>
@@ -20,17 +20,6 @@ fn message_shown(entry: &Entry, delivered: Option<u64>) -> Option<u64>
         Entry::Sent { message } => *message,
         Entry::Judged { .. } => delivered,
         _ => None,
-    }
-}
-
-// The line of a node in this state.
-fn node_line(state: NodeState, delivered: Option<u64>) -> NodeLine
-    ensures state { result.state ≡ state }
-    ensures message { result.message ≡ message_named state.entry delivered }
-{
-    NodeLine {
-        state,
-        message: message_shown(&state.entry, delivered),
     }
 }
 
@@ -48,7 +37,10 @@ pub(crate) fn node_lines(
     let mut lines = Vec::with_capacity(alloc, controllers.len())?;
     for k in 0..controllers.len() {
         let state = controllers[k].state();
-        lines.push_reserved(node_line(state, delivered[k]));
+        // Its entry is asked for anew: where one state serves both, it is put together piece by piece, and
+        // takes twice as long.
+        let message = message_shown(&controllers[k].state().entry, delivered[k]);
+        lines.push_reserved(NodeLine { state, message });
     }
     Ok(List::from_vec(lines))
 }

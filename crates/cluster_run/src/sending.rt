@@ -27,8 +27,12 @@ use std::thread::{Threads, join};
 use ttp_base::{Gate, Memory};
 use ttp_world::{Chosen, Medl, PAYLOAD_LIMIT, Payload, Script, Written};
 
-// A fetcher for a node whose frame carries a message.
-fn lend_one(port: &Port, end: &mut HostEnd, loaded: bool) -> Result<Option<Fetcher>, Memory>
+/// A fetcher for a node whose frame carries a message.
+pub(crate) fn lend_one(
+    port: &Port,
+    end: &mut HostEnd,
+    loaded: bool,
+) -> Result<Option<Fetcher>, Memory>
     requires own { IsHostEndOf port.now end.old }
     requires ring { loaded ≡ true → IsSome end.old }
     ensures fetcher { IfOk result (λ fetcher. fetcher ≡ fetcher_lent loaded end.old) }
@@ -120,10 +124,10 @@ pub(crate) fn write_all<G: Gate>(
     (ends, lines)
 }
 
-// One attempt to fetch, if there is a fetcher.
-fn fetch_one<G: Gate>(port: &Port, fetcher: &mut Option<Fetcher>, gate: &G)
-    requires { MayFetch port.now fetcher.old }
-    ensures { Fetches fetcher.old fetcher.new }
+/// One attempt to fetch, if there is a fetcher.
+pub(crate) fn fetch_one<G: Gate>(port: &Port, fetcher: &mut Option<Fetcher>, gate: &G)
+    requires fetcher { MayFetch port.now fetcher.old }
+    ensures fetches { Fetches fetcher.old fetcher.new }
 {
     if let Some(fetcher) = fetcher {
         port.fetch(fetcher, gate);
@@ -208,8 +212,8 @@ fn payload_of(words: &[u64], len: u8) -> Payload
     Payload::of(&bytes[..usize::from(len)])
 }
 
-// Takes a node's fetcher back, and chooses the message that it got.
-fn settle_one(
+/// Takes a node's fetcher back, and chooses the message that it got.
+pub(crate) fn settle_one(
     port: &Port,
     end: &mut HostEnd,
     fetcher: Option<Fetcher>,

@@ -9,7 +9,7 @@ ghost use Rattle.cluster_run.specs.Nodes.{AreNodesOf};
 ghost use Rattle.cluster_run.specs.Reading.{AreReadersOfAll, AreReadersLent, MayReadAll, HaveRead};
 ghost use Rattle.cluster_run.specs.Report.{writes_shown};
 ghost use Rattle.cluster_run.specs.Slots.{StandsAt, StandsForSome, ArePlannedNodes, HavePlannedSlot, MayEndSlot};
-ghost use Rattle.cluster_run.specs.Slots.{HaveEndedFor, IsNextOf};
+ghost use Rattle.cluster_run.specs.Slots.{HaveEndedFor, TellsReads, IsNextOf};
 ghost use Rattle.cluster_run.specs.Standing.{desks_of};
 
 use crate::choosing::choose;
@@ -18,7 +18,7 @@ use crate::nodes::Nodes;
 use crate::reading::{lend_readers, read_all, read_lines};
 use crate::reporting::node_lines;
 use controller::{Controller, Outcome, begin_all, plan_all};
-use host_port::{ControllerEnd, HostReaders, Port, SlotReport, WriteLine};
+use host_port::{ControllerEnd, HostReaders, Port, ReadLine, SlotReport, WriteLine};
 use medium::Medium;
 use std::alloc::Global;
 use std::sync::Wait;
@@ -74,7 +74,7 @@ fn end_halves<R: Threads + Sync, G: Gate>(
     );
 }
 
-// The controllers end the slot beside the reads of hosts. Threads are started only where a host reads.
+// The controllers end the slot beside the reads of hosts, in threads.
 fn end_and_read<R: Threads + Wait + Sync, G: Gate>(
     rt: &R,
     controllers: &mut [Controller],
@@ -100,22 +100,6 @@ fn end_and_read<R: Threads + Wait + Sync, G: Gate>(
     ensures reads { (buffers : ℕ) → All (λ port. port.buffers ≡ buffers) ports.now
         → HaveRead buffers reads.now readers.old readers.new }
 {
-    if reads.is_empty() {
-        end_half(
-            controllers,
-            outcomes,
-            ends,
-            delivered,
-            incidents,
-            ports,
-            medium,
-            list,
-            script,
-            0,
-            gate,
-        );
-        return;
-    }
     let mut end = ||
         requires { IsPartReady list.now script.now medium.now 0 controllers.now outcomes.now ends.now delivered.now
             incidents.now ports.now }
@@ -146,8 +130,8 @@ fn end_and_read<R: Threads + Wait + Sync, G: Gate>(
     join_mut(rt, &mut end, &mut read);
 }
 
-// Controllers begin the slot, readers are lent, hosts write, and what is to be sent is planned and put
-// on the medium. The readers and the lines of the writes are handed out.
+// Controllers begin the slot, hosts write, and what is to be sent is planned and put on the medium. The
+// lines of the writes are handed out.
 fn plan<R: Threads + Sync, G: Gate>(
     rt: &R,
     alloc: Global,
@@ -156,7 +140,7 @@ fn plan<R: Threads + Sync, G: Gate>(
     slot: u32,
     nodes: Nodes,
     gate: &G,
-) -> Result<(Nodes, Vec<Option<HostReaders>>, Vec<WriteLine>), Memory>
+) -> Result<(Nodes, Vec<WriteLine>), Memory>
     requires list { IsValid list.now }
     requires script { IsValidScript list.now script.now }
     requires slot { slot < script.now.slots }
@@ -165,10 +149,8 @@ fn plan<R: Threads + Sync, G: Gate>(
     requires stands { StandsForSome list.now script.now slot (desks_of nodes) }
     ensures nodes { IfOk result (λ r. ArePlannedNodes list.now script.now slot r.0) }
     ensures ends { IfOk result (λ r. r.0.controller_ends.items ≡ nodes.controller_ends.items) }
-    ensures own { IfOk result (λ r. AreReadersOfAll r.0.ports.items r.1.items) }
-    ensures lent { IfOk result (λ r. AreReadersLent (reads_in script.now slot) nodes.controller_ends.items r.1.items) }
     ensures bytes { OnOk result (AreBytesBefore list.now script.now (slot + 1)) }
-    ensures writes { IfOk result (λ r. r.2.items
+    ensures writes { IfOk result (λ r. r.1.items
         ≡ writes_shown list.now script.now slot [] (writes_in script.now slot)) }
     ensures plans { IfOk result (λ r. (numbers : Numbers) → StandsAt list.now script.now slot (desks_of nodes) numbers
         → HavePlannedSlot list.now script.now numbers r.0) }
@@ -181,11 +163,10 @@ fn plan<R: Threads + Sync, G: Gate>(
         outcomes,
         delivered,
         ports,
-        mut controller_ends,
+        controller_ends,
         host_ends,
     } = nodes;
     begin_all(&mut controllers, &mut incidents, list, script, 0, slot);
-    let readers = lend_readers(alloc, &ports, &mut controller_ends, script, slot)?;
     let (host_ends, writes) = choose(
         rt,
         alloc,
@@ -219,12 +200,11 @@ fn plan<R: Threads + Sync, G: Gate>(
             controller_ends,
             host_ends,
         },
-        readers,
         writes,
     ))
 }
 
-// Controllers end the slot, beside the reads of hosts.
+// Controllers end the slot, beside the reads of hosts by these readers.
 fn end<R: Threads + Wait + Sync, G: Gate>(
     rt: &R,
     list: &Medl,
@@ -268,6 +248,102 @@ fn end<R: Threads + Wait + Sync, G: Gate>(
     );
 }
 
+// Controllers end the slot, and no host reads in it.
+fn end_unread<G: Gate>(list: &Medl, script: &Script, slot: u32, nodes: &mut Nodes, gate: &G)
+    requires list { IsValid list.now }
+    requires script { IsValidScript list.now script.now }
+    requires slot { slot < script.now.slots }
+    requires nodes { ArePlannedNodes list.now script.now slot nodes.old }
+    requires may { MayEndSlot list.now script.now slot nodes.old }
+    ensures nodes { AreNodesOf list.now (slot + 1) nodes.new }
+    ensures host_ends { nodes.new.host_ends ≡ nodes.old.host_ends }
+    ensures handed { HaveHandedOn nodes.new.outcomes.items nodes.old.controller_ends.items
+        nodes.new.controller_ends.items nodes.new.delivered.items }
+    ensures ends { (numbers : Numbers) → HavePlannedSlot list.now script.now numbers nodes.old
+        → HaveEndedFor list.now script.now numbers nodes.old nodes.new }
+{
+    end_half(
+        &mut nodes.controllers,
+        &mut nodes.outcomes,
+        &mut nodes.controller_ends,
+        &mut nodes.delivered,
+        &nodes.incidents,
+        &nodes.ports,
+        &nodes.medium,
+        list,
+        script,
+        0,
+        gate,
+    );
+}
+
+// Controllers end the slot, and hosts read in it. The lines of the reads are the answer.
+fn end_read<R: Threads + Wait + Sync, G: Gate>(
+    rt: &R,
+    alloc: Global,
+    list: &Medl,
+    script: &Script,
+    slot: u32,
+    nodes: &mut Nodes,
+    gate: &G,
+) -> Result<List<ReadLine>, Memory>
+    requires list { IsValid list.now }
+    requires script { IsValidScript list.now script.now }
+    requires slot { slot < script.now.slots }
+    requires nodes { ArePlannedNodes list.now script.now slot nodes.old }
+    requires may { MayEndSlot list.now script.now slot nodes.old }
+    ensures nodes { OnOk result (AreNodesOf list.now (slot + 1) nodes.new) }
+    ensures host_ends { nodes.new.host_ends ≡ nodes.old.host_ends }
+    ensures ends { OnOk result ((numbers : Numbers) → HavePlannedSlot list.now script.now numbers nodes.old
+        → HaveEndedFor list.now script.now numbers nodes.old nodes.new) }
+    ensures tells { IfOk result (TellsReads list.now script.now slot nodes.old nodes.new) }
+{
+    let mut readers = lend_readers(
+        alloc,
+        &nodes.ports,
+        &mut nodes.controller_ends,
+        script,
+        slot,
+    )?;
+    end(rt, list, script, slot, nodes, readers.as_mut_slice(), gate);
+    let lines = read_lines(
+        alloc,
+        &nodes.ports,
+        &mut nodes.controller_ends,
+        readers,
+        script.reads(slot),
+    )?;
+    Ok(lines)
+}
+
+// Controllers end the slot. Readers are lent only where a host reads.
+fn end_slot<R: Threads + Wait + Sync, G: Gate>(
+    rt: &R,
+    alloc: Global,
+    list: &Medl,
+    script: &Script,
+    slot: u32,
+    nodes: &mut Nodes,
+    gate: &G,
+) -> Result<List<ReadLine>, Memory>
+    requires list { IsValid list.now }
+    requires script { IsValidScript list.now script.now }
+    requires slot { slot < script.now.slots }
+    requires nodes { ArePlannedNodes list.now script.now slot nodes.old }
+    requires may { MayEndSlot list.now script.now slot nodes.old }
+    ensures nodes { OnOk result (AreNodesOf list.now (slot + 1) nodes.new) }
+    ensures host_ends { nodes.new.host_ends ≡ nodes.old.host_ends }
+    ensures ends { OnOk result ((numbers : Numbers) → HavePlannedSlot list.now script.now numbers nodes.old
+        → HaveEndedFor list.now script.now numbers nodes.old nodes.new) }
+    ensures tells { IfOk result (TellsReads list.now script.now slot nodes.old nodes.new) }
+{
+    if script.reads(slot).is_empty() {
+        end_unread(list, script, slot, nodes, gate);
+        return Ok(List::new(alloc));
+    }
+    end_read(rt, alloc, list, script, slot, nodes, gate)
+}
+
 /// Takes all nodes through a slot, and answers them with the slot's report.
 pub(crate) fn slot_of<R: Threads + Wait + Sync, G: Gate>(
     rt: &R,
@@ -289,23 +365,8 @@ pub(crate) fn slot_of<R: Threads + Wait + Sync, G: Gate>(
     ensures steps { IfOk result (λ r. (numbers : Numbers) → StandsAt list.now script.now slot (desks_of nodes) numbers
         → IsNextOf list.now script.now numbers (desks_of r.0) r.1) }
 {
-    let (mut nodes, mut readers, writes) = plan(rt, alloc, list, script, slot, nodes, gate)?;
-    end(
-        rt,
-        list,
-        script,
-        slot,
-        &mut nodes,
-        readers.as_mut_slice(),
-        gate,
-    );
-    let reads = read_lines(
-        alloc,
-        &nodes.ports,
-        &mut nodes.controller_ends,
-        readers,
-        script.reads(slot),
-    )?;
+    let (mut nodes, writes) = plan(rt, alloc, list, script, slot, nodes, gate)?;
+    let reads = end_slot(rt, alloc, list, script, slot, &mut nodes, gate)?;
     let lines = node_lines(alloc, &nodes.controllers, &nodes.delivered)?;
     let report = SlotReport {
         slot,

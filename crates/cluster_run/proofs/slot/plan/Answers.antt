@@ -8,7 +8,6 @@ use Rattle.controller.specs.Passes.{AreChosen, Carries, HaveBegun, HavePlanned, 
 use Rattle.controller.specs.PlantWithin.{AreIncidents, AreSeats, most_ahead_in}
 use Rattle.host_port.specs.Rings.{PortState}
 use Rattle.cluster_run.specs.Choosing.{HaveBegunFor, HaveChosen, next_slot}
-use Rattle.cluster_run.specs.Ports.{rings_of}
 use Rattle.cluster_run.proofs.ChosenSizes.{chosen_sizes}
 use Rattle.cluster_run.proofs.slot.plan.Goals as goal
 
@@ -30,7 +29,7 @@ choose-requires-clause-may g c κs within =
       numbers = numbers;
       begun = record {
         count = at.count;
-        begun = subst (HaveBegun s 0) (sym (c.deref-3.ensures.value ∙ begun)) has_begun;
+        begun = subst (HaveBegun s 0) (sym (c.deref-2.ensures.value ∙ begun)) has_begun;
         written = at.stands.written;
       };
     }
@@ -39,14 +38,14 @@ pub plan_all-requires-clause-seats : goal.plan_all-requires-clause-seats
 plan_all-requires-clause-seats g c =
     let begun = with_items_is c.args.nodes.controllers c.begin_all.new.controllers
     (omega (arith, c.begin_all.ensures.count, c.deref_mut.ensures.len)) in
-    subst (AreSeats c.args.list.now IsBegun (most_ahead_in c.args.slot) 0) (sym (c.deref_mut-5.ensures.value ∙ begun))
+    subst (AreSeats c.args.list.now IsBegun (most_ahead_in c.args.slot) 0) (sym (c.deref_mut-4.ensures.value ∙ begun))
     c.begin_all.ensures.seats
 
 pub plan_all-requires-clause-incidents : goal.plan_all-requires-clause-incidents
 plan_all-requires-clause-incidents g c =
     let known = with_items_is c.args.nodes.incidents c.begin_all.new.incidents
     (omega (arith, c.begin_all.ensures.room, c.deref_mut-2.ensures.len)) in
-    subst (AreIncidents c.args.script.now c.args.slot 0) (sym (c.deref-4.ensures.value ∙ known))
+    subst (AreIncidents c.args.script.now c.args.slot 0) (sym (c.deref-3.ensures.value ∙ known))
     c.begin_all.ensures.incidents
 
 pub plan_all-requires-clause-chosen : goal.plan_all-requires-clause-chosen
@@ -63,19 +62,19 @@ plan_all-requires-clause-chosen g c =
     at.stands.seats in
     let slots = length-world list script numbers ∙ at.count in
     let has_begun = c.begin_all.ensures.begin (world list script numbers) slots stand in
-    let begun_for : HaveBegunFor list script c.args.slot numbers c.deref-3.result.now nodes.host_ends.items = record {
+    let begun_for : HaveBegunFor list script c.args.slot numbers c.deref-2.result.now nodes.host_ends.items = record {
       count = at.count;
-      begun = subst (HaveBegun s 0) (sym (c.deref-3.ensures.value ∙ begun)) has_begun;
+      begun = subst (HaveBegun s 0) (sym (c.deref-2.ensures.value ∙ begun)) has_begun;
       written = at.stands.written;
     } in
     let told = with_items_is nodes.chosen c.choose.new.chosen
-    (omega (arith, c.in_ok-host_ends.ensures.chosen_count, c.deref_mut-4.ensures.len)) in
+    (omega (arith, c.in_ok-host_ends.ensures.chosen_count, c.deref_mut-3.ensures.len)) in
     record {
       history = world list script numbers;
       slot_is = slots;
-      begun = subst (HaveBegun s 0) (sym (c.deref_mut-5.ensures.value ∙ begun)) has_begun;
+      begun = subst (HaveBegun s 0) (sym (c.deref_mut-4.ensures.value ∙ begun)) has_begun;
       chosen_are =
-          subst (AreChosen s) (sym (c.deref-5.ensures.value ∙ told))
+          subst (AreChosen s) (sym (c.deref-4.ensures.value ∙ told))
           (chosen_sizes list script numbers c.choose.new.chosen c.in_ok-host_ends.host_ends.items c.requires.script
           (c.in_ok-host_ends.ensures.chooses numbers begun_for));
     }
@@ -87,20 +86,17 @@ returns-clause-nodes g c =
     let begun = with_items_is nodes.controllers c.begin_all.new.controllers
     (omega (arith, c.begin_all.ensures.count, c.deref_mut.ensures.len)) in
     let planned = with_items_is (with_items nodes.controllers c.begin_all.new.controllers) c.plan_all.new.controllers
-    (omega (arith, c.plan_all.ensures.count, c.deref_mut-5.ensures.len)) in
+    (omega (arith, c.plan_all.ensures.count, c.deref_mut-4.ensures.len)) in
     let known = with_items_is nodes.incidents c.begin_all.new.incidents
     (omega (arith, c.begin_all.ensures.room, c.deref_mut-2.ensures.len)) in
     let told = with_items_is nodes.chosen c.choose.new.chosen
-    (omega (arith, c.in_ok-host_ends.ensures.chosen_count, c.deref_mut-4.ensures.len)) in
-    let ends = with_items_is nodes.controller_ends c.lend_readers.new.ends
-    (omega (arith, ap length c.lend_readers.ensures.ends, c.deref_mut-3.ensures.len))
-    ∙ c.lend_readers.ensures.ends ∙ c.deref_mut-3.ensures.value in
+    (omega (arith, c.in_ok-host_ends.ensures.chosen_count, c.deref_mut-3.ensures.len)) in
     record {
       controllers = omega (
         arith,
         ap length planned,
         c.plan_all.ensures.count,
-        ap length (c.deref_mut-5.ensures.value ∙ begun),
+        ap length (c.deref_mut-4.ensures.value ∙ begun),
         c.begin_all.ensures.count,
         ap length c.deref_mut.ensures.value,
         c.requires.nodes.controllers,
@@ -118,7 +114,7 @@ returns-clause-nodes g c =
         arith,
         ap length told,
         c.in_ok-host_ends.ensures.chosen_count,
-        ap length c.deref_mut-4.ensures.value,
+        ap length c.deref_mut-3.ensures.value,
         c.requires.nodes.chosen,
       );
       outcomes = c.requires.nodes.outcomes;
@@ -127,10 +123,10 @@ returns-clause-nodes g c =
       ports = record {
         nodes = c.requires.nodes.ports.nodes;
         buffers = c.requires.nodes.ports.buffers;
-        controllers = ap (map rings_of) ends ∙ c.requires.nodes.ports.controllers;
+        controllers = c.requires.nodes.ports.controllers;
         hosts =
             c.in_ok-host_ends.ensures.ports
-            ∙ ap (map (λ (p : PortState). p.outgoing)) c.deref-2.ensures.value;
+            ∙ ap (map (λ (p : PortState). p.outgoing)) c.deref.ensures.value;
       };
       slot_is = c.plan_all.ensures.slot;
       medium = c.plan_all.ensures.medium;
@@ -148,25 +144,25 @@ returns-clause-plans g c = λ numbers at.
     at.stands.seats in
     let slots = length-world list script numbers ∙ at.count in
     let has_begun = c.begin_all.ensures.begin (world list script numbers) slots stand in
-    let begun_for : HaveBegunFor list script c.args.slot numbers c.deref-3.result.now nodes.host_ends.items = record {
+    let begun_for : HaveBegunFor list script c.args.slot numbers c.deref-2.result.now nodes.host_ends.items = record {
       count = at.count;
-      begun = subst (HaveBegun s 0) (sym (c.deref-3.ensures.value ∙ begun)) has_begun;
+      begun = subst (HaveBegun s 0) (sym (c.deref-2.ensures.value ∙ begun)) has_begun;
       written = at.stands.written;
     } in
     let told = with_items_is nodes.chosen c.choose.new.chosen
-    (omega (arith, c.in_ok-host_ends.ensures.chosen_count, c.deref_mut-4.ensures.len)) in
+    (omega (arith, c.in_ok-host_ends.ensures.chosen_count, c.deref_mut-3.ensures.len)) in
     let planned = with_items_is (with_items nodes.controllers c.begin_all.new.controllers) c.plan_all.new.controllers
-    (omega (arith, c.plan_all.ensures.count, c.deref_mut-5.ensures.len)) in
-    let begun_now = subst (HaveBegun s 0) (sym (c.deref_mut-5.ensures.value ∙ begun)) has_begun in
+    (omega (arith, c.plan_all.ensures.count, c.deref_mut-4.ensures.len)) in
+    let begun_now = subst (HaveBegun s 0) (sym (c.deref_mut-4.ensures.value ∙ begun)) has_begun in
     record {
       chosen =
           subst (λ xs. HaveChosen list script numbers xs c.in_ok-host_ends.host_ends.items) (sym told)
           (c.in_ok-host_ends.ensures.chooses numbers begun_for);
       planned =
           subst (HavePlanned s (with_items nodes.chosen c.choose.new.chosen).items 0) (sym planned)
-          (subst (λ xs. HavePlanned s xs 0 c.plan_all.new.controllers) c.deref-5.ensures.value
+          (subst (λ xs. HavePlanned s xs 0 c.plan_all.new.controllers) c.deref-4.ensures.value
           (c.plan_all.ensures.plan (world list script numbers) begun_now));
       carries =
-          subst (λ xs. Carries s (frames_in s xs) c.plan_all.new.medium) c.deref-5.ensures.value
+          subst (λ xs. Carries s (frames_in s xs) c.plan_all.new.medium) c.deref-4.ensures.value
           (c.plan_all.ensures.carries (world list script numbers) slots begun_now);
     }

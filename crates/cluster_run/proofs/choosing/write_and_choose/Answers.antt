@@ -11,7 +11,7 @@ use Rattle.cluster_run.specs.Sending.{AreLent, MayLend, MayWriteAll, WritesBytes
 use Rattle.cluster_run.proofs.PortLists.{same-count}
 use Rattle.cluster_run.proofs.Sends.{few_writes, have_chosen, lines_shown, may_fetch_all, may_lend, may_settle}
 use Rattle.cluster_run.proofs.Sends.{may_write_all, more_bytes}
-use Rattle.cluster_run.proofs.choosing.choose.Goals as goal
+use Rattle.cluster_run.proofs.choosing.write_and_choose.Goals as goal
 
 pub lend_fetchers-requires-clause-rings : goal.lend_fetchers-requires-clause-rings
 lend_fetchers-requires-clause-rings g c =
@@ -24,9 +24,9 @@ pub write_and_fetch-ends-requires-clause-writes : goal.write_and_fetch-ends-requ
 write_and_fetch-ends-requires-clause-writes g c κs within =
     let begun = c.requires.may.begun in
     let script = c.args.script.now in
-    let many = length (filter_map (write_at script) c.writes-places.result.now) in
+    let many = length (filter_map (write_at script) c.args.places.now) in
     let few : many ≤ EVENT_LIMIT =
-    omega (arith, ap length c.writes-places.ensures, few_writes script c.args.slot c.requires.script.event_count) in
+    omega (arith, ap length c.requires.places, few_writes script c.args.slot c.requires.script.event_count) in
     let lent = with_items_is c.args.ends c.lend_fetchers.new.ends
     (omega (arith, ap length c.lend_fetchers.ensures.ends, c.as_mut_slice.ensures.len))
     ∙ c.lend_fetchers.ensures.ends ∙ c.as_mut_slice.ensures.value in
@@ -68,7 +68,7 @@ settle_fetchers-requires-clause-fetchers g c = λ k port here f is.
 pub returns-clause-bytes : goal.returns-clause-bytes
 returns-clause-bytes g c =
     more_bytes c.args.list.now c.args.script.now c.args.slot c.requires.bytes
-    (subst (All WritesBytes) c.writes-places.ensures c.write_and_fetch-ends.ensures.bytes)
+    (subst (All WritesBytes) c.requires.places c.write_and_fetch-ends.ensures.bytes)
 
 pub returns-clause-lines : goal.returns-clause-lines
 returns-clause-lines g c =
@@ -77,7 +77,7 @@ returns-clause-lines g c =
     (omega (arith, ap length c.lend_fetchers.ensures.ends, c.as_mut_slice.ensures.len))
     ∙ c.lend_fetchers.ensures.ends ∙ c.as_mut_slice.ensures.value in
     c.write_and_fetch-ends.ensures.lines
-    ∙ (λ i. write_lines (lent i) [] (c.writes-places.ensures i))
+    ∙ (λ i. write_lines (lent i) [] (c.requires.places i))
     ∙ lines_shown c.args.list.now c.args.script.now c.args.slot c.requires.may.numbers c.args.ends.items
     c.requires.script
     begun.count begun.written
@@ -99,7 +99,7 @@ returns-clause-chooses g c = λ numbers begun.
     (c.in_ok-fetchers.ensures.fetchers s begun.begun) in
     let bytes : AreBytesBefore list script (c.args.slot + 1) =
     more_bytes list script c.args.slot c.requires.bytes
-    (subst (All WritesBytes) c.writes-places.ensures c.write_and_fetch-ends.ensures.bytes) in
+    (subst (All WritesBytes) c.requires.places c.write_and_fetch-ends.ensures.bytes) in
     let after = with_items_is c.write_and_fetch-ends.result.0 c.settle_fetchers.new.ends
     (omega (
       arith,
@@ -114,5 +114,5 @@ returns-clause-chooses g c = λ numbers begun.
     (have_chosen c.as_mut_slice-2.result.now c.write_and_fetch-ends.result.2.items c.args.chosen.now
     c.requires.script bytes count begun lent c.write_and_fetch-ends.ensures.fetches
     (λ k. ap (λ xs. host_at xs k) c.as_mut_slice-2.ensures.value ∙ c.write_and_fetch-ends.ensures.ends k
-    ∙ (λ i. after_writes (c.writes-places.ensures i) k (host_at (lent_ends i) k)))
+    ∙ (λ i. after_writes (c.requires.places i) k (host_at (lent_ends i) k)))
     (λ k node. c.in_ok-settle_fetchers.ensures.settles k (omega (arith, node, c.requires.count))))

@@ -1,0 +1,82 @@
+-- A slot in which no host reads: there are no readers, and nothing is read.
+use Rattle.std.proofs.Common.{◌≡◌, ℕ, zero, suc, List, [], ◌∷◌, length, get_or, Option, Some, None, refl, sym, ap, subst}
+use Rattle.std.proofs.Common.{◌∙◌, arith}
+use Rattle.std.specs.Prelude.{is_some}
+use Rattle.std.proofs.lemmas.Option.{none-some}
+use Rattle.ttp_world.specs.declared.medl.Medl.{Medl}
+use Rattle.ttp_world.specs.declared.script.Script.{Script}
+use Rattle.ttp_world.specs.Script.{reads_in}
+use Rattle.host_port.specs.Reading.{ReadersState, IsSettled, got_of, reads_from, settled}
+use Rattle.host_port.specs.Rings.{ControllerState, HostState, at_source}
+use Rattle.cluster_run.specs.declared.nodes.Nodes.{Nodes}
+use Rattle.cluster_run.specs.Ending.{HaveHandedOn}
+use Rattle.cluster_run.specs.Ports.{end_at}
+use Rattle.cluster_run.specs.Reading.{ReadsMany, SettlesReadsOf, calls_in, has_reads, reader_at, reader_in}
+use Rattle.cluster_run.specs.Reading.{readers_at, sources_of}
+use Rattle.cluster_run.specs.Slots.{TellsReads}
+
+pub no_items : {A : Type 0} (xs : List A) → length xs ≡ 0 → xs ≡ []
+no_items [] none = refl
+no_items (x ∷ xs) none = absurd (omega (arith, none))
+
+-- nothing for each of so many nodes
+abbrev nobody : ℕ → List (Option ReadersState)
+nobody zero = []
+nobody (suc n) = None ∷ nobody n
+
+length-nobody : (n : ℕ) → length (nobody n) ≡ n
+length-nobody zero = refl
+length-nobody (suc n) = ap suc (length-nobody n)
+
+none_there : (n k : ℕ) → readers_at (nobody n) k ≡ None
+none_there zero k = refl
+none_there (suc n) zero = refl
+none_there (suc n) (suc k) = none_there n k
+
+settled_whole : (w : HostState) → IsSettled w None
+settled_whole None = tt
+settled_whole (Some w) = tt
+
+settled_same : (w : HostState) → settled w None ≡ w
+settled_same None = refl
+settled_same (Some w) = refl
+
+none_settled : (e : ControllerState) → SettlesReadsOf e None e
+none_settled e = record {
+  whole = λ from. settled_whole (at_source e from);
+  settled_is = λ from. sym (settled_same (at_source e from));
+}
+
+pub none_read : (list : Medl) (script : Script) (slot : ℕ) (old new : Nodes) → reads_in script slot ≡ []
+    → HaveHandedOn new.outcomes.items old.controller_ends.items new.controller_ends.items new.delivered.items
+    → TellsReads list script slot old new []
+none_read list script slot old new quiet handed =
+    let n = length list.slots in
+    let ends = new.controller_ends.items in
+    record {
+      handed = ends;
+      first = nobody n;
+      last = nobody n;
+      first_count = length-nobody n;
+      last_count = length-nobody n;
+      handed_are = handed;
+      lent = record {
+        there = λ k near. ap is_some (none_there n k) ∙ sym (ap (λ reads. has_reads reads k) quiet);
+        each = λ k near x is. absurd (none-some x (sym (none_there n k) ∙ is));
+      };
+      read = record {
+        each = λ k from.
+            subst (λ reads. ReadsMany list.buffers (reads_from reads k from) (reader_at (nobody n) k from)
+            (reader_at (nobody n) k from)) (sym quiet) refl;
+        calls = λ k clear. ap calls_in (none_there n k) ∙ sym (ap (λ reads. sources_of reads k) quiet);
+      };
+      settles = record {
+        each = λ k near.
+            subst (λ (o : Option ReadersState). SettlesReadsOf (end_at ends k) o (end_at ends k)) (sym (none_there n k))
+            (none_settled (end_at ends k));
+      };
+      told = λ got. record {
+        reads_are = sym quiet;
+        pairs = λ k from. sym (ap (λ o. got_of (reader_in o from)) (none_there n k));
+      };
+    }

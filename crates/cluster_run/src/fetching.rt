@@ -1,0 +1,66 @@
+//! What controllers fetch in a slot in which no host writes.
+ghost use Rattle.std.specs.Prelude.{◌≡◌, ℕ, ◌<◌, ◌≤◌, length, map, get_or, OnOk, IsSome, true};
+ghost use Rattle.ttp_world.specs.Medl.{IsValid, plan_at};
+ghost use Rattle.ttp_world.specs.Outgoing.{nothing_chosen};
+ghost use Rattle.ttp_world.specs.World.{BegunSlot, is_loaded};
+ghost use Rattle.controller.specs.Passes.{HaveBegun};
+ghost use Rattle.host_port.specs.Rings.{IsHostEndOf};
+ghost use Rattle.cluster_run.specs.Ports.{ring_of, host_at};
+ghost use Rattle.cluster_run.specs.Sending.{MayFetchAlone, MaySettleAfter, FetchesAlone};
+
+use crate::sending::{fetch_one, lend_one, settle_one};
+use controller::{Controller, is_loaded};
+use host_port::{HostEnd, Port};
+use ttp_base::{Gate, Memory};
+use ttp_world::{Chosen, Medl, PAYLOAD_LIMIT};
+
+// A node's controller fetches, if its frame carries a message, and chooses what it got.
+fn fetch_for<G: Gate>(
+    port: &Port,
+    end: &mut HostEnd,
+    loaded: bool,
+    len: u8,
+    chosen: &mut Chosen,
+    gate: &G,
+) -> Result<(), Memory>
+    requires own { IsHostEndOf port.now end.old }
+    requires ring { loaded ≡ true → IsSome end.old }
+    requires limit { len ≤ PAYLOAD_LIMIT }
+    requires may { MaySettleAfter port.now len loaded end.old }
+    ensures own { IsHostEndOf port.now end.new }
+    ensures fetches { OnOk result (FetchesAlone len loaded end.old end.new chosen.old chosen.new) }
+{
+    let mut fetcher = lend_one(port, end, loaded)?;
+    fetch_one(port, &mut fetcher, gate);
+    settle_one(port, end, fetcher, len, chosen)?;
+    Ok(())
+}
+
+/// Each controller whose node's frame carries a message fetches it, one after another.
+pub(crate) fn fetch_each<G: Gate>(
+    list: &Medl,
+    ports: &[Port],
+    ends: &mut [HostEnd],
+    controllers: &[Controller],
+    chosen: &mut [Chosen],
+    gate: &G,
+) -> Result<(), Memory>
+    requires list { IsValid list.now }
+    requires count { length ports.now ≡ length list.now.slots }
+    requires ports { map ring_of ends.old ≡ map (λ port. port.outgoing) ports.now }
+    requires controllers { length controllers.now ≡ length ports.now }
+    requires chosen_count { length chosen.old ≡ length ports.now }
+    requires may { MayFetchAlone list.now ports.now controllers.now ends.old }
+    ensures ports { OnOk result (map ring_of ends.new ≡ map (λ port. port.outgoing) ports.now) }
+    ensures chosen_count { length chosen.new ≡ length chosen.old }
+    ensures fetches { OnOk result ((s : BegunSlot) → HaveBegun s 0 controllers.now → (k : ℕ) → k < length ports.now
+        → FetchesAlone (plan_at list.now k).payload (is_loaded s k) (host_at ends.old k) (host_at ends.new k)
+        (get_or chosen.old k nothing_chosen) (get_or chosen.new k nothing_chosen)) }
+{
+    for k in 0..ports.len() {
+        let loaded = is_loaded(&controllers[k]);
+        let len = list.slots.get(k).payload;
+        fetch_for(&ports[k], &mut ends[k], loaded, len, &mut chosen[k], gate)?;
+    }
+    Ok(())
+}
