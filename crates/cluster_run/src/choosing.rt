@@ -13,6 +13,7 @@ use crate::sending::{lend_fetchers, settle_fetchers, write_and_fetch};
 use controller::Controller;
 use host_port::{HostEnd, Port, WriteLine};
 use std::alloc::Global;
+use std::mem;
 use std::thread::Threads;
 use ttp_base::{Gate, Memory};
 use ttp_world::{Chosen, Medl, Script};
@@ -60,43 +61,43 @@ fn write_and_choose<R: Threads + Sync, G: Gate>(
     Ok((ends, lines))
 }
 
-// No host writes in the slot. The lines, which are none, are handed out with the ends.
+// No host writes in the slot. The lines, which are none, are handed out.
 fn fetch_and_choose<G: Gate>(
     alloc: Global,
     list: &Medl,
     script: &Script,
     slot: u32,
     ports: &[Port],
-    mut ends: Vec<HostEnd>,
+    ends: &mut [HostEnd],
     controllers: &[Controller],
     chosen: &mut [Chosen],
     gate: &G,
-) -> Result<(Vec<HostEnd>, Vec<WriteLine>), Memory>
+) -> Result<Vec<WriteLine>, Memory>
     requires list { IsValid list.now }
     requires script { IsValidScript list.now script.now }
     requires slot { slot < script.now.slots }
     requires quiet { writes_in script.now slot ≡ [] }
     requires count { length ports.now ≡ length list.now.slots }
-    requires ports { map ring_of ends.items ≡ map (λ port. port.outgoing) ports.now }
+    requires ports { map ring_of ends.old ≡ map (λ port. port.outgoing) ports.now }
     requires controllers { length controllers.now ≡ length ports.now }
     requires chosen_count { length chosen.old ≡ length ports.now }
     requires bytes { AreBytesBefore list.now script.now slot }
-    requires may { MayChoose list.now script.now slot controllers.now ends.items }
+    requires may { MayChoose list.now script.now slot controllers.now ends.old }
     ensures chosen_count { length chosen.new ≡ length chosen.old }
-    ensures ports { IfOk result (λ r. map ring_of r.0.items ≡ map (λ port. port.outgoing) ports.now) }
+    ensures ports { OnOk result (map ring_of ends.new ≡ map (λ port. port.outgoing) ports.now) }
     ensures bytes { OnOk result (AreBytesBefore list.now script.now (slot + 1)) }
-    ensures lines { IfOk result (λ r. r.1.items
+    ensures lines { IfOk result (λ lines. lines.items
         ≡ writes_shown list.now script.now slot [] (writes_in script.now slot)) }
-    ensures chooses { IfOk result (λ r. (numbers : Numbers)
-        → HaveBegunFor list.now script.now slot numbers controllers.now ends.items
-        → HaveChosen list.now script.now numbers chosen.new r.0.items) }
+    ensures chooses { OnOk result ((numbers : Numbers)
+        → HaveBegunFor list.now script.now slot numbers controllers.now ends.old
+        → HaveChosen list.now script.now numbers chosen.new ends.new) }
 {
-    fetch_each(list, ports, ends.as_mut_slice(), controllers, chosen, gate)?;
-    Ok((ends, Vec::new(alloc)))
+    fetch_each(list, ports, ends, controllers, chosen, gate)?;
+    Ok(Vec::new(alloc))
 }
 
 /// Hosts write what they do in the slot, and each controller whose node's frame carries a message
-/// fetches it. The lines of the writes are handed out with the ends.
+/// fetches it. The lines of the writes are handed out. After `Memory` the ends may be gone.
 pub(crate) fn choose<R: Threads + Sync, G: Gate>(
     rt: &R,
     alloc: Global,
@@ -104,44 +105,47 @@ pub(crate) fn choose<R: Threads + Sync, G: Gate>(
     script: &Script,
     slot: u32,
     ports: &[Port],
-    ends: Vec<HostEnd>,
+    ends: &mut Vec<HostEnd>,
     controllers: &[Controller],
     chosen: &mut [Chosen],
     gate: &G,
-) -> Result<(Vec<HostEnd>, Vec<WriteLine>), Memory>
+) -> Result<Vec<WriteLine>, Memory>
     requires list { IsValid list.now }
     requires script { IsValidScript list.now script.now }
     requires slot { slot < script.now.slots }
     requires count { length ports.now ≡ length list.now.slots }
-    requires ports { map ring_of ends.items ≡ map (λ port. port.outgoing) ports.now }
+    requires ports { map ring_of ends.old.items ≡ map (λ port. port.outgoing) ports.now }
     requires controllers { length controllers.now ≡ length ports.now }
     requires chosen_count { length chosen.old ≡ length ports.now }
     requires bytes { AreBytesBefore list.now script.now slot }
-    requires may { MayChoose list.now script.now slot controllers.now ends.items }
+    requires may { MayChoose list.now script.now slot controllers.now ends.old.items }
     ensures chosen_count { length chosen.new ≡ length chosen.old }
-    ensures ports { IfOk result (λ r. map ring_of r.0.items ≡ map (λ port. port.outgoing) ports.now) }
+    ensures ports { OnOk result (map ring_of ends.new.items ≡ map (λ port. port.outgoing) ports.now) }
     ensures bytes { OnOk result (AreBytesBefore list.now script.now (slot + 1)) }
-    ensures lines { IfOk result (λ r. r.1.items
+    ensures lines { IfOk result (λ lines. lines.items
         ≡ writes_shown list.now script.now slot [] (writes_in script.now slot)) }
-    ensures chooses { IfOk result (λ r. (numbers : Numbers)
-        → HaveBegunFor list.now script.now slot numbers controllers.now ends.items
-        → HaveChosen list.now script.now numbers chosen.new r.0.items) }
+    ensures chooses { OnOk result ((numbers : Numbers)
+        → HaveBegunFor list.now script.now slot numbers controllers.now ends.old.items
+        → HaveChosen list.now script.now numbers chosen.new ends.new.items) }
 {
     let places = script.writes(slot);
     if places.is_empty() {
-        return fetch_and_choose(
+        let none = fetch_and_choose(
             alloc,
             list,
             script,
             slot,
             ports,
-            ends,
+            ends.as_mut_slice(),
             controllers,
             chosen,
             gate,
-        );
+        )?;
+        return Ok(none);
     }
-    write_and_choose(
+    // A thread has the ends by value.
+    let given = mem::replace(ends, Vec::new(alloc));
+    let (given, lines) = write_and_choose(
         rt,
         alloc,
         list,
@@ -149,9 +153,11 @@ pub(crate) fn choose<R: Threads + Sync, G: Gate>(
         slot,
         places,
         ports,
-        ends,
+        given,
         controllers,
         chosen,
         gate,
-    )
+    )?;
+    *ends = given;
+    Ok(lines)
 }

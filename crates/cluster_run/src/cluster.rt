@@ -96,10 +96,10 @@ impl Cluster {
         ensures gone { OnErr result (self.new.desks ≡ None) }
         ensures for_good { self.old.desks ≡ None → IsErr result }
     {
-        let Some(nodes) = self.nodes.take() else {
+        let Some(nodes) = &mut self.nodes else {
             return Err(Memory);
         };
-        let (nodes, report) = slot_of(
+        let Ok(report) = slot_of(
             rt,
             self.alloc,
             &self.list,
@@ -107,8 +107,10 @@ impl Cluster {
             self.done,
             nodes,
             gate,
-        )?;
-        self.nodes = Some(nodes);
+        ) else {
+            self.nodes = None;
+            return Err(Memory);
+        };
         self.report = report;
         self.done += 1;
         Ok(())

@@ -138,70 +138,53 @@ fn plan<R: Threads + Sync, G: Gate>(
     list: &Medl,
     script: &Script,
     slot: u32,
-    nodes: Nodes,
+    nodes: &mut Nodes,
     gate: &G,
-) -> Result<(Nodes, Vec<WriteLine>), Memory>
+) -> Result<Vec<WriteLine>, Memory>
     requires list { IsValid list.now }
     requires script { IsValidScript list.now script.now }
     requires slot { slot < script.now.slots }
-    requires nodes { AreNodesOf list.now slot nodes }
+    requires nodes { AreNodesOf list.now slot nodes.old }
     requires bytes { AreBytesBefore list.now script.now slot }
-    requires stands { StandsForSome list.now script.now slot (desks_of nodes) }
-    ensures nodes { IfOk result (λ r. ArePlannedNodes list.now script.now slot r.0) }
-    ensures ends { IfOk result (λ r. r.0.controller_ends.items ≡ nodes.controller_ends.items) }
+    requires stands { StandsForSome list.now script.now slot (desks_of nodes.old) }
+    ensures nodes { OnOk result (ArePlannedNodes list.now script.now slot nodes.new) }
+    ensures ends { nodes.new.controller_ends ≡ nodes.old.controller_ends }
     ensures bytes { OnOk result (AreBytesBefore list.now script.now (slot + 1)) }
-    ensures writes { IfOk result (λ r. r.1.items
+    ensures writes { IfOk result (λ lines. lines.items
         ≡ writes_shown list.now script.now slot [] (writes_in script.now slot)) }
-    ensures plans { IfOk result (λ r. (numbers : Numbers) → StandsAt list.now script.now slot (desks_of nodes) numbers
-        → HavePlannedSlot list.now script.now numbers r.0) }
+    ensures plans { OnOk result ((numbers : Numbers) → StandsAt list.now script.now slot (desks_of nodes.old) numbers
+        → HavePlannedSlot list.now script.now numbers nodes.new) }
 {
-    let Nodes {
-        mut medium,
-        mut controllers,
-        mut incidents,
-        mut chosen,
-        outcomes,
-        delivered,
-        ports,
-        controller_ends,
-        host_ends,
-    } = nodes;
-    begin_all(&mut controllers, &mut incidents, list, script, 0, slot);
-    let (host_ends, writes) = choose(
+    begin_all(
+        &mut nodes.controllers,
+        &mut nodes.incidents,
+        list,
+        script,
+        0,
+        slot,
+    );
+    let writes = choose(
         rt,
         alloc,
         list,
         script,
         slot,
-        &ports,
-        host_ends,
-        &controllers,
-        &mut chosen,
+        &nodes.ports,
+        &mut nodes.host_ends,
+        &nodes.controllers,
+        &mut nodes.chosen,
         gate,
     )?;
     plan_all(
-        &mut controllers,
-        &mut medium,
-        &incidents,
+        &mut nodes.controllers,
+        &mut nodes.medium,
+        &nodes.incidents,
         list,
         script,
         slot,
-        &chosen,
+        &nodes.chosen,
     );
-    Ok((
-        Nodes {
-            medium,
-            controllers,
-            incidents,
-            chosen,
-            outcomes,
-            delivered,
-            ports,
-            controller_ends,
-            host_ends,
-        },
-        writes,
-    ))
+    Ok(writes)
 }
 
 // Controllers end the slot, beside the reads of hosts by these readers.
@@ -344,35 +327,35 @@ fn end_slot<R: Threads + Wait + Sync, G: Gate>(
     end_read(rt, alloc, list, script, slot, nodes, gate)
 }
 
-/// Takes all nodes through a slot, and answers them with the slot's report.
+/// Takes all nodes through a slot, and answers its report.
 pub(crate) fn slot_of<R: Threads + Wait + Sync, G: Gate>(
     rt: &R,
     alloc: Global,
     list: &Medl,
     script: &Script,
     slot: u32,
-    nodes: Nodes,
+    nodes: &mut Nodes,
     gate: &G,
-) -> Result<(Nodes, SlotReport), Memory>
+) -> Result<SlotReport, Memory>
     requires list { IsValid list.now }
     requires script { IsValidScript list.now script.now }
     requires slot { slot < script.now.slots }
-    requires nodes { AreNodesOf list.now slot nodes }
+    requires nodes { AreNodesOf list.now slot nodes.old }
     requires bytes { AreBytesBefore list.now script.now slot }
-    requires stands { StandsForSome list.now script.now slot (desks_of nodes) }
-    ensures nodes { IfOk result (λ r. AreNodesOf list.now (slot + 1) r.0) }
+    requires stands { StandsForSome list.now script.now slot (desks_of nodes.old) }
+    ensures nodes { OnOk result (AreNodesOf list.now (slot + 1) nodes.new) }
     ensures bytes { OnOk result (AreBytesBefore list.now script.now (slot + 1)) }
-    ensures steps { IfOk result (λ r. (numbers : Numbers) → StandsAt list.now script.now slot (desks_of nodes) numbers
-        → IsNextOf list.now script.now numbers (desks_of r.0) r.1) }
+    ensures steps { IfOk result (λ report. (numbers : Numbers)
+        → StandsAt list.now script.now slot (desks_of nodes.old) numbers
+        → IsNextOf list.now script.now numbers (desks_of nodes.new) report) }
 {
-    let (mut nodes, writes) = plan(rt, alloc, list, script, slot, nodes, gate)?;
-    let reads = end_slot(rt, alloc, list, script, slot, &mut nodes, gate)?;
+    let writes = plan(rt, alloc, list, script, slot, nodes, gate)?;
+    let reads = end_slot(rt, alloc, list, script, slot, nodes, gate)?;
     let lines = node_lines(alloc, &nodes.controllers, &nodes.delivered)?;
-    let report = SlotReport {
+    Ok(SlotReport {
         slot,
         nodes: lines,
         writes: List::from_vec(writes),
         reads,
-    };
-    Ok((nodes, report))
+    })
 }

@@ -15,7 +15,7 @@ pub choose-requires-clause-may : goal.choose-requires-clause-may
 choose-requires-clause-may g c κs within =
     let list = c.args.list.now in
     let script = c.args.script.now in
-    let nodes = c.args.nodes in
+    let nodes = c.args.nodes.now in
     let numbers = c.requires.stands.numbers in
     let at = c.requires.stands.at in
     let s = next_slot list script numbers in
@@ -36,14 +36,14 @@ choose-requires-clause-may g c κs within =
 
 pub plan_all-requires-clause-seats : goal.plan_all-requires-clause-seats
 plan_all-requires-clause-seats g c =
-    let begun = with_items_is c.args.nodes.controllers c.begin_all.new.controllers
+    let begun = with_items_is c.args.nodes.now.controllers c.begin_all.new.controllers
     (omega (arith, c.begin_all.ensures.count, c.deref_mut.ensures.len)) in
     subst (AreSeats c.args.list.now IsBegun (most_ahead_in c.args.slot) 0) (sym (c.deref_mut-4.ensures.value ∙ begun))
     c.begin_all.ensures.seats
 
 pub plan_all-requires-clause-incidents : goal.plan_all-requires-clause-incidents
 plan_all-requires-clause-incidents g c =
-    let known = with_items_is c.args.nodes.incidents c.begin_all.new.incidents
+    let known = with_items_is c.args.nodes.now.incidents c.begin_all.new.incidents
     (omega (arith, c.begin_all.ensures.room, c.deref_mut-2.ensures.len)) in
     subst (AreIncidents c.args.script.now c.args.slot 0) (sym (c.deref-3.ensures.value ∙ known))
     c.begin_all.ensures.incidents
@@ -52,7 +52,7 @@ pub plan_all-requires-clause-chosen : goal.plan_all-requires-clause-chosen
 plan_all-requires-clause-chosen g c =
     let list = c.args.list.now in
     let script = c.args.script.now in
-    let nodes = c.args.nodes in
+    let nodes = c.args.nodes.now in
     let numbers = c.requires.stands.numbers in
     let at = c.requires.stands.at in
     let s = next_slot list script numbers in
@@ -68,21 +68,21 @@ plan_all-requires-clause-chosen g c =
       written = at.stands.written;
     } in
     let told = with_items_is nodes.chosen c.choose.new.chosen
-    (omega (arith, c.in_ok-host_ends.ensures.chosen_count, c.deref_mut-3.ensures.len)) in
+    (omega (arith, c.in_ok-writes.ensures.chosen_count, c.deref_mut-3.ensures.len)) in
     record {
       history = world list script numbers;
       slot_is = slots;
       begun = subst (HaveBegun s 0) (sym (c.deref_mut-4.ensures.value ∙ begun)) has_begun;
       chosen_are =
           subst (AreChosen s) (sym (c.deref-4.ensures.value ∙ told))
-          (chosen_sizes list script numbers c.choose.new.chosen c.in_ok-host_ends.host_ends.items c.requires.script
-          (c.in_ok-host_ends.ensures.chooses numbers begun_for));
+          (chosen_sizes list script numbers c.choose.new.chosen c.choose.new.ends.items c.requires.script
+          (c.in_ok-writes.ensures.chooses numbers begun_for));
     }
 
 pub returns-clause-nodes : goal.returns-clause-nodes
 returns-clause-nodes g c =
     let list = c.args.list.now in
-    let nodes = c.args.nodes in
+    let nodes = c.args.nodes.now in
     let begun = with_items_is nodes.controllers c.begin_all.new.controllers
     (omega (arith, c.begin_all.ensures.count, c.deref_mut.ensures.len)) in
     let planned = with_items_is (with_items nodes.controllers c.begin_all.new.controllers) c.plan_all.new.controllers
@@ -90,7 +90,7 @@ returns-clause-nodes g c =
     let known = with_items_is nodes.incidents c.begin_all.new.incidents
     (omega (arith, c.begin_all.ensures.room, c.deref_mut-2.ensures.len)) in
     let told = with_items_is nodes.chosen c.choose.new.chosen
-    (omega (arith, c.in_ok-host_ends.ensures.chosen_count, c.deref_mut-3.ensures.len)) in
+    (omega (arith, c.in_ok-writes.ensures.chosen_count, c.deref_mut-3.ensures.len)) in
     record {
       controllers = omega (
         arith,
@@ -113,7 +113,7 @@ returns-clause-nodes g c =
       chosen = omega (
         arith,
         ap length told,
-        c.in_ok-host_ends.ensures.chosen_count,
+        c.in_ok-writes.ensures.chosen_count,
         ap length c.deref_mut-3.ensures.value,
         c.requires.nodes.chosen,
       );
@@ -125,7 +125,7 @@ returns-clause-nodes g c =
         buffers = c.requires.nodes.ports.buffers;
         controllers = c.requires.nodes.ports.controllers;
         hosts =
-            c.in_ok-host_ends.ensures.ports
+            c.in_ok-writes.ensures.ports
             ∙ ap (map (λ (p : PortState). p.outgoing)) c.deref.ensures.value;
       };
       slot_is = c.plan_all.ensures.slot;
@@ -136,7 +136,7 @@ pub returns-clause-plans : goal.returns-clause-plans
 returns-clause-plans g c = λ numbers at.
     let list = c.args.list.now in
     let script = c.args.script.now in
-    let nodes = c.args.nodes in
+    let nodes = c.args.nodes.now in
     let s = next_slot list script numbers in
     let begun = with_items_is nodes.controllers c.begin_all.new.controllers
     (omega (arith, c.begin_all.ensures.count, c.deref_mut.ensures.len)) in
@@ -150,14 +150,14 @@ returns-clause-plans g c = λ numbers at.
       written = at.stands.written;
     } in
     let told = with_items_is nodes.chosen c.choose.new.chosen
-    (omega (arith, c.in_ok-host_ends.ensures.chosen_count, c.deref_mut-3.ensures.len)) in
+    (omega (arith, c.in_ok-writes.ensures.chosen_count, c.deref_mut-3.ensures.len)) in
     let planned = with_items_is (with_items nodes.controllers c.begin_all.new.controllers) c.plan_all.new.controllers
     (omega (arith, c.plan_all.ensures.count, c.deref_mut-4.ensures.len)) in
     let begun_now = subst (HaveBegun s 0) (sym (c.deref_mut-4.ensures.value ∙ begun)) has_begun in
     record {
       chosen =
-          subst (λ xs. HaveChosen list script numbers xs c.in_ok-host_ends.host_ends.items) (sym told)
-          (c.in_ok-host_ends.ensures.chooses numbers begun_for);
+          subst (λ xs. HaveChosen list script numbers xs c.choose.new.ends.items) (sym told)
+          (c.in_ok-writes.ensures.chooses numbers begun_for);
       planned =
           subst (HavePlanned s (with_items nodes.chosen c.choose.new.chosen).items 0) (sym planned)
           (subst (λ xs. HavePlanned s xs 0 c.plan_all.new.controllers) c.deref-4.ensures.value

@@ -19,10 +19,10 @@ returns-clause-steps g c = λ numbers at.
     let list = c.args.list.now in
     let script = c.args.script.now in
     let slot = c.args.slot in
-    let nodes = c.args.nodes in
-    let mid = c.in_ok-nodes.nodes in
+    let nodes = c.args.nodes.now in
+    let mid = c.plan.new.nodes in
     let done = c.end_slot.new.nodes in
-    let planned = c.in_ok-nodes.ensures.plans numbers at in
+    let planned = c.in_ok-writes.ensures.plans numbers at in
     let reads = c.in_ok-reads.ensures.tells in
     let ends_count = same-count rings_of (λ (p : PortState). p.incoming) nodes.controller_ends.items nodes.ports.items
     c.requires.nodes.ports.controllers ∙ c.requires.nodes.ports_count in
@@ -42,9 +42,9 @@ returns-clause-steps g c = λ numbers at.
       ended = c.in_ok-reads.ensures.ends numbers planned;
       handed_are =
           subst (λ es. HaveHandedOn done.outcomes.items es reads.handed done.delivered.items)
-          c.in_ok-nodes.ensures.ends reads.handed_are;
+          (ap (λ v. v.items) c.plan.ensures.ends) reads.handed_are;
       lent =
-          subst (λ es. AreReadersLent (reads_in script (length numbers)) es reads.first) c.in_ok-nodes.ensures.ends
+          subst (λ es. AreReadersLent (reads_in script (length numbers)) es reads.first) (ap (λ v. v.items) c.plan.ensures.ends)
           (subst (λ n. AreReadersLent (reads_in script n) mid.controller_ends.items reads.first) (sym at.count)
           reads.lent);
       read = subst (λ n. HaveRead list.buffers (reads_in script n) reads.first reads.last) (sym at.count) reads.read;
@@ -55,7 +55,7 @@ returns-clause-steps g c = λ numbers at.
       slot_is = sym at.count;
       writes =
           c.from_vec.ensures
-          ∙ c.in_ok-nodes.ensures.writes
+          ∙ c.in_ok-writes.ensures.writes
           ∙ ap (λ n. writes_shown list script n [] (writes_in script n)) (sym at.count);
     } in
     let row = row_in (next_slot list script numbers) mid.chosen.items in

@@ -6,6 +6,6 @@ use Rattle.cluster_run.proofs.cluster.Cluster.slot.Goals as goal
 pub returns-clause-steps : goal.returns-clause-steps
 returns-clause-steps g c = λ numbers stands.
     let was = c.self.inside in
-    next_cluster was.list was.script was.done was.nodes was.report c.in-Some.nodes c.in_ok-nodes.nodes
-    c.in_ok-nodes.report numbers (sym c.take.ensures.value ∙ c.in-Some.is)
-    (subst (λ (v : ClusterView). ClusterStandsFor v numbers) (sym c.self.view_is) stands) c.in_ok-nodes.ensures.steps
+    next_cluster was.list was.script was.done was.nodes was.report c.in-Some.nodes c.slot_of.new.nodes
+    c.in-Ok.report numbers c.in-Some.is
+    (subst (λ (v : ClusterView). ClusterStandsFor v numbers) (sym c.self.view_is) stands) c.in-Ok.ensures.steps
