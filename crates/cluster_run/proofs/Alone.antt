@@ -1,14 +1,13 @@
 -- Controllers fetch where no host writes: what each got is chosen, as it is beside writes.
-use Rattle.std.proofs.Common.{◌≡◌, ◌≢◌, ℕ, suc, ◌+◌, ◌<◌, ◌≤◌, Bool, List, [], ◌++◌, length, map, set, get_or}
-use Rattle.std.proofs.Common.{Option, Some, None, All, refl, sym, ap, subst, ◌∙◌, arith, add-one, below_more}
+use Rattle.std.proofs.Common.{◌≡◌, ◌≢◌, ℕ, suc, ◌+◌, ◌<◌, ◌≤◌, Bool, List, [], length, map, set, get_or}
+use Rattle.std.proofs.Common.{Some, None, All, refl, sym, ap, subst, ◌∙◌, arith, add-one, below_more}
 use Rattle.std.proofs.lemmas.List.{append-nil, length-set, get_or-set_same, get_or-set_other}
-use Rattle.nbw_ring.specs.States.{WriterState}
 use Rattle.ttp_world.specs.declared.medl.Medl.{Medl}
 use Rattle.ttp_world.specs.declared.node.Chosen.{Chosen}
 use Rattle.ttp_world.specs.declared.script.Script.{Script}
 use Rattle.ttp_world.specs.Medl.{plan_at}
 use Rattle.ttp_world.specs.Outgoing.{messages_before, nothing_chosen}
-use Rattle.ttp_world.specs.Script.{HostWrite, IsValidScript, writes_in}
+use Rattle.ttp_world.specs.Script.{IsValidScript, writes_in}
 use Rattle.ttp_world.specs.World.{BegunSlot, Numbers, is_loaded, world}
 use Rattle.trace_text.specs.HostLines.{AreBytes}
 use Rattle.controller.specs.Passes.{HaveBegun}
@@ -17,7 +16,7 @@ use Rattle.host_port.specs.Rings.{HostState, PortState}
 use Rattle.cluster_run.specs.Choosing.{AreBytesBefore, HaveBegunFor, HaveChosen, next_slot}
 use Rattle.cluster_run.specs.Ports.{host_at, ring_of}
 use Rattle.cluster_run.specs.Rings.{pairs_sent, words_written}
-use Rattle.cluster_run.specs.Sending.{FetchesAlone, MayFetchAlone, SettlesFetch, after_writes, with_messages}
+use Rattle.cluster_run.specs.Sending.{FetchesAlone, MayFetchAlone, SettlesFetch, after_writes}
 use Rattle.cluster_run.proofs.Choices.{node_choice}
 use Rattle.cluster_run.proofs.Deliverable.{loaded-payload}
 use Rattle.cluster_run.proofs.PortLists.{at_any, read_alike, same-count}

@@ -1,4 +1,4 @@
-use Rattle.std.proofs.Common.{length, map, sym, ap, subst, ◌∙◌, arith}
+use Rattle.std.proofs.Common.{map, sym, ap, subst, ◌∙◌, arith}
 use Rattle.std.proofs.lemmas.List.{with_items_is}
 use Rattle.cluster_run.specs.Choosing.{HaveBegunFor, HaveChosen, MayChoose}
 use Rattle.cluster_run.specs.Ports.{ring_of}

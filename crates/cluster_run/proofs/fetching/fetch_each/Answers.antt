@@ -1,8 +1,8 @@
-use Rattle.std.proofs.Common.{◌≡◌, ◌<◌, length, get_or, None, refl, subst, sym, ap, ◌∙◌, arith}
+use Rattle.std.proofs.Common.{◌<◌, length, None, refl, subst, sym, ap, ◌∙◌, arith}
 use Rattle.std.specs.Prelude.{IsSome}
 use Rattle.std.proofs.lemmas.Option.{slice_get_read}
 use Rattle.ttp_world.specs.World.{is_loaded}
-use Rattle.host_port.specs.Rings.{PortState, HostState}
+use Rattle.host_port.specs.Rings.{PortState}
 use Rattle.controller.proofs.Parts.{each-of}
 use Rattle.cluster_run.specs.Ports.{ring_of}
 use Rattle.cluster_run.specs.Sending.{MaySettleAfter}

@@ -1,7 +1,6 @@
 use Rattle.std.proofs.Common.{◌≡◌, sym, subst, ◌∙◌}
 use Rattle.host_port.specs.Reading.{IsSettled, settled}
 use Rattle.host_port.specs.Rings.{HostState}
-use Rattle.cluster_run.specs.Ports.{ring_of}
 use Rattle.cluster_run.specs.Sending.{Fetches}
 use Rattle.cluster_run.proofs.Sends.{lent_may}
 use Rattle.cluster_run.proofs.fetching.fetch_for.Goals as goal

@@ -1,4 +1,4 @@
-use Rattle.std.proofs.Common.{sym, subst, ◌∙◌}
+use Rattle.std.proofs.Common.{sym, subst}
 use Rattle.cluster_run.specs.Standing.{ClusterView, ClusterStandsFor}
 use Rattle.cluster_run.proofs.NextClusters.{next_cluster}
 use Rattle.cluster_run.proofs.cluster.Cluster.slot.Goals as goal
