@@ -137,7 +137,7 @@ fn controllers_and_hosts_run_at_once(rt: HostRuntime) -> Result<(), Fail> {
         return Err(Fail::from("no cluster"));
     };
     assert!(rt; cluster.done() == 15 && cluster.slots() == 15);
-    assert!(rt; cluster.list().nodes() == 5 && cluster.script().on.len() == 5);
+    assert!(rt; cluster.list().slots.len() == 5 && cluster.script().on.len() == 5);
     assert!(rt; cluster.report().slot == 14 && cluster.report().nodes.len() == 5);
     words.clear();
     let status = bench(
