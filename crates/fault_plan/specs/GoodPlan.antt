@@ -1,6 +1,6 @@
 -- What makes a plan good: all that an argument on safety asks of the faults of a run.
 use Rattle.std.specs.Prelude.{◌≡◌, ◌≢◌, ℕ, suc, ◌+◌, ◌*◌, ◌<◌, ◌≤◌, true, length, Some, ◌⊎◌}
-use Rattle.std.specs.List.{AllByRecursion}
+use Rattle.std.specs.List.{Contains}
 use Rattle.ttp_base.specs.NodeSet.{most_nodes, has_node}
 use Rattle.fault_plan.specs.Plan.{Sending, Receiving, Incident, Return, Plan, sender, incident_at}
 use Rattle.fault_plan.specs.Fates.{fate_of, is_sound_after, is_good_slot, is_lost, steady_nodes}
@@ -25,8 +25,8 @@ pub record IsReturn (plan : Plan) (r : Return) : Type 0 where
   pub losses : (slot : ℕ) (incident : Incident) → incident_at plan slot ≡ Some incident
       → (slot + 2 * plan.nodes ≤ r.armed) ⊎ (r.entered + 2 * plan.nodes ≤ slot)
   -- and none returns
-  pub others : AllByRecursion (λ q. (q ≡ r) ⊎ ((q.entered + 2 * plan.nodes ≤ r.armed)
-      ⊎ (r.entered + 2 * plan.nodes ≤ q.armed))) plan.returns
+  pub others : (q : Return) → Contains plan.returns q
+      → (q ≡ r) ⊎ ((q.entered + 2 * plan.nodes ≤ r.armed) ⊎ (r.entered + 2 * plan.nodes ≤ q.armed))
 
 pub record IsGoodPlan (plan : Plan) : Type 0 where
   pub count : (4 ≤ plan.nodes) × (plan.nodes ≤ most_nodes)
@@ -37,6 +37,6 @@ pub record IsGoodPlan (plan : Plan) : Type 0 where
       → incident_at plan later ≡ Some second → slot < later → slot + 2 * plan.nodes ≤ later
   pub losses : (slot : ℕ) (incident : Incident) → incident_at plan (suc slot) ≡ Some incident
       → IsLossAfter plan slot incident
-  pub returns : AllByRecursion (IsReturn plan) plan.returns
+  pub returns : (r : Return) → Contains plan.returns r → IsReturn plan r
   -- after each slot four nodes are measured that were sound in all of the last round
   pub steady : (slot : ℕ) → slot < plan.slots → 4 ≤ length (steady_nodes plan slot)

@@ -1,7 +1,7 @@
 -- What a script does to a cluster that follows a plan of faults, and that one does that keeps the single-fault
 -- hypothesis.
 use Rattle.std.specs.Prelude.{◌≡◌, ◌≢◌, ℕ, ◌+◌, ◌-◌, ◌<◌, ◌≤◌, ◌≤ℤ◌, true, false, [], length, pos, Some, None, IsTrue}
-use Rattle.std.specs.List.{AllByRecursion}
+use Rattle.std.specs.List.{AllByRecursion, Contains}
 use Rattle.ttp_base.specs.NodeSet.{has_node}
 use Rattle.ttp_world.specs.declared.medl.Medl.{Medl}
 use Rattle.ttp_world.specs.declared.script.Channel.{Channel}
@@ -77,7 +77,7 @@ pub record FollowsPlan (list : Medl) (script : Script) (start : ClusterStart) (p
   -- its nodes are those that are on
   pub on : (slot k : ℕ) → k < length list.slots → has_node plan.begin k ≡ is_on script k (start.slot + slot)
   pub hearing : (slot : ℕ) → start.slot + slot < script.slots → IsHeardByPlan script start plan slot
-  pub returns : AllByRecursion (IsOffered list plan) plan.returns
+  pub returns : (r : Return) → Contains plan.returns r → IsOffered list plan r
   -- the clocks of nodes that are sound after a slot do not jump in it
   pub clocks : (slot k : ℕ) → k < length list.slots → start.slot + slot < script.slots
       → is_sound_after plan slot k ≡ true

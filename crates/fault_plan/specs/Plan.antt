@@ -68,7 +68,7 @@ is_armed_by plan slot k = list_any (is_armed_there slot k) plan.returns
 
 -- node k enters in a slot
 abbrev pub enters : Plan → ℕ → ℕ → Bool
-enters plan slot k = nat_lt slot plan.slots && list_any (enters_there slot k) plan.returns
+enters plan slot k = list_any (enters_there slot k) plan.returns && nat_lt slot plan.slots
 
 -- The plan of the single-fault hypothesis, by which no node returns.
 

@@ -1,10 +1,10 @@
 -- What fates and ledgers tell of the slots of a good plan.
 use Rattle.std.specs.Prelude.{◌≡◌, ◌≢◌, ℕ, suc, ◌+◌, ◌-◌, ◌*◌, ◌<◌, ◌≤◌, true, false, Some, ◌⊎◌}
+use Rattle.std.specs.List.{Contains}
 use Rattle.fault_plan.specs.Plan.{Change, Sending, Incident, Return, Plan, sender, incident_at, enters}
 use Rattle.ttp_base.specs.NodeSet.{has_node}
 use Rattle.fault_plan.specs.Fates.{Fate, Absent, Sound, Falling, Fallen, Listening, is_sound_after, is_good_slot}
 use Rattle.fault_plan.specs.Fates.{is_first_slot, tally}
-use Rattle.fault_plan.specs.GoodPlan.{IsReturn}
 use Rattle.fault_plan.specs.Ledger.{Ledger, planned_members, ledger_of}
 
 -- an incident of a slot loses a node, two rounds or more after the start
@@ -33,7 +33,7 @@ pub record IsFallen (plan : Plan) (slot k : ℕ) (change : Change) (since shown 
 -- a listening node was armed, and the slot in which it enters is still to come
 pub record IsListening (plan : Plan) (slot k since : ℕ) : Type 0 where
   pub return : Return
-  pub of_plan : IsReturn plan return
+  pub among : Contains plan.returns return
   pub node : return.node ≡ k
   pub armed : return.armed ≡ since
   pub from : since ≤ slot
