@@ -1,8 +1,10 @@
+pub mod Awaited
 pub mod PlanSteps
 pub mod Ledgers
 pub mod SoundNodes
 pub mod LostNodes
 pub mod OwnTurns
+pub mod Listeners
 pub mod Turns
 pub mod Arrivals
 pub mod Receivers
@@ -10,6 +12,7 @@ pub mod SoundSteps
 pub mod Silence
 pub mod JumpedNodes
 pub mod LostSteps
+pub mod Returners
 pub mod Steps
 pub mod Begins
 pub mod Safe
