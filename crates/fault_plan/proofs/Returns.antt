@@ -1,6 +1,6 @@
 -- The returns of a good plan: no loss comes near one, and a node listens from its arm slot until it enters.
 use Rattle.std.proofs.Common.{◌≡◌, ◌≢◌, ℕ, zero, suc, ◌+◌, ◌*◌, ◌<◌, ◌≤◌, Bool, true, false, ◌&&◌, List, [], Option}
-use Rattle.std.proofs.Common.{Some, None, ◌⊎◌, refl, ap, sym, subst, ◌∙◌, inl, inr, arith, length}
+use Rattle.std.proofs.Common.{cond, Some, None, ◌⊎◌, refl, ap, sym, subst, ◌∙◌, inl, inr, arith, length}
 use Rattle.std.specs.Prelude.{◌==◌, nat_lt}
 use Rattle.std.specs.List.{Contains, list_any}
 use Rattle.std.proofs.lemmas.Bool.{and_parts, and_from, eqb-true, eq-eqb, ltb-true, lt-ltb, false_from_ne_true}
@@ -8,11 +8,13 @@ use Rattle.std.proofs.lemmas.Bool.{both_ways}
 use Rattle.std.proofs.lemmas.List.Elements.{Contains-from_at}
 use Rattle.std.proofs.lemmas.List.Folds.{Any-from_list_any, list_any_at}
 use Rattle.std.proofs.Math.Nat.{eq-or-lt_of_le}
+use Rattle.ttp_base.specs.NodeSet.{has_node}
 use Rattle.fault_plan.specs.Plan.{Incident, Return, Plan, sender, incident_at, is_armed_there, enters_there}
 use Rattle.fault_plan.specs.Plan.{is_armed_by, enters}
-use Rattle.fault_plan.specs.Fates.{Listening, next_fate, fate_of, is_good_slot, is_lost}
+use Rattle.fault_plan.specs.Fates.{Fate, Absent, Sound, Falling, Fallen, Listening, fate_at_begin, struck, next_fate}
+use Rattle.fault_plan.specs.Fates.{fate_of, is_good_slot, is_lost}
 use Rattle.fault_plan.specs.GoodPlan.{IsReturn, IsGoodPlan}
-use Rattle.fault_plan.proofs.FateSteps.{next-armed, next-listening}
+use Rattle.fault_plan.proofs.FateSteps.{turned-same, next-same, next-armed, next-listening}
 use Rattle.fault_plan.proofs.Tests.{never-found}
 
 -- What passes a test of a list is one of it.
@@ -90,10 +92,47 @@ none-armed plan slot k none = ap (list_any (is_armed_there slot k)) none
 pub none-enters : (plan : Plan) (slot k : ℕ) → plan.returns ≡ [] → enters plan slot k ≡ false
 none-enters plan slot k none = ap (λ rs. list_any (enters_there slot k) rs && nat_lt slot plan.slots) none
 
--- Of a good plan.
+pub none-among : (plan : Plan) (r : Return) → plan.returns ≡ [] → Contains plan.returns r → ⊥
+none-among plan r none among =
+    let empty : length plan.returns ≡ 0 = ap length none in
+    omega (arith, among.1, empty)
 
-pub return-of : (plan : Plan) (r : Return) → IsGoodPlan plan → Contains plan.returns r → IsReturn plan r
-return-of plan r good among = good.returns r among
+-- and nobody listens
+abbrev is_listening : Fate → Bool
+is_listening (Listening since) = true
+is_listening _ = false
+
+struck-listens : (slot k : ℕ) (fate : Fate) (found : Option Incident) → is_listening fate ≡ false
+    → is_listening (struck slot k fate found) ≡ false
+struck-listens slot k fate None deaf = deaf
+struck-listens slot k fate (Some incident) deaf = by (incident.node == k)
+  where
+    by : (hit : Bool) → is_listening (cond hit (Falling incident.change slot) fate) ≡ false
+    by true = refl
+    by false = deaf
+
+listens-next : (plan : Plan) (slot k : ℕ) (fate : Fate) → plan.returns ≡ [] → is_listening fate ≡ false
+    → is_listening (next_fate plan slot k fate) ≡ false
+listens-next plan slot k fate none deaf =
+    ap is_listening (next-same plan slot k fate (none-armed plan slot k none) (none-enters plan slot k none))
+    ∙ turned-same is_listening (sender plan slot == k) slot (struck slot k fate (incident_at plan slot))
+    (λ change since shown. refl)
+    ∙ struck-listens slot k fate (incident_at plan slot) deaf
+
+begin-deaf : (b : Bool) → is_listening (cond b Sound Absent) ≡ false
+begin-deaf true = refl
+begin-deaf false = refl
+
+deaf-always : (plan : Plan) (slot k : ℕ) → plan.returns ≡ [] → is_listening (fate_of plan slot k) ≡ false
+deaf-always plan zero k none =
+    listens-next plan 0 k (fate_at_begin plan k) none (begin-deaf (has_node plan.begin k))
+deaf-always plan (suc slot) k none = listens-next plan (suc slot) k (fate_of plan slot k) none (deaf-always plan slot k none)
+
+pub never-listens : (plan : Plan) (slot k since : ℕ) → plan.returns ≡ [] → fate_of plan slot k ≡ Listening since → ⊥
+never-listens plan slot k since none is =
+    both_ways (is_listening (fate_of plan slot k)) (deaf-always plan slot k none) (ap is_listening is)
+
+-- Of a good plan.
 
 -- What comes by another return comes two rounds before this one's arm slot, or two rounds after its entry.
 pub data Beside (plan : Plan) (r : Return) (slot at : ℕ) : Type 0 where
