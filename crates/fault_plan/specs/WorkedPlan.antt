@@ -49,4 +49,5 @@ three_losses = record {
   measured = 0 ∷ 1 ∷ 2 ∷ 3 ∷ 4 ∷ 5 ∷ 6 ∷ [];
   incidents = record { slot = 46; node = 0; change = Jumping } ∷ record { slot = 31; node = 5; change = Receiving }
       ∷ record { slot = 16; node = 2; change = Sending } ∷ [];
+  returns = [];
 }

@@ -4,7 +4,7 @@ ghost use Rattle.std.specs.Prelude.{◌≡◌, true, false, [], ◌∷◌, map, 
 ghost use Rattle.ttp_world.specs.declared.keep.Keep.TheVariants as keep;
 ghost use Rattle.ttp_world.specs.Hypothesis.{keeps, start_of};
 ghost use Rattle.fault_plan.specs.Plan.{Sending, Receiving, Jumping, plan_of};
-ghost use Rattle.fault_plan.specs.Fates.{Falling, Fallen, fate_of, sound_nodes};
+ghost use Rattle.fault_plan.specs.Fates.{Falling, Fallen, fate_of, lasting_nodes};
 ghost use Rattle.fault_plan.specs.Ledger.{planned_members, ledger_of};
 ghost use Rattle.fault_plan.specs.SlotKind.{Idle, Good, Lost, Shown, Last, slot_kind};
 ghost use Rattle.fault_plan.specs.WorkedPlan.{seven_nodes, three_faults, first_start, three_losses};
@@ -25,7 +25,7 @@ fn one_of_each()
     ensures receiver_shown { fate_of three_losses 33 5 ≡ Fallen Receiving 31 33 }
     ensures jumper { fate_of three_losses 48 0 ≡ Falling Jumping 46 }
     ensures jumper_shown { fate_of three_losses 49 0 ≡ Fallen Jumping 46 49 }
-    ensures left { sound_nodes three_losses 49 ≡ 1 ∷ 3 ∷ 4 ∷ 6 ∷ [] }
+    ensures left { lasting_nodes three_losses 49 ≡ 1 ∷ 3 ∷ 4 ∷ 6 ∷ [] }
     ensures members { planned_members three_losses 32 ≡ 0 ∷ 1 ∷ 3 ∷ 4 ∷ 5 ∷ 6 ∷ [] }
     ensures members_then { planned_members three_losses 33 ≡ 0 ∷ 1 ∷ 3 ∷ 4 ∷ 6 ∷ [] }
     ensures kinds { map (slot_kind three_losses) (15 ∷ 16 ∷ 17 ∷ 23 ∷ 30 ∷ 33 ∷ 46 ∷ 49 ∷ 56 ∷ [])
