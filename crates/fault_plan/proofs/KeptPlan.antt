@@ -129,6 +129,7 @@ pub plan-of-faults : (list : Medl) (script : Script) (start : ClusterStart) → 
     → IsSingleFault list script start
     → IsPlanOfFaults list script start (plan_of list script start)
 plan-of-faults list script start started run = record {
+  returns = refl;
   sound = λ turn k less within.
       let slot = start.slot + turn in
       let on : is_ever_on script k ≡ is_on script k slot = on-always list script start turn k run.on less in

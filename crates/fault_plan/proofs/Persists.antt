@@ -42,10 +42,10 @@ sound-before plan slot (suc later) k within sound never = elim (eq-or-lt_of_le w
 ]
 
 -- as each was by a plan in which none returns
-pub sound-always : (plan : Plan) (slot later k : ℕ) → plan.returns ≡ [] → slot ≤ later
+pub sound-earlier : (plan : Plan) (slot later k : ℕ) → plan.returns ≡ [] → slot ≤ later
     → is_sound_after plan later k ≡ true
     → is_sound_after plan slot k ≡ true
-sound-always plan slot later k none within sound =
+sound-earlier plan slot later k none within sound =
     sound-before plan slot later k within sound (λ turn after to. none-enters plan turn k none)
 
 -- and each lasting node was in the last round
