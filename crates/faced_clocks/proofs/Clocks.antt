@@ -166,7 +166,7 @@ module _ (list : Medl) (script : Script) (start : ClusterStart) (z : ℕ) (plan 
     first_still k a =
         let here : start.slot + 0 ≡ length history = omega (arith, started.number) in
         subst (λ t. jump_of script k t ≡ pos 0) here
-        (f.follows.clocks 0 0 k a.0 (omega (arith, within)) (omega arith)
+        (f.follows.clocks 0 k a.0 (omega (arith, within))
         (to_sound list script start z plan f 0 k a).1)
 
     frame_first : (k : ℕ) → Group list plan k → frame_of list script history k ≡ clock_after list script history k

@@ -88,9 +88,10 @@ pub record FollowsWithin (list : Medl) (script : Script) (start : ClusterStart) 
   pub planned : FollowsPlan list script start plan
   pub bounds : IsWithinBounds list script
 
--- The plan is that of the script's faulty nodes: the sound ones after a slot of the run are the correct ones, and each
--- faulty node is lost in the slot in which it became faulty.
+-- The plan is that of the script's faulty nodes: none of them returns, the sound nodes after a slot of the run are the
+-- correct ones, and each faulty node is lost in the slot in which it became faulty.
 pub record IsPlanOfFaults (list : Medl) (script : Script) (start : ClusterStart) (plan : Plan) : Type 0 where
+  pub returns : plan.returns ≡ []
   pub sound : (slot k : ℕ) → k < length list.slots → start.slot + slot < script.slots
       → is_sound_after plan slot k ≡ is_correct_after list script (start.slot + slot) k
   pub faulty : (slot : ℕ) → start.slot + slot < script.slots

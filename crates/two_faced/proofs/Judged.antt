@@ -88,7 +88,7 @@ module _ (list : Medl) (script : Script) (z slot : ℕ) (valid : IsValid list) (
 
   never-lost : (turn k : ℕ) (fate : Fate) → fate_of plan turn k ≡ fate → is_lost fate ≡ true → ⊥
   never-lost turn k fate is =
-      never-falling (has_node plan.begin k) fate (sym (fate-always plan turn k refl) ∙ is)
+      never-falling (has_node plan.begin k) fate (sym (fate-always plan turn k refl refl) ∙ is)
 
   keeps : KeepsClocks list script start plan
   keeps turn numbers noted within = record {
