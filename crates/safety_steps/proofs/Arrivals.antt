@@ -60,7 +60,7 @@ module _ (list : Medl) (script : Script) (start : ClusterStart) (plan : Plan) (t
         sends-alone list script start plan turn new numbers t sound-owner.own may
 
     -- it sends the plan's members and itself
-    sound-members : (slot_of list script new numbers (sender plan (suc turn))).past.members
+    pub sound-members : (slot_of list script new numbers (sender plan (suc turn))).past.members
         ≡ planned_members plan turn
     sound-members =
         sound-owner.at.group.members

@@ -2,8 +2,7 @@
 use Rattle.std.proofs.Common.{◌≡◌, ◌≢◌, ℕ, zero, suc, ◌+◌, ◌-◌, ◌*◌, ◌<◌, ◌≤◌, Bool, true, false, cond, Some, None}
 use Rattle.std.proofs.Common.{refl, ap, sym, subst, ◌∙◌, ◌⊎◌, inl, inr, arith}
 use Rattle.std.specs.List.{Contains}
-use Rattle.std.proofs.lemmas.Bool.{cases_eq, both_ways, false_from_ne_true, and_parts}
-use Rattle.std.proofs.lemmas.Option.{same_Some}
+use Rattle.std.proofs.lemmas.Bool.{both_ways, and_parts}
 use Rattle.ttp_base.specs.NodeSet.{has_node}
 use Rattle.fault_plan.specs.Plan.{Change, Return, Plan, sender, incident_at, is_armed_by, enters}
 use Rattle.fault_plan.specs.Fates.{Fate, Absent, Sound, Falling, Fallen, Listening, fate_of, is_good_slot, is_lost}
@@ -59,17 +58,18 @@ awaited-listening plan turn k since good within is =
 some_of : (test : ℕ → Bool) (from many : ℕ) → 1 ≤ tally test from many
     → (slot : ℕ) × ((from ≤ slot) × (slot < from + many) × (test slot ≡ true))
 some_of test from zero some = absurd (omega (arith, some))
-some_of test from (suc many) some = by (test (from + many)) refl
+some_of test from (suc many) some = by (test (from + many)) refl (some_of test from many)
   where
     by : (passes : Bool) → test (from + many) ≡ passes
+        → (1 ≤ tally test from many
+        → (slot : ℕ) × ((from ≤ slot) × (slot < from + many) × (test slot ≡ true)))
         → (slot : ℕ) × ((from ≤ slot) × (slot < from + suc many) × (test slot ≡ true))
-    by true passes = (from + many, (omega arith, omega arith, passes))
-    by false fails =
+    by true passes before = (from + many, (omega arith, omega arith, passes))
+    by false fails before =
         let none : cond {A = ℕ} (test (from + many)) 1 0 ≡ 0 = ap (λ b. cond {A = ℕ} b 1 0) fails in
-        let before = some_of test from many (omega (arith, some, none)) in
-        let at = before.1.0 in
-        let to = before.1.1 in
-        (before.0, (at, omega (arith, to), before.1.2))
+        let found = before (omega (arith, some, none)) in
+        let to = found.1.1 in
+        (found.0, (found.1.0, omega (arith, to), found.1.2))
 
 module _ (plan : Plan) (turn k since : ℕ) (good : IsGoodPlan plan) (is : IsAwaited plan turn k since) where
   -- Nobody is lost then, and nobody that was lost may still stay.
@@ -169,6 +169,9 @@ module _ (plan : Plan) (turn k since : ℕ) (good : IsGoodPlan plan) (is : IsAwa
       let after = found.1.0 in
       let to = found.1.1 in (
         found.0,
-        (omega (arith, to, round), omega (arith, after, round),
-            (and_parts (is_good_slot plan found.0) (has_node plan.measured (sender plan found.0)) found.1.2).0),
+        (
+          omega (arith, to, round),
+          omega (arith, after, round),
+          (and_parts (is_good_slot plan found.0) (has_node plan.measured (sender plan found.0)) found.1.2).0,
+        ),
       )

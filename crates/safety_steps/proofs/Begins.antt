@@ -1,8 +1,8 @@
 -- After the slot of the start each node is what its fate says.
-use Rattle.std.proofs.Common.{◌≡◌, ◌≢◌, ℕ, ◌+◌, ◌<◌, ◌≤◌, Bool, true, false, not, ◌||◌, [], ◌∷◌, length}
+use Rattle.std.proofs.Common.{◌≡◌, ◌≢◌, ℕ, ◌+◌, ◌<◌, ◌≤◌, Bool, true, false, not, ◌&&◌, ◌||◌, [], ◌∷◌, length}
 use Rattle.std.proofs.Common.{refl, ap, sym, subst, ◌∙◌, ◌⊎◌, inl, inr, arith, cond}
 use Rattle.std.specs.Prelude.{◌==◌}
-use Rattle.std.proofs.lemmas.Bool.{cases_eq, eq-eqb, false≢true, both_ways}
+use Rattle.std.proofs.lemmas.Bool.{cases_eq, eq-eqb, false≢true, both_ways, and_parts}
 use Rattle.ttp_base.specs.NodeSet.{has_node}
 use Rattle.ttp_world.specs.declared.medl.Medl.{Medl}
 use Rattle.ttp_world.specs.declared.node.Ack.{Ack}
@@ -12,7 +12,8 @@ use Rattle.ttp_world.specs.declared.node.Entry.TheVariants as entry
 use Rattle.ttp_world.specs.declared.node.Phase.TheVariants as phase
 use Rattle.ttp_world.specs.declared.script.Script.{Script}
 use Rattle.ttp_world.specs.Acknowledgement.{is_open}
-use Rattle.ttp_world.specs.Diary.{phase_after, entry_of, diary_of, start_place}
+use Rattle.ttp_world.specs.BackSafety.{has_sent_since_begin, has_sent_in_stint}
+use Rattle.ttp_world.specs.Diary.{Diary, phase_after, entry_of, diary_of, is_active, begins_stint, start_place}
 use Rattle.ttp_world.specs.Hypothesis.{ClusterStart}
 use Rattle.ttp_world.specs.Medium.{is_sending}
 use Rattle.ttp_world.specs.Past.{NodePast}
@@ -21,7 +22,7 @@ use Rattle.ttp_world.specs.Script.{is_on}
 use Rattle.ttp_world.specs.World.{SlotNumbers, Numbers, node_past, slot_after, messages_chosen, row_in, world}
 use Rattle.ttp_world.proofs.Worlds.{length-world}
 use Rattle.fault_plan.specs.Plan.{Plan, sender}
-use Rattle.fault_plan.specs.Fates.{Fate, Absent, Sound, Falling, Fallen, fate_of, is_sound_after, is_absent}
+use Rattle.fault_plan.specs.Fates.{Fate, Absent, Sound, Falling, Fallen, Listening, fate_of, is_sound_after, is_absent}
 use Rattle.fault_plan.specs.Ledger.{opened, ledger_of}
 use Rattle.fault_plan.proofs.Members.{first-sender}
 use Rattle.fault_plan.proofs.Persists.{absent-always, sound-first}
@@ -52,6 +53,24 @@ inactive-unsent entry.Gone inactive = refl
 inactive-unsent (entry.Left why peer) inactive = refl
 inactive-unsent (entry.Joined sender c deviation) inactive = refl
 inactive-unsent (entry.Judged sender v deviation) inactive = refl
+
+-- what was sent in a stint was sent
+since-ever : (diary : Diary) → has_sent_since_begin diary ≡ true → has_ever_sent diary ≡ true
+since-ever [] sent = sent
+since-ever (e ∷ diary) sent = by (is_sending e) refl (since-ever diary)
+  where
+    by : (sends : Bool) → is_sending e ≡ sends
+        → (has_sent_since_begin diary ≡ true → has_ever_sent diary ≡ true)
+        → (is_sending e || has_ever_sent diary) ≡ true
+    by true sends before = ap (λ b. b || has_ever_sent diary) sends
+    by false sends before =
+        ap (λ b. b || has_ever_sent diary) sends
+        ∙ before
+        (and_parts (not (begins_stint e)) (has_sent_since_begin diary)
+        (sym (ap (λ b. b || (not (begins_stint e) && has_sent_since_begin diary)) sends) ∙ sent)).1
+
+stint-ever : (diary : Diary) → has_sent_in_stint diary ≡ true → has_ever_sent diary ≡ true
+stint-ever diary sent = since-ever diary (and_parts (is_active diary) (has_sent_since_begin diary) sent).1
 
 -- Whoever counts one accepted frame and none rejected, by a ledger that has seen none.
 
@@ -198,6 +217,7 @@ module _ (list : Medl) (script : Script) (start : ClusterStart) (plan : Plan) (i
       absent-fate Sound absent = absurd (false≢true absent)
       absent-fate (Falling change since) absent = absurd (false≢true absent)
       absent-fate (Fallen change since shown) absent = absurd (false≢true absent)
+      absent-fate (Listening since) absent = absurd (false≢true absent)
 
       node-begun : (k : ℕ) → k < length list.slots
           → IsByFate list plan 0 k (node_past list script (world list script (new ∷ numbers)) k) (fate_of plan 0 k)
@@ -234,4 +254,9 @@ module _ (list : Medl) (script : Script) (start : ClusterStart) (plan : Plan) (i
       ]
 
       pub holds-begun : HoldsAfter list script plan 0 (world list script (new ∷ numbers))
-      holds-begun = record { nodes = node-begun; sent = sent-begun }
+      holds-begun = record {
+        nodes = node-begun;
+        sent = λ k node sound sent. sent-begun k node sound
+            (stint-ever (diary_of (world list script (new ∷ numbers)) k) sent);
+        ever_sent = λ k node sound never sent. sent-begun k node sound sent;
+      }

@@ -13,6 +13,8 @@ pub mod Silence
 pub mod JumpedNodes
 pub mod LostSteps
 pub mod Returners
+pub mod Arming
+pub mod SentSteps
 pub mod Steps
 pub mod Begins
 pub mod Safe

@@ -1,5 +1,5 @@
 -- A node that listens in a turn: it waits, or it enters by the frame of a sound node and is sound.
-use Rattle.std.proofs.Common.{◌≡◌, ℕ, suc, ◌+◌, ◌<◌, ◌≤◌, Bool, true, false, List, length, refl, ap, sym, subst}
+use Rattle.std.proofs.Common.{◌≡◌, ℕ, suc, ◌+◌, ◌<◌, Bool, true, false, List, length, refl, ap, sym, subst}
 use Rattle.std.proofs.Common.{◌∙◌, arith}
 use Rattle.std.proofs.lemmas.Bool.{both_ways, false≢true}
 use Rattle.ttp_base.specs.NodeSet.{with_node}
@@ -17,17 +17,17 @@ use Rattle.ttp_world.specs.Past.{NodePast}
 use Rattle.ttp_world.specs.Reception.{expected_header}
 use Rattle.ttp_world.specs.Returning.{carries_place}
 use Rattle.ttp_world.specs.World.{SlotNumbers, Numbers, messages_chosen, world}
-use Rattle.fault_plan.specs.Plan.{Change, Plan, sender, incident_at, enters}
+use Rattle.fault_plan.specs.Plan.{Plan, sender, enters}
 use Rattle.fault_plan.specs.Fates.{Fate, Absent, Sound, Falling, Fallen, Listening, fate_of, is_sound, is_good_slot}
 use Rattle.fault_plan.specs.Fates.{may_stay}
 use Rattle.fault_plan.specs.Kept.{kind_in}
-use Rattle.fault_plan.specs.Ledger.{Ledger, opened, planned_members, ledger_of}
+use Rattle.fault_plan.specs.Ledger.{Ledger, opened, planned_members}
 use Rattle.fault_plan.specs.Places.{planned_place}
 use Rattle.fault_plan.proofs.FateSteps.{strikes, next-entered}
 use Rattle.fault_plan.proofs.Returns.{entry-is, entry-good}
 use Rattle.safety_laws.specs.Groups.{held_with, IsAboutOther, HoldsGroup}
 use Rattle.safety_laws.specs.Listening.{HearsPlace}
-use Rattle.safety_laws.specs.NodeSlot.{NodeSlot, next_past, coming_place}
+use Rattle.safety_laws.specs.NodeSlot.{next_past, coming_place}
 use Rattle.safety_laws.specs.Senders.{SendsAlone, NoneSends}
 use Rattle.safety_laws.specs.Standing.{StandsBy, joined_on, joined_standing}
 use Rattle.safety_laws.proofs.Listening.{around-silent, frame-silent, waited-none, waited-passing, joined-place}

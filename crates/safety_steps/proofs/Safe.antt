@@ -25,12 +25,13 @@ use Rattle.ttp_world.specs.World.{node_past}
 use Rattle.ttp_world.proofs.Filters.{each-filter}
 use Rattle.ttp_world.proofs.Lists.{nodes-most}
 use Rattle.fault_plan.specs.Plan.{Change, Sending, Plan}
-use Rattle.fault_plan.specs.Fates.{Fate, Absent, Sound, Falling, Fallen, fate_of, is_sound_after, lost_since}
+use Rattle.fault_plan.specs.Fates.{Fate, Absent, Sound, Falling, Fallen, Listening, fate_of, is_sound_after, lost_since}
 use Rattle.fault_plan.specs.GoodPlan.{IsGoodPlan}
 use Rattle.fault_plan.specs.Ledger.{planned_members, ledger_of}
 use Rattle.fault_plan.proofs.FateTells.{loss-node}
 use Rattle.fault_plan.proofs.Ledgers.{ledger-told}
 use Rattle.fault_plan.proofs.Members.{sound-member, fallen-member}
+use Rattle.fault_plan.proofs.Returns.{none-enters}
 use Rattle.safety_laws.specs.Groups.{held_with}
 use Rattle.safety_laws.proofs.GroupSets.{has_node-with_member, has_node-with_other}
 use Rattle.safety_steps.specs.ByFate.{IsSoundAt, IsFallenAt, IsByFate}
@@ -138,7 +139,8 @@ module _ (list : Medl) (script : Script) (start : ClusterStart) (plan : Plan) (t
       ap (λ s. has_node s j) at.group.members
       ∙ held-member (planned_members plan turn) (node_past list script history k).ack j (small j of_j.0.0)
       (sound-member plan turn j good (less j of_j.0.0) (sound j of_j.0)
-      (is.holds.sent j of_j.0.0 (sound j of_j.0) of_j.1))) corrects)
+      (is.holds.ever_sent j of_j.0.0 (sound j of_j.0)
+      (λ slot to. none-enters plan slot j is.faults.returns) of_j.1))) corrects)
       (each-filter IsCorrect (λ j. has_ever_sent (diary_of history j)) (correct_nodes list script history) corrects)
 
   -- None has left.
@@ -201,6 +203,7 @@ module _ (list : Medl) (script : Script) (start : ClusterStart) (plan : Plan) (t
       → (has_left history k && is_out list script history k) ≡ true
   gone-by k slot Absent fate lost late = cc
   gone-by k slot Sound fate lost late = cc
+  gone-by k slot (Listening since) fate lost late = cc
   gone-by k slot (Falling change since) fate lost late =
       let told = told-falling plan turn k since change good fate in
       let same = same_Some _ _ lost in
@@ -288,6 +291,7 @@ module _ (list : Medl) (script : Script) (start : ClusterStart) (plan : Plan) (t
           → (node_past list script history k).phase ≡ phase.Left
       by Absent is of_loss = cc
       by Sound is of_loss = cc
+      by (Listening s) is of_loss = cc
       by (Falling change s) is of_loss =
           let told = told-falling plan turn k s change good is in
           let same = same_Some _ _ of_loss in
