@@ -1,5 +1,5 @@
 -- The sound nodes' clocks at the beginning of a slot, and what they measure of each other in it.
-use Rattle.std.proofs.Common.{◌≡◌, ℕ, suc, ◌+◌, ◌-◌, ◌<◌, ℤ, pos, neg_ℤ, ◌-ℤ◌, ◌≤ℤ◌, true, ◌&&◌, length}
+use Rattle.std.proofs.Common.{◌≡◌, ℕ, suc, ◌+◌, ◌-◌, ◌<◌, ℤ, pos, neg_ℤ, ◌-ℤ◌, ◌≤ℤ◌, true, ◌&&◌, [], length}
 use Rattle.std.proofs.Common.{subst, arith}
 use Rattle.std.specs.Prelude.{int_le}
 use Rattle.std.proofs.lemmas.Int.{ints}
@@ -17,18 +17,19 @@ use Rattle.precision.proofs.Runs.{clocks_within, deviations_within}
 use Rattle.fault_plan.specs.Plan.{Plan}
 use Rattle.fault_plan.specs.Fates.{is_sound_after}
 use Rattle.fault_plan.specs.Kept.{FollowsPlan}
-use Rattle.fault_plan.proofs.Persists.{sound-before}
+use Rattle.fault_plan.proofs.Persists.{sound-earlier}
 use Rattle.safety_clocks.specs.NotedByPlan.{IsSoundIn, GoesOnByPlan}
 use Rattle.safety_clocks.proofs.SmallerGroups.{together-in}
 use Rattle.safety_clocks.proofs.Together.{number-of, ran-together}
 
 none-jumps : (list : Medl) (script : Script) (start : ClusterStart) (plan : Plan) (slot : ℕ)
-    → FollowsPlan list script start plan → start.slot + slot < script.slots
+    → FollowsPlan list script start plan → plan.returns ≡ [] → start.slot + slot < script.slots
     → NoneJumps list script (is_sound_after plan slot) start.slot (start.slot + slot)
-none-jumps list script start plan slot follows within k turn p low high =
+none-jumps list script start plan slot follows stay within k turn p low high =
     let there : start.slot + (turn - start.slot) ≡ turn = omega (arith, low) in
     subst (λ t. jump_of script k t ≡ pos 0) there
-    (follows.clocks slot (turn - start.slot) k p.0 within (omega (arith, high, low)) p.1)
+    (follows.clocks (turn - start.slot) k p.0 (omega (arith, high, low, within))
+    (sound-earlier plan (turn - start.slot) slot k stay (omega (arith, high, low)) p.1))
 
 -- those that are sound after the coming slot run together up to its beginning
 pub common-run : {list : Medl} {script : Script} {start : ClusterStart} {plan : Plan} {slot : ℕ} {history : History}
@@ -41,10 +42,10 @@ common-run {list = list} {script = script} {start = start} {plan = plan} {slot =
       bounds = is.follows.bounds.clocks;
       within = omega (arith, is.within, number);
       jumps = subst (NoneJumps list script (is_sound_after plan (suc slot)) start.slot) here
-          (none-jumps list script start plan (suc slot) is.follows.planned is.within);
+          (none-jumps list script start plan (suc slot) is.follows.planned is.stay is.within);
       together = together-in list script (is_sound_after plan (suc slot)) (is_sound_after plan slot) start.slot history
-          (λ k sound. sound-before plan slot (suc slot) k (omega arith) sound)
-          (ran-together list script start plan slot history is.follows.planned is.noted
+          (λ k sound. sound-earlier plan slot (suc slot) k is.stay (omega arith) sound)
+          (ran-together list script start plan slot history is.follows.planned is.stay is.noted
           (omega (arith, is.within, number)));
     }
 

@@ -42,6 +42,7 @@ pub record JumpsAfter (list : Medl) (script : Script) (start : ClusterStart) (pl
     : Type 0 where
   pub valid : IsValid list
   pub follows : FollowsWithin list script start plan
+  pub stay : plan.returns ≡ []
   pub inside : x < length list.slots
   pub sound : is_sound_after plan (suc base) x ≡ true
   -- the start is a round ago
@@ -96,8 +97,8 @@ module _ {list : Medl} {script : Script} {start : ClusterStart} {plan : Plan} {x
       → jumped_in jump (suc q) ≡ jumped_in jump q +ℤ jump_of script x (start.slot + suc slot)
   jumped-next slot zero within is =
       none-of (jump_of script x (start.slot + suc slot))
-      (jumps.follows.planned.clocks (suc base) (suc slot) x jumps.inside
-      (subst (λ t. start.slot + suc t < script.slots) same within) (omega (arith, is)) jumps.sound)
+      (jumps.follows.planned.clocks (suc slot) x jumps.inside within
+      (subst (λ t. is_sound_after plan (suc t) x ≡ true) (sym same) jumps.sound))
     where
       same : slot ≡ base
       same = omega (arith, is)
@@ -123,15 +124,16 @@ module _ {list : Medl} {script : Script} {start : ClusterStart} {plan : Plan} {x
       → slot ≡ base → IsSoundIn list plan (suc slot) k
       → StaysApart list script plan slot x k 0 (pos 0) history
   stays-base {slot = slot} {history = history} k goes is q = record {
-    place = (counted-run list script start plan slot history jumps.follows.planned goes.noted).places x
-        (sound-back list plan slot x p);
+    place = (counted-run list script start plan slot history jumps.follows.planned jumps.stay goes.noted).places x
+        (sound-back list plan slot x jumps.stay p);
     apart = elim (cases_lt (suc m) (length list.slots)) [
       | inl less ↦
           Before less (omega arith) (near (noted_width list m) (fits m))
           (same-near (noted_width list m) (clock_after list script history x) (clock_after list script history k)
           (clock_after list script history x -ℤ pos 0) (clock_after list script history k)
           (round_notes list history x) (less-none (clock_after list script history x)) refl
-          (known.near early less x k (sound-back list plan slot x p) (sound-back list plan slot k q)))
+          (known.near early less x k (sound-back list plan slot x jumps.stay p)
+          (sound-back list plan slot k jumps.stay q)))
       | inr ends ↦
           Fresh refl (omega (arith, ends, inside))
           (near (needed list) (fewer (drift_share list) list.error jumps.valid.error.0))
@@ -151,7 +153,7 @@ module _ {list : Medl} {script : Script} {start : ClusterStart} {plan : Plan} {x
       p = (jumps.inside, subst (λ t. is_sound_after plan (suc t) x ≡ true) (sym is) jumps.sound)
 
       known : NotesKnown list script plan slot history
-      known = notes-known list script start plan slot history jumps.valid jumps.follows goes.noted
+      known = notes-known list script start plan slot history jumps.valid jumps.follows jumps.stay goes.noted
           (omega (arith, goes.within, number-of list script start plan slot history goes.noted))
 
       begun : (j : ℕ) → IsSoundIn list plan (suc slot) j
@@ -234,7 +236,7 @@ module _ {list : Medl} {script : Script} {start : ClusterStart} {plan : Plan} {x
           ∙ ap (λ t. jumped_in jump q +ℤ jump_of script x t) number
 
       known : NotesKnown list script plan (suc slot) (row ∷ history)
-      known = notes-known list script start plan (suc slot) (row ∷ history) jumps.valid jumps.follows
+      known = notes-known list script start plan (suc slot) (row ∷ history) jumps.valid jumps.follows jumps.stay
           (s.before.noted, s.noted) (omega (arith, s.before.within, number))
 
       early : sender plan (suc slot) < suc slot
@@ -285,13 +287,14 @@ module _ {list : Medl} {script : Script} {start : ClusterStart} {plan : Plan} {x
         before = record {
           valid = jumps.valid;
           follows = jumps.follows;
+          stay = jumps.stay;
           noted = goes.noted.0;
           within = omega (arith, goes.within);
         };
         noted = goes.noted.1;
       } in
       let same : slot ≡ base + q = omega (arith, is) in
-      let back : IsSoundIn list plan (suc slot) k = sound-back list plan (suc slot) k p in
+      let back : IsSoundIn list plan (suc slot) k = sound-back list plan (suc slot) k jumps.stay p in
       stays-next k q s same (omega (arith, few)) back
       (notes-near k q s same back falls)
       (stays-apart k slot history q s.before same

@@ -88,7 +88,7 @@ still-of {list = list} {script = script} {start = start} {plan = plan} {slot = s
     let here : start.slot + suc slot ≡ length history =
     omega (arith, number-of list script start plan slot history is.noted) in
     subst (λ t. jump_of script k t ≡ pos 0) here
-    (is.follows.planned.clocks (suc slot) (suc slot) k p.0 is.within (omega arith) p.1)
+    (is.follows.planned.clocks (suc slot) k p.0 is.within p.1)
 
 pub needed-up : (list : Medl) → IsValid list → pos 0 ≤ℤ needed list
 needed-up list valid = up-of list.drift list.error (length list.slots) valid.drift.0 valid.error.0

@@ -223,6 +223,7 @@ jumps-after {list = list} {script = script} {start = start} {plan = plan} {slot 
       record {
         valid = is.valid;
         follows = is.follows;
+        stay = is.stay;
         inside = inside;
         sound = sound-till plan x (suc base) Jumping is.follows.planned.good told.loss;
         late = omega (arith, told.loss.late, is.follows.planned.nodes, is.valid.count.0);

@@ -42,7 +42,7 @@ pub sound-notes : {list : Medl} {script : Script} {start : ClusterStart} {plan :
 sound-notes {list = list} {script = script} {start = start} {plan = plan} {slot = slot} {row = row}
     {history = history} s k p =
     let counted = counted-run list script start plan (suc slot) (row ∷ history) s.before.follows.planned
-    (s.before.noted, s.noted) in
+    s.before.stay (s.before.noted, s.noted) in
     notes-next list row history k (sender plan slot) (planned_place list plan (suc slot))
     (suc (sender plan slot) == length list.slots)
     (sound-goes list script plan (suc slot) k row history s.noted p) (counted.places k p)
@@ -58,7 +58,7 @@ pub sound-clock : {list : Medl} {script : Script} {start : ClusterStart} {plan :
 sound-clock {list = list} {script = script} {start = start} {plan = plan} {slot = slot} {row = row}
     {history = history} s k p =
     let counted = counted-run list script start plan (suc slot) (row ∷ history) s.before.follows.planned
-    (s.before.noted, s.noted) in
+    s.before.stay (s.before.noted, s.noted) in
     clock-next list script row history k (planned_place list plan (suc slot))
     (sound-goes list script plan (suc slot) k row history s.noted p) (counted.places k p)
     ∙ ap (λ m. clock_moved list script history k +ℤ correction list m (round_notes list (row ∷ history) k))
@@ -90,7 +90,7 @@ all-small list script start plan slot k row history last is s known later p =
         known.small (goes-from (sender plan (suc slot)) (sender plan slot) slot (length list.slots)
         (suc (sender plan slot) == length list.slots)
         (index-of list script start plan slot s.before.follows.planned) inside later)
-        k (sound-back list plan slot k p)
+        k (sound-back list plan slot k s.before.stay p)
 
 all-near : (list : Medl) (script : Script) (start : ClusterStart) (plan : Plan) (slot x k : ℕ) (row : List Entry)
     (history : History)
@@ -139,30 +139,32 @@ all-near list script start plan slot x k row history s known later less p q =
           first = sound-moved s x p;
           second = sound-moved s k q;
         })
-        (known.near (omega (arith, index, later)) (omega (arith, index, less)) x k (sound-back list plan slot x p)
-        (sound-back list plan slot k q)))
+        (known.near (omega (arith, index, later)) (omega (arith, index, less)) x k (sound-back list plan slot x s.before.stay p)
+        (sound-back list plan slot k s.before.stay q)))
 
 pub notes-known : (list : Medl) (script : Script) (start : ClusterStart) (plan : Plan) (slot : ℕ) (history : History)
-    → IsValid list → FollowsWithin list script start plan → NotedByPlan list script start plan slot history
+    → IsValid list → FollowsWithin list script start plan → plan.returns ≡ []
+    → NotedByPlan list script start plan slot history
     → length history ≤ script.slots
     → NotesKnown list script plan slot history
-notes-known list script start plan slot [] valid follows noted within = absurd noted
-notes-known list script start plan zero (row ∷ history) valid follows noted within = record {
+notes-known list script start plan slot [] valid follows stay noted within = absurd noted
+notes-known list script start plan zero (row ∷ history) valid follows stay noted within = record {
   small = λ later. absurd (omega (arith, later));
   near = λ later. absurd (omega (arith, later));
 }
-notes-known list script start plan (suc slot) (row ∷ history) valid follows noted within =
+notes-known list script start plan (suc slot) (row ∷ history) valid follows stay noted within =
     let number = number-of list script start plan slot history noted.0 in
     let s : NextSlot list script start plan slot row history = record {
       before = record {
         valid = valid;
         follows = follows;
+        stay = stay;
         noted = noted.0;
         within = omega (arith, number, within);
       };
       noted = noted.1;
     } in
-    let known = notes-known list script start plan slot history valid follows noted.0 (omega (arith, within)) in
+    let known = notes-known list script start plan slot history valid follows stay noted.0 (omega (arith, within)) in
     record {
       small = λ later k p. all-small list script start plan slot k row history
           (suc (sender plan slot) == length list.slots) refl s known later p;

@@ -19,7 +19,7 @@ use Rattle.fault_plan.specs.Plan.{Plan, sender}
 use Rattle.fault_plan.specs.Fates.{is_good_slot, is_measured, tally}
 use Rattle.fault_plan.specs.Kept.{FollowsPlan}
 use Rattle.fault_plan.specs.Places.{planned_place}
-use Rattle.fault_plan.proofs.Persists.{sound-before}
+use Rattle.fault_plan.proofs.Persists.{sound-earlier}
 use Rattle.fault_plan.proofs.Places.{place-sender}
 use Rattle.safety_clocks.specs.NotedByPlan.{IsSoundIn, NotesNothing, NotedInSlot}
 
@@ -153,18 +153,18 @@ place-next list script plan slot k row history noted p is =
     ∙ ap (next_place list) is
 
 -- a node that is sound after the next slot is so after this one
-pub sound-back : (list : Medl) (plan : Plan) (slot k : ℕ) → IsSoundIn list plan (suc slot) k
+pub sound-back : (list : Medl) (plan : Plan) (slot k : ℕ) → plan.returns ≡ [] → IsSoundIn list plan (suc slot) k
     → IsSoundIn list plan slot k
-sound-back list plan slot k p = (p.0, sound-before plan slot (suc slot) k (omega arith) p.1)
+sound-back list plan slot k stay p = (p.0, sound-earlier plan slot (suc slot) k stay (omega arith) p.1)
 
 plus-none : (n : ℕ) → n + 0 ≡ n
 plus-none n = omega arith
 
 pub counted-next : (list : Medl) (script : Script) (start : ClusterStart) (plan : Plan) (slot : ℕ) (row : List Entry)
     (history : History)
-    → FollowsPlan list script start plan → NotedInSlot list script plan (suc slot) row history
+    → FollowsPlan list script start plan → plan.returns ≡ [] → NotedInSlot list script plan (suc slot) row history
     → Counted list plan slot history → Counted list plan (suc slot) (row ∷ history)
-counted-next list script start plan slot row history follows noted before = record {
+counted-next list script start plan slot row history follows stay noted before = record {
   places = places;
   notes = λ k from p later is. notes k from p later is (suc (planned_place list plan slot).slot == length list.slots)
       refl;
@@ -173,7 +173,7 @@ counted-next list script start plan slot row history follows noted before = reco
     places : (k : ℕ) → IsSoundIn list plan (suc slot) k
         → stint_place list k (diary_of (row ∷ history) k) ≡ planned_place list plan (suc slot)
     places k p =
-        place-next list script plan slot k row history noted p (before.places k (sound-back list plan slot k p))
+        place-next list script plan slot k row history noted p (before.places k (sound-back list plan slot k stay p))
 
     fresh : (k : ℕ) → IsSoundIn list plan (suc slot) k
         → length (notes_in list (planned_place list plan (suc slot)) (entry_of row k))
@@ -208,6 +208,6 @@ counted-next list script start plan slot row history follows noted before = reco
         ∙ length-append (notes_in list (planned_place list plan (suc slot)) (entry_of row k))
         (stint_notes list k (diary_of history k))
         ∙ (λ i. fresh k p i
-        + before.notes k from (sound-back list plan slot k p) later (omega (arith, here)) i)
+        + before.notes k from (sound-back list plan slot k stay p) later (omega (arith, here)) i)
         ∙ ap (λ t. cond (is_measured plan t) 1 0 + tally (is_measured plan) from (suc (sender plan slot))) (sym here)
         ∙ ap (λ m. tally (is_measured plan) from (suc m)) (sym index)

@@ -18,7 +18,7 @@ use Rattle.fault_plan.specs.Fates.{is_sound_after, is_good_slot, is_measured, ta
 use Rattle.fault_plan.specs.Kept.{FollowsPlan}
 use Rattle.fault_plan.specs.Places.{planned_place}
 use Rattle.fault_plan.proofs.Counts.{four-measured}
-use Rattle.fault_plan.proofs.Persists.{sound-before}
+use Rattle.fault_plan.proofs.Persists.{sound-earlier}
 use Rattle.safety_clocks.specs.NotedByPlan.{IsSoundIn, StartedByPlan, NotedInSlot, NotedByPlan}
 use Rattle.safety_clocks.proofs.RoundNotes.{none-silent, place-slot, sound-goes, Counted, counted-start, counted-next}
 use Rattle.safety_clocks.proofs.SmallerGroups.{together-in}
@@ -124,29 +124,29 @@ number-of list script start plan (suc slot) (row ∷ history) noted =
     omega (arith, number-of list script start plan slot history noted.0)
 
 pub counted-run : (list : Medl) (script : Script) (start : ClusterStart) (plan : Plan) (slot : ℕ) (history : History)
-    → FollowsPlan list script start plan → NotedByPlan list script start plan slot history
+    → FollowsPlan list script start plan → plan.returns ≡ [] → NotedByPlan list script start plan slot history
     → Counted list plan slot history
-counted-run list script start plan slot [] follows noted = absurd noted
-counted-run list script start plan zero (row ∷ history) follows noted =
+counted-run list script start plan slot [] follows stay noted = absurd noted
+counted-run list script start plan zero (row ∷ history) follows stay noted =
     counted-begun list script start plan row history follows noted
-counted-run list script start plan (suc slot) (row ∷ history) follows noted =
-    counted-next list script start plan slot row history follows noted.1
-    (counted-run list script start plan slot history follows noted.0)
+counted-run list script start plan (suc slot) (row ∷ history) follows stay noted =
+    counted-next list script start plan slot row history follows stay noted.1
+    (counted-run list script start plan slot history follows stay noted.0)
 
 pub ran-together : (list : Medl) (script : Script) (start : ClusterStart) (plan : Plan) (slot : ℕ) (history : History)
-    → FollowsPlan list script start plan → NotedByPlan list script start plan slot history
+    → FollowsPlan list script start plan → plan.returns ≡ [] → NotedByPlan list script start plan slot history
     → length history ≤ script.slots
     → RanTogether list script (is_sound_after plan slot) start.slot history
-ran-together list script start plan slot [] follows noted within = absurd noted
-ran-together list script start plan zero (row ∷ history) follows noted within =
+ran-together list script start plan slot [] follows stay noted within = absurd noted
+ran-together list script start plan zero (row ∷ history) follows stay noted within =
     inl (noted.number, began list script start plan row history follows noted)
-ran-together list script start plan (suc slot) (row ∷ history) follows noted within =
+ran-together list script start plan (suc slot) (row ∷ history) follows stay noted within =
     let number = number-of list script start plan slot history noted.0 in
     inr (
       together-in list script (is_sound_after plan (suc slot)) (is_sound_after plan slot) start.slot history
-          (λ k sound. sound-before plan slot (suc slot) k (omega arith) sound)
-          (ran-together list script start plan slot history follows noted.0 (omega (arith, within))),
+          (λ k sound. sound-earlier plan slot (suc slot) k stay (omega arith) sound)
+          (ran-together list script start plan slot history follows stay noted.0 (omega (arith, within))),
       stayed list script start plan slot row history follows (omega (arith, within, number, follows.slots))
           (omega (arith, number)) noted.1
-          (counted-run list script start plan (suc slot) (row ∷ history) follows noted),
+          (counted-run list script start plan (suc slot) (row ∷ history) follows stay noted),
     )

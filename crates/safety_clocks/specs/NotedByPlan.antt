@@ -53,10 +53,12 @@ NotedByPlan list script start plan zero (row ∷ history) = StartedByPlan list s
 NotedByPlan list script start plan (suc slot) (row ∷ history) =
     NotedByPlan list script start plan slot history × NotedInSlot list script plan (suc slot) row history
 
--- a script follows a plan within the list's bounds, the nodes noted by it up to this slot, and the run has one more
+-- a script follows a plan in which none returns within the list's bounds, the nodes noted by it up to this slot, and
+-- the run has one more
 pub record GoesOnByPlan (list : Medl) (script : Script) (start : ClusterStart) (plan : Plan) (slot : ℕ)
     (history : History) : Type 0 where
   pub valid : IsValid list
   pub follows : FollowsWithin list script start plan
+  pub stay : plan.returns ≡ []
   pub noted : NotedByPlan list script start plan slot history
   pub within : start.slot + suc slot < script.slots

@@ -1,5 +1,5 @@
 //! The laws of clocks by a plan. The functions do nothing; their contracts are the laws.
-ghost use Rattle.std.specs.Prelude.{◌≡◌, ℕ, suc, ◌+◌, ◌<◌, ◌≤◌, Bool, true, false, List, length, neg_ℤ};
+ghost use Rattle.std.specs.Prelude.{◌≡◌, ℕ, suc, ◌+◌, ◌<◌, ◌≤◌, Bool, true, false, List, [], length, neg_ℤ};
 ghost use Rattle.std.specs.Prelude.{◌-ℤ◌, ◌≤ℤ◌, IsTrue};
 ghost use Rattle.ttp_world.specs.declared.medl.Medl.{Medl};
 ghost use Rattle.ttp_world.specs.declared.node.Entry.{Entry};
@@ -15,7 +15,7 @@ ghost use Rattle.fault_plan.specs.Kept.{FollowsPlan};
 ghost use Rattle.safety_clocks.specs.Jumps.{HasJumped};
 ghost use Rattle.safety_clocks.specs.NotedByPlan.{IsSoundIn, StartedByPlan, NotedByPlan, GoesOnByPlan};
 
-/// The nodes that are sound by a plan run together since the start. They began together in it
+/// The nodes that are sound by a plan in which none returns run together since the start. They began together in it
 /// (`began`), and after each slot up to which they noted by the plan, those that are sound then have
 /// run together (`together`): in each round that began after the start they noted four frames or
 /// more. A group that ran together did so without some of its nodes (`smaller`).
@@ -29,7 +29,7 @@ pub fn runs_together()
         → BeganTogether list script (is_sound_after plan 0) row history }
     ensures together { (list : Medl) (script : Script) (start : ClusterStart) (plan : Plan) (slot : ℕ)
         (history : History)
-        → FollowsPlan list script start plan → NotedByPlan list script start plan slot history
+        → FollowsPlan list script start plan → plan.returns ≡ [] → NotedByPlan list script start plan slot history
         → length history ≤ script.slots → RanTogether list script (is_sound_after plan slot) start.slot history }
 {}
 
