@@ -34,7 +34,7 @@ use Rattle.safety_steps.specs.Turn.{IsTurn}
 use Rattle.safety_steps.proofs.Arrivals.{sound-alone}
 use Rattle.safety_steps.proofs.Receivers.{sound-judge, judges-good}
 use Rattle.safety_steps.proofs.Turns.{slot_of, slot_number}
-use Rattle.safety.proofs.Entries.{fate-before, own-sent, notes-other}
+use Rattle.safety.proofs.Entries.{fate-before, sender-before, wrong-stays, own-sent, notes-other}
 
 -- One entry.
 

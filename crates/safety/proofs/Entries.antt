@@ -59,8 +59,21 @@ module _ (list : Medl) (script : Script) (start : ClusterStart) (plan : Plan) (t
       subst P (sym (entry_of-made list script (world list script numbers)
       (messages_chosen list script (length numbers) new.sent) k node ∙ made)) holds
 
-  pub fate-before : (k : ℕ) → is_sound_after plan (suc turn) k ≡ true → fate_of plan turn k ≡ Sound
-  fate-before k sound = sound-fate (fate_of plan turn k) (sound-before plan turn (suc turn) k (omega arith) sound)
+  -- a sound node that does not enter in the turn was sound before
+  pub fate-before : (k : ℕ) → enters plan (suc turn) k ≡ false → is_sound_after plan (suc turn) k ≡ true
+      → fate_of plan turn k ≡ Sound
+  fate-before k none sound =
+      sound-fate (fate_of plan turn k) (sound-from plan (suc turn) k (fate_of plan turn k) none sound)
+
+  -- and so was the sender of a good slot
+  pub sender-before : is_good_slot plan (suc turn) ≡ true → fate_of plan turn (sender plan (suc turn)) ≡ Sound
+  sender-before = fate-before (sender plan (suc turn)) (sender-stays plan (suc turn) t.planned.follows.good)
+
+  -- none enters in a slot that is not good
+  pub wrong-stays : (k : ℕ) → is_good_slot plan (suc turn) ≡ false → enters plan (suc turn) k ≡ false
+  wrong-stays k wrong =
+      false_from_ne_true (enters plan (suc turn) k) (λ enter.
+      both_ways (is_good_slot plan (suc turn)) wrong (entry-good plan (suc turn) k t.planned.follows.good enter).0)
 
   -- in its own slot a sound node sends
   pub own-sent : (k : ℕ) → IsSoundIn list plan (suc turn) k → sender plan (suc turn) ≡ k
@@ -68,7 +81,7 @@ module _ (list : Medl) (script : Script) (start : ClusterStart) (plan : Plan) (t
       × (entry_of (row_in (slot_after list script (world list script numbers))
       (messages_chosen list script (length numbers) new.sent)) k ≡ entry.Sent message)
   own-sent k sound own =
-      let sends = fate-before (sender plan (suc turn)) (ap (is_sound_after plan (suc turn)) own ∙ sound.1) in
+      let sends = sender-before (ap (is_sound_after plan (suc turn)) own ∙ sound.1) in
       let owner = sound-owner list script start plan turn new numbers t sends in
       let may = sound-sends plan turn _ owner in
       let sent = sent-own (slot_of list script new numbers (sender plan (suc turn))) owner.own may.closed may.more in
@@ -77,18 +90,19 @@ module _ (list : Medl) (script : Script) (start : ClusterStart) (plan : Plan) (t
       (messages_chosen list script (length numbers) new.sent)) j ≡ entry.Sent message)) own
       (_, entry_of-made list script (world list script numbers) _ (sender plan (suc turn)) owner.own.node ∙ sent.entry)
 
-  -- in a good slot the sender sends, and each other sound node judges its frame correct
+  -- in a good slot the sender sends, and each other sound node that does not enter judges its frame correct
   tells-good : (k : ℕ) → is_good_slot plan (suc turn) ≡ true → IsSoundIn list plan (suc turn) k
+      → enters plan (suc turn) k ≡ false
       → TellsOf list script (world list script numbers) (sender plan (suc turn)) k
       (entry_of (row_in (slot_after list script (world list script numbers))
       (messages_chosen list script (length numbers) new.sent)) k)
-  tells-good k good_is sound = elim (cases_eq (sender plan (suc turn)) k) [
+  tells-good k good_is sound none = elim (cases_eq (sender plan (suc turn)) k) [
     | inl own ↦
         subst (TellsOf list script (world list script numbers) (sender plan (suc turn)) k)
         (sym (own-sent k sound own).1) (sym own)
     | inr other ↦
         let judged = judges-good list script start plan turn new numbers t k sound.0 other
-        (fate-before k sound.1) good_is (fate-before (sender plan (suc turn)) good_is) sound.1 in
+        (fate-before k none sound.1) good_is (sender-before good_is) sound.1 in
         in-row (TellsOf list script (world list script numbers) (sender plan (suc turn)) k) k _ sound.0 judged.entry
         (refl, refl)
   ]
@@ -107,7 +121,8 @@ module _ (list : Medl) (script : Script) (start : ClusterStart) (plan : Plan) (t
       let x = slot_of list script new numbers k in
       let other : sender plan (suc turn) ≢ k =
       λ own. both_ways (is_good_slot plan (suc turn)) wrong (ap (is_sound_after plan (suc turn)) own ∙ sound.1) in
-      let judge = sound-judge list script start plan turn new numbers t k sound.0 other (fate-before k sound.1) in
+      let judge = sound-judge list script start plan turn new numbers t k sound.0 other
+      (fate-before k (wrong-stays k wrong) sound.1) in
       let after : IsSoundAt list plan (suc turn) k (next_past x) =
       subst (λ (f : Fate). IsByFate list plan (suc turn) k (next_past x) f) (sound-fate _ sound.1)
       (node-next list script start plan turn new numbers t k sound.0) in
@@ -116,16 +131,16 @@ module _ (list : Medl) (script : Script) (start : ClusterStart) (plan : Plan) (t
             in-row NotesNothing k _ sound.0 some.1.1.entry
             (same-accepted (is_correct some.0) x.past.accepted (next_past x).accepted _ _ some.1.1.accepted
             judge.at.counted.accepted after.counted.accepted
-            (ap (λ l. l.seen) (ledger-other plan turn k other)
+            (ap (λ l. l.seen) (ledger-other plan turn k other (wrong-stays k wrong))
             ∙ ap (λ good. (with_slot good (is_first_slot plan (suc turn)) (ledger_of plan turn k)).seen) wrong))
         | inr left ↦ let both : phase.Active ≡ phase.Left = sym after.phase ∙ left.phase in cc
       ]
 
-  pub noted-next : NotedInSlot list script plan (suc turn)
+  pub noted-next : plan.returns ≡ [] → NotedInSlot list script plan (suc turn)
       (row_in (slot_after list script (world list script numbers))
       (messages_chosen list script (length numbers) new.sent)) (world list script numbers)
-  noted-next = record {
-    good = tells-good;
+  noted-next stay = record {
+    good = λ k good_is sound. tells-good k good_is sound (none-enters plan (suc turn) k stay);
     other = notes-other;
     jumped = λ k since node jumped.
         let wrong = jumped-wrong list script start plan turn new numbers t k node since jumped in

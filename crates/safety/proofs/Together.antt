@@ -30,10 +30,10 @@ KeepsClocks list script start plan =
 
 -- so it is within the list's bounds
 pub clocks-hold : (list : Medl) (script : Script) (start : ClusterStart) (plan : Plan) → IsValid list
-    → FollowsWithin list script start plan → KeepsClocks list script start plan
-clocks-hold list script start plan valid follows turn numbers noted within =
+    → FollowsWithin list script start plan → plan.returns ≡ [] → KeepsClocks list script start plan
+clocks-hold list script start plan valid follows stay turn numbers noted within =
     let goes : GoesOnByPlan list script start plan turn (world list script numbers) =
-    record { valid = valid; follows = follows; noted = noted; within = within } in
+    record { valid = valid; follows = follows; stay = stay; noted = noted; within = within } in
     record {
       within = λ r p node sends sound steady. sound-inside goes r p (node, sound) (sends, steady);
       frame = λ r p since node sends sound jumped. (jumped-outside goes p r since sends (inr jumped) (node, sound)).0;
