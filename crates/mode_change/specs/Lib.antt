@@ -1,0 +1,3 @@
+pub mod Modes
+pub mod ModeText
+pub mod WorkedCase
