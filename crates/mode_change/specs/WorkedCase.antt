@@ -1,6 +1,6 @@
 -- Four nodes with two modes. The host of node 1 asks for the second one, and node 1's payload is live in the first
 -- alone.
-use Rattle.std.specs.Prelude.{ℕ, suc, ◌-◌, pos, true, false, List, [], ◌∷◌, ◌++◌, drop, length, replicate, Some, None}
+use Rattle.std.specs.Prelude.{ℕ, ◌-◌, pos, true, false, List, [], ◌∷◌, drop, replicate, Some, None}
 use Rattle.ttp_world.specs.declared.medl.Kind.TheVariants as kind
 use Rattle.ttp_world.specs.declared.medl.Medl.{Medl}
 use Rattle.ttp_world.specs.declared.medl.SlotPlan.{SlotPlan}
