@@ -1,7 +1,7 @@
 -- What nodes note in the slot of the start, and in each turn after it.
-use Rattle.std.proofs.Common.{◌≡◌, ◌≢◌, ℕ, suc, ◌+◌, ◌<◌, Bool, true, false, cond, length, refl, ap, sym, subst}
+use Rattle.std.proofs.Common.{◌≡◌, ◌≢◌, ℕ, suc, ◌+◌, ◌<◌, Bool, true, false, cond, [], length, refl, ap, sym, subst}
 use Rattle.std.proofs.Common.{◌∙◌, inl, inr, Option, arith}
-use Rattle.std.proofs.lemmas.Bool.{cases_eq, both_ways}
+use Rattle.std.proofs.lemmas.Bool.{cases_eq, both_ways, false_from_ne_true}
 use Rattle.ttp_world.specs.declared.medl.Medl.{Medl}
 use Rattle.ttp_world.specs.declared.node.Entry.{Entry}
 use Rattle.ttp_world.specs.declared.node.Entry.TheVariants as entry
@@ -13,10 +13,12 @@ use Rattle.ttp_world.specs.Hypothesis.{ClusterStart}
 use Rattle.ttp_world.specs.World.{SlotNumbers, Numbers, slot_after, messages_chosen, row_in, world}
 use Rattle.ttp_world.proofs.Worlds.{length-world}
 use Rattle.precision.specs.Together.{TellsOf}
-use Rattle.fault_plan.specs.Plan.{Plan, sender}
+use Rattle.fault_plan.specs.Plan.{Plan, sender, enters}
 use Rattle.fault_plan.specs.Fates.{Fate, Sound, fate_of, is_sound_after, is_good_slot, is_first_slot}
 use Rattle.fault_plan.specs.Ledger.{with_slot, ledger_of}
-use Rattle.fault_plan.proofs.Persists.{sound-before}
+use Rattle.fault_plan.proofs.FateSteps.{sound-from}
+use Rattle.fault_plan.proofs.Returns.{entry-good, none-enters}
+use Rattle.fault_plan.proofs.SlotKinds.{sender-stays}
 use Rattle.safety_laws.specs.NodeSlot.{entry_made, next_past}
 use Rattle.safety_laws.proofs.NodeSlots.{entry_of-made}
 use Rattle.safety_laws.proofs.OwnSlots.{sent-own}
@@ -64,6 +66,11 @@ module _ (list : Medl) (script : Script) (start : ClusterStart) (plan : Plan) (t
       → fate_of plan turn k ≡ Sound
   fate-before k none sound =
       sound-fate (fate_of plan turn k) (sound-from plan (suc turn) k (fate_of plan turn k) none sound)
+
+  -- and each was where none returns
+  pub stayed-before : plan.returns ≡ [] → (k : ℕ) → is_sound_after plan (suc turn) k ≡ true
+      → fate_of plan turn k ≡ Sound
+  stayed-before stay k = fate-before k (none-enters plan (suc turn) k stay)
 
   -- and so was the sender of a good slot
   pub sender-before : is_good_slot plan (suc turn) ≡ true → fate_of plan turn (sender plan (suc turn)) ≡ Sound

@@ -1,5 +1,5 @@
 -- A script that keeps the single-fault hypothesis, by its plan.
-use Rattle.std.proofs.Common.{◌≡◌, ℕ, suc, ◌+◌, ◌-◌, ◌<◌, ◌≤◌, ◌≤ℤ◌, ◌-ℤ◌, true, length, ap, sym, subst, ◌∙◌}
+use Rattle.std.proofs.Common.{◌≡◌, ℕ, suc, ◌+◌, ◌-◌, ◌<◌, ◌≤◌, ◌≤ℤ◌, ◌-ℤ◌, true, length, refl, ap, sym, subst, ◌∙◌}
 use Rattle.std.proofs.Common.{neg_ℤ, arith}
 use Rattle.ttp_world.specs.declared.keep.Keep.TheVariants as keep
 use Rattle.ttp_world.specs.declared.medl.Medl.{Medl}
@@ -50,6 +50,7 @@ module _ (list : Medl) (script : Script) (slot : ℕ) (valid : IsValid list) (sc
 
   clocks : KeepsClocks list script by_plan.start (plan_of list script by_plan.start)
   clocks = clocks-hold list script by_plan.start (plan_of list script by_plan.start) valid by_plan.follows
+      refl
 
   -- after the slot that came last
   module _ (numbers : Numbers) (legal : IsLegal list script numbers) (after : slot < length numbers)
@@ -62,7 +63,7 @@ module _ (list : Medl) (script : Script) (slot : ℕ) (valid : IsValid list) (sc
     run =
         let number = count in
         run-by_plan list script by_plan.start (plan_of list script by_plan.start)
-        (begun (omega (arith, after, within))) clocks (length numbers - suc slot) numbers number
+        (begun (omega (arith, after, within))) clocks refl (length numbers - suc slot) numbers number
         (omega (arith, number, within)) legal
 
     pub kept-stands : StandsAfter list script by_plan.start (plan_of list script by_plan.start)
@@ -105,7 +106,7 @@ module _ (list : Medl) (script : Script) (slot : ℕ) (valid : IsValid list) (sc
         (is_correct_after list script (newest_slot (world list script numbers))) s (world list script numbers))
         by_plan.from
         (alike-run list script by_plan.start (plan_of list script by_plan.start) (begun (omega (arith, after, within)))
-        clocks (is_correct_after list script (newest_slot (world list script numbers))) (length numbers - suc slot)
+        clocks refl (is_correct_after list script (newest_slot (world list script numbers))) (length numbers - suc slot)
         numbers correct-sound number (omega (arith, number, within)) legal)
 
     pub kept-stands_alike : StandsAlikeSince list
@@ -115,7 +116,7 @@ module _ (list : Medl) (script : Script) (slot : ℕ) (valid : IsValid list) (sc
         subst (λ s. StandsAlikeSince list (is_correct_after list script (newest_slot (world list script numbers))) s
         (world list script numbers)) by_plan.from
         (stands-run list script by_plan.start (plan_of list script by_plan.start)
-        (begun (omega (arith, after, within))) clocks
+        (begun (omega (arith, after, within))) clocks refl
         (is_correct_after list script (newest_slot (world list script numbers))) (length numbers - suc slot) numbers
         correct-sound number (omega (arith, number, within)) legal)
 
@@ -150,6 +151,7 @@ module _ (list : Medl) (script : Script) (slot : ℕ) (valid : IsValid list) (sc
     goes = record {
       valid = valid;
       follows = by_plan.follows;
+      stay = refl;
       noted = (run numbers legal after (omega (arith, within))).noted;
       within = inside;
     }

@@ -16,7 +16,7 @@ use Rattle.precision.specs.Together.{TellsOf}
 use Rattle.fault_plan.specs.Plan.{Plan, sender}
 use Rattle.fault_plan.specs.Fates.{Fate, is_sound_after, is_good_slot}
 use Rattle.fault_plan.specs.Places.{planned_place}
-use Rattle.fault_plan.proofs.Persists.{sound-before}
+use Rattle.fault_plan.proofs.Persists.{sound-earlier}
 use Rattle.safety_clocks.specs.NotedByPlan.{IsSoundIn, StartedByPlan, NotesNothing, NotedInSlot}
 use Rattle.safety_steps.specs.ByFate.{IsSoundAt, IsByFate}
 use Rattle.safety_steps.specs.Run.{IsBegun}
@@ -76,13 +76,13 @@ none-before list group s (row ∷ history) early =
 
 -- The run.
 module _ (list : Medl) (script : Script) (start : ClusterStart) (plan : Plan) (is : IsBegun list script start plan)
-    (clocks : KeepsClocks list script start plan) where
+    (clocks : KeepsClocks list script start plan) (stay : plan.returns ≡ []) where
   pub stands-run : (group : ℕ → Bool) (turn : ℕ) (numbers : Numbers) → IsAmong list group (is_sound_after plan turn)
       → length numbers ≡ suc (start.slot + turn) → start.slot + turn < script.slots → IsLegal list script numbers
       → StandsAlikeSince list group start.slot (world list script numbers)
   stands-run group turn [] among number within legal = tt
   stands-run group zero (new ∷ numbers) among number within legal =
-      let by_plan = run-by_plan list script start plan is clocks zero (new ∷ numbers) number within legal in
+      let by_plan = run-by_plan list script start plan is clocks stay zero (new ∷ numbers) number within legal in
       let before = length-world list script numbers in (
         (λ from. record {
           begins = λ k of_k now.
@@ -95,7 +95,7 @@ module _ (list : Medl) (script : Script) (start : ClusterStart) (plan : Plan) (i
         none-before list group start.slot (world list script numbers) (omega (arith, before, number)),
       )
   stands-run group (suc turn) (new ∷ numbers) among number within legal =
-      let by_plan = run-by_plan list script start plan is clocks (suc turn) (new ∷ numbers) number within legal in
+      let by_plan = run-by_plan list script start plan is clocks stay (suc turn) (new ∷ numbers) number within legal in
       let before = length-world list script numbers in (
         (λ from. record {
           begins = λ k of_k now. absurd (omega (arith, now, before, number));
@@ -106,6 +106,6 @@ module _ (list : Medl) (script : Script) (start : ClusterStart) (plan : Plan) (i
               by_plan-place list script start plan (suc turn) _ j by_plan (of_j.0, among j of_j)
               ∙ sym (by_plan-place list script start plan (suc turn) _ k by_plan (of_k.0, among k of_k));
         }),
-        stands-run group turn numbers (λ k of_k. sound-before plan turn (suc turn) k (omega arith) (among k of_k))
+        stands-run group turn numbers (λ k of_k. sound-earlier plan turn (suc turn) k stay (omega arith) (among k of_k))
             (omega (arith, number)) (omega (arith, within)) (legal-older list script new numbers legal),
       )

@@ -1,5 +1,5 @@
 //! The laws of planned runs. The functions do nothing; their contracts are the laws.
-ghost use Rattle.std.specs.Prelude.{◌≡◌, ℕ, suc, ◌+◌, ◌-◌, ◌<◌, ◌≤◌, length};
+ghost use Rattle.std.specs.Prelude.{◌≡◌, ℕ, suc, ◌+◌, ◌-◌, ◌<◌, ◌≤◌, [], length};
 ghost use Rattle.ttp_world.specs.declared.keep.Keep.TheVariants as keep;
 ghost use Rattle.ttp_world.specs.declared.medl.Medl.{Medl};
 ghost use Rattle.ttp_world.specs.declared.script.Script.{Script};
@@ -18,7 +18,7 @@ ghost use Rattle.safety.specs.ByPlan.{IsByPlan};
 /// together, and that keeps their members.
 pub fn by_plan()
     ensures { (list : Medl) (script : Script) (start : ClusterStart) (plan : Plan) (turn : ℕ) (numbers : Numbers)
-        → IsBegun list script start plan → FollowsWithin list script start plan
+        → IsBegun list script start plan → FollowsWithin list script start plan → plan.returns ≡ []
         → length numbers ≡ suc (start.slot + turn) → start.slot + turn < script.slots → IsLegal list script numbers
         → IsByPlan list script start plan turn (world list script numbers) }
 {}

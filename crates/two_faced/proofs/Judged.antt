@@ -103,7 +103,7 @@ module _ (list : Medl) (script : Script) (z slot : ℕ) (valid : IsValid list) (
       → length numbers ≤ script.slots
       → IsByPlan list script start plan turn (world list script numbers)
   run-at numbers turn legal number within =
-      run-by_plan list script start plan (begun list script z slot valid rules script_valid) keeps turn numbers number
+      run-by_plan list script start plan (begun list script z slot valid rules script_valid) keeps refl turn numbers number
       (omega (arith, number, within)) legal
 
   -- Each frame is judged correct.
