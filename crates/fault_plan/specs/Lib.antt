@@ -7,3 +7,4 @@ pub mod Told
 pub mod WorkedPlan
 pub mod SlotKind
 pub mod Places
+pub mod Returned

@@ -77,10 +77,16 @@ pub record IsCompanyRun (list : Medl) (script : Script) (may_grow : Bool) (group
   pub calm : AreCalm list script group history
   pub together : RanAsCompany list script may_grow group newest history
 
--- it may not grow, or its newest entry is two rounds ago
-abbrev pub IsSettled : Medl → Bool → ℕ → History → Type 0
-IsSettled list may_grow newest history =
-    (may_grow ≡ false) ⊎ (newest + 2 * length list.slots ≤ length history)
+-- how many slots of its round are over before the coming slot of node k's stint
+abbrev pub slots_over : Medl → History → ℕ → ℕ
+slots_over list history k = (next_place list (stint_place list k (diary_of history k))).slot
+
+-- the company may not grow, or its newest entry is two rounds ago, or more than one round before the coming slot's round
+abbrev pub IsSettled : Medl → Bool → (ℕ → Bool) → ℕ → History → Type 0
+IsSettled list may_grow group newest history =
+    (may_grow ≡ false)
+    ⊎ ((newest + 2 * length list.slots ≤ length history)
+    ⊎ ((k : ℕ) → IsIn list group k → newest + length list.slots + slots_over list history k < length history))
 
 -- Bounds.
 
@@ -96,7 +102,7 @@ HoldsCompanyClocksWithin list bound =
 unfoldable pub HoldsSettledClocksWithin : Medl → ℤ → Type 0
 HoldsSettledClocksWithin list bound =
     (script : Script) (may_grow : Bool) (group : ℕ → Bool) (newest : ℕ) (history : History)
-    → IsCompanyRun list script may_grow group newest history → IsSettled list may_grow newest history
+    → IsCompanyRun list script may_grow group newest history → IsSettled list may_grow group newest history
     → (j k : ℕ) → IsIn list group j → IsIn list group k
     → (clock_at list script history j -ℤ clock_at list script history k) ≤ℤ bound
 
@@ -112,7 +118,7 @@ HoldsCompanyDeviationsWithin list bound =
 unfoldable pub HoldsSettledDeviationsWithin : Medl → ℤ → Type 0
 HoldsSettledDeviationsWithin list bound =
     (script : Script) (may_grow : Bool) (group : ℕ → Bool) (newest : ℕ) (history : History)
-    → IsCompanyRun list script may_grow group newest history → IsSettled list may_grow newest history
+    → IsCompanyRun list script may_grow group newest history → IsSettled list may_grow group newest history
     → length history < script.slots
     → (r p : ℕ) → IsIn list group r → IsIn list group p
     → (neg_ℤ bound ≤ℤ measured list script history r p) × (measured list script history r p ≤ℤ bound)

@@ -26,7 +26,7 @@
 
 mod bounds;
 
-pub use bounds::{needed, spread};
+pub use bounds::{needed, needed_rejoining, spread, spread_rejoining};
 
 #[cfg(test)]
 mod tests;

@@ -71,11 +71,13 @@ module _ (list : Medl) (script : Script) (slot : ℕ) (valid : IsValid list) (sc
     kept-stands =
         let number = count in
         record {
-          planned = (begun (omega (arith, after, within))).planned;
+          stands = record {
+            planned = (begun (omega (arith, after, within))).planned;
+            number = length-world list script numbers ∙ number;
+            within = omega (arith, number, within);
+            holds = run.holds;
+          };
           faults = by_plan.faults;
-          number = length-world list script numbers ∙ number;
-          within = omega (arith, number, within);
-          holds = run.holds;
         }
 
     pub kept-safe : IsSafe list script (world list script numbers)
