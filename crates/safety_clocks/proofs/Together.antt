@@ -124,14 +124,14 @@ number-of list script start plan (suc slot) (row ∷ history) noted =
     omega (arith, number-of list script start plan slot history noted.0)
 
 pub counted-run : (list : Medl) (script : Script) (start : ClusterStart) (plan : Plan) (slot : ℕ) (history : History)
-    → FollowsPlan list script start plan → plan.returns ≡ [] → NotedByPlan list script start plan slot history
+    → FollowsPlan list script start plan → NotedByPlan list script start plan slot history
     → Counted list plan slot history
-counted-run list script start plan slot [] follows stay noted = absurd noted
-counted-run list script start plan zero (row ∷ history) follows stay noted =
+counted-run list script start plan slot [] follows noted = absurd noted
+counted-run list script start plan zero (row ∷ history) follows noted =
     counted-begun list script start plan row history follows noted
-counted-run list script start plan (suc slot) (row ∷ history) follows stay noted =
-    counted-next list script start plan slot row history follows stay noted.1
-    (counted-run list script start plan slot history follows stay noted.0)
+counted-run list script start plan (suc slot) (row ∷ history) follows noted =
+    counted-next list script start plan slot row history follows noted.1
+    (counted-run list script start plan slot history follows noted.0)
 
 pub ran-together : (list : Medl) (script : Script) (start : ClusterStart) (plan : Plan) (slot : ℕ) (history : History)
     → FollowsPlan list script start plan → plan.returns ≡ [] → NotedByPlan list script start plan slot history
@@ -148,5 +148,5 @@ ran-together list script start plan (suc slot) (row ∷ history) follows stay no
           (ran-together list script start plan slot history follows stay noted.0 (omega (arith, within))),
       stayed list script start plan slot row history follows (omega (arith, within, number, follows.slots))
           (omega (arith, number)) noted.1
-          (counted-run list script start plan (suc slot) (row ∷ history) follows stay noted),
+          (counted-run list script start plan (suc slot) (row ∷ history) follows noted),
     )
