@@ -234,10 +234,10 @@ module _ (list : Medl) (script : Script) (start : ClusterStart) (plan : Plan) (i
             (let before = length-world list script numbers in omega (arith, now, before)),
       )
   alike-run group (suc turn) (new ∷ numbers) among number within legal =
-      let before = run-by_plan list script start plan is clocks stay turn numbers (omega (arith, number))
+      let before = run-by_plan list script start plan is clocks turn numbers (omega (arith, number))
       (omega (arith, within)) (legal-older list script new numbers legal) in
       let t =
-      turn-next list script start plan is clocks stay turn new numbers (omega (arith, number)) within legal before in (
+      turn-next list script start plan is clocks turn new numbers (omega (arith, number)) within legal before in (
         (λ from. alike-among list script group (is_sound_after plan (suc turn)) _ (world list script numbers) among
             (alike-next list script start plan turn new numbers t stay)),
         alike-run group turn numbers

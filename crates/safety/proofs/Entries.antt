@@ -12,10 +12,11 @@ use Rattle.ttp_world.specs.Diary.{entry_of}
 use Rattle.ttp_world.specs.Hypothesis.{ClusterStart}
 use Rattle.ttp_world.specs.World.{SlotNumbers, Numbers, slot_after, messages_chosen, row_in, world}
 use Rattle.ttp_world.proofs.Worlds.{length-world}
-use Rattle.precision.specs.Together.{TellsOf}
+use Rattle.precision.specs.Together.{BeginsOn, TellsOf}
 use Rattle.fault_plan.specs.Plan.{Plan, sender, enters}
 use Rattle.fault_plan.specs.Fates.{Fate, Sound, fate_of, is_sound_after, is_good_slot, is_first_slot}
 use Rattle.fault_plan.specs.Ledger.{with_slot, ledger_of}
+use Rattle.fault_plan.specs.Places.{planned_place}
 use Rattle.fault_plan.proofs.FateSteps.{sound-from}
 use Rattle.fault_plan.proofs.Returns.{entry-good, none-enters}
 use Rattle.fault_plan.proofs.SlotKinds.{sender-stays}
@@ -27,6 +28,7 @@ use Rattle.safety_clocks.specs.NotedByPlan.{IsSoundIn, StartedByPlan, NotesNothi
 use Rattle.safety_steps.specs.ByFate.{IsSoundAt, IsByFate}
 use Rattle.safety_steps.specs.Run.{IsBegun}
 use Rattle.safety_steps.specs.Turn.{IsTurn}
+use Rattle.safety_steps.proofs.Arming.{entered-joins}
 use Rattle.safety_steps.proofs.Arrivals.{sound-owner}
 use Rattle.safety_steps.proofs.Begins.{starter-begun, joiner-begun, on-begun}
 use Rattle.safety_steps.proofs.JumpedNodes.{jumped-wrong}
@@ -143,11 +145,15 @@ module _ (list : Medl) (script : Script) (start : ClusterStart) (plan : Plan) (t
         | inr left ↦ let both : phase.Active ≡ phase.Left = sym after.phase ∙ left.phase in cc
       ]
 
-  pub noted-next : plan.returns ≡ [] → NotedInSlot list script plan (suc turn)
+  pub noted-next : NotedInSlot list script plan (suc turn)
       (row_in (slot_after list script (world list script numbers))
       (messages_chosen list script (length numbers) new.sent)) (world list script numbers)
-  noted-next stay = record {
-    good = λ k good_is sound. tells-good k good_is sound (none-enters plan (suc turn) k stay);
+  noted-next = record {
+    good = tells-good;
+    begins = λ k node entered.
+        in-row (BeginsOn list script (world list script numbers) (sender plan (suc turn))
+        (planned_place list plan (suc turn)) k) k _ node
+        (entered-joins list script start plan turn new numbers t k node entered).entry (refl, refl);
     other = notes-other;
     jumped = λ k since node jumped.
         let wrong = jumped-wrong list script start plan turn new numbers t k node since jumped in

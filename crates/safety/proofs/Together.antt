@@ -30,18 +30,18 @@ KeepsClocks list script start plan =
 
 -- so it is within the list's bounds
 pub clocks-hold : (list : Medl) (script : Script) (start : ClusterStart) (plan : Plan) → IsValid list
-    → FollowsWithin list script start plan → plan.returns ≡ [] → KeepsClocks list script start plan
-clocks-hold list script start plan valid follows stay turn numbers noted within =
+    → FollowsWithin list script start plan → KeepsClocks list script start plan
+clocks-hold list script start plan valid follows turn numbers noted within =
     let goes : GoesOnByPlan list script start plan turn (world list script numbers) =
-    record { valid = valid; follows = follows; stay = stay; noted = noted; within = within } in
+    record { valid = valid; follows = follows; noted = noted; within = within } in
     record {
-      within = λ r p node sends sound steady none stays. sound-inside goes r p (node, sound) (sends, steady);
+      within = λ r p node sends sound steady none stays. sound-inside goes r p (node, sound) (sends, steady) none stays;
       frame = λ r p since node sends sound none jumped. (jumped-outside goes p r since sends (inr jumped) (node, sound)).0;
       others = λ r p since node sends jumped sound none. (jumped-outside goes r p since node (inl jumped) (sends, sound)).1;
     }
 
 module _ (list : Medl) (script : Script) (start : ClusterStart) (plan : Plan) (is : IsBegun list script start plan)
-    (clocks : KeepsClocks list script start plan) (stay : plan.returns ≡ []) where
+    (clocks : KeepsClocks list script start plan) where
   pub turn-next : (turn : ℕ) (new : SlotNumbers) (numbers : Numbers) → length numbers ≡ start.slot + suc turn
       → start.slot + suc turn < script.slots → IsLegal list script (new ∷ numbers)
       → IsByPlan list script start plan turn (world list script numbers)
@@ -71,5 +71,5 @@ module _ (list : Medl) (script : Script) (start : ClusterStart) (plan : Plan) (i
       let t = turn-next turn new numbers (omega (arith, number)) within legal before in
       record {
         holds = holds-next list script start plan turn new numbers t;
-        noted = (before.noted, noted-next list script start plan turn new numbers t stay);
+        noted = (before.noted, noted-next list script start plan turn new numbers t);
       }

@@ -18,7 +18,7 @@ ghost use Rattle.safety.specs.ByPlan.{IsByPlan};
 /// together, and that keeps their members.
 pub fn by_plan()
     ensures { (list : Medl) (script : Script) (start : ClusterStart) (plan : Plan) (turn : ℕ) (numbers : Numbers)
-        → IsBegun list script start plan → FollowsWithin list script start plan → plan.returns ≡ []
+        → IsBegun list script start plan → FollowsWithin list script start plan
         → length numbers ≡ suc (start.slot + turn) → start.slot + turn < script.slots → IsLegal list script numbers
         → IsByPlan list script start plan turn (world list script numbers) }
 {}
