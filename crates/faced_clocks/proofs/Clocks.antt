@@ -41,7 +41,7 @@ use Rattle.faced_clocks.proofs.PulledNotes.{Locate, AreTurns, test_of}
 use Rattle.faced_clocks.proofs.Rounds.{after_pull, width, in_round, Round, round_begins, round_goes, round_ends}
 use Rattle.faced_clocks.proofs.Rounds.{round_within, in_round_bound}
 use Rattle.faced_clocks.proofs.Slots.{IsFacing, Group, to_sound, of_sound, drifts, errors, errors_first, still}
-use Rattle.faced_clocks.proofs.Slots.{frame_is, have_drifted, slot_notes}
+use Rattle.faced_clocks.proofs.Slots.{stay, frame_is, have_drifted, slot_notes}
 
 -- The correction.
 
@@ -314,7 +314,8 @@ module _ (list : Medl) (script : Script) (start : ClusterStart) (z : ℕ) (plan 
     index = place-slot list script start plan (suc turn) f.follows
 
     counted : Counted list plan (suc turn) (row ∷ history)
-    counted = counted-run list script start plan (suc turn) (row ∷ history) f.follows (before, noted)
+    counted = counted-run list script start plan (suc turn) (row ∷ history) f.follows
+        (stay list script start z plan f) (before, noted)
 
     place : (k : ℕ) → Group list plan k
         → stint_place list k (diary_of (row ∷ history) k) ≡ planned_place list plan (suc turn)

@@ -65,7 +65,7 @@ beside_error b e w h = omega (arith, ints, h)
 
 module _ (list : Medl) (script : Script) (start : ClusterStart) (z : ℕ) (plan : Plan)
     (f : IsFacing list script start z plan) where
-  stay : plan.returns ≡ []
+  pub stay : plan.returns ≡ []
   stay = none-returns plan f.follows.good f.none
 
   pub to_sound : (slot k : ℕ) → Group list plan k → IsSoundIn list plan slot k

@@ -285,7 +285,11 @@ kept-plan list script slot valid keeps =
       alone = run.alone;
       on = run.on;
       arms = λ k slot. none-armed list script k slot rules.outside;
-      follows = record { planned = follows-plan list script rules.start run; bounds = run.bounds };
+      follows = record {
+        planned = follows-plan list script rules.start run;
+        bounds = run.bounds;
+        window = inl refl;
+      };
       faults = plan-of-faults list script rules.start rules.started run;
       heard = λ k within less other on. start-heard list script rules.start k run within less other on;
     }

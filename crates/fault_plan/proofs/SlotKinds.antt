@@ -193,7 +193,7 @@ armed-told plan slot good arms =
     }
 
 -- no node enters in its own slot
-sender-stays : (plan : Plan) (slot : ℕ) → IsGoodPlan plan → enters plan slot (sender plan slot) ≡ false
+pub sender-stays : (plan : Plan) (slot : ℕ) → IsGoodPlan plan → enters plan slot (sender plan slot) ≡ false
 sender-stays plan slot good =
     false_from_ne_true (enters plan slot (sender plan slot))
     (λ is. (entry-good plan slot (sender plan slot) good is).1 refl)

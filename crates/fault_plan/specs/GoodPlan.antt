@@ -21,9 +21,9 @@ pub record IsReturn (plan : Plan) (r : Return) : Type 0 where
   pub was : (slot : ℕ) × ((r.armed ≡ suc slot) × (is_lost (fate_of plan slot r.node) ≡ true))
   pub after : r.armed ≤ r.entered
   pub entry : r.entered < plan.slots → (is_good_slot plan r.entered ≡ true) × (sender plan r.entered ≢ r.node)
-  -- no node is lost from two rounds before it is armed to two rounds after it entered
+  -- no node is lost from two rounds before it is armed until more than two rounds after it entered
   pub losses : (slot : ℕ) (incident : Incident) → incident_at plan slot ≡ Some incident
-      → (slot + 2 * plan.nodes ≤ r.armed) ⊎ (r.entered + 2 * plan.nodes ≤ slot)
+      → (slot + 2 * plan.nodes ≤ r.armed) ⊎ (r.entered + 2 * plan.nodes < slot)
   -- and none returns
   pub others : (q : Return) → Contains plan.returns q
       → (q ≡ r) ⊎ ((q.entered + 2 * plan.nodes ≤ r.armed) ⊎ (r.entered + 2 * plan.nodes ≤ q.armed))

@@ -1,6 +1,7 @@
 -- What a script does to a cluster that follows a plan of faults, and that one does that keeps the single-fault
 -- hypothesis.
-use Rattle.std.specs.Prelude.{◌≡◌, ◌≢◌, ℕ, ◌+◌, ◌-◌, ◌<◌, ◌≤◌, ◌≤ℤ◌, true, false, [], length, pos, Some, None, IsTrue}
+use Rattle.std.specs.Prelude.{◌≡◌, ◌≢◌, ℕ, ◌+◌, ◌-◌, ◌<◌, ◌≤◌, ◌≤ℤ◌, ◌⊎◌, true, false, [], length, pos, Some, None}
+use Rattle.std.specs.Prelude.{IsTrue}
 use Rattle.std.specs.List.{AllByRecursion, Contains}
 use Rattle.ttp_base.specs.NodeSet.{has_node}
 use Rattle.ttp_world.specs.declared.medl.Medl.{Medl}
@@ -11,7 +12,7 @@ use Rattle.ttp_world.specs.Hypothesis.{loses}
 use Rattle.ttp_world.specs.Hypothesis.{faulty_nodes_after, is_correct_after}
 use Rattle.ttp_world.specs.declared.medl.Kind.{Kind}
 use Rattle.ttp_world.specs.Medl.{plan_at, kind_at}
-use Rattle.ttp_world.specs.Returning.{carries_place}
+use Rattle.ttp_world.specs.Returning.{carries_place, needed_back}
 use Rattle.ttp_world.specs.Script.{is_ever_on, is_on, is_armed, drift_of, reading_error, has_jump, jump_of}
 use Rattle.ttp_world.specs.Script.{flipped_bits}
 use Rattle.ttp_world.specs.Starts.{StartsAlone}
@@ -87,6 +88,8 @@ pub record FollowsPlan (list : Medl) (script : Script) (start : ClusterStart) (p
 pub record FollowsWithin (list : Medl) (script : Script) (start : ClusterStart) (plan : Plan) : Type 0 where
   pub planned : FollowsPlan list script start plan
   pub bounds : IsWithinBounds list script
+  -- the window is wider where a node returns
+  pub window : (plan.returns ≡ []) ⊎ (needed_back list ≤ℤ list.window)
 
 -- The plan is that of the script's faulty nodes: none of them returns, the sound nodes after a slot of the run are the
 -- correct ones, and each faulty node is lost in the slot in which it became faulty.

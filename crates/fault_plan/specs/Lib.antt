@@ -8,3 +8,4 @@ pub mod Told
 pub mod WorkedPlan
 pub mod SlotKind
 pub mod Places
+pub mod Returned

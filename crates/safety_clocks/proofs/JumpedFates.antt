@@ -1,6 +1,6 @@
 -- What the fate of a node tells whose clock has jumped.
 use Rattle.std.proofs.Common.{◌≡◌, ◌≢◌, ℕ, suc, ◌+◌, ◌<◌, ◌≤◌, Bool, true, false, cond, Option, Some, None}
-use Rattle.std.proofs.Common.{inl, inr, sym, subst, arith}
+use Rattle.std.proofs.Common.{inl, inr, sym, subst, mod-lt, arith}
 use Rattle.std.specs.Prelude.{◌==◌}
 use Rattle.fault_plan.specs.Plan.{Change, Jumping, Incident, Plan, sender, incident_at, is_armed_by, enters}
 use Rattle.fault_plan.specs.Fates.{Fate, Absent, Sound, Falling, Fallen, Listening, fate_of, armed_in, entered_in}
@@ -8,7 +8,9 @@ use Rattle.fault_plan.specs.Fates.{struck, changed, turned, is_sound_after}
 use Rattle.fault_plan.specs.GoodPlan.{IsGoodPlan}
 use Rattle.fault_plan.specs.Told.{IsLossOf, IsTold}
 use Rattle.fault_plan.proofs.FateTells.{fate-told}
+use Rattle.fault_plan.proofs.Returns.{entry-is}
 use Rattle.safety_clocks.specs.Jumps.{HasJumped}
+use Rattle.safety_clocks.specs.NotedByPlan.{IsTight}
 
 -- The slot before.
 
@@ -134,3 +136,18 @@ pub sound-till : (plan : Plan) (k before : ℕ) (change : Change) → IsGoodPlan
     → is_sound_after plan before k ≡ true
 sound-till plan k before change good loss =
     subst (λ j. is_sound_after plan before j ≡ true) loss.node (good.losses before loss.incident loss.found).was
+
+-- no node entered in the two rounds before the slots from the one before it on, nor enters in the round after
+pub jump-tight : (plan : Plan) (k base : ℕ) (change : Change) → IsGoodPlan plan → IsLossOf plan k change (suc (suc base))
+    → (turn : ℕ) → suc base ≤ turn → turn ≤ suc (base + plan.nodes)
+    → IsTight plan turn
+jump-tight plan k base change good loss turn from to entered j before enter =
+    let found = entry-is plan entered j enter in
+    let of_r = good.returns found.return found.among in
+    let at = found.entered in
+    let after = of_r.after in
+    let less : sender plan turn < plan.nodes = mod-lt (plan.starter + turn) (omega (arith, good.count)) in
+    elim (of_r.losses (suc (suc base)) loss.incident loss.found) [
+      | inl early ↦ absurd (omega (arith, early, after, at, before, to, good.count))
+      | inr late ↦ omega (arith, late, at, less, from)
+    ]

@@ -7,11 +7,12 @@ use Rattle.ttp_world.specs.declared.node.Phase.TheVariants as phase
 use Rattle.ttp_world.specs.declared.script.Script.{Script}
 use Rattle.ttp_world.specs.Hypothesis.{ClusterStart}
 use Rattle.ttp_world.specs.World.{SlotNumbers, Numbers, node_past, world}
-use Rattle.ttp_base.specs.NodeSet.{with_node}
 use Rattle.fault_plan.specs.Plan.{Plan, sender, is_armed_by, enters}
 use Rattle.fault_plan.specs.Fates.{Fate, Absent, Sound, Falling, Fallen, Listening, fate_of, is_lost, may_stay}
+use Rattle.fault_plan.specs.Ledger.{planned_members}
+use Rattle.fault_plan.specs.Places.{planned_place}
 use Rattle.fault_plan.proofs.Returns.{armed-lost, entry-from, entry-good}
-use Rattle.safety_laws.specs.NodeSlot.{next_past, coming_place}
+use Rattle.safety_laws.specs.NodeSlot.{next_past}
 use Rattle.safety_laws.specs.Standing.{StandsBy, joined_on, joined_standing}
 use Rattle.safety_steps.specs.ByFate.{IsByFate}
 use Rattle.safety_steps.specs.Turn.{IsTurn}
@@ -77,14 +78,13 @@ module _ (list : Medl) (script : Script) (start : ClusterStart) (plan : Plan) (t
         → IsByFate list plan (suc turn) k (next_past (slot_of list script new numbers k)) (fate_of plan (suc turn) k)
     armed-next armed = next (now armed)
 
-    -- where it enters it joins on the sender's frame
+    -- where it enters it joins at the plan's place, with the plan's members, by what it measures of the sender's frame
     pub entered-joins : enters plan (suc turn) k ≡ true →
-        let e = sender plan (suc turn) in
         let x = slot_of list script new numbers k in
-        let y = slot_of list script new numbers e in
-        let members = with_node y.past.members e in
-        StandsBy (next_past x) (joined_on (coming_place y) members (x.hearing.deviation e))
-        (joined_standing list (coming_place y) members (x.hearing.deviation e))
+        let place = planned_place list plan (suc turn) in
+        let members = planned_members plan (suc turn) in
+        let deviation = x.hearing.deviation (sender plan (suc turn)) in
+        StandsBy (next_past x) (joined_on place members deviation) (joined_standing list place members deviation)
     entered-joins entered =
         let l = listener in
         joins-entry list script start plan turn new numbers t k node l.since l.awaited l.listens

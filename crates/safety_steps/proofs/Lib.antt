@@ -10,6 +10,7 @@ pub mod Arrivals
 pub mod Receivers
 pub mod SoundSteps
 pub mod Silence
+pub mod LeftSince
 pub mod JumpedNodes
 pub mod LostSteps
 pub mod Returners
@@ -17,4 +18,6 @@ pub mod Arming
 pub mod SentSteps
 pub mod Steps
 pub mod Begins
+pub mod Among
 pub mod Safe
+pub mod SafeBack

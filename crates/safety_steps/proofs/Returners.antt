@@ -155,11 +155,18 @@ module _ (list : Medl) (script : Script) (start : ClusterStart) (plan : Plan) (t
         (messages_chosen list script (length numbers) new.sent) k
         ∙ frame-silent x.hearing _ hears.comes)
 
+    members_are : with_node (slot_of list script new numbers (sender plan (suc turn))).past.members
+        (sender plan (suc turn))
+        ≡ planned_members plan (suc turn)
+    members_are =
+        ap (λ (members : List ℕ). with_node members (sender plan (suc turn)))
+        (sound-members list script start plan turn new numbers t sends)
+        ∙ sym (members-good plan turn good_is)
+
     -- When it enters it does.
     module _ (entered : enters plan (suc turn) k ≡ true) where
       hears-entry : HearsPlace (slot_of list script new numbers k) (sender plan (suc turn))
-          (coming_place (slot_of list script new numbers (sender plan (suc turn))))
-          (with_node (slot_of list script new numbers (sender plan (suc turn))).past.members (sender plan (suc turn)))
+          (planned_place list plan (suc turn)) (planned_members plan (suc turn))
       hears-entry =
           let found = entry-is plan (suc turn) k entered in
           let offers = (t.planned.follows.returns found.return found.among).place
@@ -167,29 +174,24 @@ module _ (list : Medl) (script : Script) (start : ClusterStart) (plan : Plan) (t
           let hearing = t.planned.follows.hearing (suc turn) t.within in
           let sound = ap is_sound (next-entered plan (suc turn) k (fate_of plan turn k) entered) in
           let other = (entry-good plan (suc turn) k t.planned.follows.good entered).1 in
-          place-alone list script numbers (messages_chosen list script (length numbers) new.sent)
+          subst (λ (told : Place × List ℕ).
+          HearsPlace (slot_of list script new numbers k) (sender plan (suc turn)) told.0 told.1)
+          (λ i. (place_is i, members_are i))
+          (place-alone list script numbers (messages_chosen list script (length numbers) new.sent)
           (sender plan (suc turn)) k t.planned.valid alone
           (ap (λ n. loses script (sender plan (suc turn)) n k) number
           ∙ hearing.heard k less (λ same. other (sym same)) good_is sound)
-          (explicit-is ∙ ap (λ slot. carries_place (kind_in list plan slot)) (sym found.entered) ∙ offers)
+          (explicit-is ∙ ap (λ slot. carries_place (kind_in list plan slot)) (sym found.entered) ∙ offers))
 
       pub joins-entry :
-          let e = sender plan (suc turn) in
           let x = slot_of list script new numbers k in
-          let y = slot_of list script new numbers e in
-          let members = with_node y.past.members e in
-          StandsBy (next_past x) (joined_on (coming_place y) members (x.hearing.deviation e))
-          (joined_standing list (coming_place y) members (x.hearing.deviation e))
+          let place = planned_place list plan (suc turn) in
+          let members = planned_members plan (suc turn) in
+          let deviation = x.hearing.deviation (sender plan (suc turn)) in
+          StandsBy (next_past x) (joined_on place members deviation) (joined_standing list place members deviation)
       joins-entry =
-          joined-place (slot_of list script new numbers k) (sender plan (suc turn)) _ _ listens.listens hears-entry
-
-      members_are : with_node (slot_of list script new numbers (sender plan (suc turn))).past.members
-          (sender plan (suc turn))
-          ≡ planned_members plan (suc turn)
-      members_are =
-          ap (λ (members : List ℕ). with_node members (sender plan (suc turn)))
-          (sound-members list script start plan turn new numbers t sends)
-          ∙ sym (members-good plan turn good_is)
+          joined-place (slot_of list script new numbers k) (sender plan (suc turn)) (planned_place list plan (suc turn))
+          (planned_members plan (suc turn)) listens.listens hears-entry
 
       sound-entered : IsSoundAt list plan (suc turn) k (next_past (slot_of list script new numbers k))
       sound-entered =
@@ -198,9 +200,8 @@ module _ (list : Medl) (script : Script) (start : ClusterStart) (plan : Plan) (t
           let other = (entry-good plan (suc turn) k t.planned.follows.good entered).1 in
           record {
             phase = stands.phase;
-            place = stands.place ∙ place_is;
-            group = group-joined list k (planned_members plan (suc turn)) past
-                (subst (AreNodes list) members_are hears-entry.nodes) (stands.members ∙ members_are) stands.ack;
+            place = stands.place;
+            group = group-joined list k (planned_members plan (suc turn)) past hears-entry.nodes stands.members stands.ack;
             counted = subst (λ (ledger : Ledger). IsCounted ledger past)
                 (sym (ledger-entered plan turn k other entered))
                 (counted-joined (suc turn) past stands.accepted stands.rejected stands.ack stands.cold_start);

@@ -1,29 +1,35 @@
 -- After one turn more each node of a world is what its fate says.
 use Rattle.std.proofs.Common.{◌≡◌, ◌≢◌, ℕ, suc, ◌<◌, Bool, true, false, ◌∷◌, length, refl, ap, sym, subst}
-use Rattle.std.proofs.Common.{inl, inr}
-use Rattle.std.proofs.lemmas.Bool.{cases_eq}
+use Rattle.std.proofs.Common.{◌∙◌, inl, inr}
+use Rattle.std.proofs.lemmas.Bool.{cases_eq, both_ways}
 use Rattle.ttp_world.specs.declared.medl.Medl.{Medl}
+use Rattle.ttp_world.specs.declared.node.Entry.{Entry}
+use Rattle.ttp_world.specs.declared.node.Phase.{Phase}
 use Rattle.ttp_world.specs.declared.script.Script.{Script}
+use Rattle.ttp_world.specs.BackSafety.{is_left_after, has_left_since_arm}
 use Rattle.ttp_world.specs.Hypothesis.{ClusterStart}
+use Rattle.ttp_world.specs.Messages.{is_left_phase}
 use Rattle.ttp_world.specs.Past.{NodePast}
+use Rattle.ttp_world.specs.Script.{is_armed}
 use Rattle.ttp_world.specs.World.{SlotNumbers, Numbers, messages_chosen, world}
 use Rattle.fault_plan.specs.Plan.{Change, Plan, sender, incident_at, is_armed_by}
-use Rattle.fault_plan.specs.Fates.{Fate, Absent, Sound, Falling, Fallen, Listening, fate_of, is_sound}
+use Rattle.fault_plan.specs.Fates.{Fate, Absent, Sound, Falling, Fallen, Listening, fate_of, is_sound, is_lost}
 use Rattle.fault_plan.proofs.FateSteps.{strikes}
 use Rattle.safety_laws.specs.NodeSlot.{next_past}
 use Rattle.safety_laws.proofs.Idle.{idle-off}
-use Rattle.safety_laws.proofs.NodeSlots.{node_past-step}
-use Rattle.safety_steps.specs.ByFate.{IsByFate}
+use Rattle.safety_laws.proofs.NodeSlots.{entry_of-made, node_past-step}
+use Rattle.safety_steps.specs.ByFate.{is_there, IsByFate}
 use Rattle.safety_steps.specs.Turn.{HoldsAfter, IsTurn}
 use Rattle.safety_steps.proofs.Arming.{listening-next, armed-next}
 use Rattle.safety_steps.proofs.Arrivals.{at-fate, sound-owner, fallen-leaves, falling-acts}
+use Rattle.safety_steps.proofs.LeftSince.{left_since-next}
 use Rattle.safety_steps.proofs.LostSteps.{struck-next, falling-next, fallen-next}
 use Rattle.safety_steps.proofs.OwnTurns.{sound-sent, lost-sent}
 use Rattle.safety_steps.proofs.PlanSteps.{struck-known, absent-stays, fallen-stays, sound-stays, falling-stays}
 use Rattle.safety_steps.proofs.PlanSteps.{falling-shown, struck-falls, struck-shown}
 use Rattle.safety_steps.proofs.SentSteps.{sent-next, ever_sent-next}
 use Rattle.safety_steps.proofs.SoundSteps.{sound-next}
-use Rattle.safety_steps.proofs.Turns.{slot_of, e-node, absent-off}
+use Rattle.safety_steps.proofs.Turns.{slot_of, e-node, absent-off, armed-planned}
 
 module _ (list : Medl) (script : Script) (start : ClusterStart) (plan : Plan) (turn : ℕ) (new : SlotNumbers)
     (numbers : Numbers) (t : IsTurn list script start plan turn new numbers) where
@@ -143,6 +149,51 @@ module _ (list : Medl) (script : Script) (start : ClusterStart) (plan : Plan) (t
     | inr other ↦ other-next k node other
   ]
 
+  -- A node that is sound or listens has not left since it was armed last.
+
+  there-unleft : (k : ℕ) (past : NodePast) (fate : Fate) → IsByFate list plan (suc turn) k past fate
+      → is_there fate ≡ true → is_left_phase past.phase ≡ false
+  there-unleft k past Sound at there = ap (λ (p : Phase). is_left_phase p) at.phase
+  there-unleft k past (Listening since) at there = ap (λ (p : Phase). is_left_phase p) at.phase
+  there-unleft k past Absent at there = cc
+  there-unleft k past (Falling change since) at there = cc
+  there-unleft k past (Fallen change since shown) at there = cc
+
+  -- it was so before, unless it is armed now
+  there-before : (k : ℕ) → k < length list.slots → is_there (fate_of plan (suc turn) k) ≡ true
+      → is_armed script k (length (world list script numbers)) ≡ false
+      → is_there (fate_of plan turn k) ≡ true
+  there-before k node there unarmed = by (fate_of plan turn k) refl
+    where
+      apart : is_there (fate_of plan (suc turn) k) ≡ false → ⊥
+      apart gone = both_ways (is_there (fate_of plan (suc turn) k)) gone there
+
+      falling-apart : (change : Change) (since : ℕ) → fate_of plan turn k ≡ Falling change since → ⊥
+      falling-apart change since is = elim (cases_eq (sender plan (suc turn)) k) [
+        | inl own ↦ apart (ap is_there (falling-shown plan turn k since change t.planned.follows.good own is))
+        | inr other ↦ apart (ap is_there (falling-stays plan turn k since change t.planned.follows.good other is))
+      ]
+
+      by : (fate : Fate) → fate_of plan turn k ≡ fate → is_there fate ≡ true
+      by Sound is = refl
+      by (Listening since) is = refl
+      by Absent is = absurd (apart (ap is_there (absent-stays plan turn k t.planned.follows.good is)))
+      by (Falling change since) is = absurd (falling-apart change since is)
+      by (Fallen change since shown) is =
+          let planned = sym (armed-planned list script start plan turn new numbers t k node (ap is_lost is)) ∙ unarmed in
+          absurd (apart (ap is_there (fallen-stays plan turn k since shown change t.planned.follows.good planned is)))
+
+  stay-next : (k : ℕ) → k < length list.slots → is_there (fate_of plan (suc turn) k) ≡ true
+      → has_left_since_arm script (world list script (new ∷ numbers)) k ≡ false
+  stay-next k node there =
+      left_since-next script (world list script numbers) _ k
+      (ap (λ (e : Entry). is_left_after e)
+      (entry_of-made list script (world list script numbers)
+      (messages_chosen list script (length numbers) new.sent) k node)
+      ∙ there-unleft k (next_past (slot_of list script new numbers k)) (fate_of plan (suc turn) k) (node-next k node)
+      there)
+      (λ unarmed. t.before.stay k node (there-before k node there unarmed))
+
   pub holds-next : HoldsAfter list script plan (suc turn) (world list script (new ∷ numbers))
   holds-next = record {
     nodes = λ k node.
@@ -151,4 +202,5 @@ module _ (list : Medl) (script : Script) (start : ClusterStart) (plan : Plan) (t
         (messages_chosen list script (length numbers) new.sent) k node)) (node-next k node);
     sent = sent-next list script start plan turn new numbers t;
     ever_sent = ever_sent-next list script start plan turn new numbers t;
+    stay = stay-next;
   }

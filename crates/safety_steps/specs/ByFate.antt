@@ -1,7 +1,7 @@
 -- What a node is after a turn of a plan, by its fate.
 --
 -- A turn is a slot, counted from the start as a plan counts.
-use Rattle.std.specs.Prelude.{◌≡◌, ℕ, suc, ◌+◌, ◌-◌, ◌*◌, ◌<◌, ◌≤◌, false, true, length, if◌then◌else◌, ◌⊎◌, IsTrue}
+use Rattle.std.specs.Prelude.{◌≡◌, Bool, ℕ, suc, ◌+◌, ◌-◌, ◌*◌, ◌<◌, ◌≤◌, false, true, length, if◌then◌else◌, ◌⊎◌, IsTrue}
 use Rattle.ttp_base.specs.NodeSet.{has_node}
 use Rattle.ttp_world.specs.declared.medl.Medl.{Medl}
 use Rattle.ttp_world.specs.declared.node.Ack.{Ack}
@@ -79,6 +79,12 @@ pub record IsListeningAt (list : Medl) (plan : Plan) (turn k since : ℕ) (past 
       → past.silent_slots + good ≤ turn
 
 -- All.
+
+-- sound, or listening again
+abbrev pub is_there : Fate → Bool
+is_there Sound = true
+is_there (Listening since) = true
+is_there _ = false
 
 -- an absent node is off; a receiver that was lost may leave before its first own slot, and each lost node has left when
 -- a round is over since that slot; one that was armed then listens until it enters

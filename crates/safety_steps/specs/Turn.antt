@@ -2,7 +2,7 @@
 use Rattle.std.specs.Prelude.{◌≡◌, ℕ, suc, ◌+◌, ◌<◌, ◌≤◌, false, true, ◌∷◌, length, IsTrue}
 use Rattle.ttp_world.specs.declared.medl.Medl.{Medl}
 use Rattle.ttp_world.specs.declared.script.Script.{Script}
-use Rattle.ttp_world.specs.BackSafety.{has_sent_in_stint}
+use Rattle.ttp_world.specs.BackSafety.{has_sent_in_stint, has_left_since_arm}
 use Rattle.ttp_world.specs.Diary.{History, diary_of}
 use Rattle.ttp_world.specs.Hypothesis.{ClusterStart}
 use Rattle.ttp_world.specs.Legal.{IsLegal}
@@ -14,7 +14,7 @@ use Rattle.fault_plan.specs.Plan.{Plan, is_armed_by, enters}
 use Rattle.fault_plan.specs.Fates.{fate_of, is_sound_after, is_lost}
 use Rattle.fault_plan.specs.Kept.{FollowsPlan}
 use Rattle.fault_plan.specs.Ledger.{ledger_of}
-use Rattle.safety_steps.specs.ByFate.{IsByFate}
+use Rattle.safety_steps.specs.ByFate.{is_there, IsByFate}
 use Rattle.safety_steps.specs.Clocks.{ClocksHold}
 
 -- each node of a world is after a turn what its fate says
@@ -28,6 +28,9 @@ pub record HoldsAfter (list : Medl) (script : Script) (plan : Plan) (turn : ℕ)
   pub ever_sent : (k : ℕ) → k < length list.slots → is_sound_after plan turn k ≡ true
       → ((slot : ℕ) → slot ≤ turn → enters plan slot k ≡ false)
       → IsTrue (has_ever_sent (diary_of history k)) → (ledger_of plan turn k).own ≡ true
+  -- a node that is sound, or listens again, has not left since it was armed last, or at all
+  pub stay : (k : ℕ) → k < length list.slots → is_there (fate_of plan turn k) ≡ true
+      → has_left_since_arm script history k ≡ false
 
 -- a script follows a plan from a start on, and arms a lost node where the plan does
 pub record IsPlanned (list : Medl) (script : Script) (start : ClusterStart) (plan : Plan) : Type 0 where
