@@ -1,0 +1,11 @@
+pub mod BackRules
+pub mod Walk
+pub mod Lists
+pub mod EventLines
+pub mod Runs
+pub mod Arms
+pub mod BackIncidents
+pub mod ArmLines
+pub mod Entries
+pub mod BackLosses
+pub mod Standing
