@@ -9,3 +9,4 @@ pub mod ArmLines
 pub mod Entries
 pub mod BackLosses
 pub mod Standing
+pub mod Sounds
