@@ -8,4 +8,3 @@ pub mod Told
 pub mod WorkedPlan
 pub mod SlotKind
 pub mod Places
-pub mod Returned
