@@ -32,6 +32,7 @@ use Rattle.fault_plan.specs.Fates.{is_measured, tally}
 use Rattle.fault_plan.specs.Places.{planned_place}
 use Rattle.fault_plan.proofs.Counts.{four-measured}
 use Rattle.fault_plan.proofs.Members.{first-sender}
+use Rattle.fault_plan.proofs.Returns.{none-enters}
 use Rattle.safety_clocks.specs.NotedByPlan.{IsSoundIn, StartedByPlan, NotedInSlot, NotedByPlan}
 use Rattle.safety_clocks.proofs.NearNotes.{clock_moved, clock-next, notes-next, index-of}
 use Rattle.safety_clocks.proofs.RoundNotes.{Counted, sound-goes, sender-in, place-slot}
@@ -314,8 +315,7 @@ module _ (list : Medl) (script : Script) (start : ClusterStart) (z : ℕ) (plan 
     index = place-slot list script start plan (suc turn) f.follows
 
     counted : Counted list plan (suc turn) (row ∷ history)
-    counted = counted-run list script start plan (suc turn) (row ∷ history) f.follows
-        (stay list script start z plan f) (before, noted)
+    counted = counted-run list script start plan (suc turn) (row ∷ history) f.follows (before, noted)
 
     place : (k : ℕ) → Group list plan k
         → stint_place list k (diary_of (row ∷ history) k) ≡ planned_place list plan (suc turn)
@@ -324,6 +324,7 @@ module _ (list : Medl) (script : Script) (start : ClusterStart) (z : ℕ) (plan 
     goes : (k : ℕ) → Group list plan k → continues_stint (entry_of row k) ≡ true
     goes k a =
         sound-goes list script plan (suc turn) k row history noted (to_sound list script start z plan f (suc turn) k a)
+        (none-enters plan (suc turn) k (stay list script start z plan f))
 
     uncorrected : Round list (Group list plan) z start.slot (suc (length history)) (suc q)
         (clock_moved list script history) (round_notes list (row ∷ history))
@@ -352,7 +353,8 @@ module _ (list : Medl) (script : Script) (start : ClusterStart) (z : ℕ) (plan 
         four-measured plan (suc turn) from f.follows.good (omega (arith, within, slots)) round in
         let count : length (round_notes list (row ∷ history) k) ≡ tally (is_measured plan) from (suc q) =
         counted.notes k from (to_sound list script start z plan f (suc turn) k a)
-        (omega (arith, round, late, number, nodes)) (omega (arith, round, whole)) in
+        (omega (arith, round, late, number, nodes)) (omega (arith, round, whole))
+        (λ turn after to. none-enters plan turn k (stay list script start z plan f)) in
         subst (λ n. 4 ≤ n) (ap (tally (is_measured plan) from) whole ∙ sym count) many
 
     clock_is : (k : ℕ) → Group list plan k

@@ -26,6 +26,7 @@ use Rattle.fault_plan.specs.Plan.{Plan, sender}
 use Rattle.fault_plan.specs.Fates.{is_good_slot}
 use Rattle.fault_plan.specs.Kept.{FollowsPlan}
 use Rattle.fault_plan.specs.Places.{planned_place}
+use Rattle.fault_plan.proofs.Returns.{none-enters}
 use Rattle.safety_clocks.specs.NotedByPlan.{IsSoundIn, NotedInSlot}
 use Rattle.safety_clocks.proofs.NearNotes.{clock_moved}
 use Rattle.safety_clocks.proofs.RoundNotes.{none-silent, sender-in}
@@ -238,7 +239,8 @@ module _ (list : Medl) (script : Script) (start : ClusterStart) (z : ℕ) (plan 
       turn = λ senders turns. turn_in sync senders (sender_turn good) turns;
       noted = λ k p. told_located list script history z q k (planned_place list plan (suc turn)) (width list (suc q))
           (clock_moved list script history k) r.began (entry_of row k)
-          (noted.good k good (to_sound list script start z plan f (suc turn) k p)) (own k p)
+          (noted.good k good (to_sound list script start z plan f (suc turn) k p)
+          (none-enters plan (suc turn) k (stay list script start z plan f))) (own k p)
           (heard k p (sender_turn good));
     }
     by_good false wrong = record {

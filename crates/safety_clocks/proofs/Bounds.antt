@@ -1,12 +1,12 @@
 -- The sound nodes' clocks at the beginning of a slot, and what they measure of each other in it.
-use Rattle.std.proofs.Common.{◌≡◌, ℕ, zero, suc, ◌+◌, ◌<◌, ℤ, pos, neg_ℤ, ◌-ℤ◌, ◌≤ℤ◌, Bool, true, false, ◌&&◌, [], length}
-use Rattle.std.proofs.Common.{inl, inr, refl, ap, sym, subst, ◌∙◌, arith}
+use Rattle.std.proofs.Common.{◌≡◌, ℕ, zero, suc, ◌+◌, ◌<◌, ℤ, neg_ℤ, ◌-ℤ◌, ◌≤ℤ◌, Bool, true, false, ◌&&◌, length}
+use Rattle.std.proofs.Common.{inl, inr, refl, ap, sym, ◌∙◌, arith}
 use Rattle.std.specs.Prelude.{int_le}
 use Rattle.std.proofs.lemmas.Bool.{and_parts, and_from, both_ways, false_from_ne_true, false≢true}
 use Rattle.std.proofs.lemmas.Int.{ints}
 use Rattle.ttp_world.specs.declared.medl.Medl.{Medl}
 use Rattle.ttp_world.specs.declared.script.Script.{Script}
-use Rattle.ttp_world.specs.Diary.{History, diary_of, next_place, stint_place, Place}
+use Rattle.ttp_world.specs.Diary.{History, next_place, Place}
 use Rattle.ttp_world.specs.Hypothesis.{ClusterStart, needed}
 use Rattle.ttp_world.specs.Reception.{is_within_window}
 use Rattle.ttp_world.specs.Returning.{needed_back}
@@ -44,8 +44,7 @@ company-run {list = list} {script = script} {start = start} {plan = plan} {slot 
     omega (arith, number-of list script start plan slot history is.noted) in
     let less : length history < script.slots = omega (arith, is.within, number) in
     let run = ran-company list script start plan may_grow slot history is.follows.planned is.noted (omega (arith, less))
-    stay in
-    (
+    stay in (
       run.0,
       (
         run.1.0,

@@ -1,5 +1,5 @@
 -- The sound nodes of a plan run as a company from the start on, and grow by each return.
-use Rattle.std.proofs.Common.{◌≡◌, ◌≢◌, ℕ, zero, suc, ◌+◌, ◌-◌, ◌*◌, ◌<◌, ◌≤◌, Bool, true, false, List, [], ◌∷◌, length}
+use Rattle.std.proofs.Common.{◌≡◌, ℕ, zero, suc, ◌+◌, ◌-◌, ◌*◌, ◌<◌, ◌≤◌, Bool, true, false, List, [], ◌∷◌, length}
 use Rattle.std.proofs.Common.{◌⊎◌, inl, inr, pos, refl, ap, sym, subst, ◌∙◌, arith}
 use Rattle.std.specs.Prelude.{◌==◌, IsTrue}
 use Rattle.std.specs.List.{list_any}
@@ -9,10 +9,10 @@ use Rattle.ttp_world.specs.declared.medl.Medl.{Medl}
 use Rattle.ttp_world.specs.declared.node.Entry.{Entry}
 use Rattle.ttp_world.specs.declared.script.Script.{Script}
 use Rattle.ttp_world.specs.Clock.{notes_of, stint_notes}
-use Rattle.ttp_world.specs.Diary.{History, entry_of, diary_of, next_place, stint_place, place_of, ends_round}
+use Rattle.ttp_world.specs.Diary.{History, entry_of, diary_of, next_place, place_of, ends_round}
 use Rattle.ttp_world.specs.Hypothesis.{ClusterStart}
 use Rattle.ttp_world.specs.Script.{jump_of}
-use Rattle.precision.specs.Together.{BeginsOn, NotedAlike, Nothing, OneFrame, StayedTogether, EndsLaterRound}
+use Rattle.precision.specs.Together.{BeginsOn, NotedAlike, Nothing, OneFrame, EndsLaterRound}
 use Rattle.precision.specs.Company.{AreCalm, IsCalmIn, IsNotedOf, StayedInCompany, GrewTogether, RanAsCompany}
 use Rattle.precision.proofs.Entries.{continued_active, place_of-active, notes_of-active}
 use Rattle.fault_plan.specs.Plan.{Return, Plan, sender, is_armed_by, enters}
@@ -48,8 +48,11 @@ entry-or-none plan slot within = by (list_any is_there plan.returns) refl
         let found = any-of is_there plan.returns is in
         let r = found.0 in
         let at : r.entered ≡ slot = eqb-true r.entered slot found.1.1 in
-        inr (r.node, subst (λ t. enters plan t r.node ≡ true) at
-        (enters-by plan r found.1.0 (omega (arith, at, within))))
+        inr (
+          r.node,
+          subst (λ t. enters plan t r.node ≡ true) at
+              (enters-by plan r found.1.0 (omega (arith, at, within))),
+        )
     by false none = inl (λ k. false_from_ne_true (enters plan slot k) (λ is.
         let entry = entry-is plan slot k is in
         let r = entry.return in
@@ -122,8 +125,7 @@ sender-calm : (list : Medl) (script : Script) (start : ClusterStart) (plan : Pla
     → IsCalmIn list script (is_sound_after plan slot) history (sender plan (suc slot))
 sender-calm list script start plan slot history follows number within good =
     let e = sender plan (suc slot) in
-    let inside = sender-in list script start plan (suc slot) follows in
-    (
+    let inside = sender-in list script start plan (suc slot) follows in (
       (
         inside,
         sound-from plan (suc slot) e (fate_of plan slot e) (sender-stays plan (suc slot) follows.good) good,
@@ -256,8 +258,7 @@ pub ran-company : (list : Medl) (script : Script) (start : ClusterStart) (plan :
     × RanAsCompany list script may_grow (is_sound_after plan slot) (start.slot + newest) history)
 ran-company list script start plan may_grow slot [] follows noted within stay = absurd noted
 ran-company list script start plan may_grow zero (row ∷ history) follows noted within stay =
-    let number : length history ≡ start.slot + 0 = omega (arith, noted.number) in
-    (
+    let number : length history ≡ start.slot + 0 = omega (arith, noted.number) in (
       0,
       (
         record {
@@ -280,8 +281,7 @@ ran-company list script start plan may_grow (suc slot) (row ∷ history) follows
     let calm = sound-calm list script start plan (suc slot) history follows number less in
     elim (entry-or-none plan (suc slot) (omega (arith, less, number, follows.slots))) [
       | inl none ↦
-          let is = newest-same plan slot run.0 run.1.0 none in
-          (
+          let is = newest-same plan slot run.0 run.1.0 none in (
             run.0,
             (
               is,

@@ -82,8 +82,7 @@ company-in list script may_grow less group newest (row ∷ history) all (calm, i
   )),
 )
 company-in list script may_grow less group newest (row ∷ history) all (calm, inr (inr grew)) =
-    let run = grew.1.1 in
-    (
+    let run = grew.1.1 in (
       λ k p. calm k (member-in list less group k all p),
       inr (inr (
         grew.0,

@@ -1,26 +1,21 @@
 -- The sound nodes of a plan begin together at the start, and in each slot since they are at its place.
-use Rattle.std.proofs.Common.{◌≡◌, ◌≢◌, ℕ, zero, suc, ◌+◌, ◌-◌, ◌<◌, ◌≤◌, ℤ, Bool, true, false, List, [], ◌∷◌, length}
+use Rattle.std.proofs.Common.{◌≡◌, ◌≢◌, ℕ, zero, suc, ◌+◌, ℤ, List, [], ◌∷◌, length}
 use Rattle.std.proofs.Common.{inl, inr, refl, ap, sym, subst, ◌∙◌, arith}
-use Rattle.std.proofs.lemmas.Bool.{cases_eq, eqb-true}
+use Rattle.std.proofs.lemmas.Bool.{cases_eq}
 use Rattle.ttp_world.specs.declared.medl.Medl.{Medl}
 use Rattle.ttp_world.specs.declared.node.Entry.{Entry}
 use Rattle.ttp_world.specs.declared.node.Entry.TheVariants as entry
 use Rattle.ttp_world.specs.declared.script.Script.{Script}
-use Rattle.ttp_world.specs.Clock.{notes_of, stint_notes}
 use Rattle.ttp_world.specs.Conduct.{cold_start_cstate}
-use Rattle.ttp_world.specs.Diary.{History, entry_of, diary_of, start_place, stint_place, place_of, ends_round}
+use Rattle.ttp_world.specs.Diary.{History, entry_of, diary_of, start_place, stint_place}
 use Rattle.ttp_world.specs.Hypothesis.{ClusterStart}
-use Rattle.precision.specs.Together.{BeginsOn, BeganTogether, NotedAlike, Nothing, OneFrame, StayedTogether}
-use Rattle.precision.specs.Together.{RanTogether, EndsLaterRound, measured}
-use Rattle.precision.proofs.Entries.{continued_active, place_of-active, notes_of-active}
-use Rattle.fault_plan.specs.Plan.{Plan, sender}
-use Rattle.fault_plan.specs.Fates.{is_sound_after, is_good_slot, is_measured, tally}
+use Rattle.precision.specs.Together.{BeginsOn, BeganTogether}
+use Rattle.precision.specs.Together.{measured}
+use Rattle.fault_plan.specs.Plan.{Plan}
+use Rattle.fault_plan.specs.Fates.{is_sound_after}
 use Rattle.fault_plan.specs.Kept.{FollowsPlan}
-use Rattle.fault_plan.specs.Places.{planned_place}
-use Rattle.fault_plan.proofs.Counts.{four-measured}
-use Rattle.fault_plan.proofs.Persists.{sound-earlier}
-use Rattle.safety_clocks.specs.NotedByPlan.{IsSoundIn, StartedByPlan, NotedInSlot, NotedByPlan}
-use Rattle.safety_clocks.proofs.RoundNotes.{none-silent, place-slot, sound-goes, Counted, counted-start, counted-next}
+use Rattle.safety_clocks.specs.NotedByPlan.{StartedByPlan, NotedByPlan}
+use Rattle.safety_clocks.proofs.RoundNotes.{Counted, counted-start, counted-next}
 
 -- The start.
 

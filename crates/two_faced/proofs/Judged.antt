@@ -104,7 +104,7 @@ module _ (list : Medl) (script : Script) (z slot : ℕ) (valid : IsValid list) (
       → length numbers ≤ script.slots
       → IsByPlan list script start plan turn (world list script numbers)
   run-at numbers turn legal number within =
-      run-by_plan list script start plan (begun list script z slot valid rules script_valid) keeps refl turn numbers number
+      run-by_plan list script start plan (begun list script z slot valid rules script_valid) keeps turn numbers number
       (omega (arith, number, within)) legal
 
   -- Each frame is judged correct.
@@ -144,11 +144,11 @@ module _ (list : Medl) (script : Script) (z slot : ℕ) (valid : IsValid list) (
       by true good = elim (cases_eq p (sender plan (suc turn))) [
         | inl own ↦
             subst (λ j. TellsOf list script history j r (entry_of row r)) (sym own)
-            (noted.good r good (hears, receiver_sound))
+            (noted.good r good (hears, receiver_sound) refl)
         | inr apart ↦
             absurd (both_ways (is_sending (entry_of row p))
             (hearing-entry list script history (sender plan (suc turn)) p (entry_of row p) apart
-            (noted.good p good (sends, sender_sound))) sent)
+            (noted.good p good (sends, sender_sound) refl)) sent)
       ]
       by false wrong =
           absurd (both_ways (is_sending (entry_of row p))
