@@ -10,3 +10,4 @@ pub mod Entries
 pub mod BackLosses
 pub mod Standing
 pub mod ReturnedPlan
+pub mod Sounds

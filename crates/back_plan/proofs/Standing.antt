@@ -104,21 +104,32 @@ arm-late list script start k arm run is =
     (faulty_since (slots_before list script start arm)) (late-after list script start arm run (omega (arith, is.within))))
     is.long
 
+-- a node that listens again by the plan has its arm line
+pub armed-by-line : (list : Medl) (script : Script) (start : ClusterStart) (turn k : ℕ) → IsBackRun list script start
+    → is_armed_by (back_plan_of list script start) turn k ≡ true
+    → (arm : ℕ) × (IsArmedIn list script start k arm × (arm ≡ start.slot + turn))
+armed-by-line list script start turn k run is =
+    let plan = back_plan_of list script start in
+    let found = any-of (is_armed_there turn k) plan.returns is in
+    let r = found.0 in
+    let parts = and_parts (r.armed == turn) (r.node == k) found.1.1 in
+    let of = return-of list script start r found.1.0 in
+    let node : r.node ≡ k = eqb-true r.node k parts.1 in
+    let line : is_armed script k of.arm ≡ true = subst (λ j. is_armed script j of.arm ≡ true) node of.armed in
+    let fits = armed-valid list script k of.arm run.script_valid line in
+    let known = armed-in list script start k of.arm run fits.0 fits.1 line in
+    let late = arm-late list script start k of.arm run known in
+    let armed : r.armed ≡ of.arm - start.slot = ap (λ (q : Return). q.armed) of.is in
+    (of.arm, (known, omega (arith, armed, eqb-true r.armed turn parts.0, late)))
+
 -- no node is armed at the start
 none-armed-first : (list : Medl) (script : Script) (start : ClusterStart) (k : ℕ) → IsBackRun list script start
     → is_armed_by (back_plan_of list script start) 0 k ≡ false
 none-armed-first list script start k run =
-    let plan = back_plan_of list script start in
-    false_from_ne_true (is_armed_by plan 0 k) (λ is.
-    let found = any-of (is_armed_there 0 k) plan.returns is in
-    let r = found.0 in
-    let parts = and_parts (r.armed == 0) (r.node == k) found.1.1 in
-    let of = return-of list script start r found.1.0 in
-    let fits = armed-valid list script r.node of.arm run.script_valid of.armed in
-    let late =
-    arm-late list script start r.node of.arm run (armed-in list script start r.node of.arm run fits.0 fits.1 of.armed) in
-    let armed : r.armed ≡ of.arm - start.slot = ap (λ (q : Return). q.armed) of.is in
-    omega (arith, armed, eqb-true r.armed 0 parts.0, late, run.valid.count))
+    false_from_ne_true (is_armed_by (back_plan_of list script start) 0 k) (λ is.
+    let line = armed-by-line list script start 0 k run is in
+    let late = arm-late list script start k line.0 run line.1.0 in
+    omega (arith, line.1.1, late, run.valid.count))
 
 -- A node enters by its arm line.
 

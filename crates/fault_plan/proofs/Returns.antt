@@ -289,6 +289,9 @@ entry-from plan slot k good is =
       | inl same ↦
           inl ((λ i. is_armed_by plan (sym (same ∙ at) i) (sym found.node i)) ∙ armed-by plan r found.among)
       | inr before ↦
-          inr (r.armed, ap (fate_of plan slot) (sym found.node)
-          ∙ listens-until plan r slot good found.among (omega (arith, before, at)) (omega (arith, at)))
+          inr (
+            r.armed,
+            ap (fate_of plan slot) (sym found.node)
+                ∙ listens-until plan r slot good found.among (omega (arith, before, at)) (omega (arith, at)),
+          )
     ]
