@@ -11,3 +11,4 @@ pub mod BackLosses
 pub mod Standing
 pub mod ReturnedPlan
 pub mod Sounds
+pub mod Offers

@@ -187,12 +187,12 @@ module _ (list : Medl) (script : Script) (start : ClusterStart) (run : IsBackRun
   plan = back_plan_of list script start
 
   -- an armed node stays faulty for four rounds
-  armed-has : (slot k arm : ℕ) → IsArmedIn list script start k arm → arm ≤ slot → slot < arm + four_rounds list
+  pub armed-has : (slot k arm : ℕ) → IsArmedIn list script start k arm → arm ≤ slot → slot < arm + four_rounds list
       → has_node (at list script start slot) k ≡ true
   armed-has slot k arm is from to =
       arm-stays list script start k arm (slot - arm) slot run is (omega arith) (omega arith)
 
-  armed-after : (slot k arm : ℕ) → IsArmedIn list script start k arm → arm ≤ slot → slot < arm + four_rounds list
+  pub armed-after : (slot k arm : ℕ) → IsArmedIn list script start k arm → arm ≤ slot → slot < arm + four_rounds list
       → has_node (after list script start slot) k ≡ true
   armed-after slot k arm is from to =
       after-has list script start slot k
