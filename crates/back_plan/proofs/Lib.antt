@@ -10,3 +10,5 @@ pub mod Entries
 pub mod BackLosses
 pub mod Standing
 pub mod Sounds
+pub mod BackHearing
+pub mod BackSlots
