@@ -9,6 +9,7 @@ pub mod ArmLines
 pub mod Entries
 pub mod BackLosses
 pub mod Standing
+pub mod ReturnedPlan
 pub mod Sounds
 pub mod BackHearing
 pub mod BackSlots

@@ -186,6 +186,7 @@ pub record IsLostSince (list : Medl) (script : Script) (start : ClusterStart) (s
   pub has : has_node (after list script start slot) k ≡ true
   pub to : since ≤ slot
   pub before : has_node (at list script start since) k ≡ false
+  pub stays : (later : ℕ) → since < later → later ≤ slot → has_node (at list script start later) k ≡ true
   pub fate_is : lost_since fate ≡ Some (since - start.slot)
   pub unarmed : (arm : ℕ) → since ≤ arm → arm ≤ slot → is_armed script k arm ≡ false
 
@@ -254,6 +255,7 @@ out-next list script start turn slot k fate next out sound none =
               hit;
           to = omega arith;
           before = out;
+          stays = λ later from to. absurd (omega (arith, from, to));
           fate_is = since-now plan (suc turn) k fate quiet none (strikes-is ∙ hit) ∙ ap Some turns;
           unarmed = λ arm from to.
               let same : suc slot ≡ arm = omega arith in
@@ -413,6 +415,10 @@ lost-next list script start turn slot k since fate next lost =
               stays;
           to = omega (arith, lost.to);
           before = lost.before;
+          stays = λ later from to. elim (cases_eq later (suc slot)) [
+            | inl same ↦ subst (λ t. has_node (at list script start t) k ≡ true) (sym same) stays
+            | inr other ↦ lost.stays later from (omega (arith, to, other))
+          ];
           fate_is = since-kept plan (suc turn) k fate (plan-unarmed list script start turn slot k next unarmed)
               (lost-out list script start turn slot k since fate next lost unarmed)
               (strikes-slot list script start (suc turn) (suc slot) k next.run next.now next.within ∙ missed)
