@@ -14,13 +14,13 @@ use Rattle.back_plan.specs.BackPlan.{entry_slot}
 use Rattle.back_plan.proofs.Arms.{IsArmedIn}
 
 -- the first of a range that passes
-record IsFirst (p : ℕ → Bool) (a n t : ℕ) : Type 0 where
+pub record IsFirst (p : ℕ → Bool) (a n t : ℕ) : Type 0 where
   pub from : a ≤ t
   pub to : t < a + n
   pub passes : p t ≡ true
   pub none : (u : ℕ) → a ≤ u → u < t → p u ≡ false
 
-first-found : (p : ℕ → Bool) (a n t : ℕ) → find p (range_with_len a n) ≡ Some t → IsFirst p a n t
+pub first-found : (p : ℕ → Bool) (a n t : ℕ) → find p (range_with_len a n) ≡ Some t → IsFirst p a n t
 first-found p a zero t is = absurd (none-some t is)
 first-found p a (suc n) t is = by (p a) refl is (first-found p (a + 1) n t)
   where

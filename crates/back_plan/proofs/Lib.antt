@@ -12,3 +12,5 @@ pub mod Standing
 pub mod ReturnedPlan
 pub mod Sounds
 pub mod Offers
+pub mod BackHearing
+pub mod BackSlots

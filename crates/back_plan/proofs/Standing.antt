@@ -209,7 +209,7 @@ pub data Standing (list : Medl) (script : Script) (start : ClusterStart) (slot k
 -- One slot.
 
 -- the slot after another one, in the plan and in the run
-record IsNext (list : Medl) (script : Script) (start : ClusterStart) (turn slot : ℕ) : Type 0 where
+pub record IsNext (list : Medl) (script : Script) (start : ClusterStart) (turn slot : ℕ) : Type 0 where
   pub run : IsBackRun list script start
   pub now : suc slot ≡ start.slot + suc turn
   pub within : suc slot < script.slots
@@ -297,7 +297,7 @@ clear-next list script start turn slot k fate next none sound =
     ]))
 
 -- a lost node is not forgiven
-lost-stays : (list : Medl) (script : Script) (start : ClusterStart) (turn slot k since : ℕ) (fate : Fate)
+pub lost-stays : (list : Medl) (script : Script) (start : ClusterStart) (turn slot k since : ℕ) (fate : Fate)
     → IsNext list script start turn slot → IsLostSince list script start slot k since fate
     → is_forgiven list script (slots_before list script start (suc slot)) (suc slot) k ≡ false
 lost-stays list script start turn slot k since fate next lost =
