@@ -206,17 +206,19 @@ module _ (list : Medl) (script : Script) (start : ClusterStart) (run : IsBackRun
             absurd (elim (cases_lt of.arm also.arm) [
               | inl before ↦
                   let same =
-                  arm-only list script start r.node of.arm _ also.arm line also.is.armed (omega arith)
+                  arm-only list script start r.node of.arm (expected_sender list start (start.slot + turn)) also.arm line also.is.armed (omega arith)
                   (omega (arith, first, soon, count)) in
                   let one = same.1 in
                   omega (arith, one, before)
-              | inr after ↦
+              | inr later ↦
                   let same =
-                  arm-only list script start _ also.arm r.node of.arm also.is line.armed after (omega (arith, near, last))
-                  in
+                  arm-only list script start (expected_sender list start (start.slot + turn)) also.arm r.node of.arm
+                  also.is line.armed later (omega (arith, near, last)) in
                   let there : entry_slot list script start r.node of.arm ≤ start.slot + turn =
                   subst (λ j. entry_slot list script start j of.arm ≤ start.slot + turn) same.0
-                  (subst (λ a. entry_slot list script start _ a ≤ start.slot + turn) same.1 entered) in
+                  (subst
+                  (λ a. entry_slot list script start (expected_sender list start (start.slot + turn)) a
+                  ≤ start.slot + turn) same.1 entered) in
                   omega (arith, there, entry_at, to)
             ])
 
