@@ -14,3 +14,4 @@ pub mod Sounds
 pub mod Offers
 pub mod BackHearing
 pub mod BackSlots
+pub mod GoodReturns
