@@ -14,4 +14,3 @@ pub mod Sounds
 pub mod Offers
 pub mod BackHearing
 pub mod BackSlots
-pub mod GoodReturns
