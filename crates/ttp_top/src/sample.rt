@@ -82,7 +82,8 @@ fn put_asked<K: Sink>(slots: u32, number: u64, out: &mut K) -> Result<(), Failed
 fn put_sent<K: Sink>(list: &Medl, totals: &Totals, out: &mut K) -> Result<(), Failed>
     requires { HasFewMembers list.now totals.now }
     ensures ok { OnOk result (WroteLines (K.output out.old) (K.output out.new) (sent_line list.now totals.now ∷ [])) }
-    ensures failed { OnErr result (CutShort (K.output out.old) (K.output out.new) (sent_line list.now totals.now ∷ [])) }
+    ensures failed { OnErr result
+        (CutShort (K.output out.old) (K.output out.new) (sent_line list.now totals.now ∷ [])) }
 {
     out.write(sent_line(list, totals).bytes())
 }

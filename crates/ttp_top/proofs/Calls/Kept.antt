@@ -65,7 +65,8 @@ and_false false = refl
 pub none_kept : (form : Option Form) (answer : Answer) → answer.kept ≡ None → answer.status ≢ 0
     → is_some answer.kept ≡ (runs_cluster form && (answer.status == 0))
 none_kept form answer none not_0 =
-    ap is_some none ∙ sym (ap (λ b. runs_cluster form && b) (ne_eqb answer.status 0 not_0) ∙ and_false (runs_cluster form))
+    ap is_some none
+    ∙ sym (ap (λ b. runs_cluster form && b) (ne_eqb answer.status 0 not_0) ∙ and_false (runs_cluster form))
 
 -- but for `run`, an ending lets nothing stand where memory is refused
 abbrev pub LetsNothing : Option Form → Ending → Type 0

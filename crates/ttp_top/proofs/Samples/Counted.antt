@@ -1,6 +1,6 @@
 -- What a slot adds to what a run has counted.
-use Rattle.std.proofs.Common.{◌≡◌, ℕ, suc, ◌+◌, ◌*◌, ◌<◌, ◌≤◌, ◌^◌, List, [], ◌∷◌, length, cond, true, false, refl, ap, sym}
-use Rattle.std.proofs.Common.{Bool, ◌∙◌, subst, arith}
+use Rattle.std.proofs.Common.{◌≡◌, ℕ, suc, ◌+◌, ◌*◌, ◌<◌, ◌≤◌, ◌^◌, List, [], ◌∷◌, length, cond}
+use Rattle.std.proofs.Common.{Bool, true, false, refl, ap, sym, ◌∙◌, subst, arith}
 use Rattle.std.specs.Prelude.{map, count_by}
 use Rattle.std.specs.List.{AllByRecursion}
 use Rattle.std.proofs.lemmas.List.{length-map}
@@ -120,7 +120,8 @@ none_counted c stands = record {
 
 -- The numbers of a report are legal, and there is one for each read of its slot.
 
-reads-told : (list : Medl) (script : Script) (new : SlotNumbers) (numbers : Numbers) → IsLegal list script (new ∷ numbers)
+reads-told : (list : Medl) (script : Script) (new : SlotNumbers) (numbers : Numbers)
+    → IsLegal list script (new ∷ numbers)
     → length new.read ≡ length (reads_in script (length (world list script numbers)))
 reads-told list script new numbers legal =
     (legal-shapes list script (new ∷ numbers) legal).0.reads
