@@ -3,6 +3,7 @@
 use super::texts::{LOADED_HEAD, WIDE_HEAD, list_of};
 use super::{HEAD, USAGE, answer, joined};
 use crate::bench;
+use cluster_run::Cluster;
 use std::sync::Wait;
 use std::test::Fail;
 use std::thread::Threads;
@@ -130,37 +131,32 @@ fn files_and_sinks_that_fail(rt: HostRuntime) -> Result<(), Fail> {
     Ok(())
 }
 
-// The cluster that ran is kept, until a call that runs none.
+// Answers `sample` with this number of slots, and tells how many slots the cluster has done that is kept then.
+fn done_after<R: Threads + Wait + Sync + AllocGlobal>(
+    rt: &R,
+    slots: &str,
+    kept: &mut Option<Cluster>,
+) -> Result<Option<u32>, Fail> {
+    let mut library = MemoryLibrary::new(rt.alloc(), List::new(rt.alloc()));
+    library.add("list", list_of(rt, HEAD, "FSSS")?.as_bytes())?;
+    let mut words = Vec::new(rt.alloc());
+    for word in ["sample", "list", slots, "7"] {
+        words.push(joined(rt, &[word])?)?;
+    }
+    let mut out = MemorySink::new(rt.alloc(), 1_000, List::new(rt.alloc()))?;
+    let gate = OpenGate::new();
+    let _status = bench(rt, rt.alloc(), &words, &mut library, &mut out, &gate, kept);
+    match kept {
+        Some(cluster) => Ok(Some(cluster.done())),
+        None => Ok(None),
+    }
+}
+
+// The cluster that ran is kept, until the next call.
 #[test]
 fn the_cluster_is_kept(rt: HostRuntime) -> Result<(), Fail> {
-    let list = list_of(&rt, HEAD, "FSSS")?;
-    let mut library = MemoryLibrary::new(rt.alloc(), List::new(rt.alloc()));
-    library.add("cluster.toml", list.as_bytes())?;
-    let mut out = MemorySink::new(rt.alloc(), 4_096, List::new(rt.alloc()))?;
-    let gate = OpenGate::new();
     let mut kept = None;
-    for (slots, done) in [("12", Some(12)), ("0", None), ("20", Some(20))] {
-        let mut words = Vec::new(rt.alloc());
-        for word in ["sample", "cluster.toml", slots, "7"] {
-            words.push(String::from_str(rt.alloc(), word)?)?;
-        }
-        let _status = bench(
-            &rt,
-            rt.alloc(),
-            &words,
-            &mut library,
-            &mut out,
-            &gate,
-            &mut kept,
-        );
-        let found = match &kept {
-            Some(cluster) => {
-                assert_eq!(rt; cluster.slots(), cluster.done());
-                Some(cluster.done())
-            }
-            None => None,
-        };
-        assert_eq!(rt; found, done);
-    }
+    assert_eq!(rt; done_after(&rt, "12", &mut kept)?, Some(12));
+    assert_eq!(rt; done_after(&rt, "0", &mut kept)?, None);
     Ok(())
 }
