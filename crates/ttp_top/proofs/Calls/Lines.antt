@@ -5,9 +5,8 @@ use Rattle.std.specs.Prelude.{codes}
 use Rattle.ttp_base.specs.Text.{Lines, is_line}
 use Rattle.ttp_world.specs.declared.medl.Medl.{Medl}
 use Rattle.ttp_world.specs.declared.script.Script.{Script}
-use Rattle.ttp_world.specs.Hypothesis.{keeps as keeps_of}
-use Rattle.ttp_world.specs.Trace.{keep_line}
-use Rattle.ttp_world.proofs.TraceLines.{keep_line-IsLine, trace_lines-each}
+use Rattle.ttp_world.specs.Trace.{test_lines}
+use Rattle.ttp_world.proofs.TraceLines.{test_lines-each, trace_lines-each}
 use Rattle.medl_text.specs.Schedule.{slot_table}
 use Rattle.medl_text.proofs.Lines.{slot_table-each}
 use Rattle.ttp_top.specs.declared.read.FileFault.{FileFault}
@@ -68,7 +67,8 @@ plans_have (Some (run list script)) =
     })
 plans_have (Some (keeps list script)) =
     both_end HasLines no_list no_script list script keep_ending
-    (λ medl right. line_has 0 (keep_line (keeps_of medl right)) (keep_line-IsLine (keeps_of medl right)))
+    (λ medl right.
+    record { texts = one_text (test_lines medl right) (test_lines-each medl right); unfinished = one_text [] tt })
 plans_have (Some (precision list script node)) =
     both_end HasLines no_list no_script list script (precision_ending node)
     (λ medl right. record { texts = precisions-each medl right node; unfinished = one_text [] tt })

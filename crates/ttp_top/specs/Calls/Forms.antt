@@ -2,8 +2,7 @@
 use Rattle.std.specs.Prelude.{ℕ, List, Option, Some, None, codes, ◌++◌}
 use Rattle.ttp_world.specs.declared.medl.Medl.{Medl}
 use Rattle.ttp_world.specs.declared.script.Script.{Script}
-use Rattle.ttp_world.specs.Hypothesis.{keeps as keeps_of}
-use Rattle.ttp_world.specs.Trace.{keep_line}
+use Rattle.ttp_world.specs.Trace.{test_lines}
 use Rattle.medl_text.specs.Schedule.{slot_table}
 use Rattle.ttp_top.specs.Calls.Files.{list_plan, both_plan}
 use Rattle.ttp_top.specs.Calls.Plan.{Ending, Plan, whole_ending, line_ending, ends}
@@ -27,9 +26,9 @@ abbrev pub trace_ending : Medl → Script → Ending
 trace_ending list script =
     record { status = 0; texts = traces list script; unfinished = fronts list script }
 
--- the line of the hypothesis test alone
+-- the last lines of a trace alone, which are those of the tests
 abbrev pub keep_ending : Medl → Script → Ending
-keep_ending list script = line_ending 0 (keep_line (keeps_of list script))
+keep_ending list script = whole_ending 0 (one (test_lines list script))
 
 -- the line of the test for one two-faced sender
 abbrev pub precision_ending : ℕ → Medl → Script → Ending
