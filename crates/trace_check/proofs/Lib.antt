@@ -26,3 +26,4 @@ pub mod SlotChosen
 pub mod NodesDepart
 pub mod ReadsDepart
 pub mod SlotFollowed
+pub mod LastLines

@@ -19,14 +19,13 @@ use Rattle.ttp_world.specs.declared.node.Entry.{Entry}
 use Rattle.ttp_world.specs.declared.node.Entry.TheVariants as entry
 use Rattle.ttp_world.specs.declared.script.Script.{Script}
 use Rattle.ttp_world.specs.Diary.{History, entry_of}
-use Rattle.ttp_world.specs.Hypothesis.{keeps}
 use Rattle.ttp_world.specs.Legal.{IsLegal, is_legal_message}
 use Rattle.ttp_world.specs.Medl.{IsValid}
 use Rattle.ttp_world.specs.Messages.{message_of, newest_number}
 use Rattle.ttp_world.specs.Outgoing.{out_messages}
 use Rattle.ttp_world.specs.Past.{state_of}
 use Rattle.ttp_world.specs.Script.{IsValidScript}
-use Rattle.ttp_world.specs.Trace.{history_lines, keep_line, member_digits, message_shown, node_line_of, number_or_dash}
+use Rattle.ttp_world.specs.Trace.{history_lines, test_lines, member_digits, message_shown, node_line_of, number_or_dash}
 use Rattle.ttp_world.specs.Trace.{read_lines, trace_lines, write_lines}
 use Rattle.ttp_world.specs.TraceNumbers.{word_in, words_of}
 use Rattle.ttp_world.specs.World.{Numbers, SlotNumbers, node_past, slot_after, world}
@@ -73,7 +72,7 @@ slot-lines list script other numbers =
     let P = λ (line : List ℕ). is_line line ≡ true in
     let front = history_lines list script (world list script numbers) numbers in
     right_part P front (lines_of_slot list script other numbers)
-    (left_part P (front ++ lines_of_slot list script other numbers) (keep_line (keeps list script) ∷ [])
+    (left_part P (front ++ lines_of_slot list script other numbers) (test_lines list script)
     (trace_lines-each list script (other ∷ numbers)).1)
 
 -- The line of a node whose frame carries a message names its number.

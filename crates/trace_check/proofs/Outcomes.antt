@@ -10,12 +10,16 @@ use Rattle.ttp_base.proofs.Lines.{lines_of-concat}
 use Rattle.ttp_world.specs.declared.medl.Medl.{Medl}
 use Rattle.ttp_world.specs.declared.script.Script.{Script}
 use Rattle.ttp_world.specs.Legal.{IsLegalRun}
+use Rattle.ttp_world.specs.Medl.{IsValid}
+use Rattle.ttp_world.specs.Script.{IsValidScript}
 use Rattle.ttp_world.specs.Trace.{trace_lines}
+use Rattle.ttp_world.specs.TraceNumbers.{numbers_in}
 use Rattle.ttp_world.specs.World.{Numbers}
 use Rattle.ttp_world.proofs.TraceLines.{trace_lines-each}
+use Rattle.ttp_world.proofs.TraceNumbers.{numbers_in-trace}
 use Rattle.trace_check.specs.Answer.{IsTrace, BeginsAsTrace, IsFirstWrong}
 use Rattle.trace_check.specs.Following.{IsTraceAnd, IsAmissAt}
-use Rattle.trace_check.proofs.Counts.{lines_of_slots, length-trace_lines}
+use Rattle.trace_check.proofs.Counts.{lines_in_all, length-trace_lines}
 use Rattle.trace_check.proofs.Cuts.{AreLines, AreLines-take, lines_of-behind, concat-lines_of}
 
 -- Beginnings.
@@ -35,14 +39,16 @@ begins-fewer list script text few many fewer begins = record {
 -- a trace has all lines
 pub trace-begins : (list : Medl) (script : Script) (text : List ℕ) (count : ℕ) → IsTrace list script text
     → BeginsAsTrace list script text count
-trace-begins list script text count trace = record {
-  numbers = trace.numbers;
-  legal = trace.legal;
-  lines =
-      ap (λ (t : List ℕ). take count (lines_of t)) trace.whole
-      ∙ ap (λ (lines : Lines). take count lines)
-      (lines_of-concat (trace_lines list script trace.numbers) (trace_lines-each list script trace.numbers));
-}
+trace-begins list script text count trace =
+    let numbers = numbers_in list script (lines_of text) in
+    record {
+      numbers = numbers;
+      legal = trace.legal;
+      lines =
+          ap (λ (t : List ℕ). take count (lines_of t)) trace.whole
+          ∙ ap (λ (lines : Lines). take count lines)
+          (lines_of-concat (trace_lines list script numbers) (trace_lines-each list script numbers));
+    }
 
 -- The answers exclude each other.
 
@@ -67,13 +73,23 @@ one_first_wrong list script text one other first second = elim (cases_lt one oth
 
 -- A whole trace, with nothing behind it.
 
-pub whole-trace : (list : Medl) (script : Script) (text : List ℕ) → IsTraceAnd list script text []
-    → IsTrace list script text
-whole-trace list script text is = record {
-  numbers = is.numbers;
-  legal = is.legal;
-  whole = is.begins ∙ append-nil (concat (trace_lines list script is.numbers));
+pub whole-trace : (list : Medl) (script : Script) (text : List ℕ) → IsValid list → IsValidScript list script
+    → IsTraceAnd list script text [] → IsTrace list script text
+whole-trace list script text valid valid_script is = record {
+  legal = subst (IsLegalRun list script) (sym named) is.legal;
+  whole = whole ∙ ap (λ (numbers : Numbers). concat (trace_lines list script numbers)) (sym named);
 }
+  where
+    whole : text ≡ concat (trace_lines list script is.numbers)
+    whole = is.begins ∙ append-nil (concat (trace_lines list script is.numbers))
+
+    -- its lines name the numbers that it was made with
+    named : numbers_in list script (lines_of text) ≡ is.numbers
+    named =
+        ap (λ (t : List ℕ). numbers_in list script (lines_of t)) whole
+        ∙ ap (numbers_in list script)
+        (lines_of-concat (trace_lines list script is.numbers) (trace_lines-each list script is.numbers))
+        ∙ numbers_in-trace list script is.numbers valid valid_script is.legal.count is.legal.legal
 
 -- With something behind it, and with a wrong line.
 
@@ -164,7 +180,7 @@ amiss-first_wrong list script text rest amiss = record {
 
 -- a text that goes on behind a whole trace is wrong there
 pub more-first_wrong : (list : Medl) (script : Script) (text rest : List ℕ) → IsTraceAnd list script text rest
-    → 1 ≤ length rest → IsFirstWrong list script text (lines_of_slots list script script.slots + 3)
+    → 1 ≤ length rest → IsFirstWrong list script text (lines_in_all list script + 1)
 more-first_wrong list script text rest is some = record {
   counted = omega arith;
   before =
@@ -175,8 +191,8 @@ more-first_wrong list script text rest is some = record {
       omega (
         arith,
         ap length other.lines,
-        length-take (lines_of_slots list script script.slots + 3) (lines_of text),
-        length-take (lines_of_slots list script script.slots + 3) theirs,
+        length-take (lines_in_all list script + 1) (lines_of text),
+        length-take (lines_in_all list script + 1) theirs,
         length-trace_lines list script other.numbers other.legal,
         length-trace_lines list script is.numbers is.legal,
         ap length cut,
@@ -195,7 +211,7 @@ more-first_wrong list script text rest is some = record {
     cut : lines_of text ≡ take (length mine) mine ++ lines_of rest
     cut = right_lines list script text rest is.numbers (length mine) begins
 
-    many : length mine ≡ (lines_of_slots list script script.slots + 3) - 1
+    many : length mine ≡ (lines_in_all list script + 1) - 1
     many = omega (arith, length-trace_lines list script is.numbers is.legal)
 
     some_line : (bytes : List ℕ) → 1 ≤ length bytes → 1 ≤ length (lines_of bytes)

@@ -6,13 +6,13 @@ use Rattle.ttp_world.specs.declared.medl.Medl.{Medl}
 use Rattle.ttp_world.specs.declared.script.Script.{Script}
 use Rattle.ttp_world.specs.Legal.{IsLegalRun}
 use Rattle.ttp_world.specs.Trace.{trace_lines}
+use Rattle.ttp_world.specs.TraceNumbers.{numbers_in}
 use Rattle.ttp_world.specs.World.{Numbers}
 
--- a text is the trace of the run with some legal message numbers
+-- a text is the trace of the run with the message numbers that its own lines name, and these are legal
 pub record IsTrace (list : Medl) (script : Script) (text : List ℕ) : Type 0 where
-  pub numbers : Numbers
-  pub legal : IsLegalRun list script numbers
-  pub whole : text ≡ concat (trace_lines list script numbers)
+  pub legal : IsLegalRun list script (numbers_in list script (lines_of text))
+  pub whole : text ≡ concat (trace_lines list script (numbers_in list script (lines_of text)))
 
 -- The first lines of a text, so many, are those of the trace of the run with some legal message numbers. A text is
 -- cut into lines at its line feeds, and a rest without a line feed is a line too, which no trace has. Where there are

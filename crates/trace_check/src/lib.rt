@@ -24,11 +24,14 @@ mod answer;
 mod follow;
 mod hosts;
 mod incoming;
+mod last_lines;
 mod nodes;
 mod outgoing;
 mod text;
 
 pub use answer::{Outcome, verify};
+pub use outgoing::Outgoing;
+pub use text::cut_line;
 
 #[cfg(test)]
 mod tests;

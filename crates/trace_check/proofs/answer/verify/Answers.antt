@@ -16,7 +16,7 @@ empty_rest (b ∷ rest) none = absurd (omega (arith, none))
 pub returns-in-Ok-empty-clause-same : goal.returns-in-Ok-empty-clause-same
 returns-in-Ok-empty-clause-same c =
     let none : c.in-Ok-empty.field-0.now ≡ [] = empty_rest c.in-Ok-empty.field-0.now (omega (arith, c.in-Ok-empty.len_below)) in (
-      λ same. whole-trace c.args.list.now c.args.script.now c.args.text.now
+      λ same. whole-trace c.args.list.now c.args.script.now c.args.text.now c.requires.list c.requires.script
           (subst (IsTraceAnd c.args.list.now c.args.script.now c.args.text.now) none c.in-Ok-empty.ensures.ok),
       λ trace. refl,
     )
@@ -24,7 +24,7 @@ returns-in-Ok-empty-clause-same c =
 pub returns-in-Ok-empty-clause-differs : goal.returns-in-Ok-empty-clause-differs
 returns-in-Ok-empty-clause-differs c line =
     let none : c.in-Ok-empty.field-0.now ≡ [] = empty_rest c.in-Ok-empty.field-0.now (omega (arith, c.in-Ok-empty.len_below)) in
-    let trace = whole-trace c.args.list.now c.args.script.now c.args.text.now
+    let trace = whole-trace c.args.list.now c.args.script.now c.args.text.now c.requires.list c.requires.script
     (subst (IsTraceAnd c.args.list.now c.args.script.now c.args.text.now) none c.in-Ok-empty.ensures.ok) in (
       λ same. absurd cc,
       λ first. absurd (first_wrong-no_trace c.args.list.now c.args.script.now c.args.text.now line first trace),
