@@ -1,6 +1,6 @@
 -- Which frames sound nodes accept: that of each good slot, and no other.
 use Rattle.std.proofs.Common.{◌≡◌, ◌≢◌, ℕ, zero, suc, ◌+◌, ◌<◌, ◌≤◌, Bool, true, false, ◌&&◌, List, [], ◌∷◌, length}
-use Rattle.std.proofs.Common.{refl, ap, sym, ◌∙◌, inl, inr, arith}
+use Rattle.std.proofs.Common.{refl, ap, sym, subst, ◌∙◌, inl, inr, arith}
 use Rattle.std.specs.Prelude.{◌==◌}
 use Rattle.std.proofs.Math.Bool.{and-false, and-true}
 use Rattle.std.proofs.lemmas.Bool.{cases_eq, eq-eqb, ne_eqb, false≢true}
@@ -11,10 +11,10 @@ use Rattle.ttp_world.specs.declared.script.Script.{Script}
 use Rattle.ttp_world.specs.Diary.{History, entry_of}
 use Rattle.ttp_world.specs.Hypothesis.{ClusterStart}
 use Rattle.ttp_world.specs.Legal.{IsLegal}
-use Rattle.ttp_world.specs.Messages.{new_messages}
+use Rattle.ttp_world.specs.Messages.{delivered_of, new_messages}
 use Rattle.ttp_world.specs.World.{SlotNumbers, Numbers, slot_after, messages_chosen, row_in, world}
 use Rattle.ttp_world.proofs.LegalShapes.{legal-older}
-use Rattle.ttp_world.proofs.Worlds.{length-world}
+use Rattle.ttp_world.proofs.Worlds.{row_of_world, length-world}
 use Rattle.precision.specs.Together.{IsIn}
 use Rattle.fault_plan.specs.Plan.{Plan, sender}
 use Rattle.fault_plan.specs.Fates.{is_sound_after, is_good_slot}
@@ -23,8 +23,9 @@ use Rattle.safety_clocks.specs.NotedByPlan.{IsSoundIn, StartedByPlan, NotesNothi
 use Rattle.safety_steps.specs.Run.{IsBegun}
 use Rattle.safety_steps.specs.Turn.{IsTurn}
 use Rattle.safety_steps.proofs.Receivers.{sound-judge, judges-good}
-use Rattle.safety.specs.SameFrames.{accepts, sends_frame, AcceptsAlike, AcceptsAlikeSince}
-use Rattle.safety.proofs.Delivered.{is_judgement, delivers-unjudged, messages-alike}
+use Rattle.safety.specs.SameFrames.{accepts, sends_frame, message_given, AcceptsAlike, AcceptsAlikeSince}
+use Rattle.safety.proofs.Delivered.{is_judgement, delivers-unjudged, messages-alike, messages-other, messages-own}
+use Rattle.safety.proofs.Given.{given-good}
 use Rattle.safety.proofs.Entries.{in-row, fate-before, own-sent, notes-other, started-by_plan}
 use Rattle.safety.proofs.Together.{KeepsClocks, turn-next, run-by_plan}
 
@@ -41,6 +42,11 @@ silent-accepts p _ none = absurd none
 silent-sends : (e : Entry) → NotesNothing e → sends_frame e ≡ false
 silent-sends (entry.Judged sender v deviation) none = refl
 silent-sends _ none = absurd none
+
+silent-gives : (list : Medl) (script : Script) (slot k : ℕ) (e : Entry) → sends_frame e ≡ false
+    → message_given list script slot k e ≡ []
+silent-gives list script slot k (entry.Sent message) silent = absurd (false≢true (sym silent))
+silent-gives list script slot k _ silent = refl
 
 -- In a turn.
 
@@ -109,6 +115,27 @@ module _ (list : Medl) (script : Script) (start : ClusterStart) (plan : Plan) (t
     | inr other ↦ absurd (false≢true (sym (judges k sound other).silent ∙ sends))
   ]
 
+  -- of each node's frame the others get what it sent
+  given-next : (j k : ℕ) → IsSoundIn list plan (suc turn) j → IsSoundIn list plan (suc turn) k → j ≢ k
+      → new_messages k (delivered_of list script (world list script numbers) made j)
+      ≡ message_given list script (length (world list script numbers)) k (entry_of made k)
+  unfolding made
+  given-next j k sound_j sound_k apart =
+      elim (cases_eq (sender plan (suc turn)) k) [
+        | inl own ↦
+            subst (λ p. new_messages p (delivered_of list script (world list script numbers)
+            (row_of_world list script new numbers) j)
+            ≡ message_given list script (length numbers) p (entry_of (row_of_world list script new numbers) p)) own
+            (given-good list script start plan turn new numbers t
+            (ap (is_sound_after plan (suc turn)) own ∙ sound_k.1) j sound_j (λ same. apart (sym same ∙ own)))
+        | inr other ↦
+            messages-other list script start plan turn new numbers t j k sound_j (λ same. apart (sym same)) other
+            ∙ sym (silent-gives list script (length numbers) k (entry_of (row_of_world list script new numbers) k)
+            (judges k sound_k other).silent)
+      ]
+      ∙ ap (λ slot. message_given list script slot k (entry_of (row_of_world list script new numbers) k))
+      (sym (length-world list script numbers))
+
   pub alike-next : AcceptsAlike list script (is_sound_after plan (suc turn))
       (row_in (slot_after list script (world list script numbers))
       (messages_chosen list script (length numbers) new.sent)) (world list script numbers)
@@ -121,6 +148,8 @@ module _ (list : Medl) (script : Script) (start : ClusterStart) (plan : Plan) (t
         ∙ (λ i. (ap (is_sound_after plan (suc turn)) own ∙ sound_k.1) i
         && eq-eqb (sender plan (suc turn)) k own i);
     received = messages-alike list script start plan turn new numbers t;
+    given = given-next;
+    own = messages-own list script start plan turn new numbers t;
   }
 
 -- In the slot of the start nobody judges.
@@ -156,11 +185,19 @@ alike-started list script start plan row history started = record {
       (begins-quietly list script start plan row history j started sound_j).unjudged)
       ∙ sym (ap (new_messages p) (delivers-unjudged list script history row k
       (begins-quietly list script start plan row history k started sound_k).unjudged));
+  given = λ j k sound_j sound_k apart.
+      ap (new_messages k) (delivers-unjudged list script history row j
+      (begins-quietly list script start plan row history j started sound_j).unjudged)
+      ∙ sym (silent-gives list script (length history) k (entry_of row k)
+      (begins-quietly list script start plan row history k started sound_k).silent);
+  own = λ k sound.
+      ap (new_messages k) (delivers-unjudged list script history row k
+      (begins-quietly list script start plan row history k started sound).unjudged);
 }
 
 -- A smaller group accepts alike as well.
 
-abbrev IsAmong : Medl → (ℕ → Bool) → (ℕ → Bool) → Type 0
+abbrev pub IsAmong : Medl → (ℕ → Bool) → (ℕ → Bool) → Type 0
 IsAmong list less group = (k : ℕ) → IsIn list less k → group k ≡ true
 
 alike-among : (list : Medl) (script : Script) (less group : ℕ → Bool) (row : List Entry) (history : History)
@@ -170,6 +207,8 @@ alike-among list script less group row history among alike = record {
   third = λ j k p of_j of_k. alike.third j k p (of_j.0, among j of_j) (of_k.0, among k of_k);
   sent = λ j k of_j of_k. alike.sent j k (of_j.0, among j of_j) (of_k.0, among k of_k);
   received = λ j k p of_j of_k. alike.received j k p (of_j.0, among j of_j) (of_k.0, among k of_k);
+  given = λ j k of_j of_k. alike.given j k (of_j.0, among j of_j) (of_k.0, among k of_k);
+  own = λ k of_k. alike.own k (of_k.0, among k of_k);
 }
 
 -- Before the start nothing is asked.

@@ -174,3 +174,53 @@ module _ (list : Medl) (script : Script) (start : ClusterStart) (plan : Plan) (t
       (delivered_of list script (world list script numbers) (row_of_world list script new numbers) k)
   messages-alike j k p sound_j sound_k apart_j apart_k =
       messages-by_plan j p sound_j apart_j ∙ sym (messages-by_plan k p sound_k apart_k)
+
+  -- of a node that does not send nothing is delivered, and of one's own frame neither
+  planned-other : (p : ℕ) → sender plan (suc turn) ≢ p → planned_messages p ≡ []
+  unfolding planned_messages
+  planned-other p apart = by (is_good_slot plan (suc turn)) refl
+    where
+      by : (good : Bool) → is_good_slot plan (suc turn) ≡ good
+          → new_messages p (cond (is_good_slot plan (suc turn)) (delivery_at list place bytes) None) ≡ []
+      by false wrong = ap (λ good. new_messages p (cond good (delivery_at list place bytes) None)) wrong
+      by true good =
+          ap (λ good. new_messages p (cond good (delivery_at list place bytes) None)) good
+          ∙ other-none (carries_payload list place) place.slot p (payload_of_frame list place bytes)
+          (λ same. apart (sym (same ∙ owner)))
+
+  pub messages-other : (k p : ℕ) → IsSoundIn list plan (suc turn) k → p ≢ k → sender plan (suc turn) ≢ p
+      → new_messages p
+      (delivered_of list script (world list script numbers) (row_of_world list script new numbers) k) ≡ []
+  messages-other k p sound apart other = messages-by_plan k p sound apart ∙ planned-other p other
+
+  pub messages-own : (k : ℕ) → IsSoundIn list plan (suc turn) k
+      → new_messages k
+      (delivered_of list script (world list script numbers) (row_of_world list script new numbers) k) ≡ []
+  messages-own k sound = elim (cases_eq (sender plan (suc turn)) k) [
+    | inl own ↦
+        ap (new_messages k) (delivers-unjudged list script (world list script numbers)
+        (row_of_world list script new numbers) k
+        (ap is_judgement (own-sent list script start plan turn new numbers t k sound own).1))
+    | inr other ↦ by (is_good_slot plan (suc turn)) refl other
+  ]
+    where
+      by : (good : Bool) → is_good_slot plan (suc turn) ≡ good → sender plan (suc turn) ≢ k
+          → new_messages k
+          (delivered_of list script (world list script numbers) (row_of_world list script new numbers) k) ≡ []
+      by false wrong other =
+          ap (new_messages k) (delivers-wrong list script (world list script numbers)
+          (row_of_world list script new numbers) k
+          (notes-other list script start plan turn new numbers t k wrong sound))
+      by true good other =
+          ap (new_messages k) (delivers-good k sound other good)
+          ∙ other-none (carries_payload list place) place.slot k (payload_of_frame list place bytes)
+          (λ same. other (sym (same ∙ owner)))
+
+  pub delivers-frame : (k : ℕ) → IsSoundIn list plan (suc turn) k → sender plan (suc turn) ≢ k
+      → is_good_slot plan (suc turn) ≡ true →
+      let x = slot_of list script new numbers (sender plan (suc turn)) in
+      delivered_of list script (world list script numbers) (row_of_world list script new numbers) k
+      ≡ delivery_at list (next_place list (planned_place list plan turn))
+      (own_frame list (sender plan (suc turn)) x.past x.chosen)
+  unfolding bytes place
+  delivers-frame k sound other good = delivers-good k sound other good

@@ -25,8 +25,9 @@ use Rattle.safety_steps.specs.Gone.{FaultyLeave}
 use Rattle.safety_steps.specs.Run.{IsBegun, StandsAfter}
 use Rattle.safety_steps.proofs.Safe.{safe-after, faulty-leave, correct-sound as correct-at}
 use Rattle.safety.specs.ByPlan.{IsByPlan}
-use Rattle.safety.specs.SameFrames.{AcceptsAlikeSince}
+use Rattle.safety.specs.SameFrames.{AcceptsAlikeSince, StandsAlikeSince}
 use Rattle.safety.proofs.Accepted.{alike-run}
+use Rattle.safety.proofs.Stints.{stands-run}
 use Rattle.safety.proofs.Together.{KeepsClocks, clocks-hold, run-by_plan}
 
 module _ (list : Medl) (script : Script) (slot : ℕ) (valid : IsValid list) (script_valid : IsValidScript list script)
@@ -106,6 +107,17 @@ module _ (list : Medl) (script : Script) (slot : ℕ) (valid : IsValid list) (sc
         (alike-run list script by_plan.start (plan_of list script by_plan.start) (begun (omega (arith, after, within)))
         clocks (is_correct_after list script (newest_slot (world list script numbers))) (length numbers - suc slot)
         numbers correct-sound number (omega (arith, number, within)) legal)
+
+    pub kept-stands_alike : StandsAlikeSince list
+        (is_correct_after list script (newest_slot (world list script numbers))) slot (world list script numbers)
+    kept-stands_alike =
+        let number = count in
+        subst (λ s. StandsAlikeSince list (is_correct_after list script (newest_slot (world list script numbers))) s
+        (world list script numbers)) by_plan.from
+        (stands-run list script by_plan.start (plan_of list script by_plan.start)
+        (begun (omega (arith, after, within))) clocks
+        (is_correct_after list script (newest_slot (world list script numbers))) (length numbers - suc slot) numbers
+        correct-sound number (omega (arith, number, within)) legal)
 
     pub kept-places : (j k : ℕ)
         → IsIn list (is_correct_after list script (newest_slot (world list script numbers))) j

@@ -22,7 +22,7 @@ ghost use Rattle.ttp_world.specs.World.{Numbers, world};
 ghost use Rattle.precision.specs.Spread.{spread};
 ghost use Rattle.precision.specs.Together.{IsIn, clock_at, measured};
 ghost use Rattle.safety_steps.specs.Gone.{FaultyLeave};
-ghost use Rattle.safety.specs.SameFrames.{AcceptsAlikeSince};
+ghost use Rattle.safety.specs.SameFrames.{AcceptsAlikeSince, StandsAlikeSince};
 
 pub mod laws;
 #[cfg(test)]
@@ -72,9 +72,12 @@ pub fn safe(list: &Medl, script: &Script, start: u32)
 
 /// What correct nodes of such a script make of each other's frames. The nodes that are correct after a
 /// slot have, in each slot from the start on, accepted the same frames of third nodes, and each of them
-/// accepted each frame that another sent; and their hosts got the same messages of third nodes
-/// (`frames`). A frame is accepted that is judged correct, and the cold start is not judged. After that
-/// slot they stand at one place of the cluster cycle (`places`).
+/// accepted each frame that another sent; their hosts got the same messages of third nodes, and of each
+/// other the messages that were sent (`frames`). A frame is accepted that is judged correct, and the cold
+/// start is not judged.
+///
+/// Each of them has been active since the start, where it began at time 0, and after each slot all stood at
+/// one place of the cluster cycle (`stints`); so they do after the newest one (`places`).
 ///
 /// It does nothing, and takes no memory.
 pub fn same_frames(list: &Medl, script: &Script, start: u32)
@@ -86,6 +89,10 @@ pub fn same_frames(list: &Medl, script: &Script, start: u32)
         → (let history = world list.now script.now numbers in
         AcceptsAlikeSince list.now script.now (is_correct_after list.now script.now (newest_slot history)) start
         history) }
+    ensures stints { (numbers : Numbers) → IsLegal list.now script.now numbers
+        → start < length numbers → length numbers ≤ script.now.slots
+        → (let history = world list.now script.now numbers in
+        StandsAlikeSince list.now (is_correct_after list.now script.now (newest_slot history)) start history) }
     ensures places { (numbers : Numbers) → IsLegal list.now script.now numbers
         → start < length numbers → length numbers ≤ script.now.slots
         → (let history = world list.now script.now numbers in

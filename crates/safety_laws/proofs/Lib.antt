@@ -5,6 +5,7 @@ pub mod Hearing
 pub mod Idle
 pub mod Joins
 pub mod Judging
+pub mod Listening
 pub mod ListedSets
 pub mod NodeSlots
 pub mod OneSender

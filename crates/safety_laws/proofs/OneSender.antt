@@ -1,23 +1,42 @@
 -- What comes to each node in a slot after a history in which one node alone sends, or none.
-use Rattle.std.proofs.Common.{◌≡◌, ℕ, true, false, List, [], ◌∷◌, length, ◌∙◌, subst}
-use Rattle.ttp_base.specs.NodeSet.{with_node}
+use Rattle.std.proofs.Common.{◌≡◌, ℕ, suc, ◌+◌, ◌%◌, ◌<◌, true, false, List, [], ◌∷◌, length, ap, ◌∙◌, subst, arith}
+use Rattle.std.proofs.Common.{mod-lt}
+use Rattle.std.specs.Prelude.{◌==◌}
+use Rattle.std.proofs.lemmas.Bool.{cond_both}
+use Rattle.ttp_base.specs.NodeSet.{has_node, with_node}
 use Rattle.ttp_world.specs.declared.medl.Medl.{Medl}
 use Rattle.ttp_world.specs.declared.node.Chosen.{Chosen}
 use Rattle.ttp_world.specs.declared.script.Script.{Script}
 use Rattle.ttp_world.specs.Conduct.{own_frame}
-use Rattle.ttp_world.specs.Diary.{History, Place}
+use Rattle.ttp_world.specs.Diary.{History, Place, time_limit, next_place}
+use Rattle.ttp_world.specs.Frame.{is_explicit}
 use Rattle.ttp_world.specs.Hypothesis.{loses}
-use Rattle.ttp_world.specs.Reception.{is_within_window}
-use Rattle.ttp_world.specs.World.{slot_after, frames_in, deviation_in}
+use Rattle.ttp_world.specs.Medl.{IsValid}
+use Rattle.ttp_world.specs.Reception.{is_within_window, expected_header}
+use Rattle.ttp_world.specs.World.{Numbers, slot_after, frames_in, deviation_in, world}
+use Rattle.ttp_world.proofs.Lists.{nodes-most}
+use Rattle.ttp_world.proofs.Worlds.{coming_place-world}
 use Rattle.safety_laws.specs.Heard.{HearsFrame, HearsNoFrame, HearsSilence}
-use Rattle.safety_laws.specs.NodeSlot.{node_slot, coming_place}
+use Rattle.safety_laws.specs.Listening.{HearsPlace, HearsNoPlace}
+use Rattle.safety_laws.specs.NodeSlot.{NodeSlot, node_slot, coming_place}
 use Rattle.safety_laws.specs.Senders.{SendsAlone, NoneSends}
 use Rattle.safety_laws.specs.SlotFrames.{IsSlotFrame}
 use Rattle.safety_laws.specs.Turns.{HearsMembers, HearsOutside}
 use Rattle.safety_laws.proofs.Hearing.{HearsFrame-kept, HearsNoFrame-lost, HearsSilence-none}
+use Rattle.safety_laws.proofs.Joins.{joinable-explicit, joinable-without}
+use Rattle.safety_laws.proofs.ListedSets.{has_node-put_in}
 use Rattle.safety_laws.proofs.NodeSlots.{frames_of-made}
 use Rattle.safety_laws.proofs.OwnSlots.{frames_made-own, IsSlotFrame-own}
 use Rattle.safety_laws.proofs.Senders.{frames_in-none, frames_in-one}
+
+-- the next place has a time of the range
+time-next : (list : Medl) (place : Place) → (next_place list place).time < time_limit
+time-next list place =
+    cond_both (suc place.slot == length list.slots) _ _ (λ (p : Place). p.time < time_limit)
+    (λ last. small) (λ inside. small)
+  where
+    small : (place.time + 1) % time_limit < time_limit
+    small = mod-lt (place.time + 1) (omega arith)
 
 pub silent-none_sends : (list : Medl) (script : Script) (history : History) (chosen : List Chosen) (r : ℕ)
     → NoneSends list script history chosen → HearsSilence (node_slot list script history chosen r).hearing
@@ -77,3 +96,39 @@ module _ (list : Medl) (script : Script) (history : History) (chosen : List Chos
   none-alone lost =
       let s = slot_after list script history in
       HearsNoFrame-lost s (frames_in s chosen) _ r frames-alone lost
+
+-- A frame with its C-state tells a listening node the sender's place and members, and one without tells it none.
+module _ (list : Medl) (script : Script) (numbers : Numbers) (chosen : List Chosen) (p r : ℕ) (valid : IsValid list)
+    (sends : SendsAlone list script (world list script numbers) chosen p)
+    (kept : loses script p (length (world list script numbers)) r ≡ false) where
+  abbrev x : NodeSlot
+  x = node_slot list script (world list script numbers) chosen p
+
+  pub place-alone : is_explicit (expected_header list (coming_place x)) ≡ true
+      → HearsPlace (node_slot list script (world list script numbers) chosen r) p (coming_place x)
+      (with_node x.past.members p)
+  place-alone explicit =
+      let frame = IsSlotFrame-own x sends.own sends.payload in
+      record {
+        bytes = own_frame list p x.past x.chosen;
+        comes = comes-alone list script (world list script numbers) chosen p r sends kept;
+        can = joinable-explicit list (coming_place x) (with_node x.past.members p) valid
+            (record {
+              time = time-next list x.past.place;
+              cycle = coming_place-world list script numbers p valid sends.own.node;
+              nodes = frame.nodes;
+              owner = ap (has_node (with_node x.past.members p)) sends.own.own
+                  ∙ has_node-put_in x.past.members p
+                  (omega (arith, sends.own.node, nodes-most list valid));
+            }) (own_frame list p x.past x.chosen) explicit frame;
+        nodes = frame.nodes;
+      }
+
+  pub no_place-alone : is_explicit (expected_header list (coming_place x)) ≡ false
+      → HearsNoPlace (node_slot list script (world list script numbers) chosen r) p
+  no_place-alone implicit = record {
+    bytes = own_frame list p x.past x.chosen;
+    comes = comes-alone list script (world list script numbers) chosen p r sends kept;
+    can_not = joinable-without list (coming_place x) (with_node x.past.members p) (own_frame list p x.past x.chosen)
+        implicit (IsSlotFrame-own x sends.own sends.payload);
+  }

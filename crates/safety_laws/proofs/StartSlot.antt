@@ -1,11 +1,9 @@
 -- The slot of the start: one node starts, and every other that is on joins on its frame.
-use Rattle.std.proofs.Common.{◌≡◌, ◌≢◌, ℕ, ◌+◌, ◌-◌, ◌*◌, ◌<◌, ◌≤◌, ℤ, Bool, true, false, cond, ◌&&◌, ◌||◌, List, []}
-use Rattle.std.proofs.Common.{◌∷◌, ◌++◌, length, Option, Some, None, option_map, refl, ap, sym, ◌∙◌, subst, inl, inr}
+use Rattle.std.proofs.Common.{◌≡◌, ◌≢◌, ℕ, ◌+◌, ◌-◌, ◌*◌, ◌<◌, ◌≤◌, Bool, true, false, cond, ◌&&◌, ◌||◌, List, []}
+use Rattle.std.proofs.Common.{◌∷◌, length, Option, Some, None, option_map, refl, ap, sym, ◌∙◌, subst, inl, inr}
 use Rattle.std.proofs.Common.{◌⊎◌, arith}
-use Rattle.std.specs.Prelude.{◌==◌, nat_le, if◌then◌else◌}
-use Rattle.std.proofs.Math.Bool.{or-true}
+use Rattle.std.specs.Prelude.{nat_le, if◌then◌else◌}
 use Rattle.std.proofs.lemmas.Bool.{cases_eq, eq-eqb, false≢true, le-leb}
-use Rattle.std.proofs.lemmas.List.{append-nil}
 use Rattle.std.proofs.lemmas.Option.{same_Some}
 use Rattle.ttp_base.proofs.NodeLists.{with_node-nil}
 use Rattle.ttp_world.specs.declared.medl.Medl.{Medl}
@@ -21,8 +19,7 @@ use Rattle.ttp_world.specs.declared.script.Script.{Script}
 use Rattle.ttp_world.specs.Acknowledgement.{is_open}
 use Rattle.ttp_world.specs.Act.{act, phase_act}
 use Rattle.ttp_world.specs.After.{past_after}
-use Rattle.ttp_world.specs.Clock.{notes_in}
-use Rattle.ttp_world.specs.Conduct.{cold_start_cstate, cold_start_frame, node_frames, new_entry}
+use Rattle.ttp_world.specs.Conduct.{cold_start_frame, node_frames, new_entry}
 use Rattle.ttp_world.specs.Diary.{History, SlotSurroundings, phase_after, start_place}
 use Rattle.ttp_world.specs.Hypothesis.{ClusterStart, start_slot, loses}
 use Rattle.ttp_world.specs.Medl.{may_start, IsValid}
@@ -35,13 +32,14 @@ use Rattle.ttp_world.proofs.Lists.{nodes-most}
 use Rattle.ttp_world.proofs.MemberSets.{members_after-Started}
 use Rattle.safety_laws.specs.Heard.{HearsFrame}
 use Rattle.safety_laws.specs.NodeSlot.{node_slot, entry_made}
-use Rattle.safety_laws.specs.Standing.{Standing, StandsBy}
+use Rattle.safety_laws.specs.Standing.{Standing, StandsBy, joined_standing}
 use Rattle.safety_laws.specs.Start.{IsStartHeard, slots_since, slots_on, waiting_phase, Waits}
-use Rattle.safety_laws.specs.Start.{starter_standing, joined_on_start, joined_standing}
+use Rattle.safety_laws.specs.Start.{starter_standing, joined_on_start}
 use Rattle.safety_laws.specs.Start.{HasBegun}
 use Rattle.safety_laws.specs.Groups.{held_with, IsAboutOther}
 use Rattle.safety_laws.proofs.Hearing.{HearsFrame-kept}
-use Rattle.safety_laws.proofs.Joins.{AreNodes-only, joinable-cold_start, listening_entry-joins}
+use Rattle.safety_laws.proofs.Joins.{AreNodes-only, joinable-cold_start}
+use Rattle.safety_laws.proofs.Listening.{notes-begun, joined-place}
 use Rattle.safety_laws.proofs.NodeSlots.{node_past-step, frames_of-made}
 use Rattle.safety_laws.proofs.Senders.{frames_in-one}
 use Rattle.safety_laws.proofs.Waiting.{act-waiting, is_start_due-early, waiting_act, node_frames-waiting, phase_of_some}
@@ -94,12 +92,6 @@ first_due list script start alone k slot node due = elim (cases_eq k start.node)
 
 -- What a start leaves.
 
-notes-begun : (list : Medl) (k : ℕ) (e : Entry) (notes : List ℤ)
-    → notes_in list (start_place k) e ++ cond ((k == 0) || true) [] notes ≡ notes_in list (start_place k) e
-notes-begun list k e notes =
-    ap (λ b. notes_in list (start_place k) e ++ cond b [] notes) (or-true (k == 0))
-    ∙ append-nil (notes_in list (start_place k) e)
-
 stands-started : (list : Medl) (k : ℕ) (past : NodePast) (s : SlotSurroundings) → IsValid list
     → k < length list.slots
     → StandsBy (past_after list k past entry.Started s) entry.Started (starter_standing list k)
@@ -115,25 +107,8 @@ stands-started list k past s valid node =
       rejected = refl;
       ack = refl;
       cold_start = refl;
-      notes = notes-begun list k entry.Started past.notes;
+      notes = notes-begun list (start_place k) entry.Started past.notes;
     }
-
--- and a join on it
-stands-joined : (list : Medl) (k p : ℕ) (deviation : ℤ) (past : NodePast) (s : SlotSurroundings) → IsValid list
-    → p < length list.slots →
-    let e = joined_on_start p deviation in
-    StandsBy (past_after list k past e s) e (joined_standing list p deviation)
-stands-joined list k p deviation past s valid node = record {
-  phase = refl;
-  entry = refl;
-  place = refl;
-  members = sym (AreNodes-only list p valid node);
-  accepted = refl;
-  rejected = refl;
-  ack = refl;
-  cold_start = refl;
-  notes = notes-begun list p (joined_on_start p deviation) past.notes;
-}
 
 -- by what a node stands by it has begun
 begun-by : (list : Medl) (p k : ℕ) (past : NodePast) (e : Entry) (now : Standing) → AreNodes list (p ∷ [])
@@ -201,25 +176,16 @@ module _ (list : Medl) (script : Script) (start : ClusterStart) (history : Histo
       ∙ ap (node_frames list start.node (node_past list script history start.node) (chosen_of chosen start.node))
       act-starter
 
-  -- by what node k makes of the slot it stands, if it stands by that entry
-  stands_after : (k : ℕ) (e : Entry) (standing : Standing) → k < length list.slots
-      → entry_made (node_slot list script history chosen k) ≡ e
-      → StandsBy (past_after list k (node_past list script history k) e (node_slot list script history chosen k).around)
-      e standing
-      → StandsBy (node_past list script (step list script history chosen) k) e standing
-  stands_after k e standing node made stands =
-      let x = node_slot list script history chosen k in
-      subst (λ (after : NodePast). StandsBy after e standing)
-      (ap (λ (f : Entry). past_after list k x.past f x.around) (sym made)
-      ∙ sym (node_past-step list script history chosen k node)) stands
-
   -- the starter
   pub starter-stands : StandsBy (node_past list script (step list script history chosen) start.node) entry.Started
       (starter_standing list start.node)
   starter-stands =
       let x = node_slot list script history chosen start.node in
-      stands_after start.node entry.Started (starter_standing list start.node) alone.node
-      (ap (λ (a : Act). new_entry list start.node x.past x.chosen x.hearing a) act-starter)
+      let made : entry_made x ≡ entry.Started =
+      ap (λ (a : Act). new_entry list start.node x.past x.chosen x.hearing a) act-starter in
+      subst (λ (after : NodePast). StandsBy after entry.Started (starter_standing list start.node))
+      (ap (λ (e : Entry). past_after list start.node x.past e x.around) (sym made)
+      ∙ sym (node_past-step list script history chosen start.node alone.node))
       (stands-started list start.node x.past x.around valid alone.node)
 
   -- a node that is on by then
@@ -227,7 +193,7 @@ module _ (list : Medl) (script : Script) (start : ClusterStart) (history : Histo
       → is_on script k start.slot ≡ true →
       let deviation = deviation_in (slot_after list script history) k start.node in
       StandsBy (node_past list script (step list script history chosen) k) (joined_on_start start.node deviation)
-      (joined_standing list start.node deviation)
+      (joined_standing list (start_place start.node) (start.node ∷ []) deviation)
   joiner-stands heard k node other on =
       let s = slot_after list script history in
       let x = node_slot list script history chosen k in
@@ -238,12 +204,17 @@ module _ (list : Medl) (script : Script) (start : ClusterStart) (history : Histo
       HearsFrame-kept s (frames_in s chosen) _ k frames-start
       (λ c. ap (flipped_bits script start.node c) now ∙ heard.unflipped c)
       (ap (λ n. loses script start.node n k) now ∙ heard.kept k node other on) in
-      stands_after k (joined_on_start start.node deviation) (joined_standing list start.node deviation) node
-      (ap (λ (a : Act). new_entry list k x.past x.chosen x.hearing a)
+      subst (λ (after : NodePast). StandsBy after (joined_on_start start.node deviation)
+      (joined_standing list (start_place start.node) (start.node ∷ []) deviation))
+      (sym (node_past-step list script history chosen k node))
+      (joined-place x start.node (start_place start.node) (start.node ∷ [])
       (act-other k node other ∙ ap waiting_act (ap (is_on script k) now ∙ on))
-      ∙ listening_entry-joins list x.hearing _ (cold_start_cstate start.node) hears
-      (joinable-cold_start list start.node valid alone.node parts.may_is))
-      (stands-joined list k start.node deviation x.past x.around valid alone.node)
+      (record {
+        bytes = cold_start_frame list start.node;
+        comes = hears;
+        can = joinable-cold_start list start.node valid alone.node parts.may_is;
+        nodes = AreNodes-only list start.node valid alone.node;
+      }))
 
   -- and one that is not
   pub off-stays : (k : ℕ) → k < length list.slots → k ≢ start.node → is_on script k start.slot ≡ false
@@ -265,6 +236,7 @@ module _ (list : Medl) (script : Script) (start : ClusterStart) (history : Histo
         (AreNodes-only list start.node valid alone.node) refl refl (inl (refl, refl)) starter-stands)
     | inr other ↦
         begun-by list start.node k _ _
-        (joined_standing list start.node (deviation_in (slot_after list script history) k start.node))
+        (joined_standing list (start_place start.node) (start.node ∷ [])
+        (deviation_in (slot_after list script history) k start.node))
         (AreNodes-only list start.node valid alone.node) refl refl (inr refl) (joiner-stands heard k node other on)
   ]

@@ -74,7 +74,7 @@ view_of_frame-members list place c own bytes valid is are =
     expected = record { place = place; candidates = c }
 
 -- A frame of the place has the form that the list gives.
-is_expected_form-own : (list : Medl) (place : Place) (c : Candidates) (own bytes : List ℕ)
+pub is_expected_form-own : (list : Medl) (place : Place) (c : Candidates) (own bytes : List ℕ)
     → IsSlotFrame list place own bytes
     → is_expected_form list (record { place = place; candidates = c }) bytes ≡ true
 is_expected_form-own list place c own bytes is =

@@ -11,26 +11,24 @@ use Rattle.ttp_world.specs.declared.node.Entry.{Entry}
 use Rattle.ttp_world.specs.declared.node.Entry.TheVariants as entry
 use Rattle.ttp_world.specs.declared.node.Phase.{Phase}
 use Rattle.ttp_world.specs.declared.node.Phase.TheVariants as phase
-use Rattle.ttp_world.specs.declared.script.Channel.TheVariants as channel
 use Rattle.ttp_world.specs.declared.script.Script.{Script}
 use Rattle.ttp_world.specs.Act.{act, phase_act, is_start_due}
 use Rattle.ttp_world.specs.After.{past_after}
 use Rattle.ttp_world.specs.Conduct.{node_frames, new_entry}
 use Rattle.ttp_world.specs.Diary.{History}
 use Rattle.ttp_world.specs.Hypothesis.{start_slot}
-use Rattle.ttp_world.specs.Medium.{is_silence, is_silent_to}
 use Rattle.ttp_world.specs.Medl.{may_start, IsValid}
 use Rattle.ttp_world.specs.Past.{NodePast}
 use Rattle.ttp_world.specs.Script.{on_slot, has_come, is_on, is_armed}
 use Rattle.ttp_world.specs.World.{Numbers, node_past, slot_after, chosen_of, frames_in, step, world}
 use Rattle.ttp_world.specs.World.{messages_chosen}
-use Rattle.ttp_world.proofs.Silences.{is_silent_to-row_in}
 use Rattle.ttp_world.proofs.Worlds.{length-world}
 use Rattle.safety_laws.specs.Heard.{is_frameless, HearsSilence}
 use Rattle.safety_laws.specs.NodeSlot.{NodeSlot, node_slot, act_made, entry_made, next_past}
+use Rattle.safety_laws.specs.Standing.{HasWaited}
 use Rattle.safety_laws.specs.Start.{slots_since, slots_on, waiting_phase, Waits}
-use Rattle.safety_laws.proofs.Hearing.{heard-none, HearsSilence-none}
-use Rattle.safety_laws.proofs.Joins.{listening_entry-waits}
+use Rattle.safety_laws.proofs.Hearing.{HearsSilence-none}
+use Rattle.safety_laws.proofs.Listening.{around-silent, silence-silent, waited-none}
 use Rattle.safety_laws.proofs.NodeSlots.{node_past-step, frames_of-made}
 use Rattle.safety_laws.proofs.Senders.{frames_in-none}
 
@@ -109,16 +107,16 @@ phase_of_some slots =
 
 -- by whether the node is on
 waits_on : (x : NodeSlot) (script : Script) (slots : ℕ) → Waits x.list script slots x.node x.past
-    → is_on script x.node slots ≡ true → x.around.is_silent ≡ true
-    → Waits x.list script (suc slots) x.node (past_after x.list x.node x.past entry.Waited x.around)
-waits_on x script slots waits on silent =
+    → is_on script x.node slots ≡ true → x.around.is_silent ≡ true → HasWaited x
+    → Waits x.list script (suc slots) x.node (next_past x)
+waits_on x script slots waits on silent waited =
     let more : slots_on script x.node (suc slots) ≡ 1 + slots_on script x.node slots =
     slots_since-on slots (on_slot script x.node) on in
     record {
-      phase = sym (ap waiting_phase more ∙ phase_of_some (slots_on script x.node slots));
-      silent_slots = ap (λ b. cond b (1 + x.past.silent_slots) 0) silent ∙ ap (λ n. 1 + n) waits.silent_slots
-          ∙ sym more;
-      limit = waits.limit;
+      phase = waited.phase ∙ sym (ap waiting_phase more ∙ phase_of_some (slots_on script x.node slots));
+      silent_slots = waited.silent_slots ∙ ap (λ b. cond b (1 + x.past.silent_slots) 0) silent
+          ∙ ap (λ n. 1 + n) waits.silent_slots ∙ sym more;
+      limit = waited.limit ∙ waits.limit;
     }
 
 waits_off : (x : NodeSlot) (script : Script) (slots : ℕ) → Waits x.list script slots x.node x.past
@@ -132,12 +130,8 @@ waits_after : (x : NodeSlot) (script : Script) (slots : ℕ) (on : Bool) → Wai
     → is_on script x.node slots ≡ on → act_made x ≡ waiting_act on → HearsSilence x.hearing
     → x.around.is_silent ≡ true → Waits x.list script (suc slots) x.node (next_past x)
 waits_after x script slots true waits on does silent around =
-    let made : entry.Waited ≡ entry_made x =
-    sym (ap (λ (a : Act). new_entry x.list x.node x.past x.chosen x.hearing a) does
-    ∙ listening_entry-waits x.list x.hearing
-    (record { a = ap is_frameless silent.a; b = ap is_frameless silent.b })) in
-    subst (λ (e : Entry). Waits x.list script (suc slots) x.node (past_after x.list x.node x.past e x.around)) made
-    (waits_on x script slots waits on around)
+    waits_on x script slots waits on around
+    (waited-none x does (record { a = ap is_frameless silent.a; b = ap is_frameless silent.b }))
 waits_after x script slots false waits off does silent around =
     let made : entry.Off ≡ entry_made x =
     sym (ap (λ (a : Act). new_entry x.list x.node x.past x.chosen x.hearing a) does) in
@@ -179,10 +173,8 @@ module _ (list : Medl) (script : Script) (history : History) (valid : IsValid li
       → (node_slot list script history chosen k).around.is_silent ≡ true
   silent-waits chosen k =
       let s = slot_after list script history in
-      is_silent_to-row_in s chosen k
-      ∙ ap (is_silent_to script (length history) k) (frames-waits chosen)
-      ∙ (λ i. is_silence (heard-none script (length history) k channel.A i)
-      && is_silence (heard-none script (length history) k channel.B i))
+      around-silent list script history chosen k
+      ∙ silence-silent _ (HearsSilence-none s (frames_in s chosen) k (frames-waits chosen))
 
   pub WaitAll-step : (chosen : List Chosen) → WaitAll list script (step list script history chosen)
   WaitAll-step chosen k node =

@@ -5,6 +5,7 @@ pub mod Standing
 pub mod Turns
 pub mod Groups
 pub mod Senders
+pub mod Listening
 pub mod Start
 pub mod WorkedSlots
 pub mod Deliveries

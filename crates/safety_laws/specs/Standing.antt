@@ -1,6 +1,7 @@
--- What an active node holds after a slot, and that a node has left.
+-- What an active node holds after a slot, that a node has left, and that one has waited.
 use Rattle.std.specs.Prelude.{◌≡◌, ℕ, ◌+◌, ℤ, Bool, false, List, [], Option, if◌then◌else◌}
 use Rattle.ttp_base.specs.NodeSet.{with_node}
+use Rattle.ttp_world.specs.declared.medl.Medl.{Medl}
 use Rattle.ttp_world.specs.declared.node.Ack.{Ack}
 use Rattle.ttp_world.specs.declared.node.Ack.TheVariants as ack
 use Rattle.ttp_world.specs.declared.node.Entry.{Entry}
@@ -10,8 +11,9 @@ use Rattle.ttp_world.specs.declared.node.Reason.{Reason}
 use Rattle.ttp_world.specs.declared.node.Verdict.{Verdict}
 use Rattle.ttp_world.specs.Acknowledgement.{is_correct}
 use Rattle.ttp_world.specs.After.{judged_members, ack_answered, notes_after}
+use Rattle.ttp_world.specs.Clock.{notes_in}
 use Rattle.ttp_world.specs.Counts.{is_rejection}
-use Rattle.ttp_world.specs.Diary.{Place}
+use Rattle.ttp_world.specs.Diary.{Place, cstate_at}
 use Rattle.ttp_world.specs.Past.{NodePast}
 use Rattle.safety_laws.specs.NodeSlot.{NodeSlot, next_past, coming_place, owner_of}
 
@@ -72,3 +74,25 @@ sent_standing x message = record {
   cold_start = false;
   notes = notes_after x.list x.past.notes (coming_place x) (entry.Sent message);
 }
+
+-- A join: the entry of a node that hears of a place and of these members, so late, and what it holds.
+
+abbrev pub joined_on : Place → List ℕ → ℤ → Entry
+joined_on place members deviation = entry.Joined place.slot (cstate_at place members) deviation
+
+abbrev pub joined_standing : Medl → Place → List ℕ → ℤ → Standing
+joined_standing list place members deviation = record {
+  place = place;
+  members = members;
+  accepted = 1;
+  rejected = 0;
+  ack = ack.Closed;
+  cold_start = false;
+  notes = notes_in list place (joined_on place members deviation);
+}
+
+-- A listening node that does not join counts the slot if it was silent, and else begins again to count.
+pub record HasWaited (x : NodeSlot) : Type 0 where
+  pub phase : (next_past x).phase ≡ phase.Listening
+  pub silent_slots : (next_past x).silent_slots ≡ (if x.around.is_silent then 1 + x.past.silent_slots else 0)
+  pub limit : (next_past x).limit ≡ x.past.limit

@@ -9,14 +9,13 @@ use Rattle.ttp_world.specs.declared.node.Phase.{Phase}
 use Rattle.ttp_world.specs.declared.node.Phase.TheVariants as phase
 use Rattle.ttp_world.specs.declared.script.Script.{Script}
 use Rattle.ttp_world.specs.Clock.{notes_in}
-use Rattle.ttp_world.specs.Conduct.{cold_start_cstate}
 use Rattle.ttp_world.specs.Diary.{start_place}
 use Rattle.ttp_world.specs.Hypothesis.{ClusterStart, loses}
 use Rattle.ttp_world.specs.Past.{NodePast}
 use Rattle.ttp_world.specs.Script.{on_slot, is_on}
 use Rattle.safety_laws.specs.Groups.{HoldsGroup}
 use Rattle.safety_laws.specs.Heard.{IsUnflipped}
-use Rattle.safety_laws.specs.Standing.{Standing}
+use Rattle.safety_laws.specs.Standing.{Standing, joined_on}
 
 -- its cold-start frame comes to each other node that is on in that slot, as it was sent
 pub record IsStartHeard (list : Medl) (script : Script) (start : ClusterStart) : Type 0 where
@@ -57,20 +56,9 @@ starter_standing list k = record {
   notes = notes_in list (start_place k) entry.Started;
 }
 
--- the entry of a node that joins on node p's cold-start frame, and what it holds
+-- the entry of a node that joins on node p's cold-start frame
 abbrev pub joined_on_start : ℕ → ℤ → Entry
-joined_on_start p deviation = entry.Joined p (cold_start_cstate p) deviation
-
-abbrev pub joined_standing : Medl → ℕ → ℤ → Standing
-joined_standing list p deviation = record {
-  place = start_place p;
-  members = p ∷ [];
-  accepted = 1;
-  rejected = 0;
-  ack = ack.Closed;
-  cold_start = false;
-  notes = notes_in list (start_place p) (joined_on_start p deviation);
-}
+joined_on_start p deviation = joined_on (start_place p) (p ∷ []) deviation
 
 -- node k is active at the place of node p's cold start, and holds p alone for a member
 pub record HasBegun (list : Medl) (p k : ℕ) (past : NodePast) : Type 0 where

@@ -56,6 +56,12 @@ silent_and_deaf =
     script_with (replicate 4 (Some 0))
     (event.Send 1 both fault.Silence 9 9 ∷ event.Receive 1 both fault.Silence 10 12 ∷ [])
 
+-- node 1 leaves after it, and is armed in slot 14
+abbrev pub rearmed : Script
+rearmed =
+    script_with (replicate 4 (Some 0))
+    (event.Send 1 both fault.Silence 9 9 ∷ event.Receive 1 both fault.Silence 10 12 ∷ event.Arm 1 14 ∷ [])
+
 -- node 3 alone does not hear that frame
 abbrev pub deaf : Script
 deaf = script_with (replicate 4 (Some 0)) (event.Receive 3 both fault.Noise 9 9 ∷ [])

@@ -2,8 +2,8 @@
 //!
 //! For proofs to cite, each stands in a file of `proofs/`: `Views`, `Hearing` and `Senders`, `Joins`,
 //! `NodeSlots`, `WorldTurns`, `OneSender`, `Payloads`, `Verdicts`, `Deliveries`, `OwnSlots`, `Idle`, `Groups`,
-//! `Unanswered`, `Waiting` and `StartSlot`.
-ghost use Rattle.std.specs.Prelude.{◌≡◌, ◌≢◌, ◌↔◌, ℕ, ◌<◌, ◌≤◌, ℤ, pos, neg_ℤ, ◌≤ℤ◌, ◌⊎◌, true, false};
+//! `Unanswered`, `Listening`, `Waiting` and `StartSlot`.
+ghost use Rattle.std.specs.Prelude.{◌≡◌, ◌≢◌, ◌↔◌, ℕ, ◌+◌, ◌*◌, ◌<◌, ◌≤◌, ℤ, pos, neg_ℤ, ◌≤ℤ◌, ◌⊎◌, true, false};
 ghost use Rattle.std.specs.Prelude.{List, [], ◌∷◌, length, Option, IsTrue};
 ghost use Rattle.ttp_base.specs.NodeSet.{has_node, with_node, without_node};
 ghost use Rattle.ttp_world.specs.declared.medl.Medl.{Medl};
@@ -19,13 +19,14 @@ ghost use Rattle.ttp_world.specs.declared.script.Channel.{Channel};
 ghost use Rattle.ttp_world.specs.declared.script.Script.{Script};
 ghost use Rattle.ttp_world.specs.Acknowledgement.{is_open};
 ghost use Rattle.ttp_world.specs.Conduct.{cold_start_frame, own_frame, message_sent, listening_entry, delivery};
-ghost use Rattle.ttp_world.specs.Diary.{History, entry_of};
+ghost use Rattle.ttp_world.specs.Diary.{History, Place, start_place, entry_of};
+ghost use Rattle.ttp_world.specs.Frame.{is_explicit};
 ghost use Rattle.ttp_world.specs.Hypothesis.{ClusterStart, is_covered, loses, start_of};
 ghost use Rattle.ttp_world.specs.Legal.{IsLegal};
 ghost use Rattle.ttp_world.specs.Medium.{SentFrame, heard};
 ghost use Rattle.ttp_world.specs.Medl.{may_start, IsValid};
 ghost use Rattle.ttp_world.specs.Membership.{is_accepted};
-ghost use Rattle.ttp_world.specs.Reception.{Hearing, expected_of, is_within_window, view_of_bits};
+ghost use Rattle.ttp_world.specs.Reception.{Hearing, expected_header, expected_of, is_within_window, view_of_bits};
 ghost use Rattle.ttp_world.specs.Script.{is_ever_on, is_on, flipped_bits, IsValidScript};
 ghost use Rattle.ttp_world.specs.Starts.{StartsAlone};
 ghost use Rattle.ttp_world.specs.World.{BegunSlot, Numbers, SlotNumbers, node_past, slot_after, frames_of, frames_in};
@@ -34,13 +35,14 @@ ghost use Rattle.safety_laws.specs.Deliveries.{delivery_at};
 ghost use Rattle.safety_laws.specs.Groups.{IsNotAbout, HoldsGroup, IsUnanswered, HearsNoAnswer, StaysUnanswered};
 ghost use Rattle.safety_laws.specs.Heard.{is_frameless, IsUnflipped, signal_as_sent, HearsFrame, HearsNoFrame};
 ghost use Rattle.safety_laws.specs.Heard.{HearsSilence};
+ghost use Rattle.safety_laws.specs.Listening.{IsListening, HearsPlace, HearsNoPlace};
 ghost use Rattle.safety_laws.specs.NodeSlot.{NodeSlot, node_slot, frames_made, entry_made, next_past, coming_place};
 ghost use Rattle.safety_laws.specs.NodeSlot.{owner_of, candidates_of};
 ghost use Rattle.safety_laws.specs.Senders.{SendsAlone, NoneSends};
 ghost use Rattle.safety_laws.specs.SlotFrames.{IsSlotFrame, view_of_members};
-ghost use Rattle.safety_laws.specs.Standing.{StandsBy, HasJustLeft, IsJudgedAs, sent_standing};
-ghost use Rattle.safety_laws.specs.Start.{IsStartHeard, Waits, starter_standing, joined_on_start};
-ghost use Rattle.safety_laws.specs.Start.{joined_standing, HasBegun};
+ghost use Rattle.safety_laws.specs.Standing.{StandsBy, HasJustLeft, IsJudgedAs, sent_standing, joined_on};
+ghost use Rattle.safety_laws.specs.Standing.{joined_standing, HasWaited};
+ghost use Rattle.safety_laws.specs.Start.{IsStartHeard, Waits, starter_standing, joined_on_start, HasBegun};
 ghost use Rattle.safety_laws.specs.Turns.{IsJudging, HearsMembers, HearsOutside, IsAtOwnSlot, HasPayload};
 
 /// How an active node sees bits in another's slot. The frame that the list gives for the place at which
@@ -204,6 +206,55 @@ pub fn idle()
         → ((next_past x).phase ≡ phase.Left) × (frames_made x ≡ []) }
 {}
 
+/// A node that listens in a slot, and what it makes of it. One that has left has waited in no slot, and its
+/// limit is the long one (`left`); where it is armed it listens (`armed`). One that listens goes on while
+/// it has waited in fewer slots than its limit, so that it starts in none of these (`early`). It sends
+/// nothing (`quiet`).
+///
+/// Where no frame comes, or one on which it can't join, it waits (`waits`, `passes`): it counts the slot
+/// if both channels were silent to it, which they are where nothing comes and not where a frame does
+/// (`silence`, `frame`), and else begins again to count. A frame on which it can join makes it a node
+/// at the frame's place with the frame's members, which has accepted one frame and waits for no answer
+/// (`joins`); its clock takes over the deviation that its entry tells. In a slot in which one node sends
+/// it hears of the sender's place, with the sender's members and the sender, if the list has a C-state in
+/// that frame (`place`), and else of none (`no_place`).
+pub fn listening()
+    ensures armed { (x : NodeSlot) → x.past.phase ≡ phase.Left → IsTrue x.armed → IsListening x }
+    ensures early { (x : NodeSlot) → x.past.phase ≡ phase.Listening → x.past.silent_slots < x.past.limit
+        → IsListening x }
+    ensures left { (list : Medl) (script : Script) (history : History) (k : ℕ)
+        → (node_past list script history k).phase ≡ phase.Left
+        → ((node_past list script history k).silent_slots ≡ 0)
+        × ((node_past list script history k).limit ≡ 2 * length list.slots + k) }
+    ensures quiet { (x : NodeSlot) → IsListening x → frames_made x ≡ [] }
+    ensures waits { (x : NodeSlot) → IsListening x → HearsNoFrame x.hearing → HasWaited x }
+    ensures passes { (x : NodeSlot) (sender : ℕ) → IsListening x → HearsNoPlace x sender → HasWaited x }
+    ensures silence { (list : Medl) (script : Script) (history : History) (chosen : List Chosen) (k : ℕ)
+        → (let x = node_slot list script history chosen k in
+        HearsSilence x.hearing → x.around.is_silent ≡ true) }
+    ensures frame { (list : Medl) (script : Script) (history : History) (chosen : List Chosen) (k : ℕ)
+        (sent : SentFrame)
+        → (let x = node_slot list script history chosen k in
+        HearsFrame sent x.hearing → x.around.is_silent ≡ false) }
+    ensures joins { (x : NodeSlot) (sender : ℕ) (place : Place) (members : List ℕ) → IsListening x
+        → HearsPlace x sender place members
+        → (let deviation = x.hearing.deviation sender in
+        StandsBy (next_past x) (joined_on place members deviation) (joined_standing x.list place members deviation)) }
+    ensures place { (list : Medl) (script : Script) (numbers : Numbers) (chosen : List Chosen) (p r : ℕ)
+        → IsValid list → SendsAlone list script (world list script numbers) chosen p
+        → loses script p (length (world list script numbers)) r ≡ false
+        → (let x = node_slot list script (world list script numbers) chosen p in
+        is_explicit (expected_header list (coming_place x)) ≡ true
+        → HearsPlace (node_slot list script (world list script numbers) chosen r) p (coming_place x)
+        (with_node x.past.members p)) }
+    ensures no_place { (list : Medl) (script : Script) (numbers : Numbers) (chosen : List Chosen) (p r : ℕ)
+        → IsValid list → SendsAlone list script (world list script numbers) chosen p
+        → loses script p (length (world list script numbers)) r ≡ false
+        → is_explicit (expected_header list (coming_place (node_slot list script (world list script numbers) chosen p)))
+        ≡ false
+        → HearsNoPlace (node_slot list script (world list script numbers) chosen r) p }
+{}
+
 /// A node that holds a group for members, and beside it only a node that it doubts. The frame of an owner
 /// that holds the same group is correct to it (`correct`), and one that lacks a member of the group is
 /// incorrect (`incorrect`), but if that is the node itself and waits for its first successor: then it
@@ -283,7 +334,7 @@ pub fn start()
         → (k : ℕ) → k < length list.slots → k ≢ start.node → IsTrue (is_on script k start.slot)
         → (let deviation = deviation_in (slot_after list script (world list script numbers)) k start.node in
         StandsBy (node_past list script (world list script (new ∷ numbers)) k) (joined_on_start start.node deviation)
-        (joined_standing list start.node deviation)) }
+        (joined_standing list (start_place start.node) (start.node ∷ []) deviation)) }
     ensures together { (list : Medl) (script : Script) (start : ClusterStart) (new : SlotNumbers) (numbers : Numbers)
         → IsValid list → StartsAlone list script start → length numbers ≡ start.slot
         → IsStartHeard list script start

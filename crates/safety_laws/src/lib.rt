@@ -12,6 +12,7 @@
 //!   of each slot put in or taken out;
 //! - [`laws::unanswered`]: a node that no frame answers keeps its acknowledgement open, or leaves;
 //! - [`laws::idle`]: who sends nothing;
+//! - [`laws::listening`]: a node that has left and is armed, or still listens, waits or joins;
 //! - [`laws::start`]: until a first node's limit is reached each node waits in silence, and then all
 //!   that are on begin on that node's frame.
 //!

@@ -10,6 +10,7 @@ fn laws_are_there() {
     laws::judged();
     laws::own_slot();
     laws::idle();
+    laws::listening();
     laws::groups();
     laws::unanswered();
     laws::start();

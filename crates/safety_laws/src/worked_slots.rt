@@ -12,12 +12,13 @@ ghost use Rattle.ttp_world.specs.Acknowledgement.{is_open};
 ghost use Rattle.ttp_world.specs.Hypothesis.{start_of};
 ghost use Rattle.safety_laws.specs.Groups.{HoldsGroup, IsUnanswered, HearsNoAnswer};
 ghost use Rattle.safety_laws.specs.Heard.{HearsNoFrame, HearsSilence};
+ghost use Rattle.safety_laws.specs.Listening.{IsListening, HearsPlace, HearsNoPlace};
 ghost use Rattle.safety_laws.specs.NodeSlot.{entry_made, next_past, candidates_of};
 ghost use Rattle.safety_laws.specs.Senders.{SendsAlone};
 ghost use Rattle.safety_laws.specs.Start.{IsStartHeard};
 ghost use Rattle.safety_laws.specs.Turns.{IsJudging, HearsMembers, HearsOutside, IsAtOwnSlot, HasPayload};
-ghost use Rattle.safety_laws.specs.WorkedSlots.{four_nodes, first_start, faultless, silent, silent_and_deaf, deaf};
-ghost use Rattle.safety_laws.specs.WorkedSlots.{jumping, alone, run, chosen_in, at};
+ghost use Rattle.safety_laws.specs.WorkedSlots.{four_nodes, first_start, faultless, silent, silent_and_deaf, rearmed};
+ghost use Rattle.safety_laws.specs.WorkedSlots.{deaf, jumping, alone, run, chosen_in, at};
 
 /// The start is known and heard.
 fn a_start()
@@ -93,4 +94,19 @@ fn one_group()
     ensures unacknowledged { IsUnanswered 1 (at silent 10 1).past.ack }
     ensures no_answer { HearsNoAnswer (at silent 10 1) }
     ensures in_doubt { HoldsGroup four_nodes 1 (0 ∷ 1 ∷ []) (at silent 11 1).past }
+{}
+
+/// Node 1, which left in slot 13, is armed in slot 14. Node 2's frame carries no C-state, so it waits, and
+/// counts no silent slot; on node 3's it joins, in which the nodes are members that go on without it.
+fn a_return()
+    ensures left { entry_made (at rearmed 13 1) ≡ entry.Left reason.Unacknowledged 1 }
+    ensures listens { IsListening (at rearmed 14 1) }
+    ensures no_place { HearsNoPlace (at rearmed 14 1) 2 }
+    ensures waits { entry_made (at rearmed 14 1) ≡ entry.Waited }
+    ensures goes_on { IsListening (at rearmed 15 1) }
+    ensures none_counted { (at rearmed 15 1).past.silent_slots ≡ 0 }
+    ensures limit { (at rearmed 15 1).past.limit ≡ 9 }
+    ensures place { HearsPlace (at rearmed 15 1) 3 (record { time = 7; round = 0; slot = 3 }) (0 ∷ 2 ∷ 3 ∷ []) }
+    ensures joins { entry_made (at rearmed 15 1)
+        ≡ entry.Joined 3 (record { time = 7; round = 0; slot = 3; members = 0 ∷ 2 ∷ 3 ∷ [] }) (pos 0) }
 {}

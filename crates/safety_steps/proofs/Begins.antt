@@ -26,8 +26,8 @@ use Rattle.fault_plan.specs.Ledger.{opened, ledger_of}
 use Rattle.fault_plan.proofs.Members.{first-sender}
 use Rattle.fault_plan.proofs.Persists.{absent-always, sound-first}
 use Rattle.safety_laws.specs.Groups.{HoldsGroup}
-use Rattle.safety_laws.specs.Start.{IsStartHeard, starter_standing, joined_on_start, joined_standing}
-use Rattle.safety_laws.specs.Standing.{StandsBy}
+use Rattle.safety_laws.specs.Start.{IsStartHeard, starter_standing, joined_on_start}
+use Rattle.safety_laws.specs.Standing.{StandsBy, joined_standing}
 use Rattle.ttp_world.specs.World.{deviation_in}
 use Rattle.safety_laws.proofs.StartSlot.{first_due, starter-stands, joiner-stands, off-stays, has-begun}
 use Rattle.safety_laws.proofs.Waiting.{WaitAll, WaitAll-world}
@@ -128,7 +128,7 @@ module _ (list : Medl) (script : Script) (start : ClusterStart) (plan : Plan) (i
       pub joiner-begun : (k : ℕ) → k < length list.slots → k ≢ start.node → is_on script k start.slot ≡ true →
           let deviation = deviation_in (slot_after list script (world list script numbers)) k start.node in
           StandsBy (node_past list script (world list script (new ∷ numbers)) k) (joined_on_start start.node deviation)
-          (joined_standing list start.node deviation)
+          (joined_standing list (start_place start.node) (start.node ∷ []) deviation)
       joiner-begun k node other on =
           joiner-stands list script start (world list script numbers)
           (messages_chosen list script (length numbers) new.sent) is.planned.valid is.alone waited number start-heard k

@@ -147,7 +147,7 @@ is_formed-implicit width bytes expected size start first explicit =
     (and_left _ _
     (ne_eqb (header_in bytes) expected (λ same. true≢false (sym explicit ∙ ap is_explicit (sym same ∙ first)))))
 
-joinable-implicit : (list : Medl) (bytes : List ℕ) → header_in bytes ≡ 0 → joinable list bytes ≡ None
+pub joinable-implicit : (list : Medl) (bytes : List ℕ) → header_in bytes ≡ 0 → joinable list bytes ≡ None
 joinable-implicit list bytes first =
     (λ i. if is_joinable_state list c && (cold i || listed i) then Some c else None)
     ∙ ap (λ b. if b then Some c else None) (and_right (is_joinable_state list c) false refl)

@@ -1,0 +1,4 @@
+pub mod Modes
+pub mod ModeText
+pub mod OneMode
+pub mod WorkedCase

@@ -1,0 +1,147 @@
+-- A listening node in a slot: it waits, or joins, and sends nothing.
+use Rattle.std.proofs.Common.{◌≡◌, ℕ, ◌+◌, ◌*◌, ◌<◌, true, false, cond, ◌&&◌, ◌||◌, List, [], ◌∷◌, ◌++◌}
+use Rattle.std.proofs.Common.{length, refl, ap, sym, ◌∙◌, subst, ℤ}
+use Rattle.std.specs.Prelude.{◌==◌}
+use Rattle.std.proofs.Math.Bool.{or-true}
+use Rattle.std.proofs.lemmas.Bool.{and_right, lt-leb}
+use Rattle.std.proofs.lemmas.List.{append-nil}
+use Rattle.ttp_world.specs.declared.medl.Medl.{Medl}
+use Rattle.ttp_world.specs.declared.node.Act.{Act}
+use Rattle.ttp_world.specs.declared.node.Act.TheVariants.{Gone, Listen, Start}
+use Rattle.ttp_world.specs.declared.node.Chosen.{Chosen}
+use Rattle.ttp_world.specs.declared.node.Entry.{Entry}
+use Rattle.ttp_world.specs.declared.node.Entry.TheVariants as entry
+use Rattle.ttp_world.specs.declared.node.Phase.{Phase}
+use Rattle.ttp_world.specs.declared.node.Phase.TheVariants as phase
+use Rattle.ttp_world.specs.declared.script.Script.{Script}
+use Rattle.ttp_world.specs.Act.{phase_act}
+use Rattle.ttp_world.specs.After.{past_after}
+use Rattle.ttp_world.specs.Clock.{notes_in}
+use Rattle.ttp_world.specs.Conduct.{node_frames, new_entry, listening_entry}
+use Rattle.ttp_world.specs.Diary.{Diary, History, Surroundings, SlotSurroundings, Place, phase_of, diary_of, cstate_at}
+use Rattle.ttp_world.specs.Medium.{SentFrame, Signal, is_silence, surroundings_of}
+use Rattle.ttp_world.specs.Medl.{may_start}
+use Rattle.ttp_world.specs.Membership.{AreNodes}
+use Rattle.ttp_world.specs.Past.{NodePast, limit_of, silent_slots_of}
+use Rattle.ttp_world.specs.Reception.{Hearing}
+use Rattle.ttp_world.specs.World.{node_past, slot_after}
+use Rattle.ttp_world.proofs.Silences.{is_silent_to-row_in}
+use Rattle.safety_laws.specs.Heard.{HearsFrame, OnBoth, OnA, OnB, HearsNoFrame, HearsSilence}
+use Rattle.safety_laws.specs.Listening.{IsListening, HearsPlace, HearsNoPlace}
+use Rattle.safety_laws.specs.NodeSlot.{NodeSlot, node_slot, frames_made, entry_made, next_past}
+use Rattle.safety_laws.specs.Standing.{StandsBy, joined_on, joined_standing, HasWaited}
+use Rattle.safety_laws.proofs.Joins.{listening_entry-joins, listening_entry-waits, listening_entry-passes}
+
+-- Who listens: a node that has left and is armed, and a listening node that has not waited for as long as it is to.
+
+pub listens-armed : (x : NodeSlot) → x.past.phase ≡ phase.Left → x.armed ≡ true → IsListening x
+listens-armed x left armed =
+    ap (λ (p : Phase). phase_act p x.list x.node x.on x.armed x.past) left ∙ ap (λ b. cond b Listen Gone) armed
+
+pub listens-early : (x : NodeSlot) → x.past.phase ≡ phase.Listening → x.past.silent_slots < x.past.limit
+    → IsListening x
+listens-early x listens early =
+    ap (λ (p : Phase). phase_act p x.list x.node x.on x.armed x.past) listens
+    ∙ ap (λ b. cond (may_start x.list x.node && b) Start Listen) (lt-leb x.past.limit x.past.silent_slots early)
+    ∙ ap (λ b. cond b Start Listen) (and_right (may_start x.list x.node) false refl)
+
+-- A node that has left has waited in no slot, and withdrew no cold start since it left.
+
+left-waited : (list : Medl) (k : ℕ) (diary : Diary) (surroundings : Surroundings) → phase_of diary ≡ phase.Left
+    → (silent_slots_of diary surroundings ≡ 0) × (limit_of list k diary ≡ 2 * length list.slots + k)
+left-waited list k [] surroundings left = cc
+left-waited list k (entry.Left why peer ∷ diary) surroundings left = (refl, refl)
+left-waited list k (entry.Gone ∷ diary) surroundings left = (refl, refl)
+left-waited list k (entry.Off ∷ diary) surroundings left = cc
+left-waited list k (entry.Waited ∷ diary) surroundings left = cc
+left-waited list k (entry.Retried ∷ diary) surroundings left = cc
+left-waited list k (entry.Started ∷ diary) surroundings left = cc
+left-waited list k (entry.Sent message ∷ diary) surroundings left = cc
+left-waited list k (entry.Joined sender c deviation ∷ diary) surroundings left = cc
+left-waited list k (entry.Judged sender v deviation ∷ diary) surroundings left = cc
+
+pub left-world : (list : Medl) (script : Script) (history : History) (k : ℕ)
+    → (node_past list script history k).phase ≡ phase.Left
+    → ((node_past list script history k).silent_slots ≡ 0)
+    × ((node_past list script history k).limit ≡ 2 * length list.slots + k)
+left-world list script history k left =
+    left-waited list k (diary_of history k) (surroundings_of script history k) left
+
+-- What comes is silence on both channels or not.
+
+pub around-silent : (list : Medl) (script : Script) (history : History) (chosen : List Chosen) (k : ℕ) →
+    let x = node_slot list script history chosen k in
+    x.around.is_silent ≡ (is_silence x.hearing.a && is_silence x.hearing.b)
+around-silent list script history chosen k = is_silent_to-row_in (slot_after list script history) chosen k
+
+pub silence-silent : (h : Hearing) → HearsSilence h → (is_silence h.a && is_silence h.b) ≡ true
+silence-silent h silent = λ i. is_silence (silent.a i) && is_silence (silent.b i)
+
+pub frame-silent : (h : Hearing) (sent : SentFrame) → HearsFrame sent h → (is_silence h.a && is_silence h.b) ≡ false
+frame-silent h sent (OnBoth a b) = ap (λ (s : Signal). is_silence s && is_silence h.b) a
+frame-silent h sent (OnA a less) = ap (λ (s : Signal). is_silence s && is_silence h.b) a
+frame-silent h sent (OnB less b) =
+    ap (λ (s : Signal). is_silence h.a && is_silence s) b ∙ and_right (is_silence h.a) false refl
+
+-- What a listening node makes of the slot.
+
+pub frames_made-listening : (x : NodeSlot) → IsListening x → frames_made x ≡ []
+frames_made-listening x listens = ap (node_frames x.list x.node x.past x.chosen) listens
+
+entry_made-listening : (x : NodeSlot) → IsListening x → listening_entry x.list x.hearing ≡ entry_made x
+entry_made-listening x listens =
+    ap (λ (a : Act). new_entry x.list x.node x.past x.chosen x.hearing a) (sym listens)
+
+pub waited-by_entry : (x : NodeSlot) → IsListening x → listening_entry x.list x.hearing ≡ entry.Waited → HasWaited x
+waited-by_entry x listens waits =
+    let made : entry_made x ≡ entry.Waited = sym (entry_made-listening x listens) ∙ waits in
+    let after : next_past x ≡ past_after x.list x.node x.past entry.Waited x.around =
+    ap (λ (e : Entry). past_after x.list x.node x.past e x.around) made in
+    record {
+      phase = ap (λ (p : NodePast). p.phase) after;
+      silent_slots = ap (λ (p : NodePast). p.silent_slots) after;
+      limit = ap (λ (p : NodePast). p.limit) after;
+    }
+
+pub waited-none : (x : NodeSlot) → IsListening x → HearsNoFrame x.hearing → HasWaited x
+waited-none x listens none = waited-by_entry x listens (listening_entry-waits x.list x.hearing none)
+
+pub waited-passing : (x : NodeSlot) (sender : ℕ) → IsListening x → HearsNoPlace x sender → HasWaited x
+waited-passing x sender listens hears =
+    waited-by_entry x listens (listening_entry-passes x.list x.hearing _ hears.comes hears.can_not)
+
+-- what a stint that has just begun has noted
+pub notes-begun : (list : Medl) (place : Place) (e : Entry) (notes : List ℤ)
+    → notes_in list place e ++ cond ((place.slot == 0) || true) [] notes ≡ notes_in list place e
+notes-begun list place e notes =
+    ap (λ b. notes_in list place e ++ cond b [] notes) (or-true (place.slot == 0))
+    ∙ append-nil (notes_in list place e)
+
+stands-joined : (list : Medl) (k : ℕ) (place : Place) (members : List ℕ) (deviation : ℤ) (past : NodePast)
+    (s : SlotSurroundings) → AreNodes list members →
+    let e = joined_on place members deviation in
+    StandsBy (past_after list k past e s) e (joined_standing list place members deviation)
+stands-joined list k place members deviation past s nodes = record {
+  phase = refl;
+  entry = refl;
+  place = refl;
+  members = sym nodes;
+  accepted = refl;
+  rejected = refl;
+  ack = refl;
+  cold_start = refl;
+  notes = notes-begun list place (joined_on place members deviation) past.notes;
+}
+
+pub joined-place : (x : NodeSlot) (sender : ℕ) (place : Place) (members : List ℕ) → IsListening x
+    → HearsPlace x sender place members →
+    let deviation = x.hearing.deviation sender in
+    StandsBy (next_past x) (joined_on place members deviation) (joined_standing x.list place members deviation)
+joined-place x sender place members listens hears =
+    let deviation = x.hearing.deviation sender in
+    let e = joined_on place members deviation in
+    subst (λ (made : Entry). StandsBy (past_after x.list x.node x.past made x.around) e
+    (joined_standing x.list place members deviation))
+    (sym (listening_entry-joins x.list x.hearing _ (cstate_at place members) hears.comes hears.can)
+    ∙ entry_made-listening x listens)
+    (stands-joined x.list x.node place members deviation x.past x.around hears.nodes)
