@@ -17,7 +17,14 @@ ghost use Rattle.ttp_world.specs.Script.{IsValidScript};
 ghost use Rattle.ttp_world.specs.World.{Numbers, world};
 ghost use Rattle.mode_change.specs.OneMode.{RunsOneMode};
 
+mod line;
+mod node;
+mod put;
+mod run;
 mod worked_case;
+
+pub use node::Modes;
+pub use put::{ModeFault, put_modes};
 
 use ttp_world::{Medl, Script};
 

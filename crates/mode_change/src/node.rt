@@ -1,9 +1,10 @@
 //! What one node knows of modes, slot by slot.
-ghost use Rattle.std.specs.Prelude.{◌≡◌, ◌<◌, length, option_map, IfSome, None};
+ghost use Rattle.std.specs.Prelude.{◌≡◌, ◌<◌, length, IfSome, None};
+ghost use Rattle.std.specs.Option.{option_copied};
 ghost use Rattle.ttp_world.specs.After.{place_after};
 ghost use Rattle.ttp_world.specs.Diary.{Place, no_place, start_place};
 ghost use Rattle.ttp_world.specs.Medl.{IsValid};
-ghost use Rattle.slot_clock.specs.StandsFor.{StandsFor};
+ghost use Rattle.slot_clock.specs.StandsFor.{StandsFor, StandsAtNext};
 ghost use Rattle.mode_change.specs.Knowing.{IsJoinOfList, IsFromList, AreSmall, mode_by};
 ghost use Rattle.mode_change.specs.Modes.{mode_asked, mode_delivered, no_modes, modes_with, with_request, ends_cycle};
 ghost use Rattle.mode_change.specs.Modes.{switched_at, is_live, is_delivery_live};
@@ -38,8 +39,8 @@ fn mode_asked(list: &Medl, node: u8, payload: &[u8]) -> Option<u8>
 // The mode for which what a node delivered asks.
 fn mode_delivered(list: &Medl, delivered: Option<&Delivered>) -> Option<u8>
     requires valid { IsValid list.now }
-    requires from { IsFromList list.now (option_map (λ d. d.now) delivered.entry) }
-    ensures value { result ≡ mode_delivered list.now (option_map (λ d. d.now) delivered.entry) }
+    requires from { IsFromList list.now (option_copied delivered) }
+    ensures value { result ≡ mode_delivered list.now (option_copied delivered.entry) }
     ensures small { IfSome result (λ m. m < 8) }
 {
     match delivered {
@@ -59,9 +60,9 @@ fn mode_by(
 ) -> Option<u8>
     requires valid { IsValid list.now }
     requires node { node < length list.now.slots }
-    requires from { IsFromList list.now (option_map (λ d. d.now) delivered.entry) }
+    requires from { IsFromList list.now (option_copied delivered) }
     ensures value { result ≡ mode_by list.now node entry.now chosen.now.payload
-        (option_map (λ d. d.now) delivered.entry) }
+        (option_copied delivered.entry) }
     ensures small { IfSome result (λ m. m < 8) }
 {
     match entry {
@@ -81,9 +82,9 @@ fn is_live(list: &Medl, node: u8, mode: u8) -> bool
 
 // Whether what a node delivered is live in the mode that it knows.
 fn is_delivery_live(list: &Medl, delivered: Option<&Delivered>, mode: Option<u8>) -> Option<bool>
-    requires from { IsFromList list.now (option_map (λ d. d.now) delivered.entry) }
+    requires from { IsFromList list.now (option_copied delivered) }
     requires mode { IfSome mode (λ m. m < 8) }
-    ensures { result ≡ is_delivery_live list.now (option_map (λ d. d.now) delivered.entry) mode }
+    ensures { result ≡ is_delivery_live list.now (option_copied delivered.entry) mode }
 {
     match (delivered, mode) {
         (Some(delivered), Some(mode)) => Some(is_live(list, delivered.sender, mode)),
@@ -164,6 +165,15 @@ fn clock_at(list: &Medl, slot: u8) -> SlotClock
     SlotClock::at(list, &cstate)
 }
 
+// One slot later.
+fn next_clock(old: SlotClock) -> SlotClock
+    ensures { StandsAtNext old result }
+{
+    let mut clock = old;
+    clock.next();
+    clock
+}
+
 // The place of a node after a slot, by its entry.
 fn clock_after(old: SlotClock, list: &Medl, node: u8, entry: &Entry) -> SlotClock
     requires valid { IsValid list.now }
@@ -175,11 +185,8 @@ fn clock_after(old: SlotClock, list: &Medl, node: u8, entry: &Entry) -> SlotCloc
     match entry {
         Entry::Started => clock_at(list, node),
         Entry::Joined { cstate, .. } => SlotClock::at(list, cstate),
-        Entry::Sent { .. } | Entry::Judged { .. } => {
-            let mut clock = old;
-            clock.next();
-            clock
-        }
+        Entry::Sent { .. } => next_clock(old),
+        Entry::Judged { .. } => next_clock(old),
         _ => clock_at(list, 0),
     }
 }
@@ -188,7 +195,7 @@ fn clock_after(old: SlotClock, list: &Medl, node: u8, entry: &Entry) -> SlotCloc
 fn ends_cycle(clock: &SlotClock, list: &Medl) -> bool
     ensures { (place : Place) → StandsFor clock.now list.now place → result ≡ ends_cycle list.now place }
 {
-    clock.ends_round() && clock.round() + 1 == list.rounds
+    clock.ends_round() && u16::from(clock.round()) + 1 == u16::from(list.rounds)
 }
 
 /// What is known of a node after a slot.
@@ -231,16 +238,16 @@ pub(crate) fn node_after(
     requires valid { IsValid list.now }
     requires node { node < length list.now.slots }
     requires join { IsJoinOfList list.now entry.now }
-    requires from { IsFromList list.now (option_map (λ d. d.now) delivered.entry) }
+    requires from { IsFromList list.now (option_copied delivered) }
     requires small { AreSmall old.now.modes }
     ensures clock { (place : Place) → StandsFor old.now.clock list.now place
         → StandsFor result.clock list.now (place_after list.now node place entry.now) }
     ensures modes { (place : Place) → StandsFor old.now.clock list.now place
         → result.modes ≡ switched_at (ends_cycle list.now (place_after list.now node place entry.now))
-        (with_request (mode_by list.now node entry.now chosen.now.payload (option_map (λ d. d.now) delivered.entry))
+        (with_request (mode_by list.now node entry.now chosen.now.payload (option_copied delivered.entry))
         (modes_with entry.now old.now.modes)) }
     ensures live { result.live
-        ≡ is_delivery_live list.now (option_map (λ d. d.now) delivered.entry) old.now.modes.mode }
+        ≡ is_delivery_live list.now (option_copied delivered.entry) old.now.modes.mode }
     ensures small { AreSmall result.modes }
 {
     let clock = clock_after(old.clock, list, node, entry);

@@ -29,6 +29,8 @@ mod outgoing;
 mod text;
 
 pub use answer::{Outcome, verify};
+pub use outgoing::Outgoing;
+pub use text::cut_line;
 
 #[cfg(test)]
 mod tests;

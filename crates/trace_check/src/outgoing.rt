@@ -49,7 +49,7 @@ fn written_in<'a>(script: &'a Script, slot: u32, host: u8, place: u64) -> Option
 /// The messages that nodes can send: of each node's host the newest, and in a slot in place of it the one
 /// that is chosen.
 #[derive(Drop)]
-pub(crate) struct Outgoing {
+pub struct Outgoing {
     // The number of each host's newest message.
     newest: Vec<u64>,
     // The message that each node sends, if it sends one.
@@ -58,7 +58,7 @@ pub(crate) struct Outgoing {
 
 impl Outgoing {
     /// Each host has written nothing but the zeros.
-    pub(crate) fn new(alloc: Global, list: &Medl) -> Result<Outgoing, Memory>
+    pub fn new(alloc: Global, list: &Medl) -> Result<Outgoing, Memory>
         requires { IsValid list.now }
         ensures { (script : Said) → IfOk result (λ o. HoldsNewest o list.now script 0) }
     {
@@ -75,7 +75,7 @@ impl Outgoing {
     }
 
     /// The messages for a slot.
-    pub(crate) fn chosen(&self) -> &[Chosen]
+    pub fn chosen(&self) -> &[Chosen]
         ensures { result.now ≡ self.now.chosen.items }
     {
         &self.chosen
@@ -106,7 +106,7 @@ impl Outgoing {
     /// Chooses the messages that the lines of the nodes name in a slot with which a text begins, where
     /// these are legal. Only the lines of nodes whose hosts write in the slot are looked at: each other one
     /// sends its host's newest message.
-    pub(crate) fn choose(&mut self, list: &Medl, script: &Script, slot: u32, text: &[u8])
+    pub fn choose(&mut self, list: &Medl, script: &Script, slot: u32, text: &[u8])
         requires list { IsValid list.now }
         requires holds { HoldsNewest self.old list.now script.now slot }
         ensures { Chooses self.new list.now script.now slot (number_in list.now script.now slot text.now) }
@@ -127,7 +127,7 @@ impl Outgoing {
     }
 
     /// A host writes a message. Returns its number.
-    pub(crate) fn write(&mut self, host: u8, payload: &Payload) -> u64
+    pub fn write(&mut self, host: u8, payload: &Payload) -> u64
         requires newest { host < length self.old.newest.items }
         requires chosen { host < length self.old.chosen.items }
         requires few { get_or self.old.newest.items host 0 + 1 < 2 ^ 64 }

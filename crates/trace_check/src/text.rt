@@ -32,7 +32,7 @@ fn line_feed(text: &[u8]) -> Option<usize>
 }
 
 /// The first line of a text, with its line feed if it has one, and what follows it.
-pub(crate) fn cut_line(text: &[u8]) -> (&[u8], &[u8])
+pub fn cut_line(text: &[u8]) -> (&[u8], &[u8])
     ensures first { get_or (lines_of text.now) 0 [] ≡ result.0.now }
     ensures others { drop 1 (lines_of text.now) ≡ lines_of result.1.now }
 {
