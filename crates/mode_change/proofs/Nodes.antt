@@ -18,9 +18,8 @@ use Rattle.ttp_world.specs.World.{chosen_of}
 use Rattle.slot_clock.specs.StandsFor as clock
 use Rattle.controller.specs.PlantStands.{outcome_at, ShowsNode}
 use Rattle.controller.specs.PlantView.{PlantView}
-use Rattle.mode_change.specs.declared.node.Modes.{Modes}
 use Rattle.mode_change.specs.declared.node.NodeModes.{NodeModes}
-use Rattle.mode_change.specs.Knowing.{AreSmall, IsFromList, IsJoinOfList, mode_by, Knows, KnowAll, IsPast, HasStepped}
+use Rattle.mode_change.specs.Knowing.{AreSmall, IsFromList, mode_by, Knows, KnowAll, IsPast}
 use Rattle.mode_change.specs.ModeText.{mode_line, mode_line_of}
 use Rattle.mode_change.specs.Modes.{no_modes, modes_of, modes_with, with_request, ends_cycle, switched_at}
 use Rattle.mode_change.specs.Modes.{is_delivery_live}
@@ -81,49 +80,49 @@ entering-first plant chosen nodes list = record {
 module _ (plant : PlantView) (chosen : List Chosen) (list : Medl) (script : Script) (row : List Entry)
     (history : History) (past : IsPast plant chosen list script row history) (k : ℕ) (node : k < length list.slots)
   where
-  -- the entry that the plant shows
-  pub entry-shown : (state : NodeState) → ShowsNode plant k state → state.entry ≡ entry_of row k
-  entry-shown state shows = ap (λ (s : NodeState). s.entry) (shows script (row ∷ history) past.stands)
+    -- the entry that the plant shows
+    pub entry-shown : (state : NodeState) → ShowsNode plant k state → state.entry ≡ entry_of row k
+    entry-shown state shows = ap (λ (s : NodeState). s.entry) (shows script (row ∷ history) past.stands)
 
-  pub chosen-is : (j : ℕ) (c : Chosen) → j ≡ k → get_or chosen j c ≡ chosen_of chosen k
-  chosen-is j c is =
-      let nodes = past.nodes in
-      ap (λ i. get_or chosen i c) is ∙ get_or_default chosen k c nothing_chosen (omega (arith, node, nodes))
+    pub chosen-is : (j : ℕ) (c : Chosen) → j ≡ k → get_or chosen j c ≡ chosen_of chosen k
+    chosen-is j c is =
+        let nodes = past.nodes in
+        ap (λ i. get_or chosen i c) is ∙ get_or_default chosen k c nothing_chosen (omega (arith, node, nodes))
 
-  pub delivered-is : (delivered : Option Delivered) → delivered ≡ (outcome_at plant k).delivered
-      → IsFromList list delivered
-  delivered-is delivered is = subst (IsFromList list) (sym is) (past.from k node)
+    pub delivered-is : (delivered : Option Delivered) → delivered ≡ (outcome_at plant k).delivered
+        → IsFromList list delivered
+    delivered-is delivered is = subst (IsFromList list) (sym is) (past.from k node)
 
-  -- one node after the slot
-  pub knows-next : (old new : NodeModes) (e : Entry) (c : Chosen) (delivered : Option Delivered)
-      → Knows old list script history k → e ≡ entry_of row k → c ≡ chosen_of chosen k
-      → delivered ≡ (outcome_at plant k).delivered
-      → ((place : Place) → clock.StandsFor old.clock list place
-      → clock.StandsFor new.clock list (place_after list k place e))
-      → ((place : Place) → clock.StandsFor old.clock list place
-      → new.modes ≡ switched_at (ends_cycle list (place_after list k place e))
-      (with_request (mode_by list k e c.payload delivered) (modes_with e old.modes)))
-      → new.live ≡ is_delivery_live list delivered old.modes.mode → AreSmall new.modes
-      → Knows new list script (row ∷ history) k
-  knows-next old new e c delivered knows entry_is chosen_as delivered_as stands modes live small =
-      let place = place_of list k (diary_of history k) in
-      let there : place_after list k place e ≡ place_of list k (diary_of (row ∷ history) k) =
-      ap (place_after list k place) entry_is ∙ sym (past.place k node) in
-      record {
-        clock = subst (λ (p : Place). clock.StandsFor new.clock list p) there (stands place knows.clock);
-        modes =
-            modes place knows.clock
-            ∙ (λ i. switched_at (ends_cycle list (there i))
-            (with_request (mode_by list k (entry_is i) (chosen_as i).payload (delivered_as i))
-            (modes_with (entry_is i) (knows.modes i))))
-            ∙ ap (λ request. switched_at (ends_cycle list (place_of list k (diary_of (row ∷ history) k)))
-            (with_request request (modes_with (entry_of row k) (modes_of list script history k))))
-            (past.asked k node);
-        live =
-            live
-            ∙ (λ i. is_delivery_live list ((delivered_as ∙ past.delivered k node) i) (knows.modes i).mode);
-        small = small;
-      }
+    -- one node after the slot
+    pub knows-next : (old new : NodeModes) (e : Entry) (c : Chosen) (delivered : Option Delivered)
+        → Knows old list script history k → e ≡ entry_of row k → c ≡ chosen_of chosen k
+        → delivered ≡ (outcome_at plant k).delivered
+        → ((place : Place) → clock.StandsFor old.clock list place
+        → clock.StandsFor new.clock list (place_after list k place e))
+        → ((place : Place) → clock.StandsFor old.clock list place
+        → new.modes ≡ switched_at (ends_cycle list (place_after list k place e))
+        (with_request (mode_by list k e c.payload delivered) (modes_with e old.modes)))
+        → new.live ≡ is_delivery_live list delivered old.modes.mode → AreSmall new.modes
+        → Knows new list script (row ∷ history) k
+    knows-next old new e c delivered knows entry_is chosen_as delivered_as stands modes live small =
+        let place = place_of list k (diary_of history k) in
+        let there : place_after list k place e ≡ place_of list k (diary_of (row ∷ history) k) =
+        ap (place_after list k place) entry_is ∙ sym (past.place k node) in
+        record {
+          clock = subst (λ (p : Place). clock.StandsFor new.clock list p) there (stands place knows.clock);
+          modes =
+              modes place knows.clock
+              ∙ (λ i. switched_at (ends_cycle list (there i))
+              (with_request (mode_by list k (entry_is i) (chosen_as i).payload (delivered_as i))
+              (modes_with (entry_is i) (knows.modes i))))
+              ∙ ap (λ request. switched_at (ends_cycle list (place_of list k (diary_of (row ∷ history) k)))
+              (with_request request (modes_with (entry_of row k) (modes_of list script history k))))
+              (past.asked k node);
+          live =
+              live
+              ∙ (λ i. is_delivery_live list ((delivered_as ∙ past.delivered k node) i) (knows.modes i).mode);
+          small = small;
+        }
 
 module _ (plant : PlantView) (chosen : List Chosen) (before nodes : List NodeModes) (list : Medl) (i : ℕ)
     (entering : IsEntering plant chosen before nodes list i) (inside : i < length list.slots) where

@@ -1,9 +1,8 @@
 -- One slot of a run by the numbers that its trace names.
 use Rattle.std.proofs.Common.{◌≡◌, ℕ, zero, suc, ◌+◌, ◌-◌, ◌<◌, ◌≤◌, Bool, true, false, List, [], ◌∷◌, ◌++◌, length, get_or}
-use Rattle.std.proofs.Common.{drop, map, Option, Some, None, IfSome, IsTrue, if◌then◌else◌, refl, ap, sym, subst, ◌∙◌}
+use Rattle.std.proofs.Common.{drop, Option, Some, None, IfSome, IsTrue, if◌then◌else◌, refl, ap, sym, subst, ◌∙◌}
 use Rattle.std.proofs.Common.{length-append, length-drop, arith}
 use Rattle.std.specs.Option.{option_or}
-use Rattle.std.specs.List.{concat}
 use Rattle.std.proofs.Math.ListN.{get_or-map}
 use Rattle.std.proofs.lemmas.List.{drop-drop, drop_at, drop_more, get_or_append_left}
 use Rattle.std.proofs.lemmas.List.FromFn.{get_or-map-range_with_len}
@@ -14,20 +13,20 @@ use Rattle.ttp_world.specs.declared.node.Delivered.{Delivered}
 use Rattle.ttp_world.specs.declared.node.Entry.{Entry}
 use Rattle.ttp_world.specs.declared.node.Entry.TheVariants as entry
 use Rattle.ttp_world.specs.declared.script.Script.{Script}
-use Rattle.ttp_world.specs.Diary.{History, entry_of, diary_of, place_of}
+use Rattle.ttp_world.specs.Diary.{History, entry_of}
 use Rattle.ttp_world.specs.Legal.{is_legal_message, IsLegal}
 use Rattle.ttp_world.specs.Medl.{IsValid}
 use Rattle.ttp_world.specs.Messages.{message_of, delivered_of}
 use Rattle.ttp_world.specs.Outgoing.{nothing_chosen, message_chosen}
 use Rattle.ttp_world.specs.Past.{NodePast}
-use Rattle.ttp_world.specs.Script.{writes_in, reads_in, IsValidScript}
-use Rattle.ttp_world.specs.Trace.{node_line_of, trace_head, history_lines, trace_lines}
+use Rattle.ttp_world.specs.Script.{IsValidScript}
+use Rattle.ttp_world.specs.Trace.{node_line_of, trace_lines}
 use Rattle.ttp_world.specs.World.{SlotNumbers, Numbers, chosen_of, is_loaded, messages_chosen, row_in, slot_after, world}
 use Rattle.ttp_world.proofs.Carried.{AreOfHosts, delivered_of-row_in, message_of-row_in, row_in-same}
 use Rattle.ttp_world.proofs.LegalShapes.{legal-message, legal-older, legal-shapes}
 use Rattle.ttp_world.proofs.NextPasts.{node_past-next}
 use Rattle.ttp_world.proofs.Places.{IsOfList, delivered_of-sender, entry_of-row_after-of_list}
-use Rattle.ttp_world.proofs.Worlds.{length-world, row_of_world, world-of_list}
+use Rattle.ttp_world.proofs.Worlds.{row_of_world, world-of_list}
 use Rattle.controller.specs.Passes.{AreChosen, IsLeft}
 use Rattle.controller.specs.PlantStands.{PlantStandsFor, MayStep, IsStep, Steps, outcome_at}
 use Rattle.controller.specs.PlantView.{PlantView}
@@ -39,9 +38,9 @@ use Rattle.trace_check.proofs.NodesDepart.{legal-small, line-names, node-at, tak
 use Rattle.trace_check.proofs.SlotChosen.{chosen-of_hosts, chosen-sizes, taken-legal}
 use Rattle.trace_check.proofs.Wholes.{trace-cut}
 use Rattle.mode_change.specs.declared.run.Run.{Run}
-use Rattle.mode_change.specs.Knowing.{IsJoinOfList, mode_by, KnowAll, IsPast, HasStepped, StandsFor, first_numbers}
+use Rattle.mode_change.specs.Knowing.{IsJoinOfList, mode_by, KnowAll, IsPast, StandsFor, first_numbers}
 use Rattle.mode_change.specs.Knowing.{first_lines, IsAt}
-use Rattle.mode_change.specs.Modes.{mode_asked, mode_sent, mode_delivered, mode_requested}
+use Rattle.mode_change.specs.Modes.{mode_asked, mode_sent, mode_delivered}
 use Rattle.mode_change.proofs.Requests.{asked-nothing, or-none, sends-nothing}
 
 -- The numbers of the first slots.

@@ -1,5 +1,5 @@
 -- The text of modes, slot by slot, as it is written beside the trace that is read.
-use Rattle.std.proofs.Common.{◌≡◌, ℕ, zero, suc, ◌+◌, ◌-◌, ◌<◌, ◌≤◌, List, [], ◌∷◌, ◌++◌, length, drop, refl, ap, sym}
+use Rattle.std.proofs.Common.{◌≡◌, ℕ, zero, suc, ◌+◌, ◌-◌, ◌<◌, List, [], ◌∷◌, ◌++◌, length, drop, refl, ap, sym}
 use Rattle.std.proofs.Common.{subst, ◌∙◌, append_assoc, append-nil, arith}
 use Rattle.std.specs.List.{concat}
 use Rattle.std.proofs.lemmas.List.{drop_all}
@@ -95,34 +95,34 @@ module _ (list : Medl) (script : Script) (numbers : Numbers) (slot : ℕ) (count
 
   module _ (a b c : Output) (before : WroteLines a b (mode_lines_so_far list script (first_numbers script numbers slot)))
     where
-    -- the lines of the slot are written
-    pub wrote-next : ((said : Script) (row : List Entry) (history : History) → slot ≡ length history
-        → KnowAll nodes list said (row ∷ history) → WroteLines b c (mode_slot_lines list said row history))
-        → WroteLines a c (mode_lines_so_far list script (first_numbers script numbers (slot + 1)))
-    wrote-next more =
-        let older = first_numbers script numbers slot in
-        let next = first-next script numbers slot count less in
-        subst (λ (ns : Numbers). WroteLines a c (mode_lines_so_far list script ns)) (sym next.1)
-        (Wrote-join a b c (mode_lines_so_far list script older)
-        (mode_slot_lines list script (row_of_world list script next.0 older) (world list script older)) before
-        (more script (row_of_world list script next.0 older) (world list script older) at-slot known-row))
+      -- the lines of the slot are written
+      pub wrote-next : ((said : Script) (row : List Entry) (history : History) → slot ≡ length history
+          → KnowAll nodes list said (row ∷ history) → WroteLines b c (mode_slot_lines list said row history))
+          → WroteLines a c (mode_lines_so_far list script (first_numbers script numbers (slot + 1)))
+      wrote-next more =
+          let older = first_numbers script numbers slot in
+          let next = first-next script numbers slot count less in
+          subst (λ (ns : Numbers). WroteLines a c (mode_lines_so_far list script ns)) (sym next.1)
+          (Wrote-join a b c (mode_lines_so_far list script older)
+          (mode_slot_lines list script (row_of_world list script next.0 older) (world list script older)) before
+          (more script (row_of_world list script next.0 older) (world list script older) at-slot known-row))
 
-    -- or the sink fails within them
-    pub cut-next : ((said : Script) (row : List Entry) (history : History) → slot ≡ length history
-        → KnowAll nodes list said (row ∷ history) → CutShort b c (mode_slot_lines list said row history))
-        → CutShort a c (mode_lines list script numbers)
-    cut-next more =
-        let older = first_numbers script numbers slot in
-        let next = first-next script numbers slot count less in
-        let later = mode_lines-first list script numbers (script.slots - (slot + 1)) in
-        let here = mode_slot_lines list script (row_of_world list script next.0 older) (world list script older) in
-        let all : mode_lines list script numbers ≡ (mode_lines_so_far list script older ++ here) ++ later.0 =
-        ap (λ (lines : Lines). mode_head list script ∷ lines) later.1
-        ∙ ap (λ (ns : Numbers). mode_lines_so_far list script ns ++ later.0) next.1 in
-        subst (CutShort a c) (sym all)
-        (CutShort-more a c (mode_lines_so_far list script older ++ here) later.0
-        (CutShort-after a b c (mode_lines_so_far list script older) here before
-        (more script (row_of_world list script next.0 older) (world list script older) at-slot known-row)))
+      -- or the sink fails within them
+      pub cut-next : ((said : Script) (row : List Entry) (history : History) → slot ≡ length history
+          → KnowAll nodes list said (row ∷ history) → CutShort b c (mode_slot_lines list said row history))
+          → CutShort a c (mode_lines list script numbers)
+      cut-next more =
+          let older = first_numbers script numbers slot in
+          let next = first-next script numbers slot count less in
+          let later = mode_lines-first list script numbers (script.slots - (slot + 1)) in
+          let here = mode_slot_lines list script (row_of_world list script next.0 older) (world list script older) in
+          let all : mode_lines list script numbers ≡ (mode_lines_so_far list script older ++ here) ++ later.0 =
+          ap (λ (lines : Lines). mode_head list script ∷ lines) later.1
+          ∙ ap (λ (ns : Numbers). mode_lines_so_far list script ns ++ later.0) next.1 in
+          subst (CutShort a c) (sym all)
+          (CutShort-more a c (mode_lines_so_far list script older ++ here) later.0
+          (CutShort-after a b c (mode_lines_so_far list script older) here before
+          (more script (row_of_world list script next.0 older) (world list script older) at-slot known-row)))
 
 -- all are written
 pub wrote-all : (list : Medl) (script : Script) (numbers : Numbers) (slot : ℕ) (a b : Output) → slot ≡ script.slots

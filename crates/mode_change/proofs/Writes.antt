@@ -1,6 +1,6 @@
 -- What hosts write in a slot, one message after another.
-use Rattle.std.proofs.Common.{◌≡◌, ℕ, ◌+◌, ◌<◌, ◌≤◌, ◌^◌, List, [], ◌∷◌, ◌++◌, length, get_or, set, Some, refl, ap, sym}
-use Rattle.std.proofs.Common.{subst, ◌∙◌, length-append, IsTrue, arith}
+use Rattle.std.proofs.Common.{◌≡◌, ℕ, ◌+◌, ◌<◌, ◌^◌, List, [], ◌∷◌, ◌++◌, length, get_or, set, Some, refl, sym}
+use Rattle.std.proofs.Common.{subst, length-append, IsTrue, arith}
 use Rattle.std.specs.List.{concat}
 use Rattle.ttp_world.specs.declared.medl.Medl.{Medl}
 use Rattle.ttp_world.specs.declared.script.Script.{Script}

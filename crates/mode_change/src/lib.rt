@@ -25,7 +25,6 @@ mod worked_case;
 
 pub use node::Modes;
 pub use put::{ModeFault, put_modes};
-
 use ttp_world::{Medl, Script};
 
 /// All correct nodes run one mode, in a run whose script keeps the single-fault hypothesis and whose cluster

@@ -37,13 +37,7 @@ fn skip_lines(text: &[u8], count: usize) -> &[u8]
 }
 
 // What is left of a text behind the lines of a slot, in which hosts write so many messages.
-fn skip_slot<'a>(
-    list: &Medl,
-    script: &Script,
-    slot: u32,
-    text: &'a [u8],
-    writes: usize,
-) -> &'a [u8]
+fn skip_slot<'a>(list: &Medl, script: &Script, slot: u32, text: &'a [u8], writes: usize) -> &'a [u8]
     requires { IsValid list.now }
     ensures { lines_of result.now ≡ drop (length list.now.slots + (writes + length (reads_in script.now slot)))
         (lines_of text.now) }
@@ -115,7 +109,13 @@ impl Run {
 
     /// One slot, by the numbers that the text names in its lines, with which it begins. Returns what is left
     /// of the text behind them.
-    pub(crate) fn step<'a>(&mut self, list: &Medl, script: &Script, slot: u32, text: &'a [u8]) -> &'a [u8]
+    pub(crate) fn step<'a>(
+        &mut self,
+        list: &Medl,
+        script: &Script,
+        slot: u32,
+        text: &'a [u8],
+    ) -> &'a [u8]
         requires list { IsValid list.now }
         requires script { IsValidScript list.now script.now }
         requires slot { slot < script.now.slots }

@@ -1,4 +1,4 @@
-use Rattle.std.proofs.Common.{◌≡◌, ◌∙◌, ◌+◌, ◌<◌, ap, sym, subst, length, get_or, set, arith}
+use Rattle.std.proofs.Common.{◌∙◌, ◌+◌, ◌<◌, sym, subst, length, get_or, set, arith}
 use Rattle.mode_change.proofs.Nodes.{IsEntering, chosen-is, entering-all, entering-first, entering-next, entry-shown, knows-next, old-is}
 use Rattle.mode_change.proofs.run.know_slot.Goals as goal
 

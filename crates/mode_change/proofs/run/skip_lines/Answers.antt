@@ -1,4 +1,4 @@
-use Rattle.std.proofs.Common.{◌≡◌, ◌+◌, ◌∙◌, ap, sym, drop, arith}
+use Rattle.std.proofs.Common.{◌≡◌, ◌∙◌, ap, sym, drop, arith}
 use Rattle.std.proofs.lemmas.List.{drop-drop}
 use Rattle.ttp_base.specs.Text.{lines_of}
 use Rattle.mode_change.proofs.run.skip_lines.Goals as goal

@@ -1,4 +1,4 @@
-use Rattle.std.proofs.Common.{◌≡◌, ◌∙◌, ◌+◌, List, ℕ, length, drop, ap, sym, arith}
+use Rattle.std.proofs.Common.{◌≡◌, ◌∙◌, ◌+◌, List, ℕ, length, drop, ap, arith}
 use Rattle.std.proofs.lemmas.List.{drop-drop}
 use Rattle.ttp_base.specs.Text.{lines_of}
 use Rattle.mode_change.proofs.run.skip_slot.Goals as goal

@@ -1,8 +1,7 @@
-use Rattle.std.proofs.Common.{◌≡◌, ◌∙◌, ◌∷◌, ℕ, List, ◌+◌, ◌-◌, ap, sym, subst, length, drop, arith}
+use Rattle.std.proofs.Common.{◌∙◌, ◌∷◌, List, ◌+◌, ◌-◌, ap, sym, subst, length, drop, arith}
 use Rattle.std.specs.Vec.{with_items}
 use Rattle.std.proofs.lemmas.List.{with_items_is}
 use Rattle.ttp_base.specs.Text.{lines_of}
-use Rattle.ttp_world.specs.declared.script.Script.{Script}
 use Rattle.ttp_world.specs.Script.{reads_in}
 use Rattle.ttp_world.specs.World.{world}
 use Rattle.ttp_world.proofs.Worlds.{length-world}
