@@ -1,52 +1,67 @@
 -- The text of modes, slot by slot, as it is written beside the trace that is read.
-use Rattle.std.proofs.Common.{◌≡◌, ℕ, zero, suc, ◌+◌, ◌-◌, ◌<◌, List, [], ◌∷◌, ◌++◌, length, drop, refl, ap, sym}
+use Rattle.std.proofs.Common.{◌≡◌, ℕ, zero, suc, ◌+◌, ◌-◌, ◌<◌, true, List, [], ◌∷◌, ◌++◌, length, drop, refl, ap, sym}
 use Rattle.std.proofs.Common.{subst, ◌∙◌, append_assoc, append-nil, arith}
-use Rattle.std.specs.List.{concat}
 use Rattle.std.proofs.lemmas.List.{drop_all}
 use Rattle.ttp_base.specs.Outside.{Output, WroteLines, CutShort}
 use Rattle.ttp_base.specs.Text.{Lines, lines_of}
+use Rattle.ttp_base.proofs.Lines.{lines_of-concat}
 use Rattle.ttp_base.proofs.Outputs.{CutShort-after, CutShort-more, Wrote-join}
 use Rattle.ttp_world.specs.declared.medl.Medl.{Medl}
 use Rattle.ttp_world.specs.declared.node.Entry.{Entry}
 use Rattle.ttp_world.specs.declared.script.Script.{Script}
 use Rattle.ttp_world.specs.Diary.{History}
+use Rattle.ttp_world.specs.Legal.{IsLegalRun}
+use Rattle.ttp_world.specs.Medl.{IsValid}
+use Rattle.ttp_world.specs.Script.{IsValidScript}
 use Rattle.ttp_world.specs.Trace.{trace_lines}
 use Rattle.ttp_world.specs.TraceNumbers.{numbers_in}
 use Rattle.ttp_world.specs.World.{Numbers, world}
 use Rattle.ttp_world.proofs.TraceLines.{trace_lines-each}
+use Rattle.ttp_world.proofs.TraceNumbers.{numbers_in-trace}
 use Rattle.ttp_world.proofs.Worlds.{length-world, row_of_world}
-use Rattle.trace_check.proofs.Cuts.{lines_of-behind}
+use Rattle.trace_check.specs.Answer.{is_trace}
+use Rattle.trace_check.proofs.OwnNumbers.{IsTrace, is_trace-numbers}
 use Rattle.mode_change.specs.declared.node.NodeModes.{NodeModes}
 use Rattle.mode_change.specs.declared.run.Run.{Run}
-use Rattle.mode_change.specs.Knowing.{first_lines, first_numbers, IsAt, IsKnownAfter, IsTraceOfItsNumbers, KnowAll}
+use Rattle.mode_change.specs.Knowing.{first_lines, first_numbers, IsAt, IsKnownAfter, KnowAll}
 use Rattle.mode_change.specs.Knowing.{StandsFor}
 use Rattle.mode_change.specs.ModeText.{mode_head, mode_history_lines, mode_lines, mode_slot_lines}
 use Rattle.mode_change.proofs.Slots.{first-length, first-next}
 
 -- The trace that is read.
 
-module _ (list : Medl) (script : Script) (text : List ℕ) (trace : IsTraceOfItsNumbers list script text) where
-  abbrev whole : Numbers
-  whole = numbers_in list script (lines_of text)
+module _ (list : Medl) (script : Script) (text : List ℕ) (valid : IsValid list) (valid_script : IsValidScript list script)
+    (is : is_trace list script text ≡ true) where
+  trace : IsTrace list script text
+  trace = is_trace-numbers list script text is
 
-  traced : lines_of text ≡ trace_lines list script whole
+  traced : lines_of text ≡ trace_lines list script trace.numbers
   traced =
-      let lines = trace_lines list script whole in
-      ap lines_of (trace.whole ∙ sym (append-nil (concat lines)))
-      ∙ lines_of-behind lines [] (trace_lines-each list script whole) ∙ append-nil lines
+      ap lines_of trace.whole
+      ∙ lines_of-concat (trace_lines list script trace.numbers) (trace_lines-each list script trace.numbers)
+
+  -- the numbers are those that it names
+  named : numbers_in list script (lines_of text) ≡ trace.numbers
+  named =
+      ap (numbers_in list script) traced
+      ∙ numbers_in-trace list script trace.numbers valid valid_script trace.legal.count trace.legal.legal
+
+  legal : IsLegalRun list script (numbers_in list script (lines_of text))
+  legal = subst (IsLegalRun list script) (sym named) trace.legal
 
   pub none-first : first_numbers script (numbers_in list script (lines_of text)) 0 ≡ []
-  none-first = let count = trace.legal.count in drop_all (script.slots - 0) whole (omega (arith, count))
+  none-first = let count = legal.count in
+      drop_all (script.slots - 0) (numbers_in list script (lines_of text)) (omega (arith, count))
 
   -- behind its first line
   pub at-first : (run : Run) (rest : List ℕ) → StandsFor run list script [] → drop 1 (lines_of text) ≡ lines_of rest
       → IsAt run list script (numbers_in list script (lines_of text)) 0 rest
   at-first run rest stands behind = record {
-    legal = trace.legal;
+    legal = legal;
     stands = subst (StandsFor run list script) (sym none-first) stands;
-    left = sym behind ∙ ap (drop 1) traced
-        ∙ ap (λ (ns : Numbers). drop (length (first_lines list script ns)) (trace_lines list script whole))
-        (sym none-first);
+    left = sym behind ∙ ap (drop 1) (traced ∙ ap (trace_lines list script) (sym named))
+        ∙ ap (λ (ns : Numbers). drop (length (first_lines list script ns))
+        (trace_lines list script (numbers_in list script (lines_of text)))) (sym none-first);
   }
 
 -- The text that is written.

@@ -1,6 +1,5 @@
 -- What is known of modes while a trace is read, and what it stands for.
 use Rattle.std.specs.Prelude.{◌≡◌, ℕ, ◌-◌, ◌<◌, Bool, List, [], ◌∷◌, length, drop, get_or, Option, Some, None, IfSome}
-use Rattle.std.specs.List.{concat}
 use Rattle.ttp_base.specs.Text.{Lines, lines_of}
 use Rattle.ttp_world.specs.declared.medl.Medl.{Medl}
 use Rattle.ttp_world.specs.declared.node.Chosen.{Chosen}
@@ -13,7 +12,6 @@ use Rattle.ttp_world.specs.Diary.{History, entry_of, diary_of, place_of}
 use Rattle.ttp_world.specs.Legal.{IsLegalRun}
 use Rattle.ttp_world.specs.Messages.{delivered_of}
 use Rattle.ttp_world.specs.Trace.{trace_head, history_lines, trace_lines}
-use Rattle.ttp_world.specs.TraceNumbers.{numbers_in}
 use Rattle.ttp_world.specs.World.{Numbers, chosen_of, world}
 use Rattle.slot_clock.specs.StandsFor as clock
 use Rattle.controller.specs.PlantStands.{PlantStandsFor, outcome_at}
@@ -22,7 +20,6 @@ use Rattle.trace_check.specs.Outgoing.{HoldsNewest}
 use Rattle.mode_change.specs.declared.node.Modes.{Modes}
 use Rattle.mode_change.specs.declared.node.NodeModes.{NodeModes}
 use Rattle.mode_change.specs.declared.run.Run.{Run}
-use Rattle.mode_change.specs.ModeText.{mode_slot_lines}
 use Rattle.mode_change.specs.Modes.{mode_asked, mode_delivered, mode_requested, modes_of, live_in}
 
 -- One node.
@@ -129,13 +126,3 @@ pub record IsAt (run : Run) (list : Medl) (script : Script) (whole : Numbers) (s
 pub record IsSomewhere (run : Run) (list : Medl) (script : Script) (slot : ℕ) (rest : List ℕ) : Type 0 where
   pub whole : Numbers
   pub at : IsAt run list script whole slot rest
-
--- the lines of the newest slot
-abbrev pub newest_mode_lines : Medl → Script → History → Lines
-newest_mode_lines list script [] = []
-newest_mode_lines list script (row ∷ before) = mode_slot_lines list script row before
-
--- a text is the trace for the numbers that it names, and these are legal
-pub record IsTraceOfItsNumbers (list : Medl) (script : Script) (text : List ℕ) : Type 0 where
-  pub legal : IsLegalRun list script (numbers_in list script (lines_of text))
-  pub whole : text ≡ concat (trace_lines list script (numbers_in list script (lines_of text)))

@@ -1,5 +1,5 @@
 //! The text of modes, written.
-ghost use Rattle.std.specs.Prelude.{◌≡◌, [], ◌∷◌, length, OnOk, OnErr, IfErr, List as Items};
+ghost use Rattle.std.specs.Prelude.{◌≡◌, [], ◌∷◌, length, OnOk, OnErr, IfErr, IsTrue, List as Items};
 ghost use Rattle.ttp_base.specs.Outside.{WroteLines, CutShort, Wrote};
 ghost use Rattle.ttp_base.specs.Text.{lines_of};
 ghost use Rattle.ttp_world.specs.declared.node.Entry.{Entry};
@@ -8,7 +8,8 @@ ghost use Rattle.ttp_world.specs.Diary.{History};
 ghost use Rattle.ttp_world.specs.Medl.{IsValid};
 ghost use Rattle.ttp_world.specs.Script.{IsValidScript};
 ghost use Rattle.ttp_world.specs.TraceNumbers.{numbers_in};
-ghost use Rattle.mode_change.specs.Knowing.{IsKnownAfter, IsTraceOfItsNumbers, KnowAll, StandsFor};
+ghost use Rattle.trace_check.specs.Answer.{is_trace};
+ghost use Rattle.mode_change.specs.Knowing.{IsKnownAfter, KnowAll, StandsFor};
 ghost use Rattle.mode_change.specs.ModeText.{mode_slot_lines, mode_lines};
 
 use crate::line::{head_line, make_line};
@@ -56,7 +57,7 @@ fn put_all<K: Sink>(
 ) -> Result<(), Failed>
     requires list { IsValid list.now }
     requires script { IsValidScript list.now script.now }
-    requires trace { IsTraceOfItsNumbers list.now script.now text.now }
+    requires trace { IsTrue (is_trace list.now script.now text.now) }
     requires begun { StandsFor run list.now script.now [] }
     ensures ok { OnOk result (WroteLines (K.output out.old) (K.output out.new)
         (mode_lines list.now script.now (numbers_in list.now script.now (lines_of text.now)))) }
@@ -102,7 +103,7 @@ pub fn put_modes<K: Sink>(
 ) -> Result<(), ModeFault>
     requires list { IsValid list.now }
     requires script { IsValidScript list.now script.now }
-    requires trace { IsTraceOfItsNumbers list.now script.now text.now }
+    requires trace { IsTrue (is_trace list.now script.now text.now) }
     ensures ok { OnOk result (WroteLines (K.output out.old) (K.output out.new)
         (mode_lines list.now script.now (numbers_in list.now script.now (lines_of text.now)))) }
     ensures failed { IfErr result (λ fault. fault ≡ ModeFault.Failed → CutShort (K.output out.old) (K.output out.new)

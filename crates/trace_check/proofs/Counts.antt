@@ -1,5 +1,5 @@
 -- How many lines a trace has: as many for all legal numbers.
-use Rattle.std.proofs.Common.{◌≡◌, ℕ, zero, suc, ◌+◌, List, [], ◌∷◌, ◌++◌, length, refl, ap, sym, ◌∙◌, arith}
+use Rattle.std.proofs.Common.{◌≡◌, ℕ, zero, suc, ◌+◌, ◌≤◌, Bool, true, false, List, [], ◌∷◌, ◌++◌, length, refl, ap, sym, ◌∙◌, arith}
 use Rattle.std.proofs.Common.{length-append}
 use Rattle.std.specs.Prelude.{map}
 use Rattle.std.proofs.lemmas.List.{length-map}
@@ -9,12 +9,12 @@ use Rattle.ttp_world.specs.declared.medl.Medl.{Medl}
 use Rattle.ttp_world.specs.declared.node.Entry.{Entry}
 use Rattle.ttp_world.specs.declared.script.Script.{Script}
 use Rattle.ttp_world.specs.Diary.{History}
-use Rattle.ttp_world.specs.Hypothesis.{keeps}
 use Rattle.ttp_world.specs.Legal.{read_messages, IsLegal, IsLegalRun}
 use Rattle.ttp_world.specs.declared.host_lines.HostRead.{HostRead}
+use Rattle.ttp_world.specs.Returning.{has_arm}
 use Rattle.ttp_world.specs.Script.{HostWrite, writes_in, reads_in}
 use Rattle.ttp_world.specs.Trace.{node_line_of, more_write_lines, write_lines, read_line, read_lines, slot_lines}
-use Rattle.ttp_world.specs.Trace.{history_lines, keep_line, trace_lines}
+use Rattle.ttp_world.specs.Trace.{history_lines, back_lines_if, test_lines, trace_lines}
 use Rattle.ttp_world.specs.World.{SlotNumbers, Numbers, world}
 use Rattle.ttp_world.proofs.LegalShapes.{legal-shapes, legal-older}
 use Rattle.ttp_world.proofs.Worlds.{row_of_world, length-world}
@@ -81,14 +81,24 @@ length-history_lines list script (new ∷ numbers) legal =
     ∙ (λ i. length-history_lines list script numbers (legal-older list script new numbers legal) i
     + length-legal_slot list script new numbers legal i)
 
+-- of the tests
+pub length-test_lines : (list : Medl) (script : Script) → length (test_lines list script) ≤ 2
+length-test_lines list script = omega (arith, length-back_lines (has_arm script))
+  where
+    length-back_lines : (armed : Bool) → length (back_lines_if list script armed) ≤ 1
+    length-back_lines true = omega arith
+    length-back_lines false = omega arith
+
 -- of the trace of a run
+abbrev pub lines_in_all : Medl → Script → ℕ
+lines_in_all list script = suc (lines_of_slots list script script.slots + length (test_lines list script))
+
 pub length-trace_lines : (list : Medl) (script : Script) (numbers : Numbers) → IsLegalRun list script numbers
-    → length (trace_lines list script numbers) ≡ lines_of_slots list script script.slots + 2
+    → length (trace_lines list script numbers) ≡ lines_in_all list script
 length-trace_lines list script numbers run =
     omega (
       arith,
-      length-append (history_lines list script (world list script numbers) numbers)
-          (keep_line (keeps list script) ∷ []),
+      length-append (history_lines list script (world list script numbers) numbers) (test_lines list script),
       length-history_lines list script numbers run.legal,
       ap (lines_of_slots list script) run.count,
     )

@@ -1,13 +1,13 @@
 -- A trace has fewer lines than 2^32, and whole lines as many line feeds as they are.
 use Rattle.std.proofs.Common.{◌≡◌, ℕ, zero, suc, ◌+◌, ◌-◌, ◌*◌, ◌<◌, ◌≤◌, ◌^◌, Bool, true, false, cond, List, [], ◌∷◌, ◌++◌}
-use Rattle.std.proofs.Common.{Option, Some, None, length, take, refl, ap, sym, subst, ◌∙◌, arith, length-append}
+use Rattle.std.proofs.Common.{Option, Some, None, length, take, refl, ap, ◌∙◌, arith, length-append}
 use Rattle.std.specs.Prelude.{◌==◌, count_by}
-use Rattle.std.specs.List.{concat, filter_map, cons_option, AllByRecursion}
+use Rattle.std.specs.List.{concat, filter_map, cons_option}
 use Rattle.std.proofs.lemmas.Bool.{eqb-true, false≢true}
 use Rattle.std.proofs.lemmas.List.{length-take}
 use Rattle.std.proofs.lemmas.List.Sums.{sum_by-append}
 use Rattle.std.proofs.Math.Seq.{take-append_seam}
-use Rattle.ttp_base.specs.Text.{Lines, is_newline, is_line, lines_of}
+use Rattle.ttp_base.specs.Text.{Lines, is_newline, is_line}
 use Rattle.ttp_world.specs.declared.medl.Medl.{Medl}
 use Rattle.ttp_world.specs.declared.script.Event.{Event}
 use Rattle.ttp_world.specs.declared.script.Event.TheVariants as event
@@ -19,7 +19,7 @@ use Rattle.ttp_world.proofs.Lists.{nodes-most}
 use Rattle.ttp_world.proofs.TraceLines.{trace_lines-each}
 use Rattle.trace_check.specs.Answer.{IsFirstWrong}
 use Rattle.trace_check.specs.Following.{IsTraceAnd, IsAmissAt}
-use Rattle.trace_check.proofs.Counts.{lines_in, lines_of_slots, length-trace_lines}
+use Rattle.trace_check.proofs.Counts.{lines_of_slots, lines_in_all, length-test_lines, length-trace_lines}
 use Rattle.trace_check.proofs.Cuts.{AreLines, AreLines-take}
 use Rattle.trace_check.proofs.Outcomes.{amiss-first_wrong, more-first_wrong}
 
@@ -106,9 +106,14 @@ few_in_slots list script (suc slots) valid valid_script =
     )
 
 few_lines : (list : Medl) (script : Script) → IsValid list → IsValidScript list script
-    → lines_of_slots list script script.slots + 3 < 2 ^ 32
+    → lines_in_all list script + 1 < 2 ^ 32
 few_lines list script valid valid_script =
-    omega (arith, few_in_slots list script script.slots valid valid_script, valid_script.slots)
+    omega (
+      arith,
+      few_in_slots list script script.slots valid valid_script,
+      valid_script.slots,
+      length-test_lines list script,
+    )
 
 -- Line feeds.
 
@@ -172,13 +177,11 @@ pub more-counted : (list : Medl) (script : Script) (text rest : List ℕ) → Is
 more-counted list script text rest valid valid_script trace some =
     let all = trace_lines list script trace.numbers in
     let many = length-trace_lines list script trace.numbers trace.legal in
-    let next : lines_of_slots list script script.slots + 3 ≡ (lines_of_slots list script script.slots + 2) + 1 =
-    omega arith in
     record {
-      lines = lines_of_slots list script script.slots + 2;
+      lines = lines_in_all list script;
       counted =
           ap (count_by is_newline) (front_of text (concat all) rest trace.begins)
           ∙ feeds-lines all (trace_lines-each list script trace.numbers) ∙ many;
-      first = subst (IsFirstWrong list script text) next (more-first_wrong list script text rest trace some);
+      first = more-first_wrong list script text rest trace some;
       few = omega (arith, few_lines list script valid valid_script);
     }

@@ -1,5 +1,6 @@
 pub mod Counts
 pub mod Cuts
+pub mod OwnNumbers
 pub mod Outcomes
 pub mod Told
 pub mod Wholes
@@ -26,3 +27,4 @@ pub mod SlotChosen
 pub mod NodesDepart
 pub mod ReadsDepart
 pub mod SlotFollowed
+pub mod LastLines

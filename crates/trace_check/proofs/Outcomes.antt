@@ -1,10 +1,10 @@
 -- A text is the trace of a run, or has one first wrong line.
-use Rattle.std.proofs.Common.{◌≡◌, ◌≢◌, ℕ, suc, ◌+◌, ◌-◌, ◌<◌, ◌≤◌, List, [], ◌∷◌, ◌++◌, length, get_or, take, refl, ap}
-use Rattle.std.proofs.Common.{sym, subst, ◌∙◌, inl, inr, ◌⊎◌, min, arith, append-nil, length-append}
+use Rattle.std.proofs.Common.{◌≡◌, ℕ, ◌+◌, ◌-◌, ◌<◌, ◌≤◌, List, [], ◌∷◌, ◌++◌, length, get_or, take, ap}
+use Rattle.std.proofs.Common.{sym, subst, ◌∙◌, inl, inr, arith, append-nil, length-append}
 use Rattle.std.specs.List.{concat}
 use Rattle.std.proofs.lemmas.Bool.{cases_lt}
 use Rattle.std.proofs.lemmas.List.{take-take, length-take, get_or-take}
-use Rattle.std.proofs.Math.Seq.{take-append-add, take-length, take-append_seam, get_or-append_seam}
+use Rattle.std.proofs.Math.Seq.{take-length, take-append_seam, get_or-append_seam}
 use Rattle.ttp_base.specs.Text.{Lines, lines_of}
 use Rattle.ttp_base.proofs.Lines.{lines_of-concat}
 use Rattle.ttp_world.specs.declared.medl.Medl.{Medl}
@@ -13,10 +13,11 @@ use Rattle.ttp_world.specs.Legal.{IsLegalRun}
 use Rattle.ttp_world.specs.Trace.{trace_lines}
 use Rattle.ttp_world.specs.World.{Numbers}
 use Rattle.ttp_world.proofs.TraceLines.{trace_lines-each}
-use Rattle.trace_check.specs.Answer.{IsTrace, BeginsAsTrace, IsFirstWrong}
+use Rattle.trace_check.specs.Answer.{BeginsAsTrace, IsFirstWrong}
 use Rattle.trace_check.specs.Following.{IsTraceAnd, IsAmissAt}
-use Rattle.trace_check.proofs.Counts.{lines_of_slots, length-trace_lines}
-use Rattle.trace_check.proofs.Cuts.{AreLines, AreLines-take, lines_of-behind, concat-lines_of}
+use Rattle.trace_check.proofs.Counts.{lines_in_all, length-trace_lines}
+use Rattle.trace_check.proofs.OwnNumbers.{IsTrace}
+use Rattle.trace_check.proofs.Cuts.{AreLines-take, lines_of-behind, concat-lines_of}
 
 -- Beginnings.
 
@@ -164,7 +165,7 @@ amiss-first_wrong list script text rest amiss = record {
 
 -- a text that goes on behind a whole trace is wrong there
 pub more-first_wrong : (list : Medl) (script : Script) (text rest : List ℕ) → IsTraceAnd list script text rest
-    → 1 ≤ length rest → IsFirstWrong list script text (lines_of_slots list script script.slots + 3)
+    → 1 ≤ length rest → IsFirstWrong list script text (lines_in_all list script + 1)
 more-first_wrong list script text rest is some = record {
   counted = omega arith;
   before =
@@ -175,8 +176,8 @@ more-first_wrong list script text rest is some = record {
       omega (
         arith,
         ap length other.lines,
-        length-take (lines_of_slots list script script.slots + 3) (lines_of text),
-        length-take (lines_of_slots list script script.slots + 3) theirs,
+        length-take (lines_in_all list script + 1) (lines_of text),
+        length-take (lines_in_all list script + 1) theirs,
         length-trace_lines list script other.numbers other.legal,
         length-trace_lines list script is.numbers is.legal,
         ap length cut,
@@ -195,7 +196,7 @@ more-first_wrong list script text rest is some = record {
     cut : lines_of text ≡ take (length mine) mine ++ lines_of rest
     cut = right_lines list script text rest is.numbers (length mine) begins
 
-    many : length mine ≡ (lines_of_slots list script script.slots + 3) - 1
+    many : length mine ≡ (lines_in_all list script + 1) - 1
     many = omega (arith, length-trace_lines list script is.numbers is.legal)
 
     some_line : (bytes : List ℕ) → 1 ≤ length bytes → 1 ≤ length (lines_of bytes)

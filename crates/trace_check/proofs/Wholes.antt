@@ -2,22 +2,21 @@
 use Rattle.std.proofs.Common.{◌≡◌, ℕ, zero, suc, ◌+◌, ◌-◌, ◌<◌, ◌≤◌, List, [], ◌∷◌, ◌++◌, length, take, drop, get_or, refl}
 use Rattle.std.proofs.Common.{ap, sym, subst, ◌∙◌, arith, append-nil, append_assoc, length-append}
 use Rattle.std.specs.List.{concat}
-use Rattle.std.proofs.lemmas.List.{take-append-le, length-take, length-drop, get_or-append-add}
+use Rattle.std.proofs.lemmas.List.{take-append-le, length-drop, get_or-append-add}
 use Rattle.std.proofs.lemmas.List.Folds.{concat-append}
 use Rattle.std.proofs.Math.ListN.{get_or-append}
 use Rattle.std.proofs.Math.Seq.{take-append-add, take-append_seam, get_or-append_seam}
 use Rattle.ttp_base.specs.Text.{Lines}
 use Rattle.ttp_world.specs.declared.medl.Medl.{Medl}
 use Rattle.ttp_world.specs.declared.script.Script.{Script}
-use Rattle.ttp_world.specs.Hypothesis.{keeps}
 use Rattle.ttp_world.specs.Legal.{IsLegal, IsLegalRun}
 use Rattle.ttp_world.specs.Medl.{IsValid}
 use Rattle.ttp_world.specs.Script.{IsValidScript}
-use Rattle.ttp_world.specs.Trace.{trace_head, history_lines, keep_line, trace_lines}
+use Rattle.ttp_world.specs.Trace.{trace_head, history_lines, test_lines, trace_lines}
 use Rattle.ttp_world.specs.World.{SlotNumbers, Numbers, world}
 use Rattle.ttp_world.proofs.LegalRuns.{LegalWhole, legal-none, legal-whole}
 use Rattle.ttp_world.proofs.LegalShapes.{legal-older}
-use Rattle.trace_check.specs.Following.{Begins, GoesOn, DepartsAfter, IsTraceAnd, IsAmissAt, lines_of_slot}
+use Rattle.trace_check.specs.Following.{Begins, Departs, GoesOn, DepartsAfter, IsTraceAnd, IsAmissAt, lines_of_slot}
 use Rattle.trace_check.proofs.Counts.{lines_of_slots, lines_in, length-history_lines, length-legal_slot}
 use Rattle.trace_check.proofs.Told.{front-same, rest-same, one_run}
 
@@ -49,15 +48,15 @@ trace-cut list script whole more new numbers older =
     let first = history_lines-first list script whole more in
     let front = history_lines list script (world list script numbers) numbers in
     let here = lines_of_slot list script new numbers in
-    let keep = keep_line (keeps list script) ∷ [] in
+    let tests = test_lines list script in
     let head = trace_head list script in
     let all : history_lines list script (world list script whole) whole ≡ (front ++ here) ++ first.0 =
     first.1
     ∙ ap (λ (ns : Numbers). history_lines list script (world list script ns) ns ++ first.0) older in (
-      first.0 ++ keep,
-      ap (λ (lines : Lines). head ∷ (lines ++ keep)) all
+      first.0 ++ tests,
+      ap (λ (lines : Lines). head ∷ (lines ++ tests)) all
           ∙ ap (λ (lines : Lines). head ∷ lines)
-          (append_assoc (front ++ here) first.0 keep ∙ append_assoc front here (first.0 ++ keep)),
+          (append_assoc (front ++ here) first.0 tests ∙ append_assoc front here (first.0 ++ tests)),
     )
 
 -- Numbers of a whole run.
@@ -255,7 +254,7 @@ module _ (list : Medl) (script : Script) (valid : IsValid list) (valid_script : 
       cut : (later : Lines) × (trace_lines list script whole.whole ≡ front ++ (here ++ later))
       cut = trace-cut list script whole.whole more_slots departs.new numbers whole.older
 
-  -- The first line and the last.
+  -- The first line and the last ones.
 
   pub head-amiss : (text : List ℕ) → ((more : List ℕ) → ¬ (text ≡ trace_head list script ++ more))
       → IsAmissAt list script text text
@@ -270,47 +269,65 @@ module _ (list : Medl) (script : Script) (valid : IsValid list) (valid_script : 
         wrong = λ others more run same. wrong more;
       }
 
-  pub keep-amiss : (numbers : Numbers) (text rest : List ℕ) → IsLegalRun list script numbers
-      → Begins text (lines_so_far list script numbers) rest
-      → ((more : List ℕ) → ¬ (rest ≡ keep_line (keeps list script) ++ more)) → IsAmissAt list script text rest
-  keep-amiss numbers text rest run begins wrong = record {
+  pub tests-amiss : (numbers : Numbers) (text before rest : List ℕ) → IsLegalRun list script numbers
+      → Begins text (lines_so_far list script numbers) before → Departs before (test_lines list script) rest
+      → IsAmissAt list script text rest
+  tests-amiss numbers text before rest run begins departs = record {
     numbers = numbers;
     legal = run;
-    right = length front;
-    within = omega (arith, length-append front keep);
-    begins = begins ∙ ap (λ (lines : Lines). concat lines ++ rest) (sym (take-append_seam front keep));
+    right = length front + length right;
+    within =
+        omega (
+          arith,
+          length-append front tests,
+          ap length departs.parts,
+          length-append right (departs.due ∷ departs.others),
+        );
+    begins =
+        begins
+        ∙ ap (λ (bytes : List ℕ). concat front ++ bytes) departs.begins
+        ∙ sym (append_assoc (concat front) (concat right) rest)
+        ∙ ap (λ (bytes : List ℕ). bytes ++ rest) (sym (concat-append front right))
+        ∙ ap (λ (lines : Lines). concat lines ++ rest) (sym first_lines);
     wrong = λ others more run_too same is.
         let front_too = lines_so_far list script others in
         let fronts : length front ≡ length front_too = length-so_far numbers run.legal
         ∙ ap (λ n. suc (lines_of_slots list script n)) (run.count ∙ sym run_too.count)
         ∙ sym (length-so_far others run_too.legal) in
-        let last : get_or (trace_lines list script others) (length front) [] ≡ keep_line (keeps list script) =
-        ap (λ n. get_or (front_too ++ keep) n []) fronts
-        ∙ get_or-append_seam front_too (keep_line (keeps list script)) [] [] in
-        wrong more (is ∙ ap (λ (line : List ℕ). line ++ more) last);
+        let due : get_or (trace_lines list script others) (length front + length right) [] ≡ departs.due =
+        ap (λ n. get_or (front_too ++ tests) (n + length right) []) fronts
+        ∙ get_or-append-add front_too tests (length right) []
+        ∙ ap (λ (lines : Lines). get_or lines (length right) []) departs.parts
+        ∙ get_or-append_seam right departs.due departs.others [] in
+        departs.wrong more (is ∙ ap (λ (line : List ℕ). line ++ more) due);
   }
     where
       front : Lines
       front = lines_so_far list script numbers
 
-      keep : Lines
-      keep = keep_line (keeps list script) ∷ []
+      tests : Lines
+      tests = test_lines list script
 
-  pub keep-trace : (numbers : Numbers) (text before rest : List ℕ) → IsLegalRun list script numbers
-      → Begins text (lines_so_far list script numbers) before → before ≡ keep_line (keeps list script) ++ rest
+      right : Lines
+      right = departs.right
+
+      first_lines : take (length front + length right) (front ++ tests) ≡ front ++ right
+      first_lines =
+          take-append-add front tests (length right)
+          ∙ ap (λ (lines : Lines). front ++ take (length right) lines) departs.parts
+          ∙ ap (λ (lines : Lines). front ++ lines) (take-append_seam right (departs.due ∷ departs.others))
+
+  pub tests-trace : (numbers : Numbers) (text before rest : List ℕ) → IsLegalRun list script numbers
+      → Begins text (lines_so_far list script numbers) before → Begins before (test_lines list script) rest
       → IsTraceAnd list script text rest
-  keep-trace numbers text before rest run begins is = record {
+  tests-trace numbers text before rest run begins tests = record {
     numbers = numbers;
     legal = run;
     begins =
-        begins ∙ ap (λ (bytes : List ℕ). concat front ++ bytes) is
-        ∙ sym (append_assoc (concat front) last rest)
-        ∙ ap (λ (bytes : List ℕ). bytes ++ rest)
-        (ap (λ (bytes : List ℕ). concat front ++ bytes) (sym (append-nil last)) ∙ sym (concat-append front (last ∷ [])));
+        begins ∙ ap (λ (bytes : List ℕ). concat front ++ bytes) tests
+        ∙ sym (append_assoc (concat front) (concat (test_lines list script)) rest)
+        ∙ ap (λ (bytes : List ℕ). bytes ++ rest) (sym (concat-append front (test_lines list script)));
   }
     where
       front : Lines
       front = lines_so_far list script numbers
-
-      last : List ℕ
-      last = keep_line (keeps list script)

@@ -10,13 +10,13 @@ ghost use Rattle.trace_check.specs.Following.{IsTraceAnd, IsAmissAt};
 
 use crate::hosts::{follow_reads, follow_writes, settle};
 use crate::incoming::Incoming;
+use crate::last_lines::follow_tests;
 use crate::nodes::follow_nodes;
 use crate::outgoing::Outgoing;
 use crate::text::{Wrong, expect};
 use controller::Plant;
-use hypothesis::keeps;
 use std::alloc::Global;
-use trace_text::{NodeLines, behind_header, behind_keep};
+use trace_text::{NodeLines, behind_header};
 use ttp_base::{Line, Memory};
 use ttp_world::{Medl, Script};
 
@@ -107,6 +107,6 @@ impl Follower {
         for slot in 0..script.slots {
             rest = self.follow_slot(list, script, slot, rest)?;
         }
-        expect(behind_keep(&keeps(list, script), rest), rest)
+        follow_tests(list, script, rest)
     }
 }

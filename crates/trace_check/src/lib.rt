@@ -24,6 +24,7 @@ mod answer;
 mod follow;
 mod hosts;
 mod incoming;
+mod last_lines;
 mod nodes;
 mod outgoing;
 mod text;

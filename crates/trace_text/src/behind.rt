@@ -2,18 +2,19 @@
 ghost use Rattle.std.specs.Prelude.{◌≡◌, ◌≤◌, length, option_map};
 ghost use Rattle.ttp_world.specs.declared.script.Source.TheVariants as source;
 ghost use Rattle.ttp_world.specs.Medl.{IsValid};
-ghost use Rattle.ttp_world.specs.Trace.{trace_head, keep_line};
+ghost use Rattle.ttp_world.specs.Trace.{trace_head, keep_line, back_line};
 ghost use Rattle.trace_text.specs.HostLines.{written_line, message_line};
 ghost use Rattle.trace_text.specs.LineParts.{HasDigits, listed_line};
 ghost use Rattle.trace_text.specs.Reading.{after_label};
 
+use crate::back_line::back_line;
 use crate::fields::after_label;
 use crate::head_line::head_line;
 use crate::host_line::{RingMessage, make_payload_line, make_read_line, make_write_line};
 use crate::keep_line::keep_line;
 use crate::node_line::NodeLines;
 use ttp_base::Line;
-use ttp_world::{Keep, Medl, NodeState, Script, Source, StatusWords};
+use ttp_world::{Back, Keep, Medl, NodeState, Script, Source, StatusWords};
 
 /// What of a text follows the first line of a trace, if the text begins with it. Takes no memory.
 pub fn behind_header<'a>(list: &Medl, script: &Script, text: &'a [u8]) -> Option<&'a [u8]>
@@ -108,4 +109,11 @@ pub fn behind_keep<'a>(keep: &Keep, text: &'a [u8]) -> Option<&'a [u8]>
     ensures { option_map (λ p. p.now) result ≡ after_label (keep_line keep.now) text.now }
 {
     after_label(keep_line(keep).bytes(), text)
+}
+
+/// What of a text follows the line on armed nodes, if the text begins with it. Takes no memory.
+pub fn behind_back<'a>(back: &Back, text: &'a [u8]) -> Option<&'a [u8]>
+    ensures { option_map (λ p. p.now) result ≡ after_label (back_line back.now) text.now }
+{
+    after_label(back_line(back).bytes(), text)
 }

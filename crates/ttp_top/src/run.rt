@@ -1,37 +1,78 @@
 //! The commands `run MEDL SCRIPT` and `keeps MEDL SCRIPT`.
 ghost use Rattle.std.specs.Prelude.{◌≡◌, Some, None};
 ghost use Rattle.ttp_world.specs.Medl.{IsValid};
+ghost use Rattle.ttp_world.specs.Returning.{is_arm, has_arm};
 ghost use Rattle.ttp_world.specs.Script.{IsValidScript};
+ghost use Rattle.ttp_world.specs.Trace.{back_lines};
 ghost use Rattle.ttp_top.specs.Calls.Answer.{alone, answer};
 ghost use Rattle.ttp_top.specs.Calls.Forms.{trace_ending, keep_ending, plan_of};
 ghost use Rattle.ttp_top.specs.Calls.Outcome.{Says, Shows, Follows};
-ghost use Rattle.ttp_top.specs.Calls.Plan.{outside};
+ghost use Rattle.ttp_top.specs.Calls.Plan.{outside, whole_ending};
+ghost use Rattle.ttp_top.specs.Calls.Texts.{one};
 ghost use Rattle.ttp_top.specs.Calls.Words.{run, keeps};
 
 use crate::load::load_both;
 use crate::trace::{RunFault, put_run};
 use cluster_run::Cluster;
-use hypothesis::keeps as keeps_of;
+use hypothesis::{keeps as keeps_of, returns};
 use std::alloc::Global;
 use std::sync::Wait;
 use std::thread::Threads;
-use trace_text::put_keep;
+use trace_text::{put_back, put_keep};
 use ttp_base::{Gate, Library, Sink};
-use ttp_world::{Medl, Script};
+use ttp_world::{Event, Medl, Script};
 
-// The line of the hypothesis test.
+// Whether an event arms a node to listen again.
+fn is_arm(event: &Event) -> bool
+    ensures { result ≡ is_arm event.now }
+{
+    match event {
+        Event::Arm { .. } => true,
+        _ => false,
+    }
+}
+
+// Whether a node is armed.
+fn has_arm(script: &Script) -> bool
+    ensures { result ≡ has_arm script.now }
+{
+    for event in script.events.as_slice() {
+        if is_arm(event) {
+            return true;
+        }
+    }
+    false
+}
+
+// The line on armed nodes, where a node is armed.
+fn show_back<K: Sink>(list: &Medl, script: &Script, out: &mut K) -> u8
+    requires valid { IsValid list.now }
+    requires script { IsValidScript list.now script.now }
+    ensures { Says (whole_ending 0 (one (back_lines list.now script.now))) (K.output out.old) (K.output out.new)
+        (alone result) }
+{
+    if !has_arm(script) {
+        return 0;
+    }
+    match put_back(&returns(list, script), out) {
+        Ok(()) => 0,
+        Err(_) => 6,
+    }
+}
+
+// The line of the hypothesis test, and the one on armed nodes behind it.
 fn show_keep<K: Sink>(list: &Medl, script: &Script, out: &mut K) -> u8
     requires valid { IsValid list.now }
     requires script { IsValidScript list.now script.now }
     ensures { Says (keep_ending list.now script.now) (K.output out.old) (K.output out.new) (alone result) }
 {
     match put_keep(&keeps_of(list, script), out) {
-        Ok(()) => 0,
+        Ok(()) => show_back(list, script, out),
         Err(_) => 6,
     }
 }
 
-// The trace, whose last line is that of the hypothesis test. The cluster is made before the first line is
+// The trace, whose last lines are those of the tests. The cluster is made before the first line is
 // written, and kept once the last one is.
 fn show_trace<R: Threads + Wait + Sync, K: Sink, G: Gate>(
     rt: &R,
@@ -85,7 +126,7 @@ pub(crate) fn run<R: Threads + Wait + Sync, L: Library, K: Sink, G: Gate>(
     }
 }
 
-/// The last line of that trace alone.
+/// The last lines of that trace alone: what the tests of the script answer.
 pub(crate) fn keeps<L: Library, K: Sink>(
     alloc: Global,
     list: &str,

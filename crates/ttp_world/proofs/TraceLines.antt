@@ -1,5 +1,5 @@
 -- Each line of a trace is one line: its one line feed is its last byte.
-use Rattle.std.proofs.Common.{◌≡◌, ℕ, ◌+◌, ◌<◌, true, false, List, [], ◌∷◌, ◌++◌, length, get_or, Option, refl, arith}
+use Rattle.std.proofs.Common.{◌≡◌, ℕ, ◌+◌, ◌<◌, Bool, true, false, List, [], ◌∷◌, ◌++◌, length, get_or, Option, refl, arith}
 use Rattle.std.proofs.Common.{map, count_by, codes, decimal}
 use Rattle.std.specs.Prelude.{◌==◌}
 use Rattle.std.specs.Fmt.{signed_decimal}
@@ -10,6 +10,8 @@ use Rattle.ttp_base.specs.Text.{newline, is_line, hex}
 use Rattle.ttp_base.proofs.Below.{map_each-below}
 use Rattle.ttp_base.proofs.Lines.{is_line-append}
 use Rattle.ttp_base.proofs.Numerals.{has, has-decimal, has-signed, has-hex}
+use Rattle.ttp_world.specs.declared.keep.Back.{Back}
+use Rattle.ttp_world.specs.declared.keep.Back.TheVariants as back
 use Rattle.ttp_world.specs.declared.keep.Keep.{Keep}
 use Rattle.ttp_world.specs.declared.keep.Keep.TheVariants as keep
 use Rattle.ttp_world.specs.declared.medl.Medl.{Medl}
@@ -22,11 +24,12 @@ use Rattle.ttp_world.specs.Legal.{ReadMessage, read_messages}
 use Rattle.ttp_world.specs.Messages.{ring_messages}
 use Rattle.ttp_world.specs.Outgoing.{messages_before}
 use Rattle.ttp_world.specs.Past.{state_of}
+use Rattle.ttp_world.specs.Returning.{has_arm, returns}
 use Rattle.ttp_world.specs.Script.{HostWrite, writes_in, reads_in}
 use Rattle.ttp_world.specs.Trace.{number_or_dash, entry_word, peer_of, ack_word, member_digits, message_shown}
 use Rattle.ttp_world.specs.Trace.{trace_head, node_line, node_line_of, write_line, more_write_lines, write_lines}
-use Rattle.ttp_world.specs.Trace.{source_word, message_hex, read_line, read_lines, keep_line}
-use Rattle.ttp_world.specs.Trace.{slot_lines, history_lines, trace_lines}
+use Rattle.ttp_world.specs.Trace.{source_word, message_hex, read_line, read_lines, keep_line, back_line}
+use Rattle.ttp_world.specs.Trace.{slot_lines, history_lines, back_lines_if, test_lines, trace_lines}
 use Rattle.ttp_world.specs.World.{SlotNumbers, Numbers, node_past, world}
 use Rattle.ttp_world.proofs.LineLists.{each-append}
 use Rattle.ttp_world.proofs.TraceWords.{has-entry_word, has-number_or_dash, has-ack_word, has-source_word}
@@ -134,7 +137,7 @@ read_lines-each list script slot after [] = tt
 read_lines-each list script slot after (r ∷ reads) =
     (read_line-IsLine list script slot after r, read_lines-each list script slot after reads)
 
--- The last line.
+-- The lines of the tests.
 
 yes-by_words : (start : List ℕ) → has 10 start ≡ false → IsLine (codes "keeps yes start " ++ start ++ newline)
 yes-by_words start p =
@@ -151,6 +154,30 @@ pub keep_line-IsLine : (k : Keep) → IsLine (keep_line k)
 keep_line-IsLine (keep.Yes start) = yes-by_words (decimal start) (has-decimal 10 start feed_is_low)
 keep_line-IsLine (keep.No rule slot) =
     no-by_words (decimal rule) (decimal slot) (has-decimal 10 rule feed_is_low) (has-decimal 10 slot feed_is_low)
+
+back_yes-by_words : (start : List ℕ) → has 10 start ≡ false → IsLine (codes "returns yes start " ++ start ++ newline)
+back_yes-by_words start p =
+    ends (codes "returns yes start " ++ start)
+    (simp (list_any-append (λ c. c == 10), p))
+
+back_no-by_words : (rule slot : List ℕ) → has 10 rule ≡ false → has 10 slot ≡ false
+    → IsLine (codes "returns no Q" ++ rule ++ codes " " ++ slot ++ newline)
+back_no-by_words rule slot p q =
+    ends (codes "returns no Q" ++ rule ++ codes " " ++ slot)
+    (simp (list_any-append (λ c. c == 10), p, q))
+
+pub back_line-IsLine : (b : Back) → IsLine (back_line b)
+back_line-IsLine (back.Yes start) = back_yes-by_words (decimal start) (has-decimal 10 start feed_is_low)
+back_line-IsLine (back.No rule slot) =
+    back_no-by_words (decimal rule) (decimal slot) (has-decimal 10 rule feed_is_low) (has-decimal 10 slot feed_is_low)
+
+back_lines-each : (list : Medl) (script : Script) (has_some : Bool)
+    → AllByRecursion IsLine (back_lines_if list script has_some)
+back_lines-each list script true = (back_line-IsLine (returns list script), tt)
+back_lines-each list script false = tt
+
+pub test_lines-each : (list : Medl) (script : Script) → AllByRecursion IsLine (test_lines list script)
+test_lines-each list script = (keep_line-IsLine (keeps list script), back_lines-each list script (has_arm script))
 
 -- The whole.
 
@@ -182,6 +209,6 @@ pub trace_lines-each : (list : Medl) (script : Script) (numbers : Numbers)
 trace_lines-each list script numbers = (
   head-IsLine list script,
   each-append IsLine (history_lines list script (world list script numbers) numbers)
-      (keep_line (keeps list script) ∷ [])
-      (history_lines-each list script (world list script numbers) numbers) (keep_line-IsLine (keeps list script), tt),
+      (test_lines list script) (history_lines-each list script (world list script numbers) numbers)
+      (test_lines-each list script),
 )

@@ -1,8 +1,10 @@
 -- The numbers that the lines of a trace name are those of its run.
 use Rattle.std.proofs.Common.{◌≡◌, ℕ, suc, ◌<◌, ◌≤◌, ◌^◌, List, [], ◌∷◌, ◌++◌, length, refl, sym, ap, ◌∙◌, arith}
-use Rattle.std.proofs.Common.{subst, append_assoc, map, codes}
+use Rattle.std.proofs.Common.{Bool, true, false, subst, append_assoc, map, codes}
 use Rattle.std.specs.List.{AllByRecursion}
 use Rattle.std.proofs.lemmas.List.{map-append}
+use Rattle.ttp_world.specs.declared.keep.Back.{Back}
+use Rattle.ttp_world.specs.declared.keep.Back.TheVariants as back
 use Rattle.ttp_world.specs.declared.keep.Keep.{Keep}
 use Rattle.ttp_world.specs.declared.keep.Keep.TheVariants as keep
 use Rattle.ttp_world.specs.declared.medl.Medl.{Medl}
@@ -11,8 +13,10 @@ use Rattle.ttp_world.specs.Diary.{History}
 use Rattle.ttp_world.specs.Hypothesis.{keeps}
 use Rattle.ttp_world.specs.Legal.{IsLegal}
 use Rattle.ttp_world.specs.Medl.{IsValid}
+use Rattle.ttp_world.specs.Returning.{has_arm, returns}
 use Rattle.ttp_world.specs.Script.{IsValidScript}
-use Rattle.ttp_world.specs.Trace.{slot_lines, history_lines, trace_head, keep_line, trace_lines}
+use Rattle.ttp_world.specs.Trace.{slot_lines, history_lines, trace_head, keep_line, back_line, back_lines_if}
+use Rattle.ttp_world.specs.Trace.{test_lines, trace_lines}
 use Rattle.ttp_world.specs.TraceNumbers.{words_of, slot_numbers, numbers_below, numbers_in}
 use Rattle.ttp_world.specs.World.{Numbers, world}
 use Rattle.ttp_world.proofs.LineLists.{each-append}
@@ -74,7 +78,7 @@ numbers_below-between list script (row ∷ history) (new ∷ numbers) first last
     ap (λ ws. numbers_below list ws (suc (length numbers))) split
     ∙ (λ i. here i ∷ earlier i)
 
--- The first line and the last one are of no slot.
+-- The first line and the last ones are of no slot.
 
 head-IsOther : (list : Medl) (script : Script) (t : ℕ) → IsOther t (words_of (trace_head list script))
 head-IsOther list script t = word-no_number (codes "trace") t refl
@@ -83,17 +87,30 @@ keep-IsOther : (k : Keep) (t : ℕ) → IsOther t (words_of (keep_line k))
 keep-IsOther (keep.Yes start) t = word-no_number (codes "yes") t refl
 keep-IsOther (keep.No rule slot) t = word-no_number (codes "no") t refl
 
+back-IsOther : (list : Medl) (script : Script) (has_some : Bool) (t : ℕ)
+    → AllByRecursion (IsOther t) (map words_of (back_lines_if list script has_some))
+back-IsOther list script false t = tt
+back-IsOther list script true t = (answer-IsOther (returns list script), tt)
+  where
+    answer-IsOther : (b : Back) → IsOther t (words_of (back_line b))
+    answer-IsOther (back.Yes start) = word-no_number (codes "yes") t refl
+    answer-IsOther (back.No rule slot) = word-no_number (codes "no") t refl
+
+tests-IsOther : (list : Medl) (script : Script) (t : ℕ)
+    → AllByRecursion (IsOther t) (map words_of (test_lines list script))
+tests-IsOther list script t = (keep-IsOther (keeps list script) t, back-IsOther list script (has_arm script) t)
+
 -- So the lines of a run with legal numbers name them.
 
 trace-words : (list : Medl) (script : Script) (numbers : Numbers)
     → map words_of (trace_lines list script numbers)
     ≡ (words_of (trace_head list script) ∷ [])
     ++ (map words_of (history_lines list script (world list script numbers) numbers)
-    ++ words_of (keep_line (keeps list script)) ∷ [])
+    ++ map words_of (test_lines list script))
 trace-words list script numbers =
     ap (λ ws. words_of (trace_head list script) ∷ ws)
     (map-append words_of (history_lines list script (world list script numbers) numbers)
-    (keep_line (keeps list script) ∷ []))
+    (test_lines list script))
 
 pub numbers_in-trace : (list : Medl) (script : Script) (numbers : Numbers) → IsValid list → IsValidScript list script
     → length numbers ≡ script.slots → IsLegal list script numbers
@@ -102,10 +119,10 @@ numbers_in-trace list script numbers valid valid_script slots legal =
     let history = world list script numbers in
     ap (λ ws. numbers_below list ws script.slots) (trace-words list script numbers)
     ∙ ap (numbers_below list ((words_of (trace_head list script) ∷ [])
-    ++ (map words_of (history_lines list script history numbers) ++ words_of (keep_line (keeps list script)) ∷ [])))
+    ++ (map words_of (history_lines list script history numbers) ++ map words_of (test_lines list script))))
     (sym slots)
     ∙ numbers_below-between list script history numbers (words_of (trace_head list script) ∷ [])
-    (words_of (keep_line (keeps list script)) ∷ []) (omega (arith, nodes-most list valid))
+    (map words_of (test_lines list script)) (omega (arith, nodes-most list valid))
     (omega (arith, slots, valid_script.slots.1))
     (legal-AreNumbersOfAll list script numbers valid valid_script (omega (arith, slots)) legal)
-    (λ t less. (head-IsOther list script t, tt)) (λ t less. (keep-IsOther (keeps list script) t, tt))
+    (λ t less. (head-IsOther list script t, tt)) (λ t less. tests-IsOther list script t)

@@ -29,6 +29,7 @@ pub mod Hypothesis
 pub mod Starts
 pub mod Returning
 pub mod Safety
+pub mod BackSafety
 pub mod Legal
 pub mod Trace
 pub mod TraceNumbers

@@ -247,6 +247,15 @@ breaks_arm_in list script start slot =
 abbrev pub arms_broken : Medl → Script → ClusterStart → Option ℕ
 arms_broken list script start = find (breaks_arm_in list script start) (below script.slots)
 
+-- Where no node is armed, none is owed anything.
+
+abbrev pub is_arm : Event → Bool
+is_arm (event.Arm node slot) = true
+is_arm _ = false
+
+abbrev pub has_arm : Script → Bool
+has_arm script = list_any is_arm script.events
+
 -- The test.
 
 abbrev pub unless_back : ℕ → Option ℕ → Back → Back
@@ -267,3 +276,17 @@ returns list script =
     unless_back 1 (clocks_broken list script)
     (unless_back 2 (back_window_broken list)
     (unless_back 3 (disturbance_broken list script) (started_back list script (start_of list script))))
+
+-- Faulty nodes, and those that are correct by this test.
+
+abbrev pub started_since : Medl → Script → ℕ → Option ClusterStart → List FaultyNode
+started_since list script slot None = []
+started_since list script slot (Some start) = faulty_since (slots_before list script start (suc slot))
+
+-- the nodes that are faulty after a slot, each with the slot since when
+abbrev pub back_faulty_after : Medl → Script → ℕ → List FaultyNode
+back_faulty_after list script slot = started_since list script slot (start_of list script)
+
+-- on, and not faulty
+abbrev pub is_back_correct_after : Medl → Script → ℕ → ℕ → Bool
+is_back_correct_after list script slot k = is_sound script (numbers_of (back_faulty_after list script slot)) slot k

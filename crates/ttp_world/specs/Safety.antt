@@ -38,10 +38,24 @@ has_ever_sent diary = list_any is_sending diary
 abbrev pub has_left : History → ℕ → Bool
 has_left history k = is_left_phase (phase_of (diary_of history k))
 
+-- What is said of some nodes, whichever they are.
+
+-- they hold one membership
+abbrev pub agree_among : Medl → History → List ℕ → Bool
+agree_among list history nodes = list_all (λ j. list_all (are_same_members list history j) nodes) nodes
+
+-- each of them holds node j for a member, or none does
+abbrev pub is_in_among : Medl → History → List ℕ → ℕ → Bool
+is_in_among list history nodes j = list_all (λ k. has_node (members_of_node list history k) j) nodes
+
+abbrev pub is_out_among : Medl → History → List ℕ → ℕ → Bool
+is_out_among list history nodes j = list_all (λ k. not (has_node (members_of_node list history k) j)) nodes
+
+-- The four tests.
+
 -- no correct node holds node j for a member
 abbrev pub is_out : Medl → Script → History → ℕ → Bool
-is_out list script history j =
-    list_all (λ k. not (has_node (members_of_node list history k) j)) (correct_nodes list script history)
+is_out list script history j = is_out_among list history (correct_nodes list script history) j
 
 -- the correct nodes that have started or sent
 abbrev pub correct_senders : Medl → Script → History → List ℕ
@@ -55,14 +69,11 @@ is_gone list script history faulty =
     || (has_left history faulty.node && is_out list script history faulty.node)
 
 abbrev pub members_agree : Medl → Script → History → Bool
-members_agree list script history =
-    list_all (λ j. list_all (are_same_members list history j) (settled_nodes list script history))
-    (settled_nodes list script history)
+members_agree list script history = agree_among list history (settled_nodes list script history)
 
 abbrev pub senders_are_members : Medl → Script → History → Bool
 senders_are_members list script history =
-    list_all (λ j. list_all (λ k. has_node (members_of_node list history k) j) (correct_nodes list script history))
-    (correct_senders list script history)
+    list_all (is_in_among list history (correct_nodes list script history)) (correct_senders list script history)
 
 abbrev pub none_has_left : Medl → Script → History → Bool
 none_has_left list script history = list_all (λ k. not (has_left history k)) (correct_nodes list script history)

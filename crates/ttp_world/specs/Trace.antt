@@ -1,6 +1,6 @@
 -- The text of a trace, line by line.
 use Rattle.std.specs.Prelude.{ℕ, ◌+◌, ◌*◌, ◌==◌, List, [], ◌∷◌, ◌++◌, map, length, get_or, count_by, flat_map}
-use Rattle.std.specs.Prelude.{Option, Some, None, option_map, codes, decimal}
+use Rattle.std.specs.Prelude.{Bool, true, false, Option, Some, None, option_map, codes, decimal}
 use Rattle.std.specs.Fmt.{signed_decimal}
 -- a row of a crate above computes a text where it unfolds `ttp_world::specs::Trace::digits`
 pub use Rattle.std.specs.Fmt.{digits}
@@ -26,6 +26,7 @@ use Rattle.ttp_world.specs.declared.script.Source.{Source}
 use Rattle.ttp_world.specs.declared.script.Source.TheVariants as source
 use Rattle.ttp_world.specs.Diary.{History}
 use Rattle.ttp_world.specs.Hypothesis.{keeps}
+use Rattle.ttp_world.specs.Returning.{has_arm, returns}
 use Rattle.ttp_world.specs.Legal.{ReadMessage, read_messages}
 use Rattle.ttp_world.specs.Medl.{member_width}
 use Rattle.ttp_world.specs.Messages.{delivered_of, in_messages, ring_messages, newest_number}
@@ -190,10 +191,22 @@ abbrev pub back_line : Back → List ℕ
 back_line (back.Yes start) = codes "returns yes start " ++ decimal start ++ newline
 back_line (back.No rule slot) = codes "returns no Q" ++ decimal rule ++ codes " " ++ decimal slot ++ newline
 
--- the trace before its last line, and the whole
+-- where a node is armed
+abbrev pub back_lines_if : Medl → Script → Bool → Lines
+back_lines_if list script true = back_line (returns list script) ∷ []
+back_lines_if list script false = []
+
+abbrev pub back_lines : Medl → Script → Lines
+back_lines list script = back_lines_if list script (has_arm script)
+
+-- the lines of the tests of a script, which are the last ones
+abbrev pub test_lines : Medl → Script → Lines
+test_lines list script = keep_line (keeps list script) ∷ back_lines list script
+
+-- the trace before these, and the whole
 abbrev pub run_lines : Medl → Script → Numbers → Lines
 run_lines list script numbers =
     trace_head list script ∷ history_lines list script (world list script numbers) numbers
 
 abbrev pub trace_lines : Medl → Script → Numbers → Lines
-trace_lines list script numbers = run_lines list script numbers ++ keep_line (keeps list script) ∷ []
+trace_lines list script numbers = run_lines list script numbers ++ test_lines list script

@@ -47,6 +47,10 @@ implicit_list = list_with (pos 0) (pos 0) (pos 2) (map implicit_slot (below 6))
 abbrev pub armed_until : ℕ → List Event → Script
 armed_until slots events = script_of 6 slots (event.Send 2 both fault.Noise 26 26 ∷ event.Arm 2 40 ∷ events)
 
+-- the same run, where it is not armed
+abbrev pub never_armed : Script
+never_armed = script_of 6 72 (event.Send 2 both fault.Noise 26 26 ∷ [])
+
 -- node 2 of five sends noise, and is armed before it leaves in slot 24 and in that slot
 abbrev pub armed_too_early : Script
 armed_too_early = script_of 5 26 (event.Send 2 both fault.Noise 22 22 ∷ event.Arm 2 23 ∷ event.Arm 2 24 ∷ [])

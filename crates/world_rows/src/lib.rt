@@ -8,6 +8,7 @@
 //! its point. `docs/DEFINITIONS.md` says how to ask the definitions for a case of one's own.
 #![tactic(auto, unfolding(ttp_base::specs::NodeSet::with_node, ttp_base::specs::NodeSet::members_in, ttp_world::specs::Trace::digits))]
 
+pub mod back_safety;
 pub mod clocks;
 pub mod faults;
 pub mod frames;

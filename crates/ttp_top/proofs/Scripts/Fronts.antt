@@ -1,5 +1,5 @@
 -- The lines of a run's first slots begin one of its traces.
-use Rattle.std.proofs.Common.{◌≡◌, ℕ, zero, suc, ◌+◌, ◌-◌, ◌≤◌, List, [], ◌∷◌, ◌++◌, length, drop, refl, ap, sym, ◌∙◌}
+use Rattle.std.proofs.Common.{◌≡◌, ℕ, zero, suc, ◌-◌, ◌≤◌, List, [], ◌∷◌, ◌++◌, length, drop, refl, ap, sym, ◌∙◌}
 use Rattle.std.proofs.Common.{append_assoc, append-nil, subst, arith, inr}
 use Rattle.ttp_base.specs.Outside.{Output, WroteLines, CutShort}
 use Rattle.ttp_base.specs.Text.{Lines}
@@ -10,7 +10,8 @@ use Rattle.ttp_world.specs.Hypothesis.{keeps}
 use Rattle.ttp_world.specs.Legal.{IsLegal, IsLegalRun}
 use Rattle.ttp_world.specs.Medl.{IsValid}
 use Rattle.ttp_world.specs.Script.{IsValidScript}
-use Rattle.ttp_world.specs.Trace.{trace_head, slot_lines, history_lines, run_lines, trace_lines, keep_line}
+use Rattle.ttp_world.specs.Trace.{trace_head, slot_lines, history_lines, run_lines, keep_line, back_lines}
+use Rattle.ttp_world.specs.Trace.{test_lines, trace_lines}
 use Rattle.ttp_world.specs.World.{Numbers, world}
 use Rattle.ttp_world.proofs.LegalRuns.{legal-whole}
 use Rattle.cluster_run.specs.NextSlots.{next_row}
@@ -42,7 +43,7 @@ pub record TraceFrom (list : Medl) (script : Script) (numbers : Numbers) : Type 
   pub whole : Lines
   pub trace : IsTrace list script whole
   pub rest : Lines
-  pub text : whole ≡ run_lines list script numbers ++ (rest ++ keep_line (keeps list script) ∷ [])
+  pub text : whole ≡ run_lines list script numbers ++ (rest ++ test_lines list script)
 
 pub is_trace : (list : Medl) (script : Script) → IsValid list → IsValidScript list script → (numbers : Numbers)
     → IsLegalRun list script numbers → IsTrace list script (trace_lines list script numbers)
@@ -60,7 +61,7 @@ trace_from list script valid valid_script numbers legal few =
     let run = legal-whole list script numbers (script.slots - length numbers) legal in
     let on = subst (λ (older : Numbers). GoesOn list script run.whole older) run.older
     (goes_on list script (script.slots - length numbers) run.whole) in
-    let last = keep_line (keeps list script) ∷ [] in
+    let last = test_lines list script in
     let count : length run.whole ≡ script.slots = omega (arith, run.slots, few) in
     record {
       whole = trace_lines list script run.whole;
@@ -72,14 +73,14 @@ trace_from list script valid valid_script numbers legal few =
           (append_assoc (history_lines list script (world list script numbers) numbers) on.rest last);
     }
 
--- There is a line more, the last one.
+-- There is a line more, the first one of the tests at the latest.
 
-front_before : (list : Medl) (script : Script) (lines whole rest : Lines) (last : List ℕ) → IsTrace list script whole
-    → whole ≡ lines ++ (rest ++ last ∷ []) → IsFront list script lines
-front_before list script lines whole [] last trace text =
-    record { whole = whole; trace = trace; next = last; rest = []; text = text }
-front_before list script lines whole (next ∷ rest) last trace text =
-    record { whole = whole; trace = trace; next = next; rest = rest ++ last ∷ []; text = text }
+front_before : (list : Medl) (script : Script) (lines whole rest : Lines) (last : List ℕ) (more : Lines)
+    → IsTrace list script whole → whole ≡ lines ++ (rest ++ last ∷ more) → IsFront list script lines
+front_before list script lines whole [] last more trace text =
+    record { whole = whole; trace = trace; next = last; rest = more; text = text }
+front_before list script lines whole (next ∷ rest) last more trace text =
+    record { whole = whole; trace = trace; next = next; rest = rest ++ last ∷ more; text = text }
 
 -- memory was refused after these slots
 pub wrote_front : (list : Medl) (script : Script) (before now : Output) → IsValid list → IsValidScript list script
@@ -91,7 +92,7 @@ wrote_front list script before now valid valid_script numbers legal few wrote =
       lines = run_lines list script numbers;
       among =
           inr (front_before list script (run_lines list script numbers) t.whole t.rest (keep_line (keeps list script))
-          t.trace t.text);
+          (back_lines list script) t.trace t.text);
       wrote = wrote;
     }
 
@@ -106,5 +107,5 @@ cut_in list script before now valid valid_script numbers legal few cut =
       among = t.trace;
       cut =
           subst (CutShort before now) (sym t.text)
-          (CutShort-more before now (run_lines list script numbers) (t.rest ++ keep_line (keeps list script) ∷ []) cut);
+          (CutShort-more before now (run_lines list script numbers) (t.rest ++ test_lines list script) cut);
     }

@@ -1,14 +1,13 @@
--- A trace: the lines of a run, and then that of the hypothesis test.
+-- A trace: the lines of a run, and then those of the tests.
 use Rattle.std.proofs.Common.{◌≡◌, ◌≢◌, ℕ, [], ◌∷◌, Some, refl, sym, subst, ◌∙◌, inl, inr, arith}
 use Rattle.ttp_base.specs.Outside.{Output, WroteLines, CutShort}
 use Rattle.ttp_base.proofs.Outputs.{Wrote-join, CutShort-after}
 use Rattle.ttp_world.specs.declared.medl.Medl.{Medl}
 use Rattle.ttp_world.specs.declared.script.Script.{Script}
-use Rattle.ttp_world.specs.Hypothesis.{keeps}
 use Rattle.ttp_world.specs.Legal.{IsLegal, IsLegalRun}
 use Rattle.ttp_world.specs.Medl.{IsValid}
 use Rattle.ttp_world.specs.Script.{IsValidScript}
-use Rattle.ttp_world.specs.Trace.{run_lines, trace_lines, keep_line}
+use Rattle.ttp_world.specs.Trace.{run_lines, test_lines, trace_lines}
 use Rattle.ttp_world.specs.TraceNumbers.{numbers_in}
 use Rattle.ttp_world.specs.World.{Numbers}
 use Rattle.ttp_world.proofs.TraceNumbers.{numbers_in-trace}
@@ -49,12 +48,12 @@ run_named list script numbers c valid valid_script legal run =
     subst (λ (ns : Numbers). HasRun list script ns c)
     (sym (numbers_in-trace list script numbers valid valid_script legal.count legal.legal)) run
 
--- the last line was said after a run, with status 0, and the cluster kept
+-- the last lines were said after a run, with status 0, and the cluster kept
 pub trace_said : (list : Medl) (script : Script) (a b d : Output) (c : ClusterView) (status : ℕ) → IsValid list
     → IsValidScript list script → HasWrittenAll list script a b c → Says (keep_ending list script) b d (alone status)
     → status ≡ 0 → Shows (trace_ending list script) a d (answer status (Some c))
 trace_said list script a b d c status valid valid_script w (inl showed) zero =
-    let last = keep_line (keeps list script) ∷ [] in
+    let last = test_lines list script in
     let wrote : WroteLines b d last = subst (WroteLines b d) showed.text.among showed.text.wrote in
     inl (inl (record {
       status = zero;
@@ -68,13 +67,13 @@ trace_said list script a b d c status valid valid_script w (inl showed) zero =
 trace_said list script a b d c status valid valid_script w (inr stopped) zero =
     absurd (omega (arith, zero, stopped.status))
 
--- or it was not, and none is kept
+-- or they were not, and none is kept
 pub trace_stopped : (list : Medl) (script : Script) (a b d : Output) (c : ClusterView) (status : ℕ) → IsValid list
     → IsValidScript list script → HasWrittenAll list script a b c → Says (keep_ending list script) b d (alone status)
     → status ≢ 0 → Shows (trace_ending list script) a d (alone status)
 trace_stopped list script a b d c status valid valid_script w (inl showed) other = absurd (other showed.status)
 trace_stopped list script a b d c status valid valid_script w (inr stopped) other =
-    let last = keep_line (keeps list script) ∷ [] in
+    let last = test_lines list script in
     let cut : CutShort b d last = subst (CutShort b d) stopped.text.among stopped.text.cut in
     inl (inr (record {
       status = stopped.status;

@@ -2,13 +2,12 @@
 use Rattle.std.specs.Prelude.{ℕ, List, Option, Some, None, codes, ◌++◌}
 use Rattle.ttp_world.specs.declared.medl.Medl.{Medl}
 use Rattle.ttp_world.specs.declared.script.Script.{Script}
-use Rattle.ttp_world.specs.Hypothesis.{keeps as keeps_of}
-use Rattle.ttp_world.specs.Trace.{keep_line}
+use Rattle.ttp_world.specs.Trace.{test_lines}
 use Rattle.medl_text.specs.Schedule.{slot_table}
 use Rattle.ttp_top.specs.Calls.Files.{list_plan, both_plan}
 use Rattle.ttp_top.specs.Calls.Plan.{Ending, Plan, whole_ending, line_ending, ends}
-use Rattle.ttp_top.specs.Calls.Texts.{one, traces, fronts, precisions}
-use Rattle.ttp_top.specs.Calls.Words.{Form, schedule, run, keeps, precision}
+use Rattle.ttp_top.specs.Calls.Texts.{one, traces, fronts, precisions, samples}
+use Rattle.ttp_top.specs.Calls.Words.{Form, schedule, run, keeps, precision, sample}
 
 abbrev pub usage_line : List ℕ
 usage_line =
@@ -27,13 +26,17 @@ abbrev pub trace_ending : Medl → Script → Ending
 trace_ending list script =
     record { status = 0; texts = traces list script; unfinished = fronts list script }
 
--- the line of the hypothesis test alone
+-- the last lines of a trace alone, which are those of the tests
 abbrev pub keep_ending : Medl → Script → Ending
-keep_ending list script = line_ending 0 (keep_line (keeps_of list script))
+keep_ending list script = whole_ending 0 (one (test_lines list script))
 
 -- the line of the test for one two-faced sender
 abbrev pub precision_ending : ℕ → Medl → Script → Ending
 precision_ending node list script = whole_ending 0 (precisions list script node)
+
+-- the lines on a generated run
+abbrev pub sample_ending : ℕ → ℕ → Medl → Ending
+sample_ending slots number list = whole_ending 0 (samples list slots number)
 
 -- the plan of a form, and of words that have none
 abbrev pub plan_of : Option Form → Plan
@@ -43,3 +46,4 @@ plan_of (Some (run list script)) = both_plan list script (λ medl right. ends (t
 plan_of (Some (keeps list script)) = both_plan list script (λ medl right. ends (keep_ending medl right))
 plan_of (Some (precision list script node)) =
     both_plan list script (λ medl right. ends (precision_ending node medl right))
+plan_of (Some (sample list slots number)) = list_plan list (λ medl. ends (sample_ending slots number medl))

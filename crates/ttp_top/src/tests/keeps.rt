@@ -1,8 +1,9 @@
 //! Answers of the test of the single-fault hypothesis, worked out by hand from its seven rules: for
-//! each a list, a script and the line that `keeps` writes.
+//! each a list, a script and the line that `keeps` writes. Where a node is armed, the test on armed
+//! nodes has a second line.
 
 use super::HEAD;
-use super::texts::{DRIFT_HEAD, NARROW_HEAD, answered, script_of};
+use super::texts::{DRIFT_HEAD, NARROW_HEAD, WINDOW_HEAD, answered, script_of};
 use std::process::Abort;
 use std::sync::Wait;
 use std::test::Fail;
@@ -113,12 +114,29 @@ fn what_stands_outside(rt: HostRuntime) -> Result<(), Fail> {
                 "keeps no H3 30\n",
             ),
             (
-                HEAD,
+                WINDOW_HEAD,
                 "FSSSSS",
                 "slots 48\n",
                 6,
                 "flip 0 A 16 30\narm 2 29\n",
-                "keeps no H3 29\n",
+                "keeps no H3 29\nreturns no Q3 30\n",
+            ),
+            // Node 2 may be armed from slot 38 on, and with a window of two at least.
+            (
+                WINDOW_HEAD,
+                "FSSSSS",
+                "slots 72\n",
+                6,
+                "send 2 AB noise 26 26\narm 2 37\n",
+                "keeps no H3 37\nreturns no Q8 37\n",
+            ),
+            (
+                HEAD,
+                "FSSSSS",
+                "slots 72\n",
+                6,
+                "send 2 AB noise 26 26\narm 2 40\n",
+                "keeps no H3 40\nreturns no Q2 0\n",
             ),
             (
                 HEAD,

@@ -335,7 +335,7 @@ const ARMED: Run<'static> = Run {
         "slot 44 node 2 send peer 2 msg - mem 003f acc 1 rej 0 ack first clock 0\n",
         "slot 44 node 3 correct peer 2 msg - mem 003f acc 6 rej 0 ack none clock 0\n",
     ],
-    keep: "keeps no H3 40\n",
+    keep: "keeps no H3 40\nreturns yes start 12\n",
 };
 
 // As many nodes as a list can have.

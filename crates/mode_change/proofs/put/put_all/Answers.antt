@@ -26,9 +26,9 @@ loop-slot-init g c =
     let script = c.args.script.now in
     let text = c.args.text.now in
     record {
-      at = at-first list script text c.requires.trace c.args.run _ c.requires.begun c.cut_line.ensures.others;
+      at = at-first list script text c.requires.list c.requires.script c.requires.trace c.args.run _ c.requires.begun c.cut_line.ensures.others;
       wrote = subst (λ (ns : Numbers). WroteLines (g.K.Sink.output c.args.out.now) (g.K.Sink.output c.write.new.self)
-          (mode_lines_so_far list script ns)) (sym (none-first list script text c.requires.trace))
+          (mode_lines_so_far list script ns)) (sym (none-first list script text c.requires.list c.requires.script c.requires.trace))
           (rw (← c.head_line.ensures, ← c.bytes.ensures) c.in_ok-write.ensures.ok);
     }
 

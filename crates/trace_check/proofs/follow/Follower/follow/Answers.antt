@@ -1,14 +1,11 @@
-use Rattle.std.proofs.Common.{◌≡◌, ◌∙◌, List, ℕ, Option, Some, None, ap, sym, subst, arith}
-use Rattle.std.proofs.lemmas.Result.{IfOk-weaker}
-use Rattle.ttp_world.specs.declared.keep.Keep.{Keep}
+use Rattle.std.proofs.Common.{◌∙◌, sym, subst, arith}
+use Rattle.std.proofs.lemmas.Result.{IfOk-weaker, IfErr-weaker}
 use Rattle.ttp_world.specs.Legal.{IsLegalRun}
-use Rattle.ttp_world.specs.Hypothesis.{keeps}
-use Rattle.ttp_world.specs.Trace.{trace_head, keep_line}
-use Rattle.trace_text.specs.Reading.{after_label}
-use Rattle.trace_check.specs.Following.{IsTraceAnd, IsAmissAt}
+use Rattle.ttp_world.specs.Trace.{trace_head}
+use Rattle.trace_check.specs.Following.{IsAmissAt}
 use Rattle.trace_check.proofs.Followed.{followed-at, followed-first, followed-next}
-use Rattle.trace_check.proofs.Labels.{passed_up, err_by_both, behind-line, no_line}
-use Rattle.trace_check.proofs.Wholes.{departs-amiss, head-amiss, keep-amiss, keep-trace}
+use Rattle.trace_check.proofs.Labels.{passed_up, no_line}
+use Rattle.trace_check.proofs.Wholes.{departs-amiss, head-amiss, tests-amiss, tests-trace}
 use Rattle.trace_check.proofs.follow.Follower.follow.Goals as goal
 
 pub returns-in_err-rest-clause-wrong : goal.returns-in_err-rest-clause-wrong
@@ -52,12 +49,10 @@ returns-clause-ok c =
     let script = c.args.script.now in
     let has = c.loop-slot.invariant in
     let run : IsLegalRun list script has.numbers = record { count = has.count ∙ omega (arith, c.loop-slot-test.false); legal = has.legal } in
-    IfOk-weaker c.expect-2.result _ _ (λ rest is.
-    keep-trace list script c.requires.list c.requires.script has.numbers c.args.text.now c.loop-slot.rest.now rest.now
-    run has.begins (behind-line (keep_line (keeps list script)) c.loop-slot.rest.now rest.now
-    (ap (λ (keep : Keep). after_label (keep_line keep) c.loop-slot.rest.now) (sym c.keeps.ensures)
-    ∙ sym c.behind_keep.ensures ∙ is)))
-    c.expect-2.ensures.ok
+    IfOk-weaker c.follow_tests.result _ _ (λ rest is.
+    tests-trace list script c.requires.list c.requires.script has.numbers c.args.text.now c.loop-slot.rest.now rest.now
+    run has.begins is)
+    c.follow_tests.ensures.ok
 
 pub returns-clause-wrong : goal.returns-clause-wrong
 returns-clause-wrong c =
@@ -65,10 +60,7 @@ returns-clause-wrong c =
     let script = c.args.script.now in
     let has = c.loop-slot.invariant in
     let run : IsLegalRun list script has.numbers = record { count = has.count ∙ omega (arith, c.loop-slot-test.false); legal = has.legal } in
-    err_by_both c.expect-2.result _ _ (λ wrong. IsAmissAt list script c.args.text.now wrong.text.now)
-    (λ wrong none is. subst (IsAmissAt list script c.args.text.now) (sym is)
-    (keep-amiss list script c.requires.list c.requires.script has.numbers c.args.text.now c.loop-slot.rest.now run
-    has.begins (no_line (keep_line (keeps list script)) c.loop-slot.rest.now
-    (ap (λ (keep : Keep). after_label (keep_line keep) c.loop-slot.rest.now) (sym c.keeps.ensures)
-    ∙ sym c.behind_keep.ensures ∙ none))))
-    c.expect-2.ensures.none c.expect-2.ensures.wrong
+    IfErr-weaker c.follow_tests.result _ _ (λ wrong departs.
+    tests-amiss list script c.requires.list c.requires.script has.numbers c.args.text.now c.loop-slot.rest.now
+    wrong.text.now run has.begins departs)
+    c.follow_tests.ensures.wrong
