@@ -20,7 +20,7 @@ use Rattle.safety.proofs.Together.{clocks-hold, run-by_plan}
 module _ (list : Medl) (script : Script) (slot : ℕ) (valid : IsValid list) (script_valid : IsValidScript list script)
     (kept : returns list script ≡ back.Yes slot) where
   pub by_plan : ReturnsByPlan list script slot
-  by_plan = returned-plan list script slot valid kept
+  by_plan = returned-plan list script slot valid script_valid kept
 
   begun : slot < script.slots → IsBegun list script by_plan.start (back_plan_of list script by_plan.start)
   begun inside = record {
