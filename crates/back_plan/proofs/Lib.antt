@@ -13,3 +13,5 @@ pub mod ReturnedPlan
 pub mod Sounds
 pub mod BackHearing
 pub mod BackSlots
+pub mod BackGood
+pub mod BackBounds
