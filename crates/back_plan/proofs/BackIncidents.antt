@@ -73,7 +73,7 @@ found-next list script start turn slot =
     ∙ find-append (is_in_slot turn) (planned_incidents list script start newer)
     (planned_incidents list script start older)
 
-none-before : (list : Medl) (script : Script) (start : ClusterStart) (turn slot : ℕ) → 0 < turn
+pub none-before : (list : Medl) (script : Script) (start : ClusterStart) (turn slot : ℕ) → 0 < turn
     → slot ≤ start.slot + turn
     → incident_among list script start turn (joinings (slots_before list script start slot)) ≡ None
 none-before list script start turn zero later within = refl

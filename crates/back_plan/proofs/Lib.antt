@@ -11,7 +11,9 @@ pub mod BackLosses
 pub mod Standing
 pub mod ReturnedPlan
 pub mod Sounds
+pub mod Offers
 pub mod BackHearing
 pub mod BackSlots
 pub mod BackGood
 pub mod BackBounds
+pub mod Returned

@@ -32,7 +32,7 @@ use Rattle.back_plan.proofs.BackGood.{back-good}
 use Rattle.back_plan.proofs.BackRules.{BackRulesHold, back-rules-hold}
 use Rattle.back_plan.proofs.BackSlots.{back-heard}
 use Rattle.back_plan.proofs.Offers.{offered}
-use Rattle.back_plan.proofs.ReturnedPlan.{plan-of-returns}
+use Rattle.back_plan.proofs.ReturnedPlan.{returned-plan}
 use Rattle.back_plan.proofs.Runs.{IsBackRun, armed-may}
 use Rattle.back_plan.proofs.Standing.{arm-late}
 
@@ -108,9 +108,9 @@ early-unarmed list script start k slot run less early = false_from_ne_true (is_a
     let late = arm-late list script start k slot run (armed-in list script start k slot run less fits.1 armed) in
     omega (arith, late, early, run.valid.count))
 
-pub returned-plan : (list : Medl) (script : Script) (slot : ℕ) → IsValid list → IsValidScript list script
+pub returned-by_plan : (list : Medl) (script : Script) (slot : ℕ) → IsValid list → IsValidScript list script
     → returns list script ≡ back.Yes slot → ReturnsByPlan list script slot
-returned-plan list script slot valid valid_script returns =
+returned-by_plan list script slot valid valid_script returns =
     let rules = back-rules-hold list script slot returns in
     let run = back-run list script slot valid valid_script rules in
     let start = rules.start in
@@ -127,6 +127,6 @@ returned-plan list script slot valid valid_script returns =
         bounds = run.bounds;
         window = inr (back-window list rules.window);
       };
-      returns = plan-of-returns list script start rules.started run;
+      returns = returned-plan list script start run rules.started;
       heard = λ k within less other on. start-heard list script start k run within less other on;
     }

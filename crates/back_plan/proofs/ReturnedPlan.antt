@@ -51,7 +51,7 @@ made-node list script start slot k run has = by (origin-of list script start slo
       | inr other ↦ (other.0, on-ever script k slot (and_parts (is_on script k slot) _ other.1).0)
     ]
 
-faulty-node : (list : Medl) (script : Script) (start : ClusterStart) (slot k : ℕ) → IsBackRun list script start
+pub faulty-node : (list : Medl) (script : Script) (start : ClusterStart) (slot k : ℕ) → IsBackRun list script start
     → has_node (after list script start slot) k ≡ true → IsEverNode list script k
 faulty-node list script start zero k run has =
     elim (or_cases (has_node (made list script start 0) k) (has_node (at list script start 0) k)
@@ -187,12 +187,12 @@ module _ (list : Medl) (script : Script) (start : ClusterStart) (run : IsBackRun
   plan = back_plan_of list script start
 
   -- an armed node stays faulty for four rounds
-  armed-has : (slot k arm : ℕ) → IsArmedIn list script start k arm → arm ≤ slot → slot < arm + four_rounds list
+  pub armed-has : (slot k arm : ℕ) → IsArmedIn list script start k arm → arm ≤ slot → slot < arm + four_rounds list
       → has_node (at list script start slot) k ≡ true
   armed-has slot k arm is from to =
       arm-stays list script start k arm (slot - arm) slot run is (omega arith) (omega arith)
 
-  armed-after : (slot k arm : ℕ) → IsArmedIn list script start k arm → arm ≤ slot → slot < arm + four_rounds list
+  pub armed-after : (slot k arm : ℕ) → IsArmedIn list script start k arm → arm ≤ slot → slot < arm + four_rounds list
       → has_node (after list script start slot) k ≡ true
   armed-after slot k arm is from to =
       after-has list script start slot k
@@ -200,7 +200,7 @@ module _ (list : Medl) (script : Script) (start : ClusterStart) (run : IsBackRun
       (armed-has slot k arm is from to)
 
   -- Nodes that are not faulty are sound.
-  clear-sound : (turn slot k : ℕ) → slot ≡ start.slot + turn → slot < script.slots → k < length list.slots
+  pub clear-sound : (turn slot k : ℕ) → slot ≡ start.slot + turn → slot < script.slots → k < length list.slots
       → is_ever_on script k ≡ true → has_node (after list script start slot) k ≡ false
       → is_sound_after plan turn k ≡ true
   clear-sound turn slot k now within less ever none =
