@@ -14,3 +14,6 @@ pub mod Sounds
 pub mod Offers
 pub mod BackHearing
 pub mod BackSlots
+pub mod BackGood
+pub mod BackBounds
+pub mod Returned

@@ -1,5 +1,5 @@
 -- The plan of faults of a script whose armed nodes are owed their places again.
-use Rattle.std.specs.Prelude.{◌≡◌, ◌≢◌, ℕ, suc, ◌+◌, ◌-◌, ◌<◌, ◌≤◌, ◌≤ℤ◌, true, false, List, map, length, filter, find}
+use Rattle.std.specs.Prelude.{◌≡◌, ◌≢◌, ℕ, suc, ◌+◌, ◌-◌, ◌<◌, ◌≤◌, true, false, List, map, length, filter, find}
 use Rattle.std.specs.Prelude.{Option, Some, None, unwrap_or}
 use Rattle.std.specs.List.{filter_map}
 use Rattle.ttp_world.specs.declared.medl.Medl.{Medl}
@@ -8,7 +8,7 @@ use Rattle.ttp_world.specs.declared.script.Event.TheVariants as event
 use Rattle.ttp_world.specs.declared.script.Script.{Script}
 use Rattle.ttp_world.specs.Hypothesis.{ClusterStart, FaultyNode, nodes_of, start_of, loses}
 use Rattle.ttp_world.specs.Medl.{plan_at}
-use Rattle.ttp_world.specs.Returning.{needed_back, joinings, slots_before, two_rounds, run_slots, offers_place}
+use Rattle.ttp_world.specs.Returning.{joinings, slots_before, two_rounds, run_slots, offers_place}
 use Rattle.ttp_world.specs.Script.{is_ever_on, is_on, is_armed}
 use Rattle.ttp_world.specs.Starts.{StartsAlone}
 use Rattle.fault_plan.specs.Plan.{Return, Plan, is_armed_by, planned_incident}
@@ -56,8 +56,6 @@ pub record ReturnsByPlan (list : Medl) (script : Script) (slot : ℕ) : Type 0 w
       → is_armed script k (start.slot + suc turn) ≡ is_armed_by (back_plan_of list script start) (suc turn) k
   pub follows : FollowsWithin list script start (back_plan_of list script start)
   pub returns : IsPlanOfReturns list script start (back_plan_of list script start)
-  -- the window is as wide as clocks need of which one came back
-  pub window : needed_back list ≤ℤ list.window
   -- each other node that is on then hears the cold start undisturbed on some channel
   pub heard : (k : ℕ) → start.slot < script.slots → k < length list.slots → k ≢ start.node
       → is_on script k start.slot ≡ true → loses script start.node start.slot k ≡ false
