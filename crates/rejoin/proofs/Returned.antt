@@ -11,7 +11,7 @@ use Rattle.ttp_world.specs.Script.{IsValidScript}
 use Rattle.ttp_world.specs.World.{Numbers, world}
 use Rattle.ttp_world.proofs.Worlds.{length-world}
 use Rattle.back_plan.specs.BackPlan.{back_plan_of, ReturnsByPlan}
-use Rattle.back_plan.proofs.Returned.{returned-plan}
+use Rattle.back_plan.proofs.Returned.{returned-by_plan}
 use Rattle.safety_steps.specs.Run.{IsBegun, StandsBack}
 use Rattle.safety_steps.proofs.SafeBack.{safe-back}
 use Rattle.safety.specs.ByPlan.{IsByPlan}
@@ -20,7 +20,7 @@ use Rattle.safety.proofs.Together.{clocks-hold, run-by_plan}
 module _ (list : Medl) (script : Script) (slot : ℕ) (valid : IsValid list) (script_valid : IsValidScript list script)
     (kept : returns list script ≡ back.Yes slot) where
   pub by_plan : ReturnsByPlan list script slot
-  by_plan = returned-plan list script slot valid script_valid kept
+  by_plan = returned-by_plan list script slot valid script_valid kept
 
   begun : slot < script.slots → IsBegun list script by_plan.start (back_plan_of list script by_plan.start)
   begun inside = record {
