@@ -1,6 +1,6 @@
 -- The returns of the plan are the arm lines.
-use Rattle.std.proofs.Common.{◌≡◌, ◌≢◌, ℕ, zero, suc, ◌+◌, ◌-◌, ◌<◌, ◌≤◌, Bool, true, false, ◌&&◌, ◌||◌, List, [], ◌∷◌, length}
-use Rattle.std.proofs.Common.{Option, Some, None, ◌⊎◌, refl, ap, sym, subst, ◌∙◌, inl, inr, arith}
+use Rattle.std.proofs.Common.{◌≡◌, ℕ, zero, suc, ◌+◌, ◌-◌, ◌<◌, Bool, true, false, ◌&&◌, ◌||◌, List, [], ◌∷◌, length}
+use Rattle.std.proofs.Common.{refl, ap, sym, subst, ◌∙◌, inl, inr, arith}
 use Rattle.std.specs.Prelude.{◌==◌}
 use Rattle.std.specs.List.{AllByRecursion, Contains, list_any, filter_map}
 use Rattle.std.proofs.lemmas.Bool.{and_parts, and_from, eqb-true, eq-eqb, ne_eqb, cases_eq, both_ways}
@@ -10,7 +10,7 @@ use Rattle.ttp_world.specs.declared.script.Event.TheVariants as event
 use Rattle.ttp_world.specs.declared.script.Script.{Script}
 use Rattle.ttp_world.specs.Hypothesis.{ClusterStart}
 use Rattle.ttp_world.specs.Script.{arms, is_armed, IsValidScript, IsValidEvent}
-use Rattle.fault_plan.specs.Plan.{Return, is_armed_there, enters_there, is_armed_by}
+use Rattle.fault_plan.specs.Plan.{Return, is_armed_there, is_armed_by}
 use Rattle.back_plan.specs.BackPlan.{entry_slot, return_of, back_plan_of}
 use Rattle.back_plan.proofs.EventLines.{arm-line}
 

@@ -1,20 +1,18 @@
 -- What is known of an armed node, one by one.
-use Rattle.std.proofs.Common.{◌≡◌, ℕ, zero, suc, ◌+◌, ◌-◌, ◌*◌, ◌<◌, ◌≤◌, Bool, true, false, cond, not, ◌&&◌, ◌||◌, List, []}
-use Rattle.std.proofs.Common.{◌∷◌, ◌++◌, length, ◌⊎◌, refl, ap, sym, subst, ◌∙◌, inl, inr, arith, Option, Some, None}
-use Rattle.std.specs.Prelude.{◌==◌, nat_le, nat_lt, count_by, min}
-use Rattle.std.specs.List.{AllByRecursion, Contains, list_any, range_with_len}
-use Rattle.std.proofs.lemmas.Bool.{and_parts, and_from, eqb-true, eq-eqb, leb-true, not-true, both_ways, lt-ltb, cases_lt}
+use Rattle.std.proofs.Common.{◌≡◌, ℕ, zero, suc, ◌+◌, ◌-◌, ◌<◌, ◌≤◌, Bool, true, false, not, ◌&&◌, ◌||◌, List, []}
+use Rattle.std.proofs.Common.{◌∷◌, length, refl, ap, subst, ◌∙◌, inl, inr, arith}
+use Rattle.std.specs.Prelude.{◌==◌, nat_le, nat_lt, count_by}
+use Rattle.std.specs.List.{AllByRecursion, list_any}
+use Rattle.std.proofs.lemmas.Bool.{and_parts, and_from, eqb-true, not-true, both_ways, lt-ltb, cases_lt}
 use Rattle.std.proofs.lemmas.Bool.{and_right, or_right, false_from_ne_true}
 use Rattle.ttp_base.specs.NodeSet.{has_node}
 use Rattle.ttp_world.specs.declared.medl.Medl.{Medl}
-use Rattle.ttp_world.specs.declared.script.Event.{Event}
 use Rattle.ttp_world.specs.declared.script.Script.{Script}
 use Rattle.ttp_world.specs.Hypothesis.{ClusterStart, FaultyNode, numbers_of}
 use Rattle.ttp_world.specs.Returning.{two_rounds, four_rounds, faulty_at, slots_before, joinings, is_long_faulty}
 use Rattle.ttp_world.specs.Returning.{is_near_fault, is_apart, is_arm_line, is_only_arm, is_line_of, is_left_alone}
-use Rattle.ttp_world.specs.Returning.{is_heard, is_offered, may_return, is_forgiven}
+use Rattle.ttp_world.specs.Returning.{is_heard, is_offered, is_forgiven}
 use Rattle.ttp_world.specs.Script.{arms, is_armed}
-use Rattle.fault_plan.proofs.Returns.{any-of, of-any}
 use Rattle.fault_plan.proofs.Spaced.{all_in}
 use Rattle.back_plan.proofs.EventLines.{arm-near, same-arm}
 use Rattle.back_plan.proofs.Lists.{any-none, one-of-both}

@@ -1,6 +1,6 @@
 -- Clocks and bits of a script that keeps the rules on them, where nodes may be armed.
-use Rattle.std.proofs.Common.{◌≡◌, ℕ, ◌+◌, ◌*◌, ◌<◌, ◌≤◌, ℤ, pos, negsuc, ◌+ℤ◌, ◌*ℤ◌, ◌≤ℤ◌, Bool, true, false, not, List, [], ◌∷◌, length}
-use Rattle.std.proofs.Common.{Option, Some, None, refl, ap, sym, ◌∙◌, inl, inr, mul-le-mul_left, arith}
+use Rattle.std.proofs.Common.{◌≡◌, ℕ, ◌*◌, ◌<◌, ◌≤◌, ℤ, pos, negsuc, ◌+ℤ◌, ◌*ℤ◌, ◌≤ℤ◌, true, false, not, List, [], ◌∷◌, length}
+use Rattle.std.proofs.Common.{None, refl, sym, inl, inr, mul-le-mul_left, arith}
 use Rattle.std.specs.Prelude.{int_le, is_some, find}
 use Rattle.std.specs.List.{AllByRecursion, list_any, filter_map}
 use Rattle.std.proofs.lemmas.Bool.{not-false, and_parts, false_from_ne_true, both_ways, or_cases, or_left, or_right}

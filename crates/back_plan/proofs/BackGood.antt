@@ -1,25 +1,25 @@
 -- The plan of a run whose armed nodes return is good.
 use Rattle.std.proofs.Common.{◌≡◌, ◌≢◌, ℕ, zero, suc, ◌+◌, ◌-◌, ◌*◌, ◌<◌, ◌≤◌, Bool, true, false, cond, not, ◌&&◌, ◌||◌}
-use Rattle.std.proofs.Common.{List, [], ◌∷◌, ◌++◌, length, Option, Some, None, option_map, is_some, ◌⊎◌, refl, ap, sym}
+use Rattle.std.proofs.Common.{List, [], ◌∷◌, ◌++◌, length, Some, ◌⊎◌, refl, ap, sym}
 use Rattle.std.proofs.Common.{subst, ◌∙◌, inl, inr, arith}
 use Rattle.std.specs.Prelude.{◌==◌, nat_le, nat_lt}
-use Rattle.std.specs.List.{AllByRecursion, Contains, list_any, filter, range_with_len}
-use Rattle.std.proofs.lemmas.Bool.{and_parts, and_from, both_ways, cases_lt, cases_eq, eqb-true, eqb-false, not-true}
+use Rattle.std.specs.List.{AllByRecursion, Contains, filter, range_with_len}
+use Rattle.std.proofs.lemmas.Bool.{and_parts, and_from, both_ways, cases_lt, eqb-true, eqb-false, not-true}
 use Rattle.std.proofs.lemmas.Bool.{not_from_false, false_from_ne_true, leb-true, ltb-true, or_right}
 use Rattle.std.proofs.lemmas.Option.{none-some}
-use Rattle.ttp_base.specs.NodeSet.{has_node, below}
+use Rattle.ttp_base.specs.NodeSet.{has_node}
 use Rattle.ttp_base.proofs.NodeSets.{has_node-sieve}
 use Rattle.ttp_world.specs.declared.medl.Medl.{Medl}
 use Rattle.ttp_world.specs.declared.script.Script.{Script}
-use Rattle.ttp_world.specs.Hypothesis.{ClusterStart, FaultyNode, is_steady, nodes_of, expected_sender}
+use Rattle.ttp_world.specs.Hypothesis.{ClusterStart, is_steady, expected_sender}
 use Rattle.ttp_world.specs.Medl.{plan_at, may_start, kind_at}
 use Rattle.ttp_world.specs.Returning.{two_rounds, four_rounds, slots_before, joinings, is_forgiven, is_sound as is_sound_of}
 use Rattle.ttp_world.specs.Returning.{carries_place, round_of, offers_place}
 use Rattle.ttp_world.specs.Script.{is_armed, is_ever_on, is_on, on_slot}
 use Rattle.ttp_world.proofs.Lists.{nodes-most}
-use Rattle.fault_plan.specs.Plan.{Incident, Return, Plan, sender, incident_at}
+use Rattle.fault_plan.specs.Plan.{Incident, Return, sender, incident_at}
 use Rattle.fault_plan.specs.Fates.{Fate, Absent, Sound, Falling, Fallen, Listening, fate_of, is_sound, is_sound_after, is_lost, lost_since, is_good_slot}
-use Rattle.fault_plan.specs.Fates.{is_entry_near, is_new_after, is_steady_after, steady_nodes}
+use Rattle.fault_plan.specs.Fates.{is_entry_near, is_new_after, is_steady_after}
 use Rattle.fault_plan.specs.GoodPlan.{IsReturn, IsGoodPlan}
 use Rattle.fault_plan.proofs.Hearing.{on-ever}
 use Rattle.fault_plan.proofs.Incidents.{found-tells, late-found, apart-found}
@@ -29,8 +29,8 @@ use Rattle.fault_plan.proofs.Spaced.{all_in}
 use Rattle.back_plan.specs.BackPlan.{entry_slot, back_plan_of}
 use Rattle.back_plan.proofs.ArmLines.{armed-valid, return_at, IsOfLine, return-of}
 use Rattle.back_plan.proofs.Arms.{IsArmedIn, armed-in, arm-faulty, arm-quiet, arm-only, arm-stays}
-use Rattle.back_plan.proofs.BackSlots.{sender-same, sender-less, IsMadeIn, incident-made, back-loss}
-use Rattle.back_plan.proofs.Entries.{IsEntryOf, entry-of}
+use Rattle.back_plan.proofs.BackSlots.{sender-same, sender-less, incident-made, back-loss}
+use Rattle.back_plan.proofs.Entries.{entry-of}
 use Rattle.back_plan.proofs.Runs.{IsBackRun}
 use Rattle.back_plan.proofs.Sounds.{faulty-ever}
 use Rattle.back_plan.proofs.Standing.{Standing, Clear, LostSince, ArmedSince, standing, arm-late}
@@ -87,12 +87,14 @@ armed-was list script start turn slot k run now is =
   where
     has : has_node (at list script start (suc slot)) k ≡ true
     has = arm-faulty list script start k (suc slot) is
+
     kept : (has_node (after list script start slot) k ≡ true)
         × (not (is_forgiven list script (slots_before list script start (suc slot)) (suc slot) k) ≡ true)
     kept =
         and_parts (has_node (after list script start slot) k)
         (not (is_forgiven list script (slots_before list script start (suc slot)) (suc slot) k))
         (sym (at-next list script start slot k) ∙ has)
+
     by : Standing list script start slot k (fate_of (back_plan_of list script start) turn k)
         → is_lost (fate_of (back_plan_of list script start) turn k) ≡ true
     by (Clear none sound) = absurd (both_ways (has_node (after list script start slot) k) none kept.0)
@@ -211,6 +213,7 @@ back-return list script start r run among =
                 inr (omega (arith, entered_is, soon, entry.from, late, far))
           ]
         ]
+
     other-far : (list : Medl) (script : Script) (start : ClusterStart) (q r : Return) → IsBackRun list script start
         → IsOfLine list script start script.events q → IsOfLine list script start script.events r
         → (q ≡ r) ⊎ ((q.entered + 2 * length list.slots ≤ r.armed) ⊎ (r.entered + 2 * length list.slots ≤ q.armed))

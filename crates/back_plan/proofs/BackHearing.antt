@@ -1,46 +1,34 @@
 -- Who hears whom in a slot of a run whose armed nodes return.
-use Rattle.std.proofs.Common.{◌≡◌, ◌≢◌, ℕ, zero, suc, ◌+◌, ◌-◌, ◌*◌, ◌%◌, ◌<◌, ◌≤◌, Bool, true, false, cond, not, ◌&&◌, ◌||◌}
-use Rattle.std.proofs.Common.{List, [], ◌∷◌, ◌++◌, length, Option, Some, None, ◌⊎◌, refl, ap, sym, subst, ◌∙◌, inl, inr}
-use Rattle.std.proofs.Common.{mod-lt, arith}
+use Rattle.std.proofs.Common.{◌≡◌, ◌≢◌, ℕ, zero, suc, ◌+◌, ◌-◌, ◌<◌, ◌≤◌, Bool, true, false, cond, not, ◌&&◌, ◌||◌}
+use Rattle.std.proofs.Common.{◌∷◌, length, Option, Some, None, refl, ap, sym, ◌∙◌, inl, inr}
+use Rattle.std.proofs.Common.{arith}
 use Rattle.std.specs.Prelude.{◌==◌, find, min}
-use Rattle.std.specs.List.{AllByRecursion, list_any, filter, range_with_len}
-use Rattle.std.proofs.lemmas.Bool.{and_parts, and_from, and_right, or_from, or_left, or_right, both_ways, eq-eqb, eqb-true}
+use Rattle.std.specs.List.{list_any, filter, range_with_len}
+use Rattle.std.proofs.lemmas.Bool.{and_parts, and_from, or_from, or_left, both_ways, eq-eqb}
 use Rattle.std.proofs.lemmas.Bool.{eqb-false, ne_eqb, not-true, or_parts, or_cases, cases_lt, not_from_false, false_from_ne_true, leb-true, cases_eq}
-use Rattle.std.proofs.lemmas.Bool.{not_from_true, true_from_ne_false}
-use Rattle.std.proofs.lemmas.Option.{none-some, same_Some}
 use Rattle.ttp_base.specs.NodeSet.{has_node, below}
-use Rattle.ttp_base.proofs.NodeSets.{has_node-sieve}
 use Rattle.ttp_world.specs.declared.medl.Medl.{Medl}
 use Rattle.ttp_world.specs.declared.script.Channel.{Channel}
 use Rattle.ttp_world.specs.declared.script.Channel.TheVariants as channel
 use Rattle.ttp_world.specs.declared.script.Fault.{Fault}
 use Rattle.ttp_world.specs.declared.script.Fault.TheVariants as fault
 use Rattle.ttp_world.specs.declared.script.Script.{Script}
-use Rattle.ttp_world.specs.Hypothesis.{ClusterStart, Loss, Harmless, Makes, Breaks, nodes_of, nodes_made, is_breaking}
-use Rattle.ttp_world.specs.Hypothesis.{is_covered, loses, is_other, others_in, sender_loss, expected_sender, is_steady}
-use Rattle.ttp_world.specs.Hypothesis.{jumps_now}
+use Rattle.ttp_world.specs.Hypothesis.{ClusterStart, Loss, Makes, nodes_of, nodes_made, is_breaking}
+use Rattle.ttp_world.specs.Hypothesis.{is_covered, loses, is_other, expected_sender, is_steady}
 use Rattle.ttp_world.specs.Medl.{plan_at}
 use Rattle.ttp_world.specs.Returning.{four_rounds, run_slots, is_deaf, is_deaf_on, is_missed_in, is_sound}
-use Rattle.ttp_world.specs.Script.{is_ever_on, is_on, has_send_fault, has_receive_fault, has_jump}
-use Rattle.fault_plan.specs.Plan.{Sending, Receiving, Jumping, Incident, Plan, sender, incident_at, change_of}
-use Rattle.fault_plan.specs.Plan.{planned_incident}
-use Rattle.fault_plan.specs.Fates.{Listening, fate_of, is_sound_after, is_good_slot}
-use Rattle.fault_plan.specs.Kept.{IsHeardByPlan}
-use Rattle.fault_plan.proofs.FaultySets.{has_node-append}
-use Rattle.fault_plan.proofs.Hearing.{on-since, sending-is, receiving-is, jumping-is}
-use Rattle.fault_plan.proofs.Incidents.{incident_made}
-use Rattle.fault_plan.proofs.Losses.{IsMadeBy, each-member, loser-tells}
+use Rattle.ttp_world.specs.Script.{is_ever_on, is_on, has_send_fault, has_receive_fault}
+use Rattle.fault_plan.proofs.Hearing.{on-since}
+use Rattle.fault_plan.proofs.Losses.{loser-tells}
 use Rattle.fault_plan.proofs.Sieves.{none-found}
-use Rattle.back_plan.specs.BackPlan.{back_plan_of}
-use Rattle.back_plan.proofs.Arms.{IsArmedIn, arm-quiet, arm-only}
-use Rattle.back_plan.proofs.BackIncidents.{makes-slot, incident-slot}
-use Rattle.back_plan.proofs.BackLosses.{Origin, ByJump, ByLoss, origin-of, fallen, jumpers, loss_of, loss-asked}
-use Rattle.back_plan.proofs.Entries.{IsFirst, first-found}
-use Rattle.back_plan.proofs.EventLines.{alone-sends, alone-hears, alone-still}
+use Rattle.back_plan.proofs.Arms.{arm-only}
+use Rattle.back_plan.proofs.BackLosses.{fallen, loss_of, loss-asked}
+use Rattle.back_plan.proofs.Entries.{first-found}
+use Rattle.back_plan.proofs.EventLines.{alone-sends, alone-hears}
 use Rattle.back_plan.proofs.Lists.{none-below}
 use Rattle.back_plan.proofs.Runs.{IsBackRun}
-use Rattle.back_plan.proofs.Sounds.{IsClear, clear-after, IsNearArm, Soundly, BeingClear, NearArm, sound-how, listens-near}
-use Rattle.back_plan.proofs.Walk.{at, made, after}
+use Rattle.back_plan.proofs.Sounds.{IsClear, clear-after, IsNearArm}
+use Rattle.back_plan.proofs.Walk.{at, after}
 
 -- Nodes that are on.
 
@@ -114,6 +102,7 @@ another-of p n e some = by (find other (below n)) refl
   where
     other : ℕ → Bool
     other = λ k. p k && not (k == e)
+
     by : (found : Option ℕ) → find (λ k. p k && not (k == e)) (below n) ≡ found
         → (q : ℕ) × ((q < n) × ((p q ≡ true) × (q ≢ e)))
     by None none =

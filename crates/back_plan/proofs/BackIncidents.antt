@@ -1,8 +1,7 @@
 -- The incidents of the plan: each slot's is the node that it makes faulty.
-use Rattle.std.proofs.Common.{◌≡◌, ◌≢◌, ℕ, zero, suc, ◌+◌, ◌-◌, ◌*◌, ◌<◌, ◌≤◌, Bool, true, false, cond, List, [], ◌∷◌, ◌++◌, map}
-use Rattle.std.proofs.Common.{length, Option, Some, None, ◌⊎◌, refl, ap, sym, subst, ◌∙◌, inl, inr, arith}
+use Rattle.std.proofs.Common.{◌≡◌, ℕ, zero, suc, ◌+◌, ◌<◌, ◌≤◌, []}
+use Rattle.std.proofs.Common.{None, ◌⊎◌, refl, ap, sym, subst, ◌∙◌, inl, inr, arith}
 use Rattle.std.specs.Prelude.{◌==◌, find}
-use Rattle.std.specs.List.{AllByRecursion}
 use Rattle.std.specs.Option.{option_or}
 use Rattle.std.proofs.lemmas.Bool.{cases_eq}
 use Rattle.std.proofs.lemmas.List.{map-append}
@@ -11,9 +10,9 @@ use Rattle.std.proofs.Math.Nat.{eq-or-lt_of_le}
 use Rattle.ttp_base.specs.NodeSet.{has_node}
 use Rattle.ttp_world.specs.declared.medl.Medl.{Medl}
 use Rattle.ttp_world.specs.declared.script.Script.{Script}
-use Rattle.ttp_world.specs.Hypothesis.{ClusterStart, FaultyNode}
+use Rattle.ttp_world.specs.Hypothesis.{ClusterStart}
 use Rattle.ttp_world.specs.Returning.{two_rounds, slots_before, joinings}
-use Rattle.fault_plan.specs.Plan.{Incident, is_in_slot, planned_incident, incident_at}
+use Rattle.fault_plan.specs.Plan.{is_in_slot, planned_incident, incident_at}
 use Rattle.fault_plan.proofs.FateSteps.{strikes}
 use Rattle.fault_plan.proofs.Incidents.{planned_incidents, incident_among, incident_made, late-found, none-slot, some-slot}
 use Rattle.fault_plan.proofs.Incidents.{or-none}

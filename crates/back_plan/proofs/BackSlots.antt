@@ -1,6 +1,6 @@
 -- A slot of the plan: who hears its frame, and the loss that it brings.
-use Rattle.std.proofs.Common.{◌≡◌, ◌≢◌, ℕ, suc, ◌+◌, ◌-◌, ◌%◌, ◌<◌, ◌≤◌, Bool, true, false, cond, not, ◌&&◌, ◌||◌, List, []}
-use Rattle.std.proofs.Common.{◌∷◌, ◌++◌, length, Option, Some, None, ◌⊎◌, refl, ap, sym, subst, ◌∙◌, inl, inr, mod-lt, arith}
+use Rattle.std.proofs.Common.{◌≡◌, ◌≢◌, ℕ, suc, ◌+◌, ◌-◌, ◌%◌, ◌<◌, ◌≤◌, true, false, not, ◌&&◌, ◌||◌, []}
+use Rattle.std.proofs.Common.{◌∷◌, length, Some, refl, ap, sym, subst, ◌∙◌, inl, inr, mod-lt, arith}
 use Rattle.std.specs.Prelude.{◌==◌}
 use Rattle.std.proofs.lemmas.Bool.{and_parts, and_from, both_ways, eq-eqb, eqb-true, eqb-false, not-true, or_from}
 use Rattle.std.proofs.lemmas.Bool.{not_from_false, false_from_ne_true, cases_lt}
@@ -9,10 +9,10 @@ use Rattle.ttp_base.specs.NodeSet.{has_node}
 use Rattle.ttp_base.proofs.NodeSets.{has_node-sieve}
 use Rattle.ttp_world.specs.declared.medl.Medl.{Medl}
 use Rattle.ttp_world.specs.declared.script.Script.{Script}
-use Rattle.ttp_world.specs.Hypothesis.{ClusterStart, Makes, nodes_made, loses, is_other, others_in, expected_sender, jumps_now}
-use Rattle.ttp_world.specs.Returning.{two_rounds, four_rounds, slots_before, is_forgiven}
+use Rattle.ttp_world.specs.Hypothesis.{ClusterStart, nodes_made, loses, is_other, others_in, expected_sender, jumps_now}
+use Rattle.ttp_world.specs.Returning.{four_rounds, slots_before, is_forgiven}
 use Rattle.ttp_world.specs.Script.{is_ever_on, is_on, has_jump}
-use Rattle.fault_plan.specs.Plan.{Sending, Receiving, Jumping, Incident, Plan, sender, incident_at, change_of}
+use Rattle.fault_plan.specs.Plan.{Incident, Plan, sender, incident_at, change_of}
 use Rattle.fault_plan.specs.Plan.{planned_incident}
 use Rattle.fault_plan.specs.Fates.{fate_of, is_sound_after, is_good_slot}
 use Rattle.fault_plan.specs.Fates.{Fate, Listening, is_sound}
@@ -22,18 +22,17 @@ use Rattle.fault_plan.proofs.FaultySets.{has_node-append}
 use Rattle.fault_plan.proofs.Hearing.{on-ever, sending-is, receiving-is, jumping-is}
 use Rattle.fault_plan.proofs.Incidents.{incident_made}
 use Rattle.fault_plan.proofs.Losses.{IsMadeBy, each-member}
-use Rattle.back_plan.specs.BackPlan.{entry_slot, back_plan_of}
+use Rattle.back_plan.specs.BackPlan.{back_plan_of}
 use Rattle.back_plan.proofs.Arms.{arm-quiet, arm-stays}
 use Rattle.back_plan.proofs.BackHearing.{on-now, other-clear, clear-loses, near-hears, near-heard, near-same}
 use Rattle.back_plan.proofs.BackIncidents.{makes-slot, incident-slot}
 use Rattle.back_plan.proofs.BackLosses.{Origin, ByJump, ByLoss, origin-of, fallen, fallen-none, jumpers, loss_of}
-use Rattle.back_plan.proofs.BackLosses.{made-fresh}
 use Rattle.back_plan.proofs.Entries.{entry-of}
 use Rattle.back_plan.proofs.EventLines.{alone-still}
 use Rattle.back_plan.proofs.Runs.{IsBackRun}
 use Rattle.back_plan.proofs.Sounds.{IsClear, IsNearArm, Soundly, BeingClear, NearArm, sound-how, listens-near}
 use Rattle.back_plan.proofs.Standing.{Standing, Clear, LostSince, ArmedSince, IsLostSince, IsNext, lost-stays, standing}
-use Rattle.back_plan.proofs.Walk.{at, made, after, after-has, at-next}
+use Rattle.back_plan.proofs.Walk.{at, made, after, at-next}
 
 pub sender-same : (list : Medl) (script : Script) (start : ClusterStart) (turn slot : ℕ) → slot ≡ start.slot + turn
     → expected_sender list start slot ≡ sender (back_plan_of list script start) turn
@@ -235,6 +234,7 @@ back-heard list script start turn run within =
         → is_good_slot plan turn ≡ true → ⊥
     listens-good plan turn r since fate same good =
         both_ways (is_sound_after plan turn r) (ap is_sound fate) (ap (is_sound_after plan turn) same ∙ good)
+
     unheard-how : (list : Medl) (script : Script) (start : ClusterStart) (slot r : ℕ) (incident : Incident)
         → IsBackRun list script start → start.slot ≤ slot → slot < script.slots → r < length list.slots
         → expected_sender list start slot ≡ incident.node → IsMadeIn list script start slot incident
@@ -300,6 +300,7 @@ sound-earlier list script start turn slot k run now within less ever out =
   where
     fate : Fate
     fate = fate_of (back_plan_of list script start) turn k
+
     by : Standing list script start slot k (fate_of (back_plan_of list script start) turn k)
         → is_sound_after (back_plan_of list script start) turn k ≡ true
     by (Clear none is) = ap is_sound is
@@ -313,8 +314,13 @@ sound-earlier list script start turn slot k run now within less ever out =
           (omega (arith, soon, armed.from))))
       | inr over ↦
           ap is_sound
-          (armed.entered (omega (arith, over, armed.to, (entry-of list script start k arm armed.is).to,
-          run.valid.count)))
+          (armed.entered (omega (
+            arith,
+            over,
+            armed.to,
+            (entry-of list script start k arm armed.is).to,
+            run.valid.count,
+          )))
     ]
 
 pub back-loss : (list : Medl) (script : Script) (start : ClusterStart) (turn slot : ℕ) (incident : Incident)

@@ -1,6 +1,6 @@
 -- The slot in which an armed node enters.
-use Rattle.std.proofs.Common.{◌≡◌, ℕ, zero, suc, ◌+◌, ◌-◌, ◌*◌, ◌<◌, ◌≤◌, Bool, true, false, cond, ◌||◌, List, [], ◌∷◌, length}
-use Rattle.std.proofs.Common.{Option, Some, None, ◌⊎◌, refl, ap, sym, subst, ◌∙◌, inl, inr, arith}
+use Rattle.std.proofs.Common.{◌≡◌, ℕ, zero, suc, ◌+◌, ◌-◌, ◌<◌, ◌≤◌, Bool, true, false, cond, ◌||◌}
+use Rattle.std.proofs.Common.{Option, Some, None, refl, ap, sym, ◌∙◌, inl, inr, arith}
 use Rattle.std.specs.Prelude.{nat_lt, min, unwrap_or, find}
 use Rattle.std.specs.List.{list_any, range_with_len}
 use Rattle.std.proofs.lemmas.Bool.{both_ways, or_cases, ltb-true, cases_eq}
@@ -8,7 +8,7 @@ use Rattle.std.proofs.lemmas.Option.{none-some, same_Some}
 use Rattle.ttp_world.specs.declared.medl.Medl.{Medl}
 use Rattle.ttp_world.specs.declared.script.Script.{Script}
 use Rattle.ttp_world.specs.Hypothesis.{ClusterStart}
-use Rattle.ttp_world.specs.Returning.{two_rounds, run_slots, offers_place, is_offered}
+use Rattle.ttp_world.specs.Returning.{two_rounds, offers_place}
 use Rattle.fault_plan.proofs.Sieves.{none-found}
 use Rattle.back_plan.specs.BackPlan.{entry_slot}
 use Rattle.back_plan.proofs.Arms.{IsArmedIn}
@@ -68,8 +68,10 @@ entry-of list script start k arm is =
   where
     p : ℕ → Bool
     p = offers_place list script start k
+
     many : ℕ
     many = min (arm + two_rounds list) script.slots - arm
+
     by : (found : Option ℕ) → find p (range_with_len arm many) ≡ found
         → IsEntryOf list script start k arm (unwrap_or found (arm + two_rounds list))
     by (Some t) found =

@@ -1,9 +1,9 @@
 -- What lines of a script tell of a node and a slot.
-use Rattle.std.proofs.Common.{◌≡◌, ℕ, ◌+◌, ◌*◌, ◌<◌, ◌≤◌, Bool, true, false, cond, not, ◌&&◌, ◌||◌, List, [], ◌∷◌, length, ℤ}
-use Rattle.std.proofs.Common.{Option, Some, None, refl, ap, sym, ◌∙◌, inl, inr, arith}
+use Rattle.std.proofs.Common.{◌≡◌, ℕ, ◌+◌, ◌<◌, ◌≤◌, Bool, true, false, cond, ◌&&◌, ℤ}
+use Rattle.std.proofs.Common.{Some, None, refl, ap, sym, ◌∙◌, arith}
 use Rattle.std.specs.Prelude.{◌==◌, nat_le, nat_lt, is_some}
 use Rattle.std.specs.List.{Contains, list_any}
-use Rattle.std.proofs.lemmas.Bool.{and_parts, and_from, both_ways, eqb-true, leb-true, le-leb, lt-ltb, eq-eqb}
+use Rattle.std.proofs.lemmas.Bool.{and_parts, and_from, both_ways, eqb-true, leb-true, le-leb, lt-ltb}
 use Rattle.ttp_world.specs.declared.medl.Medl.{Medl}
 use Rattle.ttp_world.specs.declared.script.Channel.{Channel}
 use Rattle.ttp_world.specs.declared.script.Event.{Event}
@@ -11,7 +11,7 @@ use Rattle.ttp_world.specs.declared.script.Event.TheVariants as event
 use Rattle.ttp_world.specs.declared.script.Fault.{Fault}
 use Rattle.ttp_world.specs.declared.script.Script.{Script}
 use Rattle.ttp_world.specs.Events.{is_among, is_same_fault, covers}
-use Rattle.ttp_world.specs.Returning.{four_rounds, touches, is_line_of, is_arm_line, is_left_alone}
+use Rattle.ttp_world.specs.Returning.{four_rounds, touches, is_line_of, is_arm_line}
 use Rattle.ttp_world.specs.Script.{arms, is_armed, is_send_fault, is_receive_fault, has_send_fault, has_receive_fault}
 use Rattle.ttp_world.specs.Script.{jump_in, has_jump}
 use Rattle.fault_plan.proofs.Returns.{any-of}
@@ -45,6 +45,7 @@ same-arm j k slot later e one other =
   where
     node-same : event.Arm j slot ≡ event.Arm k later → j ≡ k
     node-same same = cc
+
     slot-same : event.Arm j slot ≡ event.Arm k later → slot ≡ later
     slot-same same = cc
 

@@ -1,6 +1,6 @@
 -- An armed node enters by the first frame of a sound node that carries a place.
 use Rattle.std.proofs.Common.{◌≡◌, ◌≢◌, ℕ, zero, suc, ◌+◌, ◌-◌, ◌*◌, ◌/◌, ◌%◌, ◌<◌, ◌≤◌, Bool, true, false, cond, not}
-use Rattle.std.proofs.Common.{◌&&◌, length, refl, ap, sym, subst, ◌∙◌, inl, inr, mod-lt, arith}
+use Rattle.std.proofs.Common.{length, refl, ap, sym, subst, ◌∙◌, inl, inr, mod-lt, arith}
 use Rattle.std.specs.Prelude.{◌==◌}
 use Rattle.std.specs.List.{Contains}
 use Rattle.std.proofs.lemmas.Bool.{and_parts, and_from, both_ways, ne_eqb, eqb-true, eqb-false, false_from_ne_true}
@@ -8,15 +8,14 @@ use Rattle.std.proofs.lemmas.Bool.{not_from_false, cases_lt}
 use Rattle.std.proofs.Math.Nat.{mod-add-div', mod-add-mod, mod-eq_of_lt, div-eq_of_lt}
 use Rattle.std.proofs.lemmas.Nat.{div-mul-add}
 use Rattle.ttp_base.specs.NodeSet.{has_node}
-use Rattle.ttp_world.specs.declared.medl.Kind.{Kind}
 use Rattle.ttp_world.specs.declared.medl.Medl.{Medl}
 use Rattle.ttp_world.specs.declared.script.Script.{Script}
 use Rattle.ttp_world.specs.Diary.{Place, next_place}
 use Rattle.ttp_world.specs.Hypothesis.{ClusterStart, expected_sender}
 use Rattle.ttp_world.specs.Medl.{kind_at}
 use Rattle.ttp_world.specs.Returning.{two_rounds, four_rounds, round_of, carries_place, is_sound as is_sound_in, offers_place}
-use Rattle.ttp_world.specs.Script.{is_armed, is_on}
-use Rattle.fault_plan.specs.Plan.{Return, Plan, sender}
+use Rattle.ttp_world.specs.Script.{is_on}
+use Rattle.fault_plan.specs.Plan.{Return, Plan}
 use Rattle.fault_plan.specs.Fates.{is_sound_after, is_good_slot}
 use Rattle.fault_plan.specs.Kept.{kind_in, IsOffered}
 use Rattle.fault_plan.specs.Places.{planned_place}

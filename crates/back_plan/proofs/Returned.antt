@@ -1,7 +1,6 @@
 -- A script whose test says that its armed nodes are owed their places follows its plan.
-use Rattle.std.proofs.Common.{◌≡◌, ◌≢◌, ℕ, suc, ◌+◌, ◌-◌, ◌*◌, ◌<◌, ◌≤◌, Bool, true, false, cond, List, [], length, Option, Some}
-use Rattle.std.proofs.Common.{None, refl, ap, sym, subst, ◌∙◌, inl, inr, arith}
-use Rattle.std.specs.Prelude.{find}
+use Rattle.std.proofs.Common.{◌≡◌, ◌≢◌, ℕ, suc, ◌+◌, ◌-◌, ◌<◌, ◌≤◌, Bool, true, false, cond, length, Option, Some}
+use Rattle.std.proofs.Common.{None, refl, sym, ◌∙◌, inr, arith}
 use Rattle.std.proofs.lemmas.Bool.{not-false, false_from_ne_true}
 use Rattle.std.proofs.lemmas.Option.{none-some}
 use Rattle.ttp_base.specs.NodeSet.{has_node}
@@ -15,8 +14,6 @@ use Rattle.ttp_world.specs.Returning.{two_rounds, slots_before, joinings, breaks
 use Rattle.ttp_world.specs.Returning.{breaks_arm_in, returns}
 use Rattle.ttp_world.specs.Script.{is_armed, is_ever_on, is_on, IsValidScript}
 use Rattle.ttp_world.proofs.Starts.{alone-start, on-start}
-use Rattle.fault_plan.specs.Plan.{sender}
-use Rattle.fault_plan.specs.Fates.{is_sound_after}
 use Rattle.fault_plan.specs.Kept.{FollowsPlan}
 use Rattle.fault_plan.proofs.Hearing.{on-ever}
 use Rattle.fault_plan.proofs.KeptPlan.{on-always}

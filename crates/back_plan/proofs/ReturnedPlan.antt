@@ -1,6 +1,6 @@
 -- The plan of a run whose armed nodes return is that of its faulty nodes and its arm lines.
-use Rattle.std.proofs.Common.{◌≡◌, ◌≢◌, ℕ, zero, suc, ◌+◌, ◌-◌, ◌*◌, ◌%◌, ◌<◌, ◌≤◌, Bool, true, false, not, ◌&&◌, ◌||◌}
-use Rattle.std.proofs.Common.{List, [], ◌∷◌, ◌++◌, length, Option, Some, None, ◌⊎◌, refl, ap, sym, subst, ◌∙◌, inl, inr}
+use Rattle.std.proofs.Common.{◌≡◌, ◌≢◌, ℕ, zero, suc, ◌+◌, ◌-◌, ◌<◌, ◌≤◌, Bool, true, false, not, ◌&&◌, ◌||◌}
+use Rattle.std.proofs.Common.{List, [], ◌∷◌, ◌++◌, length, Some, ◌⊎◌, refl, ap, sym, subst, ◌∙◌, inl, inr}
 use Rattle.std.proofs.Common.{mod-lt, arith}
 use Rattle.std.specs.Prelude.{◌==◌}
 use Rattle.std.specs.List.{AllByRecursion, list_any, range_with_len}
@@ -11,18 +11,18 @@ use Rattle.ttp_world.specs.declared.medl.Medl.{Medl}
 use Rattle.ttp_world.specs.declared.script.Script.{Script}
 use Rattle.ttp_world.specs.BackSafety.{is_armed_among}
 use Rattle.ttp_world.specs.Hypothesis.{ClusterStart, FaultyNode, numbers_of, expected_sender, start_of}
-use Rattle.ttp_world.specs.Returning.{two_rounds, four_rounds, slots_before, faulty_since, is_forgiven, started_since}
-use Rattle.ttp_world.specs.Returning.{back_faulty_after, is_back_correct_after}
+use Rattle.ttp_world.specs.Returning.{four_rounds, slots_before, faulty_since, is_forgiven, started_since}
+use Rattle.ttp_world.specs.Returning.{is_back_correct_after}
 use Rattle.ttp_world.specs.Script.{is_armed, is_ever_on, is_on}
 use Rattle.ttp_world.proofs.Filters.{each-filter}
 use Rattle.fault_plan.specs.Fates.{fate_of, is_sound, is_sound_after, lost_since}
-use Rattle.fault_plan.specs.Plan.{Plan, incident_at, enters}
+use Rattle.fault_plan.specs.Plan.{Plan, enters}
 use Rattle.fault_plan.specs.Returned.{IsSoundAgain, IsPlanOfReturns}
 use Rattle.fault_plan.proofs.Hearing.{on-ever}
 use Rattle.fault_plan.proofs.Incidents.{incident_made}
 use Rattle.fault_plan.proofs.Spaced.{all_in}
-use Rattle.back_plan.specs.BackPlan.{entry_slot, back_plan_of}
-use Rattle.back_plan.proofs.Arms.{IsArmedIn, armed-in, arm-quiet, arm-only, arm-stays, arm-faulty}
+use Rattle.back_plan.specs.BackPlan.{back_plan_of}
+use Rattle.back_plan.proofs.Arms.{IsArmedIn, armed-in, arm-quiet, arm-only, arm-stays}
 use Rattle.back_plan.proofs.BackIncidents.{incident-slot}
 use Rattle.back_plan.proofs.BackLosses.{Origin, ByJump, ByLoss, origin-of, made-fresh}
 use Rattle.back_plan.proofs.Entries.{entry-of}

@@ -1,18 +1,18 @@
 -- Who is sound after a slot: a node that is not faulty, or one that was armed less than four rounds ago.
-use Rattle.std.proofs.Common.{◌≡◌, ◌≢◌, ℕ, zero, suc, ◌+◌, ◌-◌, ◌*◌, ◌<◌, ◌≤◌, Bool, true, false, cond, not, ◌&&◌, ◌||◌, List, []}
-use Rattle.std.proofs.Common.{◌∷◌, ◌++◌, length, Option, Some, None, ◌⊎◌, refl, ap, sym, subst, ◌∙◌, inl, inr, arith}
+use Rattle.std.proofs.Common.{◌≡◌, ◌≢◌, ℕ, zero, suc, ◌+◌, ◌-◌, ◌<◌, ◌≤◌, Bool, true, false, cond, not, ◌&&◌}
+use Rattle.std.proofs.Common.{length, Option, Some, None, ◌⊎◌, refl, ap, sym, ◌∙◌, inl, inr, arith}
 use Rattle.std.specs.Prelude.{◌==◌}
-use Rattle.std.proofs.lemmas.Bool.{and_parts, and_left, or_parts, or_cases, or_from, both_ways, cases_lt, false_from_ne_true}
+use Rattle.std.proofs.lemmas.Bool.{and_parts, or_parts, or_cases, or_from, both_ways, cases_lt, false_from_ne_true}
 use Rattle.std.proofs.lemmas.Bool.{true_from_ne_false}
 use Rattle.std.proofs.lemmas.Option.{none-some}
 use Rattle.ttp_base.specs.NodeSet.{has_node}
 use Rattle.ttp_base.proofs.NodeSets.{has_node-sieve}
 use Rattle.ttp_world.specs.declared.medl.Medl.{Medl}
 use Rattle.ttp_world.specs.declared.script.Script.{Script}
-use Rattle.ttp_world.specs.Hypothesis.{ClusterStart, Loss, nodes_made, expected_sender}
+use Rattle.ttp_world.specs.Hypothesis.{ClusterStart, nodes_made, expected_sender}
 use Rattle.ttp_world.specs.Returning.{four_rounds, slots_before, is_forgiven}
-use Rattle.ttp_world.specs.Script.{is_ever_on, is_on, is_armed}
-use Rattle.fault_plan.specs.Plan.{Incident, Plan, incident_at, is_armed_by, enters, sender}
+use Rattle.ttp_world.specs.Script.{is_ever_on, is_on}
+use Rattle.fault_plan.specs.Plan.{Incident, incident_at, is_armed_by, enters, sender}
 use Rattle.fault_plan.specs.Fates.{Fate, Absent, Sound, Listening, fate_of, fate_at_begin, next_fate, is_sound, is_sound_after}
 use Rattle.fault_plan.specs.Fates.{lost_since, struck, turned}
 use Rattle.fault_plan.proofs.FateSteps.{strikes, sound-fate, next-same}
@@ -172,10 +172,12 @@ sound-how list script start turn slot k run now within less sound =
   where
     fate : Fate
     fate = fate_of (back_plan_of list script start) turn k
+
     ever : is_ever_on script k ≡ true
     ever =
         present-ever list script start turn slot k run now within less
         (sound-present (fate_of (back_plan_of list script start) turn k) sound)
+
     by : Standing list script start slot k (fate_of (back_plan_of list script start) turn k)
         → Soundly list script start slot k
     by (Clear none is) = BeingClear (clear-after list script start slot k ever none)
@@ -199,14 +201,18 @@ listens-near list script start turn slot k since run now within less listens =
   where
     fate : Fate
     fate = fate_of (back_plan_of list script start) turn k
+
     listening-absent : Listening since ≡ Absent → ⊥
     listening-absent is = cc
+
     sound-listening : Sound ≡ Listening since → ⊥
     sound-listening is = cc
+
     ever : is_ever_on script k ≡ true
     ever =
         present-ever list script start turn slot k run now within less
         (λ absent. listening-absent (sym listens ∙ absent))
+
     by : Standing list script start slot k (fate_of (back_plan_of list script start) turn k)
         → IsNearArm list script start slot k
     by (Clear none is) = absurd (sound-listening (sym is ∙ listens))

@@ -1,10 +1,10 @@
 -- How a node stands after each slot: it is sound, lost since a slot, or armed less than four rounds ago.
-use Rattle.std.proofs.Common.{◌≡◌, ◌≢◌, ℕ, zero, suc, ◌+◌, ◌-◌, ◌*◌, ◌<◌, ◌≤◌, Bool, true, false, cond, not, ◌&&◌, ◌||◌}
-use Rattle.std.proofs.Common.{List, [], ◌∷◌, ◌++◌, length, Option, Some, None, ◌⊎◌, refl, ap, sym, subst, ◌∙◌, inl, inr, arith}
+use Rattle.std.proofs.Common.{◌≡◌, ℕ, zero, suc, ◌+◌, ◌-◌, ◌<◌, ◌≤◌, Bool, true, false, cond, not, ◌&&◌}
+use Rattle.std.proofs.Common.{List, [], ◌∷◌, ◌++◌, length, Some, None, refl, ap, sym, subst, ◌∙◌, inl, inr, arith}
 use Rattle.std.specs.Prelude.{◌==◌, nat_lt, nat_le}
 use Rattle.std.specs.List.{AllByRecursion, list_any, filter}
 use Rattle.std.proofs.lemmas.Bool.{and_parts, and_from, and_left, and_right, or_from, or_left, or_right, both_ways, cases_lt, cases_eq}
-use Rattle.std.proofs.lemmas.Bool.{false_from_ne_true, eqb-true, not_from_false, leb-true, not-true, ltb-true}
+use Rattle.std.proofs.lemmas.Bool.{false_from_ne_true, eqb-true, not_from_false, leb-true}
 use Rattle.ttp_base.specs.NodeSet.{has_node}
 use Rattle.ttp_base.proofs.NodeSets.{has_node-sieve}
 use Rattle.ttp_world.specs.declared.medl.Medl.{Medl}
@@ -12,7 +12,6 @@ use Rattle.ttp_world.specs.declared.script.Script.{Script}
 use Rattle.ttp_world.specs.Hypothesis.{ClusterStart, FaultyNode, numbers_of}
 use Rattle.ttp_world.specs.Returning.{two_rounds, four_rounds, slots_before, faulty_at, faulty_since, is_forgiven}
 use Rattle.ttp_world.specs.Script.{is_armed, is_ever_on}
-use Rattle.ttp_world.proofs.Filters.{each-filter}
 use Rattle.fault_plan.specs.Plan.{Return, Plan, incident_at, is_armed_by, is_armed_there, enters, enters_there}
 use Rattle.fault_plan.specs.Fates.{Fate, Absent, Sound, Listening, fate_of, fate_at_begin, next_fate, is_sound, lost_since}
 use Rattle.fault_plan.proofs.FateSteps.{strikes, sound-fate, sound-next, since-kept, since-now, next-entered, next-armed}
@@ -22,10 +21,10 @@ use Rattle.fault_plan.proofs.Returns.{any-of, enters-by}
 use Rattle.fault_plan.proofs.Spaced.{all_in}
 use Rattle.back_plan.specs.BackPlan.{entry_slot, back_plan_of}
 use Rattle.back_plan.proofs.ArmLines.{armed-valid, armed-same, return_at, return-of, among-line, each-at}
-use Rattle.back_plan.proofs.Arms.{IsArmedIn, armed-in, arm-faulty, arm-quiet, arm-only, arm-stays, unforgiven}
+use Rattle.back_plan.proofs.Arms.{IsArmedIn, armed-in, arm-faulty, arm-quiet, arm-only, arm-stays}
 use Rattle.back_plan.proofs.BackIncidents.{incident-slot, strikes-slot, made-early}
 use Rattle.back_plan.proofs.BackLosses.{made-fresh}
-use Rattle.back_plan.proofs.Entries.{IsEntryOf, entry-of}
+use Rattle.back_plan.proofs.Entries.{entry-of}
 use Rattle.back_plan.proofs.Runs.{IsBackRun}
 use Rattle.back_plan.proofs.Walk.{at, made, after, after-has, at-next, forgiven-late, forgiven-early}
 
@@ -238,13 +237,17 @@ out-next list script start turn slot k fate next out sound none =
   where
     plan : Plan
     plan = back_plan_of list script start
+
     unarmed : is_armed script k (suc slot) ≡ false
     unarmed = unarmed-out list script start (suc slot) k next.run out
+
     quiet : is_armed_by (back_plan_of list script start) (suc turn) k ≡ false
     quiet = plan-unarmed list script start turn slot k next unarmed
+
     strikes-is : strikes (incident_at (back_plan_of list script start) (suc turn)) k
         ≡ has_node (made list script start (suc slot)) k
     strikes-is = strikes-slot list script start (suc turn) (suc slot) k next.run next.now next.within
+
     by : (b : Bool) → has_node (made list script start (suc slot)) k ≡ b
         → Standing list script start (suc slot) k (next_fate (back_plan_of list script start) (suc turn) k fate)
     by true hit =
@@ -382,6 +385,7 @@ armed-now list script start turn slot k fate next is =
   where
     plan : Plan
     plan = back_plan_of list script start
+
     turns : suc turn ≡ suc slot - start.slot
     turns = omega (arith, next.now)
 
@@ -393,12 +397,14 @@ lost-next list script start turn slot k since fate next lost =
   where
     plan : Plan
     plan = back_plan_of list script start
+
     stays : has_node (at list script start (suc slot)) k ≡ true
     stays =
         at-next list script start slot k
         ∙ and_from (has_node (after list script start slot) k)
         (not (is_forgiven list script (slots_before list script start (suc slot)) (suc slot) k)) lost.has
         (ap not (lost-stays list script start turn slot k since fate next lost))
+
     by : (armed : Bool) → is_armed script k (suc slot) ≡ armed
         → Standing list script start (suc slot) k (next_fate (back_plan_of list script start) (suc turn) k fate)
     by true armed =
@@ -536,6 +542,7 @@ first-standing list script start k run within less ever =
     begins : (b : Bool) → b ≡ true → is_sound (cond b Sound Absent) ≡ true
     begins true is = refl
     begins false is = is
+
     none-early : (fs : List FaultyNode) → AllByRecursion (IsDated list start (suc start.slot)) fs → fs ≡ []
     none-early [] each = refl
     none-early (f ∷ fs) each = absurd (omega (arith, each.0.0, each.0.1, run.valid.count))
@@ -553,6 +560,7 @@ standing list script start (suc turn) (suc slot) k run now within less ever =
   where
     next : IsNext list script start turn slot
     next = record { run = run; now = now; within = within }
+
     step : Standing list script start slot k (fate_of (back_plan_of list script start) turn k)
         → Standing list script start (suc slot) k (fate_of (back_plan_of list script start) (suc turn) k)
     step (Clear none sound) =

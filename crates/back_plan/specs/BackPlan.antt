@@ -1,12 +1,12 @@
 -- The plan of faults of a script whose armed nodes are owed their places again.
-use Rattle.std.specs.Prelude.{◌≡◌, ◌≢◌, ℕ, suc, ◌+◌, ◌-◌, ◌<◌, ◌≤◌, true, false, List, map, length, filter, find}
+use Rattle.std.specs.Prelude.{◌≡◌, ◌≢◌, ℕ, suc, ◌+◌, ◌-◌, ◌<◌, ◌≤◌, true, false, map, length, filter, find}
 use Rattle.std.specs.Prelude.{Option, Some, None, unwrap_or}
 use Rattle.std.specs.List.{filter_map}
 use Rattle.ttp_world.specs.declared.medl.Medl.{Medl}
 use Rattle.ttp_world.specs.declared.script.Event.{Event}
 use Rattle.ttp_world.specs.declared.script.Event.TheVariants as event
 use Rattle.ttp_world.specs.declared.script.Script.{Script}
-use Rattle.ttp_world.specs.Hypothesis.{ClusterStart, FaultyNode, nodes_of, start_of, loses}
+use Rattle.ttp_world.specs.Hypothesis.{ClusterStart, nodes_of, start_of, loses}
 use Rattle.ttp_world.specs.Medl.{plan_at}
 use Rattle.ttp_world.specs.Returning.{joinings, slots_before, two_rounds, run_slots, offers_place}
 use Rattle.ttp_world.specs.Script.{is_ever_on, is_on, is_armed}
