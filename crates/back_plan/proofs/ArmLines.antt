@@ -52,7 +52,8 @@ arms-same list script start turn k (event.Send node channels f from to ∷ event
     arms-same list script start turn k events
 arms-same list script start turn k (event.Receive node channels f from to ∷ events) =
     arms-same list script start turn k events
-arms-same list script start turn k (event.Flip node channels bit at ∷ events) = arms-same list script start turn k events
+arms-same list script start turn k (event.Flip node channels bit at ∷ events) =
+    arms-same list script start turn k events
 arms-same list script start turn k (event.Error node value from to ∷ events) = arms-same list script start turn k events
 arms-same list script start turn k (event.Jump node value at ∷ events) = arms-same list script start turn k events
 arms-same list script start turn k (event.Write node at payload ∷ events) = arms-same list script start turn k events
@@ -71,7 +72,8 @@ return_at list script start k arm = record {
   entered = entry_slot list script start k arm - start.slot;
 }
 
-pub record IsOfLine (list : Medl) (script : Script) (start : ClusterStart) (events : List Event) (r : Return) : Type 0 where
+pub record IsOfLine (list : Medl) (script : Script) (start : ClusterStart) (events : List Event)
+    (r : Return) : Type 0 where
   pub arm : ℕ
   pub armed : list_any (arms r.node arm) events ≡ true
   pub is : r ≡ return_at list script start r.node arm
@@ -86,8 +88,10 @@ line-later list script start e events r of =
     or-right true is = refl
     or-right false is = is
 
-lines-later : (list : Medl) (script : Script) (start : ClusterStart) (e : Event) (events : List Event) (rs : List Return)
-    → AllByRecursion (IsOfLine list script start events) rs → AllByRecursion (IsOfLine list script start (e ∷ events)) rs
+lines-later : (list : Medl) (script : Script) (start : ClusterStart) (e : Event) (events : List Event)
+    (rs : List Return)
+    → AllByRecursion (IsOfLine list script start events) rs
+    → AllByRecursion (IsOfLine list script start (e ∷ events)) rs
 lines-later list script start e events [] each = tt
 lines-later list script start e events (r ∷ rs) each =
     (line-later list script start e events r each.0, lines-later list script start e events rs each.1)

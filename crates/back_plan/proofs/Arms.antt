@@ -53,7 +53,8 @@ armed-in list script start k arm run less within armed =
 
 -- It is faulty.
 
-contained-has : (fs : List FaultyNode) (k : ℕ) → list_any (λ f. f.node == k) fs ≡ true → has_node (numbers_of fs) k ≡ true
+contained-has : (fs : List FaultyNode) (k : ℕ) → list_any (λ f. f.node == k) fs ≡ true
+    → has_node (numbers_of fs) k ≡ true
 contained-has [] k has = absurd (both_ways false refl has)
 contained-has (f ∷ fs) k has = by (f.node == k) has (contained-has fs k)
   where
@@ -133,11 +134,13 @@ unforgiven list script start k arm slot run is from to =
           ∙ and_right (has_node (at list script start then) k) (is_armed script k then)
           (false_from_ne_true (is_armed script k then) (λ armed.
           let older = armed-in list script start k then run is.less (omega (arith, is.within)) armed in
-          let same = arm-only list script start k then k arm older is.armed (omega (arith, late)) (omega (arith, late)) in
+          let same =
+          arm-only list script start k then k arm older is.armed (omega (arith, late)) (omega (arith, late)) in
           omega (arith, same.1, late)))
     ]
 
-pub arm-stays : (list : Medl) (script : Script) (start : ClusterStart) (k arm gone slot : ℕ) → IsBackRun list script start
+pub arm-stays : (list : Medl) (script : Script) (start : ClusterStart) (k arm gone slot : ℕ)
+    → IsBackRun list script start
     → IsArmedIn list script start k arm → slot ≡ arm + gone → gone < four_rounds list
     → has_node (at list script start slot) k ≡ true
 arm-stays list script start k arm zero slot run is now soon =

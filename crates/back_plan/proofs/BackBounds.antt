@@ -1,5 +1,6 @@
 -- Clocks and bits of a script that keeps the rules on them, where nodes may be armed.
-use Rattle.std.proofs.Common.{◌≡◌, ℕ, ◌*◌, ◌<◌, ◌≤◌, ℤ, pos, negsuc, ◌+ℤ◌, ◌*ℤ◌, ◌≤ℤ◌, true, false, not, List, [], ◌∷◌, length}
+use Rattle.std.proofs.Common.{◌≡◌, ℕ, ◌*◌, ◌<◌, ◌≤◌, ℤ, pos, negsuc, ◌+ℤ◌, ◌*ℤ◌, ◌≤ℤ◌, true, false, not, List, [], ◌∷◌}
+use Rattle.std.proofs.Common.{length}
 use Rattle.std.proofs.Common.{None, refl, sym, inl, inr, mul-le-mul_left, arith}
 use Rattle.std.specs.Prelude.{int_le, is_some, find}
 use Rattle.std.specs.List.{AllByRecursion, list_any, filter_map}
@@ -77,7 +78,8 @@ has_before k slot later (e ∷ events) less has =
 -- The window is wide enough for those that did not come back, too.
 
 pub back-window : (list : Medl) → back_window_broken list ≡ None → needed_back list ≤ℤ list.window
-back-window list window = le_of_test (needed_back list) list.window (wide (int_le (needed_back list) list.window) window)
+back-window list window =
+    le_of_test (needed_back list) list.window (wide (int_le (needed_back list) list.window) window)
 
 twice : (a b n : ℕ) (w : ℤ) → ((pos a *ℤ pos (8 * n)) +ℤ ((pos b *ℤ pos 6) +ℤ pos 2)) ≤ℤ w
     → ((pos a *ℤ pos (4 * n)) +ℤ ((pos b *ℤ pos 3) +ℤ pos 1)) ≤ℤ w

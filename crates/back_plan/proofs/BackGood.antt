@@ -13,12 +13,14 @@ use Rattle.ttp_world.specs.declared.medl.Medl.{Medl}
 use Rattle.ttp_world.specs.declared.script.Script.{Script}
 use Rattle.ttp_world.specs.Hypothesis.{ClusterStart, is_steady, expected_sender}
 use Rattle.ttp_world.specs.Medl.{plan_at, may_start, kind_at}
-use Rattle.ttp_world.specs.Returning.{two_rounds, four_rounds, slots_before, joinings, is_forgiven, is_sound as is_sound_of}
+use Rattle.ttp_world.specs.Returning.{two_rounds, four_rounds, slots_before, joinings, is_forgiven}
+use Rattle.ttp_world.specs.Returning.{is_sound as is_sound_of}
 use Rattle.ttp_world.specs.Returning.{carries_place, round_of, offers_place}
 use Rattle.ttp_world.specs.Script.{is_armed, is_ever_on, is_on, on_slot}
 use Rattle.ttp_world.proofs.Lists.{nodes-most}
 use Rattle.fault_plan.specs.Plan.{Incident, Return, sender, incident_at}
-use Rattle.fault_plan.specs.Fates.{Fate, Absent, Sound, Falling, Fallen, Listening, fate_of, is_sound, is_sound_after, is_lost, lost_since, is_good_slot}
+use Rattle.fault_plan.specs.Fates.{Fate, Absent, Sound, Falling, Fallen, Listening, fate_of, is_sound, is_sound_after}
+use Rattle.fault_plan.specs.Fates.{is_lost, lost_since, is_good_slot}
 use Rattle.fault_plan.specs.Fates.{is_entry_near, is_new_after, is_steady_after}
 use Rattle.fault_plan.specs.GoodPlan.{IsReturn, IsGoodPlan}
 use Rattle.fault_plan.proofs.Hearing.{on-ever}
@@ -117,7 +119,8 @@ armed-was list script start turn slot k run now is =
     ]
 
 -- the slot in which it enters is good
-pub entry-good : (list : Medl) (script : Script) (start : ClusterStart) (turn slot k arm : ℕ) → IsBackRun list script start
+pub entry-good : (list : Medl) (script : Script) (start : ClusterStart) (turn slot k arm : ℕ)
+    → IsBackRun list script start
     → IsArmedIn list script start k arm → slot ≡ start.slot + turn → slot < script.slots
     → entry_slot list script start k arm ≡ slot
     → (is_good_slot (back_plan_of list script start) turn ≡ true)
@@ -236,7 +239,8 @@ back-return list script start r run among =
           | inl before ↦ elim (cases_lt one.arm (two.arm + four_rounds list)) [
             | inl near ↦
                 let same =
-                arm-only list script start r.node two.arm q.node one.arm second one.armed (omega (arith, before)) near in
+                arm-only list script start r.node two.arm q.node one.arm second one.armed (omega (arith, before)) near
+                in
                 absurd (omega (arith, before, same.1))
             | inr far ↦ inr (inr (omega (arith, r_entered, q_armed, later.to, later.from, late, too, far)))
           ]
@@ -254,7 +258,8 @@ filter-more : (p q : ℕ → Bool) (a n : ℕ) → ((k : ℕ) → a ≤ k → k 
     → length (filter p (range_with_len a n)) ≤ length (filter q (range_with_len a n))
 filter-more p q a zero gives = omega arith
 filter-more p q a (suc n) gives =
-    by (p a) (q a) refl refl (filter-more p q (a + 1) n (λ k from to passes. gives k (omega arith) (omega arith) passes))
+    by (p a) (q a) refl refl
+    (filter-more p q (a + 1) n (λ k from to passes. gives k (omega arith) (omega arith) passes))
   where
     by : (b c : Bool) → p a ≡ b → q a ≡ c
         → length (filter p (range_with_len (a + 1) n)) ≤ length (filter q (range_with_len (a + 1) n))
@@ -342,6 +347,7 @@ back-good list script start run =
           let four = leb-true 4 _ (run.steady slot (omega arith) (omega arith)) in
           let more =
           filter-more (is_steady list script (after list script start slot)) (is_steady_after plan turn) 0 n
-          (λ k from to steady. steady-is list script start turn slot k run refl (omega arith) (omega (arith, to)) steady) in
+          (λ k from to steady. steady-is list script start turn slot k run refl (omega arith) (omega (arith, to))
+          steady) in
           omega (arith, four, more);
     }

@@ -5,7 +5,8 @@ use Rattle.std.proofs.Common.{arith}
 use Rattle.std.specs.Prelude.{◌==◌, find, min}
 use Rattle.std.specs.List.{list_any, filter, range_with_len}
 use Rattle.std.proofs.lemmas.Bool.{and_parts, and_from, or_from, or_left, both_ways, eq-eqb}
-use Rattle.std.proofs.lemmas.Bool.{eqb-false, ne_eqb, not-true, or_parts, or_cases, cases_lt, not_from_false, false_from_ne_true, leb-true, cases_eq}
+use Rattle.std.proofs.lemmas.Bool.{eqb-false, ne_eqb, not-true, or_parts, or_cases, cases_lt, not_from_false}
+use Rattle.std.proofs.lemmas.Bool.{false_from_ne_true, leb-true, cases_eq}
 use Rattle.ttp_base.specs.NodeSet.{has_node, below}
 use Rattle.ttp_world.specs.declared.medl.Medl.{Medl}
 use Rattle.ttp_world.specs.declared.script.Channel.{Channel}
@@ -77,7 +78,8 @@ filter-none p a zero none = refl
 filter-none p a (suc n) none =
     let here = none a (omega arith) (omega arith) in
     let rest = filter-none p (a + 1) n (λ k from to. none k (omega arith) (omega arith)) in
-    ap (λ b. length (cond b (a ∷ filter p (range_with_len (a + 1) n)) (filter p (range_with_len (a + 1) n)))) here ∙ rest
+    ap (λ b. length (cond b (a ∷ filter p (range_with_len (a + 1) n)) (filter p (range_with_len (a + 1) n))))
+    here ∙ rest
 
 filter-one : (p : ℕ → Bool) (a n e : ℕ) → ((k : ℕ) → a ≤ k → k < a + n → p k ≡ true → k ≡ e)
     → length (filter p (range_with_len a n)) ≤ 1
@@ -161,8 +163,10 @@ near-hears list script start slot r run from within small sends near =
     λ kind c. alone-hears list script kind r near.arm slot c near.from near.to near.is.alone in
     false_from_ne_true (loses script e slot r) (λ lost.
     let both = and_parts (is_covered script e r slot channel.A) (is_covered script e r slot channel.B) lost in
-    let a = covered-parts script e r slot channel.A both.0 (alone fault.Silence channel.A) (alone fault.Noise channel.A) in
-    let b = covered-parts script e r slot channel.B both.1 (alone fault.Silence channel.B) (alone fault.Noise channel.B) in
+    let a =
+    covered-parts script e r slot channel.A both.0 (alone fault.Silence channel.A) (alone fault.Noise channel.A) in
+    let b =
+    covered-parts script e r slot channel.B both.1 (alone fault.Silence channel.B) (alone fault.Noise channel.B) in
     let q = another-clear list script start slot e run from within in
     both_ways (loses script e slot q.0)
     (clear-loses list script start slot q.0 run from within q.1.0 q.1.1.1 sends q.1.1.0)
@@ -220,7 +224,8 @@ near-heard list script start slot r run from within less near hears =
     and_from (is_on script r slot) (not (has_node faulty r)) (on-now list script start slot r run from less hears.ever)
     (not_from_false (has_node faulty r) hears.was) in
     let hearing : (is_deaf_on script r slot channel.A && is_deaf_on script r slot channel.B) ≡ false =
-    second (is_sound script faulty slot r) (is_deaf_on script r slot channel.A && is_deaf_on script r slot channel.B) here
+    second (is_sound script faulty slot r) (is_deaf_on script r slot channel.A && is_deaf_on script r slot channel.B)
+    here
     sound in
     false_from_ne_true (loses script e slot r) (λ lost.
     let both = and_parts (is_covered script e r slot channel.A) (is_covered script e r slot channel.B) lost in
@@ -234,7 +239,8 @@ near-heard list script start slot r run from within less near hears =
     second false c none is = absurd (both_ways false refl is)
 
 -- two of them are one
-pub near-same : (list : Medl) (script : Script) (start : ClusterStart) (slot j k : ℕ) → IsNearArm list script start slot j
+pub near-same : (list : Medl) (script : Script) (start : ClusterStart) (slot j k : ℕ)
+    → IsNearArm list script start slot j
     → IsNearArm list script start slot k → j ≡ k
 near-same list script start slot j k one two = elim (cases_lt two.arm one.arm) [
   | inl later ↦

@@ -14,7 +14,8 @@ use Rattle.ttp_world.specs.Hypothesis.{ClusterStart}
 use Rattle.ttp_world.specs.Returning.{two_rounds, slots_before, joinings}
 use Rattle.fault_plan.specs.Plan.{is_in_slot, planned_incident, incident_at}
 use Rattle.fault_plan.proofs.FateSteps.{strikes}
-use Rattle.fault_plan.proofs.Incidents.{planned_incidents, incident_among, incident_made, late-found, none-slot, some-slot}
+use Rattle.fault_plan.proofs.Incidents.{planned_incidents, incident_among, incident_made, late-found, none-slot}
+use Rattle.fault_plan.proofs.Incidents.{some-slot}
 use Rattle.fault_plan.proofs.Incidents.{or-none}
 use Rattle.fault_plan.proofs.Spaced.{IsSpaced, IsOneMade, all_in, spaced-later, one-made}
 use Rattle.fault_plan.proofs.Tests.{or-false, never-found}
@@ -22,7 +23,8 @@ use Rattle.back_plan.specs.BackPlan.{back_plan_of}
 use Rattle.back_plan.proofs.Runs.{IsBackRun}
 use Rattle.back_plan.proofs.Walk.{made}
 
-pub some-rounds : (list : Medl) (script : Script) (start : ClusterStart) → IsBackRun list script start → 0 < two_rounds list
+pub some-rounds : (list : Medl) (script : Script) (start : ClusterStart) → IsBackRun list script start
+    → 0 < two_rounds list
 some-rounds list script start run = omega (arith, run.valid.count)
 
 spaced-before : (list : Medl) (script : Script) (start : ClusterStart) (gap earliest last slot : ℕ) → slot ≤ last

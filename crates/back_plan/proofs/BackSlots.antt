@@ -291,7 +291,8 @@ lost-in list script start turn slot k since fate run now within lost =
     (ap not (lost-stays list script start turn slot k since fate next lost))
 
 -- a node that is not faulty at the beginning of the next slot is sound: it was not faulty, or is forgiven
-pub sound-earlier : (list : Medl) (script : Script) (start : ClusterStart) (turn slot k : ℕ) → IsBackRun list script start
+pub sound-earlier : (list : Medl) (script : Script) (start : ClusterStart) (turn slot k : ℕ)
+    → IsBackRun list script start
     → slot ≡ start.slot + turn → suc slot < script.slots → k < length list.slots → is_ever_on script k ≡ true
     → has_node (at list script start (suc slot)) k ≡ false
     → is_sound_after (back_plan_of list script start) turn k ≡ true

@@ -29,7 +29,12 @@ first-found p a (suc n) t is = by (p a) refl is (first-found p (a + 1) n t)
         → IsFirst p a (suc n) t
     by true here found rest =
         let same : a ≡ t = same_Some a t found in
-        record { from = omega arith; to = omega arith; passes = ap p (sym same) ∙ here; none = λ u from to. absurd (omega arith) }
+        record {
+          from = omega arith;
+          to = omega arith;
+          passes = ap p (sym same) ∙ here;
+          none = λ u from to. absurd (omega arith);
+        }
     by false here found rest =
         let later = rest found in
         record {
@@ -59,7 +64,8 @@ pub record IsEntryOf (list : Medl) (script : Script) (start : ClusterStart) (k a
   pub to : entry ≤ arm + two_rounds list
   pub soon : entry < script.slots → entry < arm + two_rounds list
   pub offered : entry < script.slots → offers_place list script start k entry ≡ true
-  pub none : (slot : ℕ) → arm ≤ slot → slot < entry → slot < script.slots → offers_place list script start k slot ≡ false
+  pub none : (slot : ℕ) → arm ≤ slot → slot < entry → slot < script.slots
+      → offers_place list script start k slot ≡ false
 
 pub entry-of : (list : Medl) (script : Script) (start : ClusterStart) (k arm : ℕ) → IsArmedIn list script start k arm
     → IsEntryOf list script start k arm (entry_slot list script start k arm)
@@ -85,7 +91,8 @@ entry-of list script start k arm is =
         }
     by None found =
         let over : script.slots < arm + two_rounds list =
-        elim (or_cases (nat_lt script.slots (arm + two_rounds list)) (list_any p (range_with_len arm many)) is.offered) [
+        elim (or_cases (nat_lt script.slots (arm + two_rounds list)) (list_any p (range_with_len arm many))
+        is.offered) [
           | inl ends ↦ ltb-true script.slots (arm + two_rounds list) ends
           | inr has ↦ absurd (any-found p arm many has found)
         ] in

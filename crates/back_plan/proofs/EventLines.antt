@@ -32,13 +32,15 @@ arm-is k slot (event.Write node at payload) is = absurd (both_ways false refl is
 arm-is k slot (event.Read node at from) is = absurd (both_ways false refl is)
 
 -- one that is armed has its line
-pub arm-line : (script : Script) (k slot : ℕ) → is_armed script k slot ≡ true → Contains script.events (event.Arm k slot)
+pub arm-line : (script : Script) (k slot : ℕ) → is_armed script k slot ≡ true
+    → Contains script.events (event.Arm k slot)
 arm-line script k slot is =
     let found = any-of (arms k slot) script.events is in
     let same = arm-is k slot found.0 found.1.1 in
     rw (sym same) found.1.0
 
-pub same-arm : (j k slot later : ℕ) (e : Event) → arms j slot e ≡ true → arms k later e ≡ true → (j ≡ k) × (slot ≡ later)
+pub same-arm : (j k slot later : ℕ) (e : Event) → arms j slot e ≡ true → arms k later e ≡ true
+    → (j ≡ k) × (slot ≡ later)
 same-arm j k slot later e one other =
     let same : event.Arm j slot ≡ event.Arm k later = sym (arm-is j slot e one) ∙ arm-is k later e other in
     (node-same same, slot-same same)
@@ -137,5 +139,6 @@ pub alone-still : (list : Medl) (script : Script) (k slot at : ℕ) → slot ≤
     → list_any (is_line_of list k slot) script.events ≡ false
     → has_jump script k at ≡ false
 alone-still list script k slot at after near none =
-    none-stricter (is_line_of list k slot) (λ e. is_some (jump_in k at e)) script.events (jump-line list k slot at after near)
+    none-stricter (is_line_of list k slot) (λ e. is_some (jump_in k at e)) script.events
+    (jump-line list k slot at after near)
     none

@@ -17,7 +17,8 @@ any-none p (x ∷ xs) none =
 
 -- where none of the nodes passes, this one does not
 pub none-below : (p : ℕ → Bool) (n k : ℕ) → list_any p (below n) ≡ false → k < n → p k ≡ false
-none-below p n k none less = each-member (λ k. p k ≡ false) (below n) k (any-none p (below n) none) (has_node-below n k less)
+none-below p n k none less =
+    each-member (λ k. p k ≡ false) (below n) k (any-none p (below n) none) (has_node-below n k less)
 
 -- what passes a stricter test passes
 pub none-stricter : {X : Type 0} (p q : X → Bool) (xs : List X) → ((x : X) → q x ≡ true → p x ≡ true)

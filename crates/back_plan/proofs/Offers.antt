@@ -13,7 +13,8 @@ use Rattle.ttp_world.specs.declared.script.Script.{Script}
 use Rattle.ttp_world.specs.Diary.{Place, next_place}
 use Rattle.ttp_world.specs.Hypothesis.{ClusterStart, expected_sender}
 use Rattle.ttp_world.specs.Medl.{kind_at}
-use Rattle.ttp_world.specs.Returning.{two_rounds, four_rounds, round_of, carries_place, is_sound as is_sound_in, offers_place}
+use Rattle.ttp_world.specs.Returning.{two_rounds, four_rounds, round_of, carries_place, is_sound as is_sound_in}
+use Rattle.ttp_world.specs.Returning.{offers_place}
 use Rattle.ttp_world.specs.Script.{is_on}
 use Rattle.fault_plan.specs.Plan.{Return, Plan}
 use Rattle.fault_plan.specs.Fates.{is_sound_after, is_good_slot}
@@ -191,7 +192,8 @@ module _ (list : Medl) (script : Script) (start : ClusterStart) (run : IsBackRun
             → (is_on script (expected_sender list start (start.slot + turn)) (start.slot + turn) ≡ true)
             × (has_node (after list script start (start.slot + turn)) (expected_sender list start (start.slot + turn))
             ≡ false)
-            × (has_node (at list script start (start.slot + turn)) (expected_sender list start (start.slot + turn)) ≡ false)
+            × (has_node (at list script start (start.slot + turn)) (expected_sender list start (start.slot + turn))
+            ≡ false)
         how (BeingClear is) = (
           on-since list script start (expected_sender list start (start.slot + turn)) (start.slot + turn) run.on e-node
               (omega arith) is.ever,
@@ -205,7 +207,8 @@ module _ (list : Medl) (script : Script) (start : ClusterStart) (run : IsBackRun
             absurd (elim (cases_lt of.arm also.arm) [
               | inl before ↦
                   let same =
-                  arm-only list script start r.node of.arm (expected_sender list start (start.slot + turn)) also.arm line also.is.armed (omega arith)
+                  arm-only list script start r.node of.arm (expected_sender list start (start.slot + turn)) also.arm
+                  line also.is.armed (omega arith)
                   (omega (arith, first, soon, count)) in
                   let one = same.1 in
                   omega (arith, one, before)
@@ -224,9 +227,11 @@ module _ (list : Medl) (script : Script) (start : ClusterStart) (run : IsBackRun
         known : (is_on script (expected_sender list start (start.slot + turn)) (start.slot + turn) ≡ true)
             × (has_node (after list script start (start.slot + turn)) (expected_sender list start (start.slot + turn))
             ≡ false)
-            × (has_node (at list script start (start.slot + turn)) (expected_sender list start (start.slot + turn)) ≡ false)
+            × (has_node (at list script start (start.slot + turn)) (expected_sender list start (start.slot + turn))
+            ≡ false)
         known =
-            how (sound-how list script start turn (start.slot + turn) (expected_sender list start (start.slot + turn)) run
+            how (sound-how list script start turn (start.slot + turn) (expected_sender list start (start.slot + turn))
+            run
             refl inside e-node sound)
 
         on : is_on script (expected_sender list start (start.slot + turn)) (start.slot + turn) ≡ true
@@ -234,7 +239,8 @@ module _ (list : Medl) (script : Script) (start : ClusterStart) (run : IsBackRun
 
         clear : (has_node (after list script start (start.slot + turn)) (expected_sender list start (start.slot + turn))
             ≡ false)
-            × (has_node (at list script start (start.slot + turn)) (expected_sender list start (start.slot + turn)) ≡ false)
+            × (has_node (at list script start (start.slot + turn)) (expected_sender list start (start.slot + turn))
+            ≡ false)
         clear = (known.1, known.2)
 
         other : expected_sender list start (start.slot + turn) ≢ r.node

@@ -10,7 +10,8 @@ use Rattle.ttp_world.specs.declared.medl.Medl.{Medl}
 use Rattle.ttp_world.specs.declared.script.Script.{Script}
 use Rattle.ttp_world.specs.Hypothesis.{ClusterStart, loses}
 use Rattle.ttp_world.specs.Medl.{IsValid, plan_at}
-use Rattle.ttp_world.specs.Returning.{two_rounds, slots_before, joinings, breaks_back_in, has_four_before, lacks_four_after}
+use Rattle.ttp_world.specs.Returning.{two_rounds, slots_before, joinings, breaks_back_in, has_four_before}
+use Rattle.ttp_world.specs.Returning.{lacks_four_after}
 use Rattle.ttp_world.specs.Returning.{breaks_arm_in, returns}
 use Rattle.ttp_world.specs.Script.{is_armed, is_ever_on, is_on, IsValidScript}
 use Rattle.ttp_world.proofs.Starts.{alone-start, on-start}

@@ -4,7 +4,8 @@ use Rattle.std.proofs.Common.{List, [], ◌∷◌, ◌++◌, length, Some, ◌�
 use Rattle.std.proofs.Common.{mod-lt, arith}
 use Rattle.std.specs.Prelude.{◌==◌}
 use Rattle.std.specs.List.{AllByRecursion, list_any, range_with_len}
-use Rattle.std.proofs.lemmas.Bool.{and_parts, and_from, or_left, or_right, or_cases, both_ways, cases_lt, cases_eq, eq-eqb}
+use Rattle.std.proofs.lemmas.Bool.{and_parts, and_from, or_left, or_right, or_cases, both_ways, cases_lt, cases_eq}
+use Rattle.std.proofs.lemmas.Bool.{eq-eqb}
 use Rattle.std.proofs.lemmas.Bool.{false_from_ne_true, not-true}
 use Rattle.ttp_base.specs.NodeSet.{has_node}
 use Rattle.ttp_world.specs.declared.medl.Medl.{Medl}
@@ -110,7 +111,8 @@ told-later list script start slot (f ∷ fs) each =
         kept = λ later from within. elim (cases_eq later (suc slot)) [
           | inl same ↦
               subst (λ t. is_forgiven list script (slots_before list script start t) t f.node ≡ false) (sym same)
-              (not-true (is_forgiven list script (slots_before list script start (suc slot)) (suc slot) f.node) each.0.1)
+              (not-true (is_forgiven list script (slots_before list script start (suc slot)) (suc slot) f.node)
+              each.0.1)
           | inr other ↦ told.kept later from (omega (arith, within, other))
         ];
       },
@@ -295,14 +297,16 @@ module _ (list : Medl) (script : Script) (start : ClusterStart) (run : IsBackRun
             let to = lost.to in
             absurd (both_ways (has_node (at list script start since) k) lost.before
             (armed-has since k arm is (omega arith) (omega (arith, to, due))))
-        | inr from ↦ absurd (both_ways (is_armed script k arm) (lost.unarmed arm from (omega (arith, due, count))) is.armed)
+        | inr from ↦ absurd (both_ways (is_armed script k arm) (lost.unarmed arm from (omega (arith, due, count)))
+            is.armed)
       ]
       by (ArmedSince other armed) =
           let from = armed.from in
           let soon = armed.to in
           let same : other ≡ arm = elim (cases_lt arm other) [
             | inl before ↦
-                sym (arm-only list script start k arm k other is armed.is.armed (omega arith) (omega (arith, from, due))).1
+                sym (arm-only list script start k arm k other is armed.is.armed (omega arith)
+                (omega (arith, from, due))).1
             | inr after ↦
                 (arm-only list script start k other k arm armed.is is.armed after (omega (arith, soon, due, count))).1
           ] in
@@ -315,14 +319,17 @@ module _ (list : Medl) (script : Script) (start : ClusterStart) (run : IsBackRun
       is_armed_among script f.node f.slot (suc (start.slot + turn) - f.slot) ≡ false
       → lost_since (fate_of plan turn f.node) ≡ Some (f.slot - start.slot)
 
-  pub returned-plan : start_of list script ≡ Some start → IsPlanOfReturns list script start (back_plan_of list script start)
+  pub returned-plan : start_of list script ≡ Some start
+      → IsPlanOfReturns list script start (back_plan_of list script start)
   returned-plan started = record {
     sound = λ turn k less within correct.
         let slot = start.slot + turn in
         let known : is_back_correct_after list script slot k
         ≡ (is_on script k slot && not (has_node (after list script start slot) k)) =
-        ap (λ found. is_on script k slot && not (has_node (numbers_of (started_since list script slot found)) k)) started in
-        let parts = and_parts (is_on script k slot) (not (has_node (after list script start slot) k)) (sym known ∙ correct)
+        ap (λ found. is_on script k slot && not (has_node (numbers_of (started_since list script slot found)) k))
+        started in
+        let parts =
+        and_parts (is_on script k slot) (not (has_node (after list script start slot) k)) (sym known ∙ correct)
         in
         clear-sound turn slot k refl within less (on-ever script k slot parts.0)
         (not-true (has_node (after list script start slot) k) parts.1);

@@ -13,7 +13,8 @@ use Rattle.ttp_world.specs.Hypothesis.{ClusterStart, nodes_made, expected_sender
 use Rattle.ttp_world.specs.Returning.{four_rounds, slots_before, is_forgiven}
 use Rattle.ttp_world.specs.Script.{is_ever_on, is_on}
 use Rattle.fault_plan.specs.Plan.{Incident, incident_at, is_armed_by, enters, sender}
-use Rattle.fault_plan.specs.Fates.{Fate, Absent, Sound, Listening, fate_of, fate_at_begin, next_fate, is_sound, is_sound_after}
+use Rattle.fault_plan.specs.Fates.{Fate, Absent, Sound, Listening, fate_of, fate_at_begin, next_fate, is_sound}
+use Rattle.fault_plan.specs.Fates.{is_sound_after}
 use Rattle.fault_plan.specs.Fates.{lost_since, struck, turned}
 use Rattle.fault_plan.proofs.FateSteps.{strikes, sound-fate, next-same}
 use Rattle.fault_plan.proofs.FaultySets.{has_node-append}
@@ -90,7 +91,8 @@ absent-next list script start turn slot k fate run now within never absent =
     ∙ ap (turned (sender plan turn == k) turn) (struck-missed turn k fate (incident_at plan turn) missed ∙ absent)
     ∙ turned-absent (sender plan turn == k) turn
 
-pub never-absent : (list : Medl) (script : Script) (start : ClusterStart) (turn slot k : ℕ) → IsBackRun list script start
+pub never-absent : (list : Medl) (script : Script) (start : ClusterStart) (turn slot k : ℕ)
+    → IsBackRun list script start
     → slot ≡ start.slot + turn → slot < script.slots → k < length list.slots → is_ever_on script k ≡ false
     → fate_of (back_plan_of list script start) turn k ≡ Absent
 never-absent list script start zero slot k run now within less never =
@@ -99,11 +101,13 @@ never-absent list script start zero slot k run now within less never =
     (ap (λ b. cond b Sound Absent) (has_node-sieve (is_ever_on script) (length list.slots) k less ∙ never))
 never-absent list script start (suc turn) zero k run now within less never = absurd (omega arith)
 never-absent list script start (suc turn) (suc slot) k run now within less never =
-    absent-next list script start (suc turn) (suc slot) k (fate_of (back_plan_of list script start) turn k) run now within
+    absent-next list script start (suc turn) (suc slot) k (fate_of (back_plan_of list script start) turn k) run now
+    within
     never (never-absent list script start turn slot k run (omega arith) (omega arith) less never)
 
 -- so one that is sound or listens is ever on
-pub present-ever : (list : Medl) (script : Script) (start : ClusterStart) (turn slot k : ℕ) → IsBackRun list script start
+pub present-ever : (list : Medl) (script : Script) (start : ClusterStart) (turn slot k : ℕ)
+    → IsBackRun list script start
     → slot ≡ start.slot + turn → slot < script.slots → k < length list.slots
     → fate_of (back_plan_of list script start) turn k ≢ Absent
     → is_ever_on script k ≡ true
@@ -142,7 +146,8 @@ clear-after list script start slot k ever none =
       jumper = both.1;
       was = parts.1;
       fallen = has_node-append (jumpers list script start slot) (at list script start slot) k
-          ∙ or_from (has_node (jumpers list script start slot) k) (has_node (at list script start slot) k) both.1 parts.1;
+          ∙ or_from (has_node (jumpers list script start slot) k) (has_node (at list script start slot) k) both.1
+          parts.1;
     }
 
 -- a node is armed less than four rounds ago

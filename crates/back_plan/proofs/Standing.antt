@@ -3,7 +3,8 @@ use Rattle.std.proofs.Common.{◌≡◌, ℕ, zero, suc, ◌+◌, ◌-◌, ◌<�
 use Rattle.std.proofs.Common.{List, [], ◌∷◌, ◌++◌, length, Some, None, refl, ap, sym, subst, ◌∙◌, inl, inr, arith}
 use Rattle.std.specs.Prelude.{◌==◌, nat_lt, nat_le}
 use Rattle.std.specs.List.{AllByRecursion, list_any, filter}
-use Rattle.std.proofs.lemmas.Bool.{and_parts, and_from, and_left, and_right, or_from, or_left, or_right, both_ways, cases_lt, cases_eq}
+use Rattle.std.proofs.lemmas.Bool.{and_parts, and_from, and_left, and_right, or_from, or_left, or_right, both_ways}
+use Rattle.std.proofs.lemmas.Bool.{cases_lt, cases_eq}
 use Rattle.std.proofs.lemmas.Bool.{false_from_ne_true, eqb-true, not_from_false, leb-true}
 use Rattle.ttp_base.specs.NodeSet.{has_node}
 use Rattle.ttp_base.proofs.NodeSets.{has_node-sieve}
@@ -13,8 +14,10 @@ use Rattle.ttp_world.specs.Hypothesis.{ClusterStart, FaultyNode, numbers_of}
 use Rattle.ttp_world.specs.Returning.{two_rounds, four_rounds, slots_before, faulty_at, faulty_since, is_forgiven}
 use Rattle.ttp_world.specs.Script.{is_armed, is_ever_on}
 use Rattle.fault_plan.specs.Plan.{Return, Plan, incident_at, is_armed_by, is_armed_there, enters, enters_there}
-use Rattle.fault_plan.specs.Fates.{Fate, Absent, Sound, Listening, fate_of, fate_at_begin, next_fate, is_sound, lost_since}
-use Rattle.fault_plan.proofs.FateSteps.{strikes, sound-fate, sound-next, since-kept, since-now, next-entered, next-armed}
+use Rattle.fault_plan.specs.Fates.{Fate, Absent, Sound, Listening, fate_of, fate_at_begin, next_fate, is_sound}
+use Rattle.fault_plan.specs.Fates.{lost_since}
+use Rattle.fault_plan.proofs.FateSteps.{strikes, sound-fate, sound-next, since-kept, since-now, next-entered}
+use Rattle.fault_plan.proofs.FateSteps.{next-armed}
 use Rattle.fault_plan.proofs.FateSteps.{next-listening}
 use Rattle.fault_plan.proofs.Incidents.{incident_made}
 use Rattle.fault_plan.proofs.Returns.{any-of, enters-by}
@@ -64,10 +67,11 @@ dated-made : (list : Medl) (script : Script) (start : ClusterStart) (slot : ℕ)
     → AllByRecursion (IsDated list start (suc slot)) fs
     → AllByRecursion (IsDated list start (suc slot)) (all_in slot ks ++ fs)
 dated-made list script start slot [] fs run within is older = older
-dated-made list script start slot (k ∷ ks) fs run within is older = elim (cases_lt slot (start.slot + two_rounds list)) [
-  | inl early ↦ absurd (cons-nil k ks (sym is ∙ made-early list script start slot run within early))
-  | inr late ↦ dated-with list start slot (k ∷ ks) fs late older
-]
+dated-made list script start slot (k ∷ ks) fs run within is older =
+    elim (cases_lt slot (start.slot + two_rounds list)) [
+      | inl early ↦ absurd (cons-nil k ks (sym is ∙ made-early list script start slot run within early))
+      | inr late ↦ dated-with list start slot (k ∷ ks) fs late older
+    ]
 
 late-after : (list : Medl) (script : Script) (start : ClusterStart) (slot : ℕ) → IsBackRun list script start
     → slot ≤ script.slots
@@ -100,7 +104,8 @@ arm-late list script start k arm run is =
     long-late list script start k arm (faulty_at list script start arm)
     (weaker (IsDated list start arm)
     (λ f. not (is_forgiven list script (slots_before list script start arm) arm f.node))
-    (faulty_since (slots_before list script start arm)) (late-after list script start arm run (omega (arith, is.within))))
+    (faulty_since (slots_before list script start arm))
+    (late-after list script start arm run (omega (arith, is.within))))
     is.long
 
 -- a node that listens again by the plan has its arm line
@@ -414,7 +419,8 @@ lost-next list script start turn slot k since fate next lost =
     by false unarmed =
         let missed : has_node (made list script start (suc slot)) k ≡ false =
         false_from_ne_true (has_node (made list script start (suc slot)) k) (λ hit.
-        both_ways (has_node (at list script start (suc slot)) k) (made-fresh list script start (suc slot) k hit) stays) in
+        both_ways (has_node (at list script start (suc slot)) k) (made-fresh list script start (suc slot) k hit)
+        stays) in
         LostSince since (record {
           has = after-has list script start (suc slot) k
               ∙ or_right (has_node (made list script start (suc slot)) k) (has_node (at list script start (suc slot)) k)
