@@ -9,6 +9,8 @@ import itertools
 import re
 from copy import copy
 
+from script_tests import start_of, test_lines
+
 GENERATOR = 0x5D6DCB
 IMPLICIT, EXPLICIT, EXPLICIT_WITH_PAYLOAD, COLD_START = range(4)
 HEADERS = {"N": IMPLICIT, "I": EXPLICIT, "X": EXPLICIT_WITH_PAYLOAD}
@@ -78,7 +80,7 @@ class Script:
         self.send, self.receive, self.flips = Told(()), Told(()), Told(())
         # By node and slot.
         self.errors, self.jumps, self.writes = Told(0), Told(0), Told(())
-        self.armed = set()
+        self.armed = []
         # By slot, in the order of the script: who writes, and who reads what.
         self.writers, self.reads = Told(()), Told(())
         for line in text.split("\n"):
@@ -116,7 +118,7 @@ class Script:
         self.jumps[int(node), int(slot)] += int(value)
 
     def say_arm(self, node, slot):
-        self.armed.add((int(node), int(slot)))
+        self.armed.append((int(node), int(slot)))
 
     def say_write(self, node, slot, payload):
         self.writes[int(node), int(slot)] += (bytes.fromhex(payload),)
@@ -561,96 +563,8 @@ def lines_of(medl, script, take):
     cluster = Cluster(medl)
     for t in range(script.slots):
         tell_slot(cluster, medl, script, t, take)
-    take([hypothesis_line(medl, script)])
-
-
-# The single-fault hypothesis.
-
-
-def broken_by_errors(medl, script):
-    if any(abs(value) > medl.drift for value in script.drift.values()):
-        return 0
-    return min((slot for (_, slot), value in script.errors.items() if abs(value) > medl.error), default=None)
-
-
-def broken_by_forbidden_lines(medl, script):
-    slots = [slot for _, _, slot in script.flips] + [slot for _, slot in script.armed]
-    jumped = set()
-    for (node, slot), value in sorted(script.jumps.items()):
-        if node in jumped or abs(value) < 4 * medl.window:
-            slots.append(slot)
-        jumped.add(node)
-    return min(slots, default=None)
-
-
-def start_of(medl, script):
-    """The slot in which the first starters are due, these starters, and whether all nodes are on by then."""
-    due = {k: on + 2 * medl.nodes + k for k, on in script.on.items() if medl.slots[k].start}
-    start = min(due.values(), default=None)
-    return start, [k for k in due if due[k] == start], start is not None and max(script.on.values()) <= start
-
-
-def losing_node(medl, script, t, sender, others):
-    """The node that is to blame for a slot in which frames were lost: None, a node, or "nobody" where the rule breaks."""
-    def is_lost(node):
-        return all(script.send[sender, channel, t] or script.receive[node, channel, t] for channel in "AB")
-
-    lost = [node for node in others if is_lost(node)]
-    if not lost:
-        return None
-    if lost == others:
-        return sender
-    return lost[0] if len(lost) == 1 else "nobody"
-
-
-def hypothesis_line(medl, script):
-    """The last line of a trace."""
-    n = medl.nodes
-    slot = broken_by_errors(medl, script)
-    if slot is not None:
-        return f"keeps no H1 {slot}"
-    if medl.window < 4 * medl.drift * n + 3 * medl.error + 1:
-        return "keeps no H2 0"
-    slot = broken_by_forbidden_lines(medl, script)
-    if slot is not None:
-        return f"keeps no H3 {slot}"
-    start, first, is_in_time = start_of(medl, script)
-    if len(first) != 1 or not is_in_time:
-        return "keeps no H4 0"
-
-    faulty, faults, left_at = set(), [], {}
-    for t in range(script.slots):
-        if t == start:
-            left_at["start"] = set(faulty)
-        for node in sorted(script.on):
-            if script.on[node] <= t and node not in faulty and (node, t) in script.jumps:
-                faulty.add(node)
-                faults.append(t)
-        sender = (first[0] + t - start) % n
-        if t >= start and sender in script.on and sender not in faulty:
-            others = [node for node in sorted(script.on) if script.on[node] <= t and node not in faulty and node != sender]
-            blamed = losing_node(medl, script, t, sender, others)
-            if blamed == "nobody":
-                return f"keeps no H5 {t}"
-            if blamed is not None:
-                faulty.add(blamed)
-                faults.append(t)
-        left_at[t] = set(faulty)
-    earliest = start + 2 * n
-    for t in faults:
-        if t < earliest:
-            return f"keeps no H6 {t}"
-        earliest = t + 2 * n
-
-    def are_four_left(faulty):
-        return sum(medl.slots[k].sync for k in script.on if k not in faulty) >= 4
-
-    if not are_four_left(left_at.get("start", faulty)):
-        return f"keeps no H7 {start}"
-    for t in range(start, script.slots):
-        if not are_four_left(left_at[t]):
-            return f"keeps no H7 {t}"
-    return f"keeps yes start {start}"
+    for line in test_lines(medl, script):
+        take([line])
 
 
 # One two-faced sender.

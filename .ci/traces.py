@@ -5,6 +5,7 @@ import random
 import subprocess
 
 import rules
+import script_tests
 
 PROGRAM = os.path.join(os.path.dirname(os.path.dirname(os.path.abspath(__file__))), "ttpbench")
 
@@ -131,11 +132,11 @@ def fault_of_refusal(program, files, line):
 def fault_of_lines(program, files):
     """What is wrong with the lines that `keeps` and `precision` write, if something is."""
     medl, script = list_in(files[0]), script_in(files[1])
-    right = {("keeps",): rules.hypothesis_line(medl, script)}
+    right = {("keeps",): "\n".join(script_tests.test_lines(medl, script))}
     for node in range(0, min(medl.nodes + 1, 24), 3):
         right["precision", str(node)] = rules.precision_line(medl, script, node)
-    for words, line in right.items():
+    for words, lines in right.items():
         found = answer(program, words, files).stdout
-        if found != line + "\n":
-            return f"{' '.join(words)}: found {found!r}, right is {line!r}"
+        if found != lines + "\n":
+            return f"{' '.join(words)}: found {found!r}, right is {lines!r}"
     return None

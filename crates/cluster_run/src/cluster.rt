@@ -9,9 +9,10 @@ ghost use Rattle.cluster_run.specs.Standing.{ClusterStandsFor};
 use crate::making::nodes_of;
 use crate::nodes::Nodes;
 use crate::slot::slot_of;
-use host_port::SlotReport;
+use host_port::{NodeLine, SlotReport};
 use std::alloc::Global;
 use std::marker::Model;
+use std::mem;
 use std::sync::Wait;
 use std::thread::Threads;
 use ttp_base::{Gate, List, Memory};
@@ -28,6 +29,8 @@ pub struct Cluster {
     // None once memory was refused.
     nodes: Option<Nodes>,
     report: SlotReport,
+    // The lines of nodes of the report before, whose memory the next one takes.
+    spare: Vec<NodeLine>,
 }
 
 impl Model for Cluster {
@@ -69,6 +72,7 @@ impl Cluster {
             done: 0,
             nodes: Some(nodes),
             report: no_report(alloc),
+            spare: Vec::new(alloc),
         })
     }
 
@@ -99,6 +103,7 @@ impl Cluster {
         let Some(nodes) = &mut self.nodes else {
             return Err(Memory);
         };
+        let spare = mem::replace(&mut self.spare, Vec::new(self.alloc));
         let Ok(report) = slot_of(
             rt,
             self.alloc,
@@ -106,12 +111,15 @@ impl Cluster {
             &self.script,
             self.done,
             nodes,
+            spare,
             gate,
         ) else {
             self.nodes = None;
             return Err(Memory);
         };
+        let told = mem::replace(&mut self.report.nodes, List::new(self.alloc));
         self.report = report;
+        self.spare = told.into_vec();
         self.done += 1;
         Ok(())
     }

@@ -30,6 +30,9 @@ fn fetch_for<G: Gate>(
     ensures own { IsHostEndOf port.now end.new }
     ensures fetches { OnOk result (FetchesAlone len loaded end.old end.new chosen.old chosen.new) }
 {
+    if !loaded {
+        return Ok(());
+    }
     let mut fetcher = lend_one(port, end, loaded)?;
     fetch_one(port, &mut fetcher, gate);
     settle_one(port, end, fetcher, len, chosen)?;

@@ -1,5 +1,5 @@
 //! The lines of nodes.
-ghost use Rattle.std.specs.Prelude.{◌≡◌, List as Items, length, map, IfOk};
+ghost use Rattle.std.specs.Prelude.{◌≡◌, ◌≤◌, [], List as Items, length, map, vec_capacity, IfOk};
 ghost use Rattle.ttp_base.specs.NodeSet.{below};
 ghost use Rattle.ttp_world.specs.declared.medl.Medl.{Medl};
 ghost use Rattle.ttp_world.specs.declared.script.Script.{Script};
@@ -23,9 +23,23 @@ fn message_shown(entry: &Entry, delivered: Option<u64>) -> Option<u64>
     }
 }
 
-/// The lines of all nodes after a slot, by the numbers of what they delivered in it.
+// No lines, with room for so many: in this memory where it suffices, and else in new memory.
+fn emptied(alloc: Global, mut lines: Vec<NodeLine>, room: usize) -> Result<Vec<NodeLine>, Memory>
+    ensures empty { IfOk result (λ lines. lines.items ≡ []) }
+    ensures room { IfOk result (λ lines. room ≤ vec_capacity lines) }
+{
+    if lines.capacity() < room {
+        return Ok(Vec::with_capacity(alloc, room)?);
+    }
+    lines.clear();
+    Ok(lines)
+}
+
+/// The lines of all nodes after a slot, by the numbers of what they delivered in it. They are written over
+/// `spare`, lines that are told no more, where these have room.
 pub(crate) fn node_lines(
     alloc: Global,
+    spare: Vec<NodeLine>,
     controllers: &[Controller],
     delivered: &[Option<u64>],
 ) -> Result<List<NodeLine>, Memory>
@@ -34,7 +48,7 @@ pub(crate) fn node_lines(
         → HaveEndedSlot list script row before controllers.now delivered.now
         → lines ≡ map (node_shown list script row before) (below (length controllers.now))) }
 {
-    let mut lines = Vec::with_capacity(alloc, controllers.len())?;
+    let mut lines = emptied(alloc, spare, controllers.len())?;
     for k in 0..controllers.len() {
         let state = controllers[k].state();
         // Its entry is asked for anew: where one state serves both, it is put together piece by piece, and

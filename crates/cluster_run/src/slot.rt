@@ -18,7 +18,7 @@ use crate::nodes::Nodes;
 use crate::reading::{lend_readers, read_all, read_lines};
 use crate::reporting::node_lines;
 use controller::{Controller, Outcome, begin_all, plan_all};
-use host_port::{ControllerEnd, HostReaders, Port, ReadLine, SlotReport, WriteLine};
+use host_port::{ControllerEnd, HostReaders, NodeLine, Port, ReadLine, SlotReport, WriteLine};
 use medium::Medium;
 use std::alloc::Global;
 use std::sync::Wait;
@@ -327,7 +327,7 @@ fn end_slot<R: Threads + Wait + Sync, G: Gate>(
     end_read(rt, alloc, list, script, slot, nodes, gate)
 }
 
-/// Takes all nodes through a slot, and answers its report.
+/// Takes all nodes through a slot, and answers its report, whose lines of nodes are written over `spare`.
 pub(crate) fn slot_of<R: Threads + Wait + Sync, G: Gate>(
     rt: &R,
     alloc: Global,
@@ -335,6 +335,7 @@ pub(crate) fn slot_of<R: Threads + Wait + Sync, G: Gate>(
     script: &Script,
     slot: u32,
     nodes: &mut Nodes,
+    spare: Vec<NodeLine>,
     gate: &G,
 ) -> Result<SlotReport, Memory>
     requires list { IsValid list.now }
@@ -351,7 +352,7 @@ pub(crate) fn slot_of<R: Threads + Wait + Sync, G: Gate>(
 {
     let writes = plan(rt, alloc, list, script, slot, nodes, gate)?;
     let reads = end_slot(rt, alloc, list, script, slot, nodes, gate)?;
-    let lines = node_lines(alloc, &nodes.controllers, &nodes.delivered)?;
+    let lines = node_lines(alloc, spare, &nodes.controllers, &nodes.delivered)?;
     Ok(SlotReport {
         slot,
         nodes: lines,

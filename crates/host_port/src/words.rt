@@ -17,8 +17,26 @@ fn byte_at(bytes: &[u8], i: usize) -> u64
     }
 }
 
-// A word of a payload.
-fn word_at(bytes: &[u8], i: usize) -> u64
+// A word of a payload, all of whose bytes are there.
+fn full_word(bytes: &[u8], i: usize) -> u64
+    requires { 8 * i + 8 ≤ length bytes.now }
+    ensures { result ≡ payload_word bytes.now i }
+{
+    let first = 8 * i;
+    u64::from_be_bytes([
+        bytes[first],
+        bytes[first + 1],
+        bytes[first + 2],
+        bytes[first + 3],
+        bytes[first + 4],
+        bytes[first + 5],
+        bytes[first + 6],
+        bytes[first + 7],
+    ])
+}
+
+// The same byte by byte, with zeros for those that are not there.
+fn last_word(bytes: &[u8], i: usize) -> u64
     requires { i < 1000 }
     ensures { result ≡ payload_word bytes.now i }
 {
@@ -27,6 +45,18 @@ fn word_at(bytes: &[u8], i: usize) -> u64
         word = 256 * word + byte_at(bytes, 8 * i + j);
     }
     word
+}
+
+// A word of a payload.
+fn word_at(bytes: &[u8], i: usize) -> u64
+    requires { i < 1000 }
+    ensures { result ≡ payload_word bytes.now i }
+{
+    if i < bytes.len() / 8 {
+        full_word(bytes, i)
+    } else {
+        last_word(bytes, i)
+    }
 }
 
 /// Puts the words of a payload, and answers how many there are.

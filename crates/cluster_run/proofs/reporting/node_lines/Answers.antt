@@ -25,7 +25,7 @@ loop-k-preserved c =
     c.loop-k-test.true c.index-controllers-k-in-loop-k.is) ∙ there) in
     record {
       count = omega (arith, c.push_reserved.ensures.len, c.loop-k.invariant.count);
-      room = c.push_reserved.ensures.capacity ∙ c.loop-k.invariant.room;
+      room = omega (arith, c.push_reserved.ensures.capacity, c.loop-k.invariant.room);
       shown = λ list script row before so.
           let is : line ≡ node_shown list script row before k =
           line_shown list script row before so.bound k seat number line c.state.result

@@ -1,4 +1,4 @@
-use Rattle.std.proofs.Common.{◌≡◌, List, length, map, vec_len, vec_capacity}
+use Rattle.std.proofs.Common.{◌≡◌, ◌≤◌, List, length, map, vec_len, vec_capacity}
 use Rattle.ttp_base.specs.NodeSet.{below}
 use Rattle.ttp_world.specs.declared.medl.Medl.{Medl}
 use Rattle.ttp_world.specs.declared.node.Entry.{Entry}
@@ -10,7 +10,7 @@ use Rattle.cluster_run.proofs.reporting.node_lines.Given as goal
 abbrev pub invariant-loop-k : goal.invariant-loop-k
 invariant-loop-k l = record {
   count : vec_len l.lines ≡ l.k;
-  room : vec_capacity l.lines ≡ length l.controllers;
+  room : length l.controllers ≤ vec_capacity l.lines;
   shown : (list : Medl) (script : Script) (row : List Entry) (before : History)
       → HaveEndedSlot list script row before l.controllers l.delivered
       → l.lines.items ≡ map (node_shown list script row before) (below l.k);

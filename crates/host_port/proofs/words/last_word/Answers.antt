@@ -1,6 +1,6 @@
 use Rattle.std.proofs.Common.{◌*◌, ◌+◌, get_or, arith}
 use Rattle.host_port.proofs.PayloadWords.{number_in-more, number-below, number-fits}
-use Rattle.host_port.proofs.words.word_at.Goals as goal
+use Rattle.host_port.proofs.words.last_word.Goals as goal
 
 pub overflow_mul-word : goal.overflow_mul-word
 overflow_mul-word c =
