@@ -1,13 +1,13 @@
 -- A trace has fewer lines than 2^32, and whole lines as many line feeds as they are.
 use Rattle.std.proofs.Common.{◌≡◌, ℕ, zero, suc, ◌+◌, ◌-◌, ◌*◌, ◌<◌, ◌≤◌, ◌^◌, Bool, true, false, cond, List, [], ◌∷◌, ◌++◌}
-use Rattle.std.proofs.Common.{Option, Some, None, length, take, refl, ap, sym, subst, ◌∙◌, arith, length-append}
+use Rattle.std.proofs.Common.{Option, Some, None, length, take, refl, ap, ◌∙◌, arith, length-append}
 use Rattle.std.specs.Prelude.{◌==◌, count_by}
-use Rattle.std.specs.List.{concat, filter_map, cons_option, AllByRecursion}
+use Rattle.std.specs.List.{concat, filter_map, cons_option}
 use Rattle.std.proofs.lemmas.Bool.{eqb-true, false≢true}
 use Rattle.std.proofs.lemmas.List.{length-take}
 use Rattle.std.proofs.lemmas.List.Sums.{sum_by-append}
 use Rattle.std.proofs.Math.Seq.{take-append_seam}
-use Rattle.ttp_base.specs.Text.{Lines, is_newline, is_line, lines_of}
+use Rattle.ttp_base.specs.Text.{Lines, is_newline, is_line}
 use Rattle.ttp_world.specs.declared.medl.Medl.{Medl}
 use Rattle.ttp_world.specs.declared.script.Event.{Event}
 use Rattle.ttp_world.specs.declared.script.Event.TheVariants as event
@@ -19,7 +19,7 @@ use Rattle.ttp_world.proofs.Lists.{nodes-most}
 use Rattle.ttp_world.proofs.TraceLines.{trace_lines-each}
 use Rattle.trace_check.specs.Answer.{IsFirstWrong}
 use Rattle.trace_check.specs.Following.{IsTraceAnd, IsAmissAt}
-use Rattle.trace_check.proofs.Counts.{lines_in, lines_of_slots, lines_in_all, length-test_lines, length-trace_lines}
+use Rattle.trace_check.proofs.Counts.{lines_of_slots, lines_in_all, length-test_lines, length-trace_lines}
 use Rattle.trace_check.proofs.Cuts.{AreLines, AreLines-take}
 use Rattle.trace_check.proofs.Outcomes.{amiss-first_wrong, more-first_wrong}
 

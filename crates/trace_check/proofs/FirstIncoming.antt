@@ -1,7 +1,7 @@
 -- The rings that hosts read before the first slot: each has nothing but the zeros.
-use Rattle.std.proofs.Common.{◌≡◌, ℕ, zero, suc, ◌+◌, ◌*◌, ◌<◌, ◌≤◌, List, [], ◌∷◌, ◌++◌, length, get_or, replicate, Some}
-use Rattle.std.proofs.Common.{inl, inr, refl, ap, sym, ◌∙◌, subst, arith, length-append}
-use Rattle.std.specs.Prelude.{map, slice_get}
+use Rattle.std.proofs.Common.{◌≡◌, ℕ, zero, suc, ◌+◌, ◌*◌, ◌<◌, [], ◌++◌, length, get_or, replicate, Some}
+use Rattle.std.proofs.Common.{inl, inr, ap, sym, ◌∙◌, arith, length-append}
+use Rattle.std.specs.Prelude.{slice_get}
 use Rattle.std.proofs.Math.ListN.{get_or-append}
 use Rattle.std.proofs.Math.Nat.{mul_comm, mul-suc}
 use Rattle.std.proofs.lemmas.Bool.{cases_eq}
@@ -9,14 +9,13 @@ use Rattle.std.proofs.lemmas.List.{get_or-append-add, get_or-replicate, length-r
 use Rattle.std.proofs.lemmas.List.FromFn.{get_or-map-range_with_len, length-map-range_with_len}
 use Rattle.std.proofs.lemmas.Nat.{mul-add-lt}
 use Rattle.std.proofs.lemmas.Option.{same_Some, slice_get-get_or}
-use Rattle.ttp_base.specs.NodeSet.{below}
 use Rattle.ttp_world.specs.declared.medl.Medl.{Medl}
 use Rattle.ttp_world.specs.declared.node.Chosen.{Chosen}
 use Rattle.ttp_world.specs.declared.node.StatusWords.{StatusWords}
 use Rattle.ttp_world.specs.declared.script.Script.{Script}
 use Rattle.ttp_world.specs.Outgoing.{nothing_chosen}
 use Rattle.trace_check.specs.declared.incoming.Incoming.{Incoming}
-use Rattle.trace_check.specs.Incoming.{HasPlaces, IsNewest, TellsRings, first_payloads, zeros_chosen, zeros_of_all}
+use Rattle.trace_check.specs.Incoming.{IsNewest, TellsRings, first_payloads, zeros_chosen, zeros_of_all}
 
 module _ (list : Medl) where
   abbrev n : ℕ

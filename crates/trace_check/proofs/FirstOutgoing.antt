@@ -1,5 +1,5 @@
 -- What nodes send where their hosts have written nothing.
-use Rattle.std.proofs.Common.{◌≡◌, ℕ, zero, ◌+◌, ◌<◌, List, [], ◌∷◌, ◌++◌, length, get_or, Option, Some, refl, ap, sym, ◌∙◌}
+use Rattle.std.proofs.Common.{◌≡◌, ℕ, ◌+◌, List, [], ◌∷◌, ◌++◌, length, get_or, Option, Some, ap, sym, ◌∙◌}
 use Rattle.std.proofs.Common.{arith}
 use Rattle.std.specs.Prelude.{map, slice_get, unwrap_or, replicate}
 use Rattle.std.proofs.lemmas.List.FromFn.{get_or-map-range_with_len, length-map-range_with_len, map-range_with_len_more}
@@ -8,13 +8,13 @@ use Rattle.ttp_world.specs.declared.medl.Medl.{Medl}
 use Rattle.ttp_world.specs.declared.medl.SlotPlan.{SlotPlan}
 use Rattle.ttp_world.specs.declared.node.Chosen.{Chosen}
 use Rattle.ttp_world.specs.declared.script.Script.{Script}
-use Rattle.ttp_world.specs.Medl.{no_plan, plan_at}
-use Rattle.ttp_world.specs.Outgoing.{nothing_chosen, message_chosen}
+use Rattle.ttp_world.specs.Medl.{no_plan}
+use Rattle.ttp_world.specs.Outgoing.{nothing_chosen}
 use Rattle.ttp_world.specs.World.{chosen_of}
 use Rattle.ttp_world.proofs.Rings.{out_messages-first}
 use Rattle.trace_check.specs.declared.outgoing.Outgoing.{Outgoing}
 use Rattle.trace_check.specs.Incoming.{zeros_chosen}
-use Rattle.trace_check.specs.Outgoing.{Chooses, HoldsNewest, oldest_number}
+use Rattle.trace_check.specs.Outgoing.{HoldsNewest}
 
 abbrev pub first_number : ℕ → ℕ
 first_number k = 0

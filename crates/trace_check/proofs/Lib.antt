@@ -1,5 +1,6 @@
 pub mod Counts
 pub mod Cuts
+pub mod OwnNumbers
 pub mod Outcomes
 pub mod Told
 pub mod Wholes

@@ -1,7 +1,7 @@
 -- Where a text departs from a node's line, it does so for each number that is legal there.
-use Rattle.std.proofs.Common.{◌≡◌, ℕ, zero, suc, ◌+◌, ◌*◌, ◌-◌, ◌<◌, ◌≤◌, ◌^◌, Bool, true, false, List, [], ◌∷◌, ◌++◌}
-use Rattle.std.proofs.Common.{length, get_or, take, Option, Some, None, IsTrue, if◌then◌else◌, refl, ap, sym, ◌∙◌, subst}
-use Rattle.std.proofs.Common.{arith, append_assoc, length-append}
+use Rattle.std.proofs.Common.{◌≡◌, ℕ, zero, suc, ◌<◌, ◌^◌, Bool, true, false, List, [], ◌∷◌, ◌++◌}
+use Rattle.std.proofs.Common.{length, get_or, take, Option, Some, None, IsTrue, if◌then◌else◌, ap, sym, ◌∙◌, subst}
+use Rattle.std.proofs.Common.{arith, append_assoc}
 use Rattle.std.specs.Prelude.{map, nat_le}
 use Rattle.std.specs.List.{AllByRecursion, concat}
 use Rattle.std.proofs.Math.ListN.{get_or-append}
@@ -10,25 +10,23 @@ use Rattle.std.proofs.lemmas.Bool.{and_parts, leb-true}
 use Rattle.std.proofs.lemmas.List.{append-nil}
 use Rattle.std.proofs.lemmas.List.Folds.{concat-append}
 use Rattle.std.proofs.lemmas.List.FromFn.{get_or-map-range_with_len, length-map-range_with_len}
-use Rattle.std.proofs.lemmas.Option.{none-some, same_Some}
+use Rattle.std.proofs.lemmas.Option.{none-some}
 use Rattle.ttp_base.specs.NodeSet.{below}
 use Rattle.ttp_base.specs.Text.{Lines, is_line, lines_of}
 use Rattle.ttp_world.specs.declared.medl.Medl.{Medl}
-use Rattle.ttp_world.specs.declared.node.Chosen.{Chosen}
 use Rattle.ttp_world.specs.declared.node.Entry.{Entry}
 use Rattle.ttp_world.specs.declared.node.Entry.TheVariants as entry
 use Rattle.ttp_world.specs.declared.script.Script.{Script}
 use Rattle.ttp_world.specs.Diary.{History, entry_of}
-use Rattle.ttp_world.specs.Legal.{IsLegal, is_legal_message}
+use Rattle.ttp_world.specs.Legal.{is_legal_message}
 use Rattle.ttp_world.specs.Medl.{IsValid}
 use Rattle.ttp_world.specs.Messages.{message_of, newest_number}
 use Rattle.ttp_world.specs.Outgoing.{out_messages}
 use Rattle.ttp_world.specs.Past.{state_of}
 use Rattle.ttp_world.specs.Script.{IsValidScript}
 use Rattle.ttp_world.specs.Trace.{history_lines, test_lines, member_digits, message_shown, node_line_of, number_or_dash}
-use Rattle.ttp_world.specs.Trace.{read_lines, trace_lines, write_lines}
-use Rattle.ttp_world.specs.TraceNumbers.{word_in, words_of}
-use Rattle.ttp_world.specs.World.{Numbers, SlotNumbers, node_past, slot_after, world}
+use Rattle.ttp_world.specs.Trace.{read_lines, write_lines}
+use Rattle.ttp_world.specs.World.{Numbers, SlotNumbers, node_past, world}
 use Rattle.ttp_world.proofs.HostMessages.{few_messages}
 use Rattle.ttp_world.proofs.LineWords.{node_line-words}
 use Rattle.ttp_world.proofs.TraceLines.{trace_lines-each}

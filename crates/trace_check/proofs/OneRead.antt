@@ -1,10 +1,10 @@
 -- One read of a slot after others: which number is legal, and what the floors then tell.
-use Rattle.std.proofs.Common.{◌≡◌, ℕ, ◌+◌, ◌*◌, ◌-◌, ◌<◌, ◌≤◌, ◌↔◌, Bool, true, false, ◌&&◌, ◌||◌, not, List, [], ◌∷◌, ◌++◌}
-use Rattle.std.proofs.Common.{length, get_or, set, Option, Some, None, inl, inr, refl, ap, sym, ◌∙◌, subst, arith, IsTrue}
+use Rattle.std.proofs.Common.{◌≡◌, ℕ, ◌+◌, ◌*◌, ◌<◌, ◌≤◌, ◌↔◌, Bool, true, false, ◌&&◌, ◌||◌, not, List, [], ◌∷◌, ◌++◌}
+use Rattle.std.proofs.Common.{length, get_or, set, Some, None, inl, inr, refl, ap, sym, ◌∙◌, subst, arith}
 use Rattle.std.specs.Prelude.{◌==◌, nat_le}
 use Rattle.std.specs.List.{AllByRecursion, list_all}
 use Rattle.std.proofs.Math.Nat.{mul_comm}
-use Rattle.std.proofs.lemmas.Bool.{and_parts, cases_eq, eq-eqb, eqb-true, false≢true, le-leb, leb-true, true≢false}
+use Rattle.std.proofs.lemmas.Bool.{and_parts, cases_eq, eq-eqb, eqb-true, false≢true, le-leb, leb-true}
 use Rattle.std.proofs.lemmas.List.{get_or-set_other, get_or-set_same}
 use Rattle.std.proofs.lemmas.Nat.{mul-add-lt, same_from_place}
 use Rattle.std.proofs.lemmas.Option.{none-some}
@@ -20,7 +20,7 @@ use Rattle.ttp_world.proofs.Rings.{newest_read}
 use Rattle.trace_check.specs.declared.incoming.Incoming.{Incoming}
 use Rattle.trace_check.specs.Following.{KnowsReads, MayRead, ReadsNone, ReadsOne, behind_new_read, behind_read}
 use Rattle.trace_check.specs.Following.{line_of_read, row_after}
-use Rattle.trace_check.specs.Incoming.{AreFloorsWithin, HasPlaces, IsRing, floor_of, floor_place, newest_before}
+use Rattle.trace_check.specs.Incoming.{HasPlaces, IsRing, floor_of, floor_place, newest_before}
 use Rattle.trace_check.proofs.Labels.{behind-line, no_line}
 use Rattle.trace_check.proofs.Rings.{after-few, new_read-none, new_read-some}
 
@@ -167,9 +167,9 @@ module _ (list : Medl) (script : Script) (history : History) (chosen : List Chos
         knows = record {
           newer = λ other ring_too. (
             λ less. (
-                λ same. omega (arith, ap (newest_before list script history) same),
-                (knows.newer other ring_too).0 less,
-              ),
+              λ same. omega (arith, ap (newest_before list script history) same),
+              (knows.newer other ring_too).0 less,
+            ),
             λ all. (knows.newer other ring_too).1 all.1,
           );
           up_to = (up, knows.up_to);
@@ -227,84 +227,84 @@ module _ (list : Medl) (script : Script) (history : History) (chosen : List Chos
   module _ (new : Incoming) (places : HasPlaces old list) (nodes : new.nodes ≡ old.nodes)
       (floors : new.floors.items
       ≡ set old.floors.items (floor_place old.nodes read.host read.source) (newest_before list script history read + 1))
-      where
-    abbrev place : HostRead → ℕ
-    place r = floor_place old.nodes r.host r.source
+    where
+      abbrev place : HostRead → ℕ
+      place r = floor_place old.nodes r.host r.source
 
-    floor_here : (other : HostRead)
-        → floor_place old.nodes other.host other.source ≡ floor_place old.nodes read.host read.source
-        → floor_of new other.host other.source ≡ newest_before list script history read + 1
-    floor_here other same =
-        ap (λ (m : ℕ). get_or new.floors.items (floor_place m other.host other.source) 0) nodes
-        ∙ (λ i. get_or (floors i) (same i) 0)
-        ∙ get_or-set_same old.floors.items (place read) (older + 1) 0
-        (floor_within old list read.host read.source places ring)
+      floor_here : (other : HostRead)
+          → floor_place old.nodes other.host other.source ≡ floor_place old.nodes read.host read.source
+          → floor_of new other.host other.source ≡ newest_before list script history read + 1
+      floor_here other same =
+          ap (λ (m : ℕ). get_or new.floors.items (floor_place m other.host other.source) 0) nodes
+          ∙ (λ i. get_or (floors i) (same i) 0)
+          ∙ get_or-set_same old.floors.items (place read) (older + 1) 0
+          (floor_within old list read.host read.source places ring)
 
-    floor_there : (other : HostRead)
-        → (floor_place old.nodes other.host other.source ≡ floor_place old.nodes read.host read.source → ⊥)
-        → floor_of new other.host other.source ≡ floor_of old other.host other.source
-    floor_there other apart =
-        ap (λ (m : ℕ). get_or new.floors.items (floor_place m other.host other.source) 0) nodes
-        ∙ ap (λ (fs : List ℕ). get_or fs (place other) 0) floors
-        ∙ get_or-set_other old.floors.items (place read) (place other) (older + 1) 0 apart
+      floor_there : (other : HostRead)
+          → (floor_place old.nodes other.host other.source ≡ floor_place old.nodes read.host read.source → ⊥)
+          → floor_of new other.host other.source ≡ floor_of old other.host other.source
+      floor_there other apart =
+          ap (λ (m : ℕ). get_or new.floors.items (floor_place m other.host other.source) 0) nodes
+          ∙ ap (λ (fs : List ℕ). get_or fs (place other) 0) floors
+          ∙ get_or-set_other old.floors.items (place read) (place other) (older + 1) 0 apart
 
-    same_floor : (other : HostRead) → IsRing list other.host other.source
-        → floor_place old.nodes other.host other.source ≡ floor_place old.nodes read.host read.source → other ≡ read
-    same_floor other ring_too same = floor_same list old.nodes other read places.nodes ring_too ring same
+      same_floor : (other : HostRead) → IsRing list other.host other.source
+          → floor_place old.nodes other.host other.source ≡ floor_place old.nodes read.host read.source → other ≡ read
+      same_floor other ring_too same = floor_same list old.nodes other read places.nodes ring_too ring same
 
-    newer_than : (other : HostRead) → IsRing list other.host other.source
-        → (floor_of new other.host other.source ≤ newest_before list script history other)
-        ↔ AllByRecursion (λ r. r.read ≡ other → r.number ≤ newest_before list script history other)
-        (record { read = read; number = newest_before list script history read + 1 } ∷ earlier)
-    newer_than other ring_too =
-        elim (cases_eq (place other) (place read)) as (λ _.
-        (floor_of new other.host other.source ≤ newest_before list script history other)
-        ↔ AllByRecursion (λ r. r.read ≡ other → r.number ≤ newest_before list script history other)
-        (record { read = read; number = newest_before list script history read + 1 } ∷ earlier)) [
-          | inl same ↦
-              let is = same_floor other ring_too same in
-              let equal : newest_before list script history other ≡ older = ap (newest_before list script history) is in (
-                λ less. absurd (omega (arith, less, floor_here other same, equal)),
-                λ all. absurd (omega (arith, all.0 (sym is), equal)),
-              )
-          | inr apart ↦
-              let same = floor_there other apart in (
-                λ less. (
+      newer_than : (other : HostRead) → IsRing list other.host other.source
+          → (floor_of new other.host other.source ≤ newest_before list script history other)
+          ↔ AllByRecursion (λ r. r.read ≡ other → r.number ≤ newest_before list script history other)
+          (record { read = read; number = newest_before list script history read + 1 } ∷ earlier)
+      newer_than other ring_too =
+          elim (cases_eq (place other) (place read)) as (λ _.
+          (floor_of new other.host other.source ≤ newest_before list script history other)
+          ↔ AllByRecursion (λ r. r.read ≡ other → r.number ≤ newest_before list script history other)
+          (record { read = read; number = newest_before list script history read + 1 } ∷ earlier)) [
+            | inl same ↦
+                let is = same_floor other ring_too same in
+                let equal : newest_before list script history other ≡ older = ap (newest_before list script history) is in (
+                  λ less. absurd (omega (arith, less, floor_here other same, equal)),
+                  λ all. absurd (omega (arith, all.0 (sym is), equal)),
+                )
+            | inr apart ↦
+                let same = floor_there other apart in (
+                  λ less. (
                     λ is. absurd (apart (ap (λ (r : HostRead). floor_place old.nodes r.host r.source) (sym is))),
                     (knows.newer other ring_too).0 (omega (arith, less, same)),
                   ),
-                λ all. let low = (knows.newer other ring_too).1 all.1 in omega (arith, low, same),
-              )
-        ]
+                  λ all. let low = (knows.newer other ring_too).1 all.1 in omega (arith, low, same),
+                )
+          ]
 
-    -- the message that is new in the slot
-    pub reads-newer : (text rest : List ℕ) → behind_new_read list script history chosen read text ≡ Some rest
-        → ReadsOne list script history chosen earlier read new text rest
-    reads-newer text rest found =
-        let there = found-newer text rest found in
-        let few = after-few list script (row_after list script history chosen) history read in
-        let most = newest_before list script (row_after list script history chosen ∷ history) in
-        let r : ReadMessage = record { read = read; number = newest_before list script history read + 1 } in
-        record {
-          number = newest_before list script history read + 1;
-          legal = may_read (older + 1) (omega arith) (omega (arith, there))
-              (up_to_newest most read (older + 1) earlier few knows.up_to);
-          begins = behind-line (line_of_read list script history chosen r) text rest
-              (sym (new_read-some list script history chosen read text there) ∙ found);
-          knows = record {
-            newer = newer_than;
-            up_to = (omega (arith, there), knows.up_to);
-            within = λ host from ring_too.
-                let other : HostRead = record { host = host; source = from } in
-                elim (cases_eq (place other) (place read)) as (λ _. floor_of new host from ≤ most other) [
-                  | inl same ↦
-                      omega (
-                        arith,
-                        floor_here other same,
-                        there,
-                        ap most (same_floor other ring_too same),
-                      )
-                  | inr apart ↦ omega (arith, floor_there other apart, knows.within host from ring_too)
-                ];
-          };
-        }
+      -- the message that is new in the slot
+      pub reads-newer : (text rest : List ℕ) → behind_new_read list script history chosen read text ≡ Some rest
+          → ReadsOne list script history chosen earlier read new text rest
+      reads-newer text rest found =
+          let there = found-newer text rest found in
+          let few = after-few list script (row_after list script history chosen) history read in
+          let most = newest_before list script (row_after list script history chosen ∷ history) in
+          let r : ReadMessage = record { read = read; number = newest_before list script history read + 1 } in
+          record {
+            number = newest_before list script history read + 1;
+            legal = may_read (older + 1) (omega arith) (omega (arith, there))
+                (up_to_newest most read (older + 1) earlier few knows.up_to);
+            begins = behind-line (line_of_read list script history chosen r) text rest
+                (sym (new_read-some list script history chosen read text there) ∙ found);
+            knows = record {
+              newer = newer_than;
+              up_to = (omega (arith, there), knows.up_to);
+              within = λ host from ring_too.
+                  let other : HostRead = record { host = host; source = from } in
+                  elim (cases_eq (place other) (place read)) as (λ _. floor_of new host from ≤ most other) [
+                    | inl same ↦
+                        omega (
+                          arith,
+                          floor_here other same,
+                          there,
+                          ap most (same_floor other ring_too same),
+                        )
+                    | inr apart ↦ omega (arith, floor_there other apart, knows.within host from ring_too)
+                  ];
+            };
+          }

@@ -1,26 +1,23 @@
 -- A text is the trace of a run, or has one first wrong line.
-use Rattle.std.proofs.Common.{◌≡◌, ◌≢◌, ℕ, suc, ◌+◌, ◌-◌, ◌<◌, ◌≤◌, List, [], ◌∷◌, ◌++◌, length, get_or, take, refl, ap}
-use Rattle.std.proofs.Common.{sym, subst, ◌∙◌, inl, inr, ◌⊎◌, min, arith, append-nil, length-append}
+use Rattle.std.proofs.Common.{◌≡◌, ℕ, ◌+◌, ◌-◌, ◌<◌, ◌≤◌, List, [], ◌∷◌, ◌++◌, length, get_or, take, ap}
+use Rattle.std.proofs.Common.{sym, subst, ◌∙◌, inl, inr, arith, append-nil, length-append}
 use Rattle.std.specs.List.{concat}
 use Rattle.std.proofs.lemmas.Bool.{cases_lt}
 use Rattle.std.proofs.lemmas.List.{take-take, length-take, get_or-take}
-use Rattle.std.proofs.Math.Seq.{take-append-add, take-length, take-append_seam, get_or-append_seam}
+use Rattle.std.proofs.Math.Seq.{take-length, take-append_seam, get_or-append_seam}
 use Rattle.ttp_base.specs.Text.{Lines, lines_of}
 use Rattle.ttp_base.proofs.Lines.{lines_of-concat}
 use Rattle.ttp_world.specs.declared.medl.Medl.{Medl}
 use Rattle.ttp_world.specs.declared.script.Script.{Script}
 use Rattle.ttp_world.specs.Legal.{IsLegalRun}
-use Rattle.ttp_world.specs.Medl.{IsValid}
-use Rattle.ttp_world.specs.Script.{IsValidScript}
 use Rattle.ttp_world.specs.Trace.{trace_lines}
-use Rattle.ttp_world.specs.TraceNumbers.{numbers_in}
 use Rattle.ttp_world.specs.World.{Numbers}
 use Rattle.ttp_world.proofs.TraceLines.{trace_lines-each}
-use Rattle.ttp_world.proofs.TraceNumbers.{numbers_in-trace}
-use Rattle.trace_check.specs.Answer.{IsTrace, BeginsAsTrace, IsFirstWrong}
+use Rattle.trace_check.specs.Answer.{BeginsAsTrace, IsFirstWrong}
 use Rattle.trace_check.specs.Following.{IsTraceAnd, IsAmissAt}
 use Rattle.trace_check.proofs.Counts.{lines_in_all, length-trace_lines}
-use Rattle.trace_check.proofs.Cuts.{AreLines, AreLines-take, lines_of-behind, concat-lines_of}
+use Rattle.trace_check.proofs.OwnNumbers.{IsTrace}
+use Rattle.trace_check.proofs.Cuts.{AreLines-take, lines_of-behind, concat-lines_of}
 
 -- Beginnings.
 
@@ -39,16 +36,14 @@ begins-fewer list script text few many fewer begins = record {
 -- a trace has all lines
 pub trace-begins : (list : Medl) (script : Script) (text : List ℕ) (count : ℕ) → IsTrace list script text
     → BeginsAsTrace list script text count
-trace-begins list script text count trace =
-    let numbers = numbers_in list script (lines_of text) in
-    record {
-      numbers = numbers;
-      legal = trace.legal;
-      lines =
-          ap (λ (t : List ℕ). take count (lines_of t)) trace.whole
-          ∙ ap (λ (lines : Lines). take count lines)
-          (lines_of-concat (trace_lines list script numbers) (trace_lines-each list script numbers));
-    }
+trace-begins list script text count trace = record {
+  numbers = trace.numbers;
+  legal = trace.legal;
+  lines =
+      ap (λ (t : List ℕ). take count (lines_of t)) trace.whole
+      ∙ ap (λ (lines : Lines). take count lines)
+      (lines_of-concat (trace_lines list script trace.numbers) (trace_lines-each list script trace.numbers));
+}
 
 -- The answers exclude each other.
 
@@ -73,23 +68,13 @@ one_first_wrong list script text one other first second = elim (cases_lt one oth
 
 -- A whole trace, with nothing behind it.
 
-pub whole-trace : (list : Medl) (script : Script) (text : List ℕ) → IsValid list → IsValidScript list script
-    → IsTraceAnd list script text [] → IsTrace list script text
-whole-trace list script text valid valid_script is = record {
-  legal = subst (IsLegalRun list script) (sym named) is.legal;
-  whole = whole ∙ ap (λ (numbers : Numbers). concat (trace_lines list script numbers)) (sym named);
+pub whole-trace : (list : Medl) (script : Script) (text : List ℕ) → IsTraceAnd list script text []
+    → IsTrace list script text
+whole-trace list script text is = record {
+  numbers = is.numbers;
+  legal = is.legal;
+  whole = is.begins ∙ append-nil (concat (trace_lines list script is.numbers));
 }
-  where
-    whole : text ≡ concat (trace_lines list script is.numbers)
-    whole = is.begins ∙ append-nil (concat (trace_lines list script is.numbers))
-
-    -- its lines name the numbers that it was made with
-    named : numbers_in list script (lines_of text) ≡ is.numbers
-    named =
-        ap (λ (t : List ℕ). numbers_in list script (lines_of t)) whole
-        ∙ ap (numbers_in list script)
-        (lines_of-concat (trace_lines list script is.numbers) (trace_lines-each list script is.numbers))
-        ∙ numbers_in-trace list script is.numbers valid valid_script is.legal.count is.legal.legal
 
 -- With something behind it, and with a wrong line.
 

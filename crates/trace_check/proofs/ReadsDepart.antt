@@ -1,9 +1,9 @@
 -- Where a text departs from the line of a read, it does so for each number that is legal there.
-use Rattle.std.proofs.Common.{◌≡◌, ℕ, zero, suc, ◌+◌, ◌<◌, ◌≤◌, ◌^◌, Bool, true, false, ◌&&◌, List, [], ◌∷◌, ◌++◌, length}
-use Rattle.std.proofs.Common.{Some, refl, ap, sym, ◌∙◌, subst, arith, append_assoc}
-use Rattle.std.specs.Prelude.{map, nat_le, reverse, slice_get}
+use Rattle.std.proofs.Common.{◌≡◌, ℕ, suc, ◌<◌, ◌≤◌, ◌^◌, Bool, true, List, [], ◌∷◌, ◌++◌, length}
+use Rattle.std.proofs.Common.{Some, refl, ap, sym, ◌∙◌, arith, append_assoc}
+use Rattle.std.specs.Prelude.{map, reverse, slice_get}
 use Rattle.std.specs.List.{AllByRecursion, list_all}
-use Rattle.std.proofs.lemmas.Bool.{and_parts, leb-true}
+use Rattle.std.proofs.lemmas.Bool.{and_parts}
 use Rattle.std.proofs.lemmas.List.{reverse-append}
 use Rattle.std.proofs.lemmas.List.Folds.{list_all-append}
 use Rattle.std.proofs.lemmas.Option.{same_Some}
@@ -18,8 +18,7 @@ use Rattle.ttp_world.specs.Trace.{read_line}
 use Rattle.ttp_world.specs.TraceNumbers.{number_named, word_in, words_of}
 use Rattle.ttp_world.proofs.LineWords.{read_line-words}
 use Rattle.ttp_world.proofs.NumberWords.{number_named-decimal}
-use Rattle.trace_check.specs.Following.{MayRead, MayReadAll, line_of_read, row_after}
-use Rattle.trace_check.specs.Incoming.{newest_before}
+use Rattle.trace_check.specs.Following.{MayRead, row_after}
 
 -- The newest messages for the reads that are left.
 

@@ -1,11 +1,10 @@
 -- The rings once a slot's messages are there, node by node.
-use Rattle.std.proofs.Common.{◌≡◌, ℕ, zero, suc, ◌+◌, ◌*◌, ◌-◌, ◌<◌, ◌≤◌, ◌^◌, Bool, List, [], ◌∷◌, ◌++◌, length, get_or, set}
-use Rattle.std.proofs.Common.{Option, Some, None, IfSome, if◌then◌else◌, inl, inr, refl, ap, sym, ◌∙◌, subst, arith}
+use Rattle.std.proofs.Common.{◌≡◌, ℕ, zero, suc, ◌+◌, ◌*◌, ◌<◌, ◌≤◌, Bool, List, [], ◌∷◌, ◌++◌, length, get_or, set}
+use Rattle.std.proofs.Common.{Some, None, if◌then◌else◌, inl, inr, refl, ap, sym, ◌∙◌, subst, arith}
 use Rattle.std.proofs.Common.{length-append}
 use Rattle.std.specs.Prelude.{is_some, nat_lt, slice_get}
 use Rattle.std.proofs.Math.Seq.{get_or-append_seam}
 use Rattle.std.proofs.lemmas.Bool.{cases_eq, cases_order, le-ltb, lt-ltb}
-use Rattle.std.proofs.lemmas.List.{length-set}
 use Rattle.std.proofs.lemmas.Nat.{mul-add-lt, same_from_place}
 use Rattle.std.proofs.lemmas.Option.{same_Some, slice_get-get_or}
 use Rattle.ttp_world.specs.declared.medl.Medl.{Medl}
@@ -169,7 +168,7 @@ module _ (list : Medl) (script : Script) (row : List Entry) (history : History) 
         let added : Chosen = record { number = old.number + 1; payload = d.payload } in
         let newly = exchanged old old_at in
         let at_new = λ (k p : ℕ) (message : Chosen)
-            (at : slice_get new.payloads.items (k * new.nodes + p) ≡ Some message).
+        (at : slice_get new.payloads.items (k * new.nodes + p) ≡ Some message).
         ap (λ (xs : List Chosen). slice_get xs (k * incoming.nodes + p)) (sym newly)
         ∙ ap (λ (w : ℕ). slice_get new.payloads.items (k * w + p)) (sym nodes) ∙ at in
         record {

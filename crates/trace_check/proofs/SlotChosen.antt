@@ -1,9 +1,9 @@
 -- A slot in which each frame carries a legal message: its row, its numbers and its lines.
-use Rattle.std.proofs.Common.{◌≡◌, ℕ, suc, ◌+◌, ◌<◌, ◌≤◌, Bool, true, false, ◌&&◌, List, [], ◌∷◌, ◌++◌, length, get_or}
+use Rattle.std.proofs.Common.{◌≡◌, ℕ, ◌<◌, Bool, true, false, ◌&&◌, List, [], ◌∷◌, ◌++◌, length, get_or}
 use Rattle.std.proofs.Common.{Option, Some, None, IfSome, IsTrue, if◌then◌else◌, refl, ap, sym, ◌∙◌, subst, arith}
 use Rattle.std.proofs.Common.{append_assoc, append-nil, length-append, take}
 use Rattle.std.proofs.Math.Seq.{take-append_seam}
-use Rattle.std.specs.Prelude.{◌==◌, map, nat_le, reverse}
+use Rattle.std.specs.Prelude.{map, reverse}
 use Rattle.std.specs.List.{concat, list_all}
 use Rattle.std.proofs.lemmas.Bool.{cond_both, eq-eqb, le-leb}
 use Rattle.std.proofs.lemmas.Grind.{reverse_onto}
@@ -11,7 +11,6 @@ use Rattle.std.proofs.lemmas.List.Folds.{concat-append}
 use Rattle.ttp_base.specs.NodeSet.{below}
 use Rattle.ttp_base.specs.Text.{Lines}
 use Rattle.ttp_base.proofs.Below.{all-below}
-use Rattle.ttp_world.specs.declared.host_lines.HostRead.{HostRead}
 use Rattle.ttp_world.specs.declared.medl.Medl.{Medl}
 use Rattle.ttp_world.specs.declared.node.Chosen.{Chosen}
 use Rattle.ttp_world.specs.declared.node.Delivered.{Delivered}
@@ -19,14 +18,14 @@ use Rattle.ttp_world.specs.declared.node.Entry.{Entry}
 use Rattle.ttp_world.specs.declared.script.Script.{Script}
 use Rattle.ttp_world.specs.Diary.{History, entry_of}
 use Rattle.ttp_world.specs.Legal.{IsLegal, ReadMessage, are_legal_messages, are_legal_reads, are_same_numbers}
-use Rattle.ttp_world.specs.Legal.{is_between, is_legal_message, is_legal_read, is_legal_slot, is_not_older, never_fall}
+use Rattle.ttp_world.specs.Legal.{is_legal_message, is_legal_read, is_legal_slot, never_fall}
 use Rattle.ttp_world.specs.Legal.{read_messages}
-use Rattle.ttp_world.specs.Medl.{IsValid, plan_at}
-use Rattle.ttp_world.specs.Messages.{delivered_of, message_of, newest_number}
+use Rattle.ttp_world.specs.Medl.{IsValid}
+use Rattle.ttp_world.specs.Messages.{message_of, newest_number}
 use Rattle.ttp_world.specs.Outgoing.{message_chosen, out_messages}
 use Rattle.ttp_world.specs.Script.{IsValidScript, reads_in}
 use Rattle.ttp_world.specs.Trace.{read_line, read_lines, slot_lines, write_lines}
-use Rattle.ttp_world.specs.World.{Numbers, SlotNumbers, chosen_of, is_loaded, messages_chosen, row_in, slot_after, world}
+use Rattle.ttp_world.specs.World.{Numbers, SlotNumbers, chosen_of, is_loaded, slot_after, world}
 use Rattle.ttp_world.proofs.Carried.{AreOfHosts, delivered_of-row_in, message_of-row_in}
 use Rattle.ttp_world.proofs.HostMessages.{legal-size}
 use Rattle.ttp_world.proofs.Places.{delivered_of-sender, entry_of-row_after-of_list}

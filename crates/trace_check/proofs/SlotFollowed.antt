@@ -1,5 +1,5 @@
 -- A follower in a slot, whose messages are those that the text names.
-use Rattle.std.proofs.Common.{◌≡◌, ℕ, suc, ◌+◌, ◌<◌, List, [], ◌∷◌, length, get_or, Option, Some, IsTrue, refl, ap, sym, ◌∙◌, subst}
+use Rattle.std.proofs.Common.{◌≡◌, ℕ, ◌+◌, ◌<◌, List, [], ◌∷◌, length, get_or, Option, Some, IsTrue, refl, ap, sym, ◌∙◌, subst}
 use Rattle.std.proofs.Common.{arith}
 use Rattle.std.proofs.Common.{◌++◌, ◌≤◌, ◌&&◌, Bool, None, append_assoc, drop, if◌then◌else◌, length-append, take}
 use Rattle.std.specs.Prelude.{map, nat_le, reverse}
@@ -36,7 +36,7 @@ use Rattle.ttp_world.proofs.Worlds.{length-world, row_of_world}
 use Rattle.frame_fates.specs.Runs.{AreRuns}
 use Rattle.frame_fates.proofs.NamedRuns.{legal-names, named-run}
 use Rattle.controller.specs.Passes.{AreChosen}
-use Rattle.controller.specs.PlantStands.{IsStep, MayStep, PlantStandsFor, Steps}
+use Rattle.controller.specs.PlantStands.{MayStep, PlantStandsFor, Steps}
 use Rattle.controller.specs.PlantView.{PlantView}
 use Rattle.trace_check.specs.declared.follow.Follower.{Follower}
 use Rattle.trace_check.specs.declared.incoming.Incoming.{Incoming}

@@ -1,6 +1,6 @@
 -- The message that a node is to send: the one that its line names, if its host may have it sent.
-use Rattle.std.proofs.Common.{◌≡◌, ℕ, zero, suc, ◌+◌, ◌-◌, ◌<◌, ◌≤◌, Bool, true, false, cond, ◌&&◌, List, [], ◌∷◌, ◌++◌}
-use Rattle.std.proofs.Common.{length, get_or, set, drop, Option, Some, None, inl, inr, refl, ap, sym, ◌∙◌, subst, arith}
+use Rattle.std.proofs.Common.{◌≡◌, ℕ, zero, suc, ◌+◌, ◌-◌, ◌<◌, ◌≤◌, Bool, true, false, ◌&&◌, List, [], ◌∷◌}
+use Rattle.std.proofs.Common.{length, get_or, set, drop, Option, Some, None, inl, inr, refl, ap, sym, ◌∙◌, arith}
 use Rattle.std.proofs.Common.{length-append, if◌then◌else◌}
 use Rattle.std.specs.Prelude.{◌==◌, is_some, nat_le, nat_lt, option_map, slice_get}
 use Rattle.std.proofs.lemmas.Bool.{and_parts, cond_both, cases_eq, cases_order, eq-eqb, ne_eqb, le-leb, leb-true}
@@ -12,7 +12,7 @@ use Rattle.ttp_base.specs.Text.{Lines, lines_of}
 use Rattle.ttp_world.specs.declared.medl.Medl.{Medl}
 use Rattle.ttp_world.specs.declared.node.Chosen.{Chosen}
 use Rattle.ttp_world.specs.declared.script.Script.{Script}
-use Rattle.ttp_world.specs.Legal.{is_between, is_legal_message}
+use Rattle.ttp_world.specs.Legal.{is_between}
 use Rattle.ttp_world.specs.Messages.{newest_number}
 use Rattle.ttp_world.specs.Outgoing.{messages_before, out_messages, message_chosen, nothing_chosen}
 use Rattle.ttp_world.specs.Script.{messages_written}

@@ -1,8 +1,8 @@
 //! The answer.
-ghost use Rattle.std.specs.Prelude.{◌≡◌, ◌↔◌, ℕ, IfOk};
+ghost use Rattle.std.specs.Prelude.{◌≡◌, ◌↔◌, ℕ, true, IfOk};
 ghost use Rattle.ttp_world.specs.Medl.{IsValid};
 ghost use Rattle.ttp_world.specs.Script.{IsValidScript};
-ghost use Rattle.trace_check.specs.Answer.{IsTrace, IsFirstWrong};
+ghost use Rattle.trace_check.specs.Answer.{is_trace, IsFirstWrong};
 
 use crate::follow::Follower;
 use crate::text::line_behind;
@@ -32,7 +32,7 @@ pub enum Outcome {
 pub fn verify(alloc: Global, list: &Medl, script: &Script, text: &[u8]) -> Result<Outcome, Memory>
     requires list { IsValid list.now }
     requires script { IsValidScript list.now script.now }
-    ensures same { IfOk result (λ outcome. (outcome ≡ Outcome.Same) ↔ IsTrace list.now script.now text.now) }
+    ensures same { IfOk result (λ outcome. (outcome ≡ Outcome.Same) ↔ (is_trace list.now script.now text.now ≡ true)) }
     ensures differs { (line : ℕ) → IfOk result (λ outcome.
         (outcome ≡ Outcome.Differs line) ↔ IsFirstWrong list.now script.now text.now line) }
 {

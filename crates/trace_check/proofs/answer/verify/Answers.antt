@@ -1,11 +1,10 @@
-use Rattle.std.proofs.Common.{◌≡◌, ℕ, ◌+◌, ◌-◌, ◌<◌, ◌≤◌, ◌^◌, List, [], ◌∷◌, length, take, Bor, ap, sym, subst, ◌∙◌, refl, arith}
-use Rattle.std.specs.Prelude.{count_by}
-use Rattle.ttp_base.specs.Text.{is_newline}
+use Rattle.std.proofs.Common.{◌≡◌, ℕ, ◌+◌, ◌<◌, ◌^◌, List, [], ◌∷◌, length, Bor, ap, sym, subst, ◌∙◌, refl, arith}
 use Rattle.trace_check.specs.declared.answer.Outcome.TheVariants.{Differs}
-use Rattle.trace_check.specs.Answer.{IsTrace, IsFirstWrong}
+use Rattle.trace_check.specs.Answer.{IsFirstWrong}
 use Rattle.trace_check.specs.Following.{IsTraceAnd}
 use Rattle.trace_check.proofs.FewLines.{IsWrongBehind, amiss-counted, more-counted}
-use Rattle.trace_check.proofs.Outcomes.{whole-trace, trace-begins, first_wrong-no_trace, one_first_wrong}
+use Rattle.trace_check.proofs.Outcomes.{whole-trace, first_wrong-no_trace, one_first_wrong}
+use Rattle.trace_check.proofs.OwnNumbers.{is_trace-numbers, numbers-is_trace}
 use Rattle.trace_check.proofs.answer.verify.Goals as goal
 use Rattle.trace_check.proofs.answer.verify.Goals.{in-Ok, in-Err}
 
@@ -16,15 +15,17 @@ empty_rest (b ∷ rest) none = absurd (omega (arith, none))
 pub returns-in-Ok-empty-clause-same : goal.returns-in-Ok-empty-clause-same
 returns-in-Ok-empty-clause-same c =
     let none : c.in-Ok-empty.field-0.now ≡ [] = empty_rest c.in-Ok-empty.field-0.now (omega (arith, c.in-Ok-empty.len_below)) in (
-      λ same. whole-trace c.args.list.now c.args.script.now c.args.text.now c.requires.list c.requires.script
-          (subst (IsTraceAnd c.args.list.now c.args.script.now c.args.text.now) none c.in-Ok-empty.ensures.ok),
+      λ same.
+          numbers-is_trace c.args.list.now c.args.script.now c.args.text.now c.requires.list c.requires.script
+          (whole-trace c.args.list.now c.args.script.now c.args.text.now
+          (subst (IsTraceAnd c.args.list.now c.args.script.now c.args.text.now) none c.in-Ok-empty.ensures.ok)),
       λ trace. refl,
     )
 
 pub returns-in-Ok-empty-clause-differs : goal.returns-in-Ok-empty-clause-differs
 returns-in-Ok-empty-clause-differs c line =
     let none : c.in-Ok-empty.field-0.now ≡ [] = empty_rest c.in-Ok-empty.field-0.now (omega (arith, c.in-Ok-empty.len_below)) in
-    let trace = whole-trace c.args.list.now c.args.script.now c.args.text.now c.requires.list c.requires.script
+    let trace = whole-trace c.args.list.now c.args.script.now c.args.text.now
     (subst (IsTraceAnd c.args.list.now c.args.script.now c.args.text.now) none c.in-Ok-empty.ensures.ok) in (
       λ same. absurd cc,
       λ first. absurd (first_wrong-no_trace c.args.list.now c.args.script.now c.args.text.now line first trace),
@@ -81,7 +82,7 @@ returns-clause-same c = (
   λ same. absurd cc,
   λ trace.
       absurd (first_wrong-no_trace c.args.list.now c.args.script.now c.args.text.now c.line_behind.result
-      (first_wrong c) trace),
+      (first_wrong c) (is_trace-numbers c.args.list.now c.args.script.now c.args.text.now trace)),
 )
 
 pub returns-clause-differs : goal.returns-clause-differs

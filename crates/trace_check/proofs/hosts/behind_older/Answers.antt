@@ -1,4 +1,4 @@
-use Rattle.std.proofs.Common.{◌≡◌, ◌∙◌, ℕ, List, ap, sym}
+use Rattle.std.proofs.Common.{◌∙◌, ℕ, List, ap}
 use Rattle.ttp_world.specs.declared.script.Source.TheVariants as source
 use Rattle.trace_text.specs.Reading.{after_label}
 use Rattle.trace_check.specs.Incoming.{newest_before}

@@ -1,10 +1,9 @@
-use Rattle.std.proofs.Common.{◌≡◌, ◌∙◌, ℕ, List, Some, get_or, length, refl, ap, sym, subst, arith}
+use Rattle.std.proofs.Common.{◌≡◌, ◌∙◌, List, get_or, length, refl, ap, sym, subst, arith}
 use Rattle.std.specs.Prelude.{reverse, slice_get}
 use Rattle.std.proofs.lemmas.Option.{slice_get-get_or}
 use Rattle.ttp_world.specs.declared.host_lines.HostRead.{HostRead}
 use Rattle.ttp_world.specs.declared.script.Source.TheVariants as source
 use Rattle.ttp_world.specs.Legal.{read_messages}
-use Rattle.ttp_world.specs.Script.{reads_in}
 use Rattle.trace_check.specs.Following.{ReadsAmiss, ReadsOn}
 use Rattle.trace_check.proofs.Ended.{ended-slot}
 use Rattle.trace_check.proofs.Labels.{passed_up}

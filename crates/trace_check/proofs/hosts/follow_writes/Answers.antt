@@ -1,8 +1,8 @@
-use Rattle.std.proofs.Common.{◌≡◌, ◌∙◌, ◌++◌, ◌∷◌, ℕ, ◌+◌, List, Some, None, Bor, get_or, take, drop, sym, ap, subst, arith}
+use Rattle.std.proofs.Common.{◌≡◌, ◌∙◌, ℕ, ◌+◌, List, Some, None, Bor, take, drop, sym, ap, subst, arith}
 use Rattle.std.specs.Prelude.{option_map}
 use Rattle.std.specs.List.{filter_map}
 use Rattle.std.proofs.lemmas.List.{append-nil, take_all}
-use Rattle.ttp_world.specs.Script.{HostWrite, host_write, write_at, writes_in}
+use Rattle.ttp_world.specs.Script.{host_write, write_at, writes_in}
 use Rattle.ttp_world.specs.Trace.{write_lines}
 use Rattle.ttp_world.proofs.HostMessages.{valid_write_at}
 use Rattle.trace_check.specs.Following.{Departs}

@@ -1,5 +1,4 @@
-use Rattle.std.proofs.Common.{◌≡◌, ◌∙◌, ℕ, length, ap, sym, subst, arith}
-use Rattle.ttp_base.specs.NodeSet.{below}
+use Rattle.std.proofs.Common.{◌≡◌, ◌∙◌, length, sym, subst, arith}
 use Rattle.trace_check.specs.Following.{Departs, node_lines}
 use Rattle.trace_check.proofs.Ended.{ended-digits}
 use Rattle.trace_check.proofs.Labels.{passed_up}

@@ -1,4 +1,4 @@
-use Rattle.std.proofs.Common.{◌≡◌, ◌∙◌, ◌∷◌, ap, sym, arith}
+use Rattle.std.proofs.Common.{◌∙◌, ap, sym, arith}
 use Rattle.ttp_world.specs.Trace.{message_shown}
 use Rattle.trace_check.specs.Following.{row_after}
 use Rattle.trace_check.proofs.Shown.{sender-of, sender-place, number-few, shown, shown-none}

@@ -1,4 +1,4 @@
-use Rattle.std.proofs.Common.{◌≡◌, ◌+◌, suc, List, ℕ, ap, sym, ◌∙◌, add-one, take, drop}
+use Rattle.std.proofs.Common.{List, ℕ, ap, sym, ◌∙◌, add-one, take, drop}
 use Rattle.ttp_base.specs.Text.{lines_of}
 use Rattle.trace_check.proofs.FirstLines.{cut-Some, cut-None}
 use Rattle.trace_check.proofs.text.cut_line.Goals as goal

@@ -1,4 +1,4 @@
-use Rattle.std.proofs.Common.{◌≡◌, ◌∙◌, ℕ, length, refl, sym, subst, arith}
+use Rattle.std.proofs.Common.{refl, sym, subst, arith}
 use Rattle.ttp_world.specs.World.{world}
 use Rattle.ttp_world.proofs.Worlds.{length-world}
 use Rattle.trace_check.specs.Outgoing.{HoldsNewest}

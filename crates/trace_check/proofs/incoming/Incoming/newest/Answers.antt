@@ -1,7 +1,4 @@
-use Rattle.std.proofs.Common.{◌∙◌, ap, sym, arith}
-use Rattle.ttp_world.specs.declared.host_lines.HostRead.{HostRead}
-use Rattle.ttp_world.specs.declared.script.Source.{Source}
-use Rattle.trace_check.specs.Incoming.{newest_before}
+use Rattle.std.proofs.Common.{◌∙◌}
 use Rattle.trace_check.proofs.Rings.{newest-status, newest-payload}
 use Rattle.trace_check.proofs.incoming.Incoming.newest.Goals as goal
 

@@ -1,4 +1,4 @@
-use Rattle.std.proofs.Common.{◌≡◌, ◌∙◌, ◌+◌, ℕ, Some, None, get_or, [], sym, ap, subst, arith}
+use Rattle.std.proofs.Common.{◌∙◌, ◌+◌, Some, None, get_or, [], sym, subst, arith}
 use Rattle.ttp_base.specs.Text.{lines_of}
 use Rattle.ttp_world.specs.Script.{messages_written}
 use Rattle.trace_check.specs.Outgoing.{number_named}

@@ -1,6 +1,5 @@
-use Rattle.std.proofs.Common.{◌≡◌, ◌∙◌, ℕ, Some, List, ap, sym, subst, arith}
+use Rattle.std.proofs.Common.{◌≡◌, ◌∙◌, ap, sym, subst, arith}
 use Rattle.std.specs.Prelude.{slice_get}
-use Rattle.ttp_world.specs.declared.node.Chosen.{Chosen}
 use Rattle.trace_check.proofs.FirstOutgoing.{AreFirst, AreFirst-none, AreFirst-more, first-holds}
 use Rattle.trace_check.proofs.outgoing.Outgoing.new.Goals as goal
 

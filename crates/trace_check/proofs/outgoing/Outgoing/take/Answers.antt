@@ -1,4 +1,4 @@
-use Rattle.std.proofs.Common.{◌≡◌, ◌∙◌, ℕ, ◌-◌, Some, None, set, refl, ap, sym, arith}
+use Rattle.std.proofs.Common.{◌≡◌, ◌∙◌, ℕ, ◌-◌, Some, set, refl, ap, sym, arith}
 use Rattle.std.specs.Prelude.{slice_get}
 use Rattle.ttp_world.specs.Script.{messages_written}
 use Rattle.trace_check.specs.Outgoing.{number_taken, oldest_number}
