@@ -41,8 +41,8 @@ mod start;
 mod steady;
 mod walk;
 
-use crate::back_walk::started_back;
 pub use crate::armed::has_arm;
+use crate::back_walk::started_back;
 pub use crate::clocks::{drifts_hold, errors_hold_within};
 use crate::clocks::{back_window_broken, clocks_broken, window_broken};
 pub use crate::losses::expected_sender;

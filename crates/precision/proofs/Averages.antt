@@ -1,11 +1,13 @@
 -- The averages that two nodes take of the deviations of the same frames bring their clocks together.
 use Rattle.std.proofs.Common.{◌≡◌, ℕ, zero, suc, ◌<◌, ◌≤◌, ℤ, pos, neg_ℤ, ◌+ℤ◌, ◌-ℤ◌, ◌≤ℤ◌, true, false}
 use Rattle.std.proofs.Common.{cond, List, [], ◌∷◌, length, take, drop, refl, ap, ◌∙◌, arith}
-use Rattle.std.specs.Prelude.{nat_lt, int_div}
+use Rattle.std.specs.Prelude.{All, nat_lt, int_div}
 use Rattle.std.proofs.lemmas.Int.{ints}
 use Rattle.std.proofs.lemmas.List.{length-take-le}
+use Rattle.std.proofs.lemmas.List.Elements.{All-weaker}
 use Rattle.ttp_world.specs.Clock.{sorted, middle_half, fta}
 use Rattle.ttp_world.specs.Script.{sum_ℤ}
+use Rattle.ttp_world.proofs.Averages.{Between, fta-between}
 use Rattle.fta_sync.proofs.Rounding.{IsAboutTwice, half_about}
 use Rattle.fta_sync.proofs.Sorted.{AreBelow, AreBelow-sorted, length-sorted}
 
@@ -20,20 +22,32 @@ Locate w clock [] (x ∷ xs) = ⊥
 Locate w clock (d ∷ ds) [] = ⊥
 Locate w clock (d ∷ ds) (x ∷ xs) = IsUpTo w ((clock +ℤ d) -ℤ x) × Locate w clock ds xs
 
+-- so do the newest notes, of the newest frames: there may be more frames than notes
+abbrev pub LocateNewest : ℤ → ℤ → List ℤ → List ℤ → Type 0
+LocateNewest w clock [] xs = Unit {0}
+LocateNewest w clock (d ∷ ds) [] = ⊥
+LocateNewest w clock (d ∷ ds) (x ∷ xs) = IsUpTo w ((clock +ℤ d) -ℤ x) × LocateNewest w clock ds xs
+
+-- the frames that a clock's notes tell of were near another clock
+abbrev pub AreNear : ℤ → ℤ → ℤ → List ℤ → Type 0
+AreNear w c k notes = All (λ d. IsUpTo w ((c +ℤ d) -ℤ k)) notes
+
 -- Notes of two clocks on the same frames.
 
 below_of : (w b c d e x : ℤ) → IsUpTo w ((b +ℤ d) -ℤ x) → IsUpTo w ((c +ℤ e) -ℤ x) → d ≤ℤ (e +ℤ ((c -ℤ b) +ℤ (w +ℤ w)))
 below_of w b c d e x p q = omega (arith, ints, p.0, p.1, q.0, q.1)
 
-AreBelow-located : (w b c : ℤ) (ds es xs : List ℤ) → Locate w b ds xs → Locate w c es xs
-    → AreBelow ((c -ℤ b) +ℤ (w +ℤ w)) ds es
-AreBelow-located w b c [] [] [] p q = tt
-AreBelow-located w b c [] (e ∷ es) [] p q = absurd q
-AreBelow-located w b c (d ∷ ds) es [] p q = absurd p
-AreBelow-located w b c [] es (x ∷ xs) p q = absurd p
-AreBelow-located w b c (d ∷ ds) [] (x ∷ xs) p q = absurd q
-AreBelow-located w b c (d ∷ ds) (e ∷ es) (x ∷ xs) p q =
-    (below_of w b c d e x p.0 q.0, AreBelow-located w b c ds es xs p.1 q.1)
+AreBelow-located : (w b c : ℤ) (n : ℕ) (ds es xs : List ℤ) → LocateNewest w b ds xs → LocateNewest w c es xs
+    → n ≤ length ds → n ≤ length es
+    → AreBelow ((c -ℤ b) +ℤ (w +ℤ w)) (take n ds) (take n es)
+AreBelow-located w b c zero ds es xs p q many enough = tt
+AreBelow-located w b c (suc n) [] es xs p q many enough = absurd (omega (arith, many))
+AreBelow-located w b c (suc n) (d ∷ ds) [] xs p q many enough = absurd (omega (arith, enough))
+AreBelow-located w b c (suc n) (d ∷ ds) (e ∷ es) [] p q many enough = absurd p
+AreBelow-located w b c (suc n) (d ∷ ds) (e ∷ es) (x ∷ xs) p q many enough = (
+  below_of w b c d e x p.0 q.0,
+  AreBelow-located w b c n ds es xs p.1 q.1 (omega (arith, many)) (omega (arith, enough)),
+)
 
 pub length-located : (w b : ℤ) (ds xs : List ℤ) → Locate w b ds xs → length ds ≡ length xs
 length-located w b [] [] p = refl
@@ -42,13 +56,6 @@ length-located w b (d ∷ ds) [] p = absurd p
 length-located w b (d ∷ ds) (x ∷ xs) p = ap suc (length-located w b ds xs p.1)
 
 -- The middle two of four.
-
-AreBelow-take : (c : ℤ) (n : ℕ) (xs ys : List ℤ) → AreBelow c xs ys → AreBelow c (take n xs) (take n ys)
-AreBelow-take c zero xs ys h = tt
-AreBelow-take c (suc n) [] [] h = tt
-AreBelow-take c (suc n) [] (y ∷ ys) h = absurd h
-AreBelow-take c (suc n) (x ∷ xs) [] h = absurd h
-AreBelow-take c (suc n) (x ∷ xs) (y ∷ ys) h = (h.0, AreBelow-take c n xs ys h.1)
 
 sum_of_two : (c x x1 y y1 : ℤ) → x ≤ℤ (y +ℤ c) → x1 ≤ℤ (y1 +ℤ c)
     → (x +ℤ (x1 +ℤ pos 0)) ≤ℤ ((y +ℤ (y1 +ℤ pos 0)) +ℤ (c +ℤ c))
@@ -89,13 +96,13 @@ fta-few notes few =
     let short : nat_lt (length notes) 4 ≡ true = grind arith in
     ap (λ b. cond b (pos 0) (middle_half (take 4 notes))) short
 
-middle_half-below : (c : ℤ) (ds es : List ℤ) → AreBelow c ds es → 4 ≤ length ds
+middle_half-below : (c : ℤ) (ds es : List ℤ) → AreBelow c (take 4 ds) (take 4 es) → 4 ≤ length ds
     → middle_half (take 4 ds) ≤ℤ (middle_half (take 4 es) +ℤ (c +ℤ pos 1))
 middle_half-below c ds es below enough =
     let sums : sum_ℤ (take 2 (drop 1 (sorted (take 4 ds))))
     ≤ℤ (sum_ℤ (take 2 (drop 1 (sorted (take 4 es)))) +ℤ (c +ℤ c)) =
     middle_below c (sorted (take 4 ds)) (sorted (take 4 es))
-    (AreBelow-sorted c (take 4 ds) (take 4 es) (AreBelow-take c 4 ds es below))
+    (AreBelow-sorted c (take 4 ds) (take 4 es) below)
     (length-sorted (take 4 ds) ∙ length-take-le 4 ds enough) in
     half_below c (sum_ℤ (take 2 (drop 1 (sorted (take 4 ds))))) (sum_ℤ (take 2 (drop 1 (sorted (take 4 es))))) sums
 
@@ -103,11 +110,34 @@ apart_of : (w b c p q : ℤ) → p ≤ℤ (q +ℤ (((c -ℤ b) +ℤ (w +ℤ w)) 
     → ((b +ℤ p) -ℤ (c +ℤ q)) ≤ℤ ((w +ℤ w) +ℤ pos 1)
 apart_of w b c p q h = omega (arith, ints, h)
 
--- two clocks that noted four or more of the same frames, each corrected by its average
-pub corrected_apart : (w b c : ℤ) (ds es xs : List ℤ) → Locate w b ds xs → Locate w c es xs → 4 ≤ length ds
+-- two clocks that noted four or more, the newest four of the same frames, each corrected by its average
+pub corrected_apart : (w b c : ℤ) (ds es xs : List ℤ) → LocateNewest w b ds xs → LocateNewest w c es xs → 4 ≤ length ds
     → 4 ≤ length es
     → ((b +ℤ fta ds) -ℤ (c +ℤ fta es)) ≤ℤ ((w +ℤ w) +ℤ pos 1)
 corrected_apart w b c ds es xs p q many enough =
     let below : middle_half (take 4 ds) ≤ℤ (middle_half (take 4 es) +ℤ (((c -ℤ b) +ℤ (w +ℤ w)) +ℤ pos 1)) =
-    middle_half-below ((c -ℤ b) +ℤ (w +ℤ w)) ds es (AreBelow-located w b c ds es xs p q) many in
+    middle_half-below ((c -ℤ b) +ℤ (w +ℤ w)) ds es (AreBelow-located w b c 4 ds es xs p q many enough) many in
     rw (fta-many ds many, fta-many es enough) (apart_of w b c (middle_half (take 4 ds)) (middle_half (take 4 es)) below)
+
+-- Clocks near which each frame was that a clock noted: the average leaves it near them.
+
+bounds_of : (w c k d : ℤ) → IsUpTo w ((c +ℤ d) -ℤ k) → Between ((k -ℤ c) -ℤ w) ((k -ℤ c) +ℤ w) d
+bounds_of w c k d near = (omega (arith, ints, near.0), omega (arith, ints, near.1))
+
+none_between : (w c k : ℤ) → IsUpTo w (c -ℤ k) → Between ((k -ℤ c) -ℤ w) ((k -ℤ c) +ℤ w) (pos 0)
+none_between w c k apart = (omega (arith, ints, apart.0, apart.1), omega (arith, ints, apart.0, apart.1))
+
+pub fta-near : (w c k : ℤ) (notes : List ℤ) → IsUpTo w (c -ℤ k) → AreNear w c k notes
+    → Between ((k -ℤ c) -ℤ w) ((k -ℤ c) +ℤ w) (fta notes)
+fta-near w c k notes apart near =
+    let none = none_between w c k apart in
+    fta-between ((k -ℤ c) -ℤ w) ((k -ℤ c) +ℤ w) notes none.0 none.1
+    (All-weaker (λ d. IsUpTo w ((c +ℤ d) -ℤ k)) (Between ((k -ℤ c) -ℤ w) ((k -ℤ c) +ℤ w))
+    (λ d h. bounds_of w c k d h) notes near)
+
+left_near : (w c k a : ℤ) → Between ((k -ℤ c) -ℤ w) ((k -ℤ c) +ℤ w) a → IsUpTo w ((c +ℤ a) -ℤ k)
+left_near w c k a h = (omega (arith, ints, h.0), omega (arith, ints, h.1))
+
+pub corrected_near : (w c k : ℤ) (notes : List ℤ) → IsUpTo w (c -ℤ k) → AreNear w c k notes
+    → IsUpTo w ((c +ℤ fta notes) -ℤ k)
+corrected_near w c k notes apart near = left_near w c k (fta notes) (fta-near w c k notes apart near)

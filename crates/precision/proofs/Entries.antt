@@ -60,27 +60,34 @@ place_continued list k diary (entry.Sent message) h = refl
 place_continued list k diary (entry.Judged sender v deviation) h = refl
 place_continued list k diary _ h = absurd (false≢true h)
 
-begins_no_stint : (e : Entry) → continues_stint e ≡ true → begins_stint e ≡ false
+pub begins_no_stint : (e : Entry) → continues_stint e ≡ true → begins_stint e ≡ false
 begins_no_stint (entry.Sent message) h = refl
 begins_no_stint (entry.Judged sender v deviation) h = refl
 begins_no_stint _ h = absurd (false≢true h)
+
+-- the notes of a slot come to those of its round so far
+pub notes_next : (list : Medl) (k : ℕ) (diary : Diary) (e : Entry) (place : Place)
+    → stint_place list k (e ∷ diary) ≡ place
+    → stint_notes list k (e ∷ diary)
+    ≡ notes_in list place e ++ cond (begins_round place e) [] (stint_notes list k diary)
+notes_next list k diary e place is =
+    (λ i. notes_in list (is i) e ++ elim (begins_round (is i) e) [ true ↦ [] | false ↦ stint_notes list k diary ])
+    ∙ ap (λ ns. notes_in list place e ++ ns) (elim-cond (begins_round place e) [] (stint_notes list k diary))
 
 pub notes_anew : (list : Medl) (k : ℕ) (diary : Diary) (e : Entry) (place : Place)
     → stint_place list k (e ∷ diary) ≡ place → begins_round place e ≡ true
     → stint_notes list k (e ∷ diary) ≡ notes_in list place e
 notes_anew list k diary e place is begins =
-    (λ i. notes_in list (is i) e ++ elim (begins_round (is i) e) [ true ↦ [] | false ↦ stint_notes list k diary ])
-    ∙ ap (λ ns. notes_in list place e ++ ns) (elim-cond (begins_round place e) [] (stint_notes list k diary) ∙ ap
-    (λ b. cond b [] (stint_notes list k diary)) begins)
+    notes_next list k diary e place is
+    ∙ ap (λ b. notes_in list place e ++ cond b [] (stint_notes list k diary)) begins
     ∙ append-nil (notes_in list place e)
 
 pub notes_more : (list : Medl) (k : ℕ) (diary : Diary) (e : Entry) (place : Place)
     → stint_place list k (e ∷ diary) ≡ place → begins_round place e ≡ false
     → stint_notes list k (e ∷ diary) ≡ notes_in list place e ++ stint_notes list k diary
 notes_more list k diary e place is inside =
-    (λ i. notes_in list (is i) e ++ elim (begins_round (is i) e) [ true ↦ [] | false ↦ stint_notes list k diary ])
-    ∙ ap (λ ns. notes_in list place e ++ ns) (elim-cond (begins_round place e) [] (stint_notes list k diary) ∙ ap
-    (λ b. cond b [] (stint_notes list k diary)) inside)
+    notes_next list k diary e place is
+    ∙ ap (λ b. notes_in list place e ++ cond b [] (stint_notes list k diary)) inside
 
 -- a stint begins with a round's notes, and so does the first slot of a round
 pub begun_round_first : (place : Place) (e : Entry) → begins_stint e ≡ true → begins_round place e ≡ true

@@ -47,6 +47,9 @@ own_near : (x o d e q v : ℤ) → x ≡ o → IsUpTo q d → pos 0 ≤ℤ e →
 own_near x o d e q v is drift up none =
     (omega (arith, ints, is, drift.0, drift.1, up, none), omega (arith, ints, is, drift.0, drift.1, up, none))
 
+own_set : (x o e : ℤ) → x ≡ o → pos 0 ≤ℤ e → IsUpTo e ((o +ℤ pos 0) -ℤ x)
+own_set x o e is up = (omega (arith, ints, is, up), omega (arith, ints, is, up))
+
 own_frame : (list : Medl) (script : Script) (history : History) (k p : ℕ) (o : ℤ)
     → RunsFrom list script history k o → k ≡ p → frame_of list script history p ≡ o
 own_frame list script history k p o runs own =
@@ -60,6 +63,10 @@ other_near x c o d e r q v is was drift error = (
   omega (arith, ints, is, was, drift.0, drift.1, error.0, error.1),
   omega (arith, ints, is, was, drift.0, drift.1, error.0, error.1),
 )
+
+other_set : (x c o e r v : ℤ) → c ≡ o → v ≡ (x -ℤ c) +ℤ r → IsUpTo e r → IsUpTo e ((o +ℤ v) -ℤ x)
+other_set x c o e r v is was error =
+    (omega (arith, ints, is, was, error.0, error.1), omega (arith, ints, is, was, error.0, error.1))
 
 -- what node k measured of a frame, added to its clock, tells where the frame was
 other_frame : (list : Medl) (script : Script) (history : History) (k p : ℕ) (o deviation : ℤ)
@@ -86,16 +93,32 @@ begun_place list script history p k place diary entry.Started h = sym h.1
 begun_place list script history p k place diary (entry.Joined sender cstate deviation) h = sym h.0
 begun_place list script history p k place diary _ h = absurd h
 
+-- its clock as it is set by the frame
+pub begun_set : (list : Medl) (script : Script) (history : History) (p k : ℕ) (place : Place) (o : ℤ) (e : Entry)
+    → RunsFrom list script history k o
+    → BeginsOn list script history p place k e
+    → IsUpTo list.error ((o +ℤ join_deviation e) -ℤ frame_of list script history p)
+begun_set list script history p k place o entry.Started runs h =
+    own_set (frame_of list script history p) o list.error (own_frame list script history k p o runs h.0) runs.error_up
+begun_set list script history p k place o (entry.Joined sender cstate deviation) runs h =
+    other_set (frame_of list script history p) (frame_of list script history k) o list.error
+    (reading_error script k (length history)) deviation
+    (frame_of-node list script history k runs.inside ∙ runs.before) h.1 runs.error
+begun_set list script history p k place o _ runs h = absurd h
+
+set_moved : (x o d e q v : ℤ) → IsUpTo e ((o +ℤ v) -ℤ x) → IsUpTo q d
+    → IsUpTo (e +ℤ q) ((o +ℤ (pos 0 +ℤ (d +ℤ v))) -ℤ x)
+set_moved x o d e q v set drift =
+    (omega (arith, ints, set.0, set.1, drift.0, drift.1), omega (arith, ints, set.0, set.1, drift.0, drift.1))
+
+-- and after the slot
 pub begun_near : (list : Medl) (script : Script) (history : History) (p k : ℕ) (place : Place) (o : ℤ) (e : Entry)
     → RunsFrom list script history k o
     → BeginsOn list script history p place k e
     → IsUpTo (list.error +ℤ list.drift) (moved script k o (join_deviation e) -ℤ frame_of list script history p)
-begun_near list script history p k place o entry.Started runs h =
-    own_near (frame_of list script history p) o (drift_of script k) list.error list.drift (pos 0)
-    (own_frame list script history k p o runs h.0) runs.drift runs.error_up refl
-begun_near list script history p k place o (entry.Joined sender cstate deviation) runs h =
-    other_frame list script history k p o deviation runs h.1
-begun_near list script history p k place o _ runs h = absurd h
+begun_near list script history p k place o e runs h =
+    set_moved (frame_of list script history p) o (drift_of script k) list.error list.drift (join_deviation e)
+    (begun_set list script history p k place o e runs h) runs.drift
 
 -- Notes.
 
@@ -146,6 +169,12 @@ told_noted list script history p k place o (entry.Judged sender v deviation) run
     (with_note w z deviation x (plan_at list place.slot).sync
     (note_later w o (drift_of script k) deviation x (other_frame list script history k p o deviation runs h.1)))
 told_noted list script history p k place o _ runs h = absurd h
+
+pub told_goes : (list : Medl) (script : Script) (history : History) (p k : ℕ) (e : Entry)
+    → TellsOf list script history p k e → continues_stint e ≡ true
+told_goes list script history p k (entry.Sent message) h = refl
+told_goes list script history p k (entry.Judged sender v deviation) h = refl
+told_goes list script history p k _ h = absurd h
 
 pub joins_nothing : (e : Entry) → continues_stint e ≡ true → join_deviation e ≡ pos 0
 joins_nothing (entry.Sent message) h = refl

@@ -2,5 +2,6 @@ pub mod Averages
 pub mod ClockBounds
 pub mod Entries
 pub mod Frames
+pub mod Limits
 pub mod Rounds
 pub mod Runs

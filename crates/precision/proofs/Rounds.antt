@@ -1,16 +1,18 @@
--- A group of nodes with clocks and notes: what one slot more, and the correction at the end of a round, make of them.
+-- A company's clocks and notes: what an entry, one slot more, and the correction at the end of a round make of them.
 --
--- The clocks are those after slot t - 1, which is slot m of its round; the group began in slot s.
-use Rattle.std.proofs.Common.{◌≡◌, ℕ, suc, ◌≢◌, ◌+◌, ◌*◌, ◌<◌, ◌≤◌, ℤ, pos, negsuc, ◌+ℤ◌, ◌-ℤ◌, ◌*ℤ◌, ◌≤ℤ◌, Bool, true}
-use Rattle.std.proofs.Common.{false, cond, ◌⊎◌, inl, inr, List, [], ◌∷◌, ◌++◌, length, refl, ap, sym, subst, ◌∙◌}
-use Rattle.std.proofs.Common.{mul-le-mul_left, arith}
-use Rattle.std.specs.Prelude.{◌==◌}
-use Rattle.std.proofs.lemmas.Bool.{eqb-true, eqb-false}
+-- The clocks are those before slot t, of whose round q slots are over. The newest entry is slot l, before it or at t.
+use Rattle.std.proofs.Common.{◌≡◌, ℕ, suc, ◌≢◌, ◌+◌, ◌*◌, ◌<◌, ◌≤◌, ℤ, pos, negsuc, neg_ℤ, ◌+ℤ◌, ◌-ℤ◌, ◌*ℤ◌, ◌≤ℤ◌, Bool}
+use Rattle.std.proofs.Common.{true, false, cond, ◌⊎◌, inl, inr, List, [], ◌∷◌, ◌++◌, length, refl, ap, sym, subst, ◌∙◌}
+use Rattle.std.proofs.Common.{mul-le-mul_left, arith, length-append}
+use Rattle.std.specs.Prelude.{◌==◌, All}
+use Rattle.std.proofs.lemmas.Bool.{false≢true}
 use Rattle.std.proofs.lemmas.Int.{ints}
+use Rattle.std.proofs.lemmas.List.Elements.{All-nil, All-append, All-head, All-tail, All-cons, All-weaker}
 use Rattle.ttp_world.specs.declared.medl.Medl.{Medl}
 use Rattle.ttp_world.specs.Clock.{fta}
-use Rattle.precision.specs.Spread.{spread}
-use Rattle.precision.proofs.Averages.{IsUpTo, Locate, length-located, fta-few, corrected_apart}
+use Rattle.precision.specs.Spread.{spread, spread_rejoining}
+use Rattle.precision.proofs.Averages.{IsUpTo, Locate, LocateNewest, AreNear, length-located, fta-few, corrected_apart}
+use Rattle.precision.proofs.Averages.{corrected_near}
 
 -- How far a clock drifts in some slots.
 
@@ -24,7 +26,20 @@ after_average list =
 
 -- how far apart a group's clocks have drifted that were so far apart before this round
 abbrev pub drifted : Medl → ℤ → ℕ → ℤ
-drifted list before m = before +ℤ (drift_in list (suc m) +ℤ drift_in list (suc m))
+drifted list before q = before +ℤ (drift_in list q +ℤ drift_in list q)
+
+-- how far apart they were then, but for drifts, in the round of the newest entry: some clocks are within a reading error
+-- of one of the others' there, or where none came later, all of one frame
+abbrev pub entry_width : Medl → Bool → ℤ
+entry_width list true = after_average list +ℤ list.error
+entry_width list false = list.error +ℤ list.error
+
+-- and how far at the most, in whichever round: after that of an entry, some corrected their clocks and some did not
+abbrev pub most_width : Medl → Bool → ℤ
+most_width list true =
+    after_average list
+    +ℤ ((drift_in list (length list.slots) +ℤ drift_in list (length list.slots)) +ℤ (list.error +ℤ list.error))
+most_width list false = after_average list
 
 -- Products with a number of slots.
 
@@ -41,6 +56,12 @@ pub product_four : (d : ℤ) (n : ℕ) → pos 0 ≤ℤ d
 product_four (pos a) n up = omega (arith, ints)
 product_four (negsuc a) n up = absurd (omega (arith, ints, up))
 
+product_six : (d : ℤ) (n : ℕ) → pos 0 ≤ℤ d
+    → d *ℤ pos (6 * n)
+    ≡ (d *ℤ pos n +ℤ d *ℤ pos n) +ℤ ((d *ℤ pos n +ℤ d *ℤ pos n) +ℤ (d *ℤ pos n +ℤ d *ℤ pos n))
+product_six (pos a) n up = omega (arith, ints)
+product_six (negsuc a) n up = absurd (omega (arith, ints, up))
+
 product_one : (d : ℤ) → pos 0 ≤ℤ d → d *ℤ pos 1 ≡ d
 product_one (pos a) up = omega (arith, ints)
 product_one (negsuc a) up = absurd (omega (arith, ints, up))
@@ -48,6 +69,14 @@ product_one (negsuc a) up = absurd (omega (arith, ints, up))
 pub product_up : (d : ℤ) (n : ℕ) → pos 0 ≤ℤ d → pos 0 ≤ℤ (d *ℤ pos n)
 product_up (pos a) n up = omega (arith, ints)
 product_up (negsuc a) n up = absurd (omega (arith, ints, up))
+
+product_none : (d : ℤ) → pos 0 ≤ℤ d → d *ℤ pos 0 ≡ pos 0
+product_none (pos a) up = omega (arith, ints)
+product_none (negsuc a) up = absurd (omega (arith, ints, up))
+
+pub product_twice : (d : ℤ) (n : ℕ) → pos 0 ≤ℤ d → pos 0 ≤ℤ (d *ℤ pos n +ℤ d *ℤ pos n)
+product_twice (pos a) n up = omega (arith, ints)
+product_twice (negsuc a) n up = absurd (omega (arith, ints, up))
 
 product_once : (d : ℤ) (m : ℕ) → pos 0 ≤ℤ d → d ≤ℤ (d *ℤ pos (suc m))
 product_once (pos a) m up = omega (arith, ints)
@@ -67,58 +96,158 @@ HaveDrifted list group clock later = (k : ℕ) → group k → IsUpTo list.drift
 abbrev pub HaveNoted : (ℕ → Type 0) → ℤ → (ℕ → ℤ) → (ℕ → List ℤ) → List ℤ → Type 0
 HaveNoted group width clock notes frames = (k : ℕ) → group k → Locate width (clock k) (notes k) frames
 
--- after slot m of a round, where that is not its last or the clocks are not corrected yet
-pub record Uncorrected (list : Medl) (group : ℕ → Type 0) (s t m : ℕ) (clock : ℕ → ℤ) (notes : ℕ → List ℤ) : Type 0
-  where
-    pub apart : AreWithin group clock (drifted list (after_average list) m)
-    -- in the round in which the group began
-    pub first : t ≤ s + suc m → AreWithin group clock (drifted list (list.error +ℤ list.error) m)
-    -- where the frames were that were noted in the round
-    pub frames : List ℤ
-    pub located : HaveNoted group (list.error +ℤ drift_in list (suc m)) clock notes frames
+-- the notes of each locate the newest of some frames
+abbrev pub HaveLocated : (ℕ → Type 0) → ℤ → (ℕ → ℤ) → (ℕ → List ℤ) → List ℤ → Type 0
+HaveLocated group width clock notes frames = (k : ℕ) → group k → LocateNewest width (clock k) (notes k) frames
 
--- after each slot
-pub data Held (list : Medl) (group : ℕ → Type 0) (s t m : ℕ) (clock : ℕ → ℤ) (notes : ℕ → List ℤ) : Type 0 where
-  Corrected : suc m ≡ length list.slots → AreWithin group clock (after_average list) → Held list group s t m clock notes
-  Running : suc m < length list.slots → Uncorrected list group s t m clock notes → Held list group s t m clock notes
+-- all have as many notes
+abbrev pub HaveAsMany : (ℕ → Type 0) → (ℕ → List ℤ) → Type 0
+HaveAsMany group notes = (j k : ℕ) → group j → group k → length (notes j) ≡ length (notes k)
+
+-- the notes of each tell of frames that were near the clock of each
+abbrev pub PointNear : (ℕ → Type 0) → ℤ → (ℕ → ℤ) → (ℕ → List ℤ) → Type 0
+PointNear group width clock notes = (j k : ℕ) → group j → group k → AreNear width (clock j) (clock k) (notes j)
+
+-- a width at the beginning of a round, by how long the newest entry is ago
+pub record IsWidth (list : Medl) (may_grow : Bool) (l t q : ℕ) (width : ℤ) : Type 0 where
+  pub entry : t ≤ l + q → width ≤ℤ entry_width list may_grow
+  pub most : width ≤ℤ most_width list may_grow
+  pub settled : l + length list.slots + q < t → width ≤ℤ after_average list
+
+-- before each slot
+pub record Held (list : Medl) (may_grow : Bool) (group : ℕ → Type 0) (l t q : ℕ) (width : ℤ) (clock : ℕ → ℤ)
+    (notes : ℕ → List ℤ) : Type 0 where
+  pub wide : IsWidth list may_grow l t q width
+  pub apart : AreWithin group clock (drifted list width q)
+  -- where the frames were that were noted in the round
+  pub frames : List ℤ
+  pub located : HaveLocated group (list.error +ℤ drift_in list q) clock notes frames
+  pub alike : may_grow ≡ false → HaveAsMany group notes
+  pub near : may_grow ≡ true → PointNear group (drifted list (width +ℤ list.error) q) clock notes
+
+-- A group that is left, by other names.
+
+-- clocks that are these are as far apart
+pub same_apart : (b c x y : ℤ) (bound : ℤ) → x ≡ b → y ≡ c → (b -ℤ c) ≤ℤ bound → (x -ℤ y) ≤ℤ bound
+same_apart b c x y bound is was h = omega (arith, ints, is, was, h)
+
+-- a node of the group before, with the same clock and notes
+pub record IsSame (before : ℕ → Type 0) (clock seen : ℕ → ℤ) (notes carried : ℕ → List ℤ) (k : ℕ) : Type 0 where
+  pub member : before k
+  pub same_clock : seen k ≡ clock k
+  pub same_notes : carried k ≡ notes k
+
+pub held_part : (list : Medl) (may_grow : Bool) (before group : ℕ → Type 0) (l t q : ℕ) (width : ℤ) (clock seen : ℕ → ℤ)
+    (notes carried : ℕ → List ℤ)
+    → ((k : ℕ) → group k → IsSame before clock seen notes carried k)
+    → Held list may_grow before l t q width clock notes → Held list may_grow group l t q width seen carried
+held_part list may_grow before group l t q width clock seen notes carried same held = record {
+  wide = held.wide;
+  apart = λ j k a b. same_apart (clock j) (clock k) (seen j) (seen k) (drifted list width q) (same j a).same_clock
+      (same k b).same_clock (held.apart j k (same j a).member (same k b).member);
+  frames = held.frames;
+  located = λ k b. rw ((same k b).same_clock, (same k b).same_notes) (held.located k (same k b).member);
+  alike = λ fixed j k a b. rw ((same j a).same_notes, (same k b).same_notes)
+      (held.alike fixed j k (same j a).member (same k b).member);
+  near = λ grows j k a b. rw ((same j a).same_clock, (same k b).same_clock, (same j a).same_notes)
+      (held.near grows j k (same j a).member (same k b).member);
+}
+
+near_nothing : (w c k : ℤ) → AreNear w c k []
+near_nothing w c k = All-nil (λ d. IsUpTo w ((c +ℤ d) -ℤ k))
+
+-- The slot in which all begin, on one frame.
+
+begun_apart : (e q x y z : ℤ) → IsUpTo e (y -ℤ x) → IsUpTo e (z -ℤ x) → pos 0 ≤ℤ q
+    → (y -ℤ z) ≤ℤ ((e +ℤ e) +ℤ (q +ℤ q))
+begun_apart e q x y z h g up = omega (arith, ints, h.0, h.1, g.0, g.1, up)
+
+entry_over : (e n : ℤ) → pos 0 ≤ℤ n → pos 0 ≤ℤ e → (e +ℤ e) ≤ℤ (((n +ℤ n) +ℤ ((e +ℤ e) +ℤ pos 1)) +ℤ e)
+entry_over e n up some = omega (arith, ints, up, some)
+
+most_over : (e n : ℤ) → pos 0 ≤ℤ n → pos 0 ≤ℤ e
+    → (((n +ℤ n) +ℤ ((e +ℤ e) +ℤ pos 1)) +ℤ e)
+    ≤ℤ (((n +ℤ n) +ℤ ((e +ℤ e) +ℤ pos 1)) +ℤ ((n +ℤ n) +ℤ (e +ℤ e)))
+most_over e n up some = omega (arith, ints, up, some)
+
+average_over : (e n : ℤ) → pos 0 ≤ℤ n → (e +ℤ e) ≤ℤ ((n +ℤ n) +ℤ ((e +ℤ e) +ℤ pos 1))
+average_over e n up = omega (arith, ints, up)
+
+round_up : (list : Medl) → pos 0 ≤ℤ list.drift → pos 0 ≤ℤ drift_in list (length list.slots)
+round_up list up = product_up list.drift (length list.slots) up
+
+over_of : (a b c : ℤ) → a ≤ℤ b → b ≤ℤ c → a ≤ℤ c
+over_of a b c h g = omega (arith, ints, h, g)
+
+begun_width : (list : Medl) (may_grow : Bool) → pos 0 ≤ℤ list.drift → pos 0 ≤ℤ list.error
+    → (list.error +ℤ list.error) ≤ℤ entry_width list may_grow
+begun_width list true up some = entry_over list.error (drift_in list (length list.slots)) (round_up list up) some
+begun_width list false up some = omega (arith, ints)
+
+entry_most : (list : Medl) (may_grow : Bool) → pos 0 ≤ℤ list.drift → pos 0 ≤ℤ list.error
+    → entry_width list may_grow ≤ℤ most_width list may_grow
+entry_most list true up some = most_over list.error (drift_in list (length list.slots)) (round_up list up) some
+entry_most list false up some = average_over list.error (drift_in list (length list.slots)) (round_up list up)
+
+-- the clocks as they are set by the frame, before they drift in the slot
+pub held_begun : (list : Medl) (may_grow : Bool) (group : ℕ → Type 0) (l t q : ℕ) (frame : ℤ) (clock : ℕ → ℤ)
+    → t ≡ l → pos 0 ≤ℤ list.drift → pos 0 ≤ℤ list.error → ((k : ℕ) → group k → IsUpTo list.error (clock k -ℤ frame))
+    → Held list may_grow group l t q (list.error +ℤ list.error) clock (λ k. [])
+held_begun list may_grow group l t q frame clock now up some near =
+    let width = list.error +ℤ list.error in
+    let from : width ≤ℤ entry_width list may_grow = begun_width list may_grow up some in
+    record {
+      wide = record {
+        entry = λ early. from;
+        most = over_of width (entry_width list may_grow) (most_width list may_grow) from
+            (entry_most list may_grow up some);
+        settled = λ late. absurd (omega (arith, late, now));
+      };
+      apart = λ j k a b. begun_apart list.error (drift_in list q) frame (clock j) (clock k) (near j a) (near k b)
+          (product_up list.drift q up);
+      frames = [];
+      located = λ k a. tt;
+      alike = λ fixed j k a b. refl;
+      near = λ grows j k a b. near_nothing (drifted list (width +ℤ list.error) q) (clock j) (clock k);
+    }
 
 -- One slot more.
+
+-- the clocks drift, and each node notes the same frames, which were near each where others may come later
+pub record Slot (list : Medl) (may_grow : Bool) (group : ℕ → Type 0) (bound : ℤ) (clock later : ℕ → ℤ)
+    (added : ℕ → List ℤ) : Type 0 where
+  pub moved : HaveDrifted list group clock later
+  pub frames : List ℤ
+  pub noted : HaveNoted group (list.error +ℤ list.drift) later added frames
+  pub near : may_grow ≡ true → (k : ℕ) → group k → All (λ x. IsUpTo bound (x -ℤ clock k)) frames
 
 apart_more : (b d p q x y u v : ℤ) → (x -ℤ y) ≤ℤ (b +ℤ (p +ℤ p)) → IsUpTo d (u -ℤ x) → IsUpTo d (v -ℤ y) → q ≡ p +ℤ d
     → (u -ℤ v) ≤ℤ (b +ℤ (q +ℤ q))
 apart_more b d p q x y u v near h g is = omega (arith, ints, near, h.0, h.1, g.0, g.1, is)
-
-apart_anew : (b d q x y u v : ℤ) → (x -ℤ y) ≤ℤ b → IsUpTo d (u -ℤ x) → IsUpTo d (v -ℤ y) → q ≡ d
-    → (u -ℤ v) ≤ℤ (b +ℤ (q +ℤ q))
-apart_anew b d q x y u v near h g is = omega (arith, ints, near, h.0, h.1, g.0, g.1, is)
 
 located_later : (w d v b c n x : ℤ) → IsUpTo w ((b +ℤ n) -ℤ x) → IsUpTo d (c -ℤ b) → v ≡ w +ℤ d
     → IsUpTo v ((c +ℤ n) -ℤ x)
 located_later w d v b c n x p h is =
     (omega (arith, ints, p.0, p.1, h.0, h.1, is), omega (arith, ints, p.0, p.1, h.0, h.1, is))
 
-Locate-later : (w d v b c : ℤ) (ds xs : List ℤ) → IsUpTo d (c -ℤ b) → v ≡ w +ℤ d → Locate w b ds xs → Locate v c ds xs
-Locate-later w d v b c [] [] h is p = tt
-Locate-later w d v b c [] (x ∷ xs) h is p = absurd p
-Locate-later w d v b c (n ∷ ds) [] h is p = absurd p
-Locate-later w d v b c (n ∷ ds) (x ∷ xs) h is p =
-    (located_later w d v b c n x p.0 h is, Locate-later w d v b c ds xs h is p.1)
+LocateNewest-later : (w d v b c : ℤ) (ds xs : List ℤ) → IsUpTo d (c -ℤ b) → v ≡ w +ℤ d → LocateNewest w b ds xs
+    → LocateNewest v c ds xs
+LocateNewest-later w d v b c [] xs h is p = tt
+LocateNewest-later w d v b c (n ∷ ds) [] h is p = absurd p
+LocateNewest-later w d v b c (n ∷ ds) (x ∷ xs) h is p =
+    (located_later w d v b c n x p.0 h is, LocateNewest-later w d v b c ds xs h is p.1)
 
 wider_of : (w v z : ℤ) → w ≤ℤ v → IsUpTo w z → IsUpTo v z
 wider_of w v z wide p = (omega (arith, ints, wide, p.0), omega (arith, ints, wide, p.1))
 
-Locate-wider : (w v b : ℤ) (ds xs : List ℤ) → w ≤ℤ v → Locate w b ds xs → Locate v b ds xs
-Locate-wider w v b [] [] wide p = tt
-Locate-wider w v b [] (x ∷ xs) wide p = absurd p
-Locate-wider w v b (n ∷ ds) [] wide p = absurd p
-Locate-wider w v b (n ∷ ds) (x ∷ xs) wide p = (wider_of w v ((b +ℤ n) -ℤ x) wide p.0, Locate-wider w v b ds xs wide p.1)
-
-Locate-append : (w b : ℤ) (ds xs es ys : List ℤ) → Locate w b ds xs → Locate w b es ys
-    → Locate w b (ds ++ es) (xs ++ ys)
-Locate-append w b [] [] es ys p q = q
-Locate-append w b [] (x ∷ xs) es ys p q = absurd p
-Locate-append w b (d ∷ ds) [] es ys p q = absurd p
-Locate-append w b (d ∷ ds) (x ∷ xs) es ys p q = (p.0, Locate-append w b ds xs es ys p.1 q)
+-- the notes of the slot, and those that there were
+LocateNewest-append : (w v b : ℤ) (ds xs es ys : List ℤ) → w ≤ℤ v → Locate w b ds xs → LocateNewest v b es ys
+    → LocateNewest v b (ds ++ es) (xs ++ ys)
+LocateNewest-append w v b [] [] es ys wide p q = q
+LocateNewest-append w v b [] (x ∷ xs) es ys wide p q = absurd p
+LocateNewest-append w v b (d ∷ ds) [] es ys wide p q = absurd p
+LocateNewest-append w v b (d ∷ ds) (x ∷ xs) es ys wide p q =
+    (wider_of w v ((b +ℤ d) -ℤ x) wide p.0, LocateNewest-append w v b ds xs es ys wide p.1 q)
 
 add_drift : (e p q d : ℤ) → q ≡ p +ℤ d → e +ℤ q ≡ (e +ℤ p) +ℤ d
 add_drift e p q d is = omega (arith, ints, is)
@@ -126,78 +255,217 @@ add_drift e p q d is = omega (arith, ints, is)
 add_below : (e p q : ℤ) → p ≤ℤ q → (e +ℤ p) ≤ℤ (e +ℤ q)
 add_below e p q below = omega (arith, ints, below)
 
--- within a round the notes of the slot come to those that there are
-pub inside_round : (list : Medl) (group : ℕ → Type 0) (s t m : ℕ) (clock later : ℕ → ℤ) (notes added all : ℕ → List ℤ)
-    (new : List ℤ) → pos 0 ≤ℤ list.drift
-    → Uncorrected list group s t m clock notes → HaveDrifted list group clock later
-    → HaveNoted group (list.error +ℤ list.drift) later added new
-    → ((k : ℕ) → group k → all k ≡ added k ++ notes k) → Uncorrected list group s (suc t) (suc m) later all
-inside_round list group s t m clock later notes added all new up before moved noted is = record {
-  apart = λ j k p q. apart_more (after_average list) list.drift (drift_in list (suc m)) (drift_in list (suc (suc m)))
-      (clock j) (clock k) (later j) (later k)
-      (before.apart j k p q) (moved j p) (moved k q) (product_more list.drift (suc m) up);
-  first = λ early j k p q. apart_more (list.error +ℤ list.error) list.drift (drift_in list (suc m))
-      (drift_in list (suc (suc m))) (clock j) (clock k) (later j) (later k)
-      (before.first (omega (arith, early)) j k p q) (moved j p) (moved k q) (product_more list.drift (suc m) up);
-  frames = new ++ before.frames;
-  located = λ k p. subst (λ ns. Locate (list.error +ℤ drift_in list (suc (suc m))) (later k) ns
-      (new ++ before.frames)) (sym (is k p))
-      (Locate-append (list.error +ℤ drift_in list (suc (suc m))) (later k) (added k) new (notes k) before.frames
-      (Locate-wider (list.error +ℤ list.drift) (list.error +ℤ drift_in list (suc (suc m))) (later k) (added k) new
-      (add_below list.error list.drift (drift_in list (suc (suc m))) (product_once list.drift (suc m) up)) (noted k p))
-      (Locate-later (list.error +ℤ drift_in list (suc m)) list.drift (list.error +ℤ drift_in list (suc (suc m)))
-      (clock k) (later k) (notes k) before.frames (moved k p)
-      (add_drift list.error (drift_in list (suc m)) (drift_in list (suc (suc m))) list.drift
-      (product_more list.drift (suc m) up)) (before.located k p)));
+-- a note of the slot
+near_noted : (w e p q d b c z n x : ℤ) → IsUpTo (e +ℤ d) ((z +ℤ n) -ℤ x) → IsUpTo (w +ℤ (p +ℤ p)) (x -ℤ b)
+    → IsUpTo d (c -ℤ b) → q ≡ p +ℤ d
+    → IsUpTo ((w +ℤ e) +ℤ (q +ℤ q)) ((z +ℤ n) -ℤ c)
+near_noted w e p q d b c z n x h near moved is = (
+  omega (arith, ints, h.0, h.1, near.0, near.1, moved.0, moved.1, is),
+  omega (arith, ints, h.0, h.1, near.0, near.1, moved.0, moved.1, is),
+)
+
+AreNear-noted : (w e p q d b c z : ℤ) (ds xs : List ℤ) → Locate (e +ℤ d) z ds xs
+    → All (λ x. IsUpTo (w +ℤ (p +ℤ p)) (x -ℤ b)) xs
+    → IsUpTo d (c -ℤ b) → q ≡ p +ℤ d
+    → AreNear ((w +ℤ e) +ℤ (q +ℤ q)) z c ds
+AreNear-noted w e p q d b c z [] [] h near moved is = near_nothing ((w +ℤ e) +ℤ (q +ℤ q)) z c
+AreNear-noted w e p q d b c z [] (x ∷ xs) h near moved is = absurd h
+AreNear-noted w e p q d b c z (n ∷ ds) [] h near moved is = absurd h
+AreNear-noted w e p q d b c z (n ∷ ds) (x ∷ xs) h near moved is =
+    All-cons (λ a. IsUpTo ((w +ℤ e) +ℤ (q +ℤ q)) ((z +ℤ a) -ℤ c)) n ds
+    (near_noted w e p q d b c z n x h.0 (All-head (λ y. IsUpTo (w +ℤ (p +ℤ p)) (y -ℤ b)) x xs near) moved is)
+    (AreNear-noted w e p q d b c z ds xs h.1 (All-tail (λ y. IsUpTo (w +ℤ (p +ℤ p)) (y -ℤ b)) x xs near) moved is)
+
+-- a note from before it
+near_later : (w p q d b c y z n : ℤ) → IsUpTo (w +ℤ (p +ℤ p)) ((b +ℤ n) -ℤ c) → IsUpTo d (y -ℤ b) → IsUpTo d (z -ℤ c)
+    → q ≡ p +ℤ d
+    → IsUpTo (w +ℤ (q +ℤ q)) ((y +ℤ n) -ℤ z)
+near_later w p q d b c y z n h one two is = (
+  omega (arith, ints, h.0, h.1, one.0, one.1, two.0, two.1, is),
+  omega (arith, ints, h.0, h.1, one.0, one.1, two.0, two.1, is),
+)
+
+AreNear-later : (w p q d b c y z : ℤ) (ds : List ℤ) → AreNear (w +ℤ (p +ℤ p)) b c ds → IsUpTo d (y -ℤ b)
+    → IsUpTo d (z -ℤ c) → q ≡ p +ℤ d
+    → AreNear (w +ℤ (q +ℤ q)) y z ds
+AreNear-later w p q d b c y z ds near one two is =
+    All-weaker (λ n. IsUpTo (w +ℤ (p +ℤ p)) ((b +ℤ n) -ℤ c)) (λ n. IsUpTo (w +ℤ (q +ℤ q)) ((y +ℤ n) -ℤ z))
+    (λ n h. near_later w p q d b c y z n h one two is) ds near
+
+as_many : (ds es ns ms : List ℤ) → length ds ≡ length es → length ns ≡ length ms
+    → length (ds ++ ns) ≡ length (es ++ ms)
+as_many ds es ns ms is was = length-append ds ns ∙ (λ i. is i + was i) ∙ sym (length-append es ms)
+
+pub held_next : (list : Medl) (may_grow : Bool) (group : ℕ → Type 0) (l t q : ℕ) (width : ℤ) (clock later : ℕ → ℤ)
+    (notes added all : ℕ → List ℤ) → pos 0 ≤ℤ list.drift
+    → Held list may_grow group l t q width clock notes
+    → Slot list may_grow group (drifted list width q) clock later added
+    → ((k : ℕ) → group k → all k ≡ added k ++ notes k)
+    → Held list may_grow group l (suc t) (suc q) width later all
+held_next list may_grow group l t q width clock later notes added all up held slot is = record {
+  wide = record {
+    entry = λ early. held.wide.entry (omega (arith, early));
+    most = held.wide.most;
+    settled = λ late. held.wide.settled (omega (arith, late));
+  };
+  apart = λ j k a b. apart_more width list.drift (drift_in list q) (drift_in list (suc q)) (clock j) (clock k)
+      (later j) (later k) (held.apart j k a b) (slot.moved j a) (slot.moved k b) more;
+  frames = slot.frames ++ held.frames;
+  located = λ k a. subst (λ ns. LocateNewest (list.error +ℤ drift_in list (suc q)) (later k) ns
+      (slot.frames ++ held.frames)) (sym (is k a))
+      (LocateNewest-append (list.error +ℤ list.drift) (list.error +ℤ drift_in list (suc q)) (later k) (added k)
+      slot.frames (notes k) held.frames
+      (add_below list.error list.drift (drift_in list (suc q)) (product_once list.drift q up)) (slot.noted k a)
+      (LocateNewest-later (list.error +ℤ drift_in list q) list.drift (list.error +ℤ drift_in list (suc q)) (clock k)
+      (later k) (notes k) held.frames (slot.moved k a)
+      (add_drift list.error (drift_in list q) (drift_in list (suc q)) list.drift more) (held.located k a)));
+  alike = λ fixed j k a b. rw (is j a, is k b)
+      (as_many (added j) (added k) (notes j) (notes k) (same j k a b) (held.alike fixed j k a b));
+  near = λ grows j k a b. subst (AreNear (drifted list (width +ℤ list.error) (suc q)) (later j) (later k))
+      (sym (is j a))
+      (All-append (λ n. IsUpTo (drifted list (width +ℤ list.error) (suc q)) ((later j +ℤ n) -ℤ later k))
+      (added j) (notes j)
+      (AreNear-noted width list.error (drift_in list q) (drift_in list (suc q)) list.drift (clock k) (later k)
+      (later j) (added j) slot.frames (slot.noted j a) (slot.near grows k b) (slot.moved k b) more)
+      (AreNear-later (width +ℤ list.error) (drift_in list q) (drift_in list (suc q)) list.drift (clock j) (clock k)
+      (later j) (later k) (notes j) (held.near grows j k a b) (slot.moved j a) (slot.moved k b) more));
 }
+  where
+    more : drift_in list (suc q) ≡ drift_in list q +ℤ list.drift
+    more = product_more list.drift q up
 
--- after the end of a round they are the first
-pub new_round : (list : Medl) (group : ℕ → Type 0) (s t : ℕ) (clock later : ℕ → ℤ) (added all : ℕ → List ℤ)
-    (new : List ℤ) → pos 0 ≤ℤ list.drift → s < t
-    → AreWithin group clock (after_average list) → HaveDrifted list group clock later
-    → HaveNoted group (list.error +ℤ list.drift) later added new
-    → ((k : ℕ) → group k → all k ≡ added k) → Uncorrected list group s (suc t) 0 later all
-new_round list group s t clock later added all new up began before moved noted is = record {
-  apart = λ j k p q. apart_anew (after_average list) list.drift (drift_in list 1) (clock j) (clock k) (later j)
-      (later k)
-      (before j k p q) (moved j p) (moved k q) (product_one list.drift up);
-  first = λ early. absurd (omega (arith, early, began));
-  frames = new;
-  located = λ k p. subst (λ ns. Locate (list.error +ℤ drift_in list 1) (later k) ns new) (sym (is k p))
-      (Locate-wider (list.error +ℤ list.drift) (list.error +ℤ drift_in list 1) (later k) (added k) new
-      (add_below list.error list.drift (drift_in list 1) (product_once list.drift 0 up)) (noted k p));
-}
+    same : (j k : ℕ) → group j → group k → length (added j) ≡ length (added k)
+    same j k a b =
+        length-located (list.error +ℤ list.drift) (later j) (added j) slot.frames (slot.noted j a)
+        ∙ sym (length-located (list.error +ℤ list.drift) (later k) (added k) slot.frames (slot.noted k b))
 
-begun_apart : (e q d x y z : ℤ) → IsUpTo (e +ℤ d) (y -ℤ x) → IsUpTo (e +ℤ d) (z -ℤ x) → d ≤ℤ q
-    → (y -ℤ z) ≤ℤ ((e +ℤ e) +ℤ (q +ℤ q))
-begun_apart e q d x y z h g wide = omega (arith, ints, h.0, h.1, g.0, g.1, wide)
+-- Others come to the group.
 
-wider_apart : (a b c z : ℤ) → z ≤ℤ (a +ℤ c) → a ≤ℤ b → z ≤ℤ (b +ℤ c)
-wider_apart a b c z h wide = omega (arith, ints, h, wide)
+-- a node that comes is set by the frame of a node p of the group, and has noted nothing
+pub data Comes (list : Medl) (before : ℕ → Type 0) (p : ℕ) (clock seen : ℕ → ℤ) (notes carried : ℕ → List ℤ) (k : ℕ)
+    : Type 0 where
+  WasThere : IsSame before clock seen notes carried k → Comes list before p clock seen notes carried k
+  IsNew : IsUpTo list.error (seen k -ℤ clock p) → carried k ≡ [] → Comes list before p clock seen notes carried k
 
-average_more : (e n : ℤ) → pos 0 ≤ℤ n → (e +ℤ e) ≤ℤ ((n +ℤ n) +ℤ ((e +ℤ e) +ℤ pos 1))
-average_more e n up = omega (arith, ints, up)
+apart_there : (e v a d b c x y : ℤ) → x ≡ b → y ≡ c → (b -ℤ c) ≤ℤ (v +ℤ d) → v ≤ℤ a → pos 0 ≤ℤ e
+    → (x -ℤ y) ≤ℤ ((a +ℤ e) +ℤ d)
+apart_there e v a d b c x y is was h wide some = omega (arith, ints, is, was, h, wide, some)
 
--- after the slot in which the group began, on one frame
-pub begun_round : (list : Medl) (group : ℕ → Type 0) (s t m : ℕ) (frame : ℤ) (clock : ℕ → ℤ) (notes : ℕ → List ℤ)
-    (new : List ℤ) → pos 0 ≤ℤ list.drift
-    → ((k : ℕ) → group k → IsUpTo (list.error +ℤ list.drift) (clock k -ℤ frame))
-    → HaveNoted group (list.error +ℤ list.drift) clock notes new
-    → Uncorrected list group s t m clock notes
-begun_round list group s t m frame clock notes new up near noted =
-    let wide : list.drift ≤ℤ drift_in list (suc m) = product_once list.drift m up in
-    let start : AreWithin group clock (drifted list (list.error +ℤ list.error) m) =
-    λ j k p q. begun_apart list.error (drift_in list (suc m)) list.drift frame (clock j) (clock k) (near j p)
-    (near k q) wide in
+apart_first : (e v a d b p x y : ℤ) → IsUpTo e (x -ℤ p) → y ≡ b → (p -ℤ b) ≤ℤ (v +ℤ d) → v ≤ℤ a
+    → (x -ℤ y) ≤ℤ ((a +ℤ e) +ℤ d)
+apart_first e v a d b p x y h is g wide = omega (arith, ints, h.0, h.1, is, g, wide)
+
+apart_second : (e v a d b p x y : ℤ) → x ≡ b → IsUpTo e (y -ℤ p) → (b -ℤ p) ≤ℤ (v +ℤ d) → v ≤ℤ a
+    → (x -ℤ y) ≤ℤ ((a +ℤ e) +ℤ d)
+apart_second e v a d b p x y is h g wide = omega (arith, ints, h.0, h.1, is, g, wide)
+
+apart_new : (e a d p x y : ℤ) → IsUpTo e (x -ℤ p) → IsUpTo e (y -ℤ p) → (e +ℤ e) ≤ℤ (a +ℤ e) → pos 0 ≤ℤ d
+    → (x -ℤ y) ≤ℤ ((a +ℤ e) +ℤ d)
+apart_new e a d p x y h g wide up = omega (arith, ints, h.0, h.1, g.0, g.1, wide, up)
+
+apart_come : (list : Medl) (before : ℕ → Type 0) (p q j k : ℕ) (v : ℤ) (clock seen : ℕ → ℤ)
+    (notes carried : ℕ → List ℤ)
+    → pos 0 ≤ℤ list.drift → pos 0 ≤ℤ list.error → before p → v ≤ℤ after_average list
+    → AreWithin before clock (drifted list v q)
+    → Comes list before p clock seen notes carried j → Comes list before p clock seen notes carried k
+    → (seen j -ℤ seen k) ≤ℤ drifted list (entry_width list true) q
+apart_come list before p q j k v clock seen notes carried up some member narrow apart (WasThere one) (WasThere two) =
+    apart_there list.error v (after_average list) (drift_in list q +ℤ drift_in list q) (clock j) (clock k) (seen j)
+    (seen k) one.same_clock two.same_clock (apart j k one.member two.member) narrow some
+apart_come list before p q j k v clock seen notes carried up some member narrow apart (IsNew one none) (WasThere two) =
+    apart_first list.error v (after_average list) (drift_in list q +ℤ drift_in list q) (clock k) (clock p) (seen j)
+    (seen k) one two.same_clock (apart p k member two.member) narrow
+apart_come list before p q j k v clock seen notes carried up some member narrow apart (WasThere one) (IsNew two none) =
+    apart_second list.error v (after_average list) (drift_in list q +ℤ drift_in list q) (clock j) (clock p) (seen j)
+    (seen k) one.same_clock two (apart j p one.member member) narrow
+apart_come list before p q j k v clock seen notes carried up some member narrow apart (IsNew one none) (IsNew two neither) =
+    apart_new list.error (after_average list) (drift_in list q +ℤ drift_in list q) (clock p) (seen j) (seen k) one two
+    (begun_width list true up some) (product_twice list.drift q up)
+
+note_there : (e v a d b c y n : ℤ) → y ≡ c → IsUpTo ((v +ℤ e) +ℤ d) ((b +ℤ n) -ℤ c) → v ≤ℤ a → pos 0 ≤ℤ e
+    → IsUpTo (((a +ℤ e) +ℤ e) +ℤ d) ((b +ℤ n) -ℤ y)
+note_there e v a d b c y n is h wide some =
+    (omega (arith, ints, is, h.0, h.1, wide, some), omega (arith, ints, is, h.0, h.1, wide, some))
+
+note_new : (e v a d b p y n : ℤ) → IsUpTo e (y -ℤ p) → IsUpTo ((v +ℤ e) +ℤ d) ((b +ℤ n) -ℤ p) → v ≤ℤ a
+    → IsUpTo (((a +ℤ e) +ℤ e) +ℤ d) ((b +ℤ n) -ℤ y)
+note_new e v a d b p y n g h wide =
+    (omega (arith, ints, g.0, g.1, h.0, h.1, wide), omega (arith, ints, g.0, g.1, h.0, h.1, wide))
+
+near_come : (list : Medl) (before : ℕ → Type 0) (p q j k : ℕ) (v : ℤ) (clock seen : ℕ → ℤ)
+    (notes carried : ℕ → List ℤ)
+    → pos 0 ≤ℤ list.error → before p → v ≤ℤ after_average list
+    → PointNear before (drifted list (v +ℤ list.error) q) clock notes
+    → Comes list before p clock seen notes carried j → Comes list before p clock seen notes carried k
+    → AreNear (drifted list (entry_width list true +ℤ list.error) q) (seen j) (seen k) (carried j)
+near_come list before p q j k v clock seen notes carried some member narrow near (IsNew one none) two =
+    rw none (near_nothing (drifted list (entry_width list true +ℤ list.error) q) (seen j) (seen k))
+near_come list before p q j k v clock seen notes carried some member narrow near (WasThere one) (WasThere two) =
+    rw (one.same_notes, one.same_clock)
+    (All-weaker (λ n. IsUpTo (drifted list (v +ℤ list.error) q) ((clock j +ℤ n) -ℤ clock k))
+    (λ n. IsUpTo (drifted list (entry_width list true +ℤ list.error) q) ((clock j +ℤ n) -ℤ seen k))
+    (λ n h. note_there list.error v (after_average list) (drift_in list q +ℤ drift_in list q) (clock j) (clock k)
+    (seen k) n two.same_clock h narrow some) (notes j) (near j k one.member two.member))
+near_come list before p q j k v clock seen notes carried some member narrow near (WasThere one) (IsNew two none) =
+    rw (one.same_notes, one.same_clock)
+    (All-weaker (λ n. IsUpTo (drifted list (v +ℤ list.error) q) ((clock j +ℤ n) -ℤ clock p))
+    (λ n. IsUpTo (drifted list (entry_width list true +ℤ list.error) q) ((clock j +ℤ n) -ℤ seen k))
+    (λ n h. note_new list.error v (after_average list) (drift_in list q +ℤ drift_in list q) (clock j) (clock p)
+    (seen k) n two h narrow) (notes j) (near j p one.member member))
+
+frame_there : (e v a d p b y : ℤ) → y ≡ b → (p -ℤ b) ≤ℤ (v +ℤ d) → (b -ℤ p) ≤ℤ (v +ℤ d) → v ≤ℤ a → pos 0 ≤ℤ e
+    → IsUpTo ((a +ℤ e) +ℤ d) (p -ℤ y)
+frame_there e v a d p b y is h g wide some =
+    (omega (arith, ints, is, h, g, wide, some), omega (arith, ints, is, h, g, wide, some))
+
+frame_new : (e a d p y : ℤ) → IsUpTo e (y -ℤ p) → (e +ℤ e) ≤ℤ (a +ℤ e) → pos 0 ≤ℤ d → IsUpTo ((a +ℤ e) +ℤ d) (p -ℤ y)
+frame_new e a d p y h wide up = (omega (arith, ints, h.0, h.1, wide, up), omega (arith, ints, h.0, h.1, wide, up))
+
+-- the frame is near each
+pub frame_come : (list : Medl) (before : ℕ → Type 0) (p q k : ℕ) (v : ℤ) (clock seen : ℕ → ℤ)
+    (notes carried : ℕ → List ℤ)
+    → pos 0 ≤ℤ list.drift → pos 0 ≤ℤ list.error → before p → v ≤ℤ after_average list
+    → AreWithin before clock (drifted list v q)
+    → Comes list before p clock seen notes carried k
+    → IsUpTo (drifted list (entry_width list true) q) (clock p -ℤ seen k)
+frame_come list before p q k v clock seen notes carried up some member narrow apart (WasThere same) =
+    frame_there list.error v (after_average list) (drift_in list q +ℤ drift_in list q) (clock p) (clock k) (seen k)
+    same.same_clock (apart p k member same.member) (apart k p same.member member) narrow some
+frame_come list before p q k v clock seen notes carried up some member narrow apart (IsNew near none) =
+    frame_new list.error (after_average list) (drift_in list q +ℤ drift_in list q) (clock p) (seen k) near
+    (begun_width list true up some) (product_twice list.drift q up)
+
+located_come : (list : Medl) (before : ℕ → Type 0) (p k : ℕ) (w : ℤ) (clock seen : ℕ → ℤ)
+    (notes carried : ℕ → List ℤ) (frames : List ℤ)
+    → HaveLocated before w clock notes frames → Comes list before p clock seen notes carried k
+    → LocateNewest w (seen k) (carried k) frames
+located_come list before p k w clock seen notes carried frames located (WasThere same) =
+    rw (same.same_notes, same.same_clock) (located k same.member)
+located_come list before p k w clock seen notes carried frames located (IsNew near none) = rw none tt
+
+-- two rounds or more after the newest entry: the clocks as they are set by the frame, before they drift in the slot
+pub held_grown : (list : Medl) (before group : ℕ → Type 0) (older l t q p : ℕ) (width : ℤ) (clock seen : ℕ → ℤ)
+    (notes carried : ℕ → List ℤ) → t ≡ l → pos 0 ≤ℤ list.drift → pos 0 ≤ℤ list.error
+    → q < length list.slots → older + 2 * length list.slots ≤ t → before p
+    → ((k : ℕ) → group k → Comes list before p clock seen notes carried k)
+    → Held list true before older t q width clock notes
+    → Held list true group l t q (entry_width list true) seen carried
+held_grown list before group older l t q p width clock seen notes carried now up some inside later member come held =
+    let narrow : width ≤ℤ after_average list = held.wide.settled (omega (arith, inside, later)) in
     record {
-      apart = λ j k p q. wider_apart (list.error +ℤ list.error) (after_average list)
-          (drift_in list (suc m) +ℤ drift_in list (suc m)) (clock j -ℤ clock k) (start j k p q)
-          (average_more list.error (drift_in list (length list.slots)) (product_up list.drift (length list.slots) up));
-      first = λ early. start;
-      frames = new;
-      located = λ k p. Locate-wider (list.error +ℤ list.drift) (list.error +ℤ drift_in list (suc m)) (clock k)
-          (notes k) new
-          (add_below list.error list.drift (drift_in list (suc m)) wide) (noted k p);
+      wide = record {
+        entry = λ early. omega (arith, ints);
+        most = entry_most list true up some;
+        settled = λ late. absurd (omega (arith, late, now));
+      };
+      apart = λ j k a b. apart_come list before p q j k width clock seen notes carried up some member narrow
+          held.apart (come j a) (come k b);
+      frames = held.frames;
+      located = λ k a. located_come list before p k (list.error +ℤ drift_in list q) clock seen notes carried held.frames
+          held.located (come k a);
+      alike = λ fixed. absurd (false≢true (sym fixed));
+      near = λ grows j k a b. near_come list before p q j k width clock seen notes carried some member narrow
+          (held.near refl) (come j a) (come k b);
     }
 
 -- The correction.
@@ -205,13 +473,21 @@ begun_round list group s t m frame clock notes new up near noted =
 pub plus_none : (z : ℤ) → z +ℤ pos 0 ≡ z
 plus_none z = omega (arith, ints)
 
+-- what the end of a slot corrects: the average of the notes in the last slot of a round
+abbrev pub correction : Medl → ℕ → List ℤ → ℤ
+correction list m notes = cond (suc m == length list.slots) (fta notes) (pos 0)
+
+pub corrected_last : (list : Medl) (m : ℕ) (notes : List ℤ) (z c : ℤ) → (suc m == length list.slots) ≡ true
+    → c ≡ z +ℤ correction list m notes → c ≡ z +ℤ fta notes
+corrected_last list m notes z c last is = is ∙ ap (λ b. z +ℤ cond b (fta notes) (pos 0)) last
+
+pub corrected_inside : (list : Medl) (m : ℕ) (notes : List ℤ) (z c : ℤ) → (suc m == length list.slots) ≡ false
+    → c ≡ z +ℤ correction list m notes → c ≡ z
+corrected_inside list m notes z c inside is = is ∙ ap (λ b. z +ℤ cond b (fta notes) (pos 0)) inside ∙ plus_none z
+
 averaged_bound : (w v e n b : ℤ) → w ≡ (e +ℤ n) → b ≡ (n +ℤ n) +ℤ ((e +ℤ e) +ℤ pos 1) → v ≤ℤ ((w +ℤ w) +ℤ pos 1)
     → v ≤ℤ b
 averaged_bound w v e n b is was h = omega (arith, ints, is, was, h)
-
-unaveraged_bound : (e n o b c p q : ℤ) → o ≡ n → p ≡ pos 0 → q ≡ pos 0 → (b -ℤ c) ≤ℤ ((e +ℤ e) +ℤ (o +ℤ o))
-    → ((b +ℤ p) -ℤ (c +ℤ q)) ≤ℤ ((n +ℤ n) +ℤ ((e +ℤ e) +ℤ pos 1))
-unaveraged_bound e n o b c p q same is was h = omega (arith, ints, same, is, was, h)
 
 few_or_many : (n : ℕ) → (n < 4) ⊎ (4 ≤ n)
 few_or_many n = grind arith
@@ -219,107 +495,193 @@ few_or_many n = grind arith
 early_or_late : (t n : ℕ) → (t ≤ n) ⊎ (n < t)
 early_or_late t n = grind arith
 
--- at the end of a round each takes its average; there are four notes or more, but in the first round
-averaged : (list : Medl) (group : ℕ → Type 0) (s t m : ℕ) (clock : ℕ → ℤ) (notes : ℕ → List ℤ)
-    → suc m ≡ length list.slots
-    → Uncorrected list group s t m clock notes → (s + length list.slots < t → (k : ℕ) → group k → 4 ≤ length (notes k))
-    → (j k : ℕ) → group j → group k → ((clock j +ℤ fta (notes j)) -ℤ (clock k +ℤ fta (notes k))) ≤ℤ after_average list
-averaged list group s t m clock notes ends held enough j k p q =
-    let same : length (notes j) ≡ length (notes k) =
-    length-located (list.error +ℤ drift_in list (suc m)) (clock j) (notes j) held.frames (held.located j p)
-    ∙ sym (length-located (list.error +ℤ drift_in list (suc m)) (clock k) (notes k) held.frames (held.located k q)) in
-    let slots : drift_in list (suc m) ≡ drift_in list (length list.slots) = ap (drift_in list) ends in
+-- both noted enough
+both_corrected : (list : Medl) (group : ℕ → Type 0) (clock : ℕ → ℤ) (notes : ℕ → List ℤ) (frames : List ℤ)
+    → HaveLocated group (list.error +ℤ drift_in list (length list.slots)) clock notes frames
+    → (j k : ℕ) → group j → group k → 4 ≤ length (notes j) → 4 ≤ length (notes k)
+    → ((clock j +ℤ fta (notes j)) -ℤ (clock k +ℤ fta (notes k))) ≤ℤ after_average list
+both_corrected list group clock notes frames located j k a b many enough =
+    averaged_bound (list.error +ℤ drift_in list (length list.slots))
+    ((clock j +ℤ fta (notes j)) -ℤ (clock k +ℤ fta (notes k))) list.error (drift_in list (length list.slots))
+    (after_average list) refl refl
+    (corrected_apart (list.error +ℤ drift_in list (length list.slots)) (clock j) (clock k) (notes j) (notes k) frames
+    (located j a) (located k b) many enough)
+
+-- neither did
+neither_bound : (e n v b c p q : ℤ) → p ≡ pos 0 → q ≡ pos 0 → v ≤ℤ (e +ℤ e) → (b -ℤ c) ≤ℤ (v +ℤ (n +ℤ n))
+    → ((b +ℤ p) -ℤ (c +ℤ q)) ≤ℤ ((n +ℤ n) +ℤ ((e +ℤ e) +ℤ pos 1))
+neither_bound e n v b c p q is was narrow h = omega (arith, ints, narrow, is, was, h)
+
+-- one of them did not, so that it stays as it is
+first_bound : (e n v a b c p q : ℤ) → q ≡ pos 0 → v ≤ℤ (a +ℤ e) → IsUpTo ((v +ℤ e) +ℤ (n +ℤ n)) ((b +ℤ p) -ℤ c)
+    → ((b +ℤ p) -ℤ (c +ℤ q)) ≤ℤ (a +ℤ ((n +ℤ n) +ℤ (e +ℤ e)))
+first_bound e n v a b c p q was narrow h = omega (arith, ints, was, narrow, h.0, h.1)
+
+second_bound : (e n v a b c p q : ℤ) → p ≡ pos 0 → v ≤ℤ (a +ℤ e) → IsUpTo ((v +ℤ e) +ℤ (n +ℤ n)) ((c +ℤ q) -ℤ b)
+    → ((b +ℤ p) -ℤ (c +ℤ q)) ≤ℤ (a +ℤ ((n +ℤ n) +ℤ (e +ℤ e)))
+second_bound e n v a b c p q was narrow h = omega (arith, ints, was, narrow, h.0, h.1)
+
+within_more : (e v d z y : ℤ) → z ≤ℤ (v +ℤ d) → y ≤ℤ (v +ℤ d) → z ≡ neg_ℤ y → pos 0 ≤ℤ e
+    → IsUpTo ((v +ℤ e) +ℤ d) z
+within_more e v d z y h g is some = (omega (arith, ints, h, g, is, some), omega (arith, ints, h, g, is, some))
+
+turned : (b c : ℤ) → b -ℤ c ≡ neg_ℤ (c -ℤ b)
+turned b c = omega (arith, ints)
+
+-- where others may come, the average of a clock leaves it near each
+averaged_near : (list : Medl) (group : ℕ → Type 0) (l t : ℕ) (width : ℤ) (clock : ℕ → ℤ) (notes : ℕ → List ℤ)
+    → pos 0 ≤ℤ list.error → Held list true group l t (length list.slots) width clock notes
+    → (j k : ℕ) → group j → group k
+    → IsUpTo (drifted list (width +ℤ list.error) (length list.slots)) ((clock j +ℤ fta (notes j)) -ℤ clock k)
+averaged_near list group l t width clock notes some held j k a b =
+    corrected_near (drifted list (width +ℤ list.error) (length list.slots)) (clock j) (clock k) (notes j)
+    (within_more list.error width
+    (drift_in list (length list.slots) +ℤ drift_in list (length list.slots)) (clock j -ℤ clock k) (clock k -ℤ clock j)
+    (held.apart j k a b) (held.apart k j b a) (turned (clock j) (clock k)) some)
+    (held.near refl j k a b)
+
+average_most : (e n z : ℤ) → pos 0 ≤ℤ n → pos 0 ≤ℤ e → z ≤ℤ ((n +ℤ n) +ℤ ((e +ℤ e) +ℤ pos 1))
+    → z ≤ℤ (((n +ℤ n) +ℤ ((e +ℤ e) +ℤ pos 1)) +ℤ ((n +ℤ n) +ℤ (e +ℤ e)))
+average_most e n z up some h = omega (arith, ints, up, some, h)
+
+-- at the end of the round of the newest entry
+averaged_early : (list : Medl) (may_grow : Bool) (group : ℕ → Type 0) (l t : ℕ) (width : ℤ) (clock : ℕ → ℤ)
+    (notes : ℕ → List ℤ)
+    → pos 0 ≤ℤ list.drift → pos 0 ≤ℤ list.error → t ≤ l + length list.slots
+    → Held list may_grow group l t (length list.slots) width clock notes
+    → (j k : ℕ) → group j → group k
+    → ((clock j +ℤ fta (notes j)) -ℤ (clock k +ℤ fta (notes k))) ≤ℤ most_width list may_grow
+averaged_early list false group l t width clock notes up some early held j k a b =
+    let same = held.alike refl j k a b in
     elim (few_or_many (length (notes j))) [
-      | inl few ↦ elim (early_or_late t (s + suc m)) [
-        | inl early ↦ unaveraged_bound list.error (drift_in list (length list.slots)) (drift_in list (suc m))
-            (clock j) (clock k) (fta (notes j)) (fta (notes k))
-            slots (fta-few (notes j) few) (fta-few (notes k) (omega (arith, few, same))) (held.first early j k p q)
-        | inr late ↦ absurd (omega (arith, few, enough (omega (arith, late, ends)) j p))
+      | inl few ↦ neither_bound list.error (drift_in list (length list.slots)) width (clock j) (clock k)
+          (fta (notes j)) (fta (notes k)) (fta-few (notes j) few) (fta-few (notes k) (omega (arith, few, same)))
+          (held.wide.entry early) (held.apart j k a b)
+      | inr many ↦ both_corrected list group clock notes held.frames held.located j k a b many
+          (omega (arith, same, many))
+    ]
+averaged_early list true group l t width clock notes up some early held j k a b =
+    elim (few_or_many (length (notes j))) [
+      | inl few ↦ second_bound list.error (drift_in list (length list.slots)) width (after_average list) (clock j)
+          (clock k) (fta (notes j)) (fta (notes k)) (fta-few (notes j) few) (held.wide.entry early)
+          (averaged_near list group l t width clock notes some held k j b a)
+      | inr many ↦ elim (few_or_many (length (notes k))) [
+        | inl few ↦ first_bound list.error (drift_in list (length list.slots)) width (after_average list) (clock j)
+            (clock k) (fta (notes j)) (fta (notes k)) (fta-few (notes k) few) (held.wide.entry early)
+            (averaged_near list group l t width clock notes some held j k a b)
+        | inr enough ↦ average_most list.error (drift_in list (length list.slots))
+            ((clock j +ℤ fta (notes j)) -ℤ (clock k +ℤ fta (notes k))) (round_up list up) some
+            (both_corrected list group clock notes held.frames held.located j k a b many enough)
       ]
-      | inr many ↦ averaged_bound (list.error +ℤ drift_in list (suc m))
-          ((clock j +ℤ fta (notes j)) -ℤ (clock k +ℤ fta (notes k))) list.error (drift_in list (length list.slots))
-          (after_average list)
-          (ap (λ z. list.error +ℤ z) slots) refl
-          (corrected_apart (list.error +ℤ drift_in list (suc m)) (clock j) (clock k) (notes j) (notes k) held.frames
-          (held.located j p) (held.located k q) many (omega (arith, same, many)))
     ]
 
--- clocks that are these are as far apart
-pub same_apart : (b c x y : ℤ) (bound : ℤ) → x ≡ b → y ≡ c → (b -ℤ c) ≤ℤ bound → (x -ℤ y) ≤ℤ bound
-same_apart b c x y bound is was h = omega (arith, ints, is, was, h)
+anew_apart : (d z w : ℤ) → d ≡ pos 0 → z ≤ℤ w → z ≤ℤ (w +ℤ (d +ℤ d))
+anew_apart d z w is h = omega (arith, ints, is, h)
 
-AreWithin-same : (group : ℕ → Type 0) (clock same : ℕ → ℤ) (bound : ℤ) → ((k : ℕ) → group k → same k ≡ clock k)
-    → AreWithin group clock bound → AreWithin group same bound
-AreWithin-same group clock same bound is h =
-    λ j k p q. same_apart (clock j) (clock k) (same j) (same k) bound (is j p) (is k q) (h j k p q)
+average_width : (list : Medl) (may_grow : Bool) → pos 0 ≤ℤ list.drift → pos 0 ≤ℤ list.error
+    → after_average list ≤ℤ most_width list may_grow
+average_width list true up some =
+    average_most list.error (drift_in list (length list.slots)) (after_average list) (round_up list up) some
+    (omega (arith, ints))
+average_width list false up some = omega (arith, ints)
 
-Uncorrected-same : (list : Medl) (group : ℕ → Type 0) (s t m : ℕ) (clock same : ℕ → ℤ) (notes : ℕ → List ℤ)
-    → ((k : ℕ) → group k → same k ≡ clock k)
-    → Uncorrected list group s t m clock notes → Uncorrected list group s t m same notes
-Uncorrected-same list group s t m clock same notes is held = record {
-  apart = AreWithin-same group clock same (drifted list (after_average list) m) is held.apart;
-  first = λ early. AreWithin-same group clock same (drifted list (list.error +ℤ list.error) m) is (held.first early);
-  frames = held.frames;
-  located = λ k p. subst (λ z. Locate (list.error +ℤ drift_in list (suc m)) z (notes k) held.frames) (sym (is k p))
-      (held.located k p);
+-- clocks before a round's first slot
+held_anew : (list : Medl) (may_grow : Bool) (group : ℕ → Type 0) (l t : ℕ) (width : ℤ) (clock : ℕ → ℤ)
+    → pos 0 ≤ℤ list.drift → IsWidth list may_grow l t 0 width → AreWithin group clock width
+    → Held list may_grow group l t 0 width clock (λ k. [])
+held_anew list may_grow group l t width clock up wide apart = record {
+  wide = wide;
+  apart = λ j k a b. anew_apart (drift_in list 0) (clock j -ℤ clock k) width (product_none list.drift up)
+      (apart j k a b);
+  frames = [];
+  located = λ k a. tt;
+  alike = λ fixed j k a b. refl;
+  near = λ grows j k a b. near_nothing (drifted list (width +ℤ list.error) 0) (clock j) (clock k);
 }
 
--- what the end of a slot corrects: the average of the notes in the last slot of a round
-abbrev pub correction : Medl → ℕ → List ℤ → ℤ
-correction list m notes = cond (suc m == length list.slots) (fta notes) (pos 0)
-
-corrected_last : (list : Medl) (m : ℕ) (notes : List ℤ) (z c : ℤ) → (suc m == length list.slots) ≡ true
-    → c ≡ z +ℤ correction list m notes → c ≡ z +ℤ fta notes
-corrected_last list m notes z c last is = is ∙ ap (λ b. z +ℤ cond b (fta notes) (pos 0)) last
-
-corrected_inside : (list : Medl) (m : ℕ) (notes : List ℤ) (z c : ℤ) → (suc m == length list.slots) ≡ false
-    → c ≡ z +ℤ correction list m notes → c ≡ z
-corrected_inside list m notes z c inside is = is ∙ ap (λ b. z +ℤ cond b (fta notes) (pos 0)) inside ∙ plus_none z
-
--- so the group is held after the slot
-pub held_after : (list : Medl) (group : ℕ → Type 0) (s t m : ℕ) (clock after : ℕ → ℤ) (notes : ℕ → List ℤ)
-    → m < length list.slots
-    → Uncorrected list group s t m clock notes
-    → (suc m ≡ length list.slots → s + length list.slots < t → (k : ℕ) → group k → 4 ≤ length (notes k))
-    → ((k : ℕ) → group k → after k ≡ clock k +ℤ correction list m (notes k)) → Held list group s t m after notes
-held_after list group s t m clock after notes inside held enough is = by_test (suc m == length list.slots) refl
-  where
-    by_test : (b : Bool) → (suc m == length list.slots) ≡ b → Held list group s t m after notes
-    by_test true last =
-        let ends : suc m ≡ length list.slots = eqb-true (suc m) (length list.slots) last in
-        Corrected ends (AreWithin-same group (λ k. clock k +ℤ fta (notes k)) after (after_average list)
-        (λ k p. corrected_last list m (notes k) (clock k) (after k) last (is k p))
-        (averaged list group s t m clock notes ends held (enough ends)))
-    by_test false before =
-        let other : suc m ≢ length list.slots = eqb-false (suc m) (length list.slots) before in
-        Running (omega (arith, inside, other))
-        (Uncorrected-same list group s t m clock after notes
-        (λ k p. corrected_inside list m (notes k) (clock k) (after k) before (is k p)) held)
+-- at the end of a round each takes its average; there are four notes or more, but in the round of the newest entry
+pub held_corrected : (list : Medl) (may_grow : Bool) (group : ℕ → Type 0) (l t : ℕ) (width : ℤ) (clock : ℕ → ℤ)
+    (notes : ℕ → List ℤ) → pos 0 ≤ℤ list.drift → pos 0 ≤ℤ list.error → l < t
+    → Held list may_grow group l t (length list.slots) width clock notes
+    → (l + length list.slots < t → (k : ℕ) → group k → 4 ≤ length (notes k))
+    → (next : ℤ) × Held list may_grow group l t 0 next (λ k. clock k +ℤ fta (notes k)) (λ k. [])
+held_corrected list may_grow group l t width clock notes up some began held enough =
+    elim (early_or_late t (l + length list.slots)) [
+      | inl early ↦ (
+        most_width list may_grow,
+        held_anew list may_grow group l t (most_width list may_grow) (λ k. clock k +ℤ fta (notes k)) up
+            (record {
+              entry = λ now. absurd (omega (arith, now, began));
+              most = omega (arith, ints);
+              settled = λ late. absurd (omega (arith, late, early));
+            })
+            (averaged_early list may_grow group l t width clock notes up some early held),
+      )
+      | inr late ↦ (
+        after_average list,
+        held_anew list may_grow group l t (after_average list) (λ k. clock k +ℤ fta (notes k)) up
+            (record {
+              entry = λ now. absurd (omega (arith, now, began));
+              most = average_width list may_grow up some;
+              settled = λ long. omega (arith, ints);
+            })
+            (λ j k a b. both_corrected list group clock notes held.frames held.located j k a b (enough late j a)
+            (enough late k b)),
+      )
+    ]
 
 -- The spread.
 
-running_bound : (z n o e : ℤ) → z ≤ℤ (((n +ℤ n) +ℤ ((e +ℤ e) +ℤ pos 1)) +ℤ (o +ℤ o)) → o ≤ℤ n
+settled_bound : (z n o v e : ℤ) → z ≤ℤ (v +ℤ (o +ℤ o)) → v ≤ℤ ((n +ℤ n) +ℤ ((e +ℤ e) +ℤ pos 1)) → o ≤ℤ n
     → z ≤ℤ (((n +ℤ n) +ℤ (n +ℤ n)) +ℤ (e *ℤ pos 2 +ℤ pos 1))
-running_bound z n o e h below = omega (arith, ints, h, below)
+settled_bound z n o v e h narrow below = omega (arith, ints, h, narrow, below)
 
-corrected_bound : (z n e : ℤ) → z ≤ℤ ((n +ℤ n) +ℤ ((e +ℤ e) +ℤ pos 1)) → pos 0 ≤ℤ n
-    → z ≤ℤ (((n +ℤ n) +ℤ (n +ℤ n)) +ℤ (e *ℤ pos 2 +ℤ pos 1))
-corrected_bound z n e h up = omega (arith, ints, h, up)
+most_bound : (z n o v e : ℤ) → z ≤ℤ (v +ℤ (o +ℤ o))
+    → v ≤ℤ (((n +ℤ n) +ℤ ((e +ℤ e) +ℤ pos 1)) +ℤ ((n +ℤ n) +ℤ (e +ℤ e))) → o ≤ℤ n
+    → z ≤ℤ (((n +ℤ n) +ℤ ((n +ℤ n) +ℤ (n +ℤ n))) +ℤ (e *ℤ pos 4 +ℤ pos 1))
+most_bound z n o v e h narrow below = omega (arith, ints, h, narrow, below)
 
 share_bound : (d : ℤ) (n : ℕ) (e z : ℤ) → pos 0 ≤ℤ d
     → z ≤ℤ (((d *ℤ pos n +ℤ d *ℤ pos n) +ℤ (d *ℤ pos n +ℤ d *ℤ pos n)) +ℤ (e *ℤ pos 2 +ℤ pos 1))
     → z ≤ℤ (d *ℤ pos (4 * n) +ℤ (e *ℤ pos 2 +ℤ pos 1))
 share_bound d n e z up h = rw (product_four d n up) h
 
-pub held_within : (list : Medl) (group : ℕ → Type 0) (s t m : ℕ) (clock : ℕ → ℤ) (notes : ℕ → List ℤ)
-    → pos 0 ≤ℤ list.drift → Held list group s t m clock notes
+share_most : (d : ℤ) (n : ℕ) (e z : ℤ) → pos 0 ≤ℤ d
+    → z ≤ℤ (((d *ℤ pos n +ℤ d *ℤ pos n) +ℤ ((d *ℤ pos n +ℤ d *ℤ pos n) +ℤ (d *ℤ pos n +ℤ d *ℤ pos n)))
+    +ℤ (e *ℤ pos 4 +ℤ pos 1))
+    → z ≤ℤ (d *ℤ pos (6 * n) +ℤ (e *ℤ pos 4 +ℤ pos 1))
+share_most d n e z up h = rw (product_six d n up) h
+
+-- a company's clocks before a slot
+pub settled_within : (list : Medl) (may_grow : Bool) (group : ℕ → Type 0) (l t q : ℕ) (width : ℤ) (clock : ℕ → ℤ)
+    (notes : ℕ → List ℤ) → pos 0 ≤ℤ list.drift → q < length list.slots
+    → (may_grow ≡ false) ⊎ (l + length list.slots + q < t) → Held list may_grow group l t q width clock notes
     → AreWithin group clock (spread list)
-held_within list group s t m clock notes up (Corrected ends apart) =
-    λ j k p q. share_bound list.drift (length list.slots) list.error (clock j -ℤ clock k) up
-    (corrected_bound (clock j -ℤ clock k) (drift_in list (length list.slots)) list.error (apart j k p q)
-    (product_up list.drift (length list.slots) up))
-held_within list group s t m clock notes up (Running inside held) =
-    λ j k p q. share_bound list.drift (length list.slots) list.error (clock j -ℤ clock k) up
-    (running_bound (clock j -ℤ clock k) (drift_in list (length list.slots)) (drift_in list (suc m)) list.error
-    (held.apart j k p q)
-    (product_upto list.drift (suc m) (length list.slots) up (omega (arith, inside))))
+settled_within list may_grow group l t q width clock notes up inside settled held j k a b =
+    share_bound list.drift (length list.slots) list.error (clock j -ℤ clock k) up
+    (settled_bound (clock j -ℤ clock k) (drift_in list (length list.slots)) (drift_in list q) width list.error
+    (held.apart j k a b) narrow (product_upto list.drift q (length list.slots) up (omega (arith, inside))))
+  where
+    fixed_width : may_grow ≡ false → width ≤ℤ after_average list
+    fixed_width fixed = subst (λ b. width ≤ℤ most_width list b) fixed held.wide.most
+
+    narrow : width ≤ℤ after_average list
+    narrow = elim settled [
+      | inl fixed ↦ fixed_width fixed
+      | inr late ↦ held.wide.settled late
+    ]
+
+most_true : (list : Medl) (may_grow : Bool) → pos 0 ≤ℤ list.drift → pos 0 ≤ℤ list.error
+    → most_width list may_grow ≤ℤ most_width list true
+most_true list true up some = omega (arith, ints)
+most_true list false up some = average_width list true up some
+
+pub company_within : (list : Medl) (may_grow : Bool) (group : ℕ → Type 0) (l t q : ℕ) (width : ℤ) (clock : ℕ → ℤ)
+    (notes : ℕ → List ℤ) → pos 0 ≤ℤ list.drift → pos 0 ≤ℤ list.error → q < length list.slots
+    → Held list may_grow group l t q width clock notes → AreWithin group clock (spread_rejoining list)
+company_within list may_grow group l t q width clock notes up some inside held j k a b =
+    share_most list.drift (length list.slots) list.error (clock j -ℤ clock k) up
+    (most_bound (clock j -ℤ clock k) (drift_in list (length list.slots)) (drift_in list q) width list.error
+    (held.apart j k a b)
+    (over_of width (most_width list may_grow) (most_width list true) held.wide.most
+    (most_true list may_grow up some)) (product_upto list.drift q (length list.slots) up (omega (arith, inside))))

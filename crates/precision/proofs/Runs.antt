@@ -1,32 +1,38 @@
--- Nodes that run together: in each slot all are at the same place, and their clocks are held.
-use Rattle.std.proofs.Common.{◌≡◌, ◌≢◌, ℕ, suc, ◌+◌, ◌<◌, ◌≤◌, ℤ, pos, ◌+ℤ◌, ◌-ℤ◌, ◌*ℤ◌, ◌≤ℤ◌, Bool, true, false, inl}
-use Rattle.std.proofs.Common.{inr, List, [], ◌∷◌, length, None, refl, ap, sym, subst, ◌∙◌, arith}
-use Rattle.std.specs.Prelude.{◌==◌}
-use Rattle.std.proofs.lemmas.Bool.{cond_both, eqb-true, eqb-false}
+-- Nodes that run as a company: in each slot all are at the same place, and their clocks are held.
+use Rattle.std.proofs.Common.{◌≡◌, ◌≢◌, ℕ, suc, ◌+◌, ◌*◌, ◌<◌, ◌≤◌, ℤ, pos, ◌+ℤ◌, ◌-ℤ◌, ◌*ℤ◌, ◌≤ℤ◌, Bool, true, false}
+use Rattle.std.proofs.Common.{◌⊎◌, inl, inr, List, [], ◌∷◌, ◌++◌, length, None, cond, refl, ap, sym, subst, ◌∙◌, arith}
+use Rattle.std.specs.Prelude.{◌==◌, ◌||◌, All, IsTrue}
+use Rattle.std.proofs.lemmas.Bool.{cond_both, eqb-true, eqb-false, false≢true}
 use Rattle.std.proofs.lemmas.Int.{ints}
+use Rattle.std.proofs.lemmas.List.Elements.{All-nil, All-cons}
 use Rattle.ttp_world.specs.declared.medl.Medl.{Medl}
 use Rattle.ttp_world.specs.declared.node.Entry.{Entry}
 use Rattle.ttp_world.specs.declared.script.Script.{Script}
 use Rattle.ttp_world.specs.After.{is_active_entry}
-use Rattle.ttp_world.specs.Clock.{join_deviation, notes_in, stint_notes, offset_of}
+use Rattle.ttp_world.specs.Clock.{join_deviation, notes_in, begins_round, stint_notes, offset_of, fta}
 use Rattle.ttp_world.specs.Diary.{History, entry_of, diary_of, continues_stint, begins_stint, Place, next_place}
 use Rattle.ttp_world.specs.Diary.{stint_place, place_of, ends_round}
 use Rattle.ttp_world.specs.Hypothesis.{drift_share, needed, clocks_broken}
 use Rattle.ttp_world.specs.Medium.{surroundings_in, surroundings_of}
-use Rattle.ttp_world.specs.Medl.{IsValid}
+use Rattle.ttp_world.specs.Medl.{IsValid, plan_at}
 use Rattle.ttp_world.specs.Script.{drift_of, jump_of, reading_error}
-use Rattle.precision.specs.Spread.{spread}
-use Rattle.precision.specs.Together.{IsIn, BeganTogether, NotedAlike, Nothing, OneFrame, StayedTogether, RanTogether}
-use Rattle.precision.specs.Together.{NoneJumps, IsCommonRun, clock_at, HoldsClocksWithin, HoldsDeviationsWithin}
+use Rattle.precision.specs.Spread.{spread, spread_rejoining, needed_rejoining}
+use Rattle.precision.specs.Together.{IsIn, BeganTogether, NotedAlike, Nothing, OneFrame, TellsOf, BeginsOn}
+use Rattle.precision.specs.Together.{StayedTogether, RanTogether}
+use Rattle.precision.specs.Together.{NoneJumps, IsCommonRun, clock_at, measured, HoldsClocksWithin, HoldsDeviationsWithin}
+use Rattle.precision.specs.Company.{AreCalm, IsCalmIn, IsNotedOf, StayedInCompany, GrewTogether, RanAsCompany}
+use Rattle.precision.specs.Company.{IsCompanyRun, IsSettled, HoldsCompanyClocksWithin, HoldsSettledClocksWithin}
+use Rattle.precision.specs.Company.{HoldsCompanyDeviationsWithin, HoldsSettledDeviationsWithin}
 use Rattle.precision.proofs.Averages.{IsUpTo, Locate}
-use Rattle.precision.proofs.Frames.{frame_of, frame_of-node, RunsFrom, moved, begun_stint, begun_place, begun_near}
-use Rattle.precision.proofs.Frames.{frames_at, begun_noted, told_noted, joins_nothing}
+use Rattle.precision.proofs.Frames.{frame_of, frame_of-node, RunsFrom, moved, begun_stint, begun_place, begun_set}
+use Rattle.precision.proofs.Frames.{begun_near, frames_at, begun_noted, told_noted, told_goes, joins_nothing}
 use Rattle.precision.proofs.ClockBounds.{drift_within, error_within}
-use Rattle.precision.proofs.Rounds.{HaveNoted, Uncorrected, Held, Corrected, Running, inside_round, new_round}
-use Rattle.precision.proofs.Rounds.{begun_round, correction, held_after, same_apart, held_within}
+use Rattle.precision.proofs.Rounds.{Held, Slot, IsSame, Comes, WasThere, IsNew, held_part, held_begun, held_next}
+use Rattle.precision.proofs.Rounds.{held_grown, held_corrected, frame_come, correction, corrected_last, corrected_inside}
+use Rattle.precision.proofs.Rounds.{drift_in, drifted, entry_width, product_twice, plus_none, same_apart}
+use Rattle.precision.proofs.Rounds.{settled_within, company_within}
 use Rattle.precision.proofs.Entries.{begun_active, continued_active, place_of-active, notes_of-active, place_continued}
-use Rattle.precision.proofs.Entries.{notes_anew, notes_more, begun_round_first, first_slot_first, later_slot_later}
-use Rattle.precision.proofs.Entries.{offset_corrected, clock_at-still}
+use Rattle.precision.proofs.Entries.{begins_no_stint, notes_next, begun_round_first, offset_corrected, clock_at-still}
 
 -- node k's clock after a history, and its notes of the newest slot's round
 abbrev pub clock_after : Medl → Script → History → ℕ → ℤ
@@ -35,19 +41,27 @@ clock_after list script history k = offset_of list k (diary_of history k) (surro
 abbrev pub round_notes : Medl → History → ℕ → List ℤ
 round_notes list history k = stint_notes list k (diary_of history k)
 
+-- its notes of the round of a coming slot at this place
+abbrev notes_before : Medl → History → Place → ℕ → List ℤ
+notes_before list history place k = cond (place.slot == 0) [] (round_notes list history k)
+
 -- the group is at one place, and its clocks are held
-record Kept (list : Medl) (script : Script) (group : ℕ → Bool) (s : ℕ) (history : History) : Type 0 where
+record Kept (list : Medl) (script : Script) (may_grow : Bool) (group : ℕ → Bool) (l : ℕ) (history : History)
+    : Type 0 where
+  -- of the coming slot
   place : Place
   inside : place.slot < length list.slots
-  places : (k : ℕ) → IsIn list group k → stint_place list k (diary_of history k) ≡ place
-  held : Held list (IsIn list group) s (length history) place.slot (clock_after list script history)
-      (round_notes list history)
+  places : (k : ℕ) → IsIn list group k → next_place list (stint_place list k (diary_of history k)) ≡ place
+  width : ℤ
+  held : Held list may_grow (IsIn list group) l (length history) place.slot width (clock_after list script history)
+      (notes_before list history place)
 
 -- each node of it runs within its bounds in the slot after a history, and doesn't jump
 record RunsOn (list : Medl) (script : Script) (group : ℕ → Bool) (history : History) : Type 0 where
   up : pos 0 ≤ℤ list.drift
+  error_up : pos 0 ≤ℤ list.error
   runs : (k : ℕ) → IsIn list group k → RunsFrom list script history k (clock_after list script history k)
-  still : (k : ℕ) → IsIn list group k → jump_of script k (length history) ≡ pos 0
+  calm : AreCalm list script group history
 
 -- The clock after one slot more.
 
@@ -63,63 +77,25 @@ clock_next list script row history k place still active is =
     ∙ ap (λ j. (clock_after list script history k +ℤ (j +ℤ (drift_of script k +ℤ join_deviation (entry_of row k))))
     +ℤ correction list place.slot (round_notes list (row ∷ history) k)) still
 
--- Beginning.
+-- One slot more.
 
-began_kept : (list : Medl) (script : Script) (group : ℕ → Bool) (s : ℕ) (row : List Entry) (history : History)
-    → length history ≡ s → RunsOn list script group history
-    → BeganTogether list script group row history → Kept list script group s (row ∷ history)
-began_kept list script group s row history first on began = record {
-  place = place;
-  inside = began.inside;
-  places = places;
-  held = held_after list (IsIn list group) s (suc (length history)) place.slot clock
-      (clock_after list script (row ∷ history)) (round_notes list (row ∷ history)) began.inside
-      (begun_round list (IsIn list group) s (suc (length history)) place.slot frame clock
-      (round_notes list (row ∷ history)) (frames_at list place frame) on.up near
-      (λ k p. subst (λ ns. Locate (list.error +ℤ list.drift) (clock k) ns (frames_at list place frame))
-      (sym (notes k p))
-      (begun_noted list script history began.sender k place (list.error +ℤ list.drift) (clock k) frame (entry_of row k)
-      (began.begins k p) (near k p))))
-      (λ ends late k p. absurd (omega (arith, late, first, began.inside)))
-      (λ k p. clock_next list script row history k place (on.still k p) (begun_active (entry_of row k) (begins k p))
-      (places k p));
-}
-  where
-    place : Place
-    place = began.place
+-- the clock in the slot as it is set by a frame on which the node joins, before it drifts, and after it
+abbrev set_clock : Medl → Script → List Entry → History → ℕ → ℤ
+set_clock list script row history k = clock_after list script history k +ℤ join_deviation (entry_of row k)
 
-    frame : ℤ
-    frame = frame_of list script history began.sender
+abbrev later_clock : Medl → Script → List Entry → History → ℕ → ℤ
+later_clock list script row history k =
+    moved script k (clock_after list script history k) (join_deviation (entry_of row k))
 
-    clock : ℕ → ℤ
-    clock k = moved script k (clock_after list script history k) (join_deviation (entry_of row k))
+-- the notes of the slot's round that were before it
+abbrev carried : Medl → List Entry → History → Place → ℕ → List ℤ
+carried list row history place k = cond (begins_round place (entry_of row k)) [] (round_notes list history k)
 
-    begins : (k : ℕ) → IsIn list group k → begins_stint (entry_of row k) ≡ true
-    begins k p = begun_stint list script history began.sender k began.place (entry_of row k) (began.begins k p)
+abbrev added : Medl → List Entry → Place → ℕ → List ℤ
+added list row place k = notes_in list place (entry_of row k)
 
-    places : (k : ℕ) → IsIn list group k → stint_place list k (diary_of (row ∷ history) k) ≡ began.place
-    places k p =
-        begun_place list script history began.sender k began.place (diary_of history k) (entry_of row k)
-        (began.begins k p)
-
-    notes : (k : ℕ) → IsIn list group k → round_notes list (row ∷ history) k
-        ≡ notes_in list began.place (entry_of row k)
-    notes k p =
-        notes_anew list k (diary_of history k) (entry_of row k) began.place (places k p)
-        (begun_round_first began.place (entry_of row k) (begins k p))
-
-    near : (k : ℕ) → IsIn list group k → IsUpTo (list.error +ℤ list.drift) (clock k -ℤ frame)
-    near k p =
-        begun_near list script history began.sender k began.place (clock_after list script history k) (entry_of row k)
-        (on.runs k p) (began.begins k p)
-
--- Going on.
-
-same_test : (m n : ℕ) → m ≡ n → (m == n) ≡ true
-same_test m n is = grind arith
-
-drift_moves : (o d q : ℤ) → IsUpTo q d → IsUpTo q ((o +ℤ (pos 0 +ℤ (d +ℤ pos 0))) -ℤ o)
-drift_moves o d q h = (omega (arith, ints, h.0, h.1), omega (arith, ints, h.0, h.1))
+drift_moves : (o d q v : ℤ) → IsUpTo q d → IsUpTo q ((o +ℤ (pos 0 +ℤ (d +ℤ v))) -ℤ (o +ℤ v))
+drift_moves o d q v h = (omega (arith, ints, h.0, h.1), omega (arith, ints, h.0, h.1))
 
 next_first : (list : Medl) (place : Place) → suc place.slot ≡ length list.slots → (next_place list place).slot ≡ 0
 next_first list place ends =
@@ -132,60 +108,6 @@ next_later list place less =
     cond_both (suc place.slot == length list.slots) _ _ (λ (there : Place). there.slot ≡ suc place.slot)
     (λ last. absurd (omega (arith, less, eqb-true (suc place.slot) (length list.slots) last))) (λ other. omega arith)
 
--- the clocks of a group that goes on, but for their correction
-abbrev clock_moved : Medl → Script → History → ℕ → ℤ
-clock_moved list script history k = moved script k (clock_after list script history k) (pos 0)
-
--- what the group notes in the slot tells of the same frames
-noted_alike : (list : Medl) (script : Script) (group : ℕ → Bool) (row : List Entry) (history : History) (place : Place)
-    → RunsOn list script group history
-    → ((k : ℕ) → IsIn list group k → place_of list k (diary_of (row ∷ history) k) ≡ place)
-    → NotedAlike list script group row history
-    → (new : List ℤ)
-    × HaveNoted (IsIn list group) (list.error +ℤ list.drift) (clock_moved list script history)
-    (λ k. notes_in list place (entry_of row k)) new
-noted_alike list script group row history place on places (Nothing none) = (
-  [],
-  λ k p. subst (λ ns. Locate (list.error +ℤ list.drift) (clock_moved list script history k) ns [])
-      (sym (none k p) ∙ ap (λ there. notes_in list there (entry_of row k)) (places k p)) tt,
-)
-noted_alike list script group row history place on places (OneFrame p tells) = (
-  frames_at list place (frame_of list script history p),
-  λ k q. told_noted list script history p k place
-      (clock_after list script history k) (entry_of row k) (on.runs k q) (tells k q),
-)
-
--- the clocks and notes after the slot but for the correction
-stayed_uncorrected : (list : Medl) (script : Script) (group : ℕ → Bool) (s : ℕ) (row : List Entry) (history : History)
-    (place : Place) (new : List ℤ)
-    → RunsOn list script group history → s < length history
-    → ((k : ℕ) → IsIn list group k → continues_stint (entry_of row k) ≡ true)
-    → ((k : ℕ) → IsIn list group k → stint_place list k (diary_of (row ∷ history) k) ≡ next_place list place)
-    → HaveNoted (IsIn list group) (list.error +ℤ list.drift) (clock_moved list script history)
-    (λ k. notes_in list (next_place list place) (entry_of row k)) new
-    → Held list (IsIn list group) s (length history) place.slot (clock_after list script history)
-    (round_notes list history)
-    → Uncorrected list (IsIn list group) s (suc (length history)) (next_place list place).slot
-    (clock_moved list script history) (round_notes list (row ∷ history))
-stayed_uncorrected list script group s row history place new on later goes places noted (Corrected ends apart) =
-    subst (λ m. Uncorrected list (IsIn list group) s (suc (length history)) m (clock_moved list script history)
-    (round_notes list (row ∷ history))) (sym (next_first list place ends))
-    (new_round list (IsIn list group) s (length history) (clock_after list script history)
-    (clock_moved list script history) (λ k. notes_in list (next_place list place) (entry_of row k))
-    (round_notes list (row ∷ history)) new on.up later apart
-    (λ k p. drift_moves (clock_after list script history k) (drift_of script k) list.drift (on.runs k p).drift) noted
-    (λ k p. notes_anew list k (diary_of history k) (entry_of row k) (next_place list place) (places k p)
-    (first_slot_first (next_place list place) (entry_of row k) (next_first list place ends))))
-stayed_uncorrected list script group s row history place new on later goes places noted (Running less held) =
-    subst (λ m. Uncorrected list (IsIn list group) s (suc (length history)) m (clock_moved list script history)
-    (round_notes list (row ∷ history))) (sym (next_later list place less))
-    (inside_round list (IsIn list group) s (length history) place.slot (clock_after list script history)
-    (clock_moved list script history) (round_notes list history)
-    (λ k. notes_in list (next_place list place) (entry_of row k)) (round_notes list (row ∷ history)) new on.up held
-    (λ k p. drift_moves (clock_after list script history k) (drift_of script k) list.drift (on.runs k p).drift) noted
-    (λ k p. notes_more list k (diary_of history k) (entry_of row k) (next_place list place) (places k p)
-    (later_slot_later (next_place list place) (entry_of row k) place.slot (next_later list place less) (goes k p))))
-
 next_inside : (list : Medl) (place : Place) → place.slot < length list.slots
     → (next_place list place).slot < length list.slots
 next_inside list place inside =
@@ -197,134 +119,581 @@ next_inside list place inside =
         let apart : suc place.slot ≢ length list.slots = eqb-false (suc place.slot) (length list.slots) other in
         omega (arith, inside, apart)
 
-stayed_kept : (list : Medl) (script : Script) (group : ℕ → Bool) (s : ℕ) (row : List Entry) (history : History)
-    → s < length history → RunsOn list script group history
-    → StayedTogether list script group s row history → Kept list script group s history
-    → Kept list script group s (row ∷ history)
-stayed_kept list script group s row history later on stayed before = record {
-  place = next_place list before.place;
-  inside = next_inside list before.place before.inside;
-  places = places;
-  held = held_after list (IsIn list group) s (suc (length history)) (next_place list before.place).slot
-      (clock_moved list script history) (clock_after list script (row ∷ history))
-      (round_notes list (row ∷ history)) (next_inside list before.place before.inside)
-      (stayed_uncorrected list script group s row history before.place told.0 on later stayed.active places told.1
-      before.held)
-      enough
-      (λ k p. clock_next list script row history k (next_place list before.place) (on.still k p)
-      (continued_active (entry_of row k) (stayed.active k p)) (places k p)
-      ∙ ap (λ z. moved script k (clock_after list script history k) z
-      +ℤ correction list (next_place list before.place).slot (round_notes list (row ∷ history) k))
-      (joins_nothing (entry_of row k) (stayed.active k p)));
+suc_some : (m : ℕ) → (suc m == 0) ≡ false
+suc_some m = grind arith
+
+before_first : (list : Medl) (history : History) (place : Place) (k : ℕ) → place.slot ≡ 0
+    → notes_before list history place k ≡ []
+before_first list history place k first = ap (λ m. cond (m == 0) [] (round_notes list history k)) first
+
+before_later : (list : Medl) (history : History) (place : Place) (k m : ℕ) → place.slot ≡ suc m
+    → notes_before list history place k ≡ round_notes list history k
+before_later list history place k m later =
+    ap (λ q. cond (q == 0) [] (round_notes list history k)) later
+    ∙ ap (λ b. cond b [] (round_notes list history k)) (suc_some m)
+
+-- what a slot makes of a group that is at one place in it
+record IsAt (list : Medl) (script : Script) (group : ℕ → Bool) (l : ℕ) (row : List Entry) (history : History)
+    (place : Place) : Type 0 where
+  on : RunsOn list script group history
+  began : l ≤ length history
+  inside : place.slot < length list.slots
+  active : (k : ℕ) → IsIn list group k → is_active_entry (entry_of row k) ≡ true
+  places : (k : ℕ) → IsIn list group k → stint_place list k (diary_of (row ∷ history) k) ≡ place
+  enough : suc place.slot ≡ length list.slots → l + length list.slots < suc (length history)
+      → (k : ℕ) → IsIn list group k
+      → 4 ≤ length (round_notes list (row ∷ history) k)
+
+after_slot : (list : Medl) (script : Script) (may_grow : Bool) (group : ℕ → Bool) (l : ℕ) (row : List Entry)
+    (history : History) (place : Place) (width : ℤ)
+    → IsAt list script group l row history place
+    → Held list may_grow (IsIn list group) l (length history) place.slot width (set_clock list script row history)
+    (carried list row history place)
+    → Slot list may_grow (IsIn list group) (drifted list width place.slot) (set_clock list script row history)
+    (later_clock list script row history) (added list row place)
+    → Kept list script may_grow group l (row ∷ history)
+after_slot list script may_grow group l row history place width at held slot = record {
+  place = next_place list place;
+  inside = next_inside list place at.inside;
+  places = λ k p. ap (next_place list) (at.places k p);
+  width = after.0;
+  held = after.1;
 }
   where
-    places : (k : ℕ) → IsIn list group k → stint_place list k (diary_of (row ∷ history) k)
-        ≡ next_place list before.place
+    next : Held list may_grow (IsIn list group) l (suc (length history)) (suc place.slot)
+        width (later_clock list script row history) (round_notes list (row ∷ history))
+    next =
+        held_next list may_grow (IsIn list group) l (length history) place.slot width (set_clock list script row history)
+        (later_clock list script row history) (carried list row history place) (added list row place)
+        (round_notes list (row ∷ history)) at.on.up held slot
+        (λ k p. notes_next list k (diary_of history k) (entry_of row k) place (at.places k p))
+
+    moves : (k : ℕ) → IsIn list group k → clock_after list script (row ∷ history) k
+        ≡ later_clock list script row history k
+        +ℤ correction list place.slot (round_notes list (row ∷ history) k)
+    moves k p = clock_next list script row history k place (at.on.calm k p) (at.active k p) (at.places k p)
+
+    by_test : (b : Bool) → (suc place.slot == length list.slots) ≡ b
+        → (w : ℤ) × Held list may_grow (IsIn list group) l (suc (length history)) (next_place list place).slot w
+        (clock_after list script (row ∷ history)) (notes_before list (row ∷ history) (next_place list place))
+    by_test true last =
+        let ends : suc place.slot ≡ length list.slots = eqb-true (suc place.slot) (length list.slots) last in
+        let average = held_corrected list may_grow (IsIn list group) l (suc (length history)) width
+        (later_clock list script row history) (round_notes list (row ∷ history)) at.on.up at.on.error_up
+        (omega (arith, at.began))
+        (subst (λ q. Held list may_grow (IsIn list group) l (suc (length history)) q width
+        (later_clock list script row history) (round_notes list (row ∷ history))) ends next) (at.enough ends) in (
+          average.0,
+          subst (λ q. Held list may_grow (IsIn list group) l (suc (length history)) q average.0
+              (clock_after list script (row ∷ history)) (notes_before list (row ∷ history) (next_place list place)))
+              (sym (next_first list place ends))
+              (held_part list may_grow (IsIn list group) (IsIn list group) l (suc (length history)) 0 average.0
+              (λ k. later_clock list script row history k +ℤ fta (round_notes list (row ∷ history) k))
+              (clock_after list script (row ∷ history)) (λ k. [])
+              (notes_before list (row ∷ history) (next_place list place))
+              (λ k p. record {
+                member = p;
+                same_clock = corrected_last list place.slot (round_notes list (row ∷ history) k)
+                    (later_clock list script row history k) (clock_after list script (row ∷ history) k) last (moves k p);
+                same_notes = before_first list (row ∷ history) (next_place list place) k (next_first list place ends);
+              }) average.1),
+        )
+    by_test false other =
+        let apart : suc place.slot ≢ length list.slots = eqb-false (suc place.slot) (length list.slots) other in
+        let later : (next_place list place).slot ≡ suc place.slot =
+        next_later list place (omega (arith, at.inside, apart)) in (
+          width,
+          subst (λ q. Held list may_grow (IsIn list group) l (suc (length history)) q width
+              (clock_after list script (row ∷ history)) (notes_before list (row ∷ history) (next_place list place)))
+              (sym later)
+              (held_part list may_grow (IsIn list group) (IsIn list group) l (suc (length history)) (suc place.slot) width
+              (later_clock list script row history) (clock_after list script (row ∷ history))
+              (round_notes list (row ∷ history)) (notes_before list (row ∷ history) (next_place list place))
+              (λ k p. record {
+                member = p;
+                same_clock = corrected_inside list place.slot (round_notes list (row ∷ history) k)
+                    (later_clock list script row history k) (clock_after list script (row ∷ history) k) other
+                    (moves k p);
+                same_notes = before_later list (row ∷ history) (next_place list place) k place.slot later;
+              }) next),
+        )
+
+    after : (w : ℤ) × Held list may_grow (IsIn list group) l (suc (length history)) (next_place list place).slot w
+        (clock_after list script (row ∷ history)) (notes_before list (row ∷ history) (next_place list place))
+    after = by_test (suc place.slot == length list.slots) refl
+
+-- Beginning.
+
+carried_begun : (list : Medl) (row : List Entry) (history : History) (place : Place) (k : ℕ)
+    → begins_stint (entry_of row k) ≡ true → carried list row history place k ≡ []
+carried_begun list row history place k begins =
+    ap (λ b. cond b [] (round_notes list history k)) (begun_round_first place (entry_of row k) begins)
+
+-- where a frame is noted, it is near a clock
+frames_near : (w x c : ℤ) (sync : Bool) → IsUpTo w (x -ℤ c) → All (λ y. IsUpTo w (y -ℤ c)) (cond sync (x ∷ []) [])
+frames_near w x c true near = All-cons (λ y. IsUpTo w (y -ℤ c)) x [] near (All-nil (λ y. IsUpTo w (y -ℤ c)))
+frames_near w x c false near = All-nil (λ y. IsUpTo w (y -ℤ c))
+
+begun_frame : (e d x c : ℤ) → IsUpTo e (c -ℤ x) → pos 0 ≤ℤ e → pos 0 ≤ℤ d → IsUpTo ((e +ℤ e) +ℤ d) (x -ℤ c)
+begun_frame e d x c h some up = (omega (arith, ints, h.0, h.1, some, up), omega (arith, ints, h.0, h.1, some, up))
+
+began_kept : (list : Medl) (script : Script) (may_grow : Bool) (group : ℕ → Bool) (l : ℕ) (row : List Entry)
+    (history : History) → length history ≡ l → RunsOn list script group history
+    → BeganTogether list script group row history → Kept list script may_grow group l (row ∷ history)
+began_kept list script may_grow group l row history first on began =
+    after_slot list script may_grow group l row history place width
+    (record {
+      on = on;
+      began = omega (arith, first);
+      inside = began.inside;
+      active = λ k p. begun_active (entry_of row k) (begins k p);
+      places = λ k p. begun_place list script history began.sender k place (diary_of history k) (entry_of row k)
+          (began.begins k p);
+      enough = λ ends late k p. absurd (omega (arith, late, first, began.inside));
+    }) held
+    (record {
+      moved = λ k p. drift_moves (clock_after list script history k) (drift_of script k) list.drift
+          (join_deviation (entry_of row k)) (on.runs k p).drift;
+      frames = frames_at list place frame;
+      noted = λ k p. begun_noted list script history began.sender k place (list.error +ℤ list.drift)
+          (later_clock list script row history k) frame (entry_of row k) (began.begins k p)
+          (begun_near list script history began.sender k place (clock_after list script history k) (entry_of row k)
+          (on.runs k p) (began.begins k p));
+      near = λ grows k p. frames_near (drifted list width place.slot) frame (set_clock list script row history k)
+          (plan_at list place.slot).sync
+          (begun_frame list.error (drift_in list place.slot +ℤ drift_in list place.slot) frame
+          (set_clock list script row history k) (set k p) on.error_up (product_twice list.drift place.slot on.up));
+    })
+  where
+    place : Place
+    place = began.place
+
+    width : ℤ
+    width = list.error +ℤ list.error
+
+    frame : ℤ
+    frame = frame_of list script history began.sender
+
+    begins : (k : ℕ) → IsIn list group k → begins_stint (entry_of row k) ≡ true
+    begins k p = begun_stint list script history began.sender k place (entry_of row k) (began.begins k p)
+
+    set : (k : ℕ) → IsIn list group k → IsUpTo list.error (set_clock list script row history k -ℤ frame)
+    set k p =
+        begun_set list script history began.sender k place (clock_after list script history k) (entry_of row k)
+        (on.runs k p) (began.begins k p)
+
+    held : Held list may_grow (IsIn list group) l (length history) place.slot width
+        (set_clock list script row history) (carried list row history place)
+    held =
+        held_part list may_grow (IsIn list group) (IsIn list group) l (length history) place.slot width
+        (set_clock list script row history) (set_clock list script row history) (λ k. [])
+        (carried list row history place)
+        (λ k p. record {
+          member = p;
+          same_clock = refl;
+          same_notes = carried_begun list row history place k (begins k p);
+        })
+        (held_begun list may_grow (IsIn list group) l (length history) place.slot frame
+        (set_clock list script row history) first on.up on.error_up set)
+
+-- Going on.
+
+same_test : (m n : ℕ) → m ≡ n → (m == n) ≡ true
+same_test m n is = grind arith
+
+or_none : (b : Bool) → (b || false) ≡ b
+or_none b = grind arith
+
+-- a node that goes on is as it was
+goes_same : (list : Medl) (script : Script) (before : ℕ → Bool) (row : List Entry) (history : History) (place : Place)
+    (k : ℕ) → IsIn list before k → continues_stint (entry_of row k) ≡ true
+    → IsSame (IsIn list before) (clock_after list script history) (set_clock list script row history)
+    (notes_before list history place) (carried list row history place) k
+goes_same list script before row history place k member goes = record {
+  member = member;
+  same_clock = ap (λ z. clock_after list script history k +ℤ z) (joins_nothing (entry_of row k) goes)
+      ∙ plus_none (clock_after list script history k);
+  same_notes = ap (λ b. cond ((place.slot == 0) || b) [] (round_notes list history k))
+      (begins_no_stint (entry_of row k) goes)
+      ∙ ap (λ b. cond b [] (round_notes list history k)) (or_none (place.slot == 0));
+}
+
+-- it tells of a frame
+goes_noted : (list : Medl) (script : Script) (row : List Entry) (history : History) (place : Place) (p k : ℕ)
+    → RunsFrom list script history k (clock_after list script history k)
+    → TellsOf list script history p k (entry_of row k)
+    → Locate (list.error +ℤ list.drift) (later_clock list script row history k) (added list row place k)
+    (frames_at list place (frame_of list script history p))
+goes_noted list script row history place p k runs tells =
+    subst (λ z. Locate (list.error +ℤ list.drift) (moved script k (clock_after list script history k) z)
+    (added list row place k) (frames_at list place (frame_of list script history p)))
+    (sym (joins_nothing (entry_of row k) (told_goes list script history p k (entry_of row k) tells)))
+    (told_noted list script history p k place (clock_after list script history k) (entry_of row k) runs tells)
+
+-- the frame of a node that doesn't jump in the slot
+frame_calm : (list : Medl) (script : Script) (before : ℕ → Bool) (history : History) (p : ℕ)
+    → IsCalmIn list script before history p → frame_of list script history p ≡ clock_after list script history p
+frame_calm list script before history p calm =
+    frame_of-node list script history p calm.0.0 ∙ clock_at-still list script history p calm.1
+
+frame_between : (w x c b k : ℤ) → x ≡ c → k ≡ b → (c -ℤ b) ≤ℤ w → (b -ℤ c) ≤ℤ w → IsUpTo w (x -ℤ k)
+frame_between w x c b k is was h g = (omega (arith, ints, is, was, h, g), omega (arith, ints, is, was, h, g))
+
+stayed_slot : (list : Medl) (script : Script) (may_grow : Bool) (before group : ℕ → Bool) (l : ℕ) (row : List Entry)
+    (history : History) (place : Place) (width : ℤ)
+    → RunsOn list script group history
+    → ((k : ℕ) → IsIn list group k → place_of list k (diary_of (row ∷ history) k) ≡ place)
+    → (same : (k : ℕ) → IsIn list group k
+    → IsSame (IsIn list before) (clock_after list script history) (set_clock list script row history)
+    (notes_before list history place) (carried list row history place) k)
+    → ((j k : ℕ) → IsIn list before j → IsIn list before k
+    → (clock_after list script history j -ℤ clock_after list script history k) ≤ℤ drifted list width place.slot)
+    → (noted : NotedAlike list script group row history)
+    → (IsTrue may_grow → IsNotedOf list script before group row history noted)
+    → Slot list may_grow (IsIn list group) (drifted list width place.slot) (set_clock list script row history)
+    (later_clock list script row history) (added list row place)
+stayed_slot list script may_grow before group l row history place width on places same apart (Nothing none) from =
+    record {
+      moved = λ k p. drift_moves (clock_after list script history k) (drift_of script k) list.drift
+          (join_deviation (entry_of row k)) (on.runs k p).drift;
+      frames = [];
+      noted = λ k p. subst (λ ns. Locate (list.error +ℤ list.drift) (later_clock list script row history k) ns [])
+          (sym (none k p) ∙ ap (λ there. notes_in list there (entry_of row k)) (places k p)) tt;
+      near = λ grows k p. All-nil (λ y. IsUpTo (drifted list width place.slot)
+          (y -ℤ set_clock list script row history k));
+    }
+stayed_slot list script may_grow before group l row history place width on places same apart (OneFrame p tells) from =
+    record {
+      moved = λ k q. drift_moves (clock_after list script history k) (drift_of script k) list.drift
+          (join_deviation (entry_of row k)) (on.runs k q).drift;
+      frames = frames_at list place (frame_of list script history p);
+      noted = λ k q. goes_noted list script row history place p k (on.runs k q) (tells k q);
+      near = λ grows k q. frames_near (drifted list width place.slot) (frame_of list script history p)
+          (set_clock list script row history k) (plan_at list place.slot).sync
+          (frame_between (drifted list width place.slot) (frame_of list script history p)
+          (clock_after list script history p) (clock_after list script history k) (set_clock list script row history k)
+          (frame_calm list script before history p (from grows)) (same k q).same_clock
+          (apart p k (from grows).0 (same k q).member) (apart k p (same k q).member (from grows).0));
+    }
+
+stayed_kept : (list : Medl) (script : Script) (may_grow : Bool) (before group : ℕ → Bool) (l : ℕ) (row : List Entry)
+    (history : History) → l < length history → RunsOn list script group history
+    → StayedInCompany list script may_grow before group l row history → Kept list script may_grow before l history
+    → Kept list script may_grow group l (row ∷ history)
+stayed_kept list script may_grow before group l row history later on stayed kept =
+    after_slot list script may_grow group l row history place kept.width
+    (record {
+      on = on;
+      began = omega (arith, later);
+      inside = kept.inside;
+      active = active;
+      places = places;
+      enough = enough;
+    })
+    (held_part list may_grow (IsIn list before) (IsIn list group) l (length history) place.slot kept.width
+    (clock_after list script history) (set_clock list script row history) (notes_before list history place)
+    (carried list row history place) same kept.held)
+    (stayed_slot list script may_grow before group l row history place kept.width on public_places same
+    kept.held.apart stayed.together.noted stayed.noted)
+  where
+    place : Place
+    place = kept.place
+
+    member : (k : ℕ) → IsIn list group k → IsIn list before k
+    member k p = (p.0, stayed.less k p)
+
+    active : (k : ℕ) → IsIn list group k → is_active_entry (entry_of row k) ≡ true
+    active k p = continued_active (entry_of row k) (stayed.together.active k p)
+
+    places : (k : ℕ) → IsIn list group k → stint_place list k (diary_of (row ∷ history) k) ≡ place
     places k p =
-        place_continued list k (diary_of history k) (entry_of row k) (stayed.active k p)
-        ∙ ap (next_place list) (before.places k p)
+        place_continued list k (diary_of history k) (entry_of row k) (stayed.together.active k p)
+        ∙ kept.places k (member k p)
 
-    public_places : (k : ℕ) → IsIn list group k
-        → place_of list k (diary_of (row ∷ history) k) ≡ next_place list before.place
-    public_places k p =
-        place_of-active list k (diary_of history k) (entry_of row k)
-        (continued_active (entry_of row k) (stayed.active k p)) ∙ places k p
+    public_places : (k : ℕ) → IsIn list group k → place_of list k (diary_of (row ∷ history) k) ≡ place
+    public_places k p = place_of-active list k (diary_of history k) (entry_of row k) (active k p) ∙ places k p
 
-    told : (new : List ℤ)
-        × HaveNoted (IsIn list group) (list.error +ℤ list.drift) (clock_moved list script history)
-        (λ k. notes_in list (next_place list before.place) (entry_of row k)) new
-    told = noted_alike list script group row history (next_place list before.place) on public_places stayed.noted
+    same : (k : ℕ) → IsIn list group k
+        → IsSame (IsIn list before) (clock_after list script history) (set_clock list script row history)
+        (notes_before list history place) (carried list row history place) k
+    same k p = goes_same list script before row history place k (member k p) (stayed.together.active k p)
 
-    enough : suc (next_place list before.place).slot ≡ length list.slots → s + length list.slots < suc (length history)
+    enough : suc place.slot ≡ length list.slots → l + length list.slots < suc (length history)
         → (k : ℕ) → IsIn list group k
         → 4 ≤ length (round_notes list (row ∷ history) k)
     enough ends late k p =
         let last : ends_round list (place_of list k (diary_of (row ∷ history) k))
         ≡ true = ap (ends_round list) (public_places k p)
-        ∙ same_test (suc (next_place list before.place).slot) (length list.slots) ends in
-        subst (λ ns. 4 ≤ length ns) (notes_of-active list k (diary_of history k) (entry_of row k)
-        (continued_active (entry_of row k) (stayed.active k p)))
-        (stayed.enough k p (last, omega (arith, late)))
+        ∙ same_test (suc place.slot) (length list.slots) ends in
+        subst (λ ns. 4 ≤ length ns) (notes_of-active list k (diary_of history k) (entry_of row k) (active k p))
+        (stayed.together.enough k p (last, omega (arith, late)))
+
+-- Growing.
+
+-- a node of the group: of before, or one that comes
+record IsRight (list : Medl) (script : Script) (before : ℕ → Bool) (p : ℕ) (row : List Entry) (history : History)
+    (place : Place) (k : ℕ) : Type 0 where
+  active : is_active_entry (entry_of row k) ≡ true
+  placed : stint_place list k (diary_of (row ∷ history) k) ≡ place
+  comes : Comes list (IsIn list before) p (clock_after list script history) (set_clock list script row history)
+      (notes_before list history place) (carried list row history place) k
+  noted : Locate (list.error +ℤ list.drift) (later_clock list script row history k) (added list row place k)
+      (frames_at list place (frame_of list script history p))
+
+grew_kept : (list : Medl) (script : Script) (before group : ℕ → Bool) (older l : ℕ) (row : List Entry)
+    (history : History) → length history ≡ l → RunsOn list script group history
+    → GrewTogether list script before group older row history → Kept list script true before older history
+    → Kept list script true group l (row ∷ history)
+grew_kept list script before group older l row history first on grew kept =
+    after_slot list script true group l row history place (entry_width list true)
+    (record {
+      on = on;
+      began = omega (arith, first);
+      inside = kept.inside;
+      active = λ k p. (by_before k p).active;
+      places = λ k p. (by_before k p).placed;
+      enough = λ ends late k p. absurd (omega (arith, late, first, kept.inside));
+    })
+    (held_grown list (IsIn list before) (IsIn list group) older l (length history) place.slot grew.sender kept.width
+    (clock_after list script history) (set_clock list script row history) (notes_before list history place)
+    (carried list row history place) first on.up on.error_up kept.inside grew.later grew.member.0
+    (λ k p. (by_before k p).comes) kept.held)
+    (record {
+      moved = λ k p. drift_moves (clock_after list script history k) (drift_of script k) list.drift
+          (join_deviation (entry_of row k)) (on.runs k p).drift;
+      frames = frames_at list place (frame_of list script history grew.sender);
+      noted = λ k p. (by_before k p).noted;
+      near = λ grows k p. frames_near (drifted list (entry_width list true) place.slot)
+          (frame_of list script history grew.sender) (set_clock list script row history k)
+          (plan_at list place.slot).sync
+          (subst (λ x. IsUpTo (drifted list (entry_width list true) place.slot)
+          (x -ℤ set_clock list script row history k))
+          (sym (frame_calm list script before history grew.sender grew.member))
+          (frame_come list (IsIn list before) grew.sender place.slot k kept.width
+          (clock_after list script history) (set_clock list script row history) (notes_before list history place)
+          (carried list row history place) on.up on.error_up grew.member.0
+          (kept.held.wide.settled (omega (arith, kept.inside, grew.later))) kept.held.apart (by_before k p).comes));
+    })
+  where
+    place : Place
+    place = kept.place
+
+    was_there : (k : ℕ) → IsIn list group k → before k ≡ true → IsRight list script before grew.sender row history place k
+    was_there k p there =
+        let tells = grew.tells k p there in
+        let goes = told_goes list script history grew.sender k (entry_of row k) tells in
+        record {
+          active = continued_active (entry_of row k) goes;
+          placed = place_continued list k (diary_of history k) (entry_of row k) goes ∙ kept.places k (p.0, there);
+          comes = WasThere (goes_same list script before row history place k (p.0, there) goes);
+          noted = goes_noted list script row history place grew.sender k (on.runs k p) tells;
+        }
+
+    is_new : (k : ℕ) → IsIn list group k → before k ≡ false → IsRight list script before grew.sender row history place k
+    is_new k p away =
+        let start = next_place list (stint_place list grew.sender (diary_of history grew.sender)) in
+        let begins = grew.begins k p away in
+        let stint = begun_stint list script history grew.sender k start (entry_of row k) begins in
+        record {
+          active = begun_active (entry_of row k) stint;
+          placed = begun_place list script history grew.sender k start (diary_of history k) (entry_of row k) begins
+              ∙ kept.places grew.sender grew.member.0;
+          comes = IsNew (subst (λ x. IsUpTo list.error (set_clock list script row history k -ℤ x))
+              (frame_calm list script before history grew.sender grew.member)
+              (begun_set list script history grew.sender k start (clock_after list script history k) (entry_of row k)
+              (on.runs k p) begins))
+              (carried_begun list row history place k stint);
+          noted = subst (λ (there : Place). Locate (list.error +ℤ list.drift) (later_clock list script row history k)
+              (added list row there k) (frames_at list there (frame_of list script history grew.sender)))
+              (kept.places grew.sender grew.member.0)
+              (begun_noted list script history grew.sender k start (list.error +ℤ list.drift)
+              (later_clock list script row history k) (frame_of list script history grew.sender) (entry_of row k) begins
+              (begun_near list script history grew.sender k start (clock_after list script history k) (entry_of row k)
+              (on.runs k p) begins));
+        }
+
+    by_before : (k : ℕ) → IsIn list group k → IsRight list script before grew.sender row history place k
+    by_before k p = test (before k) refl
+      where
+        test : (b : Bool) → before k ≡ b → IsRight list script before grew.sender row history place k
+        test true there = was_there k p there
+        test false away = is_new k p away
 
 -- The whole run.
 
-ran_after : (list : Medl) (script : Script) (group : ℕ → Bool) (s : ℕ) (history : History)
-    → RanTogether list script group s history → s < length history
-ran_after list script group s [] ran = absurd ran
-ran_after list script group s (row ∷ history) (inl began) = omega (arith, began.0)
-ran_after list script group s (row ∷ history) (inr stayed) =
-    omega (arith, ran_after list script group s history stayed.0)
+ran_after : (list : Medl) (script : Script) (may_grow : Bool) (group : ℕ → Bool) (l : ℕ) (history : History)
+    → RanAsCompany list script may_grow group l history → l < length history
+ran_after list script may_grow group l [] ran = absurd ran
+ran_after list script may_grow group l (row ∷ history) (calm, inl began) = omega (arith, began.0)
+ran_after list script may_grow group l (row ∷ history) (calm, inr (inl stayed)) =
+    omega (arith, ran_after list script may_grow stayed.0 l history stayed.1.0)
+ran_after list script may_grow group l (row ∷ history) (calm, inr (inr grew)) = omega (arith, grew.0)
 
-runs_on : (list : Medl) (script : Script) (group : ℕ → Bool) (s : ℕ) (history : History) → IsValid list
-    → clocks_broken list script ≡ None → length history < script.slots
-    → s ≤ length history → NoneJumps list script group s (length history) → RunsOn list script group history
-runs_on list script group s history valid bounds within later jumps = record {
+runs_on : (list : Medl) (script : Script) (group : ℕ → Bool) (history : History) → IsValid list
+    → clocks_broken list script ≡ None → length history < script.slots → AreCalm list script group history
+    → RunsOn list script group history
+runs_on list script group history valid bounds within calm = record {
   up = valid.drift.0;
+  error_up = valid.error.0;
   runs = λ k p. record {
     inside = p.0;
-    before = clock_at-still list script history k (still k p);
+    before = clock_at-still list script history k (calm k p);
     drift = drift_within list script k bounds p.0;
     error = error_within list script (length history) k bounds within p.0;
     error_up = valid.error.0;
   };
-  still = still;
+  calm = calm;
 }
-  where
-    still : (k : ℕ) → IsIn list group k → jump_of script k (length history) ≡ pos 0
-    still k p = jumps k (length history) p later (omega arith)
 
-kept : (list : Medl) (script : Script) (group : ℕ → Bool) (s : ℕ) (history : History) → IsValid list
-    → clocks_broken list script ≡ None → length history ≤ script.slots
+kept : (list : Medl) (script : Script) (may_grow : Bool) (group : ℕ → Bool) (l : ℕ) (history : History)
+    → IsValid list → clocks_broken list script ≡ None → length history ≤ script.slots
+    → RanAsCompany list script may_grow group l history → Kept list script may_grow group l history
+kept list script may_grow group l [] valid bounds within ran = absurd ran
+kept list script may_grow group l (row ∷ history) valid bounds within (calm, inl began) =
+    began_kept list script may_grow group l row history began.0
+    (runs_on list script group history valid bounds (omega (arith, within)) calm) began.1
+kept list script may_grow group l (row ∷ history) valid bounds within (calm, inr (inl stayed)) =
+    stayed_kept list script may_grow stayed.0 group l row history
+    (ran_after list script may_grow stayed.0 l history stayed.1.0)
+    (runs_on list script group history valid bounds (omega (arith, within)) calm) stayed.1.1
+    (kept list script may_grow stayed.0 l history valid bounds (omega (arith, within)) stayed.1.0)
+kept list script true group l (row ∷ history) valid bounds within (calm, inr (inr grew)) =
+    let run = grew.1.1 in
+    grew_kept list script run.0 group run.1.0 l row history grew.0
+    (runs_on list script group history valid bounds (omega (arith, within)) calm) run.1.1.1
+    (kept list script true run.0 run.1.0 history valid bounds (omega (arith, within)) run.1.1.0)
+kept list script false group l (row ∷ history) valid bounds within (calm, inr (inr grew)) =
+    absurd (false≢true grew.1.0)
+
+-- a group that stayed together is a company to which none may come
+together_calm : (list : Medl) (script : Script) (group : ℕ → Bool) (s : ℕ) (history : History)
+    → RanTogether list script group s history → s < length history
+together_calm list script group s [] ran = absurd ran
+together_calm list script group s (row ∷ history) (inl began) = omega (arith, began.0)
+together_calm list script group s (row ∷ history) (inr stayed) =
+    omega (arith, together_calm list script group s history stayed.0)
+
+together_ran : (list : Medl) (script : Script) (group : ℕ → Bool) (s : ℕ) (history : History)
     → NoneJumps list script group s (length history) → RanTogether list script group s history
-    → Kept list script group s history
-kept list script group s [] valid bounds within jumps ran = absurd ran
-kept list script group s (row ∷ history) valid bounds within jumps (inl began) =
-    began_kept list script group s row history began.0
-    (runs_on list script group s history valid bounds (omega (arith, within)) (omega (arith, began.0))
-    (λ k slot p low high. jumps k slot p low (omega (arith, high)))) began.1
-kept list script group s (row ∷ history) valid bounds within jumps (inr stayed) =
-    let later : s < length history = ran_after list script group s history stayed.0 in
-    let fewer : NoneJumps list script group s (length history) =
-    λ k slot p low high. jumps k slot p low (omega (arith, high)) in
-    stayed_kept list script group s row history later
-    (runs_on list script group s history valid bounds (omega (arith, within)) (omega (arith, later)) fewer) stayed.1
-    (kept list script group s history valid bounds (omega (arith, within)) fewer stayed.0)
+    → RanAsCompany list script false group s history
+together_ran list script group s [] jumps ran = absurd ran
+together_ran list script group s (row ∷ history) jumps (inl began) =
+    (λ k p. jumps k (length history) p (omega (arith, began.0)) (omega arith), inl began)
+together_ran list script group s (row ∷ history) jumps (inr stayed) =
+    let after : s < length history = together_calm list script group s history stayed.0 in (
+      λ k p. jumps k (length history) p (omega (arith, after)) (omega arith),
+      inr (inl (
+        group,
+        (
+          together_ran list script group s history (λ k slot p low high. jumps k slot p low (omega (arith, high)))
+              stayed.0,
+          record { less = λ k p. p.1; together = stayed.1; noted = λ grows. absurd (false≢true grows) },
+        ),
+      )),
+    )
+
+common_company : (list : Medl) (script : Script) (group : ℕ → Bool) (s : ℕ) (history : History)
+    → IsCommonRun list script group s history → IsCompanyRun list script false group s history
+common_company list script group s history run =
+    let after : s < length history = together_calm list script group s history run.together in
+    record {
+      bounds = run.bounds;
+      within = run.within;
+      calm = λ k p. run.jumps k (length history) p (omega (arith, after)) (omega arith);
+      together = together_ran list script group s history run.jumps run.together;
+    }
 
 -- The bounds.
 
-at_beginning : (list : Medl) (script : Script) (group : ℕ → Bool) (s : ℕ) (history : History) (k : ℕ)
-    → IsCommonRun list script group s history → IsIn list group k
+at_beginning : (list : Medl) (script : Script) (group : ℕ → Bool) (history : History) (k : ℕ)
+    → AreCalm list script group history → IsIn list group k
     → clock_at list script history k ≡ clock_after list script history k
-at_beginning list script group s history k run p =
-    let later : s < length history = ran_after list script group s history run.together in
-    clock_at-still list script history k (run.jumps k (length history) p (omega (arith, later)) (omega arith))
+at_beginning list script group history k calm p = clock_at-still list script history k (calm k p)
 
-pub clocks_within : (list : Medl) → IsValid list → HoldsClocksWithin list (spread list)
-unfolding HoldsClocksWithin
-clocks_within list valid script group s history run j k p q =
-    let ran : Kept list script group s history =
-    kept list script group s history valid run.bounds run.within run.jumps run.together in
+-- by how many slots of the round are over
+settled_round : (list : Medl) (script : Script) (may_grow : Bool) (group : ℕ → Bool) (l : ℕ) (history : History) (j : ℕ)
+    → (ran : Kept list script may_grow group l history) → IsIn list group j
+    → IsSettled list may_grow group l history
+    → (may_grow ≡ false) ⊎ (l + length list.slots + ran.place.slot < length history)
+settled_round list script may_grow group l history j ran p (inl fixed) = inl fixed
+settled_round list script may_grow group l history j ran p (inr (inl late)) = inr (omega (arith, late, ran.inside))
+settled_round list script may_grow group l history j ran p (inr (inr late)) =
+    inr (subst (λ (there : Place). l + length list.slots + there.slot < length history) (ran.places j p) (late j p))
+
+pub settled_clocks : (list : Medl) → IsValid list → HoldsSettledClocksWithin list (spread list)
+unfolding HoldsSettledClocksWithin
+settled_clocks list valid script may_grow group l history run settled j k p q =
+    let ran : Kept list script may_grow group l history =
+    kept list script may_grow group l history valid run.bounds run.within run.together in
     same_apart (clock_after list script history j) (clock_after list script history k) (clock_at list script history j)
     (clock_at list script history k) (spread list)
-    (at_beginning list script group s history j run p) (at_beginning list script group s history k run q)
-    (held_within list (IsIn list group) s (length history) ran.place.slot (clock_after list script history)
-    (round_notes list history) valid.drift.0 ran.held j k p q)
+    (at_beginning list script group history j run.calm p) (at_beginning list script group history k run.calm q)
+    (settled_within list may_grow (IsIn list group) l (length history) ran.place.slot ran.width (clock_after list script history)
+    (notes_before list history ran.place) valid.drift.0 ran.inside
+    (settled_round list script may_grow group l history j ran p settled) ran.held j k p q)
 
-measured_of : (x y c d e r share : ℤ) → x ≡ c → y ≡ d → (c -ℤ d) ≤ℤ (share +ℤ (e *ℤ pos 2 +ℤ pos 1))
-    → (d -ℤ c) ≤ℤ (share +ℤ (e *ℤ pos 2 +ℤ pos 1)) → IsUpTo e r
-    → IsUpTo (share +ℤ (e *ℤ pos 3 +ℤ pos 1)) ((x -ℤ y) +ℤ r)
-measured_of x y c d e r share is was apart back error = (
+pub company_clocks : (list : Medl) → IsValid list → HoldsCompanyClocksWithin list (spread_rejoining list)
+unfolding HoldsCompanyClocksWithin
+company_clocks list valid script may_grow group l history run j k p q =
+    let ran : Kept list script may_grow group l history =
+    kept list script may_grow group l history valid run.bounds run.within run.together in
+    same_apart (clock_after list script history j) (clock_after list script history k) (clock_at list script history j)
+    (clock_at list script history k) (spread_rejoining list)
+    (at_beginning list script group history j run.calm p) (at_beginning list script group history k run.calm q)
+    (company_within list may_grow (IsIn list group) l (length history) ran.place.slot ran.width (clock_after list script history)
+    (notes_before list history ran.place) valid.drift.0 valid.error.0 ran.inside ran.held j k p q)
+
+pub clocks_within : (list : Medl) → IsValid list → HoldsClocksWithin list (spread list)
+unfolding HoldsClocksWithin HoldsSettledClocksWithin
+clocks_within list valid script group s history run =
+    settled_clocks list valid script false group s history (common_company list script group s history run) (inl refl)
+
+-- Deviations.
+
+measured_of : (x y c d e r bound : ℤ) → x ≡ c → y ≡ d → (c -ℤ d) ≤ℤ bound → (d -ℤ c) ≤ℤ bound → IsUpTo e r
+    → IsUpTo (bound +ℤ e) ((x -ℤ y) +ℤ r)
+measured_of x y c d e r bound is was apart back error = (
   omega (arith, ints, is, was, apart, back, error.0, error.1),
   omega (arith, ints, is, was, apart, back, error.0, error.1),
 )
 
+-- what is measured is further off than the clocks by a reading error at most
+measured_within : (list : Medl) (script : Script) (history : History) (bound : ℤ) (r p : ℕ)
+    → clocks_broken list script ≡ None → length history < script.slots → r < length list.slots → p < length list.slots
+    → (clock_at list script history p -ℤ clock_at list script history r) ≤ℤ bound
+    → (clock_at list script history r -ℤ clock_at list script history p) ≤ℤ bound
+    → IsUpTo (bound +ℤ list.error) (measured list script history r p)
+measured_within list script history bound r p bounds within at from apart back =
+    measured_of (frame_of list script history p) (frame_of list script history r) (clock_at list script history p)
+    (clock_at list script history r) list.error (reading_error script r (length history)) bound
+    (frame_of-node list script history p from) (frame_of-node list script history r at) apart back
+    (error_within list script (length history) r bounds within at)
+
+one_error_more : (share e : ℤ) → (share +ℤ (e *ℤ pos 2 +ℤ pos 1)) +ℤ e ≡ share +ℤ (e *ℤ pos 3 +ℤ pos 1)
+one_error_more share e = omega (arith, ints)
+
+one_error_most : (share e : ℤ) → (share +ℤ (e *ℤ pos 4 +ℤ pos 1)) +ℤ e ≡ share +ℤ (e *ℤ pos 5 +ℤ pos 1)
+one_error_most share e = omega (arith, ints)
+
+pub settled_deviations : (list : Medl) → IsValid list → HoldsSettledDeviationsWithin list (needed list)
+unfolding HoldsSettledClocksWithin HoldsSettledDeviationsWithin
+settled_deviations list valid script may_grow group l history run settled within r p a b =
+    subst (λ w. IsUpTo w (measured list script history r p)) (one_error_more (drift_share list) list.error)
+    (measured_within list script history (spread list) r p run.bounds within a.0 b.0
+    (settled_clocks list valid script may_grow group l history run settled p r b a)
+    (settled_clocks list valid script may_grow group l history run settled r p a b))
+
+pub company_deviations : (list : Medl) → IsValid list → HoldsCompanyDeviationsWithin list (needed_rejoining list)
+unfolding HoldsCompanyClocksWithin HoldsCompanyDeviationsWithin
+company_deviations list valid script may_grow group l history run within r p a b =
+    subst (λ w. IsUpTo w (measured list script history r p))
+    (one_error_most (list.drift *ℤ pos (6 * length list.slots)) list.error)
+    (measured_within list script history (spread_rejoining list) r p run.bounds within a.0 b.0
+    (company_clocks list valid script may_grow group l history run p r b a)
+    (company_clocks list valid script may_grow group l history run r p a b))
+
 pub deviations_within : (list : Medl) → IsValid list → HoldsDeviationsWithin list (needed list)
-unfolding HoldsClocksWithin HoldsDeviationsWithin
-deviations_within list valid script group s history run within r p a b =
-    measured_of (frame_of list script history p) (frame_of list script history r)
-    (clock_at list script history p) (clock_at list script history r) list.error
-    (reading_error script r (length history)) (drift_share list)
-    (frame_of-node list script history p b.0) (frame_of-node list script history r a.0)
-    (clocks_within list valid script group s history run p r b a)
-    (clocks_within list valid script group s history run r p a b)
-    (error_within list script (length history) r run.bounds within a.0)
+unfolding HoldsDeviationsWithin HoldsSettledDeviationsWithin
+deviations_within list valid script group s history run =
+    settled_deviations list valid script false group s history (common_company list script group s history run)
+    (inl refl)

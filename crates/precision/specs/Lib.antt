@@ -1,3 +1,4 @@
 pub mod Spread
 pub mod Together
+pub mod Company
 pub mod WorkedRun

@@ -2,14 +2,16 @@
 //!
 //! Each node corrects its clock once a round, by the fault-tolerant average of the deviations that it
 //! noted. In between the clocks drift apart again, and each deviation is read with an error. From the
-//! bounds of a descriptor list the two functions say how much of that can remain, in microticks:
+//! bounds of a descriptor list the functions say how much of that can remain, in microticks:
 //!
 //! ```
-//! let apart = spread(&list);     // clocks of two nodes, at the beginning of a slot
-//! let window = needed(&list);    // what one of them measures of a frame of the other
+//! let apart = spread(&list);              // clocks of two nodes, at the beginning of a slot
+//! let window = needed(&list);             // what one of them measures of a frame of the other
+//! let apart = spread_rejoining(&list);    // the same where nodes come to the group later
+//! let window = needed_rejoining(&list);
 //! ```
 //!
-//! Both are promises about the world of `ttp_world`, for any group of nodes that ran together since
+//! The first two are promises about the world of `ttp_world`, for any group of nodes that ran together since
 //! some slot (`IsCommonRun` of `specs/Together.antt`):
 //!
 //! - in that slot they began on one frame: one of them sent it and started, and the others joined on
@@ -20,13 +22,24 @@
 //! - in every round that began after that slot each of them noted four or more;
 //! - clocks drift and are read within the list's bounds, and none of theirs jumps.
 //!
+//! The other two are promises about a company (`IsCompanyRun` of `specs/Company.antt`), a group from
+//! which nodes go and to which others come:
+//!
+//! - they come two rounds or more after the slot in which it began, or in which some came last, each
+//!   on a frame of one of its nodes, at that node's place;
+//! - what it notes are frames of its nodes, and in every round that began after some came last each
+//!   node notes four or more;
+//! - no clock jumps from its node's entry on.
+//!
+//! Where none came in the last two rounds the first two bounds hold again.
+//!
 //! The crate reads no clock and corrects none. That nodes run together in a given run is for others to
 //! say.
 #![tactic(auto)]
 
 mod bounds;
 
-pub use bounds::{needed, spread};
+pub use bounds::{needed, needed_rejoining, spread, spread_rejoining};
 
 #[cfg(test)]
 mod tests;

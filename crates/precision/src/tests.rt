@@ -3,7 +3,7 @@ ghost use Rattle.std.specs.Prelude.{◌≡◌, [], ◌∷◌, true, false, IfOk}
 ghost use Rattle.ttp_world.specs.declared.medl.Kind.TheVariants as kind;
 ghost use Rattle.ttp_world.specs.Medl.{IsValid};
 
-use crate::{needed, spread};
+use crate::{needed, needed_rejoining, spread, spread_rejoining};
 use std::alloc::Global;
 use std::test::Fail;
 use ttp_base::{List, Memory};
@@ -58,5 +58,7 @@ fn bounds_of_four_nodes(rt: HostRuntime) -> Result<(), Fail> {
     let list = four_nodes(rt.alloc())?;
     assert!(rt; spread(&list) == 21);
     assert!(rt; needed(&list) == 23);
+    assert!(rt; spread_rejoining(&list) == 33);
+    assert!(rt; needed_rejoining(&list) == 35);
     Ok(())
 }

@@ -14,7 +14,7 @@ use Rattle.ttp_world.specs.declared.medl.Medl.{Medl}
 use Rattle.ttp_world.specs.Clock.{fta}
 use Rattle.ttp_world.specs.Hypothesis.{needed}
 use Rattle.ttp_world.proofs.Averages.{fta-between}
-use Rattle.precision.proofs.Averages.{IsUpTo}
+use Rattle.precision.proofs.Averages.{IsUpTo, AreNear, fta-near}
 use Rattle.precision.proofs.Rounds.{drift_in, plus_none, correction, product_more, product_upto}
 use Rattle.precision.proofs.Rounds.{product_up}
 
@@ -28,10 +28,6 @@ apart_width list q =
     (needed list +ℤ needed list)
     +ℤ ((drift_in list (length list.slots) +ℤ drift_in list (length list.slots))
     +ℤ (drift_in list q +ℤ drift_in list q))
-
--- notes tell by a clock where frames were, which were near another clock
-abbrev pub AreNear : ℤ → ℤ → ℤ → List ℤ → Type 0
-AreNear w c k notes = All (λ d. IsUpTo w ((c +ℤ d) -ℤ k)) notes
 
 pub data Apart (list : Medl) (m q : ℕ) (c k : ℤ) (notes : List ℤ) : Type 0 where
   -- a round ends with the slot up to which they ran together
@@ -92,24 +88,10 @@ near-later list m c k later_c later_k notes moved near =
 
 -- The correction at the end of a round.
 
-bounds-of : (w c k d : ℤ) → IsUpTo w ((c +ℤ d) -ℤ k) → (((k -ℤ c) -ℤ w) ≤ℤ d) × (d ≤ℤ ((k -ℤ c) +ℤ w))
-bounds-of w c k d h = (omega (arith, ints, h.0, h.1), omega (arith, ints, h.0, h.1))
-
-none-between : (w c k : ℤ) → IsUpTo w (c -ℤ k) → (((k -ℤ c) -ℤ w) ≤ℤ pos 0) × (pos 0 ≤ℤ ((k -ℤ c) +ℤ w))
-none-between w c k h = (omega (arith, ints, h.0, h.1), omega (arith, ints, h.0, h.1))
-
 both-corrected : (w n v c k a b : ℤ) → (((k -ℤ c) -ℤ w) ≤ℤ a) × (a ≤ℤ ((k -ℤ c) +ℤ w)) → IsUpTo n b → (w +ℤ n) ≤ℤ v
     → IsUpTo v ((c +ℤ a) -ℤ (k +ℤ b))
 both-corrected w n v c k a b h g wide =
     (omega (arith, ints, h.0, h.1, g.0, g.1, wide), omega (arith, ints, h.0, h.1, g.0, g.1, wide))
-
-fta-near : (w c k : ℤ) (notes : List ℤ) → IsUpTo w (c -ℤ k) → AreNear w c k notes
-    → (((k -ℤ c) -ℤ w) ≤ℤ fta notes) × (fta notes ≤ℤ ((k -ℤ c) +ℤ w))
-fta-near w c k notes here near =
-    let none = none-between w c k here in
-    fta-between ((k -ℤ c) -ℤ w) ((k -ℤ c) +ℤ w) notes none.0 none.1
-    (All-weaker (λ d. IsUpTo w ((c +ℤ d) -ℤ k)) (λ d. (((k -ℤ c) -ℤ w) ≤ℤ d) × (d ≤ℤ ((k -ℤ c) +ℤ w)))
-    (λ d h. bounds-of w c k d h) notes near)
 
 fta-small : (w : ℤ) (notes : List ℤ) → pos 0 ≤ℤ w → All (IsUpTo w) notes → IsUpTo w (fta notes)
 fta-small w notes up all = fta-between (neg_ℤ w) w notes (omega (arith, ints, up)) up all

@@ -16,7 +16,7 @@ use Rattle.ttp_world.specs.Medl.{IsValid}
 use Rattle.ttp_world.specs.Script.{drift_of, jump_of}
 use Rattle.precision.specs.Spread.{spread}
 use Rattle.precision.specs.Together.{clock_at}
-use Rattle.precision.proofs.Averages.{IsUpTo}
+use Rattle.precision.proofs.Averages.{IsUpTo, AreNear}
 use Rattle.precision.proofs.ClockBounds.{drift_within}
 use Rattle.precision.proofs.Entries.{place_continued, clock_at-still}
 use Rattle.precision.proofs.Rounds.{drift_in, correction, product_up}
@@ -26,7 +26,7 @@ use Rattle.fault_plan.specs.Fates.{Falling, fate_of, is_sound_after}
 use Rattle.fault_plan.specs.Kept.{FollowsWithin}
 use Rattle.fault_plan.specs.Places.{planned_place}
 use Rattle.safety_clocks.specs.NotedByPlan.{IsSoundIn, NotesNothing, GoesOnByPlan}
-use Rattle.safety_clocks.proofs.Apart.{noted_width, AreNear, Apart, Fresh, Before}
+use Rattle.safety_clocks.proofs.Apart.{noted_width, Apart, Fresh, Before}
 use Rattle.safety_clocks.proofs.Apart.{apart-next, same-near}
 use Rattle.safety_clocks.proofs.Bounds.{sound-clocks}
 use Rattle.safety_clocks.proofs.JumpedFates.{jumped-back}

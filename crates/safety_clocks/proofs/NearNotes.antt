@@ -17,7 +17,7 @@ use Rattle.ttp_world.specs.Medl.{plan_at, IsValid}
 use Rattle.ttp_world.specs.Script.{drift_of, reading_error, jump_of}
 use Rattle.precision.specs.Spread.{spread}
 use Rattle.precision.specs.Together.{TellsOf, measured, clock_at}
-use Rattle.precision.proofs.Averages.{IsUpTo}
+use Rattle.precision.proofs.Averages.{IsUpTo, AreNear}
 use Rattle.precision.proofs.ClockBounds.{drift_within, error_within}
 use Rattle.precision.proofs.Entries.{continued_active, notes_anew, notes_more, first_slot_first, later_slot_later}
 use Rattle.precision.proofs.Entries.{offset_corrected, clock_at-still}
@@ -29,7 +29,7 @@ use Rattle.fault_plan.specs.Fates.{is_good_slot}
 use Rattle.fault_plan.specs.Kept.{FollowsPlan}
 use Rattle.fault_plan.specs.Places.{planned_place}
 use Rattle.safety_clocks.specs.NotedByPlan.{IsSoundIn, NotedInSlot, GoesOnByPlan}
-use Rattle.safety_clocks.proofs.Apart.{noted_width, AreNear}
+use Rattle.safety_clocks.proofs.Apart.{noted_width}
 use Rattle.safety_clocks.proofs.Bounds.{sound-clocks, sound-deviations}
 use Rattle.safety_clocks.proofs.RoundNotes.{none-silent, sender-in, place-slot, index-next}
 use Rattle.safety_clocks.proofs.Together.{number-of}

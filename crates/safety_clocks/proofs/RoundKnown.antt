@@ -11,14 +11,14 @@ use Rattle.ttp_world.specs.Clock.{notes_in}
 use Rattle.ttp_world.specs.Diary.{History, entry_of}
 use Rattle.ttp_world.specs.Hypothesis.{ClusterStart, needed}
 use Rattle.ttp_world.specs.Medl.{IsValid}
-use Rattle.precision.proofs.Averages.{IsUpTo}
+use Rattle.precision.proofs.Averages.{IsUpTo, AreNear}
 use Rattle.precision.proofs.Rounds.{correction}
 use Rattle.precision.proofs.Runs.{clock_after, round_notes}
 use Rattle.fault_plan.specs.Plan.{Plan, sender}
 use Rattle.fault_plan.specs.Kept.{FollowsWithin}
 use Rattle.fault_plan.specs.Places.{planned_place}
 use Rattle.safety_clocks.specs.NotedByPlan.{IsSoundIn, NotedByPlan}
-use Rattle.safety_clocks.proofs.Apart.{noted_width, AreNear, near-later, uncorrected-in, same-near}
+use Rattle.safety_clocks.proofs.Apart.{noted_width, near-later, uncorrected-in, same-near}
 use Rattle.safety_clocks.proofs.NearNotes.{clock_moved, clock-next, notes-next, NextSlot, index-of, small-new, near-new}
 use Rattle.safety_clocks.proofs.NearNotes.{sound-moved}
 use Rattle.safety_clocks.proofs.RoundNotes.{place-slot, sound-goes, sound-back}

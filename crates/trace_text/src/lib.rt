@@ -36,8 +36,8 @@ mod trace_line;
 mod words;
 
 pub use behind::{
-    behind_back, behind_header, behind_keep, behind_node_line, behind_payload_line, behind_status_line,
-    behind_write_line,
+    behind_back, behind_header, behind_keep, behind_node_line, behind_payload_line,
+    behind_status_line, behind_write_line,
 };
 pub use host_line::RingMessage;
 pub use node_line::NodeLines;
