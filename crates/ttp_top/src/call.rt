@@ -15,6 +15,7 @@ use crate::lines::say;
 use crate::run::{keeps, run};
 use crate::sample::sample;
 use crate::schedule::schedule;
+use crate::verify::verify;
 use crate::words::{Command, command_of};
 use cluster_run::Cluster;
 use std::alloc::Global;
@@ -45,6 +46,11 @@ fn obey<R: Threads + Wait + Sync, L: Library, K: Sink, G: Gate>(
         Command::Schedule { list } => schedule(alloc, list, library, out),
         Command::Run { list, script } => run(rt, alloc, list, script, library, out, gate, kept),
         Command::Keeps { list, script } => keeps(alloc, list, script, library, out),
+        Command::Verify {
+            list,
+            script,
+            trace,
+        } => verify(alloc, list, script, trace, library, out),
         Command::Precision { list, script, node } => {
             precision(alloc, list, script, node, library, out)
         }
