@@ -12,6 +12,7 @@ ghost use Rattle.ttp_top.specs.Scripts.Promise.{RunPromise};
 
 use crate::faced::precision;
 use crate::lines::say;
+use crate::modes::modes;
 use crate::run::{keeps, run};
 use crate::sample::sample;
 use crate::schedule::schedule;
@@ -24,7 +25,7 @@ use std::thread::Threads;
 use ttp_base::{Gate, Library, Sink};
 
 const USAGE: &str = "usage: schedule MEDL | run MEDL SCRIPT | keeps MEDL SCRIPT | \
-    verify MEDL SCRIPT TRACE | sample MEDL SLOTS NUMBER | precision MEDL SCRIPT NODE\n";
+    verify MEDL SCRIPT TRACE | sample MEDL SLOTS NUMBER | precision MEDL SCRIPT NODE | modes MEDL SCRIPT TRACE\n";
 
 // What the words ask for.
 fn obey<R: Threads + Wait + Sync, L: Library, K: Sink, G: Gate>(
@@ -59,6 +60,11 @@ fn obey<R: Threads + Wait + Sync, L: Library, K: Sink, G: Gate>(
             slots,
             number,
         } => sample(rt, alloc, list, slots, number, library, out, gate, kept),
+        Command::Modes {
+            list,
+            script,
+            trace,
+        } => modes(alloc, list, script, trace, library, out),
         Command::NoForm => say(out, USAGE.as_bytes(), 2),
     }
 }
