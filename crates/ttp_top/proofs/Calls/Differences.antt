@@ -1,6 +1,6 @@
 -- The lines on whether a text is a trace.
 use Rattle.std.proofs.Common.{◌≡◌, ℕ, Bool, true, false, List, [], ◌∷◌, ◌++◌, refl, ap, sym, subst, ◌∙◌, inl, inr, arith}
-use Rattle.std.specs.Prelude.{codes, decimal, if◌then◌else◌}
+use Rattle.std.specs.Prelude.{◌==◌, ◌↔◌, codes, decimal, if◌then◌else◌}
 use Rattle.std.proofs.lemmas.List.Folds.{list_any-append}
 use Rattle.ttp_base.specs.Outside.{Output}
 use Rattle.ttp_base.specs.Text.{Lines, newline, is_line}
@@ -8,6 +8,7 @@ use Rattle.ttp_base.proofs.Lines.{is_line-append}
 use Rattle.ttp_base.proofs.Numerals.{has, has-decimal}
 use Rattle.ttp_world.specs.declared.medl.Medl.{Medl}
 use Rattle.ttp_world.specs.declared.script.Script.{Script}
+use Rattle.trace_check.specs.declared.answer.Outcome.TheVariants as outcome
 use Rattle.trace_check.specs.Answer.{is_trace, IsFirstWrong}
 use Rattle.ttp_top.specs.Calls.Answer.{Answer}
 use Rattle.ttp_top.specs.Calls.Differences.{same_line, differs_line, IsDifference}
@@ -36,11 +37,14 @@ abbrev ending_if : Medl → Script → List ℕ → Bool → Ending
 ending_if list script text same =
     if same then line_ending 0 same_line else whole_ending 1 (differences list script text)
 
-pub same-said : (list : Medl) (script : Script) (text : List ℕ) (before now : Output) (answer : Answer)
-    → is_trace list script text ≡ true → Says (line_ending 0 same_line) before now answer
-    → Says (verify_ending list script text) before now answer
-same-said list script text before now answer is said =
-    subst (λ same. Says (ending_if list script text same) before now answer) (sym is) said
+-- where a line is named the text is no trace
+pub differs-none : (list : Medl) (script : Script) (text : List ℕ) (line : ℕ)
+    → ((outcome.Differs line ≡ outcome.Same) ↔ (is_trace list script text ≡ true)) → is_trace list script text ≡ false
+differs-none list script text line same = by_case (is_trace list script text) same
+  where
+    by_case : (b : Bool) → ((outcome.Differs line ≡ outcome.Same) ↔ (b ≡ true)) → b ≡ false
+    by_case false is = refl
+    by_case true is = let is_same : outcome.Differs line ≡ outcome.Same = is.1 refl in absurd cc
 
 pub differs-said : (list : Medl) (script : Script) (text : List ℕ) (line : ℕ) (before now : Output) (answer : Answer)
     → is_trace list script text ≡ false → IsFirstWrong list script text line

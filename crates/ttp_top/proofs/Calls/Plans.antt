@@ -73,9 +73,10 @@ text_end P no_list no_script list script trace ending all =
     (λ medl right. trace_plan trace (λ text. ends (ending medl right text))) (λ medl right text. all medl right text)
 
 -- of two endings one
-pub one_ends : (P : Ending → Type 0) (same : Bool) (yes no : Ending) → P yes → P no → P (if same then yes else no)
-one_ends P true yes no first second = first
-one_ends P false yes no first second = second
+pub one_ends : (P : Ending → Type 0) (same : Bool) (one other : Ending) → P one → P other
+    → P (if same then one else other)
+one_ends P true one other first second = first
+one_ends P false one other first second = second
 
 list_refused : (fault : FileFault) → IsOfForm (refused_list fault)
 list_refused fault = (omega arith, λ two. omega arith)
