@@ -2,10 +2,11 @@
 use Rattle.std.proofs.Common.{◌≡◌, ℕ, List, [], ◌∷◌, ◌++◌, true, Option, Some, None, Result, Ok, Err, refl, subst, sym}
 use Rattle.std.proofs.Common.{◌∙◌, inl, inr}
 use Rattle.std.specs.Prelude.{codes}
-use Rattle.ttp_base.specs.Text.{Lines, is_line}
+use Rattle.ttp_base.specs.Text.{Lines, is_line, lines_of}
 use Rattle.ttp_world.specs.declared.medl.Medl.{Medl}
 use Rattle.ttp_world.specs.declared.script.Script.{Script}
 use Rattle.ttp_world.specs.Trace.{test_lines}
+use Rattle.ttp_world.specs.TraceNumbers.{numbers_in}
 use Rattle.ttp_world.proofs.TraceLines.{test_lines-each, trace_lines-each}
 use Rattle.medl_text.specs.Schedule.{slot_table}
 use Rattle.medl_text.proofs.Lines.{slot_table-each}
@@ -91,7 +92,7 @@ plans_have (Some (modes list script trace)) =
     text_end HasLines no_list no_script list script trace modes_ending
     (λ medl right text.
     one_ends HasLines (is_trace medl right text) _ _
-    (record { texts = one_text _ (mode_lines-each medl right _); unfinished = one_text [] tt })
+    (record { texts = one_text _ (mode_lines-each medl right (numbers_in medl right (lines_of text))); unfinished = one_text [] tt })
     (record { texts = differences-each medl right text; unfinished = one_text [] tt }))
 
 -- and so is what is said of a file that could not be loaded
