@@ -166,12 +166,7 @@ fn sample_command<'a>(list: &'a str, slots: &str, number: &str) -> Command<'a>
 }
 
 // The command of four words.
-fn long_command<'a>(
-    verb: &str,
-    list: &'a str,
-    third: &'a str,
-    fourth: &'a str,
-) -> Command<'a>
+fn long_command<'a>(verb: &str, list: &'a str, third: &'a str, fourth: &'a str) -> Command<'a>
     ensures form { form_asked result ≡ form_of (verb.now ∷ list.now ∷ third.now ∷ fourth.now ∷ []) }
     ensures slots { HasSlots result }
 {

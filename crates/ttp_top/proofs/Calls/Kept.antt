@@ -1,6 +1,6 @@
--- A call keeps a cluster exactly after status 0 of `run` and of `sample`, and only `run` leaves lines where memory is
--- refused.
-use Rattle.std.proofs.Common.{◌≡◌, ◌≢◌, Bool, true, false, ◌&&◌, Option, Some, None, refl, ap, sym, ◌∙◌}
+-- A call keeps a cluster exactly after status 0 of `run` and of `sample`, only `run` leaves lines where memory is
+-- refused, and only `verify` answers status 1.
+use Rattle.std.proofs.Common.{◌≡◌, ◌≢◌, Bool, true, false, ◌&&◌, Option, Some, None, refl, ap, sym, ◌∙◌, arith}
 use Rattle.std.specs.Prelude.{◌==◌, is_some, IsSomeAnd}
 use Rattle.std.proofs.lemmas.Bool.{ne_eqb}
 use Rattle.ttp_base.specs.Text.{Lines}
@@ -14,7 +14,7 @@ use Rattle.ttp_top.specs.Calls.Forms.{sample_ending, modes_ending, plan_of}
 use Rattle.ttp_top.specs.Calls.Plan.{Ending, ends}
 use Rattle.ttp_top.specs.Calls.Texts.{nothing}
 use Rattle.ttp_top.specs.Calls.Words.{Form, schedule, run, keeps, verify, precision, sample, modes, is_run}
-use Rattle.ttp_top.specs.Calls.Words.{runs_cluster}
+use Rattle.ttp_top.specs.Calls.Words.{takes_trace, runs_cluster}
 use Rattle.ttp_top.specs.Files.Read.{list_from}
 use Rattle.ttp_top.proofs.Calls.Plans.{AllEnd, list_ends, both_end, text_end, one_ends}
 
@@ -115,3 +115,34 @@ plans_let (Some (modes list script trace)) =
     text_end (LetsNothing form) (λ fault other. refl) (λ fault other. refl) list script trace modes_ending
     (λ medl right text.
     one_ends (LetsNothing form) (is_trace medl right text) _ _ (λ other. refl) (λ other. refl))
+
+-- but for the forms that take a trace, no ending has status 1
+abbrev pub DiffersAlone : Option Form → Ending → Type 0
+DiffersAlone form ending = ending.status ≡ 1 → takes_trace form ≡ true
+
+pub plans_differ : (form : Option Form) → AllEnd (DiffersAlone form) (plan_of form)
+plans_differ None = λ one. absurd (omega (arith, one))
+plans_differ (Some (schedule list)) = λ bytes.
+    list_ends (DiffersAlone (Some (schedule list))) (λ fault one. absurd (omega (arith, one)))
+    (λ medl. ends (table_ending medl)) (λ medl one. absurd (omega (arith, one))) (list_from bytes)
+plans_differ (Some (run list script)) =
+    both_end (DiffersAlone (Some (run list script))) (λ fault one. absurd (omega (arith, one)))
+    (λ fault one. absurd (omega (arith, one))) list script trace_ending (λ medl right one. absurd (omega (arith, one)))
+plans_differ (Some (keeps list script)) =
+    both_end (DiffersAlone (Some (keeps list script))) (λ fault one. absurd (omega (arith, one)))
+    (λ fault one. absurd (omega (arith, one))) list script keep_ending (λ medl right one. absurd (omega (arith, one)))
+plans_differ (Some (verify list script trace)) =
+    let form = Some (verify list script trace) in
+    text_end (DiffersAlone form) (λ fault one. refl) (λ fault one. refl) list script trace verify_ending
+    (λ medl right text. one_ends (DiffersAlone form) (is_trace medl right text) _ _ (λ one. refl) (λ one. refl))
+plans_differ (Some (precision list script node)) =
+    both_end (DiffersAlone (Some (precision list script node))) (λ fault one. absurd (omega (arith, one)))
+    (λ fault one. absurd (omega (arith, one))) list script (precision_ending node)
+    (λ medl right one. absurd (omega (arith, one)))
+plans_differ (Some (sample list slots number)) = λ bytes.
+    list_ends (DiffersAlone (Some (sample list slots number))) (λ fault one. absurd (omega (arith, one)))
+    (λ medl. ends (sample_ending slots number medl)) (λ medl one. absurd (omega (arith, one))) (list_from bytes)
+plans_differ (Some (modes list script trace)) =
+    let form = Some (modes list script trace) in
+    text_end (DiffersAlone form) (λ fault one. refl) (λ fault one. refl) list script trace modes_ending
+    (λ medl right text. one_ends (DiffersAlone form) (is_trace medl right text) _ _ (λ one. refl) (λ one. refl))

@@ -32,9 +32,10 @@ abbrev pub is_run : Option Form → Bool
 is_run (Some (run list script)) = true
 is_run _ = false
 
-abbrev pub is_verify : Option Form → Bool
-is_verify (Some (verify list script trace)) = true
-is_verify _ = false
+abbrev pub takes_trace : Option Form → Bool
+takes_trace (Some (verify list script trace)) = true
+takes_trace (Some (modes list script trace)) = true
+takes_trace _ = false
 
 -- the forms that run a cluster, which is kept once all is written
 abbrev pub runs_cluster : Option Form → Bool
