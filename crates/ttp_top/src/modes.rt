@@ -19,13 +19,7 @@ use ttp_base::{Library, Sink};
 use ttp_world::{Medl, Script};
 
 // The text of modes for a trace.
-fn show_text<K: Sink>(
-    alloc: Global,
-    list: &Medl,
-    script: &Script,
-    text: &[u8],
-    out: &mut K,
-) -> u8
+fn show_text<K: Sink>(alloc: Global, list: &Medl, script: &Script, text: &[u8], out: &mut K) -> u8
     requires valid { IsValid list.now }
     requires script { IsValidScript list.now script.now }
     requires trace { IsTrue (is_trace list.now script.now text.now) }
@@ -39,13 +33,7 @@ fn show_text<K: Sink>(
 }
 
 // The same for a text that may be none.
-fn show_modes<K: Sink>(
-    alloc: Global,
-    list: &Medl,
-    script: &Script,
-    text: &[u8],
-    out: &mut K,
-) -> u8
+fn show_modes<K: Sink>(alloc: Global, list: &Medl, script: &Script, text: &[u8], out: &mut K) -> u8
     requires valid { IsValid list.now }
     requires script { IsValidScript list.now script.now }
     ensures { Shows (modes_ending list.now script.now text.now) (K.output out.old) (K.output out.new) (alone result) }
