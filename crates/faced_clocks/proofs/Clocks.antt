@@ -32,6 +32,7 @@ use Rattle.fault_plan.specs.Fates.{is_measured, tally}
 use Rattle.fault_plan.specs.Places.{planned_place}
 use Rattle.fault_plan.proofs.Counts.{four-measured}
 use Rattle.fault_plan.proofs.Members.{first-sender}
+use Rattle.fault_plan.proofs.Returns.{none-enters}
 use Rattle.safety_clocks.specs.NotedByPlan.{IsSoundIn, StartedByPlan, NotedInSlot, NotedByPlan}
 use Rattle.safety_clocks.proofs.NearNotes.{clock_moved, clock-next, notes-next, index-of}
 use Rattle.safety_clocks.proofs.RoundNotes.{Counted, sound-goes, sender-in, place-slot}
@@ -41,7 +42,7 @@ use Rattle.faced_clocks.proofs.PulledNotes.{Locate, AreTurns, test_of}
 use Rattle.faced_clocks.proofs.Rounds.{after_pull, width, in_round, Round, round_begins, round_goes, round_ends}
 use Rattle.faced_clocks.proofs.Rounds.{round_within, in_round_bound}
 use Rattle.faced_clocks.proofs.Slots.{IsFacing, Group, to_sound, of_sound, drifts, errors, errors_first, still}
-use Rattle.faced_clocks.proofs.Slots.{frame_is, have_drifted, slot_notes}
+use Rattle.faced_clocks.proofs.Slots.{stay, frame_is, have_drifted, slot_notes}
 
 -- The correction.
 
@@ -166,7 +167,7 @@ module _ (list : Medl) (script : Script) (start : ClusterStart) (z : ℕ) (plan 
     first_still k a =
         let here : start.slot + 0 ≡ length history = omega (arith, started.number) in
         subst (λ t. jump_of script k t ≡ pos 0) here
-        (f.follows.clocks 0 0 k a.0 (omega (arith, within)) (omega arith)
+        (f.follows.clocks 0 k a.0 (omega (arith, within))
         (to_sound list script start z plan f 0 k a).1)
 
     frame_first : (k : ℕ) → Group list plan k → frame_of list script history k ≡ clock_after list script history k
@@ -323,6 +324,7 @@ module _ (list : Medl) (script : Script) (start : ClusterStart) (z : ℕ) (plan 
     goes : (k : ℕ) → Group list plan k → continues_stint (entry_of row k) ≡ true
     goes k a =
         sound-goes list script plan (suc turn) k row history noted (to_sound list script start z plan f (suc turn) k a)
+        (none-enters plan (suc turn) k (stay list script start z plan f))
 
     uncorrected : Round list (Group list plan) z start.slot (suc (length history)) (suc q)
         (clock_moved list script history) (round_notes list (row ∷ history))
@@ -351,7 +353,8 @@ module _ (list : Medl) (script : Script) (start : ClusterStart) (z : ℕ) (plan 
         four-measured plan (suc turn) from f.follows.good (omega (arith, within, slots)) round in
         let count : length (round_notes list (row ∷ history) k) ≡ tally (is_measured plan) from (suc q) =
         counted.notes k from (to_sound list script start z plan f (suc turn) k a)
-        (omega (arith, round, late, number, nodes)) (omega (arith, round, whole)) in
+        (omega (arith, round, late, number, nodes)) (omega (arith, round, whole))
+        (λ turn after to. none-enters plan turn k (stay list script start z plan f)) in
         subst (λ n. 4 ≤ n) (ap (tally (is_measured plan) from) whole ∙ sym count) many
 
     clock_is : (k : ℕ) → Group list plan k

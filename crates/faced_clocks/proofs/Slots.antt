@@ -26,11 +26,12 @@ use Rattle.fault_plan.specs.Plan.{Plan, sender}
 use Rattle.fault_plan.specs.Fates.{is_good_slot}
 use Rattle.fault_plan.specs.Kept.{FollowsPlan}
 use Rattle.fault_plan.specs.Places.{planned_place}
+use Rattle.fault_plan.proofs.Returns.{none-enters}
 use Rattle.safety_clocks.specs.NotedByPlan.{IsSoundIn, NotedInSlot}
 use Rattle.safety_clocks.proofs.NearNotes.{clock_moved}
 use Rattle.safety_clocks.proofs.RoundNotes.{none-silent, sender-in}
 use Rattle.faced_clocks.specs.Errors.{bound, is_faced_slot, allowed_error, HasFacedClocks}
-use Rattle.faced_clocks.proofs.Lossless.{sound-always}
+use Rattle.faced_clocks.proofs.Lossless.{sound-always, none-returns}
 use Rattle.faced_clocks.proofs.PulledNotes.{Locate, AreTurns, AreTurns-later}
 use Rattle.faced_clocks.proofs.Rounds.{width, Round, SlotNotes}
 
@@ -65,11 +66,14 @@ beside_error b e w h = omega (arith, ints, h)
 
 module _ (list : Medl) (script : Script) (start : ClusterStart) (z : ℕ) (plan : Plan)
     (f : IsFacing list script start z plan) where
+  pub stay : plan.returns ≡ []
+  stay = none-returns plan f.follows.good f.none
+
   pub to_sound : (slot k : ℕ) → Group list plan k → IsSoundIn list plan slot k
-  to_sound slot k p = (p.0, sound-always plan slot k f.none ∙ p.1)
+  to_sound slot k p = (p.0, sound-always plan slot k f.none stay ∙ p.1)
 
   pub of_sound : (slot k : ℕ) → IsSoundIn list plan slot k → Group list plan k
-  of_sound slot k p = (p.0, sym (sound-always plan slot k f.none) ∙ p.1)
+  of_sound slot k p = (p.0, sym (sound-always plan slot k f.none stay) ∙ p.1)
 
   pub drifts : (k : ℕ) → k < length list.slots → IsUpTo list.drift (drift_of script k)
   drifts k node = upto_of_test list.drift (drift_of script k) (f.clocks.drifts k node)
@@ -171,7 +175,7 @@ module _ (list : Medl) (script : Script) (start : ClusterStart) (z : ℕ) (plan 
   pub still : (k : ℕ) → Group list plan k → jump_of script k (length history) ≡ pos 0
   still k p =
       subst (λ t. jump_of script k t ≡ pos 0) (sym number)
-      (f.follows.clocks (suc turn) (suc turn) k p.0 within (omega arith)
+      (f.follows.clocks (suc turn) k p.0 within
       (to_sound list script start z plan f (suc turn) k p).1)
 
   -- a node's frame lies where its clock was after the slot before
@@ -235,7 +239,8 @@ module _ (list : Medl) (script : Script) (start : ClusterStart) (z : ℕ) (plan 
       turn = λ senders turns. turn_in sync senders (sender_turn good) turns;
       noted = λ k p. told_located list script history z q k (planned_place list plan (suc turn)) (width list (suc q))
           (clock_moved list script history k) r.began (entry_of row k)
-          (noted.good k good (to_sound list script start z plan f (suc turn) k p)) (own k p)
+          (noted.good k good (to_sound list script start z plan f (suc turn) k p)
+          (none-enters plan (suc turn) k (stay list script start z plan f))) (own k p)
           (heard k p (sender_turn good));
     }
     by_good false wrong = record {

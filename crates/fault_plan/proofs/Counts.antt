@@ -1,21 +1,23 @@
 -- How much a node of a good plan has seen since its own slot.
-use Rattle.std.proofs.Common.{◌≡◌, ℕ, suc, ◌+◌, ◌-◌, ◌<◌, ◌≤◌, Bool, true, false, length}
-use Rattle.std.proofs.Common.{refl, ap, sym, subst, ◌∙◌, inl, inr, arith}
+use Rattle.std.proofs.Common.{◌≡◌, ℕ, suc, ◌+◌, ◌-◌, ◌*◌, ◌<◌, ◌≤◌, Bool, true, false, length}
+use Rattle.std.proofs.Common.{Some, ◌⊎◌, refl, ap, sym, subst, ◌∙◌, inl, inr, arith}
 use Rattle.std.specs.Prelude.{if◌then◌else◌}
 use Rattle.std.specs.List.{filter}
 use Rattle.std.proofs.lemmas.Bool.{cases_lt, cases_eq, eqb-true, both_ways, and_parts, and_from, false_from_ne_true}
 use Rattle.ttp_base.specs.NodeSet.{below, has_node}
 use Rattle.std.proofs.lemmas.Option.{same_Some}
-use Rattle.fault_plan.specs.Plan.{Change, Incident, Plan, sender, incident_at}
-use Rattle.fault_plan.specs.Fates.{Fate, Absent, Sound, Falling, Fallen, fate_of, is_sound_after, is_good_slot}
+use Rattle.fault_plan.specs.Plan.{Change, Incident, Plan, sender, incident_at, enters}
+use Rattle.fault_plan.specs.Fates.{Fate, Absent, Sound, Falling, Fallen, Listening, fate_of, is_good_slot}
 use Rattle.fault_plan.specs.Fates.{is_first_slot}
-use Rattle.fault_plan.specs.Fates.{is_shown_in, is_steady_after, sound_nodes, steady_nodes, tally, is_measured}
+use Rattle.fault_plan.specs.Fates.{is_shown_in, is_lasting_after, is_steady_after, lasting_nodes, steady_nodes, tally}
+use Rattle.fault_plan.specs.Fates.{is_measured}
 use Rattle.fault_plan.specs.GoodPlan.{IsGoodPlan}
 use Rattle.fault_plan.specs.Ledger.{ledger_of}
-use Rattle.fault_plan.specs.Told.{IsLossOf, IsTold}
+use Rattle.fault_plan.specs.Told.{IsLossOf, IsLedgerOf, IsTold}
 use Rattle.fault_plan.proofs.FateTells.{fate-told}
 use Rattle.fault_plan.proofs.Ledgers.{ledger-told}
-use Rattle.fault_plan.proofs.Persists.{sound-before}
+use Rattle.fault_plan.proofs.Persists.{lasting-before}
+use Rattle.fault_plan.proofs.Returns.{entry-is}
 use Rattle.fault_plan.proofs.Tallies.{count-fewer, count-none, count-one, count-below, count-round}
 use Rattle.fault_plan.proofs.Turns.{next_turn, turns_apart}
 
@@ -34,6 +36,7 @@ first-is : (plan : Plan) (slot : ℕ) (fate : Fate) → IsTold plan slot (sender
 first-is plan slot Absent told first = absurd (both_ways false refl first)
 first-is plan slot Sound told first = absurd (both_ways false refl first)
 first-is plan slot (Falling change since) told first = absurd (both_ways false refl first)
+first-is plan slot (Listening since) told first = absurd (both_ways false refl first)
 first-is plan slot (Fallen change since shown) told first =
     let now : shown ≡ slot = eqb-true shown slot first in
     record {
@@ -87,14 +90,22 @@ bad-own plan slot k good less =
     (λ u v above before to one two.
     firsts-apart plan u v good before (omega (arith, told.near, told.within)) one two))
 
-own-base : (plan : Plan) (slot k : ℕ) → IsGoodPlan plan → k < plan.nodes → (ledger_of plan slot k).own ≡ false
-    → slot < plan.nodes
-own-base plan slot k good less none =
-    let next = next_turn plan 0 k (omega (arith, good.count)) less in
-    let told = ledger-told plan slot k good less in
-    elim (cases_lt slot next.0) [
-      | inl after ↦ omega (arith, after, next.1.1)
-      | inr not ↦ absurd (both_ways (ledger_of plan slot k).own none (told.newest next.0 not next.1.2).0)
+-- In a first round, after the start or after an entry, no loss is near.
+loss-far : (plan : Plan) (slot base k since : ℕ) (incident : Incident) → IsGoodPlan plan
+    → incident_at plan since ≡ Some incident → (base ≡ 0) ⊎ (enters plan base k ≡ true)
+    → slot < base + plan.nodes → since ≤ slot
+    → since + 2 * plan.nodes ≤ base
+loss-far plan slot base k since incident good found (inl start) near from =
+    let late = good.late since incident found in
+    absurd (omega (arith, late, start, near, from, good.count))
+loss-far plan slot base k since incident good found (inr enter) near from =
+    let entry = entry-is plan base k enter in
+    let of_r = good.returns entry.return entry.among in
+    let at = entry.entered in
+    let after = of_r.after in
+    elim (of_r.losses since incident found) [
+      | inl early ↦ omega (arith, early, after, at)
+      | inr late ↦ absurd (omega (arith, late, at, near, from, good.count))
     ]
 
 pub bad-first : (plan : Plan) (slot k : ℕ) → IsGoodPlan plan → k < plan.nodes → (ledger_of plan slot k).own ≡ false
@@ -102,23 +113,26 @@ pub bad-first : (plan : Plan) (slot k : ℕ) → IsGoodPlan plan → k < plan.no
 bad-first plan slot k good less none =
     let ledger = ledger_of plan slot k in
     let told = ledger-told plan slot k good less in
-    let early = own-base plan slot k good less none in
     told.bad
     ∙ count-none (is_first_slot plan) (suc ledger.base) (slot - ledger.base)
     (λ u above to. false_from_ne_true (is_first_slot plan u) (λ first.
     let is = first-of plan u good first in
-    omega (arith, is.loss.late, is.from, early, told.within)))
+    let far =
+    loss-far plan slot ledger.base k is.since is.loss.incident good is.loss.found (told.began none) told.near
+    (omega (arith, is.from, to, told.within)) in
+    omega (arith, far, is.soon, above)))
 
 -- Good slots.
 
--- in each round there are as many good slots, whose senders pass a test, as sound nodes at its end that pass it
+-- in each round there are as many good slots, whose senders pass a test, as nodes that pass it and last to its end
 good-round : (plan : Plan) (p q : ℕ → Bool) (slot from : ℕ) → from + plan.nodes ≡ suc slot
-    → ((u : ℕ) → u ≤ slot → p (sender plan u) ≡ true → q u ≡ true)
+    → ((u : ℕ) → u ≤ slot → slot < u + plan.nodes → p (sender plan u) ≡ true → q u ≡ true)
     → length (filter p (below plan.nodes)) ≤ tally q from plan.nodes
 good-round plan p q slot from is tells =
     let all = count-round plan p from in
     let fewer =
-    count-fewer (λ u. p (sender plan u)) q from plan.nodes (λ u above to passes. tells u (omega (arith, is)) passes) in
+    count-fewer (λ u. p (sender plan u)) q from plan.nodes
+    (λ u above to passes. tells u (omega (arith, is)) (omega (arith, is, above)) passes) in
     omega (arith, all, fewer)
 
 pub four-measured : (plan : Plan) (slot from : ℕ) → IsGoodPlan plan → slot < plan.slots → from + plan.nodes ≡ suc slot
@@ -126,11 +140,11 @@ pub four-measured : (plan : Plan) (slot from : ℕ) → IsGoodPlan plan → slot
 four-measured plan slot from good within is =
     let steady = good.steady slot within in
     let round =
-    good-round plan (is_steady_after plan slot) (is_measured plan) slot from is (λ u to steady.
+    good-round plan (is_steady_after plan slot) (is_measured plan) slot from is (λ u to near steady.
     let parts =
-    and_parts (has_node plan.measured (sender plan u)) (is_sound_after plan slot (sender plan u)) steady in
+    and_parts (has_node plan.measured (sender plan u)) (is_lasting_after plan slot (sender plan u)) steady in
     and_from (is_good_slot plan u) (has_node plan.measured (sender plan u))
-    (sound-before plan u slot (sender plan u) to parts.1) parts.0) in
+    (lasting-before plan u slot (sender plan u) to near parts.1) parts.0) in
     omega (arith, steady, round)
 
 one-more : (b : Bool) (n : ℕ) → (if b then 1 else 0) + n ≤ suc n
@@ -145,13 +159,13 @@ count-front p from many nodes is =
 
 pub seen-round : (plan : Plan) (slot k : ℕ) → IsGoodPlan plan → k < plan.nodes → sender plan (suc slot) ≡ k
     → (ledger_of plan slot k).own ≡ true
-    → length (sound_nodes plan slot) ≤ suc (ledger_of plan slot k).seen
+    → length (lasting_nodes plan slot) ≤ suc (ledger_of plan slot k).seen
 seen-round plan slot k good less turn own =
     let ledger = ledger_of plan slot k in
     let base = ledger.base in
     let n = plan.nodes in
     let told = ledger-told plan slot k good less in
-    let p : ℕ → Bool = is_sound_after plan slot in
+    let p : ℕ → Bool = is_lasting_after plan slot in
     let apart =
     turns_apart plan base (suc slot) (omega (arith, good.count)) (omega (arith, told.within))
     (told.owned own ∙ sym turn) in
@@ -160,21 +174,24 @@ seen-round plan slot k good less turn own =
     let front = count-front (λ u. p (sender plan u)) (suc base) (slot - base) n round in
     let fewer =
     count-fewer (λ u. p (sender plan u)) (is_good_slot plan) (suc base) (slot - base)
-    (λ u above to sound. sound-before plan u slot (sender plan u) (omega (arith, told.within)) sound) in
+    (λ u above to lasting.
+    lasting-before plan u slot (sender plan u) (omega (arith, to, told.within)) (omega (arith, above, told.near)) lasting)
+    in
     omega (arith, all, front, fewer, told.seen)
 
 -- of which there are four or more
-steady-sound : (plan : Plan) (slot : ℕ) → length (steady_nodes plan slot) ≤ length (sound_nodes plan slot)
-steady-sound plan slot =
+steady-lasting : (plan : Plan) (slot : ℕ) → length (steady_nodes plan slot) ≤ length (lasting_nodes plan slot)
+steady-lasting plan slot =
     let few =
-    count-fewer (is_steady_after plan slot) (is_sound_after plan slot) 0 plan.nodes (λ u above to steady.
-    (and_parts (has_node plan.measured u) (is_sound_after plan slot u) steady).1) in
+    count-fewer (is_steady_after plan slot) (is_lasting_after plan slot) 0 plan.nodes (λ u above to steady.
+    (and_parts (has_node plan.measured u) (is_lasting_after plan slot u) steady).1) in
     let one = count-below (is_steady_after plan slot) plan.nodes in
-    let two = count-below (is_sound_after plan slot) plan.nodes in
+    let two = count-below (is_lasting_after plan slot) plan.nodes in
     omega (arith, few, one, two)
 
-pub four-sound : (plan : Plan) (slot : ℕ) → IsGoodPlan plan → slot < plan.slots → 4 ≤ length (sound_nodes plan slot)
-four-sound plan slot good within =
+pub four-lasting : (plan : Plan) (slot : ℕ) → IsGoodPlan plan → slot < plan.slots
+    → 4 ≤ length (lasting_nodes plan slot)
+four-lasting plan slot good within =
     let steady = good.steady slot within in
-    let few = steady-sound plan slot in
+    let few = steady-lasting plan slot in
     omega (arith, steady, few)

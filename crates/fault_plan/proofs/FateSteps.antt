@@ -1,9 +1,10 @@
 -- What a slot makes of a fate.
-use Rattle.std.proofs.Common.{◌≡◌, ℕ, Bool, true, false, cond, not, ◌&&◌, ◌||◌, Option, Some, None, refl, ◌∙◌}
+use Rattle.std.proofs.Common.{◌≡◌, ℕ, Bool, true, false, cond, not, ◌&&◌, ◌||◌, Option, Some, None, refl, ap, sym, ◌∙◌}
+use Rattle.std.proofs.lemmas.Bool.{both_ways, and_parts}
 use Rattle.std.specs.Prelude.{◌==◌}
-use Rattle.fault_plan.specs.Plan.{Change, Incident, Plan, sender, incident_at}
-use Rattle.fault_plan.specs.Fates.{Fate, Absent, Sound, Falling, Fallen, struck, turned, next_fate, is_sound}
-use Rattle.fault_plan.specs.Fates.{is_lost, lost_since}
+use Rattle.fault_plan.specs.Plan.{Change, Incident, Plan, sender, incident_at, is_armed_by, enters}
+use Rattle.fault_plan.specs.Fates.{Fate, Absent, Sound, Falling, Fallen, Listening, armed_in, entered_in, struck, turned}
+use Rattle.fault_plan.specs.Fates.{next_fate, is_sound, is_lost, lost_since}
 use Rattle.fault_plan.proofs.Tests.{and-true}
 
 -- an incident is that of a node
@@ -19,7 +20,16 @@ turned-same read true slot Absent alike = refl
 turned-same read true slot Sound alike = refl
 turned-same read true slot (Falling change since) alike = alike change since slot
 turned-same read true slot (Fallen change since shown) alike = refl
+turned-same read true slot (Listening since) alike = refl
 turned-same read false slot fate alike = refl
+
+-- the fate of a sound node
+pub sound-fate : (fate : Fate) → is_sound fate ≡ true → fate ≡ Sound
+sound-fate Sound sound = refl
+sound-fate Absent sound = absurd (both_ways false refl sound)
+sound-fate (Falling change since) sound = absurd (both_ways false refl sound)
+sound-fate (Fallen change since shown) sound = absurd (both_ways false refl sound)
+sound-fate (Listening since) sound = absurd (both_ways false refl sound)
 
 sound-hit : (hit : Bool) (change : Change) (slot : ℕ) (fate : Fate)
     → is_sound (cond hit (Falling change slot) fate) ≡ (is_sound fate && not hit)
@@ -27,10 +37,12 @@ sound-hit true change slot Absent = refl
 sound-hit true change slot Sound = refl
 sound-hit true change slot (Falling c since) = refl
 sound-hit true change slot (Fallen c since shown) = refl
+sound-hit true change slot (Listening since) = refl
 sound-hit false change slot Absent = refl
 sound-hit false change slot Sound = refl
 sound-hit false change slot (Falling c since) = refl
 sound-hit false change slot (Fallen c since shown) = refl
+sound-hit false change slot (Listening since) = refl
 
 lost-hit : (hit : Bool) (change : Change) (slot : ℕ) (fate : Fate)
     → is_lost (cond hit (Falling change slot) fate) ≡ (hit || is_lost fate)
@@ -47,17 +59,83 @@ lost-struck : (slot k : ℕ) (fate : Fate) (found : Option Incident)
 lost-struck slot k fate None = refl
 lost-struck slot k fate (Some incident) = lost-hit (incident.node == k) incident.change slot fate
 
-pub sound-next : (plan : Plan) (slot k : ℕ) (fate : Fate)
+-- A node that neither listens again from a slot on nor enters in it is as the incident and its turn make it.
+pub next-same : (plan : Plan) (slot k : ℕ) (fate : Fate) → is_armed_by plan slot k ≡ false
+    → enters plan slot k ≡ false
+    → next_fate plan slot k fate
+    ≡ turned (sender plan slot == k) slot (struck slot k fate (incident_at plan slot))
+next-same plan slot k fate armed entered =
+    λ i. turned (sender plan slot == k) slot
+    (entered_in (entered i) (struck slot k (armed_in (armed i) slot fate) (incident_at plan slot)))
+
+turned-sound : (own : Bool) (slot : ℕ) → turned own slot Sound ≡ Sound
+turned-sound true slot = refl
+turned-sound false slot = refl
+
+-- one that enters is sound
+pub next-entered : (plan : Plan) (slot k : ℕ) (fate : Fate) → enters plan slot k ≡ true
+    → next_fate plan slot k fate ≡ Sound
+next-entered plan slot k fate entered =
+    ap (λ b. turned (sender plan slot == k) slot
+    (entered_in b (struck slot k (armed_in (is_armed_by plan slot k) slot fate) (incident_at plan slot)))) entered
+    ∙ turned-sound (sender plan slot == k) slot
+
+turned-listening : (own : Bool) (slot since : ℕ) → turned own slot (Listening since) ≡ Listening since
+turned-listening true slot since = refl
+turned-listening false slot since = refl
+
+-- one that is armed listens
+pub next-armed : (plan : Plan) (slot k : ℕ) (fate : Fate) → is_armed_by plan slot k ≡ true
+    → enters plan slot k ≡ false → incident_at plan slot ≡ None
+    → next_fate plan slot k fate ≡ Listening slot
+next-armed plan slot k fate armed entered quiet =
+    (λ i. turned (sender plan slot == k) slot
+    (entered_in (entered i) (struck slot k (armed_in (armed i) slot fate) (quiet i))))
+    ∙ turned-listening (sender plan slot == k) slot slot
+
+-- and goes on to
+pub next-listening : (plan : Plan) (slot k since : ℕ) → is_armed_by plan slot k ≡ false
+    → enters plan slot k ≡ false → incident_at plan slot ≡ None
+    → next_fate plan slot k (Listening since) ≡ Listening since
+next-listening plan slot k since armed entered quiet =
+    (λ i. turned (sender plan slot == k) slot
+    (entered_in (entered i) (struck slot k (armed_in (armed i) slot (Listening since)) (quiet i))))
+    ∙ turned-listening (sender plan slot == k) slot since
+
+pub sound-next : (plan : Plan) (slot k : ℕ) (fate : Fate) → is_armed_by plan slot k ≡ false
+    → enters plan slot k ≡ false
     → is_sound (next_fate plan slot k fate) ≡ (is_sound fate && not (strikes (incident_at plan slot) k))
-sound-next plan slot k fate =
-    turned-same is_sound (sender plan slot == k) slot (struck slot k fate (incident_at plan slot))
+sound-next plan slot k fate armed entered =
+    ap is_sound (next-same plan slot k fate armed entered)
+    ∙ turned-same is_sound (sender plan slot == k) slot (struck slot k fate (incident_at plan slot))
     (λ change since shown. refl)
     ∙ sound-struck slot k fate (incident_at plan slot)
 
-pub lost-next : (plan : Plan) (slot k : ℕ) (fate : Fate)
+-- only an entry makes a node sound
+pub sound-from : (plan : Plan) (slot k : ℕ) (fate : Fate) → enters plan slot k ≡ false
+    → is_sound (next_fate plan slot k fate) ≡ true
+    → is_sound fate ≡ true
+sound-from plan slot k fate entered sound = by (is_armed_by plan slot k) refl
+  where
+    by : (armed : Bool) → is_armed_by plan slot k ≡ armed → is_sound fate ≡ true
+    by true armed =
+        let listens = struck slot k (Listening slot) (incident_at plan slot) in
+        absurd (both_ways (is_sound (struck slot k (Listening slot) (incident_at plan slot)))
+        (sound-struck slot k (Listening slot) (incident_at plan slot))
+        (sym (turned-same is_sound (sender plan slot == k) slot listens (λ change since shown. refl))
+        ∙ (λ i. is_sound (turned (sender plan slot == k) slot
+        (entered_in (sym entered i) (struck slot k (armed_in (sym armed i) slot fate) (incident_at plan slot)))))
+        ∙ sound))
+    by false armed =
+        (and_parts (is_sound fate) (not (strikes (incident_at plan slot) k))
+        (sym (sound-next plan slot k fate armed entered) ∙ sound)).0
+
+pub lost-next : (plan : Plan) (slot k : ℕ) (fate : Fate) → is_armed_by plan slot k ≡ false
+    → enters plan slot k ≡ false
     → is_lost (next_fate plan slot k fate) ≡ (strikes (incident_at plan slot) k || is_lost fate)
-lost-next plan slot k fate =
-    turned-same is_lost (sender plan slot == k) slot (struck slot k fate (incident_at plan slot))
+lost-next plan slot k fate armed entered =
+    ap is_lost (next-same plan slot k fate armed entered)
+    ∙ turned-same is_lost (sender plan slot == k) slot (struck slot k fate (incident_at plan slot))
     (λ change since shown. refl)
     ∙ lost-struck slot k fate (incident_at plan slot)
 
@@ -71,16 +149,20 @@ since-hit : (slot k : ℕ) (fate : Fate) (found : Option Incident) → strikes f
 since-hit slot k fate None hit = cc
 since-hit slot k fate (Some incident) hit = rw hit
 
-pub since-kept : (plan : Plan) (slot k : ℕ) (fate : Fate) → strikes (incident_at plan slot) k ≡ false
+pub since-kept : (plan : Plan) (slot k : ℕ) (fate : Fate) → is_armed_by plan slot k ≡ false
+    → enters plan slot k ≡ false → strikes (incident_at plan slot) k ≡ false
     → lost_since (next_fate plan slot k fate) ≡ lost_since fate
-since-kept plan slot k fate missed =
-    turned-same lost_since (sender plan slot == k) slot (struck slot k fate (incident_at plan slot))
+since-kept plan slot k fate armed entered missed =
+    ap lost_since (next-same plan slot k fate armed entered)
+    ∙ turned-same lost_since (sender plan slot == k) slot (struck slot k fate (incident_at plan slot))
     (λ change since shown. refl)
     ∙ since-struck slot k fate (incident_at plan slot) missed
 
-pub since-now : (plan : Plan) (slot k : ℕ) (fate : Fate) → strikes (incident_at plan slot) k ≡ true
+pub since-now : (plan : Plan) (slot k : ℕ) (fate : Fate) → is_armed_by plan slot k ≡ false
+    → enters plan slot k ≡ false → strikes (incident_at plan slot) k ≡ true
     → lost_since (next_fate plan slot k fate) ≡ Some slot
-since-now plan slot k fate hit =
-    turned-same lost_since (sender plan slot == k) slot (struck slot k fate (incident_at plan slot))
+since-now plan slot k fate armed entered hit =
+    ap lost_since (next-same plan slot k fate armed entered)
+    ∙ turned-same lost_since (sender plan slot == k) slot (struck slot k fate (incident_at plan slot))
     (λ change since shown. refl)
     ∙ since-hit slot k fate (incident_at plan slot) hit

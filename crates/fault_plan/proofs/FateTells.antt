@@ -5,14 +5,17 @@ use Rattle.std.proofs.Common.{ap, sym, subst, ◌∙◌, inl, inr, arith}
 use Rattle.std.specs.Prelude.{◌==◌}
 use Rattle.std.proofs.lemmas.Bool.{cases_lt, cases_eq, eqb-true, eqb-false, both_ways, ltb-true, le-ltb}
 use Rattle.std.proofs.lemmas.Bool.{false_from_ne_true}
+use Rattle.std.specs.List.{Contains}
 use Rattle.std.proofs.lemmas.Option.{same_Some}
 use Rattle.std.proofs.Math.Nat.{eq-or-lt_of_le}
 use Rattle.ttp_base.specs.NodeSet.{has_node}
-use Rattle.fault_plan.specs.Plan.{Change, Sending, Incident, Plan, sender, incident_at}
-use Rattle.fault_plan.specs.Fates.{Fate, Absent, Sound, Falling, Fallen, fate_at_begin, struck, turned, fate_of}
-use Rattle.fault_plan.specs.Fates.{lost_since, may_stay}
+use Rattle.fault_plan.specs.Plan.{Change, Sending, Incident, Return, Plan, sender, incident_at, is_armed_by, enters}
+use Rattle.fault_plan.specs.Fates.{Fate, Absent, Sound, Falling, Fallen, Listening, fate_at_begin, struck, turned}
+use Rattle.fault_plan.specs.Fates.{fate_of, is_lost, lost_since, may_stay}
 use Rattle.fault_plan.specs.GoodPlan.{IsGoodPlan}
-use Rattle.fault_plan.specs.Told.{IsFallen, IsLossOf, IsTold}
+use Rattle.fault_plan.specs.Told.{IsFallen, IsListening, IsLossOf, IsTold}
+use Rattle.fault_plan.proofs.FateSteps.{next-same, next-entered, next-armed}
+use Rattle.fault_plan.proofs.Returns.{armed-is, enters-by, armed-lost, armed-quiet, armed-late, enters-late}
 use Rattle.fault_plan.proofs.Tests.{never-found}
 use Rattle.fault_plan.proofs.Turns.{next_turn}
 
@@ -55,15 +58,45 @@ fallen-kept plan slot k since shown change told = record {
   sending = told.sending;
 }
 
--- of a node that no incident loses
-told-kept : (plan : Plan) (slot k : ℕ) (own : Bool) (fate : Fate) → IsGoodPlan plan
+-- the slot in which a node enters is still to come, where it does not enter in this one
+not-yet : (plan : Plan) (r : Return) (slot k : ℕ) → Contains plan.returns r → r.node ≡ k → slot ≤ r.entered
+    → enters plan slot k ≡ false → slot < plan.slots
+    → slot < r.entered
+not-yet plan r slot k among node to none within = elim (eq-or-lt_of_le to) [
+  | inl same ↦
+      absurd (both_ways (enters plan slot k) none
+      ((λ i. enters plan (same i) (sym node i)) ∙ enters-by plan r among (omega (arith, same, within))))
+  | inr less ↦ less
+]
+
+listening-kept : (plan : Plan) (slot k since : ℕ) → enters plan (suc slot) k ≡ false
+    → IsListening plan slot k since
+    → IsListening plan (suc slot) k since
+listening-kept plan slot k since none told =
+    let r = told.return in
+    let waits : slot < plan.slots → slot < r.entered = told.waits in
+    record {
+      return = told.return;
+      among = told.among;
+      node = told.node;
+      armed = told.armed;
+      from = omega (arith, told.from);
+      waits = λ within.
+          let before = waits (omega (arith, within)) in
+          not-yet plan told.return (suc slot) k told.among told.node (omega (arith, before)) none within;
+    }
+
+-- of a node that no incident loses, and that neither listens again nor enters in this slot
+told-kept : (plan : Plan) (slot k : ℕ) (own : Bool) (fate : Fate) → IsGoodPlan plan → enters plan (suc slot) k ≡ false
     → (sender plan (suc slot) == k) ≡ own → IsTold plan slot k fate
     → IsTold plan (suc slot) k (turned own (suc slot) fate)
-told-kept plan slot k true Absent good turn told = tt
-told-kept plan slot k false Absent good turn told = tt
-told-kept plan slot k true Sound good turn told = tt
-told-kept plan slot k false Sound good turn told = tt
-told-kept plan slot k true (Falling change since) good turn told = record {
+told-kept plan slot k true Absent good none turn told = tt
+told-kept plan slot k false Absent good none turn told = tt
+told-kept plan slot k true Sound good none turn told = tt
+told-kept plan slot k false Sound good none turn told = tt
+told-kept plan slot k true (Listening since) good none turn told = listening-kept plan slot k since none told
+told-kept plan slot k false (Listening since) good none turn told = listening-kept plan slot k since none told
+told-kept plan slot k true (Falling change since) good none turn told = record {
   loss = told.loss;
   from = (omega (arith, told.from), omega arith);
   soon = told.soon;
@@ -71,7 +104,7 @@ told-kept plan slot k true (Falling change since) good turn told = record {
   sending = λ is.
       absurd (told.unshown since (omega arith) told.from (loss-sending plan k since change good told.loss is));
 }
-told-kept plan slot k false (Falling change since) good turn told =
+told-kept plan slot k false (Falling change since) good none turn told =
     let less = loss-node plan k since change good told.loss in
     let next = next_turn plan since k (omega (arith, good.count)) less in
     let unshown : (t : ℕ) → since ≤ t → t ≤ suc slot → sender plan t ≢ k =
@@ -89,9 +122,9 @@ told-kept plan slot k false (Falling change since) good turn told =
       soon = omega (arith, later, next.1.1);
       unshown = unshown;
     }
-told-kept plan slot k true (Fallen change since shown) good turn told =
+told-kept plan slot k true (Fallen change since shown) good none turn told =
     fallen-kept plan slot k since shown change told
-told-kept plan slot k false (Fallen change since shown) good turn told =
+told-kept plan slot k false (Fallen change since shown) good none turn told =
     fallen-kept plan slot k since shown change told
 
 -- of a node that one loses
@@ -128,28 +161,63 @@ told-lost plan slot k own incident good turn found node =
     }
 
 told-hit : (plan : Plan) (slot k : ℕ) (fate : Fate) (incident : Incident) (hit : Bool) → IsGoodPlan plan
+    → enters plan (suc slot) k ≡ false
     → incident_at plan (suc slot) ≡ Some incident → (incident.node == k) ≡ hit → IsTold plan slot k fate
     → IsTold plan (suc slot) k
     (turned (sender plan (suc slot) == k) (suc slot) (cond hit (Falling incident.change (suc slot)) fate))
-told-hit plan slot k fate incident true good found hit told =
+told-hit plan slot k fate incident true good none found hit told =
     told-lost plan slot k (sender plan (suc slot) == k) incident good refl found (eqb-true incident.node k hit)
-told-hit plan slot k fate incident false good found hit told =
-    told-kept plan slot k (sender plan (suc slot) == k) fate good refl told
+told-hit plan slot k fate incident false good none found hit told =
+    told-kept plan slot k (sender plan (suc slot) == k) fate good none refl told
 
 told-next : (plan : Plan) (slot k : ℕ) (fate : Fate) (found : Option Incident) → IsGoodPlan plan
-    → incident_at plan (suc slot) ≡ found → IsTold plan slot k fate
+    → enters plan (suc slot) k ≡ false → incident_at plan (suc slot) ≡ found → IsTold plan slot k fate
     → IsTold plan (suc slot) k (turned (sender plan (suc slot) == k) (suc slot) (struck (suc slot) k fate found))
-told-next plan slot k fate None good is told = told-kept plan slot k (sender plan (suc slot) == k) fate good refl told
-told-next plan slot k fate (Some incident) good is told =
-    told-hit plan slot k fate incident (incident.node == k) good is refl told
+told-next plan slot k fate None good none is told =
+    told-kept plan slot k (sender plan (suc slot) == k) fate good none refl told
+told-next plan slot k fate (Some incident) good none is told =
+    told-hit plan slot k fate incident (incident.node == k) good none is refl told
+
+-- of a node that listens again
+armed-told : (plan : Plan) (slot k : ℕ) → IsGoodPlan plan → is_armed_by plan slot k ≡ true
+    → enters plan slot k ≡ false
+    → IsListening plan slot k slot
+armed-told plan slot k good is none =
+    let found = armed-is plan slot k is in
+    let r = found.return in
+    let at : r.armed ≡ slot = found.armed in
+    let after : r.armed ≤ r.entered = (good.returns found.return found.among).after in
+    record {
+      return = found.return;
+      among = found.among;
+      node = found.node;
+      armed = found.armed;
+      from = omega arith;
+      waits = not-yet plan found.return slot k found.among found.node (omega (arith, at, after)) none;
+    }
 
 pub fate-told : (plan : Plan) (slot k : ℕ) → IsGoodPlan plan → IsTold plan slot k (fate_of plan slot k)
 fate-told plan zero k good =
     let own = sender plan 0 == k in
-    subst (λ found. IsTold plan 0 k (turned own 0 (struck 0 k (fate_at_begin plan k) found)))
-    (sym (none-first plan good)) (told-begin plan k own (has_node plan.begin k))
+    subst (IsTold plan 0 k)
+    (sym (next-same plan 0 k (fate_at_begin plan k) (armed-late plan k good) (enters-late plan k good)
+    ∙ ap (λ found. turned own 0 (struck 0 k (fate_at_begin plan k) found)) (none-first plan good)))
+    (told-begin plan k own (has_node plan.begin k))
 fate-told plan (suc slot) k good =
-    told-next plan slot k (fate_of plan slot k) (incident_at plan (suc slot)) good refl (fate-told plan slot k good)
+    by (fate-told plan slot k good) (is_armed_by plan (suc slot) k) (enters plan (suc slot) k) refl refl
+  where
+    by : IsTold plan slot k (fate_of plan slot k) → (armed entered : Bool) → is_armed_by plan (suc slot) k ≡ armed
+        → enters plan (suc slot) k ≡ entered
+        → IsTold plan (suc slot) k (fate_of plan (suc slot) k)
+    by told armed true arms enter =
+        subst (IsTold plan (suc slot) k) (sym (next-entered plan (suc slot) k (fate_of plan slot k) enter)) tt
+    by told true false arms none =
+        subst (IsTold plan (suc slot) k)
+        (sym (next-armed plan (suc slot) k (fate_of plan slot k) arms none (armed-quiet plan (suc slot) k good arms)))
+        (armed-told plan (suc slot) k good arms none)
+    by told false false arms none =
+        subst (IsTold plan (suc slot) k) (sym (next-same plan (suc slot) k (fate_of plan slot k) arms none))
+        (told-next plan slot k (fate_of plan slot k) (incident_at plan (suc slot)) good none refl told)
 
 -- A lost node that may still stay after a slot was lost less than two rounds before the next.
 
@@ -164,6 +232,7 @@ stays : (plan : Plan) (slot k : ℕ) (fate : Fate) → IsTold plan slot k fate �
     → StaysSince plan slot k
 stays plan slot k Absent told may = absurd (both_ways false refl may)
 stays plan slot k Sound told may = absurd (both_ways false refl may)
+stays plan slot k (Listening since) told may = absurd (both_ways false refl may)
 stays plan slot k (Falling change since) told may = record {
   change = change;
   since = since;
@@ -229,6 +298,7 @@ over-by : (plan : Plan) (slot k since : ℕ) (fate : Fate) → IsTold plan slot 
     → may_stay plan.nodes slot fate ≡ false
 over-by plan slot k since Absent told is over = refl
 over-by plan slot k since Sound told is over = refl
+over-by plan slot k since (Listening from) told is over = refl
 over-by plan slot k since (Falling change at) told is over =
     let same : at ≡ since = same_Some at since is in
     absurd (omega (arith, told.soon))
@@ -241,3 +311,47 @@ pub over : (plan : Plan) (slot k since : ℕ) → IsGoodPlan plan → lost_since
     → may_stay plan.nodes slot (fate_of plan slot k) ≡ false
 over plan slot k since good is after =
     over-by plan slot k since (fate_of plan slot k) (fate-told plan slot k good) is after
+
+-- A node that is armed was lost two rounds before, so that its first own slot since then has come.
+
+pub record WasFallen (plan : Plan) (slot k : ℕ) : Type 0 where
+  pub change : Change
+  pub since : ℕ
+  pub shown : ℕ
+  pub was : fate_of plan slot k ≡ Fallen change since shown
+  pub early : since + 2 * plan.nodes ≤ suc slot
+
+loss-early : (plan : Plan) (slot k since : ℕ) (change : Change) → IsGoodPlan plan → IsLossOf plan k change since
+    → since ≤ slot → is_armed_by plan (suc slot) k ≡ true
+    → since + 2 * plan.nodes ≤ suc slot
+loss-early plan slot k since change good loss from is =
+    let found = armed-is plan (suc slot) k is in
+    let of_r = good.returns found.return found.among in
+    let at = found.armed in
+    let after = of_r.after in
+    elim (of_r.losses since loss.incident loss.found) [
+      | inl early ↦ omega (arith, early, at)
+      | inr late ↦ absurd (omega (arith, late, at, after, from))
+    ]
+
+pub armed-fallen : (plan : Plan) (slot k : ℕ) → IsGoodPlan plan → is_armed_by plan (suc slot) k ≡ true
+    → WasFallen plan slot k
+armed-fallen plan slot k good is =
+    by (fate_of plan slot k) refl (fate-told plan slot k good) (armed-lost plan slot k good is)
+  where
+    by : (fate : Fate) → fate_of plan slot k ≡ fate → IsTold plan slot k fate → is_lost fate ≡ true
+        → WasFallen plan slot k
+    by Absent was told lost = absurd (both_ways false refl lost)
+    by Sound was told lost = absurd (both_ways false refl lost)
+    by (Listening since) was told lost = absurd (both_ways false refl lost)
+    by (Falling change since) was told lost =
+        let early = loss-early plan slot k since change good told.loss told.from is in
+        absurd (omega (arith, early, told.soon))
+    by (Fallen change since shown) was told lost =
+        record {
+          change = change;
+          since = since;
+          shown = shown;
+          was = was;
+          early = loss-early plan slot k since change good told.loss (omega (arith, told.from)) is;
+        }

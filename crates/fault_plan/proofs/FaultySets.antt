@@ -156,8 +156,8 @@ known-next list script start turn slot k fate run is within known =
     let hit = strikes-slot list script start turn slot k run is within in
     let next = faulty-next list script start slot k in
     record {
-      lost = lost-next (plan_of list script start) turn k fate ∙ (λ i. hit i || known.lost i) ∙ sym next;
-      sound = sound-next (plan_of list script start) turn k fate ∙ (λ i. known.sound i && not (hit i))
+      lost = lost-next (plan_of list script start) turn k fate refl refl ∙ (λ i. hit i || known.lost i) ∙ sym next;
+      sound = sound-next (plan_of list script start) turn k fate refl refl ∙ (λ i. known.sound i && not (hit i))
           ∙ still-sound (is_ever_on script k) made faulty ∙ ap (λ b. is_ever_on script k && not b) (sym next);
     }
 

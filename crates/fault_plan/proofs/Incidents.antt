@@ -121,7 +121,7 @@ incident_made list script start slot [] = None
 incident_made list script start slot (k ∷ ks) =
     Some (planned_incident list script start (record { slot = slot; node = k }))
 
-none-slot : (list : Medl) (script : Script) (start : ClusterStart) (turn slot : ℕ) (made : List ℕ)
+pub none-slot : (list : Medl) (script : Script) (start : ClusterStart) (turn slot : ℕ) (made : List ℕ)
     → slot - start.slot ≢ turn
     → incident_among list script start turn (all_in slot made) ≡ None
 none-slot list script start turn slot [] other = refl
@@ -130,7 +130,7 @@ none-slot list script start turn slot (k ∷ made) other =
     (incident_among list script start turn (all_in slot made)) other
     ∙ none-slot list script start turn slot made other
 
-some-slot : (list : Medl) (script : Script) (start : ClusterStart) (turn slot : ℕ) (made : List ℕ)
+pub some-slot : (list : Medl) (script : Script) (start : ClusterStart) (turn slot : ℕ) (made : List ℕ)
     → slot - start.slot ≡ turn
     → incident_among list script start turn (all_in slot made)
     ≡ incident_made list script start slot made
@@ -139,7 +139,7 @@ some-slot list script start turn slot (k ∷ made) same =
     let here : (slot - start.slot == turn) ≡ true = eq-eqb (slot - start.slot) turn same in
     rw here
 
-or-none : (found : Option Incident) → option_or found None ≡ found
+pub or-none : (found : Option Incident) → option_or found None ≡ found
 or-none None = refl
 or-none (Some incident) = refl
 

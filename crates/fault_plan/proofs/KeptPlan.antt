@@ -21,7 +21,7 @@ use Rattle.ttp_world.specs.Script.{is_on, is_ever_on, on_slot}
 use Rattle.ttp_world.proofs.Lists.{nodes-most}
 use Rattle.ttp_world.proofs.Starts.{alone-start, on-start}
 use Rattle.fault_plan.specs.Plan.{plan_of}
-use Rattle.fault_plan.specs.Fates.{fate_of, is_steady_after, steady_nodes, lost_since}
+use Rattle.fault_plan.specs.Fates.{fate_of, is_sound_after, is_steady_after, steady_nodes, lost_since}
 use Rattle.fault_plan.specs.GoodPlan.{IsGoodPlan}
 use Rattle.fault_plan.specs.Kept.{IsPlanOfFaults, FollowsPlan, KeepsByPlan}
 use Rattle.fault_plan.proofs.Bounds.{none-armed, none-flipped, within-bounds}
@@ -32,11 +32,13 @@ use Rattle.fault_plan.proofs.FaultySets.{some-rounds, fates-known}
 use Rattle.fault_plan.proofs.Hearing.{on-ever, on-since, origin-of}
 use Rattle.fault_plan.proofs.Incidents.{found-tells, late-found, apart-found}
 use Rattle.fault_plan.proofs.Members.{first-sender, first-good}
-use Rattle.fault_plan.proofs.Persists.{sound-first, sound-before}
+use Rattle.fault_plan.proofs.Persists.{sound-first}
+use Rattle.fault_plan.proofs.Returns.{none-among}
 use Rattle.fault_plan.proofs.Rules.{RulesHold, rules-hold}
 use Rattle.fault_plan.proofs.Sieves.{none-found}
 use Rattle.fault_plan.proofs.SlotFacts.{heard-slot, loss-slot, was-sound}
 use Rattle.fault_plan.proofs.Spaced.{made_in, all_in, spaced-all}
+use Rattle.fault_plan.proofs.Tests.{and-true}
 
 -- Faulty nodes since when.
 
@@ -54,7 +56,7 @@ older-stay : (list : Medl) (script : Script) (start : ClusterStart) (turn slot :
 older-stay list script start turn slot [] run is within missed lost = tt
 older-stay list script start turn slot (f ∷ faulty) run is within missed lost =
     let plan = plan_of list script start in (
-      since-kept plan (suc turn) f.node (fate_of plan turn f.node)
+      since-kept plan (suc turn) f.node (fate_of plan turn f.node) refl refl
           (strikes-slot list script start (suc turn) slot f.node run is within ∙ missed.0) ∙ lost.0,
       older-stay list script start turn slot faulty run is within missed.1 lost.1,
     )
@@ -100,7 +102,7 @@ since-slot list script start (suc turn) (suc slot) run is within =
           let hit : has_node (made_in list script start (suc slot)) k ≡ true =
           ap (λ ks. has_node ks k) one.1.only ∙ ap (λ b. b || false) (eq-eqb k k refl) in
           subst Newer (sym one.1.only) (
-            since-now plan (suc turn) k (fate_of plan turn k)
+            since-now plan (suc turn) k (fate_of plan turn k) refl refl
                 (strikes-slot list script start (suc turn) (suc slot) k run is within ∙ hit) ∙ ap Some now,
             older-stay list script start turn (suc slot) older run is within
                 (subst Missed (sym one.1.only) (apart-all k older was.none)) lost,
@@ -127,6 +129,7 @@ pub plan-of-faults : (list : Medl) (script : Script) (start : ClusterStart) → 
     → IsSingleFault list script start
     → IsPlanOfFaults list script start (plan_of list script start)
 plan-of-faults list script start started run = record {
+  returns = refl;
   sound = λ turn k less within.
       let slot = start.slot + turn in
       let on : is_ever_on script k ≡ is_on script k slot = on-always list script start turn k run.on less in
@@ -173,7 +176,7 @@ steady-same list script start turn slot run is within =
     (λ k less.
     let measured = sym (has_node-sieve (λ k. (plan_at list k).sync) (length list.slots) k less) in
     let known = sym (fates-known list script start turn slot k run is within less).sound in
-    λ i. measured i && known i)
+    λ i. measured i && (known ∙ and-true (is_sound_after plan turn k)) i)
 
 pub good-plan : (list : Medl) (script : Script) (start : ClusterStart) → IsSingleFault list script start
     → IsGoodPlan (plan_of list script start)
@@ -198,6 +201,7 @@ good-plan list script start run =
           (within-all list script start script.slots script.slots (omega arith)) found in
           let within : suc (start.slot + turn) < script.slots = omega (arith, of.1.at, of.1.holds) in
           loss-slot list script start turn (start.slot + turn) incident run refl within found;
+      returns = λ r among. absurd (none-among plan r refl among);
       steady = λ turn less.
           let slot = start.slot + turn in
           let within : start.slot + turn < script.slots = omega arith in
@@ -248,10 +252,10 @@ follows-plan list script start run =
       on = λ turn k less.
           has_node-sieve (is_ever_on script) n k less ∙ on-always list script start turn k run.on less;
       hearing = λ turn within. heard-slot list script start turn run within;
-      clocks = λ turn earlier k less within before sound.
-          run.bounds.still k (start.slot + earlier)
-          ((heard-slot list script start earlier run (omega arith)).still k less
-          (sound-before (plan_of list script start) earlier turn k before sound));
+      returns = λ r among. absurd (none-among (plan_of list script start) r refl among);
+      clocks = λ turn k less within sound.
+          run.bounds.still k (start.slot + turn)
+          ((heard-slot list script start turn run within).still k less sound);
     }
 
 -- the cold start is heard
@@ -281,7 +285,11 @@ kept-plan list script slot valid keeps =
       alone = run.alone;
       on = run.on;
       arms = λ k slot. none-armed list script k slot rules.outside;
-      follows = record { planned = follows-plan list script rules.start run; bounds = run.bounds };
+      follows = record {
+        planned = follows-plan list script rules.start run;
+        bounds = run.bounds;
+        window = inl refl;
+      };
       faults = plan-of-faults list script rules.start rules.started run;
       heard = λ k within less other on. start-heard list script rules.start k run within less other on;
     }

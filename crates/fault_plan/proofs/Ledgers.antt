@@ -1,10 +1,10 @@
 -- What the ledgers of a good plan tell.
 use Rattle.std.proofs.Common.{◌≡◌, ◌≢◌, ℕ, zero, suc, ◌+◌, ◌-◌, ◌<◌, ◌≤◌, Bool, true, false, cond}
-use Rattle.std.proofs.Common.{refl, ap, sym, ◌∙◌, inl, inr, arith}
+use Rattle.std.proofs.Common.{refl, ap, sym, ◌∙◌, inl, inr, arith, ◌⊎◌}
 use Rattle.std.specs.Prelude.{◌==◌, if◌then◌else◌}
 use Rattle.std.proofs.lemmas.Bool.{cases_lt, eqb-true, eqb-false, both_ways}
 use Rattle.std.proofs.Math.Nat.{eq-or-lt_of_le}
-use Rattle.fault_plan.specs.Plan.{Plan, sender}
+use Rattle.fault_plan.specs.Plan.{Plan, sender, enters}
 use Rattle.fault_plan.specs.Fates.{is_good_slot, is_first_slot, tally}
 use Rattle.fault_plan.specs.GoodPlan.{IsGoodPlan}
 use Rattle.fault_plan.specs.Ledger.{Ledger, opened, with_slot, ledger_of}
@@ -29,7 +29,21 @@ opened-told plan slot k good own = record {
   within = omega arith;
   near = omega (arith, good.count);
   owned = λ _. own;
-  newest = λ turn within at. (refl, within);
+  began = λ none. absurd (both_ways true none refl);
+  newest = λ turn within at. within;
+  seen = none-counted (is_good_slot plan) slot;
+  bad = none-counted (is_first_slot plan) slot;
+}
+
+-- at its entry
+entered-told : (plan : Plan) (slot k : ℕ) → IsGoodPlan plan → enters plan slot k ≡ true
+    → IsLedgerOf plan slot k (opened false slot)
+entered-told plan slot k good is = record {
+  within = omega arith;
+  near = omega (arith, good.count);
+  owned = λ own. absurd (both_ways false refl own);
+  began = λ _. inr is;
+  newest = λ turn within at. within;
   seen = none-counted (is_good_slot plan) slot;
   bad = none-counted (is_first_slot plan) slot;
 }
@@ -50,7 +64,7 @@ kept-told : (plan : Plan) (slot k : ℕ) (ledger : Ledger) → IsGoodPlan plan �
     → sender plan (suc slot) ≢ k → IsLedgerOf plan slot k ledger
     → IsLedgerOf plan (suc slot) k (with_slot (is_good_slot plan (suc slot)) (is_first_slot plan (suc slot)) ledger)
 kept-told plan slot k ledger good less other told =
-    let newest : (turn : ℕ) → turn ≤ suc slot → sender plan turn ≡ k → (ledger.own ≡ true) × (turn ≤ ledger.base) =
+    let newest : (turn : ℕ) → turn ≤ suc slot → sender plan turn ≡ k → turn ≤ ledger.base =
     λ turn within at. elim (eq-or-lt_of_le within) [
       | inl same ↦ absurd (other (ap (sender plan) (sym same) ∙ at))
       | inr before ↦ told.newest turn (omega arith) at
@@ -58,8 +72,9 @@ kept-told plan slot k ledger good less other told =
     record {
       within = omega (arith, told.within);
       near = kept-near plan (suc slot) ledger.base k good less (omega (arith, told.within))
-          (λ turn after within at. let old = (newest turn within at).1 in omega (arith, old));
+          (λ turn after within at. let old = newest turn within at in omega (arith, old));
       owned = told.owned;
+      began = told.began;
       newest = newest;
       seen = ap (λ n. (if is_good_slot plan (suc slot) then 1 else 0) + n) told.seen
           ∙ counted-next (is_good_slot plan) ledger.base slot told.within;
@@ -67,14 +82,16 @@ kept-told plan slot k ledger good less other told =
           ∙ counted-next (is_first_slot plan) ledger.base slot told.within;
     }
 
-next-told : (plan : Plan) (slot k : ℕ) (ledger : Ledger) (own : Bool) → IsGoodPlan plan → k < plan.nodes
-    → (sender plan (suc slot) == k) ≡ own → IsLedgerOf plan slot k ledger
+next-told : (plan : Plan) (slot k : ℕ) (ledger : Ledger) (own entered : Bool) → IsGoodPlan plan → k < plan.nodes
+    → (sender plan (suc slot) == k) ≡ own → enters plan (suc slot) k ≡ entered → IsLedgerOf plan slot k ledger
     → IsLedgerOf plan (suc slot) k
     (cond own (opened true (suc slot))
-    (with_slot (is_good_slot plan (suc slot)) (is_first_slot plan (suc slot)) ledger))
-next-told plan slot k ledger true good less turn told =
+    (cond entered (opened false (suc slot))
+    (with_slot (is_good_slot plan (suc slot)) (is_first_slot plan (suc slot)) ledger)))
+next-told plan slot k ledger true entered good less turn enter told =
     opened-told plan (suc slot) k good (eqb-true (sender plan (suc slot)) k turn)
-next-told plan slot k ledger false good less turn told =
+next-told plan slot k ledger false true good less turn enter told = entered-told plan (suc slot) k good enter
+next-told plan slot k ledger false false good less turn enter told =
     kept-told plan slot k ledger good less (eqb-false (sender plan (suc slot)) k turn) told
 
 first-told : (plan : Plan) (k : ℕ) (own : Bool) → IsGoodPlan plan → (sender plan 0 == k) ≡ own
@@ -84,6 +101,7 @@ first-told plan k false good turn = record {
   within = omega arith;
   near = omega (arith, good.count);
   owned = λ own. absurd (both_ways false refl own);
+  began = λ _. inl refl;
   newest = λ turn' within at.
       let none : turn' ≡ 0 = omega arith in
       absurd (eqb-false (sender plan 0) k turn (ap (sender plan) (sym none) ∙ at));
@@ -95,5 +113,6 @@ pub ledger-told : (plan : Plan) (slot k : ℕ) → IsGoodPlan plan → k < plan.
     → IsLedgerOf plan slot k (ledger_of plan slot k)
 ledger-told plan zero k good less = first-told plan k (sender plan 0 == k) good refl
 ledger-told plan (suc slot) k good less =
-    next-told plan slot k (ledger_of plan slot k) (sender plan (suc slot) == k) good less refl
+    next-told plan slot k (ledger_of plan slot k) (sender plan (suc slot) == k) (enters plan (suc slot) k) good less refl
+    refl
     (ledger-told plan slot k good less)

@@ -5,6 +5,7 @@ pub mod Rules
 pub mod Bounds
 pub mod Spaced
 pub mod FateSteps
+pub mod Returns
 pub mod Incidents
 pub mod Losses
 pub mod FaultySets

@@ -1,17 +1,22 @@
--- Fates of a good plan from slot to slot: who is lost stays so, and who is sound was so before.
-use Rattle.std.proofs.Common.{◌≡◌, ℕ, zero, suc, ◌<◌, ◌≤◌, Bool, true, false, cond, not, ◌&&◌, Option, Some, None}
-use Rattle.std.proofs.Common.{refl, ap, sym, subst, ◌∙◌, inl, inr, arith}
-use Rattle.std.specs.Prelude.{◌==◌}
-use Rattle.std.proofs.lemmas.Bool.{and_parts, and_from, not_from_false, or_left, or_right, eq-eqb, eqb-true}
+-- Fates of a good plan from slot to slot: who is sound was so before, back to its entry, and stays so where no incident
+-- strikes it.
+use Rattle.std.proofs.Common.{◌≡◌, ℕ, zero, suc, ◌+◌, ◌<◌, ◌≤◌, Bool, true, false, cond, not, ◌&&◌, Option, Some, None}
+use Rattle.std.proofs.Common.{refl, ap, sym, subst, ◌∙◌, inl, inr, arith, List, []}
+use Rattle.std.specs.Prelude.{◌==◌, nat_le, nat_lt}
+use Rattle.std.proofs.lemmas.Bool.{and_parts, and_from, not_from_false, not-true, eqb-true, eq-eqb, both_ways}
+use Rattle.std.proofs.lemmas.Bool.{false_from_ne_true, le-leb, lt-ltb}
 use Rattle.std.proofs.Math.Nat.{eq-or-lt_of_le}
 use Rattle.ttp_base.specs.NodeSet.{has_node}
-use Rattle.fault_plan.specs.Plan.{Change, Incident, Plan, sender, incident_at}
-use Rattle.fault_plan.specs.Fates.{Fate, Absent, Sound, Falling, Fallen, fate_of, is_sound, is_sound_after, is_lost}
-use Rattle.fault_plan.specs.Fates.{fate_at_begin, struck, is_absent}
+use Rattle.fault_plan.specs.Plan.{Incident, Plan, incident_at, is_armed_by, enters}
+use Rattle.fault_plan.specs.Fates.{Fate, Absent, Sound, Falling, Fallen, Listening, fate_at_begin, struck, turned}
+use Rattle.fault_plan.specs.Fates.{fate_of, next_fate, is_sound, is_sound_after, is_lost, is_absent, is_entry_near}
+use Rattle.fault_plan.specs.Fates.{is_new_after, is_lasting_after}
+use Rattle.fault_plan.specs.Plan.{sender}
 use Rattle.fault_plan.specs.GoodPlan.{IsGoodPlan}
-use Rattle.fault_plan.specs.Told.{IsLossOf}
 use Rattle.fault_plan.proofs.FateTells.{none-first}
-use Rattle.fault_plan.proofs.FateSteps.{strikes, turned-same, sound-next, lost-next}
+use Rattle.fault_plan.proofs.FateSteps.{strikes, turned-same, next-same, next-entered, next-armed, sound-next, sound-from}
+use Rattle.fault_plan.proofs.Returns.{IsEntry, entry-is, entry-from, armed-lost, armed-late, enters-late, armed-quiet}
+use Rattle.fault_plan.proofs.Returns.{of-any, none-enters}
 use Rattle.fault_plan.proofs.Tests.{and-true}
 
 pub lost-unsound : (fate : Fate) → is_lost fate ≡ true → is_sound fate ≡ false
@@ -19,53 +24,64 @@ lost-unsound Absent lost = refl
 lost-unsound Sound lost = sym lost
 lost-unsound (Falling change since) lost = refl
 lost-unsound (Fallen change since shown) lost = refl
+lost-unsound (Listening since) lost = refl
 
-sound-back : (plan : Plan) (slot k : ℕ) → is_sound_after plan (suc slot) k ≡ true → is_sound_after plan slot k ≡ true
-sound-back plan slot k sound =
-    (and_parts (is_sound_after plan slot k) (not (strikes (incident_at plan (suc slot)) k))
-    (sym (sound-next plan (suc slot) k (fate_of plan slot k)) ∙ sound)).0
-
+-- A sound node that did not enter since was sound before.
 pub sound-before : (plan : Plan) (slot later k : ℕ) → slot ≤ later → is_sound_after plan later k ≡ true
+    → ((turn : ℕ) → slot < turn → turn ≤ later → enters plan turn k ≡ false)
     → is_sound_after plan slot k ≡ true
-sound-before plan slot zero k within sound =
+sound-before plan slot zero k within sound never =
     let none : zero ≡ slot = omega arith in
     subst (λ t. is_sound_after plan t k ≡ true) none sound
-sound-before plan slot (suc later) k within sound = elim (eq-or-lt_of_le within) [
+sound-before plan slot (suc later) k within sound never = elim (eq-or-lt_of_le within) [
   | inl same ↦ subst (λ t. is_sound_after plan t k ≡ true) (sym same) sound
-  | inr before ↦ sound-before plan slot later k (omega arith) (sound-back plan later k sound)
-]
-
-pub lost-later : (plan : Plan) (slot later k : ℕ) → slot ≤ later → is_lost (fate_of plan slot k) ≡ true
-    → is_lost (fate_of plan later k) ≡ true
-lost-later plan slot zero k within lost =
-    let none : slot ≡ zero = omega arith in
-    subst (λ t. is_lost (fate_of plan t k) ≡ true) none lost
-lost-later plan slot (suc later) k within lost = elim (eq-or-lt_of_le within) [
-  | inl same ↦ subst (λ t. is_lost (fate_of plan t k) ≡ true) same lost
   | inr before ↦
-      lost-next plan (suc later) k (fate_of plan later k)
-      ∙ or_right (strikes (incident_at plan (suc later)) k) (is_lost (fate_of plan later k))
-      (lost-later plan slot later k (omega arith) lost)
+      sound-before plan slot later k (omega arith)
+      (sound-from plan (suc later) k (fate_of plan later k) (never (suc later) before (omega arith)) sound)
+      (λ turn after to. never turn after (omega arith))
 ]
 
--- a node is lost from its loss on
-pub lost-since : (plan : Plan) (k since slot : ℕ) (change : Change) → IsGoodPlan plan → IsLossOf plan k change since
-    → since ≤ slot
-    → is_lost (fate_of plan slot k) ≡ true
-lost-since plan k zero slot change good loss from = absurd (omega (arith, loss.late, good.count))
-lost-since plan k (suc since) slot change good loss from =
-    let hit : strikes (incident_at plan (suc since)) k ≡ true =
-    ap (λ found. strikes found k) loss.found ∙ eq-eqb loss.incident.node k loss.node in
-    lost-later plan (suc since) slot k from
-    (lost-next plan (suc since) k (fate_of plan since k)
-    ∙ or_left (strikes (incident_at plan (suc since)) k) (is_lost (fate_of plan since k)) hit)
+-- as each was by a plan in which none returns
+pub sound-earlier : (plan : Plan) (slot later k : ℕ) → plan.returns ≡ [] → slot ≤ later
+    → is_sound_after plan later k ≡ true
+    → is_sound_after plan slot k ≡ true
+sound-earlier plan slot later k none within sound =
+    sound-before plan slot later k within sound (λ turn after to. none-enters plan turn k none)
 
--- a node is absent always or never
+-- and each lasting node was in the last round
+pub lasting-before : (plan : Plan) (slot later k : ℕ) → slot ≤ later → later < slot + plan.nodes
+    → is_lasting_after plan later k ≡ true
+    → is_sound_after plan slot k ≡ true
+lasting-before plan slot later k within near lasting =
+    let parts = and_parts (is_sound_after plan later k) (not (is_new_after plan later k)) lasting in
+    sound-before plan slot later k within parts.0
+    (λ turn after to. false_from_ne_true (enters plan turn k) (λ is.
+    let found = entry-is plan turn k is in
+    let r = found.return in
+    let at : r.entered ≡ turn = found.entered in
+    both_ways (is_new_after plan later k) (not-true (is_new_after plan later k) parts.1)
+    (of-any (is_entry_near plan.nodes later k) plan.returns r found.among
+    (and_from (r.node == k) (nat_le r.entered later && nat_lt later (r.entered + plan.nodes))
+    (eq-eqb r.node k found.node)
+    (and_from (nat_le r.entered later) (nat_lt later (r.entered + plan.nodes))
+    (le-leb r.entered later (omega (arith, at, to)))
+    (lt-ltb later (r.entered + plan.nodes) (omega (arith, at, after, near))))))))
+
+-- A node is absent always or never.
+
 sound-present : (fate : Fate) → is_sound fate ≡ true → is_absent fate ≡ false
 sound-present Absent sound = sym sound
 sound-present Sound sound = refl
 sound-present (Falling change since) sound = refl
 sound-present (Fallen change since shown) sound = refl
+sound-present (Listening since) sound = refl
+
+lost-present : (fate : Fate) → is_lost fate ≡ true → is_absent fate ≡ false
+lost-present Absent lost = sym lost
+lost-present Sound lost = refl
+lost-present (Falling change since) lost = refl
+lost-present (Fallen change since shown) lost = refl
+lost-present (Listening since) lost = refl
 
 absent-hit : (plan : Plan) (slot k : ℕ) (incident : Incident) (hit : Bool) → IsGoodPlan plan
     → incident_at plan (suc slot) ≡ Some incident → (incident.node == k) ≡ hit
@@ -81,6 +97,30 @@ absent-struck : (plan : Plan) (slot k : ℕ) (found : Option Incident) → IsGoo
 absent-struck plan slot k None good is = refl
 absent-struck plan slot k (Some incident) good is = absent-hit plan slot k incident (incident.node == k) good is refl
 
+-- a node that enters was there
+entry-present : (plan : Plan) (slot k : ℕ) → IsGoodPlan plan → enters plan (suc slot) k ≡ true
+    → is_absent (fate_of plan slot k) ≡ false
+entry-present plan slot k good enter = elim (entry-from plan slot k good enter) [
+  | inl armed ↦ lost-present (fate_of plan slot k) (armed-lost plan slot k good armed)
+  | inr listens ↦ ap is_absent listens.1
+]
+
+absent-next : (plan : Plan) (slot k : ℕ) (armed entered : Bool) → IsGoodPlan plan
+    → is_armed_by plan (suc slot) k ≡ armed → enters plan (suc slot) k ≡ entered
+    → is_absent (fate_of plan (suc slot) k) ≡ is_absent (fate_of plan slot k)
+absent-next plan slot k armed true good arms enter =
+    ap is_absent (next-entered plan (suc slot) k (fate_of plan slot k) enter)
+    ∙ sym (entry-present plan slot k good enter)
+absent-next plan slot k true false good arms none =
+    ap is_absent
+    (next-armed plan (suc slot) k (fate_of plan slot k) arms none (armed-quiet plan (suc slot) k good arms))
+    ∙ sym (lost-present (fate_of plan slot k) (armed-lost plan slot k good arms))
+absent-next plan slot k false false good arms none =
+    ap is_absent (next-same plan (suc slot) k (fate_of plan slot k) arms none)
+    ∙ turned-same is_absent (sender plan (suc slot) == k) (suc slot)
+    (struck (suc slot) k (fate_of plan slot k) (incident_at plan (suc slot))) (λ change since shown. refl)
+    ∙ absent-struck plan slot k (incident_at plan (suc slot)) good refl
+
 absent-begin : (begins : Bool) → is_absent (cond begins Sound Absent) ≡ not begins
 absent-begin true = refl
 absent-begin false = refl
@@ -88,20 +128,20 @@ absent-begin false = refl
 pub absent-always : (plan : Plan) (slot k : ℕ) → IsGoodPlan plan
     → is_absent (fate_of plan slot k) ≡ not (has_node plan.begin k)
 absent-always plan zero k good =
-    turned-same is_absent (sender plan 0 == k) 0 (struck 0 k (fate_at_begin plan k) (incident_at plan 0))
+    ap is_absent (next-same plan 0 k (fate_at_begin plan k) (armed-late plan k good) (enters-late plan k good))
+    ∙ turned-same is_absent (sender plan 0 == k) 0 (struck 0 k (fate_at_begin plan k) (incident_at plan 0))
     (λ change since shown. refl)
     ∙ ap (λ found. is_absent (struck 0 k (fate_at_begin plan k) found)) (none-first plan good)
     ∙ absent-begin (has_node plan.begin k)
 absent-always plan (suc slot) k good =
-    turned-same is_absent (sender plan (suc slot) == k) (suc slot)
-    (struck (suc slot) k (fate_of plan slot k) (incident_at plan (suc slot))) (λ change since shown. refl)
-    ∙ absent-struck plan slot k (incident_at plan (suc slot)) good refl ∙ absent-always plan slot k good
+    absent-next plan slot k (is_armed_by plan (suc slot) k) (enters plan (suc slot) k) good refl refl
+    ∙ absent-always plan slot k good
 
 -- the nodes that begin are sound at the start
 pub sound-first : (plan : Plan) (k : ℕ) → IsGoodPlan plan → is_sound_after plan 0 k ≡ has_node plan.begin k
 sound-first plan k good =
     let begins = has_node plan.begin k in
-    sound-next plan 0 k (fate_at_begin plan k)
+    sound-next plan 0 k (fate_at_begin plan k) (armed-late plan k good) (enters-late plan k good)
     ∙ ap (λ found. is_sound (fate_at_begin plan k) && not (strikes found k)) (none-first plan good)
     ∙ sym (and-true (is_sound (fate_at_begin plan k))) ∙ sound-begin begins
   where
@@ -109,25 +149,36 @@ sound-first plan k good =
     sound-begin true = refl
     sound-begin false = refl
 
+-- a sound node is not armed
+pub sound-unarmed : (plan : Plan) (slot k : ℕ) → IsGoodPlan plan → is_sound_after plan slot k ≡ true
+    → is_armed_by plan (suc slot) k ≡ false
+sound-unarmed plan slot k good sound = false_from_ne_true (is_armed_by plan (suc slot) k) (λ arms.
+    both_ways (is_sound_after plan slot k) (lost-unsound (fate_of plan slot k) (armed-lost plan slot k good arms)) sound)
+
 -- a sound node that no incident strikes stays so
-pub sound-on : (plan : Plan) (slot k : ℕ) → is_sound_after plan slot k ≡ true
+pub sound-on : (plan : Plan) (slot k : ℕ) → IsGoodPlan plan → is_sound_after plan slot k ≡ true
     → strikes (incident_at plan (suc slot)) k ≡ false
     → is_sound_after plan (suc slot) k ≡ true
-sound-on plan slot k sound missed =
-    sound-next plan (suc slot) k (fate_of plan slot k)
-    ∙ and_from (is_sound_after plan slot k) (not (strikes (incident_at plan (suc slot)) k)) sound
-    (not_from_false (strikes (incident_at plan (suc slot)) k) missed)
+sound-on plan slot k good sound missed = by (enters plan (suc slot) k) refl
+  where
+    by : (entered : Bool) → enters plan (suc slot) k ≡ entered → is_sound_after plan (suc slot) k ≡ true
+    by true enter = ap is_sound (next-entered plan (suc slot) k (fate_of plan slot k) enter)
+    by false none =
+        sound-next plan (suc slot) k (fate_of plan slot k) (sound-unarmed plan slot k good sound) none
+        ∙ and_from (is_sound_after plan slot k) (not (strikes (incident_at plan (suc slot)) k)) sound
+        (not_from_false (strikes (incident_at plan (suc slot)) k) missed)
 
-pub sound-through : (plan : Plan) (slot later k : ℕ) → slot ≤ later → is_sound_after plan slot k ≡ true
+pub sound-through : (plan : Plan) (slot later k : ℕ) → IsGoodPlan plan → slot ≤ later
+    → is_sound_after plan slot k ≡ true
     → ((turn : ℕ) → slot < turn → turn ≤ later → incident_at plan turn ≡ None)
     → is_sound_after plan later k ≡ true
-sound-through plan slot zero k within sound quiet =
+sound-through plan slot zero k good within sound quiet =
     let none : slot ≡ zero = omega arith in
     subst (λ t. is_sound_after plan t k ≡ true) none sound
-sound-through plan slot (suc later) k within sound quiet = elim (eq-or-lt_of_le within) [
+sound-through plan slot (suc later) k good within sound quiet = elim (eq-or-lt_of_le within) [
   | inl same ↦ subst (λ t. is_sound_after plan t k ≡ true) same sound
   | inr before ↦
-      sound-on plan later k
-      (sound-through plan slot later k (omega arith) sound (λ turn after to. quiet turn after (omega arith)))
+      sound-on plan later k good
+      (sound-through plan slot later k good (omega arith) sound (λ turn after to. quiet turn after (omega arith)))
       (ap (λ found. strikes found k) (quiet (suc later) before (omega arith)))
 ]

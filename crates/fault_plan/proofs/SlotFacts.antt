@@ -23,6 +23,7 @@ use Rattle.fault_plan.proofs.Hearing.{incident-made}
 use Rattle.fault_plan.proofs.Hearing.{Origin, ByJump, ByLoss, origin-of, sending-is, receiving-is, jumping-is}
 use Rattle.fault_plan.proofs.Hearing.{unless_jumping}
 use Rattle.fault_plan.proofs.Losses.{each-member, IsMadeBy}
+use Rattle.fault_plan.proofs.Returns.{never-listens}
 use Rattle.fault_plan.proofs.Spaced.{made_in}
 
 -- a node that is untouched is not the one that is made faulty
@@ -102,6 +103,8 @@ heard-slot list script start turn run within =
           (clear (sender_in list start slot) (sender-less list script start slot run)
           (ap (is_sound_after plan turn) same ∙ good))
           (clear r less sound));
+      listens = λ r since less good fate.
+          absurd (never-listens (plan_of list script start) turn r since refl fate);
       unheard = λ r incident less found sending sound.
           let only = made incident found in
           let parts =

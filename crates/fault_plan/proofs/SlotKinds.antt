@@ -4,21 +4,24 @@ use Rattle.std.proofs.Common.{ap}
 use Rattle.std.proofs.Common.{sym, subst, ◌∙◌, arith}
 use Rattle.std.specs.Prelude.{◌==◌}
 use Rattle.std.proofs.lemmas.Bool.{eqb-true, eqb-false, eq-eqb, ne_eqb, both_ways, lt-ltb, le-ltb}
+use Rattle.std.proofs.lemmas.Bool.{false_from_ne_true}
 use Rattle.std.specs.Prelude.{nat_lt}
 use Rattle.std.proofs.Common.{◌⊎◌, inl, inr}
 use Rattle.std.proofs.lemmas.Option.{none-some}
 use Rattle.fault_plan.specs.Plan.{Change, Sending, Receiving, Jumping, Incident, Plan, sender, incident_at}
-use Rattle.fault_plan.specs.Fates.{Fate, Absent, Sound, Falling, Fallen, struck, shown_in, turned, fate_of, is_sound}
-use Rattle.fault_plan.specs.Fates.{is_sound_after, is_shown_in, is_good_slot, is_first_slot, may_stay}
+use Rattle.fault_plan.specs.Plan.{is_armed_by, enters}
+use Rattle.fault_plan.specs.Fates.{Fate, Absent, Sound, Falling, Fallen, Listening, struck, shown_in, turned, fate_of, is_sound}
+use Rattle.fault_plan.specs.Fates.{is_sound_after, is_shown_in, is_good_slot, is_first_slot, may_stay, lost_since}
 use Rattle.fault_plan.specs.GoodPlan.{IsGoodPlan}
 use Rattle.fault_plan.specs.SlotKind.{SlotKind, Good}
 use Rattle.fault_plan.specs.SlotKind.{Idle, Lost, Shown, Last, kind_if_lost, kind_by_fate, slot_kind}
 use Rattle.fault_plan.specs.SlotKind.{is_good_kind, is_first_kind}
 use Rattle.fault_plan.specs.SlotKind.{IsIdle, IsGoodAfter, IsLostAfter, IsShownAfter, IsKindAfter}
 use Rattle.fault_plan.specs.Told.{IsTold}
-use Rattle.fault_plan.proofs.FateSteps.{strikes}
-use Rattle.fault_plan.proofs.FateTells.{fate-told, loss-sending, none-stays, one-stays}
+use Rattle.fault_plan.proofs.FateSteps.{strikes, next-same, next-armed}
+use Rattle.fault_plan.proofs.FateTells.{fate-told, loss-sending, none-stays, one-stays, over, armed-fallen}
 use Rattle.fault_plan.proofs.Persists.{sound-on}
+use Rattle.fault_plan.proofs.Returns.{entry-good, armed-quiet}
 use Rattle.fault_plan.proofs.Tests.{never-found}
 use Rattle.fault_plan.proofs.Turns.{turns_apart}
 
@@ -70,7 +73,7 @@ good-told plan slot good missed was =
     let e = sender plan (suc slot) in
     record {
       was = was;
-      is = sound-on plan slot e was missed;
+      is = sound-on plan slot e good was missed;
       others = λ incident found.
           let other = other-struck plan (suc slot) e incident missed found in
           (λ is. other (sym ((good.losses slot incident found).sending is)), other);
@@ -124,6 +127,8 @@ missed-told : (plan : Plan) (slot : ℕ) (fate : Fate) → IsGoodPlan plan
 missed-told plan slot Absent good missed is told =
     idle-told plan slot good missed (ap is_sound is) (ap (may_stay plan.nodes slot) is)
 missed-told plan slot Sound good missed is told = good-told plan slot good missed (ap is_sound is)
+missed-told plan slot (Listening since) good missed is told =
+    idle-told plan slot good missed (ap is_sound is) (ap (may_stay plan.nodes slot) is)
 missed-told plan slot (Falling change since) good missed is told =
     let e = sender plan (suc slot) in
     let from : since ≤ slot = told.from in
@@ -174,17 +179,47 @@ struck-told plan slot fate (Some incident) false good at strike is told =
     rw strike
     (missed-told plan slot fate good (ap (λ found. strikes found (sender plan (suc slot))) at ∙ strike) is told)
 
-pub kind-told : (plan : Plan) (slot : ℕ) → IsGoodPlan plan → IsKindAfter plan slot (slot_kind plan (suc slot))
-kind-told plan slot good =
+-- the slot of a node that is armed in it
+armed-told : (plan : Plan) (slot : ℕ) → IsGoodPlan plan → is_armed_by plan (suc slot) (sender plan (suc slot)) ≡ true
+    → IsIdle plan slot
+armed-told plan slot good arms =
     let e = sender plan (suc slot) in
-    let found = incident_at plan (suc slot) in
-    let fate = fate_of plan slot e in
-    let own : (e == e) ≡ true = eq-eqb e e refl in
-    subst
-    (λ own. IsKindAfter plan slot
-    (kind_by_fate plan.nodes (suc slot) (turned own (suc slot) (struck (suc slot) e fate found))))
-    (sym own)
-    (struck-told plan slot fate found (strikes found e) good refl refl refl (fate-told plan slot e good))
+    let fallen = armed-fallen plan slot e good arms in
+    record {
+      was = ap is_sound fallen.was;
+      left = over plan slot e fallen.since good (ap lost_since fallen.was) fallen.early;
+      jumps = λ incident found.
+          absurd (none-some incident (sym (armed-quiet plan (suc slot) e good arms) ∙ found));
+    }
+
+-- no node enters in its own slot
+pub sender-stays : (plan : Plan) (slot : ℕ) → IsGoodPlan plan → enters plan slot (sender plan slot) ≡ false
+sender-stays plan slot good =
+    false_from_ne_true (enters plan slot (sender plan slot))
+    (λ is. (entry-good plan slot (sender plan slot) good is).1 refl)
+
+pub kind-told : (plan : Plan) (slot : ℕ) → IsGoodPlan plan → IsKindAfter plan slot (slot_kind plan (suc slot))
+kind-told plan slot good = by (is_armed_by plan (suc slot) (sender plan (suc slot))) refl
+  where
+    e : ℕ
+    e = sender plan (suc slot)
+
+    none : enters plan (suc slot) (sender plan (suc slot)) ≡ false
+    none = sender-stays plan (suc slot) good
+
+    by : (armed : Bool) → is_armed_by plan (suc slot) (sender plan (suc slot)) ≡ armed
+        → IsKindAfter plan slot (slot_kind plan (suc slot))
+    by true arms =
+        subst (λ fate. IsKindAfter plan slot (kind_by_fate plan.nodes (suc slot) fate))
+        (sym (next-armed plan (suc slot) e (fate_of plan slot e) arms none (armed-quiet plan (suc slot) e good arms)))
+        (armed-told plan slot good arms)
+    by false arms =
+        let found = incident_at plan (suc slot) in
+        let fate = fate_of plan slot e in
+        subst (λ fate. IsKindAfter plan slot (kind_by_fate plan.nodes (suc slot) fate))
+        (sym (next-same plan (suc slot) e fate arms none
+        ∙ ap (λ own. turned own (suc slot) (struck (suc slot) e fate found)) (eq-eqb e e refl)))
+        (struck-told plan slot fate found (strikes found e) good refl refl refl (fate-told plan slot e good))
 
 -- What a slot's kind is for members and counts.
 
@@ -201,6 +236,7 @@ good-by : (nodes slot : ℕ) (fate : Fate) → is_sound fate ≡ is_good_kind (k
 good-by nodes slot Absent = refl
 good-by nodes slot Sound = refl
 good-by nodes slot (Falling change since) = refl
+good-by nodes slot (Listening since) = refl
 good-by nodes slot (Fallen change since shown) =
     fallen-bad (since == slot) (shown == slot) (shown + nodes == slot) change since shown
 
@@ -221,6 +257,7 @@ first-by : (plan : Plan) (slot k : ℕ) (fate : Fate) → IsTold plan slot k fat
 first-by plan slot k Absent told = refl
 first-by plan slot k Sound told = refl
 first-by plan slot k (Falling change since) told = refl
+first-by plan slot k (Listening since) told = refl
 first-by plan slot k (Fallen change since shown) told =
     fallen-first (since == slot) (shown == slot) (shown + plan.nodes == slot) change since shown
     (λ now.

@@ -64,7 +64,7 @@ spaced-all gap earliest (f ∷ faulty) none =
     (ap (first_too_early gap earliest) (sym (reverse_onto slots f.slot [])) ∙ none) in
     (parts.1, each-turned (λ y. y + gap ≤ f.slot) faulty parts.2, spaced-all gap earliest faulty parts.0)
 
-spaced-later : (gap earliest : ℕ) (newer faulty : List FaultyNode) → IsSpaced gap earliest (newer ++ faulty)
+pub spaced-later : (gap earliest : ℕ) (newer faulty : List FaultyNode) → IsSpaced gap earliest (newer ++ faulty)
     → IsSpaced gap earliest faulty
 spaced-later gap earliest [] faulty spaced = spaced
 spaced-later gap earliest (f ∷ newer) faulty spaced = spaced-later gap earliest newer faulty spaced.2
@@ -105,7 +105,7 @@ pub record IsOneMade (gap earliest slot k : ℕ) (made : List ℕ) (faulty : Lis
   pub late : earliest ≤ slot
   pub apart : AllByRecursion (λ g. g.slot + gap ≤ slot) faulty
 
-one-made : (gap earliest slot : ℕ) (made : List ℕ) (faulty : List FaultyNode) → 0 < gap
+pub one-made : (gap earliest slot : ℕ) (made : List ℕ) (faulty : List FaultyNode) → 0 < gap
     → IsSpaced gap earliest (all_in slot made ++ faulty)
     → (made ≡ []) ⊎ ((k : ℕ) × IsOneMade gap earliest slot k made faulty)
 one-made gap earliest slot [] faulty some spaced = inl refl

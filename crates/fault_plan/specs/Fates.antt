@@ -1,8 +1,9 @@
 -- What becomes of a node by a plan, slot by slot.
-use Rattle.std.specs.Prelude.{ℕ, zero, suc, ◌+◌, nat_lt, Bool, true, false, ◌&&◌, ◌==◌, List, filter, Option, Some}
-use Rattle.std.specs.Prelude.{None, if◌then◌else◌}
+use Rattle.std.specs.Prelude.{ℕ, zero, suc, ◌+◌, nat_le, nat_lt, Bool, true, false, ◌&&◌, not, ◌==◌, List, filter}
+use Rattle.std.specs.Prelude.{Option, Some, None, if◌then◌else◌}
+use Rattle.std.specs.List.{list_any}
 use Rattle.ttp_base.specs.NodeSet.{below, has_node}
-use Rattle.fault_plan.specs.Plan.{Change, Incident, Plan, sender, incident_at}
+use Rattle.fault_plan.specs.Plan.{Change, Incident, Return, Plan, sender, incident_at, is_armed_by, enters}
 
 pub data Fate : Type 0 where
   -- it was not sound at the start
@@ -12,11 +13,21 @@ pub data Fate : Type 0 where
   Falling : (change : Change) → (since : ℕ) → Fate
   -- lost in a slot, and its first own slot from there on has come
   Fallen : (change : Change) → (since : ℕ) → (shown : ℕ) → Fate
+  -- armed after it was lost: it listens from the beginning of a slot on, and has not entered yet
+  Listening : (since : ℕ) → Fate
 
 abbrev pub fate_at_begin : Plan → ℕ → Fate
 fate_at_begin plan k = if has_node plan.begin k then Sound else Absent
 
--- by what happens in a slot
+-- where it listens again from a slot on
+abbrev pub armed_in : Bool → ℕ → Fate → Fate
+armed_in armed slot fate = if armed then Listening slot else fate
+
+-- where it enters
+abbrev pub entered_in : Bool → Fate → Fate
+entered_in entering fate = if entering then Sound else fate
+
+-- by the incident of a slot
 abbrev pub struck : ℕ → ℕ → Fate → Option Incident → Fate
 struck slot k fate None = fate
 struck slot k fate (Some incident) = if incident.node == k then Falling incident.change slot else fate
@@ -29,8 +40,14 @@ shown_in slot fate = fate
 abbrev pub turned : Bool → ℕ → Fate → Fate
 turned own slot fate = if own then shown_in slot fate else fate
 
+-- before the turn of its slot
+abbrev pub changed : Plan → ℕ → ℕ → Fate → Fate
+changed plan slot k fate =
+    entered_in (enters plan slot k)
+    (struck slot k (armed_in (is_armed_by plan slot k) slot fate) (incident_at plan slot))
+
 abbrev pub next_fate : Plan → ℕ → ℕ → Fate → Fate
-next_fate plan slot k fate = turned (sender plan slot == k) slot (struck slot k fate (incident_at plan slot))
+next_fate plan slot k fate = turned (sender plan slot == k) slot (changed plan slot k fate)
 
 -- the fate of node k after a slot
 abbrev pub fate_of : Plan → ℕ → ℕ → Fate
@@ -48,6 +65,7 @@ abbrev pub is_absent : Fate → Bool
 is_absent Absent = true
 is_absent _ = false
 
+-- lost, and not armed since
 abbrev pub is_lost : Fate → Bool
 is_lost (Falling change since) = true
 is_lost (Fallen change since shown) = true
@@ -81,12 +99,23 @@ is_first_slot plan slot = is_shown_in slot (fate_of plan slot (sender plan slot)
 
 -- Counts.
 
-abbrev pub is_steady_after : Plan → ℕ → ℕ → Bool
-is_steady_after plan slot k = has_node plan.measured k && is_sound_after plan slot k
+-- node k entered less than a round ago
+abbrev pub is_entry_near : ℕ → ℕ → ℕ → Return → Bool
+is_entry_near nodes slot k r = (r.node == k) && (nat_le r.entered slot && nat_lt slot (r.entered + nodes))
 
--- the sound nodes after a slot, and those of them by whose frames clocks are measured
-abbrev pub sound_nodes : Plan → ℕ → List ℕ
-sound_nodes plan slot = filter (is_sound_after plan slot) (below plan.nodes)
+abbrev pub is_new_after : Plan → ℕ → ℕ → Bool
+is_new_after plan slot k = list_any (is_entry_near plan.nodes slot k) plan.returns
+
+-- it is sound after a slot, and was so in all of the last round, as far as the start
+abbrev pub is_lasting_after : Plan → ℕ → ℕ → Bool
+is_lasting_after plan slot k = is_sound_after plan slot k && not (is_new_after plan slot k)
+
+abbrev pub is_steady_after : Plan → ℕ → ℕ → Bool
+is_steady_after plan slot k = has_node plan.measured k && is_lasting_after plan slot k
+
+-- those nodes after a slot, and those of them by whose frames clocks are measured
+abbrev pub lasting_nodes : Plan → ℕ → List ℕ
+lasting_nodes plan slot = filter (is_lasting_after plan slot) (below plan.nodes)
 
 abbrev pub steady_nodes : Plan → ℕ → List ℕ
 steady_nodes plan slot = filter (is_steady_after plan slot) (below plan.nodes)

@@ -1,7 +1,7 @@
 -- What a sound node's members and counts come from, by a plan alone.
-use Rattle.std.specs.Prelude.{ℕ, zero, suc, ◌+◌, Bool, true, ◌==◌, List, [], ◌∷◌, if◌then◌else◌}
+use Rattle.std.specs.Prelude.{ℕ, zero, suc, ◌+◌, Bool, true, false, ◌==◌, List, [], ◌∷◌, if◌then◌else◌}
 use Rattle.ttp_base.specs.NodeSet.{with_node, without_node}
-use Rattle.fault_plan.specs.Plan.{Plan, sender}
+use Rattle.fault_plan.specs.Plan.{Plan, sender, enters}
 use Rattle.fault_plan.specs.Fates.{is_good_slot, is_first_slot}
 
 -- the members after a slot, as every sound node has them that is not in doubt
@@ -11,11 +11,11 @@ planned_members plan (suc slot) =
     if is_good_slot plan (suc slot) then with_node (planned_members plan slot) (sender plan (suc slot))
     else without_node (planned_members plan slot) (sender plan (suc slot))
 
--- what a node saw since its newest own slot, or else since the start
+-- what a node saw since its newest own slot, or else since the start or its entry
 pub record Ledger : Type 0 where
-  -- it has had a slot of its own
+  -- it has had a slot of its own since it began
   pub own : Bool
-  -- its newest own slot, and else the start
+  -- its newest own slot, and else the start or the slot of its entry
   pub base : ℕ
   -- how many good slots came after that
   pub seen : ℕ
@@ -39,4 +39,5 @@ abbrev pub ledger_of : Plan → ℕ → ℕ → Ledger
 ledger_of plan zero k = opened (sender plan 0 == k) 0
 ledger_of plan (suc slot) k =
     if sender plan (suc slot) == k then opened true (suc slot)
-    else with_slot (is_good_slot plan (suc slot)) (is_first_slot plan (suc slot)) (ledger_of plan slot k)
+    else (if enters plan (suc slot) k then opened false (suc slot)
+    else with_slot (is_good_slot plan (suc slot)) (is_first_slot plan (suc slot)) (ledger_of plan slot k))

@@ -3,6 +3,7 @@ pub mod Fates
 pub mod Ledger
 pub mod GoodPlan
 pub mod Kept
+pub mod Returned
 pub mod Told
 pub mod WorkedPlan
 pub mod SlotKind

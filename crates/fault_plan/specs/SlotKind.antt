@@ -4,7 +4,8 @@ use Rattle.fault_plan.specs.Plan.{Change, Sending, Receiving, Jumping, Incident,
 use Rattle.fault_plan.specs.Fates.{Fate, Sound, Falling, Fallen, fate_of, is_sound_after, may_stay}
 
 pub data SlotKind : Type 0 where
-  -- its node is not there: it was never on, or it was lost and its second own slot since then is over
+  -- its node sends nothing: it was never on, or it was lost and its second own slot since then is over, whether it
+  -- listens again or not
   Idle : SlotKind
   -- its node is sound
   Good : SlotKind
@@ -41,7 +42,7 @@ is_first_kind (Shown change since) = true
 is_first_kind _ = false
 
 -- What each kind tells of the slot after this one, by the fates after this one. An incident of another node than the
--- sender comes only where the sender is sound or not there.
+-- sender comes only where the sender is sound or sends nothing.
 
 pub record IsIdle (plan : Plan) (slot : ℕ) : Type 0 where
   pub was : is_sound_after plan slot (sender plan (suc slot)) ≡ false

@@ -1,9 +1,10 @@
 -- What fates and ledgers tell of the slots of a good plan.
-use Rattle.std.specs.Prelude.{◌≡◌, ◌≢◌, ℕ, suc, ◌+◌, ◌-◌, ◌*◌, ◌<◌, ◌≤◌, true, Some}
-use Rattle.fault_plan.specs.Plan.{Change, Sending, Incident, Plan, sender, incident_at}
+use Rattle.std.specs.Prelude.{◌≡◌, ◌≢◌, ℕ, suc, ◌+◌, ◌-◌, ◌*◌, ◌<◌, ◌≤◌, true, false, Some, ◌⊎◌}
+use Rattle.std.specs.List.{Contains}
+use Rattle.fault_plan.specs.Plan.{Change, Sending, Incident, Return, Plan, sender, incident_at, enters}
 use Rattle.ttp_base.specs.NodeSet.{has_node}
-use Rattle.fault_plan.specs.Fates.{Fate, Absent, Sound, Falling, Fallen, is_sound_after, is_good_slot, is_first_slot}
-use Rattle.fault_plan.specs.Fates.{tally}
+use Rattle.fault_plan.specs.Fates.{Fate, Absent, Sound, Falling, Fallen, Listening, is_sound_after, is_good_slot}
+use Rattle.fault_plan.specs.Fates.{is_first_slot, tally}
 use Rattle.fault_plan.specs.Ledger.{Ledger, planned_members, ledger_of}
 
 -- an incident of a slot loses a node, two rounds or more after the start
@@ -29,18 +30,30 @@ pub record IsFallen (plan : Plan) (slot k : ℕ) (change : Change) (since shown 
   pub own : sender plan shown ≡ k
   pub sending : change ≡ Sending → shown ≡ since
 
+-- a listening node was armed, and the slot in which it enters is still to come
+pub record IsListening (plan : Plan) (slot k since : ℕ) : Type 0 where
+  pub return : Return
+  pub among : Contains plan.returns return
+  pub node : return.node ≡ k
+  pub armed : return.armed ≡ since
+  pub from : since ≤ slot
+  pub waits : slot < plan.slots → slot < return.entered
+
 abbrev pub IsTold : Plan → ℕ → ℕ → Fate → Type 0
 IsTold plan slot k Absent = Unit {0}
 IsTold plan slot k Sound = Unit {0}
 IsTold plan slot k (Falling change since) = IsFalling plan slot k change since
 IsTold plan slot k (Fallen change since shown) = IsFallen plan slot k change since shown
+IsTold plan slot k (Listening since) = IsListening plan slot k since
 
--- what node k's ledger tells after a slot: all its slots up to then come at its base or before, less than a round ago
+-- what node k's ledger tells after a slot: all its slots up to then come at its base or before, less than a round ago;
+-- and where it had none since it began, its base is the start or the slot of its entry
 pub record IsLedgerOf (plan : Plan) (slot k : ℕ) (ledger : Ledger) : Type 0 where
   pub within : ledger.base ≤ slot
   pub near : slot < ledger.base + plan.nodes
   pub owned : ledger.own ≡ true → sender plan ledger.base ≡ k
-  pub newest : (turn : ℕ) → turn ≤ slot → sender plan turn ≡ k → (ledger.own ≡ true) × (turn ≤ ledger.base)
+  pub began : ledger.own ≡ false → (ledger.base ≡ 0) ⊎ (enters plan ledger.base k ≡ true)
+  pub newest : (turn : ℕ) → turn ≤ slot → sender plan turn ≡ k → turn ≤ ledger.base
   pub seen : ledger.seen ≡ tally (is_good_slot plan) (suc ledger.base) (slot - ledger.base)
   pub bad : ledger.bad ≡ tally (is_first_slot plan) (suc ledger.base) (slot - ledger.base)
 

@@ -1,4 +1,4 @@
--- A plan that was worked out by hand: seven nodes, of which one is lost by each kind of incident.
+-- Plans that were worked out by hand: of seven nodes one is lost by each kind of incident, or one returns.
 use Rattle.std.specs.Prelude.{pos, true, false, [], ◌∷◌, replicate, Some}
 use Rattle.ttp_world.specs.declared.medl.Kind.TheVariants as kind
 use Rattle.ttp_world.specs.declared.medl.Medl.{Medl}
@@ -49,4 +49,12 @@ three_losses = record {
   measured = 0 ∷ 1 ∷ 2 ∷ 3 ∷ 4 ∷ 5 ∷ 6 ∷ [];
   incidents = record { slot = 46; node = 0; change = Jumping } ∷ record { slot = 31; node = 5; change = Receiving }
       ∷ record { slot = 16; node = 2; change = Sending } ∷ [];
+  returns = [];
+}
+
+-- node 2 alone is lost, in its own slot 16; it is armed in its own slot 30, and enters in slot 31, which is node 3's
+abbrev pub one_return : Plan
+one_return = record three_losses {
+  incidents = record { slot = 16; node = 2; change = Sending } ∷ [];
+  returns = record { node = 2; armed = 30; entered = 31 } ∷ [];
 }

@@ -7,9 +7,9 @@ ghost use Rattle.ttp_world.specs.declared.medl.Medl.{Medl};
 ghost use Rattle.ttp_world.specs.declared.script.Script.{Script};
 ghost use Rattle.ttp_world.specs.Hypothesis.{keeps};
 ghost use Rattle.ttp_world.specs.Medl.{IsValid};
-ghost use Rattle.fault_plan.specs.Plan.{Change, Receiving, Incident, Plan, sender, incident_at};
+ghost use Rattle.fault_plan.specs.Plan.{Change, Receiving, Incident, Plan, sender, incident_at, enters};
 ghost use Rattle.fault_plan.specs.Fates.{Falling, Fallen, fate_of, is_absent, lost_since, may_stay, is_sound_after};
-ghost use Rattle.fault_plan.specs.Fates.{sound_nodes, is_good_slot, is_first_slot};
+ghost use Rattle.fault_plan.specs.Fates.{lasting_nodes, is_good_slot, is_first_slot};
 ghost use Rattle.fault_plan.specs.Fates.{tally, is_measured};
 ghost use Rattle.fault_plan.specs.Ledger.{planned_members, ledger_of};
 ghost use Rattle.fault_plan.specs.Places.{planned_place};
@@ -59,6 +59,7 @@ pub fn lost_one_by_one()
         → is_absent (fate_of plan slot k) ≡ not (has_node plan.begin k) }
     ensures sound_before { (plan : Plan) (slot later k : ℕ) → slot ≤ later
         → is_sound_after plan later k ≡ true
+        → ((turn : ℕ) → slot < turn → turn ≤ later → enters plan turn k ≡ false)
         → is_sound_after plan slot k ≡ true }
 {}
 
@@ -106,9 +107,9 @@ pub fn counts_known()
         → (ledger_of plan slot k).bad ≡ 0 }
     ensures seen { (plan : Plan) (slot k : ℕ) → IsGoodPlan plan → k < plan.nodes → sender plan (suc slot) ≡ k
         → (ledger_of plan slot k).own ≡ true
-        → length (sound_nodes plan slot) ≤ suc (ledger_of plan slot k).seen }
-    ensures sound { (plan : Plan) (slot : ℕ) → IsGoodPlan plan → slot < plan.slots
-        → 4 ≤ length (sound_nodes plan slot) }
+        → length (lasting_nodes plan slot) ≤ suc (ledger_of plan slot k).seen }
+    ensures lasting { (plan : Plan) (slot : ℕ) → IsGoodPlan plan → slot < plan.slots
+        → 4 ≤ length (lasting_nodes plan slot) }
     ensures measured { (plan : Plan) (slot from : ℕ) → IsGoodPlan plan → slot < plan.slots
         → from + plan.nodes ≡ suc slot
         → 4 ≤ tally (is_measured plan) from plan.nodes }

@@ -1,13 +1,13 @@
-//! A plan that was worked out by hand. The function has no code: its contract is the case, and the
-//! check computes it.
+//! Plans that were worked out by hand. The functions have no code: their contracts are the cases, and
+//! the check computes them.
 ghost use Rattle.std.specs.Prelude.{◌≡◌, true, false, [], ◌∷◌, map, Some};
 ghost use Rattle.ttp_world.specs.declared.keep.Keep.TheVariants as keep;
 ghost use Rattle.ttp_world.specs.Hypothesis.{keeps, start_of};
 ghost use Rattle.fault_plan.specs.Plan.{Sending, Receiving, Jumping, plan_of};
-ghost use Rattle.fault_plan.specs.Fates.{Falling, Fallen, fate_of, sound_nodes};
+ghost use Rattle.fault_plan.specs.Fates.{Sound, Falling, Fallen, Listening, fate_of, lasting_nodes};
 ghost use Rattle.fault_plan.specs.Ledger.{planned_members, ledger_of};
 ghost use Rattle.fault_plan.specs.SlotKind.{Idle, Good, Lost, Shown, Last, slot_kind};
-ghost use Rattle.fault_plan.specs.WorkedPlan.{seven_nodes, three_faults, first_start, three_losses};
+ghost use Rattle.fault_plan.specs.WorkedPlan.{seven_nodes, three_faults, first_start, three_losses, one_return};
 
 /// A script with a fault of each kind keeps the hypothesis, and this is its plan. Its slots are counted
 /// from slot 14 on.
@@ -25,7 +25,7 @@ fn one_of_each()
     ensures receiver_shown { fate_of three_losses 33 5 ≡ Fallen Receiving 31 33 }
     ensures jumper { fate_of three_losses 48 0 ≡ Falling Jumping 46 }
     ensures jumper_shown { fate_of three_losses 49 0 ≡ Fallen Jumping 46 49 }
-    ensures left { sound_nodes three_losses 49 ≡ 1 ∷ 3 ∷ 4 ∷ 6 ∷ [] }
+    ensures left { lasting_nodes three_losses 49 ≡ 1 ∷ 3 ∷ 4 ∷ 6 ∷ [] }
     ensures members { planned_members three_losses 32 ≡ 0 ∷ 1 ∷ 3 ∷ 4 ∷ 5 ∷ 6 ∷ [] }
     ensures members_then { planned_members three_losses 33 ≡ 0 ∷ 1 ∷ 3 ∷ 4 ∷ 6 ∷ [] }
     ensures kinds { map (slot_kind three_losses) (15 ∷ 16 ∷ 17 ∷ 23 ∷ 30 ∷ 33 ∷ 46 ∷ 49 ∷ 56 ∷ [])
@@ -33,4 +33,21 @@ fn one_of_each()
         ∷ Last Jumping 46 49 ∷ [] }
     ensures ledger { ledger_of three_losses 33 3 ≡ record { own = true; base = 31; seen = 1; bad = 1 } }
     ensures first_ledger { ledger_of three_losses 2 3 ≡ record { own = false; base = 0; seen = 2; bad = 0 } }
+{}
+
+/// A node returns. It listens from its arm slot on, and is sound from the slot in which it enters. It is
+/// no member before its own slot, the sixth after that one, in which it has seen the five good slots in
+/// between; and it counts among the nodes that last once a round is over since its entry.
+fn one_comes_back()
+    ensures lost { fate_of one_return 29 2 ≡ Fallen Sending 16 16 }
+    ensures armed { fate_of one_return 30 2 ≡ Listening 30 }
+    ensures entered { fate_of one_return 31 2 ≡ Sound }
+    ensures kinds { map (slot_kind one_return) (23 ∷ 30 ∷ 31 ∷ 37 ∷ [])
+        ≡ Last Sending 16 16 ∷ Idle ∷ Good ∷ Good ∷ [] }
+    ensures ledger { ledger_of one_return 36 2 ≡ record { own = false; base = 31; seen = 5; bad = 0 } }
+    ensures own_ledger { ledger_of one_return 37 2 ≡ record { own = true; base = 37; seen = 0; bad = 0 } }
+    ensures members { planned_members one_return 36 ≡ 0 ∷ 1 ∷ 3 ∷ 4 ∷ 5 ∷ 6 ∷ [] }
+    ensures members_then { planned_members one_return 37 ≡ 0 ∷ 1 ∷ 2 ∷ 3 ∷ 4 ∷ 5 ∷ 6 ∷ [] }
+    ensures lasting { lasting_nodes one_return 37 ≡ 0 ∷ 1 ∷ 3 ∷ 4 ∷ 5 ∷ 6 ∷ [] }
+    ensures lasting_then { lasting_nodes one_return 38 ≡ 0 ∷ 1 ∷ 2 ∷ 3 ∷ 4 ∷ 5 ∷ 6 ∷ [] }
 {}

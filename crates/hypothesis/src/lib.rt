@@ -26,6 +26,7 @@ ghost use Rattle.ttp_world.specs.Medl.{IsValid};
 ghost use Rattle.ttp_world.specs.Returning.{returns};
 ghost use Rattle.ttp_world.specs.Script.{IsValidScript};
 
+mod armed;
 mod arms;
 mod back_walk;
 mod clocks;
@@ -40,6 +41,7 @@ mod start;
 mod steady;
 mod walk;
 
+pub use crate::armed::has_arm;
 use crate::back_walk::started_back;
 pub use crate::clocks::{drifts_hold, errors_hold_within};
 use crate::clocks::{back_window_broken, clocks_broken, window_broken};

@@ -1,2 +1,6 @@
 pub mod Requests
 pub mod Alike
+pub mod Nodes
+pub mod Writes
+pub mod Slots
+pub mod Texts

@@ -101,7 +101,7 @@ module _ (list : Medl) (script : Script) (row : List Entry) (history : History) 
 
 -- What is asked for.
 
-asked-nothing : (list : Medl) (p : ℕ) → mode_asked list p [] ≡ None
+pub asked-nothing : (list : Medl) (p : ℕ) → mode_asked list p [] ≡ None
 asked-nothing list p = by (plan_at list p).requests (Some (0 - 1))
   where
     by : (requests : Bool) (mode : Option ℕ) → cond (requests && false) mode None ≡ None
@@ -151,7 +151,7 @@ asks-same list (Some c) (Some d) same =
         let none : c.payload ∷ [] ≡ [] = told ∙ ap (λ b. cond b (d.payload ∷ []) []) is in
         cc
 
-or-none : (a : Option ℕ) → option_or a None ≡ a
+pub or-none : (a : Option ℕ) → option_or a None ≡ a
 or-none None = refl
 or-none (Some m) = refl
 

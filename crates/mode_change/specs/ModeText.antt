@@ -9,7 +9,8 @@ use Rattle.ttp_world.specs.declared.script.Script.{Script}
 use Rattle.ttp_world.specs.Diary.{History}
 use Rattle.ttp_world.specs.Trace.{number_or_dash}
 use Rattle.ttp_world.specs.World.{Numbers, world}
-use Rattle.mode_change.specs.Modes.{Modes, modes_of, live_in}
+use Rattle.mode_change.specs.declared.node.Modes.{Modes}
+use Rattle.mode_change.specs.Modes.{modes_of, live_in}
 
 abbrev pub mode_head : Medl → Script → List ℕ
 mode_head list script =

@@ -17,6 +17,7 @@ use Rattle.ttp_world.specs.Legal.{is_between}
 use Rattle.ttp_world.specs.Medl.{plan_at}
 use Rattle.ttp_world.specs.Messages.{delivered_of}
 use Rattle.ttp_world.specs.Outgoing.{message_chosen}
+use Rattle.mode_change.specs.declared.node.Modes.{Modes}
 
 -- What a frame asks for.
 
@@ -46,10 +47,8 @@ mode_requested list script row before k =
 
 -- What a node knows.
 
--- the mode that it runs, where it knows that, and the one that it runs next, where it was asked for one
-pub record Modes : Type 0 where
-  pub mode : Option ℕ
-  pub next : Option ℕ
+-- `Modes`, a type of the code, is the mode that it runs, where it knows that, and the one that it runs next, where it
+-- was asked for one.
 
 abbrev pub no_modes : Modes
 no_modes = record { mode = None; next = None }

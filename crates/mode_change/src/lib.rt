@@ -4,7 +4,8 @@
 //! A list names how many modes there are, whose payloads may ask for one, and in which modes each slot's
 //! payload is live. That changes nothing of what the cluster does: what mode a node runs is read from
 //! its diary and from the payloads that it sent and delivered (`specs/Modes.antt`). By [`one_mode`] all
-//! correct nodes run one mode where a script keeps the single-fault hypothesis.
+//! correct nodes run one mode where a script keeps the single-fault hypothesis. [`put_modes`] writes for a
+//! trace which mode each node runs after each slot (`specs/ModeText.antt`).
 #![tactic(auto, unfolding(ttp_base::specs::NodeSet::with_node, ttp_base::specs::NodeSet::members_in, ttp_world::specs::Trace::digits))]
 
 ghost use Rattle.std.specs.Prelude.{◌≡◌, ◌<◌, ◌≤◌, length};
@@ -17,8 +18,14 @@ ghost use Rattle.ttp_world.specs.Script.{IsValidScript};
 ghost use Rattle.ttp_world.specs.World.{Numbers, world};
 ghost use Rattle.mode_change.specs.OneMode.{RunsOneMode};
 
+mod line;
+mod node;
+mod put;
+mod run;
 mod worked_case;
 
+pub use node::Modes;
+pub use put::{ModeFault, put_modes};
 use ttp_world::{Medl, Script};
 
 /// All correct nodes run one mode, in a run whose script keeps the single-fault hypothesis and whose cluster

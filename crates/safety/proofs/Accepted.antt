@@ -18,7 +18,7 @@ use Rattle.ttp_world.proofs.Worlds.{row_of_world, length-world}
 use Rattle.precision.specs.Together.{IsIn}
 use Rattle.fault_plan.specs.Plan.{Plan, sender}
 use Rattle.fault_plan.specs.Fates.{is_sound_after, is_good_slot}
-use Rattle.fault_plan.proofs.Persists.{sound-before}
+use Rattle.fault_plan.proofs.Persists.{sound-earlier}
 use Rattle.safety_clocks.specs.NotedByPlan.{IsSoundIn, StartedByPlan, NotesNothing}
 use Rattle.safety_steps.specs.Run.{IsBegun}
 use Rattle.safety_steps.specs.Turn.{IsTurn}
@@ -26,7 +26,7 @@ use Rattle.safety_steps.proofs.Receivers.{sound-judge, judges-good}
 use Rattle.safety.specs.SameFrames.{accepts, sends_frame, message_given, AcceptsAlike, AcceptsAlikeSince}
 use Rattle.safety.proofs.Delivered.{is_judgement, delivers-unjudged, messages-alike, messages-other, messages-own}
 use Rattle.safety.proofs.Given.{given-good}
-use Rattle.safety.proofs.Entries.{in-row, fate-before, own-sent, notes-other, started-by_plan}
+use Rattle.safety.proofs.Entries.{in-row, stayed-before, own-sent, notes-other, started-by_plan}
 use Rattle.safety.proofs.Together.{KeepsClocks, turn-next, run-by_plan}
 
 -- By the plan the frame of node p is accepted in a slot.
@@ -51,7 +51,7 @@ silent-gives list script slot k _ silent = refl
 -- In a turn.
 
 module _ (list : Medl) (script : Script) (start : ClusterStart) (plan : Plan) (turn : ℕ) (new : SlotNumbers)
-    (numbers : Numbers) (t : IsTurn list script start plan turn new numbers) where
+    (numbers : Numbers) (t : IsTurn list script start plan turn new numbers) (stay : plan.returns ≡ []) where
   made : List Entry
   made =
       row_in (slot_after list script (world list script numbers))
@@ -68,7 +68,7 @@ module _ (list : Medl) (script : Script) (start : ClusterStart) (plan : Plan) (t
     where
       by : (good : Bool) → is_good_slot plan (suc turn) ≡ good → Judges k
       by true good =
-          let was = fate-before list script start plan turn new numbers t in
+          let was = stayed-before list script start plan turn new numbers t stay in
           let judge = sound-judge list script start plan turn new numbers t k sound.0 other (was k sound.1) in
           let judged = judges-good list script start plan turn new numbers t k sound.0 other (was k sound.1) good
           (was (sender plan (suc turn)) good) sound.1 in
@@ -126,10 +126,10 @@ module _ (list : Medl) (script : Script) (start : ClusterStart) (plan : Plan) (t
             subst (λ p. new_messages p (delivered_of list script (world list script numbers)
             (row_of_world list script new numbers) j)
             ≡ message_given list script (length numbers) p (entry_of (row_of_world list script new numbers) p)) own
-            (given-good list script start plan turn new numbers t
+            (given-good list script start plan turn new numbers t stay
             (ap (is_sound_after plan (suc turn)) own ∙ sound_k.1) j sound_j (λ same. apart (sym same ∙ own)))
         | inr other ↦
-            messages-other list script start plan turn new numbers t j k sound_j (λ same. apart (sym same)) other
+            messages-other list script start plan turn new numbers t stay j k sound_j (λ same. apart (sym same)) other
             ∙ sym (silent-gives list script (length numbers) k (entry_of (row_of_world list script new numbers) k)
             (judges k sound_k other).silent)
       ]
@@ -147,9 +147,9 @@ module _ (list : Medl) (script : Script) (start : ClusterStart) (plan : Plan) (t
         by-plan j k sound_j (λ same. apart (sym same))
         ∙ (λ i. (ap (is_sound_after plan (suc turn)) own ∙ sound_k.1) i
         && eq-eqb (sender plan (suc turn)) k own i);
-    received = messages-alike list script start plan turn new numbers t;
+    received = messages-alike list script start plan turn new numbers t stay;
     given = given-next;
-    own = messages-own list script start plan turn new numbers t;
+    own = messages-own list script start plan turn new numbers t stay;
   }
 
 -- In the slot of the start nobody judges.
@@ -220,7 +220,7 @@ none-since list script group s (row ∷ history) early =
 
 -- The run.
 module _ (list : Medl) (script : Script) (start : ClusterStart) (plan : Plan) (is : IsBegun list script start plan)
-    (clocks : KeepsClocks list script start plan) where
+    (clocks : KeepsClocks list script start plan) (stay : plan.returns ≡ []) where
   pub alike-run : (group : ℕ → Bool) (turn : ℕ) (numbers : Numbers) → IsAmong list group (is_sound_after plan turn)
       → length numbers ≡ suc (start.slot + turn) → start.slot + turn < script.slots → IsLegal list script numbers
       → AcceptsAlikeSince list script group start.slot (world list script numbers)
@@ -239,8 +239,8 @@ module _ (list : Medl) (script : Script) (start : ClusterStart) (plan : Plan) (i
       let t =
       turn-next list script start plan is clocks turn new numbers (omega (arith, number)) within legal before in (
         (λ from. alike-among list script group (is_sound_after plan (suc turn)) _ (world list script numbers) among
-            (alike-next list script start plan turn new numbers t)),
+            (alike-next list script start plan turn new numbers t stay)),
         alike-run group turn numbers
-            (λ k of_k. sound-before plan turn (suc turn) k (omega arith) (among k of_k)) (omega (arith, number))
+            (λ k of_k. sound-earlier plan turn (suc turn) k stay (omega arith) (among k of_k)) (omega (arith, number))
             (omega (arith, within)) (legal-older list script new numbers legal),
       )

@@ -34,7 +34,7 @@ use Rattle.safety_steps.specs.Turn.{IsTurn}
 use Rattle.safety_steps.proofs.Arrivals.{sound-alone}
 use Rattle.safety_steps.proofs.Receivers.{sound-judge, judges-good}
 use Rattle.safety_steps.proofs.Turns.{slot_of, slot_number}
-use Rattle.safety.proofs.Entries.{fate-before, own-sent, notes-other}
+use Rattle.safety.proofs.Entries.{stayed-before, own-sent, notes-other}
 
 -- One entry.
 
@@ -78,7 +78,7 @@ other-none true owner p payload apart =
 other-none false owner p payload apart = refl
 
 module _ (list : Medl) (script : Script) (start : ClusterStart) (plan : Plan) (turn : ℕ) (new : SlotNumbers)
-    (numbers : Numbers) (t : IsTurn list script start plan turn new numbers) where
+    (numbers : Numbers) (t : IsTurn list script start plan turn new numbers) (stay : plan.returns ≡ []) where
   -- what comes of a node's delivery in the row is what its slot makes
   delivered-made : (k : ℕ) → k < length list.slots →
       let x = slot_of list script new numbers k in
@@ -115,7 +115,7 @@ module _ (list : Medl) (script : Script) (start : ClusterStart) (plan : Plan) (t
   unfolding bytes place
   delivers-good k sound other good =
       let e = sender plan (suc turn) in
-      let was = fate-before list script start plan turn new numbers t in
+      let was = stayed-before list script start plan turn new numbers t stay in
       let judge = sound-judge list script start plan turn new numbers t k sound.0 other (was k sound.1) in
       let judged =
       judges-good list script start plan turn new numbers t k sound.0 other (was k sound.1) good (was e good) sound.1 in

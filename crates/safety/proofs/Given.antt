@@ -36,7 +36,7 @@ use Rattle.safety_steps.proofs.OwnTurns.{IsSoundOwner, MaySend, sound-sends}
 use Rattle.safety_steps.proofs.Turns.{slot_of}
 use Rattle.safety.specs.SameFrames.{payload_of_number, message_given}
 use Rattle.safety.proofs.Delivered.{delivers-frame}
-use Rattle.safety.proofs.Entries.{fate-before}
+use Rattle.safety.proofs.Entries.{sender-before}
 
 -- the payload of a frame is what its sender put into it
 payload-of_own : (x : NodeSlot) → carries_payload x.list (coming_place x) ≡ true
@@ -52,7 +52,7 @@ payload-of_own x carries fits =
     ∙ payload_in-frame width header cstate x.chosen.payload x.list.schedule
 
 module _ (list : Medl) (script : Script) (start : ClusterStart) (plan : Plan) (turn : ℕ) (new : SlotNumbers)
-    (numbers : Numbers) (t : IsTurn list script start plan turn new numbers)
+    (numbers : Numbers) (t : IsTurn list script start plan turn new numbers) (stay : plan.returns ≡ [])
     (good : is_good_slot plan (suc turn) ≡ true) where
   row : List Entry
   row = row_of_world list script new numbers
@@ -64,7 +64,7 @@ module _ (list : Medl) (script : Script) (start : ClusterStart) (plan : Plan) (t
   x = slot_of list script new numbers (sender plan (suc turn))
 
   sends : fate_of plan turn (sender plan (suc turn)) ≡ Sound
-  sends = fate-before list script start plan turn new numbers t (sender plan (suc turn)) good
+  sends = sender-before list script start plan turn new numbers t good
 
   owner : IsSoundOwner plan turn (slot_of list script new numbers (sender plan (suc turn)))
   owner = sound-owner list script start plan turn new numbers t sends
@@ -130,7 +130,7 @@ module _ (list : Medl) (script : Script) (start : ClusterStart) (plan : Plan) (t
       (entry_of (row_of_world list script new numbers) (sender plan (suc turn)))
   unfolding e x row
   given-good j sound other =
-      ap (new_messages e) (delivers-frame list script start plan turn new numbers t j sound other good
+      ap (new_messages e) (delivers-frame list script start plan turn new numbers t stay j sound other good
       ∙ ap (λ (p : Place). delivery_at list (next_place list p) (own_frame list e x.past x.chosen))
       (sym owner.at.place))
       ∙ gives

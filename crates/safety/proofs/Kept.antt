@@ -1,6 +1,7 @@
 -- A script that keeps the single-fault hypothesis, by its plan.
-use Rattle.std.proofs.Common.{◌≡◌, ℕ, suc, ◌+◌, ◌-◌, ◌<◌, ◌≤◌, ◌≤ℤ◌, ◌-ℤ◌, true, length, ap, sym, subst, ◌∙◌}
+use Rattle.std.proofs.Common.{◌≡◌, ℕ, suc, ◌+◌, ◌-◌, ◌<◌, ◌≤◌, ◌≤ℤ◌, ◌-ℤ◌, true, length, refl, ap, sym, subst, ◌∙◌}
 use Rattle.std.proofs.Common.{neg_ℤ, arith}
+use Rattle.std.proofs.lemmas.Bool.{false≢true}
 use Rattle.ttp_world.specs.declared.keep.Keep.TheVariants as keep
 use Rattle.ttp_world.specs.declared.medl.Medl.{Medl}
 use Rattle.ttp_world.specs.declared.script.Script.{Script}
@@ -18,8 +19,8 @@ use Rattle.fault_plan.specs.Fates.{is_sound_after}
 use Rattle.fault_plan.specs.Kept.{KeepsByPlan}
 use Rattle.fault_plan.specs.Plan.{plan_of}
 use Rattle.fault_plan.proofs.KeptPlan.{kept-plan}
-use Rattle.safety_clocks.specs.NotedByPlan.{IsSoundIn, GoesOnByPlan}
-use Rattle.safety_clocks.proofs.Bounds.{sound-clocks, sound-deviations}
+use Rattle.safety_clocks.specs.NotedByPlan.{IsSoundIn, GoesOnByPlan, IsTight}
+use Rattle.safety_clocks.proofs.Bounds.{tight-clocks, tight-deviations}
 use Rattle.safety_steps.specs.ByFate.{IsSoundAt}
 use Rattle.safety_steps.specs.Gone.{FaultyLeave}
 use Rattle.safety_steps.specs.Run.{IsBegun, StandsAfter}
@@ -70,11 +71,13 @@ module _ (list : Medl) (script : Script) (slot : ℕ) (valid : IsValid list) (sc
     kept-stands =
         let number = count in
         record {
-          planned = (begun (omega (arith, after, within))).planned;
+          stands = record {
+            planned = (begun (omega (arith, after, within))).planned;
+            number = length-world list script numbers ∙ number;
+            within = omega (arith, number, within);
+            holds = run.holds;
+          };
           faults = by_plan.faults;
-          number = length-world list script numbers ∙ number;
-          within = omega (arith, number, within);
-          holds = run.holds;
         }
 
     pub kept-safe : IsSafe list script (world list script numbers)
@@ -105,7 +108,7 @@ module _ (list : Medl) (script : Script) (slot : ℕ) (valid : IsValid list) (sc
         (is_correct_after list script (newest_slot (world list script numbers))) s (world list script numbers))
         by_plan.from
         (alike-run list script by_plan.start (plan_of list script by_plan.start) (begun (omega (arith, after, within)))
-        clocks (is_correct_after list script (newest_slot (world list script numbers))) (length numbers - suc slot)
+        clocks refl (is_correct_after list script (newest_slot (world list script numbers))) (length numbers - suc slot)
         numbers correct-sound number (omega (arith, number, within)) legal)
 
     pub kept-stands_alike : StandsAlikeSince list
@@ -115,7 +118,7 @@ module _ (list : Medl) (script : Script) (slot : ℕ) (valid : IsValid list) (sc
         subst (λ s. StandsAlikeSince list (is_correct_after list script (newest_slot (world list script numbers))) s
         (world list script numbers)) by_plan.from
         (stands-run list script by_plan.start (plan_of list script by_plan.start)
-        (begun (omega (arith, after, within))) clocks
+        (begun (omega (arith, after, within))) clocks refl
         (is_correct_after list script (newest_slot (world list script numbers))) (length numbers - suc slot) numbers
         correct-sound number (omega (arith, number, within)) legal)
 
@@ -154,6 +157,10 @@ module _ (list : Medl) (script : Script) (slot : ℕ) (valid : IsValid list) (sc
       within = inside;
     }
 
+    -- no node entered
+    tight : IsTight (plan_of list script by_plan.start) (suc (length numbers - suc slot))
+    tight turn k from entered = absurd (false≢true entered)
+
     sound-in : (k : ℕ) → k < length list.slots → is_correct_after list script (length numbers) k ≡ true
         → IsSoundIn list (plan_of list script by_plan.start) (suc (length numbers - suc slot)) k
     sound-in k node correct = (
@@ -168,7 +175,7 @@ module _ (list : Medl) (script : Script) (slot : ℕ) (valid : IsValid list) (sc
         → (clock_at list script (world list script numbers) j -ℤ clock_at list script (world list script numbers) k)
         ≤ℤ spread list
     kept-clocks j k node_j node_k correct_j correct_k =
-        sound-clocks goes j k (sound-in j node_j correct_j) (sound-in k node_k correct_k)
+        tight-clocks goes tight j k (sound-in j node_j correct_j) (sound-in k node_k correct_k)
 
     pub kept-deviations : (r p : ℕ) → r < length list.slots → p < length list.slots
         → is_correct_after list script (length numbers) r ≡ true
@@ -176,4 +183,4 @@ module _ (list : Medl) (script : Script) (slot : ℕ) (valid : IsValid list) (sc
         → (neg_ℤ (needed list) ≤ℤ measured list script (world list script numbers) r p)
         × (measured list script (world list script numbers) r p ≤ℤ needed list)
     kept-deviations r p node_r node_p correct_r correct_p =
-        sound-deviations goes r p (sound-in r node_r correct_r) (sound-in p node_p correct_p)
+        tight-deviations goes tight r p (sound-in r node_r correct_r) (sound-in p node_p correct_p)

@@ -13,10 +13,11 @@ use Rattle.ttp_world.specs.World.{Numbers, node_past, world}
 use Rattle.ttp_world.proofs.LegalShapes.{legal-older}
 use Rattle.ttp_world.proofs.Worlds.{length-world}
 use Rattle.precision.specs.Together.{TellsOf}
-use Rattle.fault_plan.specs.Plan.{Plan, sender}
+use Rattle.fault_plan.specs.Plan.{Plan, sender, enters}
 use Rattle.fault_plan.specs.Fates.{Fate, is_sound_after, is_good_slot}
 use Rattle.fault_plan.specs.Places.{planned_place}
-use Rattle.fault_plan.proofs.Persists.{sound-before}
+use Rattle.fault_plan.proofs.Persists.{sound-earlier}
+use Rattle.fault_plan.proofs.Returns.{none-enters}
 use Rattle.safety_clocks.specs.NotedByPlan.{IsSoundIn, StartedByPlan, NotesNothing, NotedInSlot}
 use Rattle.safety_steps.specs.ByFate.{IsSoundAt, IsByFate}
 use Rattle.safety_steps.specs.Run.{IsBegun}
@@ -47,13 +48,13 @@ nothing-on (entry.Judged sender v deviation) none = refl
 nothing-on _ none = absurd none
 
 noted-on : (list : Medl) (script : Script) (plan : Plan) (slot : ℕ) (row : List Entry) (history : History) (k : ℕ)
-    → NotedInSlot list script plan slot row history → IsSoundIn list plan slot k
+    → NotedInSlot list script plan slot row history → IsSoundIn list plan slot k → enters plan slot k ≡ false
     → continues_stint (entry_of row k) ≡ true
-noted-on list script plan slot row history k noted sound = by (is_good_slot plan slot) refl
+noted-on list script plan slot row history k noted sound none = by (is_good_slot plan slot) refl
   where
     by : (good : Bool) → is_good_slot plan slot ≡ good → continues_stint (entry_of row k) ≡ true
     by true good =
-        tells-on list script history (sender plan slot) k (entry_of row k) (noted.good k good sound)
+        tells-on list script history (sender plan slot) k (entry_of row k) (noted.good k good sound none)
     by false wrong = nothing-on (entry_of row k) (noted.other k wrong sound)
 
 -- Places.
@@ -76,7 +77,7 @@ none-before list group s (row ∷ history) early =
 
 -- The run.
 module _ (list : Medl) (script : Script) (start : ClusterStart) (plan : Plan) (is : IsBegun list script start plan)
-    (clocks : KeepsClocks list script start plan) where
+    (clocks : KeepsClocks list script start plan) (stay : plan.returns ≡ []) where
   pub stands-run : (group : ℕ → Bool) (turn : ℕ) (numbers : Numbers) → IsAmong list group (is_sound_after plan turn)
       → length numbers ≡ suc (start.slot + turn) → start.slot + turn < script.slots → IsLegal list script numbers
       → StandsAlikeSince list group start.slot (world list script numbers)
@@ -101,11 +102,11 @@ module _ (list : Medl) (script : Script) (start : ClusterStart) (plan : Plan) (i
           begins = λ k of_k now. absurd (omega (arith, now, before, number));
           goes_on = λ k of_k later.
               noted-on list script plan (suc turn) _ (world list script numbers) k by_plan.noted.1
-              (of_k.0, among k of_k);
+              (of_k.0, among k of_k) (none-enters plan (suc turn) k stay);
           places = λ j k of_j of_k.
               by_plan-place list script start plan (suc turn) _ j by_plan (of_j.0, among j of_j)
               ∙ sym (by_plan-place list script start plan (suc turn) _ k by_plan (of_k.0, among k of_k));
         }),
-        stands-run group turn numbers (λ k of_k. sound-before plan turn (suc turn) k (omega arith) (among k of_k))
+        stands-run group turn numbers (λ k of_k. sound-earlier plan turn (suc turn) k stay (omega arith) (among k of_k))
             (omega (arith, number)) (omega (arith, within)) (legal-older list script new numbers legal),
       )

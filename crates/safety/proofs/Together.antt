@@ -35,9 +35,9 @@ clocks-hold list script start plan valid follows turn numbers noted within =
     let goes : GoesOnByPlan list script start plan turn (world list script numbers) =
     record { valid = valid; follows = follows; noted = noted; within = within } in
     record {
-      within = λ r p node sends sound steady. sound-inside goes r p (node, sound) (sends, steady);
-      frame = λ r p since node sends sound jumped. (jumped-outside goes p r since sends (inr jumped) (node, sound)).0;
-      others = λ r p since node sends jumped sound. (jumped-outside goes r p since node (inl jumped) (sends, sound)).1;
+      within = λ r p node sends sound steady none stays. sound-inside goes r p (node, sound) (sends, steady) none stays;
+      frame = λ r p since node sends sound none jumped. (jumped-outside goes p r since sends (inr jumped) (node, sound)).0;
+      others = λ r p since node sends jumped sound none. (jumped-outside goes r p since node (inl jumped) (sends, sound)).1;
     }
 
 module _ (list : Medl) (script : Script) (start : ClusterStart) (plan : Plan) (is : IsBegun list script start plan)

@@ -1,9 +1,9 @@
 -- A clock that has jumped stays far from those of sound nodes, until its own slot.
 use Rattle.std.proofs.Common.{◌≡◌, ℕ, zero, suc, ◌+◌, ◌<◌, ◌≤◌, ℤ, pos, ◌+ℤ◌, ◌-ℤ◌, ◌*ℤ◌, ◌≤ℤ◌}
-use Rattle.std.proofs.Common.{true, inl, inr, List, [], ◌∷◌, length, refl, ap, sym, subst}
+use Rattle.std.proofs.Common.{true, cond, inl, inr, List, [], ◌∷◌, length, refl, ap, sym, subst}
 use Rattle.std.proofs.Common.{◌∙◌, arith}
 use Rattle.std.specs.Prelude.{◌==◌}
-use Rattle.std.proofs.lemmas.Bool.{cases_lt}
+use Rattle.std.proofs.lemmas.Bool.{cases_lt, ne_eqb}
 use Rattle.std.proofs.lemmas.Int.{ints}
 use Rattle.std.proofs.lemmas.List.Elements.{All-nil}
 use Rattle.ttp_world.specs.declared.medl.Medl.{Medl}
@@ -25,15 +25,16 @@ use Rattle.fault_plan.specs.Plan.{Jumping, Plan, sender}
 use Rattle.fault_plan.specs.Fates.{Falling, fate_of, is_sound_after}
 use Rattle.fault_plan.specs.Kept.{FollowsWithin}
 use Rattle.fault_plan.specs.Places.{planned_place}
-use Rattle.safety_clocks.specs.NotedByPlan.{IsSoundIn, NotesNothing, GoesOnByPlan}
+use Rattle.safety_clocks.specs.NotedByPlan.{IsSoundIn, NotesNothing, GoesOnByPlan, IsTight}
 use Rattle.safety_clocks.proofs.Apart.{noted_width, Apart, Fresh, Before}
 use Rattle.safety_clocks.proofs.Apart.{apart-next, same-near}
-use Rattle.safety_clocks.proofs.Bounds.{sound-clocks}
+use Rattle.safety_clocks.proofs.Bounds.{tight-clocks}
 use Rattle.safety_clocks.proofs.JumpedFates.{jumped-back}
 use Rattle.safety_clocks.proofs.NearNotes.{clock_moved, clock-next, notes-next, NextSlot, index-of, near-new}
 use Rattle.safety_clocks.proofs.NearNotes.{sound-moved, still-of, needed-up}
 use Rattle.safety_clocks.proofs.RoundKnown.{NotesKnown, notes-known, sound-clock}
 use Rattle.safety_clocks.proofs.RoundNotes.{none-silent, goes-silent, sender-in, place-slot, sound-goes, sound-back}
+use Rattle.safety_clocks.proofs.RoundNotes.{tight-stays, tight-back}
 use Rattle.safety_clocks.proofs.Together.{number-of, counted-run}
 
 -- Node x is sound up to slot base + 1, and in the slot after that its clock jumps, so far. What follows counts slots q
@@ -46,6 +47,8 @@ pub record JumpsAfter (list : Medl) (script : Script) (start : ClusterStart) (pl
   pub sound : is_sound_after plan (suc base) x ≡ true
   -- the start is a round ago
   pub late : length list.slots ≤ base
+  -- no entry is near
+  pub tight : (turn : ℕ) → suc base ≤ turn → turn ≤ suc (base + length list.slots) → IsTight plan turn
   pub here : jump_of script x (start.slot + suc (suc base)) ≡ jump
   pub once : (slot : ℕ) → suc (suc base) < slot → jump_of script x (start.slot + slot) ≡ pos 0
 
@@ -96,8 +99,8 @@ module _ {list : Medl} {script : Script} {start : ClusterStart} {plan : Plan} {x
       → jumped_in jump (suc q) ≡ jumped_in jump q +ℤ jump_of script x (start.slot + suc slot)
   jumped-next slot zero within is =
       none-of (jump_of script x (start.slot + suc slot))
-      (jumps.follows.planned.clocks (suc base) (suc slot) x jumps.inside
-      (subst (λ t. start.slot + suc t < script.slots) same within) (omega (arith, is)) jumps.sound)
+      (jumps.follows.planned.clocks (suc slot) x jumps.inside within
+      (subst (λ t. is_sound_after plan (suc t) x ≡ true) (sym same) jumps.sound))
     where
       same : slot ≡ base
       same = omega (arith, is)
@@ -124,14 +127,16 @@ module _ {list : Medl} {script : Script} {start : ClusterStart} {plan : Plan} {x
       → StaysApart list script plan slot x k 0 (pos 0) history
   stays-base {slot = slot} {history = history} k goes is q = record {
     place = (counted-run list script start plan slot history jumps.follows.planned goes.noted).places x
-        (sound-back list plan slot x p);
+        (sound-back list plan slot x (tight-stays plan (suc slot) x tight) p);
     apart = elim (cases_lt (suc m) (length list.slots)) [
       | inl less ↦
           Before less (omega arith) (near (noted_width list m) (fits m))
           (same-near (noted_width list m) (clock_after list script history x) (clock_after list script history k)
           (clock_after list script history x -ℤ pos 0) (clock_after list script history k)
           (round_notes list history x) (less-none (clock_after list script history x)) refl
-          (known.near early less x k (sound-back list plan slot x p) (sound-back list plan slot k q)))
+          (known.near (tight-back plan slot (goes-in less) tight) early less x k
+          (sound-back list plan slot x (tight-stays plan (suc slot) x tight) p)
+          (sound-back list plan slot k (tight-stays plan (suc slot) k tight) q)))
       | inr ends ↦
           Fresh refl (omega (arith, ends, inside))
           (near (needed list) (fewer (drift_share list) list.error jumps.valid.error.0))
@@ -140,6 +145,15 @@ module _ {list : Medl} {script : Script} {start : ClusterStart} {plan : Plan} {x
     where
       m : ℕ
       m = sender plan slot
+
+      tight : IsTight plan (suc slot)
+      tight = jumps.tight (suc slot) (omega (arith, is)) (omega (arith, is))
+
+      goes-in : suc (sender plan slot) < length list.slots → sender plan (suc slot) ≡ suc (sender plan slot)
+      goes-in less =
+          index-of list script start plan slot jumps.follows.planned
+          ∙ ap (λ b. cond b 0 (suc (sender plan slot)))
+          (ne_eqb (suc (sender plan slot)) (length list.slots) (λ same. omega (arith, less, same)))
 
       inside : sender plan slot < length list.slots
       inside = sender-in list script start plan slot jumps.follows.planned
@@ -165,8 +179,8 @@ module _ {list : Medl} {script : Script} {start : ClusterStart} {plan : Plan} {x
       near w wide =
           both-sides (spread list) w (clock_after list script history x) (clock_after list script history k)
           (clock_at list script history x) (clock_at list script history k)
-          (sound-clocks goes x k p q)
-          (sound-clocks goes k x q p)
+          (tight-clocks goes tight x k p q)
+          (tight-clocks goes tight k x q p)
           (begun x p) (begun k q) wide
 
       fewer : (share e : ℤ) → pos 0 ≤ℤ e
@@ -210,7 +224,7 @@ module _ {list : Medl} {script : Script} {start : ClusterStart} {plan : Plan} {x
               (suc (sender plan slot) == length list.slots) new.goes place
               (index ∙ index-of list script start plan slot jumps.follows.planned);
           others = round_notes list (row ∷ history) k;
-          small = known.small early k p;
+          small = known.small s.tight early k p;
           first = shift-jump (clock_after list script (row ∷ history) x) (clock_moved list script history x)
               (correction list (sender plan (suc slot)) (round_notes list (row ∷ history) x)) (jumped_in jump (suc q))
               (clock-next list script row history x (planned_place list plan (suc slot)) new.goes place
@@ -251,7 +265,8 @@ module _ {list : Medl} {script : Script} {start : ClusterStart} {plan : Plan} {x
       let sound : IsSoundIn list plan (suc slot) x =
       (jumps.inside, subst (λ t. is_sound_after plan (suc t) x ≡ true) same jumps.sound) in
       record {
-        goes = sound-goes list script plan (suc slot) x row history s.noted sound;
+        goes = sound-goes list script plan (suc slot) x row history s.noted sound
+            (tight-stays plan (suc slot) x s.tight);
         near = same-near (noted_width list (sender plan (suc slot))) (clock_moved list script history x)
             (clock_moved list script history k) (clock_moved list script history x -ℤ pos 0)
             (clock_moved list script history k) (notes_in list (planned_place list plan (suc slot)) (entry_of row x))
@@ -281,6 +296,7 @@ module _ {list : Medl} {script : Script} {start : ClusterStart} {plan : Plan} {x
   stays-apart k (suc slot) (row ∷ history) zero goes is few p falls =
       stays-base k goes (omega (arith, is)) p
   stays-apart k (suc slot) (row ∷ history) (suc q) goes is few p falls =
+      let tight : IsTight plan (suc slot) = jumps.tight (suc slot) (omega (arith, is)) (omega (arith, is, few)) in
       let s : NextSlot list script start plan slot row history = record {
         before = record {
           valid = jumps.valid;
@@ -289,9 +305,13 @@ module _ {list : Medl} {script : Script} {start : ClusterStart} {plan : Plan} {x
           within = omega (arith, goes.within);
         };
         noted = goes.noted.1;
+        tight = tight;
       } in
       let same : slot ≡ base + q = omega (arith, is) in
-      let back : IsSoundIn list plan (suc slot) k = sound-back list plan (suc slot) k p in
+      let later : IsTight plan (suc (suc slot)) =
+      jumps.tight (suc (suc slot)) (omega (arith, is)) (omega (arith, is, few)) in
+      let back : IsSoundIn list plan (suc slot) k =
+      sound-back list plan (suc slot) k (tight-stays plan (suc (suc slot)) k later) p in
       stays-next k q s same (omega (arith, few)) back
       (notes-near k q s same back falls)
       (stays-apart k slot history q s.before same

@@ -1,6 +1,7 @@
 pub mod SmallerGroups
 pub mod RoundNotes
 pub mod Together
+pub mod Company
 pub mod Bounds
 pub mod Apart
 pub mod JumpedFates

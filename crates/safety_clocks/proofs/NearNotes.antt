@@ -28,10 +28,10 @@ use Rattle.fault_plan.specs.Plan.{Plan, sender}
 use Rattle.fault_plan.specs.Fates.{is_good_slot}
 use Rattle.fault_plan.specs.Kept.{FollowsPlan}
 use Rattle.fault_plan.specs.Places.{planned_place}
-use Rattle.safety_clocks.specs.NotedByPlan.{IsSoundIn, NotedInSlot, GoesOnByPlan}
+use Rattle.safety_clocks.specs.NotedByPlan.{IsSoundIn, NotedInSlot, GoesOnByPlan, IsTight}
 use Rattle.safety_clocks.proofs.Apart.{noted_width}
-use Rattle.safety_clocks.proofs.Bounds.{sound-clocks, sound-deviations}
-use Rattle.safety_clocks.proofs.RoundNotes.{none-silent, sender-in, place-slot, index-next}
+use Rattle.safety_clocks.proofs.Bounds.{tight-clocks, tight-deviations}
+use Rattle.safety_clocks.proofs.RoundNotes.{none-silent, sender-in, place-slot, index-next, tight-stays}
 use Rattle.safety_clocks.proofs.Together.{number-of}
 
 -- A node that goes on.
@@ -68,11 +68,12 @@ notes-next list row history k m place false goes is index =
     notes_more list k (diary_of history k) (entry_of row k) place is
     (later_slot_later place (entry_of row k) m index goes)
 
--- A slot of the plan after others, and what is known then.
+-- A tight slot of the plan after others, and what is known then.
 pub record NextSlot (list : Medl) (script : Script) (start : ClusterStart) (plan : Plan) (slot : ℕ) (row : List Entry)
     (history : History) : Type 0 where
   pub before : GoesOnByPlan list script start plan slot history
   pub noted : NotedInSlot list script plan (suc slot) row history
+  pub tight : IsTight plan (suc slot)
 
 pub index-of : (list : Medl) (script : Script) (start : ClusterStart) (plan : Plan) (slot : ℕ)
     → FollowsPlan list script start plan
@@ -88,7 +89,7 @@ still-of {list = list} {script = script} {start = start} {plan = plan} {slot = s
     let here : start.slot + suc slot ≡ length history =
     omega (arith, number-of list script start plan slot history is.noted) in
     subst (λ t. jump_of script k t ≡ pos 0) here
-    (is.follows.planned.clocks (suc slot) (suc slot) k p.0 is.within (omega arith) p.1)
+    (is.follows.planned.clocks (suc slot) k p.0 is.within p.1)
 
 pub needed-up : (list : Medl) → IsValid list → pos 0 ≤ℤ needed list
 needed-up list valid = up-of list.drift list.error (length list.slots) valid.drift.0 valid.error.0
@@ -134,7 +135,7 @@ noted-each : (P : ℤ → Type 0) (list : Medl) (script : Script) (start : Clust
     → All P (notes_in list (planned_place list plan (suc slot)) (entry_of row k))
 noted-each P list script start plan slot k row history true is s p own other =
     told-each P list script history (sender plan (suc slot)) k (planned_place list plan (suc slot)) (entry_of row k)
-    (s.noted.good k is p) own (other (sender-in list script start plan (suc slot) s.before.follows.planned, is))
+    (s.noted.good k is p (tight-stays plan (suc slot) k s.tight)) own (other (sender-in list script start plan (suc slot) s.before.follows.planned, is))
 noted-each P list script start plan slot k row history false is s p own other =
     subst (All P) (sym (none-silent list (planned_place list plan (suc slot)) (entry_of row k) (s.noted.other k is p)))
     (All-nil P)
@@ -149,7 +150,7 @@ small-new {list = list} {script = script} {start = start} {plan = plan} {slot = 
     noted-each (IsUpTo (needed list)) list script start plan slot k row history (is_good_slot plan (suc slot)) refl s p
     (λ own. zero-upto (needed list) (needed-up list s.before.valid))
     (λ q d is. subst (IsUpTo (needed list)) (sym is)
-    (sound-deviations s.before k (sender plan (suc slot)) p q))
+    (tight-deviations s.before s.tight k (sender plan (suc slot)) p q))
   where
     zero-upto : (w : ℤ) → pos 0 ≤ℤ w → IsUpTo w (pos 0)
     zero-upto w up = (omega (arith, ints, up), up)
@@ -274,7 +275,7 @@ near-new {list = list} {script = script} {start = start} {plan = plan} {slot = s
         same-bound (clock_at list script history i) (clock_at list script history j)
         (clock_after list script history i) (clock_after list script history j) (spread list)
         (runs i a).begun (runs j b).begun
-        (sound-clocks s.before i j a b)
+        (tight-clocks s.before s.tight i j a b)
 
     wide : (needed list +ℤ (list.drift +ℤ list.drift)) ≤ℤ noted_width list (sender plan (suc slot))
     wide = width-fits (needed list) (drift_in list (suc (sender plan (suc slot)))) list.drift

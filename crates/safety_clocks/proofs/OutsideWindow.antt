@@ -36,9 +36,9 @@ use Rattle.safety_clocks.specs.Jumps.{HasJumped}
 use Rattle.safety_clocks.specs.NotedByPlan.{IsSoundIn, NotedByPlan, GoesOnByPlan}
 use Rattle.safety_clocks.proofs.Apart.{jump_width, apart-upto}
 use Rattle.safety_clocks.proofs.JumpedClock.{JumpsAfter, jumped_in, stays-apart}
-use Rattle.safety_clocks.proofs.JumpedFates.{IsJumpTold, jump-told, jumped-back, sound-till}
+use Rattle.safety_clocks.proofs.JumpedFates.{IsJumpTold, jump-told, jumped-back, sound-till, jump-tight}
 use Rattle.safety_clocks.proofs.NearNotes.{needed-up, still-of}
-use Rattle.safety_clocks.proofs.RoundNotes.{sound-goes}
+use Rattle.safety_clocks.proofs.RoundNotes.{sound-goes, tight-stays}
 use Rattle.safety_clocks.proofs.Together.{number-of}
 
 -- An active node's clock takes the jump of a slot.
@@ -159,7 +159,8 @@ module _ {list : Medl} {script : Script} {start : ClusterStart} {plan : Plan} {x
       omega (arith, is, number-of list script start plan (suc slot) (row ∷ history) noted) in
       clock-jumps list script row history x
       (sound-goes list script plan (suc slot) x row history noted.1
-      (jumps.inside, subst (λ t. is_sound_after plan t x ≡ true) same jumps.sound))
+      (jumps.inside, subst (λ t. is_sound_after plan t x ≡ true) same jumps.sound)
+      (tight-stays plan (suc slot) x (jumps.tight (suc slot) (omega (arith, is)) (omega (arith, is)))))
       ∙ ap (λ z. clock_after list script (row ∷ history) x +ℤ z) (sym (ap (jump_of script x) here) ∙ jumps.here)
       ∙ add-none (clock_after list script (row ∷ history) x) jump
     where
@@ -226,6 +227,8 @@ jumps-after {list = list} {script = script} {start = start} {plan = plan} {slot 
         inside = inside;
         sound = sound-till plan x (suc base) Jumping is.follows.planned.good told.loss;
         late = omega (arith, told.loss.late, is.follows.planned.nodes, is.valid.count.0);
+        tight = λ turn from to. jump-tight plan x base Jumping is.follows.planned.good told.loss turn from
+            (omega (arith, to, is.follows.planned.nodes));
         here = refl;
         once = λ turn later. is.follows.bounds.still x (start.slot + turn)
             (is.follows.bounds.once x (start.slot + suc (suc base)) (start.slot + turn) (omega (arith, later)) jumps);

@@ -1,4 +1,4 @@
--- All notes of a round that began after the start: they lie near 0, and tell of frames near each sound node's clock.
+-- All notes of a tight round that began after the start: they lie near 0, and tell of frames near each sound node's clock.
 use Rattle.std.proofs.Common.{◌≡◌, ℕ, zero, suc, ◌<◌, ◌≤◌, ℤ, ◌+ℤ◌, ◌-ℤ◌, Bool, true, false, cond}
 use Rattle.std.proofs.Common.{List, [], ◌∷◌, ◌++◌, length}
 use Rattle.std.proofs.Common.{refl, ap, sym, subst, ◌∙◌, arith}
@@ -17,18 +17,18 @@ use Rattle.precision.proofs.Runs.{clock_after, round_notes}
 use Rattle.fault_plan.specs.Plan.{Plan, sender}
 use Rattle.fault_plan.specs.Kept.{FollowsWithin}
 use Rattle.fault_plan.specs.Places.{planned_place}
-use Rattle.safety_clocks.specs.NotedByPlan.{IsSoundIn, NotedByPlan}
+use Rattle.safety_clocks.specs.NotedByPlan.{IsSoundIn, NotedByPlan, IsTight}
 use Rattle.safety_clocks.proofs.Apart.{noted_width, near-later, uncorrected-in, same-near}
 use Rattle.safety_clocks.proofs.NearNotes.{clock_moved, clock-next, notes-next, NextSlot, index-of, small-new, near-new}
 use Rattle.safety_clocks.proofs.NearNotes.{sound-moved}
-use Rattle.safety_clocks.proofs.RoundNotes.{place-slot, sound-goes, sound-back}
+use Rattle.safety_clocks.proofs.RoundNotes.{place-slot, sound-goes, sound-back, tight-stays, tight-back}
 use Rattle.safety_clocks.proofs.Together.{number-of, counted-run}
 
 pub record NotesKnown (list : Medl) (script : Script) (plan : Plan) (slot : ℕ) (history : History) : Type 0 where
-  pub small : sender plan slot < slot → (k : ℕ) → IsSoundIn list plan slot k
+  pub small : IsTight plan slot → sender plan slot < slot → (k : ℕ) → IsSoundIn list plan slot k
       → All (IsUpTo (needed list)) (round_notes list history k)
   -- while the round goes on
-  pub near : sender plan slot < slot → suc (sender plan slot) < length list.slots → (x k : ℕ)
+  pub near : IsTight plan slot → sender plan slot < slot → suc (sender plan slot) < length list.slots → (x k : ℕ)
       → IsSoundIn list plan slot x → IsSoundIn list plan slot k
       → AreNear (noted_width list (sender plan slot)) (clock_after list script history x)
       (clock_after list script history k) (round_notes list history x)
@@ -45,7 +45,7 @@ sound-notes {list = list} {script = script} {start = start} {plan = plan} {slot 
     (s.before.noted, s.noted) in
     notes-next list row history k (sender plan slot) (planned_place list plan (suc slot))
     (suc (sender plan slot) == length list.slots)
-    (sound-goes list script plan (suc slot) k row history s.noted p) (counted.places k p)
+    (sound-goes list script plan (suc slot) k row history s.noted p (tight-stays plan (suc slot) k s.tight)) (counted.places k p)
     (place-slot list script start plan (suc slot) s.before.follows.planned
     ∙ index-of list script start plan slot s.before.follows.planned)
 
@@ -60,7 +60,7 @@ sound-clock {list = list} {script = script} {start = start} {plan = plan} {slot 
     let counted = counted-run list script start plan (suc slot) (row ∷ history) s.before.follows.planned
     (s.before.noted, s.noted) in
     clock-next list script row history k (planned_place list plan (suc slot))
-    (sound-goes list script plan (suc slot) k row history s.noted p) (counted.places k p)
+    (sound-goes list script plan (suc slot) k row history s.noted p (tight-stays plan (suc slot) k s.tight)) (counted.places k p)
     ∙ ap (λ m. clock_moved list script history k +ℤ correction list m (round_notes list (row ∷ history) k))
     (place-slot list script start plan (suc slot) s.before.follows.planned)
 
@@ -87,10 +87,13 @@ all-small list script start plan slot k row history last is s known later p =
         → All (IsUpTo (needed list)) (cond b [] (round_notes list history k))
     old true ends = All-nil (IsUpTo (needed list))
     old false inside =
-        known.small (goes-from (sender plan (suc slot)) (sender plan slot) slot (length list.slots)
+        known.small (tight-back plan slot
+        (index-of list script start plan slot s.before.follows.planned
+        ∙ ap (λ b. cond b 0 (suc (sender plan slot))) inside) s.tight)
+        (goes-from (sender plan (suc slot)) (sender plan slot) slot (length list.slots)
         (suc (sender plan slot) == length list.slots)
         (index-of list script start plan slot s.before.follows.planned) inside later)
-        k (sound-back list plan slot k p)
+        k (sound-back list plan slot k (tight-stays plan (suc slot) k s.tight) p)
 
 all-near : (list : Medl) (script : Script) (start : ClusterStart) (plan : Plan) (slot x k : ℕ) (row : List Entry)
     (history : History)
@@ -139,8 +142,9 @@ all-near list script start plan slot x k row history s known later less p q =
           first = sound-moved s x p;
           second = sound-moved s k q;
         })
-        (known.near (omega (arith, index, later)) (omega (arith, index, less)) x k (sound-back list plan slot x p)
-        (sound-back list plan slot k q)))
+        (known.near (tight-back plan slot index s.tight) (omega (arith, index, later)) (omega (arith, index, less)) x k
+        (sound-back list plan slot x (tight-stays plan (suc slot) x s.tight) p)
+        (sound-back list plan slot k (tight-stays plan (suc slot) k s.tight) q)))
 
 pub notes-known : (list : Medl) (script : Script) (start : ClusterStart) (plan : Plan) (slot : ℕ) (history : History)
     → IsValid list → FollowsWithin list script start plan → NotedByPlan list script start plan slot history
@@ -148,12 +152,12 @@ pub notes-known : (list : Medl) (script : Script) (start : ClusterStart) (plan :
     → NotesKnown list script plan slot history
 notes-known list script start plan slot [] valid follows noted within = absurd noted
 notes-known list script start plan zero (row ∷ history) valid follows noted within = record {
-  small = λ later. absurd (omega (arith, later));
-  near = λ later. absurd (omega (arith, later));
+  small = λ tight later. absurd (omega (arith, later));
+  near = λ tight later. absurd (omega (arith, later));
 }
 notes-known list script start plan (suc slot) (row ∷ history) valid follows noted within =
     let number = number-of list script start plan slot history noted.0 in
-    let s : NextSlot list script start plan slot row history = record {
+    let s : IsTight plan (suc slot) → NextSlot list script start plan slot row history = λ tight. record {
       before = record {
         valid = valid;
         follows = follows;
@@ -161,10 +165,12 @@ notes-known list script start plan (suc slot) (row ∷ history) valid follows no
         within = omega (arith, number, within);
       };
       noted = noted.1;
+      tight = tight;
     } in
     let known = notes-known list script start plan slot history valid follows noted.0 (omega (arith, within)) in
     record {
-      small = λ later k p. all-small list script start plan slot k row history
-          (suc (sender plan slot) == length list.slots) refl s known later p;
-      near = λ later less x k p q. all-near list script start plan slot x k row history s known later less p q;
+      small = λ tight later k p. all-small list script start plan slot k row history
+          (suc (sender plan slot) == length list.slots) refl (s tight) known later p;
+      near = λ tight later less x k p q.
+          all-near list script start plan slot x k row history (s tight) known later less p q;
     }

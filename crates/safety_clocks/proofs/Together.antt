@@ -1,27 +1,21 @@
--- The sound nodes of a plan run together from the start on.
-use Rattle.std.proofs.Common.{◌≡◌, ◌≢◌, ℕ, zero, suc, ◌+◌, ◌-◌, ◌<◌, ◌≤◌, ℤ, Bool, true, false, List, [], ◌∷◌, length}
+-- The sound nodes of a plan begin together at the start, and in each slot since they are at its place.
+use Rattle.std.proofs.Common.{◌≡◌, ◌≢◌, ℕ, zero, suc, ◌+◌, ℤ, List, [], ◌∷◌, length}
 use Rattle.std.proofs.Common.{inl, inr, refl, ap, sym, subst, ◌∙◌, arith}
-use Rattle.std.proofs.lemmas.Bool.{cases_eq, eqb-true}
+use Rattle.std.proofs.lemmas.Bool.{cases_eq}
 use Rattle.ttp_world.specs.declared.medl.Medl.{Medl}
 use Rattle.ttp_world.specs.declared.node.Entry.{Entry}
 use Rattle.ttp_world.specs.declared.node.Entry.TheVariants as entry
 use Rattle.ttp_world.specs.declared.script.Script.{Script}
-use Rattle.ttp_world.specs.Clock.{notes_of, stint_notes}
 use Rattle.ttp_world.specs.Conduct.{cold_start_cstate}
-use Rattle.ttp_world.specs.Diary.{History, entry_of, diary_of, start_place, stint_place, place_of, ends_round}
+use Rattle.ttp_world.specs.Diary.{History, entry_of, diary_of, start_place, stint_place}
 use Rattle.ttp_world.specs.Hypothesis.{ClusterStart}
-use Rattle.precision.specs.Together.{BeginsOn, BeganTogether, NotedAlike, Nothing, OneFrame, StayedTogether}
-use Rattle.precision.specs.Together.{RanTogether, EndsLaterRound, measured}
-use Rattle.precision.proofs.Entries.{continued_active, place_of-active, notes_of-active}
-use Rattle.fault_plan.specs.Plan.{Plan, sender}
-use Rattle.fault_plan.specs.Fates.{is_sound_after, is_good_slot, is_measured, tally}
+use Rattle.precision.specs.Together.{BeginsOn, BeganTogether}
+use Rattle.precision.specs.Together.{measured}
+use Rattle.fault_plan.specs.Plan.{Plan}
+use Rattle.fault_plan.specs.Fates.{is_sound_after}
 use Rattle.fault_plan.specs.Kept.{FollowsPlan}
-use Rattle.fault_plan.specs.Places.{planned_place}
-use Rattle.fault_plan.proofs.Counts.{four-measured}
-use Rattle.fault_plan.proofs.Persists.{sound-before}
-use Rattle.safety_clocks.specs.NotedByPlan.{IsSoundIn, StartedByPlan, NotedInSlot, NotedByPlan}
-use Rattle.safety_clocks.proofs.RoundNotes.{none-silent, place-slot, sound-goes, Counted, counted-start, counted-next}
-use Rattle.safety_clocks.proofs.SmallerGroups.{together-in}
+use Rattle.safety_clocks.specs.NotedByPlan.{StartedByPlan, NotedByPlan}
+use Rattle.safety_clocks.proofs.RoundNotes.{Counted, counted-start, counted-next}
 
 -- The start.
 
@@ -65,54 +59,6 @@ counted-begun list script start plan row history follows started =
     (λ same. ap (entry_of row) same ∙ started.starter) (λ other. started.joins k p other)
     ∙ ap start_place (sym follows.starter))
 
--- A later slot.
-
-noted-alike : (list : Medl) (script : Script) (plan : Plan) (slot : ℕ) (row : List Entry) (history : History)
-    (good : Bool)
-    → is_good_slot plan slot ≡ good → NotedInSlot list script plan slot row history
-    → NotedAlike list script (is_sound_after plan slot) row history
-noted-alike list script plan slot row history true is noted = OneFrame (sender plan slot) (λ k p. noted.good k is p)
-noted-alike list script plan slot row history false is noted =
-    Nothing (λ k p. none-silent list (place_of list k (diary_of (row ∷ history) k)) (entry_of row k)
-    (noted.other k is p))
-
--- four measured slots were in each round that began after the start
-noted-four : (list : Medl) (script : Script) (start : ClusterStart) (plan : Plan) (slot k : ℕ) (row : List Entry)
-    (history : History)
-    → FollowsPlan list script start plan → suc slot < plan.slots → length history ≡ start.slot + suc slot
-    → NotedInSlot list script plan (suc slot) row history → Counted list plan (suc slot) (row ∷ history)
-    → IsSoundIn list plan (suc slot) k → EndsLaterRound list start.slot k row history
-    → 4 ≤ length (notes_of list k (diary_of (row ∷ history) k))
-noted-four list script start plan slot k row history follows within number noted counted p ends =
-    let goes = continued_active (entry_of row k) (sound-goes list script plan (suc slot) k row history noted p) in
-    let place : place_of list k (diary_of (row ∷ history) k) ≡ planned_place list plan (suc slot) =
-    place_of-active list k (diary_of history k) (entry_of row k) goes ∙ counted.places k p in
-    let index = place-slot list script start plan (suc slot) follows in
-    let last : suc (sender plan (suc slot)) ≡ length list.slots =
-    ap suc (sym index) ∙ eqb-true (suc (planned_place list plan (suc slot)).slot) (length list.slots)
-    (sym (ap (ends_round list) place) ∙ ends.0) in
-    let from = suc (suc slot) - plan.nodes in
-    let round : from + plan.nodes ≡ suc (suc slot) = omega (arith, ends.1, number, follows.nodes) in
-    let many : 4 ≤ tally (is_measured plan) from plan.nodes =
-    four-measured plan (suc slot) from follows.good within round in
-    let count : length (stint_notes list k (diary_of (row ∷ history) k))
-    ≡ tally (is_measured plan) from (suc (sender plan (suc slot))) =
-    counted.notes k from p (omega (arith, ends.1, number, follows.nodes)) (omega (arith, round, last, follows.nodes)) in
-    let whole : plan.nodes ≡ suc (sender plan (suc slot)) = follows.nodes ∙ sym last in
-    subst (λ n. 4 ≤ n) (ap (tally (is_measured plan) from) whole ∙ sym count
-    ∙ ap length (sym (notes_of-active list k (diary_of history k) (entry_of row k) goes))) many
-
-pub stayed : (list : Medl) (script : Script) (start : ClusterStart) (plan : Plan) (slot : ℕ) (row : List Entry)
-    (history : History)
-    → FollowsPlan list script start plan → suc slot < plan.slots → length history ≡ start.slot + suc slot
-    → NotedInSlot list script plan (suc slot) row history → Counted list plan (suc slot) (row ∷ history)
-    → StayedTogether list script (is_sound_after plan (suc slot)) start.slot row history
-stayed list script start plan slot row history follows within number noted counted = record {
-  active = λ k p. sound-goes list script plan (suc slot) k row history noted p;
-  noted = noted-alike list script plan (suc slot) row history (is_good_slot plan (suc slot)) refl noted;
-  enough = λ k p ends. noted-four list script start plan slot k row history follows within number noted counted p ends;
-}
-
 -- The run.
 
 -- how many slots were before the newest one
@@ -132,21 +78,3 @@ counted-run list script start plan zero (row ∷ history) follows noted =
 counted-run list script start plan (suc slot) (row ∷ history) follows noted =
     counted-next list script start plan slot row history follows noted.1
     (counted-run list script start plan slot history follows noted.0)
-
-pub ran-together : (list : Medl) (script : Script) (start : ClusterStart) (plan : Plan) (slot : ℕ) (history : History)
-    → FollowsPlan list script start plan → NotedByPlan list script start plan slot history
-    → length history ≤ script.slots
-    → RanTogether list script (is_sound_after plan slot) start.slot history
-ran-together list script start plan slot [] follows noted within = absurd noted
-ran-together list script start plan zero (row ∷ history) follows noted within =
-    inl (noted.number, began list script start plan row history follows noted)
-ran-together list script start plan (suc slot) (row ∷ history) follows noted within =
-    let number = number-of list script start plan slot history noted.0 in
-    inr (
-      together-in list script (is_sound_after plan (suc slot)) (is_sound_after plan slot) start.slot history
-          (λ k sound. sound-before plan slot (suc slot) k (omega arith) sound)
-          (ran-together list script start plan slot history follows noted.0 (omega (arith, within))),
-      stayed list script start plan slot row history follows (omega (arith, within, number, follows.slots))
-          (omega (arith, number)) noted.1
-          (counted-run list script start plan (suc slot) (row ∷ history) follows noted),
-    )

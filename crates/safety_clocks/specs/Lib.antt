@@ -1,3 +1,4 @@
 pub mod NotedByPlan
+pub mod Entries
 pub mod Jumps
 pub mod WorkedRun

@@ -2,7 +2,7 @@
 --
 -- A history has its newest slot first, and its length is the number of the slot after it. Slots of a plan are counted
 -- from the start.
-use Rattle.std.specs.Prelude.{◌≡◌, ◌≢◌, ℕ, zero, suc, ◌+◌, ◌<◌, true, false, List, [], ◌∷◌, length}
+use Rattle.std.specs.Prelude.{◌≡◌, ◌≢◌, ℕ, zero, suc, ◌+◌, ◌<◌, ◌≤◌, true, false, List, [], ◌∷◌, length}
 use Rattle.ttp_world.specs.declared.medl.Medl.{Medl}
 use Rattle.ttp_world.specs.declared.node.Entry.{Entry}
 use Rattle.ttp_world.specs.declared.node.Entry.TheVariants as entry
@@ -12,10 +12,11 @@ use Rattle.ttp_world.specs.Conduct.{cold_start_cstate}
 use Rattle.ttp_world.specs.Diary.{History, entry_of}
 use Rattle.ttp_world.specs.Hypothesis.{ClusterStart}
 use Rattle.ttp_world.specs.Medl.{IsValid}
-use Rattle.precision.specs.Together.{IsIn, TellsOf, measured}
-use Rattle.fault_plan.specs.Plan.{Jumping, Plan, sender}
+use Rattle.precision.specs.Together.{IsIn, BeginsOn, TellsOf, measured}
+use Rattle.fault_plan.specs.Plan.{Jumping, Plan, sender, enters}
 use Rattle.fault_plan.specs.Fates.{Falling, fate_of, is_sound_after, is_good_slot}
 use Rattle.fault_plan.specs.Kept.{FollowsWithin}
+use Rattle.fault_plan.specs.Places.{planned_place}
 
 -- a node of the list that is sound after a slot
 abbrev pub IsSoundIn : Medl → Plan → ℕ → ℕ → Type 0
@@ -36,12 +37,14 @@ NotesNothing (entry.Judged sender v deviation) = is_correct v ≡ false
 NotesNothing _ = ⊥
 
 -- A later slot of the plan, which is that of a row after a history. Where it is good, the entry of each sound node
--- tells of the frame of the slot's sender, and in every other slot it notes nothing. Nor does a node whose clock has
--- jumped, until its own slot comes.
+-- tells of the frame of the slot's sender, or the node enters on it, and in every other slot a sound node notes nothing.
+-- Nor does a node whose clock has jumped, until its own slot comes.
 pub record NotedInSlot (list : Medl) (script : Script) (plan : Plan) (slot : ℕ) (row : List Entry) (history : History)
     : Type 0 where
-  pub good : (k : ℕ) → is_good_slot plan slot ≡ true → IsSoundIn list plan slot k
+  pub good : (k : ℕ) → is_good_slot plan slot ≡ true → IsSoundIn list plan slot k → enters plan slot k ≡ false
       → TellsOf list script history (sender plan slot) k (entry_of row k)
+  pub begins : (k : ℕ) → k < length list.slots → enters plan slot k ≡ true
+      → BeginsOn list script history (sender plan slot) (planned_place list plan slot) k (entry_of row k)
   pub other : (k : ℕ) → is_good_slot plan slot ≡ false → IsSoundIn list plan slot k → NotesNothing (entry_of row k)
   pub jumped : (k since : ℕ) → k < length list.slots → fate_of plan slot k ≡ Falling Jumping since
       → NotesNothing (entry_of row k)
@@ -60,3 +63,7 @@ pub record GoesOnByPlan (list : Medl) (script : Script) (start : ClusterStart) (
   pub follows : FollowsWithin list script start plan
   pub noted : NotedByPlan list script start plan slot history
   pub within : start.slot + suc slot < script.slots
+
+-- no node entered in the round of a slot so far, nor in the round before
+abbrev pub IsTight : Plan → ℕ → Type 0
+IsTight plan slot = (turn k : ℕ) → turn ≤ slot → enters plan turn k ≡ true → turn + plan.nodes + sender plan slot < slot

@@ -52,6 +52,7 @@ one_jump = record {
   begin = 0 ∷ 1 ∷ 2 ∷ 3 ∷ 4 ∷ [];
   measured = 0 ∷ 1 ∷ 2 ∷ 3 ∷ 4 ∷ [];
   incidents = record { slot = 14; node = 3; change = Jumping } ∷ [];
+  returns = [];
 }
 
 -- 25 slots in which no frame carries payload

@@ -6,7 +6,8 @@
 //! a premise (`NotedByPlan` of `specs/NotedByPlan.antt`), slot by slot, and gives what an induction
 //! over the slots asks of clocks at the beginning of the next slot:
 //!
-//! - [`laws::runs_together`]: the nodes that are sound by the plan run together since the start;
+//! - [`laws::runs_as_company`]: the nodes that are sound by the plan run together since the start, as
+//!   a company that grows by each return;
 //! - [`laws::clocks_near`]: so their clocks and what they measure of each other stay within the bounds
 //!   of `precision`, and within the list's window;
 //! - [`laws::jumped_outside`]: a node whose clock has jumped is outside the window at each of them

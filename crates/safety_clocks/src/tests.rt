@@ -3,7 +3,7 @@ use crate::laws;
 
 #[test]
 fn laws_are_there() {
-    laws::runs_together();
+    laws::runs_as_company();
     laws::clocks_near();
     laws::jumped_outside();
 }

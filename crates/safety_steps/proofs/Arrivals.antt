@@ -9,8 +9,8 @@ use Rattle.ttp_world.specs.Diary.{next_place}
 use Rattle.ttp_world.specs.Hypothesis.{ClusterStart, loses}
 use Rattle.ttp_world.specs.Reception.{is_within_window}
 use Rattle.ttp_world.specs.World.{SlotNumbers, Numbers, node_past, slot_after, deviation_in, messages_chosen, world}
-use Rattle.fault_plan.specs.Plan.{Change, Plan, sender}
-use Rattle.fault_plan.specs.Fates.{Fate, Absent, Sound, Falling, Fallen, fate_of, is_lost}
+use Rattle.fault_plan.specs.Plan.{Change, Plan, sender, is_armed_by}
+use Rattle.fault_plan.specs.Fates.{Fate, Absent, Sound, Falling, Fallen, Listening, fate_of, is_lost}
 use Rattle.fault_plan.specs.Ledger.{planned_members}
 use Rattle.fault_plan.specs.Places.{planned_place}
 use Rattle.safety_laws.specs.Groups.{held_with}
@@ -18,12 +18,14 @@ use Rattle.safety_laws.specs.NodeSlot.{frames_made, next_past}
 use Rattle.safety_laws.specs.Senders.{SendsAlone, NoneSends}
 use Rattle.safety_laws.specs.Turns.{HearsMembers}
 use Rattle.safety_laws.proofs.Idle.{idle-off, idle-left}
+use Rattle.safety_laws.proofs.Listening.{frames_made-listening}
 use Rattle.safety_laws.proofs.OneSender.{members-alone}
 use Rattle.safety_steps.specs.ByFate.{IsByFate, IsFallingAt, IsFallenAt}
 use Rattle.safety_steps.specs.Turn.{IsTurn}
 use Rattle.safety_steps.proofs.OwnTurns.{IsSoundOwner, sound-sends, falling-own, fallen-own}
 use Rattle.safety_steps.proofs.PlanSteps.{told-falling}
-use Rattle.safety_steps.proofs.Turns.{slot_of, e-node, has-turn, absent-off, unarmed, none-sends, sends-alone}
+use Rattle.safety_steps.proofs.Turns.{slot_of, e-node, has-turn, absent-off, armed-planned, unarmed-falling}
+use Rattle.safety_steps.proofs.Turns.{listens-still, silent-left, none-sends, sends-alone}
 
 module _ (list : Medl) (script : Script) (start : ClusterStart) (plan : Plan) (turn : ℕ) (new : SlotNumbers)
     (numbers : Numbers) (t : IsTurn list script start plan turn new numbers) where
@@ -58,7 +60,7 @@ module _ (list : Medl) (script : Script) (start : ClusterStart) (plan : Plan) (t
         sends-alone list script start plan turn new numbers t sound-owner.own may
 
     -- it sends the plan's members and itself
-    sound-members : (slot_of list script new numbers (sender plan (suc turn))).past.members
+    pub sound-members : (slot_of list script new numbers (sender plan (suc turn))).past.members
         ≡ planned_members plan turn
     sound-members =
         sound-owner.at.group.members
@@ -89,21 +91,58 @@ module _ (list : Medl) (script : Script) (start : ClusterStart) (plan : Plan) (t
       (idle-off (slot_of list script new numbers e) (at-fate e Absent node is)
       (absent-off list script start plan turn new numbers t e node is)).1
 
+  pub silent-listening : (since : ℕ) → fate_of plan turn (sender plan (suc turn)) ≡ Listening since
+      → NoneSends list script (world list script numbers) (messages_chosen list script (length numbers) new.sent)
+  silent-listening since is =
+      let e = sender plan (suc turn) in
+      let node = e-node list script start plan turn new numbers t in
+      none-sends list script start plan turn new numbers t
+      (frames_made-listening (slot_of list script new numbers e)
+      (listens-still list script start plan turn new numbers t e node since is (at-fate e (Listening since) node is)).listens)
+
   -- it has left by then, or leaves
-  pub fallen-leaves : (change : Change) (since shown : ℕ)
+  fallen-acts : (change : Change) (since shown : ℕ)
       → fate_of plan turn (sender plan (suc turn)) ≡ Fallen change since shown →
       let x = slot_of list script new numbers (sender plan (suc turn)) in
-      ((next_past x).phase ≡ phase.Left) × (frames_made x ≡ [])
-  fallen-leaves change since shown is =
+      (x.past.phase ≡ phase.Left) ⊎ (((next_past x).phase ≡ phase.Left) × (frames_made x ≡ []))
+  fallen-acts change since shown is =
       let e = sender plan (suc turn) in
       let node = e-node list script start plan turn new numbers t in
       let x = slot_of list script new numbers e in
       elim (at-fate e (Fallen change since shown) node is) [
-        | inl left ↦ idle-left x left (unarmed list script start plan turn new numbers t e node (ap is_lost is))
+        | inl left ↦ inl left
         | inr at ↦
-            fallen-own plan turn x t.planned.follows.good
-            (has-turn list script start plan turn new numbers t e node at.phase at.place refl) since shown at
+            inr (fallen-own plan turn x t.planned.follows.good
+            (has-turn list script start plan turn new numbers t e node at.phase at.place refl) since shown at)
       ]
+
+  pub fallen-leaves : (change : Change) (since shown : ℕ)
+      → fate_of plan turn (sender plan (suc turn)) ≡ Fallen change since shown
+      → is_armed_by plan (suc turn) (sender plan (suc turn)) ≡ false
+      → (next_past (slot_of list script new numbers (sender plan (suc turn)))).phase ≡ phase.Left
+  fallen-leaves change since shown is unarmed =
+      let e = sender plan (suc turn) in
+      let node = e-node list script start plan turn new numbers t in
+      let x = slot_of list script new numbers e in
+      elim (fallen-acts change since shown is) [
+        | inl left ↦
+            (idle-left x left
+            (armed-planned list script start plan turn new numbers t e node (ap is_lost is) ∙ unarmed)).0
+        | inr leaves ↦ leaves.0
+      ]
+
+  -- and sends nothing, armed or not
+  pub silent-fallen : (change : Change) (since shown : ℕ)
+      → fate_of plan turn (sender plan (suc turn)) ≡ Fallen change since shown
+      → NoneSends list script (world list script numbers) (messages_chosen list script (length numbers) new.sent)
+  silent-fallen change since shown is =
+      let e = sender plan (suc turn) in
+      let node = e-node list script start plan turn new numbers t in
+      let x = slot_of list script new numbers e in
+      none-sends list script start plan turn new numbers t (elim (fallen-acts change since shown is) [
+        | inl left ↦ silent-left list script start plan turn new numbers t e node left
+        | inr leaves ↦ leaves.1
+      ])
 
   -- One that was lost, and has its first slot since then, has left, or leaves, or sends what it holds.
   pub falling-acts : (change : Change) (since : ℕ)
@@ -119,7 +158,8 @@ module _ (list : Medl) (script : Script) (start : ClusterStart) (plan : Plan) (t
       let node = e-node list script start plan turn new numbers t in
       let x = slot_of list script new numbers e in
       elim (at-fate e (Falling change since) node is) [
-        | inl left ↦ inl (idle-left x left.0 (unarmed list script start plan turn new numbers t e node (ap is_lost is)))
+        | inl left ↦ inl (idle-left x left.0
+            (unarmed-falling list script start plan turn new numbers t e node change since is))
         | inr at ↦
             let own = has-turn list script start plan turn new numbers t e node at.phase at.place refl in
             let told = told-falling plan turn e since change t.planned.follows.good is in

@@ -1,27 +1,30 @@
 -- After the slot of the start each node is what its fate says.
-use Rattle.std.proofs.Common.{◌≡◌, ◌≢◌, ℕ, ◌+◌, ◌<◌, ◌≤◌, Bool, true, false, not, ◌||◌, [], ◌∷◌, length}
+use Rattle.std.proofs.Common.{◌≡◌, ◌≢◌, ℕ, ◌+◌, ◌<◌, ◌≤◌, Bool, true, false, not, ◌&&◌, ◌||◌, [], ◌∷◌, length}
 use Rattle.std.proofs.Common.{refl, ap, sym, subst, ◌∙◌, ◌⊎◌, inl, inr, arith, cond}
 use Rattle.std.specs.Prelude.{◌==◌}
-use Rattle.std.proofs.lemmas.Bool.{cases_eq, eq-eqb, false≢true, both_ways}
+use Rattle.std.proofs.lemmas.Bool.{cases_eq, eq-eqb, false≢true, both_ways, and_parts}
 use Rattle.ttp_base.specs.NodeSet.{has_node}
 use Rattle.ttp_world.specs.declared.medl.Medl.{Medl}
 use Rattle.ttp_world.specs.declared.node.Ack.{Ack}
 use Rattle.ttp_world.specs.declared.node.Ack.TheVariants as ack
 use Rattle.ttp_world.specs.declared.node.Entry.{Entry}
 use Rattle.ttp_world.specs.declared.node.Entry.TheVariants as entry
+use Rattle.ttp_world.specs.declared.node.Phase.{Phase}
 use Rattle.ttp_world.specs.declared.node.Phase.TheVariants as phase
 use Rattle.ttp_world.specs.declared.script.Script.{Script}
 use Rattle.ttp_world.specs.Acknowledgement.{is_open}
-use Rattle.ttp_world.specs.Diary.{phase_after, entry_of, diary_of, start_place}
+use Rattle.ttp_world.specs.BackSafety.{has_sent_since_begin, has_sent_in_stint, has_left_since_arm}
+use Rattle.ttp_world.specs.Diary.{Diary, phase_after, entry_of, diary_of, is_active, begins_stint, start_place}
 use Rattle.ttp_world.specs.Hypothesis.{ClusterStart}
 use Rattle.ttp_world.specs.Medium.{is_sending}
+use Rattle.ttp_world.specs.Messages.{is_left_phase}
 use Rattle.ttp_world.specs.Past.{NodePast}
 use Rattle.ttp_world.specs.Safety.{has_ever_sent}
 use Rattle.ttp_world.specs.Script.{is_on}
 use Rattle.ttp_world.specs.World.{SlotNumbers, Numbers, node_past, slot_after, messages_chosen, row_in, world}
 use Rattle.ttp_world.proofs.Worlds.{length-world}
 use Rattle.fault_plan.specs.Plan.{Plan, sender}
-use Rattle.fault_plan.specs.Fates.{Fate, Absent, Sound, Falling, Fallen, fate_of, is_sound_after, is_absent}
+use Rattle.fault_plan.specs.Fates.{Fate, Absent, Sound, Falling, Fallen, Listening, fate_of, is_sound_after, is_absent}
 use Rattle.fault_plan.specs.Ledger.{opened, ledger_of}
 use Rattle.fault_plan.proofs.Members.{first-sender}
 use Rattle.fault_plan.proofs.Persists.{absent-always, sound-first}
@@ -31,9 +34,10 @@ use Rattle.safety_laws.specs.Standing.{StandsBy, joined_standing}
 use Rattle.ttp_world.specs.World.{deviation_in}
 use Rattle.safety_laws.proofs.StartSlot.{first_due, starter-stands, joiner-stands, off-stays, has-begun}
 use Rattle.safety_laws.proofs.Waiting.{WaitAll, WaitAll-world}
-use Rattle.safety_steps.specs.ByFate.{doubts, IsCounted, IsSoundAt, IsByFate}
+use Rattle.safety_steps.specs.ByFate.{doubts, is_there, IsCounted, IsSoundAt, IsByFate}
 use Rattle.safety_steps.specs.Run.{IsBegun}
 use Rattle.safety_steps.specs.Turn.{HoldsAfter}
+use Rattle.safety_steps.proofs.LeftSince.{left_since-next}
 use Rattle.safety_steps.proofs.PlanSteps.{sound-fate}
 
 -- Nobody has sent while all wait.
@@ -41,6 +45,10 @@ use Rattle.safety_steps.proofs.PlanSteps.{sound-fate}
 waiting-off : (none : Bool) → cond none phase.Off phase.Listening ≢ phase.Active
 waiting-off true is = cc
 waiting-off false is = cc
+
+waiting-unleft : (none : Bool) → is_left_phase (cond none phase.Off phase.Listening) ≡ false
+waiting-unleft true = refl
+waiting-unleft false = refl
 
 inactive-unsent : (e : Entry) → phase_after e ≢ phase.Active → is_sending e ≡ false
 inactive-unsent entry.Started inactive = absurd (inactive refl)
@@ -52,6 +60,24 @@ inactive-unsent entry.Gone inactive = refl
 inactive-unsent (entry.Left why peer) inactive = refl
 inactive-unsent (entry.Joined sender c deviation) inactive = refl
 inactive-unsent (entry.Judged sender v deviation) inactive = refl
+
+-- what was sent in a stint was sent
+since-ever : (diary : Diary) → has_sent_since_begin diary ≡ true → has_ever_sent diary ≡ true
+since-ever [] sent = sent
+since-ever (e ∷ diary) sent = by (is_sending e) refl (since-ever diary)
+  where
+    by : (sends : Bool) → is_sending e ≡ sends
+        → (has_sent_since_begin diary ≡ true → has_ever_sent diary ≡ true)
+        → (is_sending e || has_ever_sent diary) ≡ true
+    by true sends before = ap (λ b. b || has_ever_sent diary) sends
+    by false sends before =
+        ap (λ b. b || has_ever_sent diary) sends
+        ∙ before
+        (and_parts (not (begins_stint e)) (has_sent_since_begin diary)
+        (sym (ap (λ b. b || (not (begins_stint e) && has_sent_since_begin diary)) sends) ∙ sent)).1
+
+stint-ever : (diary : Diary) → has_sent_in_stint diary ≡ true → has_ever_sent diary ≡ true
+stint-ever diary sent = since-ever diary (and_parts (is_active diary) (has_sent_since_begin diary) sent).1
 
 -- Whoever counts one accepted frame and none rejected, by a ledger that has seen none.
 
@@ -99,6 +125,16 @@ module _ (list : Medl) (script : Script) (start : ClusterStart) (plan : Plan) (i
         inactive-unsent (entry_of row k) (λ active. waiting-off _ (sym phase_is ∙ active)) in
         ap (λ b. b || has_ever_sent (diary_of (world list script numbers) k)) unsent
         ∙ unsent-waiting numbers k (omega (arith, early)) node
+
+    -- and nobody has left
+    unleft-waiting : (numbers : Numbers) (k : ℕ) → length numbers ≤ start.slot → k < length list.slots
+        → has_left_since_arm script (world list script numbers) k ≡ false
+    unleft-waiting [] k early node = refl
+    unleft-waiting (new ∷ numbers) k early node =
+        let phase_is = (wait (new ∷ numbers) early k node).phase in
+        left_since-next script (world list script numbers) _ k
+        (ap (λ (p : Phase). is_left_phase p) phase_is ∙ waiting-unleft _)
+        (λ unarmed. unleft-waiting numbers k (omega (arith, early)) node)
 
     -- The slot of the start.
     module _ (new : SlotNumbers) (numbers : Numbers) (now : length numbers ≡ start.slot) where
@@ -198,6 +234,7 @@ module _ (list : Medl) (script : Script) (start : ClusterStart) (plan : Plan) (i
       absent-fate Sound absent = absurd (false≢true absent)
       absent-fate (Falling change since) absent = absurd (false≢true absent)
       absent-fate (Fallen change since shown) absent = absurd (false≢true absent)
+      absent-fate (Listening since) absent = absurd (false≢true absent)
 
       node-begun : (k : ℕ) → k < length list.slots
           → IsByFate list plan 0 k (node_past list script (world list script (new ∷ numbers)) k) (fate_of plan 0 k)
@@ -233,5 +270,29 @@ module _ (list : Medl) (script : Script) (start : ClusterStart) (plan : Plan) (i
             ∙ sym (ap (λ b. b || has_ever_sent (diary_of (world list script numbers) k)) unsent) ∙ sent))
       ]
 
+      stay-begun : (k : ℕ) → k < length list.slots → is_there (fate_of plan 0 k) ≡ true
+          → has_left_since_arm script (world list script (new ∷ numbers)) k ≡ false
+      stay-begun k node there =
+          left_since-next script (world list script numbers) _ k
+          (by (fate_of plan 0 k) there (node-begun k node))
+          (λ unarmed. unleft-waiting numbers k (omega (arith, now)) node)
+        where
+          past : NodePast
+          past = node_past list script (world list script (new ∷ numbers)) k
+
+          by : (fate : Fate) → is_there fate ≡ true → IsByFate list plan 0 k past fate
+              → is_left_phase past.phase ≡ false
+          by Sound there at = ap (λ (p : Phase). is_left_phase p) at.phase
+          by (Listening since) there at = ap (λ (p : Phase). is_left_phase p) at.phase
+          by Absent there at = cc
+          by (Falling change since) there at = cc
+          by (Fallen change since shown) there at = cc
+
       pub holds-begun : HoldsAfter list script plan 0 (world list script (new ∷ numbers))
-      holds-begun = record { nodes = node-begun; sent = sent-begun }
+      holds-begun = record {
+        nodes = node-begun;
+        sent = λ k node sound sent. sent-begun k node sound
+            (stint-ever (diary_of (world list script (new ∷ numbers)) k) sent);
+        ever_sent = λ k node sound never sent. sent-begun k node sound sent;
+        stay = λ k node there. stay-begun k node there;
+      }

@@ -1,26 +1,27 @@
 -- A node whose clock has jumped, before its first own slot: no frame comes to it inside its window.
 use Rattle.std.proofs.Common.{◌≡◌, ◌≢◌, ℕ, suc, ◌+◌, ◌<◌, Bool, true, false, length, refl, ap, sym, ◌∙◌}
 use Rattle.std.proofs.Common.{inl, inr, arith}
-use Rattle.std.proofs.lemmas.Bool.{lt-ltb}
+use Rattle.std.proofs.lemmas.Bool.{lt-ltb, false_from_ne_true}
 use Rattle.ttp_world.specs.declared.medl.Medl.{Medl}
 use Rattle.ttp_world.specs.declared.node.Phase.TheVariants as phase
 use Rattle.ttp_world.specs.declared.script.Script.{Script}
 use Rattle.ttp_world.specs.Hypothesis.{ClusterStart, loses}
 use Rattle.ttp_world.specs.World.{SlotNumbers, Numbers, messages_chosen, world}
-use Rattle.fault_plan.specs.Plan.{Change, Jumping, Plan, sender, incident_at}
-use Rattle.fault_plan.specs.Fates.{Fate, Absent, Sound, Falling, Fallen, fate_of, is_sound, may_stay}
+use Rattle.fault_plan.specs.Plan.{Change, Jumping, Plan, sender, incident_at, is_armed_by}
+use Rattle.fault_plan.specs.Fates.{Fate, Absent, Sound, Falling, Fallen, Listening, fate_of, is_sound, may_stay}
 use Rattle.fault_plan.specs.Places.{planned_place}
 use Rattle.fault_plan.proofs.FateSteps.{strikes}
 use Rattle.fault_plan.proofs.FateTells.{one-stays}
 use Rattle.safety_laws.specs.Senders.{NoneSends}
 use Rattle.safety_laws.proofs.OneSender.{outside-alone, none-alone, silent-none_sends}
 use Rattle.safety_steps.specs.Turn.{IsTurn}
-use Rattle.safety_steps.proofs.Arrivals.{at-fate, sound-alone, silent-absent, fallen-leaves}
+use Rattle.safety_steps.proofs.Arrivals.{at-fate, sound-alone, silent-absent, silent-listening, silent-fallen}
+use Rattle.safety_steps.proofs.Awaited.{IsAwaited, awaited-armed, awaited-listening, fate-awaited}
 use Rattle.safety_steps.proofs.LostNodes.{IsJudgedWrong, HearsLate, NoFrame, Outside, late-wrong}
 use Rattle.safety_steps.proofs.PlanSteps.{struck-known, absent-stays, fallen-stays, sound-stays, falling-stays}
-use Rattle.safety_steps.proofs.PlanSteps.{falling-shown, struck-shown, told-falling}
+use Rattle.safety_steps.proofs.PlanSteps.{falling-shown, struck-shown, told-falling, sender-unentered}
 use Rattle.safety_steps.proofs.Silence.{frameless-silent}
-use Rattle.safety_steps.proofs.Turns.{slot_of, e-node, judges, none-sends}
+use Rattle.safety_steps.proofs.Turns.{slot_of, within-plan, e-node, judges}
 
 module _ (list : Medl) (script : Script) (start : ClusterStart) (plan : Plan) (turn : ℕ) (new : SlotNumbers)
     (numbers : Numbers) (t : IsTurn list script start plan turn new numbers) (k : ℕ) (node : k < length list.slots)
@@ -64,14 +65,15 @@ module _ (list : Medl) (script : Script) (start : ClusterStart) (plan : Plan) (t
           (outside-alone list script (world list script numbers) _ (sender plan (suc turn)) k
           (sound-alone list script start plan turn new numbers t sends) kept
           (t.clocks.others k (sender plan (suc turn)) since node (e-node list script start plan turn new numbers t)
-          jumped (ap is_sound (sound-stays plan turn (sender plan (suc turn)) missed sends))))
+          jumped (ap is_sound (sound-stays plan turn (sender plan (suc turn)) t.planned.follows.good missed sends))
+          (sender-unentered plan (suc turn) t.planned.follows.good)))
 
   hears-late : (fate : Fate) → fate_of plan turn (sender plan (suc turn)) ≡ fate
       → HearsLate (slot_of list script new numbers k)
   hears-late Absent is = by-silence (silent-absent list script start plan turn new numbers t is)
+  hears-late (Listening s) is = by-silence (silent-listening list script start plan turn new numbers t s is)
   hears-late (Fallen change s shown) is =
-      by-silence (none-sends list script start plan turn new numbers t
-      (fallen-leaves list script start plan turn new numbers t change s shown is).1)
+      by-silence (silent-fallen list script start plan turn new numbers t change s shown is)
   hears-late (Falling change s) is =
       absurd (none-shown change s
       (falling-shown plan turn (sender plan (suc turn)) s change t.planned.follows.good refl is))
@@ -82,8 +84,17 @@ module _ (list : Medl) (script : Script) (start : ClusterStart) (plan : Plan) (t
       by true hit =
           let struck = struck-known plan (suc turn) (sender plan (suc turn)) hit in
           absurd (none-shown struck.incident.change (suc turn)
-          (struck-shown plan turn (sender plan (suc turn)) struck refl))
+          (struck-shown plan turn (sender plan (suc turn)) t.planned.follows.good struck refl))
       by false missed = by-sound is missed
+
+  -- one that returns does not jump
+  none-awaited : (s : ℕ) → IsAwaited plan turn k s → ⊥
+  none-awaited s awaited =
+      elim (fate-awaited plan turn k s t.planned.follows.good awaited
+      (within-plan list script start plan turn new numbers t)) [
+        | inl sound ↦ let both = sym sound ∙ jumped in cc
+        | inr listens ↦ let both = sym listens ∙ jumped in cc
+      ]
 
   -- before the turn the node is active, and stands where the plan does
   stands-jumped : (fate : Fate) → fate_of plan turn k ≡ fate →
@@ -91,8 +102,14 @@ module _ (list : Medl) (script : Script) (start : ClusterStart) (plan : Plan) (t
       (past.phase ≡ phase.Active) × (past.place ≡ planned_place list plan turn)
   stands-jumped Absent is =
       let both = sym (absent-stays plan turn k t.planned.follows.good is) ∙ jumped in cc
+  stands-jumped (Listening s) is =
+      absurd (none-awaited s
+      (awaited-listening plan turn k s t.planned.follows.good
+      (within-plan list script start plan turn new numbers t) is))
   stands-jumped (Fallen change s shown) is =
-      let both = sym (fallen-stays plan turn k s shown change t.planned.follows.good is) ∙ jumped in cc
+      let unarmed = false_from_ne_true (is_armed_by plan (suc turn) k) (λ armed.
+      none-awaited (suc turn) (awaited-armed plan turn k t.planned.follows.good armed)) in
+      let both = sym (fallen-stays plan turn k s shown change t.planned.follows.good unarmed is) ∙ jumped in cc
   stands-jumped Sound is =
       let at = at-fate list script start plan turn new numbers t k Sound node is in (at.phase, at.place)
   stands-jumped (Falling change s) is =

@@ -9,8 +9,8 @@ use Rattle.ttp_world.specs.declared.script.Script.{Script}
 use Rattle.ttp_world.specs.Hypothesis.{ClusterStart, loses}
 use Rattle.ttp_world.specs.Reception.{is_within_window}
 use Rattle.ttp_world.specs.World.{SlotNumbers, Numbers, slot_after, deviation_in, messages_chosen, world}
-use Rattle.fault_plan.specs.Plan.{Change, Sending, Receiving, Jumping, Plan, sender}
-use Rattle.fault_plan.specs.Fates.{Fate, Absent, Sound, Falling, Fallen, fate_of, is_lost, may_stay}
+use Rattle.fault_plan.specs.Plan.{Change, Sending, Receiving, Jumping, Plan, sender, is_armed_by}
+use Rattle.fault_plan.specs.Fates.{Fate, Absent, Sound, Falling, Fallen, Listening, fate_of, is_lost, may_stay}
 use Rattle.fault_plan.specs.Ledger.{planned_members}
 use Rattle.fault_plan.specs.Places.{planned_place}
 use Rattle.fault_plan.proofs.FateTells.{loss-sending, one-stays}
@@ -26,14 +26,15 @@ use Rattle.safety_laws.proofs.Idle.{idle-left}
 use Rattle.safety_laws.proofs.OneSender.{outside-alone, none-alone, silent-none_sends}
 use Rattle.safety_steps.specs.ByFate.{IsFallingAt, IsFallenAt}
 use Rattle.safety_steps.specs.Turn.{IsTurn}
-use Rattle.safety_steps.proofs.Arrivals.{at-fate, sound-alone, hears-planned, silent-absent, fallen-leaves}
+use Rattle.safety_steps.proofs.Arrivals.{at-fate, sound-alone, hears-planned, silent-absent, silent-listening}
+use Rattle.safety_steps.proofs.Arrivals.{silent-fallen}
 use Rattle.safety_steps.proofs.LostNodes.{deaf-judges, jumped-judges, fallen-judges, deaf-falls, jumped-falls}
 use Rattle.safety_steps.proofs.JumpedNodes.{jumped-wrong}
 use Rattle.safety_steps.proofs.Silence.{frameless-silent}
 use Rattle.safety_steps.proofs.PlanSteps.{IsStruck, falling-stays, struck-falls, round-turn, sound-fate}
 use Rattle.safety_steps.proofs.PlanSteps.{told-falling, told-fallen}
 use Rattle.safety_steps.proofs.Receivers.{sound-judge}
-use Rattle.safety_steps.proofs.Turns.{slot_of, slot_number, owner-is, judges, unarmed, none-sends}
+use Rattle.safety_steps.proofs.Turns.{slot_of, slot_number, owner-is, judges, armed-planned, unarmed-falling}
 
 module _ (list : Medl) (script : Script) (start : ClusterStart) (plan : Plan) (turn : ℕ) (new : SlotNumbers)
     (numbers : Numbers) (t : IsTurn list script start plan turn new numbers) (k : ℕ) (node : k < length list.slots)
@@ -81,7 +82,7 @@ module _ (list : Medl) (script : Script) (start : ClusterStart) (plan : Plan) (t
           (sound-judge list script start plan turn new numbers t k node other sound)
           (t.planned.follows.good.late (suc turn) is.incident is.found)
           (jumped-wrong list script start plan turn new numbers t k node (suc turn)
-          (struck-falls plan turn k is other ∙ ap (λ (c : Change). Falling c (suc turn)) how)))
+          (struck-falls plan turn k t.planned.follows.good is other ∙ ap (λ (c : Change). Falling c (suc turn)) how)))
 
   -- What comes to a node that was lost and may still stay: what a sound sender's frame is to it, or none.
 
@@ -119,9 +120,10 @@ module _ (list : Medl) (script : Script) (start : ClusterStart) (plan : Plan) (t
         → HearsNoAnswer (slot_of list script new numbers k)
     no-answer stays Sound sends = by-sound sends
     no-answer stays Absent sends = by-silence (silent-absent list script start plan turn new numbers t sends)
+    no-answer stays (Listening s) sends =
+        by-silence (silent-listening list script start plan turn new numbers t s sends)
     no-answer stays (Fallen c s sh) sends =
-        by-silence (none-sends list script start plan turn new numbers t
-        (fallen-leaves list script start plan turn new numbers t c s sh sends).1)
+        by-silence (silent-fallen list script start plan turn new numbers t c s sh sends)
     no-answer stays (Falling c s) sends =
         absurd (other (one-stays plan turn (sender plan (suc turn)) k t.planned.follows.good
         (ap (may_stay plan.nodes turn) sends) stays))
@@ -134,7 +136,8 @@ module _ (list : Medl) (script : Script) (start : ClusterStart) (plan : Plan) (t
       let x = slot_of list script new numbers k in
       elim (at-fate list script start plan turn new numbers t k (Falling Receiving since) node is) [
         | inl left ↦
-            inl (idle-left x left.0 (unarmed list script start plan turn new numbers t k node (ap is_lost is))).0
+            inl (idle-left x left.0
+            (unarmed-falling list script start plan turn new numbers t k node Receiving since is)).0
         | inr at ↦
             let told = told-falling plan turn k since Receiving t.planned.follows.good is in
             let lost_less : sender plan since < plan.nodes = mod-lt (plan.starter + since) few_nodes in
@@ -188,7 +191,8 @@ module _ (list : Medl) (script : Script) (start : ClusterStart) (plan : Plan) (t
       ]
 
   -- one that was lost, and has had its first slot since: no frame answers its own
-  module _ (change : Change) (since shown : ℕ) (is : fate_of plan turn k ≡ Fallen change since shown) where
+  module _ (change : Change) (since shown : ℕ) (is : fate_of plan turn k ≡ Fallen change since shown)
+      (unarmed : is_armed_by plan (suc turn) k ≡ false) where
     lacks-fallen : HearsMembers (slot_of list script new numbers k) (sender plan (suc turn))
         (with_node (planned_members plan turn) (sender plan (suc turn)))
         → HearsNoAnswer (slot_of list script new numbers k)
@@ -214,7 +218,8 @@ module _ (list : Medl) (script : Script) (start : ClusterStart) (plan : Plan) (t
         let x = slot_of list script new numbers k in
         elim (at-fate list script start plan turn new numbers t k (Fallen change since shown) node is) [
           | inl left ↦
-              inl (idle-left x left (unarmed list script start plan turn new numbers t k node (ap is_lost is))).0
+              inl (idle-left x left
+              (armed-planned list script start plan turn new numbers t k node (ap is_lost is) ∙ unarmed)).0
           | inr at ↦
               let soon = at.soon in
               fallen-judges plan turn x

@@ -15,7 +15,7 @@ use Rattle.fault_plan.specs.Fates.{is_good_slot}
 use Rattle.fault_plan.specs.GoodPlan.{IsGoodPlan}
 use Rattle.fault_plan.specs.Ledger.{Ledger, planned_members, ledger_of}
 use Rattle.fault_plan.specs.Told.{IsFalling}
-use Rattle.fault_plan.proofs.Counts.{bad-own, bad-first, seen-round, four-sound}
+use Rattle.fault_plan.proofs.Counts.{bad-own, bad-first, seen-round, four-lasting}
 use Rattle.safety_laws.specs.Groups.{IsUnanswered, HoldsGroup}
 use Rattle.safety_laws.specs.NodeSlot.{NodeSlot, frames_made, next_past, coming_place}
 use Rattle.safety_laws.specs.Standing.{StandsBy, sent_standing}
@@ -54,7 +54,7 @@ module _ (plan : Plan) (turn : ℕ) (x : NodeSlot) (is : IsSoundOwner plan turn 
   seen-three : (ledger_of plan turn x.node).own ≡ true → 3 ≤ (ledger_of plan turn x.node).seen
   seen-three own =
       let seen = seen-round plan turn x.node is.good less is.owner own in
-      let four = four-sound plan turn is.good is.within in
+      let four = four-lasting plan turn is.good is.within in
       omega (arith, seen, four)
 
   few_rejected : (own : Bool) → (ledger_of plan turn x.node).own ≡ own

@@ -1,19 +1,21 @@
 -- What one turn more makes of a plan's members, ledgers and fates.
 use Rattle.std.proofs.Common.{◌≡◌, ◌≢◌, ℕ, suc, ◌+◌, ◌<◌, ◌≤◌, Bool, true, false, cond, Option, Some, None}
-use Rattle.std.proofs.Common.{refl, ap, sym, subst, ◌∙◌, arith}
+use Rattle.std.proofs.Common.{refl, ap, sym, subst, ◌∙◌, inl, inr, arith}
 use Rattle.std.specs.Prelude.{◌==◌}
-use Rattle.std.proofs.lemmas.Bool.{eq-eqb, eqb-true, ne_eqb, both_ways, false≢true, lt-ltb}
+use Rattle.std.proofs.lemmas.Bool.{eq-eqb, eqb-true, ne_eqb, both_ways, false≢true, false_from_ne_true, lt-ltb}
 use Rattle.ttp_base.specs.NodeSet.{with_node, without_node}
-use Rattle.fault_plan.specs.Plan.{Change, Receiving, Incident, Plan, sender, incident_at}
-use Rattle.fault_plan.specs.Fates.{Fate, Absent, Sound, Falling, Fallen, struck, shown_in, turned, fate_of, is_sound}
-use Rattle.fault_plan.specs.Fates.{is_sound_after, is_good_slot, is_first_slot, is_shown_in, may_stay}
+use Rattle.fault_plan.specs.Plan.{Change, Receiving, Incident, Plan, sender, incident_at, is_armed_by, enters}
+use Rattle.fault_plan.specs.Fates.{Fate, Absent, Sound, Falling, Fallen, Listening, struck, shown_in, turned, fate_of}
+use Rattle.fault_plan.specs.Fates.{is_sound, is_sound_after, is_lost, is_good_slot, is_first_slot, is_shown_in, may_stay}
 use Rattle.fault_plan.specs.GoodPlan.{IsGoodPlan}
 use Rattle.fault_plan.specs.Ledger.{opened, with_slot, planned_members, ledger_of}
 use Rattle.fault_plan.specs.Told.{IsFalling, IsFallen, IsTold}
-use Rattle.fault_plan.proofs.FateSteps.{strikes}
+use Rattle.fault_plan.proofs.FateSteps.{strikes, next-same, sound-from}
 use Rattle.fault_plan.proofs.FateTells.{fate-told}
 use Rattle.fault_plan.proofs.Ledgers.{ledger-told}
+use Rattle.fault_plan.proofs.Returns.{armed-quiet, entry-quiet, entry-good, armed-lost, entry-from}
 use Rattle.fault_plan.proofs.Turns.{next_turn, turns_apart}
+use Rattle.safety_steps.proofs.Awaited.{awaited-armed, gone-awaited}
 
 -- Members.
 
@@ -33,18 +35,29 @@ members-wrong plan turn wrong =
 
 -- Ledgers.
 
-pub ledger-other : (plan : Plan) (turn k : ℕ) → sender plan (suc turn) ≢ k
+pub ledger-other : (plan : Plan) (turn k : ℕ) → sender plan (suc turn) ≢ k → enters plan (suc turn) k ≡ false
     → ledger_of plan (suc turn) k
     ≡ with_slot (is_good_slot plan (suc turn)) (is_first_slot plan (suc turn)) (ledger_of plan turn k)
-ledger-other plan turn k other =
+ledger-other plan turn k other entered =
     let next = with_slot (is_good_slot plan (suc turn)) (is_first_slot plan (suc turn)) (ledger_of plan turn k) in
-    ap (λ b. cond b (opened true (suc turn)) next) (ne_eqb (sender plan (suc turn)) k other)
+    ap (λ b. cond b (opened true (suc turn)) (cond (enters plan (suc turn) k) (opened false (suc turn)) next))
+    (ne_eqb (sender plan (suc turn)) k other)
+    ∙ ap (λ b. cond b (opened false (suc turn)) next) entered
+
+pub ledger-entered : (plan : Plan) (turn k : ℕ) → sender plan (suc turn) ≢ k → enters plan (suc turn) k ≡ true
+    → ledger_of plan (suc turn) k ≡ opened false (suc turn)
+ledger-entered plan turn k other entered =
+    let next = with_slot (is_good_slot plan (suc turn)) (is_first_slot plan (suc turn)) (ledger_of plan turn k) in
+    ap (λ b. cond b (opened true (suc turn)) (cond (enters plan (suc turn) k) (opened false (suc turn)) next))
+    (ne_eqb (sender plan (suc turn)) k other)
+    ∙ ap (λ b. cond b (opened false (suc turn)) next) entered
 
 pub ledger-own : (plan : Plan) (turn k : ℕ) → sender plan (suc turn) ≡ k
     → ledger_of plan (suc turn) k ≡ opened true (suc turn)
 ledger-own plan turn k own =
     let next = with_slot (is_good_slot plan (suc turn)) (is_first_slot plan (suc turn)) (ledger_of plan turn k) in
-    ap (λ b. cond b (opened true (suc turn)) next) (eq-eqb (sender plan (suc turn)) k own)
+    ap (λ b. cond b (opened true (suc turn)) (cond (enters plan (suc turn) k) (opened false (suc turn)) next))
+    (eq-eqb (sender plan (suc turn)) k own)
 
 -- Fates.
 
@@ -101,66 +114,162 @@ settled : (own : Bool) (slot : ℕ) (fate : Fate) → shown_in slot fate ≡ fat
 settled true slot fate same = same
 settled false slot fate same = refl
 
-fate-missed : (plan : Plan) (turn k : ℕ) → strikes (incident_at plan (suc turn)) k ≡ false
+-- Who is not armed in the next slot, and does not enter in it.
+
+pub unlost-unarmed : (plan : Plan) (turn k : ℕ) → IsGoodPlan plan → is_lost (fate_of plan turn k) ≡ false
+    → is_armed_by plan (suc turn) k ≡ false
+unlost-unarmed plan turn k good here =
+    false_from_ne_true (is_armed_by plan (suc turn) k) (λ armed.
+    both_ways (is_lost (fate_of plan turn k)) here (armed-lost plan turn k good armed))
+
+-- a node that may still stay
+pub staying-unarmed : (plan : Plan) (turn j k : ℕ) → IsGoodPlan plan
+    → may_stay plan.nodes turn (fate_of plan turn j) ≡ true
+    → is_armed_by plan (suc turn) k ≡ false
+staying-unarmed plan turn j k good stays =
+    false_from_ne_true (is_armed_by plan (suc turn) k) (λ armed.
+    both_ways (may_stay plan.nodes turn (fate_of plan turn j))
+    (gone-awaited plan turn k (suc turn) good (awaited-armed plan turn k good armed) j) stays)
+
+pub unentered : (plan : Plan) (turn k : ℕ) → IsGoodPlan plan → is_armed_by plan (suc turn) k ≡ false
+    → ((since : ℕ) → fate_of plan turn k ≡ Listening since → ⊥) → enters plan (suc turn) k ≡ false
+unentered plan turn k good unarmed other =
+    false_from_ne_true (enters plan (suc turn) k) (λ entered. elim (entry-from plan turn k good entered) [
+      | inl armed ↦ both_ways (is_armed_by plan (suc turn) k) unarmed armed
+      | inr listens ↦ other listens.0 listens.1
+    ])
+
+pub sound-unentered : (plan : Plan) (turn k : ℕ) → IsGoodPlan plan → fate_of plan turn k ≡ Sound
+    → enters plan (suc turn) k ≡ false
+sound-unentered plan turn k good is =
+    unentered plan turn k good (unlost-unarmed plan turn k good (ap is_lost is))
+    (λ since listens. let both = sym is ∙ listens in cc)
+
+-- the sender of a slot does not enter in it
+pub sender-unentered : (plan : Plan) (turn : ℕ) → IsGoodPlan plan → enters plan turn (sender plan turn) ≡ false
+sender-unentered plan turn good =
+    false_from_ne_true (enters plan turn (sender plan turn)) (λ entered.
+    (entry-good plan turn (sender plan turn) good entered).1 refl)
+
+-- so in a good slot it was sound before, and the slot is not good where it was not
+pub good-sender : (plan : Plan) (turn : ℕ) → IsGoodPlan plan → is_good_slot plan (suc turn) ≡ true
+    → is_sound_after plan turn (sender plan (suc turn)) ≡ true
+good-sender plan turn good is =
+    sound-from plan (suc turn) (sender plan (suc turn)) (fate_of plan turn (sender plan (suc turn)))
+    (sender-unentered plan (suc turn) good) is
+
+pub wrong-slot : (plan : Plan) (turn : ℕ) → IsGoodPlan plan
+    → is_sound_after plan turn (sender plan (suc turn)) ≡ false
+    → is_good_slot plan (suc turn) ≡ false
+wrong-slot plan turn good was =
+    false_from_ne_true (is_good_slot plan (suc turn)) (λ is.
+    both_ways (is_sound_after plan turn (sender plan (suc turn))) was (good-sender plan turn good is))
+
+-- What becomes of a node that is neither armed nor enters.
+
+record IsApart (plan : Plan) (turn k : ℕ) : Type 0 where
+  armed : is_armed_by plan (suc turn) k ≡ false
+  entered : enters plan (suc turn) k ≡ false
+
+fate-missed : (plan : Plan) (turn k : ℕ) → IsApart plan turn k → strikes (incident_at plan (suc turn)) k ≡ false
     → fate_of plan (suc turn) k ≡ turned (sender plan (suc turn) == k) (suc turn) (fate_of plan turn k)
-fate-missed plan turn k missed =
-    ap (turned (sender plan (suc turn) == k) (suc turn))
+fate-missed plan turn k apart missed =
+    next-same plan (suc turn) k (fate_of plan turn k) apart.armed apart.entered
+    ∙ ap (turned (sender plan (suc turn) == k) (suc turn))
     (missed-same (suc turn) k (fate_of plan turn k) (incident_at plan (suc turn)) missed)
 
 -- a fate that no turn of its node changes stays where the node is not lost
-pub fate-stays : (plan : Plan) (turn k : ℕ) (fate : Fate) → ((slot : ℕ) → shown_in slot fate ≡ fate)
+fate-stays : (plan : Plan) (turn k : ℕ) (fate : Fate) → IsApart plan turn k → ((slot : ℕ) → shown_in slot fate ≡ fate)
     → strikes (incident_at plan (suc turn)) k ≡ false → fate_of plan turn k ≡ fate
     → fate_of plan (suc turn) k ≡ fate
-fate-stays plan turn k fate still missed is =
-    fate-missed plan turn k missed ∙ ap (turned (sender plan (suc turn) == k) (suc turn)) is
+fate-stays plan turn k fate apart still missed is =
+    fate-missed plan turn k apart missed ∙ ap (turned (sender plan (suc turn) == k) (suc turn)) is
     ∙ settled (sender plan (suc turn) == k) (suc turn) fate (still (suc turn))
 
 pub fallen-stays : (plan : Plan) (turn k since shown : ℕ) (change : Change) → IsGoodPlan plan
-    → fate_of plan turn k ≡ Fallen change since shown
+    → is_armed_by plan (suc turn) k ≡ false → fate_of plan turn k ≡ Fallen change since shown
     → fate_of plan (suc turn) k ≡ Fallen change since shown
-fallen-stays plan turn k since shown change good is =
-    fate-stays plan turn k (Fallen change since shown) (λ slot. refl)
-    (unsound-missed plan turn k good (ap is_sound is)) is
+fallen-stays plan turn k since shown change good unarmed is =
+    fate-stays plan turn k (Fallen change since shown)
+    (record {
+      armed = unarmed;
+      entered = unentered plan turn k good unarmed (λ s listens. let both = sym is ∙ listens in cc);
+    })
+    (λ slot. refl) (unsound-missed plan turn k good (ap is_sound is)) is
 
 pub absent-stays : (plan : Plan) (turn k : ℕ) → IsGoodPlan plan → fate_of plan turn k ≡ Absent
     → fate_of plan (suc turn) k ≡ Absent
 absent-stays plan turn k good is =
-    fate-stays plan turn k Absent (λ slot. refl) (unsound-missed plan turn k good (ap is_sound is)) is
+    let unarmed = unlost-unarmed plan turn k good (ap is_lost is) in
+    fate-stays plan turn k Absent
+    (record {
+      armed = unarmed;
+      entered = unentered plan turn k good unarmed (λ s listens. let both = sym is ∙ listens in cc);
+    })
+    (λ slot. refl) (unsound-missed plan turn k good (ap is_sound is)) is
 
-pub sound-stays : (plan : Plan) (turn k : ℕ) → strikes (incident_at plan (suc turn)) k ≡ false
+pub sound-stays : (plan : Plan) (turn k : ℕ) → IsGoodPlan plan → strikes (incident_at plan (suc turn)) k ≡ false
     → fate_of plan turn k ≡ Sound
     → fate_of plan (suc turn) k ≡ Sound
-sound-stays plan turn k missed is = fate-stays plan turn k Sound (λ slot. refl) missed is
+sound-stays plan turn k good missed is =
+    fate-stays plan turn k Sound
+    (record {
+      armed = unlost-unarmed plan turn k good (ap is_lost is);
+      entered = sound-unentered plan turn k good is;
+    })
+    (λ slot. refl) missed is
+
+falling-apart : (plan : Plan) (turn k since : ℕ) (change : Change) → IsGoodPlan plan
+    → fate_of plan turn k ≡ Falling change since → IsApart plan turn k
+falling-apart plan turn k since change good is =
+    let unarmed = staying-unarmed plan turn k k good (ap (may_stay plan.nodes turn) is) in
+    record {
+      armed = unarmed;
+      entered = unentered plan turn k good unarmed (λ s listens. let both = sym is ∙ listens in cc);
+    }
 
 -- a falling node's own slot shows it
 pub falling-stays : (plan : Plan) (turn k since : ℕ) (change : Change) → IsGoodPlan plan
     → sender plan (suc turn) ≢ k → fate_of plan turn k ≡ Falling change since
     → fate_of plan (suc turn) k ≡ Falling change since
 falling-stays plan turn k since change good other is =
-    fate-missed plan turn k (unsound-missed plan turn k good (ap is_sound is))
+    fate-missed plan turn k (falling-apart plan turn k since change good is)
+    (unsound-missed plan turn k good (ap is_sound is))
     ∙ turned-other plan (suc turn) k (fate_of plan turn k) other ∙ is
 
 pub falling-shown : (plan : Plan) (turn k since : ℕ) (change : Change) → IsGoodPlan plan
     → sender plan (suc turn) ≡ k → fate_of plan turn k ≡ Falling change since
     → fate_of plan (suc turn) k ≡ Fallen change since (suc turn)
 falling-shown plan turn k since change good own is =
-    fate-missed plan turn k (unsound-missed plan turn k good (ap is_sound is))
+    fate-missed plan turn k (falling-apart plan turn k since change good is)
+    (unsound-missed plan turn k good (ap is_sound is))
     ∙ turned-own plan (suc turn) k (fate_of plan turn k) own ∙ ap (shown_in (suc turn)) is
 
--- a node is lost
-pub struck-falls : (plan : Plan) (turn k : ℕ) (is : IsStruck plan (suc turn) k) → sender plan (suc turn) ≢ k
-    → fate_of plan (suc turn) k ≡ Falling is.incident.change (suc turn)
-struck-falls plan turn k is other =
-    ap (turned (sender plan (suc turn) == k) (suc turn))
-    (struck-same (suc turn) k (fate_of plan turn k) (incident_at plan (suc turn)) is.incident is.found is.node)
-    ∙ turned-other plan (suc turn) k (Falling is.incident.change (suc turn)) other
+-- A node is lost: nothing returns in that slot.
 
-pub struck-shown : (plan : Plan) (turn k : ℕ) (is : IsStruck plan (suc turn) k) → sender plan (suc turn) ≡ k
-    → fate_of plan (suc turn) k ≡ Fallen is.incident.change (suc turn) (suc turn)
-struck-shown plan turn k is own =
-    ap (turned (sender plan (suc turn) == k) (suc turn))
+struck-next : (plan : Plan) (turn k : ℕ) → IsGoodPlan plan → (is : IsStruck plan (suc turn) k)
+    → fate_of plan (suc turn) k
+    ≡ turned (sender plan (suc turn) == k) (suc turn) (Falling is.incident.change (suc turn))
+struck-next plan turn k good is =
+    next-same plan (suc turn) k (fate_of plan turn k)
+    (false_from_ne_true (is_armed_by plan (suc turn) k) (λ armed.
+    let both = sym is.found ∙ armed-quiet plan (suc turn) k good armed in cc))
+    (false_from_ne_true (enters plan (suc turn) k) (λ entered.
+    let both = sym is.found ∙ entry-quiet plan (suc turn) k good entered in cc))
+    ∙ ap (turned (sender plan (suc turn) == k) (suc turn))
     (struck-same (suc turn) k (fate_of plan turn k) (incident_at plan (suc turn)) is.incident is.found is.node)
-    ∙ turned-own plan (suc turn) k (Falling is.incident.change (suc turn)) own
+
+pub struck-falls : (plan : Plan) (turn k : ℕ) → IsGoodPlan plan → (is : IsStruck plan (suc turn) k)
+    → sender plan (suc turn) ≢ k
+    → fate_of plan (suc turn) k ≡ Falling is.incident.change (suc turn)
+struck-falls plan turn k good is other =
+    struck-next plan turn k good is ∙ turned-other plan (suc turn) k (Falling is.incident.change (suc turn)) other
+
+pub struck-shown : (plan : Plan) (turn k : ℕ) → IsGoodPlan plan → (is : IsStruck plan (suc turn) k)
+    → sender plan (suc turn) ≡ k
+    → fate_of plan (suc turn) k ≡ Fallen is.incident.change (suc turn) (suc turn)
+struck-shown plan turn k good is own =
+    struck-next plan turn k good is ∙ turned-own plan (suc turn) k (Falling is.incident.change (suc turn)) own
 
 -- it is the first own slot of a lost node
 pub first-shown : (plan : Plan) (turn since : ℕ) (change : Change)
@@ -214,6 +323,7 @@ sound-fate Sound sound = refl
 sound-fate Absent sound = absurd (false≢true sound)
 sound-fate (Falling change since) sound = absurd (false≢true sound)
 sound-fate (Fallen change since shown) sound = absurd (false≢true sound)
+sound-fate (Listening since) sound = absurd (false≢true sound)
 
 -- a node that lost a frame less than a round ago, and has had a slot since, may still stay
 pub doubted-stays : (plan : Plan) (turn k y shown : ℕ) → IsGoodPlan plan → k < plan.nodes

@@ -31,7 +31,7 @@ use Rattle.safety_laws.proofs.Verdicts.{judged-outside, judged-none, judged-sile
 use Rattle.safety_steps.specs.ByFate.{IsSoundAt, IsFallingAt}
 use Rattle.safety_steps.specs.Turn.{IsTurn}
 use Rattle.safety_steps.proofs.Arrivals.{at-fate, hears-planned}
-use Rattle.safety_steps.proofs.PlanSteps.{doubted-stays}
+use Rattle.safety_steps.proofs.PlanSteps.{doubted-stays, sound-unentered, sender-unentered}
 use Rattle.safety_steps.proofs.SoundNodes.{IsSoundJudge, not_about, sound-correct, sound-wrong, sound-tentative}
 use Rattle.safety_steps.proofs.Turns.{slot_of, slot_number, owner-is, judges, e-node}
 
@@ -141,6 +141,7 @@ module _ (list : Medl) (script : Script) (start : ClusterStart) (plan : Plan) (t
         judging = judges list script start plan turn new numbers t k node at.phase at.place other;
         at = at;
         owner = owner-is list script start plan turn new numbers t k node at.place;
+        entered = sound-unentered plan turn k t.planned.follows.good sound;
       }
 
   less : k < plan.nodes
@@ -160,7 +161,8 @@ module _ (list : Medl) (script : Script) (start : ClusterStart) (plan : Plan) (t
       let judge = sound-judge in
       let number = slot_number list script start plan turn new numbers t in
       let kept = ap (λ n. loses script e n k) number ∙ hearing.heard k less (λ same. other (sym same)) good_is stays in
-      let within = t.clocks.within k e node (e-node list script start plan turn new numbers t) stays good_is in
+      let within = t.clocks.within k e node (e-node list script start plan turn new numbers t) stays good_is
+      judge.entered (sender-unentered plan (suc turn) t.planned.follows.good) in
       let hears = hears-planned list script start plan turn new numbers t sends k judge.at.place kept within in
       correct-group x (planned_members plan turn) judge.judging judge.at.group e (not_about plan turn x judge)
       (subst (λ o. HearsMembers x e (with_node (planned_members plan turn) o)) (sym judge.owner) hears)
@@ -213,7 +215,7 @@ module _ (list : Medl) (script : Script) (start : ClusterStart) (plan : Plan) (t
             by false kept =
                 receives-outside kept
                 (t.clocks.frame k (sender plan (suc turn)) since node
-                (e-node list script start plan turn new numbers t) stays jumped)
+                (e-node list script start plan turn new numbers t) stays sound-judge.entered jumped)
 
         -- the frame of a receiver that was lost
         pub receives-deaf : (since : ℕ) → IsDeafSender plan turn since

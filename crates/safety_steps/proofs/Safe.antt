@@ -1,241 +1,93 @@
--- What safety asks follows from what each node is by its fate.
-use Rattle.std.proofs.Common.{◌≡◌, ◌≢◌, ℕ, suc, ◌+◌, ◌-◌, ◌*◌, ◌<◌, ◌≤◌}
-use Rattle.std.proofs.Common.{Bool, true, false, not, ◌&&◌, ◌||◌, List, []}
-use Rattle.std.proofs.Common.{◌∷◌, length, refl, ap, sym, subst, ◌∙◌, ◌⊎◌, inl, inr, arith}
+-- The tests of safety follow from what each node is by its fate.
+use Rattle.std.proofs.Common.{◌≡◌, ℕ, suc, ◌+◌, ◌-◌, ◌*◌, ◌<◌, ◌≤◌, Bool, true, false, not, ◌&&◌, ◌||◌, length, Some}
+use Rattle.std.proofs.Common.{refl, ap, sym, subst, ◌∙◌, arith}
 use Rattle.std.specs.Prelude.{nat_le}
-use Rattle.std.specs.List.{AllByRecursion, list_all}
-use Rattle.std.proofs.lemmas.Bool.{false≢true, not_from_false, and_from, or_right, leb-true}
-use Rattle.std.proofs.lemmas.Slice.Eq.{bytes_eq-Decides}
-use Rattle.ttp_base.specs.NodeSet.{most_nodes, has_node}
+use Rattle.std.specs.List.{AllByRecursion}
+use Rattle.std.proofs.lemmas.Bool.{or_right, leb-true}
 use Rattle.ttp_base.proofs.Below.{below-lt}
 use Rattle.ttp_world.specs.declared.medl.Medl.{Medl}
-use Rattle.ttp_world.specs.declared.node.Ack.{Ack}
-use Rattle.ttp_world.specs.declared.node.Ack.TheVariants as ack
 use Rattle.ttp_world.specs.declared.node.Phase.{Phase}
-use Rattle.ttp_world.specs.declared.node.Phase.TheVariants as phase
 use Rattle.ttp_world.specs.declared.script.Script.{Script}
-use Rattle.ttp_world.specs.Acknowledgement.{is_doubt}
 use Rattle.ttp_world.specs.Diary.{History, diary_of}
 use Rattle.ttp_world.specs.Hypothesis.{ClusterStart, FaultyNode, nodes_of, faulty_nodes_after, is_correct_after}
 use Rattle.ttp_world.specs.Messages.{is_left_phase}
 use Rattle.ttp_world.specs.Safety.{newest_slot, correct_nodes, is_settled, settled_nodes, has_ever_sent, has_left}
-use Rattle.ttp_world.specs.Safety.{members_of_node, are_same_members, correct_senders, is_out, is_gone, members_agree}
-use Rattle.ttp_world.specs.Safety.{senders_are_members, none_has_left, faulty_are_gone, IsSafe}
+use Rattle.ttp_world.specs.Safety.{is_in_among, correct_senders, is_out, is_gone, members_agree, senders_are_members}
+use Rattle.ttp_world.specs.Safety.{none_has_left, faulty_are_gone, IsSafe}
 use Rattle.ttp_world.specs.World.{node_past}
 use Rattle.ttp_world.proofs.Filters.{each-filter}
-use Rattle.ttp_world.proofs.Lists.{nodes-most}
-use Rattle.fault_plan.specs.Plan.{Change, Sending, Plan}
-use Rattle.fault_plan.specs.Fates.{Fate, Absent, Sound, Falling, Fallen, fate_of, is_sound_after, lost_since}
-use Rattle.fault_plan.specs.GoodPlan.{IsGoodPlan}
-use Rattle.fault_plan.specs.Ledger.{planned_members, ledger_of}
-use Rattle.fault_plan.proofs.FateTells.{loss-node}
-use Rattle.fault_plan.proofs.Ledgers.{ledger-told}
-use Rattle.fault_plan.proofs.Members.{sound-member, fallen-member}
-use Rattle.safety_laws.specs.Groups.{held_with}
-use Rattle.safety_laws.proofs.GroupSets.{has_node-with_member, has_node-with_other}
-use Rattle.safety_steps.specs.ByFate.{IsSoundAt, IsFallenAt, IsByFate}
+use Rattle.fault_plan.specs.Plan.{Plan}
+use Rattle.fault_plan.specs.Fates.{fate_of, lost_since}
+use Rattle.fault_plan.proofs.Returns.{none-enters}
+use Rattle.safety_steps.specs.ByFate.{IsSoundAt}
 use Rattle.safety_steps.specs.Gone.{FaultyLeave}
 use Rattle.safety_steps.specs.Run.{StandsAfter}
-use Rattle.safety_steps.proofs.PlanSteps.{sound-fate, told-falling, told-fallen}
-use Rattle.std.proofs.lemmas.Option.{same_Some}
-use Rattle.std.proofs.Common.{Some}
-
--- Tests of lists.
-
-all-by : {X : Type 0} (P : X → Type 0) (test : X → Bool) (xs : List X) → ((x : X) → P x → test x ≡ true)
-    → AllByRecursion P xs → list_all test xs ≡ true
-all-by P test [] passes all = refl
-all-by P test (x ∷ xs) passes all =
-    and_from (test x) (list_all test xs) (passes x all.0) (all-by P test xs passes all.1)
-
-each-of : {X : Type 0} {P Q : X → Type 0} (xs : List X) → ((x : X) → P x → Q x) → AllByRecursion P xs
-    → AllByRecursion Q xs
-each-of [] gives all = tt
-each-of (x ∷ xs) gives all = (gives x all.0, each-of xs gives all.1)
-
--- What a sound node holds.
-
-held-settled : (group : List ℕ) (a : Ack) → is_doubt a ≡ false → held_with group a ≡ group
-held-settled group ack.Closed settled = refl
-held-settled group ack.First settled = refl
-held-settled group (ack.Doubt y) settled = absurd (false≢true (sym settled))
-
-held-member : (group : List ℕ) (a : Ack) (j : ℕ) → j < most_nodes → has_node group j ≡ true
-    → has_node (held_with group a) j ≡ true
-held-member group ack.Closed j small has = has
-held-member group ack.First j small has = has
-held-member group (ack.Doubt y) j small has = has_node-with_member group y j small has
-
-held-none : (group : List ℕ) (a : Ack) (j : ℕ) → j < most_nodes → has_node group j ≡ false
-    → ((y : ℕ) → a ≡ ack.Doubt y → y ≢ j)
-    → has_node (held_with group a) j ≡ false
-held-none group ack.Closed j small none apart = none
-held-none group ack.First j small none apart = none
-held-none group (ack.Doubt y) j small none apart =
-    has_node-with_other group y j small (λ same. apart y refl (sym same)) ∙ none
-
-not-settled : (b : Bool) → not b ≡ true → b ≡ false
-not-settled true is = absurd (false≢true is)
-not-settled false is = refl
+use Rattle.safety_steps.proofs.Among.{all-by, each-of, newest, IsSoundNode, at-sound, agree-settled, in-sound}
+use Rattle.safety_steps.proofs.Among.{gone-lost}
 
 module _ (list : Medl) (script : Script) (start : ClusterStart) (plan : Plan) (turn : ℕ) (history : History)
     (is : StandsAfter list script start plan turn history) where
-  good : IsGoodPlan plan
-  good = is.planned.follows.good
-
-  newest : newest_slot history ≡ start.slot + turn
-  newest = let number = is.number in omega (arith, number)
-
-  small : (j : ℕ) → j < length list.slots → j < most_nodes
-  small j node = let few = nodes-most list is.planned.valid in omega (arith, node, few)
-
-  less : (k : ℕ) → k < length list.slots → k < plan.nodes
-  less k node = subst (λ n. k < n) (sym is.planned.follows.nodes) node
+  newest-is : newest_slot history ≡ start.slot + turn
+  newest-is = newest list script start plan turn history is.stands
 
   -- Correct nodes are the sound ones.
 
-  abbrev IsCorrect : ℕ → Type 0
-  IsCorrect k = (k < length list.slots) × (is_correct_after list script (newest_slot history) k ≡ true)
+  abbrev Sound : ℕ → Type 0
+  Sound k = IsSoundNode list script start plan turn history is.stands k
 
-  corrects : AllByRecursion IsCorrect (correct_nodes list script history)
-  corrects = each-filter (λ k. k < length list.slots) _ (nodes_of list) (below-lt (length list.slots))
+  sound : (k : ℕ) → k < length list.slots → is_correct_after list script (newest_slot history) k ≡ true → Sound k
+  sound k node correct = (
+    node,
+    is.faults.sound turn k node is.stands.within
+        ∙ ap (λ slot. is_correct_after list script slot k) (sym newest-is) ∙ correct,
+  )
 
-  sound : (k : ℕ) → IsCorrect k → is_sound_after plan turn k ≡ true
-  sound k correct =
-      is.faults.sound turn k correct.0 is.within
-      ∙ ap (λ slot. is_correct_after list script slot k) (sym newest) ∙ correct.1
-
-  at-sound : (k : ℕ) → IsCorrect k → IsSoundAt list plan turn k (node_past list script history k)
-  at-sound k correct =
-      subst (λ (f : Fate). IsByFate list plan turn k (node_past list script history k) f)
-      (sound-fate (fate_of plan turn k) (sound k correct)) (is.holds.nodes k correct.0)
-
-  -- Those that are not in doubt hold the plan's members.
-
-  abbrev IsSettled : ℕ → Type 0
-  IsSettled k = IsCorrect k × (is_settled history k ≡ true)
-
-  settled-members : (k : ℕ) → IsSettled k → members_of_node list history k ≡ planned_members plan turn
-  settled-members k settled =
-      let at = at-sound k settled.0 in
-      at.group.members ∙ held-settled (planned_members plan turn) _ (not-settled _ settled.1)
+  corrects : AllByRecursion Sound (correct_nodes list script history)
+  corrects =
+      each-of (correct_nodes list script history) (λ k of_k. sound k of_k.0 of_k.1)
+      (each-filter (λ k. k < length list.slots) (is_correct_after list script (newest_slot history)) (nodes_of list)
+      (below-lt (length list.slots)))
 
   agree : members_agree list script history ≡ true
   agree =
-      let all = each-filter IsCorrect (is_settled history) (correct_nodes list script history) corrects in
-      all-by IsSettled _ (settled_nodes list script history) (λ j of_j.
-      all-by IsSettled (are_same_members list history j) (settled_nodes list script history) (λ k of_k.
-      (bytes_eq-Decides (members_of_node list history j) (members_of_node list history k)).1
-      (settled-members j of_j ∙ sym (settled-members k of_k))) all) all
+      agree-settled list script start plan turn history is.stands (settled_nodes list script history)
+      (each-filter Sound (is_settled history) (correct_nodes list script history) corrects)
 
-  -- Each that has sent is a member.
-
+  -- each that has sent is a member
   senders : senders_are_members list script history ≡ true
   senders =
-      all-by (λ j. IsCorrect j × (has_ever_sent (diary_of history j) ≡ true)) _ (correct_senders list script history)
-      (λ j of_j. all-by IsCorrect _ (correct_nodes list script history) (λ k of_k.
-      let at = at-sound k of_k in
-      ap (λ s. has_node s j) at.group.members
-      ∙ held-member (planned_members plan turn) (node_past list script history k).ack j (small j of_j.0.0)
-      (sound-member plan turn j good (less j of_j.0.0) (sound j of_j.0)
-      (is.holds.sent j of_j.0.0 (sound j of_j.0) of_j.1))) corrects)
-      (each-filter IsCorrect (λ j. has_ever_sent (diary_of history j)) (correct_nodes list script history) corrects)
+      all-by (λ j. Sound j × (has_ever_sent (diary_of history j) ≡ true))
+      (is_in_among list history (correct_nodes list script history)) (correct_senders list script history)
+      (λ j of_j.
+      in-sound list script start plan turn history is.stands (correct_nodes list script history) corrects j of_j.0
+      (is.stands.holds.ever_sent j of_j.0.0 of_j.0.1 (λ slot to. none-enters plan slot j is.faults.returns) of_j.1))
+      (each-filter Sound (λ j. has_ever_sent (diary_of history j)) (correct_nodes list script history) corrects)
 
-  -- None has left.
-
+  -- none has left
   stay : none_has_left list script history ≡ true
   stay =
-      all-by IsCorrect _ (correct_nodes list script history)
-      (λ k of_k. ap (λ (p : Phase). not (is_left_phase p)) (at-sound k of_k).phase) corrects
+      all-by Sound (λ k. not (has_left history k)) (correct_nodes list script history)
+      (λ k of_k.
+      ap (λ (p : Phase). not (is_left_phase p)) (at-sound list script start plan turn history is.stands k of_k).phase)
+      corrects
 
-  -- A faulty node has left two rounds after it became faulty, less two slots, and no correct node holds it.
-
-  fallen-stands : (k since shown : ℕ) (change : Change) → k < length list.slots
-      → fate_of plan turn k ≡ Fallen change since shown
-      → ((node_past list script history k).phase ≡ phase.Left)
-      ⊎ IsFallenAt list plan turn k since shown (node_past list script history k)
-  fallen-stands k since shown change node fate =
-      subst (λ (f : Fate). IsByFate list plan turn k (node_past list script history k) f) fate
-      (is.holds.nodes k node)
-
-  -- it leaves in its first own slot, where that is the last of a round, and else a round later
-  left-fallen : (k since shown : ℕ) (change : Change) → k < length list.slots
-      → fate_of plan turn k ≡ Fallen change since shown → since + 2 * plan.nodes ≤ suc (suc turn)
-      → (node_past list script history k).phase ≡ phase.Left
-  left-fallen k since shown change node fate late =
-      elim (fallen-stands k since shown change node fate) [
-        | inl left ↦ left
-        | inr at ↦ let soon = at.soon in let early = at.early in absurd (omega (arith, soon, early, late))
-      ]
-
-  -- the one node that may doubt it has had a slot of its own since
-  doubted-early : (j k since shown : ℕ) (change : Change) → IsCorrect j
-      → fate_of plan turn k ≡ Fallen change since shown
-      → (node_past list script history j).ack ≡ ack.Doubt k → turn < since + plan.nodes
-  doubted-early j k since shown change of_j fate doubt =
-      let at = at-sound j of_j in
-      let found = at.doubted k doubt in
-      let same : (ledger_of plan turn j).base ≡ since =
-      same_Some _ _ (sym (ap lost_since found.1) ∙ ap lost_since fate) in
-      let near = (ledger-told plan turn j good (less j of_j.0)).near in
-      omega (arith, same, near)
-
-  out-fallen : (k since shown : ℕ) (change : Change) → k < length list.slots
-      → fate_of plan turn k ≡ Fallen change since shown → since + plan.nodes ≤ turn
-      → is_out list script history k ≡ true
-  out-fallen k since shown change node fate late =
-      all-by IsCorrect _ (correct_nodes list script history) (λ j of_j.
-      let at = at-sound j of_j in
-      not_from_false _
-      (ap (λ s. has_node s k) at.group.members
-      ∙ held-none (planned_members plan turn) (node_past list script history j).ack k (small k node)
-      (fallen-member plan turn k since shown change good (less k node) fate)
-      (λ y doubt same.
-      let early = doubted-early j k since shown change of_j fate
-      (doubt ∙ ap (λ (z : ℕ). ack.Doubt z) same) in
-      omega (arith, early, late)))) corrects
-
-  -- and so by what its fate tells of its loss
-  gone-by : (k slot : ℕ) (fate : Fate) → fate_of plan turn k ≡ fate → lost_since fate ≡ Some (slot - start.slot)
-      → slot + 2 * length list.slots ≤ suc (suc (start.slot + turn))
-      → (has_left history k && is_out list script history k) ≡ true
-  gone-by k slot Absent fate lost late = cc
-  gone-by k slot Sound fate lost late = cc
-  gone-by k slot (Falling change since) fate lost late =
-      let told = told-falling plan turn k since change good fate in
-      let same = same_Some _ _ lost in
-      let after = told.loss.late in
-      let soon = told.soon in
-      let nodes = is.planned.follows.nodes in
-      let count = good.count in
-      absurd (omega (arith, same, late, after, soon, nodes, count))
-  gone-by k slot (Fallen change since shown) fate lost late =
-      let told = told-fallen plan turn k since shown change good fate in
-      let same = same_Some _ _ lost in
-      let after = told.loss.late in
-      let nodes = is.planned.follows.nodes in
-      let count = good.count in
-      let over : since + 2 * plan.nodes ≤ suc (suc turn) = omega (arith, same, late, after, nodes, count) in
-      let node : k < length list.slots =
-      subst (λ n. k < n) is.planned.follows.nodes (loss-node plan k since change good told.loss) in
-      and_from (has_left history k) (is_out list script history k)
-      (ap (λ (p : Phase). is_left_phase p) (left-fallen k since shown change node fate over))
-      (out-fallen k since shown change node fate (omega (arith, over, count)))
-
+  -- and each faulty node has left in time
   abbrev IsLost : FaultyNode → Type 0
   IsLost f = lost_since (fate_of plan turn f.node) ≡ Some (f.slot - start.slot)
 
   all-lost : AllByRecursion IsLost (faulty_nodes_after list script (newest_slot history))
   all-lost =
-      subst (λ slot. AllByRecursion IsLost (faulty_nodes_after list script slot)) (sym newest)
-      (is.faults.faulty turn is.within)
+      subst (λ slot. AllByRecursion IsLost (faulty_nodes_after list script slot)) (sym newest-is)
+      (is.faults.faulty turn is.stands.within)
 
-  gone-lost : (f : FaultyNode) → IsLost f → f.slot + 2 * length list.slots ≤ suc (suc (newest_slot history))
+  gone-faulty : (f : FaultyNode) → IsLost f → f.slot + 2 * length list.slots ≤ suc (suc (newest_slot history))
       → (has_left history f.node && is_out list script history f.node) ≡ true
-  gone-lost f lost late = gone-by f.node f.slot (fate_of plan turn f.node) refl lost (omega (arith, late, newest))
+  gone-faulty f lost late =
+      gone-lost list script start plan turn history is.stands (correct_nodes list script history) corrects f.node f.slot
+      lost late
 
   pub faulty-leave : FaultyLeave list script history
-  faulty-leave = each-of (faulty_nodes_after list script (newest_slot history)) gone-lost all-lost
+  faulty-leave = each-of (faulty_nodes_after list script (newest_slot history)) gone-faulty all-lost
 
   gone : (f : FaultyNode) → IsLost f → is_gone list script history f ≡ true
   gone f lost = by (nat_le (f.slot + 2 * length list.slots) (suc (newest_slot history))) refl
@@ -246,7 +98,7 @@ module _ (list : Medl) (script : Script) (start : ClusterStart) (plan : Plan) (t
           ap (λ b. not b || (has_left history f.node && is_out list script history f.node)) is
       by true is =
           let passed = leb-true (f.slot + 2 * length list.slots) (suc (newest_slot history)) is in
-          or_right _ _ (gone-lost f lost (omega (arith, passed)))
+          or_right _ _ (gone-faulty f lost (omega (arith, passed)))
 
   faulty : faulty_are_gone list script history ≡ true
   faulty = all-by IsLost _ (faulty_nodes_after list script (newest_slot history)) gone all-lost
@@ -258,42 +110,5 @@ module _ (list : Medl) (script : Script) (start : ClusterStart) (plan : Plan) (t
   pub correct-sound : (k : ℕ) → k < length list.slots
       → is_correct_after list script (newest_slot history) k ≡ true
       → IsSoundAt list plan turn k (node_past list script history k)
-  correct-sound k node correct = at-sound k (node, correct)
-
-  -- A node has left a round after the first own slot since it was lost.
-  pub left-after : (k since shown : ℕ) (change : Change) → k < length list.slots
-      → fate_of plan turn k ≡ Fallen change since shown → shown + plan.nodes ≤ turn
-      → (node_past list script history k).phase ≡ phase.Left
-  left-after k since shown change node fate past =
-      elim (fallen-stands k since shown change node fate) [
-        | inl left ↦ left
-        | inr at ↦ let soon = at.soon in absurd (omega (arith, soon, past))
-      ]
-
-  -- so a sender has left a round after it was lost,
-  pub left-sender : (k since shown : ℕ) → k < length list.slots → fate_of plan turn k ≡ Fallen Sending since shown
-      → since + plan.nodes ≤ turn
-      → (node_past list script history k).phase ≡ phase.Left
-  left-sender k since shown node fate past =
-      let at_once = (told-fallen plan turn k since shown Sending good fate).sending refl in
-      left-after k since shown Sending node fate (omega (arith, at_once, past))
-
-  -- and each lost node two rounds after, less two slots
-  pub left-lost : (k since : ℕ) → k < length list.slots → lost_since (fate_of plan turn k) ≡ Some since
-      → since + 2 * plan.nodes ≤ suc (suc turn)
-      → (node_past list script history k).phase ≡ phase.Left
-  left-lost k since node lost late = by (fate_of plan turn k) refl lost
-    where
-      by : (fate : Fate) → fate_of plan turn k ≡ fate → lost_since fate ≡ Some since
-          → (node_past list script history k).phase ≡ phase.Left
-      by Absent is of_loss = cc
-      by Sound is of_loss = cc
-      by (Falling change s) is of_loss =
-          let told = told-falling plan turn k s change good is in
-          let same = same_Some _ _ of_loss in
-          let soon = told.soon in
-          let count = good.count in
-          absurd (omega (arith, same, soon, count, late))
-      by (Fallen change s shown) is of_loss =
-          let same = same_Some _ _ of_loss in
-          left-fallen k s shown change node is (omega (arith, same, late))
+  correct-sound k node correct =
+      at-sound list script start plan turn history is.stands k (sound k node correct)

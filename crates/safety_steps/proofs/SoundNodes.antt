@@ -10,7 +10,7 @@ use Rattle.ttp_world.specs.Counts.{is_rejection}
 use Rattle.ttp_world.specs.Diary.{next_place}
 use Rattle.ttp_world.specs.Membership.{is_accepted}
 use Rattle.std.proofs.lemmas.Bool.{false≢true}
-use Rattle.fault_plan.specs.Plan.{Receiving, Plan, sender}
+use Rattle.fault_plan.specs.Plan.{Receiving, Plan, sender, enters}
 use Rattle.fault_plan.specs.Fates.{Fallen, fate_of, is_good_slot, is_first_slot}
 use Rattle.fault_plan.specs.GoodPlan.{IsGoodPlan}
 use Rattle.fault_plan.specs.Ledger.{Ledger, with_slot, planned_members, ledger_of}
@@ -22,6 +22,7 @@ use Rattle.safety_laws.proofs.Groups.{holds-correct, holds-wrong, holds-tentativ
 use Rattle.safety_steps.specs.ByFate.{IsCounted, IsSoundAt}
 use Rattle.safety_steps.proofs.Ledgers.{counted-correct, counted-wrong, counted-tentative}
 use Rattle.safety_steps.proofs.PlanSteps.{members-good, members-wrong, ledger-other, fallen-stays, doubt-apart}
+use Rattle.safety_steps.proofs.PlanSteps.{staying-unarmed, doubted-stays}
 
 about-other : (a : Ack) (j : ℕ) → ((y : ℕ) → a ≡ ack.Doubt y → y ≢ j) → IsNotAbout j a
 about-other ack.Closed j apart = tt
@@ -35,6 +36,7 @@ pub record IsSoundJudge (plan : Plan) (turn : ℕ) (x : NodeSlot) : Type 0 where
   pub judging : IsJudging x
   pub at : IsSoundAt x.list plan turn x.node x.past
   pub owner : owner_of x ≡ sender plan (suc turn)
+  pub entered : enters plan (suc turn) x.node ≡ false
 
 module _ (plan : Plan) (turn : ℕ) (x : NodeSlot) (is : IsSoundJudge plan turn x) where
   others-slot : sender plan (suc turn) ≢ x.node
@@ -54,7 +56,7 @@ module _ (plan : Plan) (turn : ℕ) (x : NodeSlot) (is : IsSoundJudge plan turn 
       → IsCounted (ledger_of plan (suc turn) x.node) (next_past x)
   counted-next good first good_is first_is counted =
       subst (λ (l : Ledger). IsCounted l (next_past x))
-      (sym (ledger-other plan turn x.node others-slot
+      (sym (ledger-other plan turn x.node others-slot is.entered
       ∙ (λ i. with_slot (good_is i) (first_is i) (ledger_of plan turn x.node)))) counted
 
   -- the frame of a good slot, judged correct
@@ -87,11 +89,14 @@ module _ (plan : Plan) (turn : ℕ) (x : NodeSlot) (is : IsSoundJudge plan turn 
         counted = counted-next false _ wrong_is refl
             (counted-wrong x (ledger_of plan turn x.node) is.at.counted v deviation _ judged wrong only holds.1);
         doubted = λ y doubt.
-            let found = is.at.doubted y (sym holds.1 ∙ doubt) in (
+            let found = is.at.doubted y (sym holds.1 ∙ doubt) in
+            let less = subst (λ n. x.node < n) (sym is.nodes) is.judging.node in
+            let unarmed = staying-unarmed plan turn y y is.good
+            (doubted-stays plan turn x.node y found.0 is.good less found.1) in (
               found.0,
-              fallen-stays plan turn y (ledger_of plan turn x.node).base found.0 Receiving is.good found.1
+              fallen-stays plan turn y (ledger_of plan turn x.node).base found.0 Receiving is.good unarmed found.1
                   ∙ ap (λ (l : Ledger). Fallen Receiving l.base found.0)
-                  (sym (ledger-other plan turn x.node others-slot)),
+                  (sym (ledger-other plan turn x.node others-slot is.entered)),
             );
         fresh = λ own. absurd (others-slot own);
       }
@@ -115,7 +120,7 @@ module _ (plan : Plan) (turn : ℕ) (x : NodeSlot) (is : IsSoundJudge plan turn 
           shown,
           let same : y ≡ owner_of x = let both : ack.Doubt y ≡ ack.Doubt (owner_of x) = sym doubt ∙ holds.1 in cc in
               ap (fate_of plan (suc turn)) same ∙ fallen
-              ∙ ap (λ (l : Ledger). Fallen Receiving l.base shown) (sym (ledger-other plan turn x.node others-slot)),
+              ∙ ap (λ (l : Ledger). Fallen Receiving l.base shown) (sym (ledger-other plan turn x.node others-slot is.entered)),
         );
         fresh = λ own. absurd (others-slot own);
       }

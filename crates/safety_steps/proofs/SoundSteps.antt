@@ -6,17 +6,18 @@ use Rattle.ttp_world.specs.declared.script.Script.{Script}
 use Rattle.ttp_world.specs.Hypothesis.{ClusterStart, loses}
 use Rattle.ttp_world.specs.World.{SlotNumbers, Numbers, messages_chosen, world}
 use Rattle.fault_plan.specs.Plan.{Change, Sending, Receiving, Jumping, Plan, sender, incident_at}
-use Rattle.fault_plan.specs.Fates.{Fate, Absent, Sound, Falling, Fallen, fate_of, is_sound, is_sound_after}
+use Rattle.fault_plan.specs.Fates.{Fate, Absent, Sound, Falling, Fallen, Listening, fate_of, is_sound}
+use Rattle.fault_plan.specs.Fates.{is_sound_after}
 use Rattle.fault_plan.specs.Fates.{is_good_slot, is_first_slot}
 use Rattle.fault_plan.specs.Told.{IsFalling}
 use Rattle.fault_plan.proofs.FateSteps.{strikes}
 use Rattle.fault_plan.proofs.FateTells.{loss-sending}
 use Rattle.safety_laws.specs.NodeSlot.{next_past}
-use Rattle.safety_laws.specs.Senders.{SendsAlone}
+use Rattle.safety_laws.specs.Senders.{SendsAlone, NoneSends}
 use Rattle.safety_steps.specs.ByFate.{IsSoundAt, IsFallingAt, IsFallenAt}
 use Rattle.safety_steps.specs.Turn.{IsTurn}
-use Rattle.safety_steps.proofs.Arrivals.{sound-alone, silent-absent, fallen-leaves, falling-acts}
-use Rattle.safety_steps.proofs.PlanSteps.{IsStruck, struck-known, absent-stays, fallen-stays, sound-stays}
+use Rattle.safety_steps.proofs.Arrivals.{sound-alone, silent-absent, silent-listening, silent-fallen, falling-acts}
+use Rattle.safety_steps.proofs.PlanSteps.{IsStruck, struck-known, sound-stays, wrong-slot}
 use Rattle.safety_steps.proofs.PlanSteps.{falling-shown, struck-shown, first-shown, told-falling}
 use Rattle.safety_steps.proofs.Receivers.{receives-good, receives-silence, receives-none}
 use Rattle.safety_steps.proofs.Receivers.{receives-jumped, receives-deaf}
@@ -32,7 +33,7 @@ module _ (list : Medl) (script : Script) (start : ClusterStart) (plan : Plan) (t
   by-struck sends struck = by struck.incident.change refl
     where
       shown : fate_of plan (suc turn) (sender plan (suc turn)) ≡ Fallen struck.incident.change (suc turn) (suc turn)
-      shown = struck-shown plan turn (sender plan (suc turn)) struck refl
+      shown = struck-shown plan turn (sender plan (suc turn)) t.planned.follows.good struck refl
 
       wrong : is_good_slot plan (suc turn) ≡ false
       wrong = ap is_sound shown
@@ -106,17 +107,22 @@ module _ (list : Medl) (script : Script) (start : ClusterStart) (plan : Plan) (t
           (subst (λ (c : Change). IsFallingAt list plan turn (sender plan (suc turn)) c since
           (slot_of list script new numbers (sender plan (suc turn))).past) how sends.1) apart
 
+  -- nobody sends, the sender being none that is sound
+  by-silence : {fate : Fate} → fate_of plan turn (sender plan (suc turn)) ≡ fate → is_sound fate ≡ false
+      → NoneSends list script (world list script numbers) (messages_chosen list script (length numbers) new.sent)
+      → IsSoundAt list plan (suc turn) k (next_past (slot_of list script new numbers k))
+  by-silence is unsound none =
+      receives-silence list script start plan turn new numbers t k node other sound
+      (wrong-slot plan turn t.planned.follows.good (ap is_sound is ∙ unsound)) none
+
   by-fate : (fate : Fate) → fate_of plan turn (sender plan (suc turn)) ≡ fate
       → IsSoundAt list plan (suc turn) k (next_past (slot_of list script new numbers k))
   by-fate Absent is =
-      receives-silence list script start plan turn new numbers t k node other sound
-      (ap is_sound (absent-stays plan turn (sender plan (suc turn)) t.planned.follows.good is))
-      (silent-absent list script start plan turn new numbers t is)
+      by-silence is refl (silent-absent list script start plan turn new numbers t is)
+  by-fate (Listening since) is =
+      by-silence is refl (silent-listening list script start plan turn new numbers t since is)
   by-fate (Fallen change since shown) is =
-      receives-silence list script start plan turn new numbers t k node other sound
-      (ap is_sound (fallen-stays plan turn (sender plan (suc turn)) since shown change t.planned.follows.good is))
-      (none-sends list script start plan turn new numbers t
-      (fallen-leaves list script start plan turn new numbers t change since shown is).1)
+      by-silence is refl (silent-fallen list script start plan turn new numbers t change since shown is)
   by-fate (Falling change since) is = by-falling change since is
   by-fate Sound is = by (strikes (incident_at plan (suc turn)) (sender plan (suc turn))) refl
     where
@@ -125,7 +131,7 @@ module _ (list : Medl) (script : Script) (start : ClusterStart) (plan : Plan) (t
       by true hit = by-struck is (struck-known plan (suc turn) (sender plan (suc turn)) hit)
       by false missed =
           receives-good list script start plan turn new numbers t k node other sound
-          (ap is_sound (sound-stays plan turn (sender plan (suc turn)) missed is)) is stays
+          (ap is_sound (sound-stays plan turn (sender plan (suc turn)) t.planned.follows.good missed is)) is stays
 
   pub sound-next : IsSoundAt list plan (suc turn) k (next_past (slot_of list script new numbers k))
   sound-next = by-fate (fate_of plan turn (sender plan (suc turn))) refl

@@ -1,7 +1,6 @@
 -- A turn of a world: who sends in it, and what comes to each node.
 use Rattle.std.proofs.Common.{◌≡◌, ◌≢◌, ℕ, suc, ◌+◌, ◌<◌, true, false, [], length, refl, ap, sym, subst}
-use Rattle.std.proofs.Common.{◌∙◌, inl, inr, arith}
-use Rattle.std.proofs.Common.{mod-lt}
+use Rattle.std.proofs.Common.{◌∙◌, inl, inr, mod-lt, Bool, arith}
 use Rattle.std.proofs.lemmas.Bool.{cases_eq, not-true}
 use Rattle.ttp_base.specs.NodeSet.{has_node}
 use Rattle.ttp_world.specs.declared.medl.Medl.{Medl}
@@ -12,33 +11,41 @@ use Rattle.ttp_world.specs.Hypothesis.{ClusterStart}
 use Rattle.ttp_world.specs.Script.{is_on, is_armed}
 use Rattle.ttp_world.specs.World.{SlotNumbers, Numbers, node_past, messages_chosen, world}
 use Rattle.ttp_world.proofs.Worlds.{length-world}
-use Rattle.fault_plan.specs.Plan.{Plan, sender}
-use Rattle.fault_plan.specs.Fates.{Fate, Absent, Sound, Falling, Fallen, fate_of, is_absent, is_lost}
+use Rattle.fault_plan.specs.Plan.{Change, Plan, sender, is_armed_by}
+use Rattle.fault_plan.specs.Fates.{Fate, Absent, Sound, Falling, Fallen, Listening, fate_of, is_absent, is_lost}
+use Rattle.fault_plan.specs.Fates.{may_stay}
 use Rattle.fault_plan.specs.GoodPlan.{IsGoodPlan}
 use Rattle.fault_plan.specs.Places.{planned_place}
 use Rattle.fault_plan.proofs.Persists.{absent-always}
 use Rattle.fault_plan.proofs.Places.{place-sender}
+use Rattle.safety_laws.specs.Listening.{IsListening}
 use Rattle.safety_laws.specs.NodeSlot.{NodeSlot, node_slot, frames_made, owner_of}
 use Rattle.safety_laws.specs.Senders.{SendsAlone, NoneSends}
 use Rattle.safety_laws.specs.Turns.{IsJudging, IsAtOwnSlot}
 use Rattle.safety_laws.proofs.Idle.{frames_made-judging, idle-off, idle-left}
+use Rattle.safety_laws.proofs.Listening.{frames_made-listening, left-world}
 use Rattle.safety_laws.proofs.OwnSlots.{act_made-sends}
 use Rattle.safety_laws.proofs.Payloads.{HasPayload-world}
 use Rattle.safety_laws.proofs.WorldTurns.{IsJudging-world, IsAtOwnSlot-world}
-use Rattle.safety_steps.specs.ByFate.{IsByFate}
+use Rattle.safety_steps.specs.ByFate.{IsListeningAt, IsByFate}
 use Rattle.safety_steps.specs.Turn.{IsTurn}
+use Rattle.safety_steps.proofs.Awaited.{awaited-listening, good-lately}
+use Rattle.safety_steps.proofs.Listeners.{ListensSince, listens-before, listens-first}
 use Rattle.safety_steps.proofs.OwnTurns.{MaySend}
+use Rattle.safety_steps.proofs.PlanSteps.{staying-unarmed}
 
 -- node k in the slot after a world, with the messages of some numbers
 abbrev pub slot_of : Medl → Script → SlotNumbers → Numbers → ℕ → NodeSlot
 slot_of list script new numbers k =
     node_slot list script (world list script numbers) (messages_chosen list script (length numbers) new.sent) k
 
--- An active node that stands where the plan does, one that has left, and one that is not switched on.
+-- An active node that stands where the plan does, one that has left, one that is not switched on, and one that
+-- listens.
 pub data Stance (list : Medl) (plan : Plan) (turn : ℕ) (x : NodeSlot) : Type 0 where
   IsActive : x.past.phase ≡ phase.Active → x.past.place ≡ planned_place list plan turn → Stance list plan turn x
-  HasLeft : x.past.phase ≡ phase.Left → x.armed ≡ false → Stance list plan turn x
+  HasLeft : x.past.phase ≡ phase.Left → Stance list plan turn x
   IsOff : x.past.phase ≡ phase.Off → x.on ≡ false → Stance list plan turn x
+  Listens : IsListening x → Stance list plan turn x
 
 module _ (list : Medl) (script : Script) (start : ClusterStart) (plan : Plan) (turn : ℕ) (new : SlotNumbers)
     (numbers : Numbers) (t : IsTurn list script start plan turn new numbers) where
@@ -47,6 +54,10 @@ module _ (list : Medl) (script : Script) (start : ClusterStart) (plan : Plan) (t
 
   pub good : IsGoodPlan plan
   good = t.planned.follows.good
+
+  -- the slot is one of the plan's
+  pub within-plan : suc turn < plan.slots
+  within-plan = let slots = t.planned.follows.slots in let inside = t.within in omega (arith, slots, inside)
 
   starter : plan.starter < plan.nodes
   starter = good.starter.0
@@ -85,8 +96,44 @@ module _ (list : Medl) (script : Script) (start : ClusterStart) (plan : Plan) (t
         ap (is_on script k) slot_number ∙ sym (t.planned.follows.on (suc turn) k node)
         ∙ not-true (has_node plan.begin k) (sym (absent-always plan turn k good) ∙ ap is_absent is)
 
-    pub unarmed : is_lost (fate_of plan turn k) ≡ true → (slot_of list script new numbers k).armed ≡ false
-    unarmed lost = ap (is_armed script k) slot_number ∙ t.planned.arms k turn node lost
+    pub armed-planned : is_lost (fate_of plan turn k) ≡ true
+        → (slot_of list script new numbers k).armed ≡ is_armed_by plan (suc turn) k
+    armed-planned lost = ap (is_armed script k) slot_number ∙ t.planned.arms k turn node lost
+
+    pub unarmed-falling : (change : Change) (since : ℕ) → fate_of plan turn k ≡ Falling change since
+        → (slot_of list script new numbers k).armed ≡ false
+    unarmed-falling change since is =
+        armed-planned (ap is_lost is) ∙ staying-unarmed plan turn k k good (ap (may_stay plan.nodes turn) is)
+
+    -- a listening node does not start
+    pub listens-still : (since : ℕ) → fate_of plan turn k ≡ Listening since
+        → IsListeningAt list plan turn k since (slot_of list script new numbers k).past
+        → ListensSince plan turn since (slot_of list script new numbers k)
+    listens-still since is at =
+        let awaited = awaited-listening plan turn k since good within-plan is in
+        let within = within-plan in
+        listens-before plan turn since (slot_of list script new numbers k) t.planned.follows.nodes
+        (let count = good.count in omega (arith, count))
+        (good-lately plan turn k since good awaited (omega (arith, within))) at
+
+    -- and one that is armed listens
+    pub listens-now : (slot_of list script new numbers k).past.phase ≡ phase.Left
+        → (slot_of list script new numbers k).armed ≡ true
+        → ListensSince plan turn (suc turn) (slot_of list script new numbers k)
+    listens-now left armed =
+        let waited = left-world list script (world list script numbers) k left in
+        listens-first plan turn (slot_of list script new numbers k) left armed waited.0 waited.1
+
+    -- one that has left sends nothing
+    pub silent-left : (slot_of list script new numbers k).past.phase ≡ phase.Left
+        → frames_made (slot_of list script new numbers k) ≡ []
+    silent-left left = by (slot_of list script new numbers k).armed refl
+      where
+        by : (armed : Bool) → (slot_of list script new numbers k).armed ≡ armed
+            → frames_made (slot_of list script new numbers k) ≡ []
+        by true armed =
+            frames_made-listening (slot_of list script new numbers k) (listens-now left armed).listens
+        by false unarmed = (idle-left (slot_of list script new numbers k) left unarmed).1
 
     pub stance : Stance list plan turn (slot_of list script new numbers k)
     stance = by (fate_of plan turn k) refl (t.before.nodes k node)
@@ -96,10 +143,11 @@ module _ (list : Medl) (script : Script) (start : ClusterStart) (plan : Plan) (t
             → Stance list plan turn (slot_of list script new numbers k)
         by Absent is off = IsOff off (absent-off is)
         by Sound is at = IsActive at.phase at.place
-        by (Falling change since) is (inl left) = HasLeft left.0 (unarmed (ap is_lost is))
+        by (Falling change since) is (inl left) = HasLeft left.0
         by (Falling change since) is (inr at) = IsActive at.phase at.place
-        by (Fallen change since shown) is (inl left) = HasLeft left (unarmed (ap is_lost is))
+        by (Fallen change since shown) is (inl left) = HasLeft left
         by (Fallen change since shown) is (inr at) = IsActive at.phase at.place
+        by (Listening since) is at = Listens (listens-still since is at).listens
 
     -- no node but the sender sends
     pub quiet : sender plan (suc turn) ≢ k → frames_made (slot_of list script new numbers k) ≡ []
@@ -109,8 +157,9 @@ module _ (list : Medl) (script : Script) (start : ClusterStart) (plan : Plan) (t
             → frames_made (slot_of list script new numbers k) ≡ []
         by (IsActive active place) =
             frames_made-judging (slot_of list script new numbers k) (judges active place other)
-        by (HasLeft left armed) = (idle-left (slot_of list script new numbers k) left armed).1
+        by (HasLeft left) = silent-left left
         by (IsOff off never) = (idle-off (slot_of list script new numbers k) off never).1
+        by (Listens listens) = frames_made-listening (slot_of list script new numbers k) listens
 
   -- the sender of the turn
   pub e-node : sender plan (suc turn) < length list.slots

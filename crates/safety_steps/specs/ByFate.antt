@@ -1,7 +1,7 @@
 -- What a node is after a turn of a plan, by its fate.
 --
 -- A turn is a slot, counted from the start as a plan counts.
-use Rattle.std.specs.Prelude.{◌≡◌, ℕ, suc, ◌+◌, ◌<◌, ◌≤◌, false, true, if◌then◌else◌, ◌⊎◌, IsTrue}
+use Rattle.std.specs.Prelude.{◌≡◌, Bool, ℕ, suc, ◌+◌, ◌-◌, ◌*◌, ◌<◌, ◌≤◌, false, true, length, if◌then◌else◌, ◌⊎◌, IsTrue}
 use Rattle.ttp_base.specs.NodeSet.{has_node}
 use Rattle.ttp_world.specs.declared.medl.Medl.{Medl}
 use Rattle.ttp_world.specs.declared.node.Ack.{Ack}
@@ -10,7 +10,7 @@ use Rattle.ttp_world.specs.declared.node.Phase.TheVariants as phase
 use Rattle.ttp_world.specs.Acknowledgement.{is_open, is_doubt}
 use Rattle.ttp_world.specs.Past.{NodePast}
 use Rattle.fault_plan.specs.Plan.{Change, Receiving, Plan, sender}
-use Rattle.fault_plan.specs.Fates.{Fate, Absent, Sound, Falling, Fallen, fate_of}
+use Rattle.fault_plan.specs.Fates.{Fate, Absent, Sound, Falling, Fallen, Listening, fate_of, is_good_slot}
 use Rattle.fault_plan.specs.Ledger.{Ledger, planned_members, ledger_of}
 use Rattle.fault_plan.specs.Places.{planned_place}
 use Rattle.safety_laws.specs.Groups.{IsUnanswered, HoldsGroup}
@@ -67,10 +67,27 @@ pub record IsFallenAt (list : Medl) (plan : Plan) (turn k since shown : ℕ) (pa
   -- that first slot is not the last of the round since it was lost: there it leaves
   pub early : suc shown < since + plan.nodes
 
+-- A node that listens again.
+
+-- it starts only after two rounds of silence, and counted no more silent slots than there were since it was armed, and
+-- since each good slot that came from then on
+pub record IsListeningAt (list : Medl) (plan : Plan) (turn k since : ℕ) (past : NodePast) : Type 0 where
+  pub phase : past.phase ≡ phase.Listening
+  pub limit : past.limit ≡ 2 * length list.slots + k
+  pub silent : past.silent_slots ≤ suc turn - since
+  pub broken : (good : ℕ) → since ≤ good → good ≤ turn → is_good_slot plan good ≡ true
+      → past.silent_slots + good ≤ turn
+
 -- All.
 
+-- sound, or listening again
+abbrev pub is_there : Fate → Bool
+is_there Sound = true
+is_there (Listening since) = true
+is_there _ = false
+
 -- an absent node is off; a receiver that was lost may leave before its first own slot, and each lost node has left when
--- a round is over since that slot
+-- a round is over since that slot; one that was armed then listens until it enters
 abbrev pub IsByFate : Medl → Plan → ℕ → ℕ → NodePast → Fate → Type 0
 IsByFate list plan turn k past Absent = past.phase ≡ phase.Off
 IsByFate list plan turn k past Sound = IsSoundAt list plan turn k past
@@ -78,3 +95,4 @@ IsByFate list plan turn k past (Falling change since) =
     ((past.phase ≡ phase.Left) × (change ≡ Receiving)) ⊎ IsFallingAt list plan turn k change since past
 IsByFate list plan turn k past (Fallen change since shown) =
     (past.phase ≡ phase.Left) ⊎ IsFallenAt list plan turn k since shown past
+IsByFate list plan turn k past (Listening since) = IsListeningAt list plan turn k since past

@@ -3,8 +3,10 @@ ghost use Rattle.std.specs.Prelude.{◌≡◌, ℕ, suc, ◌+◌, ◌*◌, ◌<�
 ghost use Rattle.ttp_world.specs.declared.medl.Medl.{Medl};
 ghost use Rattle.ttp_world.specs.declared.node.Phase.TheVariants as phase;
 ghost use Rattle.ttp_world.specs.declared.script.Script.{Script};
+ghost use Rattle.ttp_world.specs.BackSafety.{IsBackSafe};
 ghost use Rattle.ttp_world.specs.Diary.{History};
 ghost use Rattle.ttp_world.specs.Hypothesis.{ClusterStart, is_correct_after};
+ghost use Rattle.ttp_world.specs.Returning.{is_back_correct_after};
 ghost use Rattle.ttp_world.specs.Safety.{newest_slot, IsSafe};
 ghost use Rattle.ttp_world.specs.World.{SlotNumbers, Numbers, node_past, world};
 ghost use Rattle.fault_plan.specs.Plan.{Change, Sending, Plan};
@@ -12,7 +14,7 @@ ghost use Rattle.fault_plan.specs.Fates.{Fallen, fate_of, lost_since};
 ghost use Rattle.safety_steps.specs.ByFate.{IsSoundAt};
 ghost use Rattle.safety_steps.specs.Gone.{FaultyLeave};
 ghost use Rattle.safety_steps.specs.Turn.{HoldsAfter, IsTurn};
-ghost use Rattle.safety_steps.specs.Run.{IsBegun, StandsAfter};
+ghost use Rattle.safety_steps.specs.Run.{IsBegun, StandsAfter, StandsBack};
 
 /// After the slot of the start each node is what its fate says (`first`), and so it is after each turn
 /// more (`next`), if deviations lie as `ClocksHold` says in the turn's slot: whichever faults the plan
@@ -57,4 +59,17 @@ pub fn safe_by_fate()
     ensures safe { (list : Medl) (script : Script) (start : ClusterStart) (plan : Plan) (turn : ℕ) (history : History)
         → StandsAfter list script start plan turn history
         → IsSafe list script history }
+{}
+
+/// The same by a plan in which lost nodes return: the tests of safety with armed nodes hold (`safe`), and
+/// each node that is correct by that test is a sound one of the plan (`correct`). So a node that was armed
+/// four rounds ago has entered, holds the members that each such node holds, and is one of them.
+pub fn back_safe_by_fate()
+    ensures correct { (list : Medl) (script : Script) (start : ClusterStart) (plan : Plan) (turn : ℕ)
+        (history : History) → StandsBack list script start plan turn history
+        → (k : ℕ) → k < length list.slots → is_back_correct_after list script (newest_slot history) k ≡ true
+        → IsSoundAt list plan turn k (node_past list script history k) }
+    ensures safe { (list : Medl) (script : Script) (start : ClusterStart) (plan : Plan) (turn : ℕ) (history : History)
+        → StandsBack list script start plan turn history
+        → IsBackSafe list script history }
 {}

@@ -5,4 +5,5 @@ use crate::laws;
 fn laws_are_there() {
     laws::by_fate();
     laws::safe_by_fate();
+    laws::back_safe_by_fate();
 }

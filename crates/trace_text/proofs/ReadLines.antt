@@ -34,7 +34,7 @@ labelled [] words = []
 labelled (label ∷ labels) [] = []
 labelled (label ∷ labels) (word ∷ words) = label ++ (word ++ labelled labels words)
 
-label-takes : (label bytes rest : List ℕ) → after_label label bytes ≡ Some rest → bytes ≡ label ++ rest
+pub label-takes : (label bytes rest : List ℕ) → after_label label bytes ≡ Some rest → bytes ≡ label ++ rest
 label-takes label bytes rest e =
     let g = guarded (bytes_eq (take (length label) bytes) label) (Some (drop (length label) bytes)) rest e in
     sym (take-append-drop (length label) bytes)

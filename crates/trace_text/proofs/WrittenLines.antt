@@ -84,7 +84,7 @@ word_end-is word rest none space =
     end_by (position_or_len is_space (word ++ rest)) (length (word ++ rest))
     (omega (arith, at, length-append word rest)) ∙ at
 
-label-again : (label rest : List ℕ) → after_label label (label ++ rest) ≡ Some rest
+pub label-again : (label rest : List ℕ) → after_label label (label ++ rest) ≡ Some rest
 label-again label rest =
     rw (take_at label rest (length label) refl, bytes_eq-same label)
     (ap (λ (r : List ℕ). Some r) (drop_at label rest (length label) refl))

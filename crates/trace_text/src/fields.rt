@@ -51,7 +51,7 @@ impl<'a> Fields<'a> {
 }
 
 // What follows a label at the front of bytes.
-fn after_label<'a>(label: &[u8], bytes: &'a [u8]) -> Option<&'a [u8]>
+pub(crate) fn after_label<'a>(label: &[u8], bytes: &'a [u8]) -> Option<&'a [u8]>
     ensures { option_map (λ p. p.now) result ≡ after_label label.now bytes.now }
 {
     bytes.strip_prefix(label)

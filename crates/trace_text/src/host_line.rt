@@ -2,6 +2,7 @@
 ghost use Rattle.std.specs.Prelude.{◌≡◌, ◌+◌, ◌*◌, ◌≤◌, ◌++◌, length};
 ghost use Rattle.std.specs.List.{flat_map};
 ghost use Rattle.ttp_base.specs.Text.{hex_bytes};
+ghost use Rattle.ttp_world.specs.declared.script.Source.TheVariants as source;
 ghost use Rattle.ttp_world.specs.Trace.{host_head, source_word, word_hex, message_hex};
 ghost use Rattle.trace_text.specs.HostLines.{bytes_in, message_in, HasWords, written_line, message_line};
 
@@ -112,5 +113,40 @@ pub(crate) fn make_read_line(slot: u32, host: u8, message: &RingMessage, line: &
     line.put_number(message.number);
     line.put_text(" ");
     put_message(line, message);
+    line.put_text("\n");
+}
+
+// Adds the digits of a payload.
+#[tactic(auto, using(ttp_base::proofs::Room::room))]
+fn put_payload(line: &mut Line, payload: &[u8])
+    requires room { length line.old + 480 ≤ 640 }
+    requires size { length payload.now ≤ 240 }
+    ensures text { line.new ≡ line.old ++ hex_bytes payload.now }
+    ensures short { length line.new ≤ length line.old + 480 }
+{
+    line.put_hex_bytes(payload);
+}
+
+/// The line of a message of a node that a host read, by the message's bytes.
+#[tactic(auto, using(ttp_base::proofs::Room::room))]
+pub(crate) fn make_payload_line(
+    slot: u32,
+    host: u8,
+    from: u8,
+    number: u64,
+    payload: &[u8],
+    line: &mut Line,
+)
+    requires { length payload.now ≤ 240 }
+    ensures { line.new ≡ message_line slot host (source.Node from) number payload.now }
+{
+    line.clear();
+    put_host(line, slot, host);
+    line.put_text(" read ");
+    put_source(line, Source::Node(from));
+    line.put_text(" ");
+    line.put_number(number);
+    line.put_text(" ");
+    put_payload(line, payload);
     line.put_text("\n");
 }

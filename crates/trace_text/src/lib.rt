@@ -7,6 +7,9 @@
 //! `written_line` and `message_line` of this crate, which are those of the definition of a trace; which
 //! state and which message a line shows, and which answer the last lines do, is the caller's.
 //!
+//! [`behind_node_line`] and its like look for a line at the front of a text instead, and say what follows it
+//! there.
+//!
 //! [`put_slot`] writes all lines of a slot from its report.
 //!
 //! [`read_line`] goes the other way: it gives the value whose line some bytes are, `text_of` of
@@ -16,6 +19,7 @@
 #![tactic(auto)]
 
 mod back_line;
+mod behind;
 mod digits;
 mod fields;
 mod head_line;
@@ -31,8 +35,13 @@ mod slot;
 mod trace_line;
 mod words;
 
+pub use behind::{
+    behind_back, behind_header, behind_keep, behind_node_line, behind_payload_line,
+    behind_status_line, behind_write_line,
+};
 pub use host_line::RingMessage;
 pub use node_line::NodeLines;
+pub use numerals::message_in;
 pub use put::{put_back, put_header, put_keep, put_node_line, put_read_line, put_write_line};
 pub use read::read_line;
 pub use slot::put_slot;

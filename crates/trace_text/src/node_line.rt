@@ -1,12 +1,14 @@
 //! The lines of the nodes after a slot.
-ghost use Rattle.std.specs.Prelude.{◌≡◌, ◌+◌, ◌≤◌, [], ◌∷◌, ◌++◌, length, IsTrue, OnOk, OnErr};
+ghost use Rattle.std.specs.Prelude.{◌≡◌, ◌+◌, ◌≤◌, [], ◌∷◌, ◌++◌, length, IsTrue, OnOk, OnErr, option_map};
 ghost use Rattle.ttp_base.specs.NodeSet.{set_bits};
 ghost use Rattle.ttp_base.specs.Outside.{WroteLines, CutShort};
 ghost use Rattle.ttp_world.specs.declared.node.Ack.TheVariants as ack;
 ghost use Rattle.ttp_world.specs.Trace.{number_or_dash, ack_word};
 ghost use Rattle.trace_text.specs.LineParts.{HasDigits, listed_line, head_text, shown_text, ack_text, end_text};
 ghost use Rattle.trace_text.specs.LineParts.{entry_text, message_text, members_text, text_of, with_rest};
+ghost use Rattle.trace_text.specs.Reading.{after_label};
 
+use crate::fields::after_label;
 use crate::words::{entry_word, peer_of};
 use std::marker::Model;
 use ttp_base::{Failed, Line, NodeSet, Sink};
@@ -342,6 +344,25 @@ impl NodeLines {
         put_head(&mut self.line, slot);
         self.head = self.line.len();
         self.slot = slot;
+    }
+
+    /// What of a text follows the line of a node after the slot, if the text begins with it.
+    pub(crate) fn behind<'a>(
+        &mut self,
+        list: &Medl,
+        node: u8,
+        state: &NodeState,
+        message: Option<u64>,
+        text: &'a [u8],
+    ) -> Option<&'a [u8]>
+        requires { HasDigits list.now state.now }
+        ensures slot { self.new ≡ self.old }
+        ensures rest { option_map (λ p. p.now) result
+            ≡ after_label (listed_line list.now self.old node state.now message) text.now }
+    {
+        self.line.cut(self.head);
+        put_rest(&mut self.line, &mut self.told, list, node, state, message);
+        after_label(self.line.bytes(), text)
     }
 
     /// Writes the line of a node after the slot.

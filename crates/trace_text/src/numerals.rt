@@ -46,8 +46,8 @@ pub(crate) fn slot_in(word: &[u8]) -> Option<u32>
     Some(number as u32)
 }
 
-/// The number of a message.
-pub(crate) fn message_in(word: &[u8]) -> Option<u64>
+/// The number of a message: at most six digits, of which none leads and is 0.
+pub fn message_in(word: &[u8]) -> Option<u64>
     ensures { result ≡ numeral_in message_digits word.now }
 {
     numeral_in(word, MESSAGE_DIGITS)

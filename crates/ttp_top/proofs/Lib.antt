@@ -2,3 +2,4 @@ mod Parts
 pub mod Files
 pub mod Calls
 pub mod Scripts
+pub mod Samples

@@ -1,3 +1,4 @@
 pub mod Files
 pub mod Calls
 pub mod Scripts
+pub mod Samples

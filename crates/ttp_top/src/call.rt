@@ -5,12 +5,15 @@ ghost use Rattle.ttp_top.specs.Calls.Forms.{plan_of};
 ghost use Rattle.ttp_top.specs.Calls.Outcome.{Follows};
 ghost use Rattle.ttp_top.specs.Calls.Plan.{outside};
 ghost use Rattle.ttp_top.specs.Calls.Promise.{Promise};
-ghost use Rattle.ttp_top.specs.Calls.Words.{run, is_run, texts_of, form_of, form_asked};
+ghost use Rattle.ttp_top.specs.Calls.Words.{run, sample, runs_cluster, texts_of, form_of};
+ghost use Rattle.ttp_top.specs.Calls.Words.{form_asked, HasSlots};
+ghost use Rattle.ttp_top.specs.Samples.Promise.{SamplePromise};
 ghost use Rattle.ttp_top.specs.Scripts.Promise.{RunPromise};
 
 use crate::faced::precision;
 use crate::lines::say;
 use crate::run::{keeps, run};
+use crate::sample::sample;
 use crate::schedule::schedule;
 use crate::words::{Command, command_of};
 use cluster_run::Cluster;
@@ -32,7 +35,8 @@ fn obey<R: Threads + Wait + Sync, L: Library, K: Sink, G: Gate>(
     gate: &G,
     kept: &mut Option<Cluster>,
 ) -> u8
-    requires { kept.old ≡ None }
+    requires slots { HasSlots command }
+    requires none { kept.old ≡ None }
     ensures follows { Follows (plan_of (form_asked command.entry)) (outside (L.files library.old) (K.output out.old))
         (outside (L.files library.new) (K.output out.new)) (answer result kept.new) }
     ensures no_form { form_asked command.entry ≡ None → result ≢ 7 }
@@ -44,6 +48,11 @@ fn obey<R: Threads + Wait + Sync, L: Library, K: Sink, G: Gate>(
         Command::Precision { list, script, node } => {
             precision(alloc, list, script, node, library, out)
         }
+        Command::Sample {
+            list,
+            slots,
+            number,
+        } => sample(rt, alloc, list, slots, number, library, out, gate, kept),
         Command::NoForm => say(out, USAGE.as_bytes(), 2),
     }
 }
@@ -51,12 +60,14 @@ fn obey<R: Threads + Wait + Sync, L: Library, K: Sink, G: Gate>(
 /// Runs the command that the words spell, and answers its status. The words are those after the
 /// program's name.
 ///
-/// There are four forms so far: `schedule MEDL` writes the slot table of one cluster cycle,
+/// There are five forms so far: `schedule MEDL` writes the slot table of one cluster cycle,
 /// `run MEDL SCRIPT` the trace of a script, `keeps MEDL SCRIPT` its last line alone, the answer of the
-/// test of the single-fault hypothesis, and `precision MEDL SCRIPT NODE` the answer of the test for one
+/// test of the single-fault hypothesis, `precision MEDL SCRIPT NODE` the answer of the test for one
 /// two-faced sender, which is the node of that number, and where it may be one, how far apart the other
-/// nodes' clocks came, in microticks. NODE is one or two decimal digits of a number below 24. They take
-/// any valid list and any valid script.
+/// nodes' clocks came, in microticks, and `sample MEDL SLOTS NUMBER` four lines on a run of so many slots by
+/// the script that the number gives. NODE is one or two decimal digits of a number below 24, SLOTS 1 to 20
+/// of a number from 1 to 20,000, and NUMBER 1 to 20 of a number below 2^64. They take any valid list and any
+/// valid script.
 ///
 /// | status | comes | what is written |
 /// |---|---|---|
@@ -76,8 +87,11 @@ fn obey<R: Threads + Wait + Sync, L: Library, K: Sink, G: Gate>(
 /// slots cost the same way. `precision` runs the controllers alone, where its test says yes. For words of
 /// no form the library is left alone and no memory is taken.
 ///
-/// `run` starts threads in slots in which hosts write or read, and their rings pass the gate before each
-/// step on a word. After its status 0 `kept` holds the cluster that ran, whose [`Cluster::done`] is the
+/// `sample` does all slots before its first line, and forms no text of a slot; it takes memory for its
+/// script, and then as `run` does.
+///
+/// `run` and `sample` start threads in slots in which hosts write or read, and their rings pass the gate
+/// before each step on a word. After their status 0 `kept` holds the cluster that ran, whose [`Cluster::done`] is the
 /// script's number of slots; after every other call it holds none, whatever it held before.
 pub fn bench<R: Threads + Wait + Sync, L: Library, K: Sink, G: Gate>(
     rt: &R,
@@ -98,8 +112,14 @@ pub fn bench<R: Threads + Wait + Sync, L: Library, K: Sink, G: Gate>(
     ensures run { (list script : List ℕ) → form_of (texts_of words.now) ≡ Some (run list script)
         → RunPromise list script (outside (L.files library.old) (K.output out.old))
         (outside (L.files library.new) (K.output out.new)) (answer result kept.new) }
-    // A cluster is kept exactly after status 0 of `run`, whatever was kept before.
-    ensures kept { is_some kept.new ≡ (is_run (form_of (texts_of words.now)) && (result == 0)) }
+    // For `sample`, in its own words: status 0 is the four lines on the generated run of the list, which are the
+    // same for all legal message numbers; a right list gives them, and with status 7 nothing is written. After
+    // status 0 the cluster that ran is kept, and stands for legal numbers.
+    ensures sample { (list : List ℕ) (slots number : ℕ) → form_of (texts_of words.now) ≡ Some (sample list slots number)
+        → SamplePromise list slots number (outside (L.files library.old) (K.output out.old))
+        (outside (L.files library.new) (K.output out.new)) (answer result kept.new) }
+    // A cluster is kept exactly after status 0 of `run` and of `sample`, whatever was kept before.
+    ensures kept { is_some kept.new ≡ (runs_cluster (form_of (texts_of words.now)) && (result == 0)) }
 {
     *kept = None;
     obey(rt, alloc, command_of(words), library, out, gate, kept)

@@ -15,7 +15,9 @@ mod lines;
 mod load;
 mod read;
 mod run;
+mod sample;
 mod schedule;
+mod totals;
 mod trace;
 mod words;
 

@@ -7,6 +7,7 @@ mod keeps;
 mod refusals;
 mod rows;
 mod runs;
+mod samples;
 mod texts;
 
 use crate::bench;

@@ -1,7 +1,10 @@
 //! The forms of a call's words.
-ghost use Rattle.std.specs.Prelude.{◌≡◌, ◌-◌, ◌<◌, [], ◌∷◌, IfSome, SomeIff, IsTrue};
+ghost use Rattle.std.specs.Prelude.{◌≡◌, ◌-◌, ◌^◌, ◌<◌, ◌≤◌, [], ◌∷◌, IfSome, SomeIff, IsTrue};
 ghost use Rattle.ttp_world.specs.TraceNumbers.{is_digit};
-ghost use Rattle.ttp_top.specs.Calls.Words.{node_named, texts_of, form_of, form_asked};
+ghost use Rattle.ttp_top.specs.Calls.Words.{node_named, numeral_named, slots_named, draw_named, sample_of, texts_of};
+ghost use Rattle.ttp_top.specs.Calls.Words.{form_of, form_asked, HasSlots};
+
+use ttp_world::SLOT_LIMIT;
 
 /// What a call is asked for.
 #[derive(Clone, Copy)]
@@ -26,6 +29,13 @@ pub(crate) enum Command<'a> {
         list: &'a str,
         script: &'a str,
         node: u8,
+    },
+    /// The summary of a run of the list of this name, of so many slots, by the script that this number
+    /// gives.
+    Sample {
+        list: &'a str,
+        slots: u32,
+        number: u64,
     },
     /// Nothing: the words have no form.
     NoForm,
@@ -58,9 +68,56 @@ fn node_named(word: &[u8]) -> Option<u8>
     if node < MOST_NODES { Some(node) } else { None }
 }
 
+// The most digits of a number of slots, and of a number to draw by.
+const NUMBER_DIGITS: usize = 20;
+
+// The number that a word of digits is.
+fn numeral_named(word: &[u8]) -> Option<u128>
+    ensures value { result ≡ numeral_named word.now }
+    ensures small { IfSome result (λ number. number < 10 ^ 20) }
+{
+    if word.is_empty() || NUMBER_DIGITS < word.len() {
+        return None;
+    }
+    let mut number: u128 = 0;
+    for byte in word {
+        if !byte.is_ascii_digit() {
+            return None;
+        }
+        number = number * 10 + u128::from(*byte - b'0');
+    }
+    Some(number)
+}
+
+// The number of slots that a word names.
+fn slots_named(word: &[u8]) -> Option<u32>
+    ensures value { result ≡ slots_named word.now }
+    ensures within { IfSome result (λ slots. (1 ≤ slots) × (slots ≤ SLOT_LIMIT)) }
+{
+    let slots = numeral_named(word)?;
+    if 1 <= slots && slots <= u128::from(SLOT_LIMIT) {
+        Some(slots as u32)
+    } else {
+        None
+    }
+}
+
+// The number to draw by that a word names.
+fn draw_named(word: &[u8]) -> Option<u64>
+    ensures { result ≡ draw_named word.now }
+{
+    let number = numeral_named(word)?;
+    if number <= u128::from(u64::MAX) {
+        Some(number as u64)
+    } else {
+        None
+    }
+}
+
 // The command of two words.
 fn list_command<'a>(verb: &str, list: &'a str) -> Command<'a>
-    ensures { form_asked result ≡ form_of (verb.now ∷ list.now ∷ []) }
+    ensures form { form_asked result ≡ form_of (verb.now ∷ list.now ∷ []) }
+    ensures slots { HasSlots result }
 {
     match verb {
         "schedule" => Command::Schedule { list },
@@ -70,7 +127,8 @@ fn list_command<'a>(verb: &str, list: &'a str) -> Command<'a>
 
 // The command of three words.
 fn script_command<'a>(verb: &str, list: &'a str, script: &'a str) -> Command<'a>
-    ensures { form_asked result ≡ form_of (verb.now ∷ list.now ∷ script.now ∷ []) }
+    ensures form { form_asked result ≡ form_of (verb.now ∷ list.now ∷ script.now ∷ []) }
+    ensures slots { HasSlots result }
 {
     match verb {
         "run" => Command::Run { list, script },
@@ -79,25 +137,55 @@ fn script_command<'a>(verb: &str, list: &'a str, script: &'a str) -> Command<'a>
     }
 }
 
-// The command of four words.
-fn node_command<'a>(verb: &str, list: &'a str, script: &'a str, node: &str) -> Command<'a>
-    ensures { form_asked result ≡ form_of (verb.now ∷ list.now ∷ script.now ∷ node.now ∷ []) }
+// The summary that is asked for by words for the slots and for the number to draw by.
+fn sample_command<'a>(list: &'a str, slots: &str, number: &str) -> Command<'a>
+    ensures form { form_asked result ≡ sample_of list.now (slots_named slots.now) (draw_named number.now) }
+    ensures slots { HasSlots result }
 {
-    match node_named(node.as_bytes()) {
-        Some(node) if verb == "precision" => Command::Precision { list, script, node },
+    match (slots_named(slots.as_bytes()), draw_named(number.as_bytes())) {
+        (Some(slots), Some(number)) => Command::Sample {
+            list,
+            slots,
+            number,
+        },
+        _ => Command::NoForm,
+    }
+}
+
+// The command of four words.
+fn long_command<'a>(verb: &str, list: &'a str, third: &'a str, fourth: &str) -> Command<'a>
+    ensures form { form_asked result ≡ form_of (verb.now ∷ list.now ∷ third.now ∷ fourth.now ∷ []) }
+    ensures slots { HasSlots result }
+{
+    match verb {
+        "precision" => match node_named(fourth.as_bytes()) {
+            Some(node) => Command::Precision {
+                list,
+                script: third,
+                node,
+            },
+            None => Command::NoForm,
+        },
+        "sample" => sample_command(list, third, fourth),
         _ => Command::NoForm,
     }
 }
 
 /// The command that words spell.
 pub(crate) fn command_of(words: &[String]) -> Command<'_>
-    ensures { form_asked result ≡ form_of (texts_of words.now) }
+    ensures form { form_asked result ≡ form_of (texts_of words.now) }
+    ensures slots { HasSlots result }
 {
     match words {
         [verb, list] => list_command(verb.as_str(), list.as_str()),
         [verb, list, script] => script_command(verb.as_str(), list.as_str(), script.as_str()),
-        [verb, list, script, node] => {
-            node_command(verb.as_str(), list.as_str(), script.as_str(), node.as_str())
+        [verb, list, third, fourth] => {
+            long_command(
+                verb.as_str(),
+                list.as_str(),
+                third.as_str(),
+                fourth.as_str(),
+            )
         }
         _ => Command::NoForm,
     }

@@ -22,9 +22,10 @@ use Rattle.ttp_world.proofs.LegalShapes.{legal-older}
 use Rattle.ttp_world.proofs.Worlds.{length-world}
 use Rattle.precision.specs.Together.{TellsOf}
 use Rattle.fault_plan.specs.Plan.{Plan, sender}
-use Rattle.fault_plan.specs.Fates.{Fate, Absent, Sound, Falling, Fallen, fate_of, is_sound, is_lost, is_sound_after}
-use Rattle.fault_plan.specs.Fates.{is_good_slot}
+use Rattle.fault_plan.specs.Fates.{Fate, Absent, Sound, Falling, Fallen, Listening, fate_of, is_sound, is_lost}
+use Rattle.fault_plan.specs.Fates.{is_sound_after, is_good_slot}
 use Rattle.fault_plan.specs.Ledger.{planned_members}
+use Rattle.fault_plan.proofs.Returns.{never-listens}
 use Rattle.safety_laws.specs.Groups.{held_with}
 use Rattle.safety_clocks.specs.NotedByPlan.{NotesNothing, NotedInSlot}
 use Rattle.safety_steps.specs.ByFate.{IsSoundAt, IsByFate}
@@ -88,15 +89,15 @@ module _ (list : Medl) (script : Script) (z slot : ℕ) (valid : IsValid list) (
 
   never-lost : (turn k : ℕ) (fate : Fate) → fate_of plan turn k ≡ fate → is_lost fate ≡ true → ⊥
   never-lost turn k fate is =
-      never-falling (has_node plan.begin k) fate (sym (fate-always plan turn k refl) ∙ is)
+      never-falling (has_node plan.begin k) fate (sym (fate-always plan turn k refl refl) ∙ is)
 
   keeps : KeepsClocks list script start plan
   keeps turn numbers noted within = record {
-    within = λ r p node sends sound steady.
+    within = λ r p node sends sound steady none stays.
         faced-window list script start z plan facing turn (world list script numbers) noted within r p (node, sound)
         (sends, steady);
-    frame = λ r p since node sends sound jumped. absurd (never-lost (suc turn) p _ jumped refl);
-    others = λ r p since node sends jumped sound. absurd (never-lost (suc turn) r _ jumped refl);
+    frame = λ r p since node sends sound none jumped. absurd (never-lost (suc turn) p _ jumped refl);
+    others = λ r p since node sends jumped sound none. absurd (never-lost (suc turn) r _ jumped refl);
   }
 
   run-at : (numbers : Numbers) (turn : ℕ) → IsLegal list script numbers → length numbers ≡ suc (start.slot + turn)
@@ -122,6 +123,7 @@ module _ (list : Medl) (script : Script) (z slot : ℕ) (valid : IsValid list) (
       by Absent is off = absurd (both_ways (is_sending (entry_of row p)) (off-silent (entry_of row p) off) sent)
       by (Falling change since) is at = absurd (never-lost turn p _ is refl)
       by (Fallen change since shown) is at = absurd (never-lost turn p _ is refl)
+      by (Listening since) is at = absurd (never-listens plan turn p since refl is)
 
   judged-slot : (turn : ℕ) (row : List Entry) (history : History) → length history ≡ start.slot + suc turn
       → IsByPlan list script start plan (suc turn) (row ∷ history) → AreJudgedCorrect list script row history
@@ -142,11 +144,11 @@ module _ (list : Medl) (script : Script) (z slot : ℕ) (valid : IsValid list) (
       by true good = elim (cases_eq p (sender plan (suc turn))) [
         | inl own ↦
             subst (λ j. TellsOf list script history j r (entry_of row r)) (sym own)
-            (noted.good r good (hears, receiver_sound))
+            (noted.good r good (hears, receiver_sound) refl)
         | inr apart ↦
             absurd (both_ways (is_sending (entry_of row p))
             (hearing-entry list script history (sender plan (suc turn)) p (entry_of row p) apart
-            (noted.good p good (sends, sender_sound))) sent)
+            (noted.good p good (sends, sender_sound) refl)) sent)
       ]
       by false wrong =
           absurd (both_ways (is_sending (entry_of row p))

@@ -24,6 +24,7 @@ use Rattle.fault_plan.specs.GoodPlan.{IsGoodPlan}
 use Rattle.fault_plan.specs.Kept.{FollowsPlan, IsHeardByPlan}
 use Rattle.fault_plan.proofs.Bounds.{both-hold, wide, le_of_test}
 use Rattle.fault_plan.proofs.KeptPlan.{on-always, due-ever}
+use Rattle.fault_plan.proofs.Returns.{none-among, never-listens}
 use Rattle.fault_plan.proofs.Sieves.{none-found}
 use Rattle.fault_plan.proofs.Tests.{and-true}
 use Rattle.safety_steps.specs.Run.{IsBegun}
@@ -61,14 +62,15 @@ module _ (list : Medl) (script : Script) (z slot : ℕ) (valid : IsValid list) (
     alone = alone-start list script start rules.started
 
     sound : (turn k : ℕ) → is_sound_after plan turn k ≡ has_node plan.begin k
-    sound turn k = sound-always plan turn k refl
+    sound turn k = sound-always plan turn k refl refl
 
     steady-same : (turn : ℕ) → filter (is_steady list script []) (below (length list.slots)) ≡ steady_nodes plan turn
     steady-same turn =
         same_sieve (is_steady list script []) (is_steady_after plan turn) (length list.slots) (λ k less.
         let measured = sym (has_node-sieve (λ k. (plan_at list k).sync) (length list.slots) k less) in
         let begins = sym (has_node-sieve (is_ever_on script) (length list.slots) k less) ∙ sym (sound turn k) in
-        λ i. measured i && (sym (and-true (is_ever_on script k)) ∙ begins) i)
+        λ i. measured i
+            && (sym (and-true (is_ever_on script k)) ∙ begins ∙ and-true (is_sound_after plan turn k)) i)
 
     good : IsGoodPlan plan
     good = record {
@@ -82,6 +84,7 @@ module _ (list : Medl) (script : Script) (z slot : ℕ) (valid : IsValid list) (
       late = λ slot incident found. absurd (none-some incident found);
       apart = λ slot later first second found next less. absurd (none-some first found);
       losses = λ turn incident found. absurd (none-some incident found);
+      returns = λ r among. absurd (none-among plan r refl among);
       steady = λ turn less.
           subst (λ ks. 4 ≤ length ks) (steady-same turn) (leb-true 4 _ rules.steady);
     }
@@ -89,6 +92,7 @@ module _ (list : Medl) (script : Script) (z slot : ℕ) (valid : IsValid list) (
     hearing : (turn : ℕ) → IsHeardByPlan script start plan turn
     hearing turn = record {
       heard = λ r node other good sound. quiet.heard (sender plan turn) r (start.slot + turn);
+      listens = λ r since node good fate. absurd (never-listens plan turn r since refl fate);
       unheard = λ r incident node found. absurd (none-some incident found);
       deaf = λ incident found. absurd (none-some incident found);
       still = λ k node sound. quiet.jumps k (start.slot + turn);
@@ -110,7 +114,8 @@ module _ (list : Medl) (script : Script) (z slot : ℕ) (valid : IsValid list) (
       measured = λ k node. has_node-sieve (λ k. (plan_at list k).sync) (length list.slots) k node;
       on = on;
       hearing = λ turn within. hearing turn;
-      clocks = λ turn earlier k node within before sound. quiet.still k (start.slot + earlier);
+      returns = λ r among. absurd (none-among plan r refl among);
+      clocks = λ turn k node within sound. quiet.still k (start.slot + turn);
     }
 
     -- a node that is on in a slot from the start on is sound after it
@@ -126,7 +131,7 @@ module _ (list : Medl) (script : Script) (z slot : ℕ) (valid : IsValid list) (
         follows = follows;
         arms = λ k turn node lost.
             absurd (both_ways (is_lost (fate_of plan turn k))
-            (ap is_lost (fate-always plan turn k refl) ∙ never-lost (has_node plan.begin k)) lost);
+            (ap is_lost (fate-always plan turn k refl refl) ∙ never-lost (has_node plan.begin k)) lost);
       };
       alone = alone;
       heard = λ k node other on. quiet.heard start.node k start.slot;

@@ -1,4 +1,5 @@
--- A call keeps a cluster exactly after status 0 of `run`, and only `run` leaves lines where memory is refused.
+-- A call keeps a cluster exactly after status 0 of `run` and of `sample`, and only `run` leaves lines where memory is
+-- refused.
 use Rattle.std.proofs.Common.{◌≡◌, ◌≢◌, Bool, true, false, ◌&&◌, Option, Some, None, refl, ap, sym, ◌∙◌}
 use Rattle.std.specs.Prelude.{◌==◌, is_some, IsSomeAnd}
 use Rattle.std.proofs.lemmas.Bool.{ne_eqb}
@@ -7,49 +8,54 @@ use Rattle.cluster_run.specs.Standing.{ClusterView}
 use Rattle.ttp_top.specs.declared.read.FileFault.{FileFault}
 use Rattle.ttp_top.specs.Calls.Answer.{Answer, IsKeptBeside}
 use Rattle.ttp_top.specs.Calls.Files.{refused_list, refused_script}
-use Rattle.ttp_top.specs.Calls.Forms.{table_ending, trace_ending, keep_ending, precision_ending, plan_of}
+use Rattle.ttp_top.specs.Calls.Forms.{table_ending, trace_ending, keep_ending, precision_ending, sample_ending}
+use Rattle.ttp_top.specs.Calls.Forms.{plan_of}
 use Rattle.ttp_top.specs.Calls.Plan.{Ending, ends}
 use Rattle.ttp_top.specs.Calls.Texts.{nothing}
-use Rattle.ttp_top.specs.Calls.Words.{Form, schedule, run, keeps, precision, is_run}
+use Rattle.ttp_top.specs.Calls.Words.{Form, schedule, run, keeps, precision, sample, is_run, runs_cluster}
 use Rattle.ttp_top.specs.Files.Read.{list_from}
 use Rattle.ttp_top.proofs.Calls.Plans.{AllEnd, list_ends, both_end}
 
--- what is kept beside a text of an ending tells whether it ends a run
-abbrev pub KeepsRuns : Option Form → Ending → Type 0
-KeepsRuns form ending =
+-- what is kept beside a text of an ending tells whether a cluster ran
+abbrev pub KeepsClusters : Option Form → Ending → Type 0
+KeepsClusters form ending =
     (lines : Lines) (kept : Option ClusterView) → IsKeptBeside ending.texts lines kept
-    → is_some kept ≡ (is_run form && (ending.status == 0))
+    → is_some kept ≡ (runs_cluster form && (ending.status == 0))
 
 is_some-and : {X : Type 0} (P : X → Type 0) (x : Option X) → IsSomeAnd x P → is_some x ≡ true
 is_some-and P None is = absurd is
 is_some-and P (Some x) is = refl
 
-list_none : (form : Option Form) (fault : FileFault) → (is_run form && false) ≡ false
-    → KeepsRuns form (refused_list fault)
+list_none : (form : Option Form) (fault : FileFault) → (runs_cluster form && false) ≡ false
+    → KeepsClusters form (refused_list fault)
 list_none form fault never = λ lines kept none. ap is_some none ∙ sym never
 
-script_none : (form : Option Form) (fault : FileFault) → (is_run form && false) ≡ false
-    → KeepsRuns form (refused_script fault)
+script_none : (form : Option Form) (fault : FileFault) → (runs_cluster form && false) ≡ false
+    → KeepsClusters form (refused_script fault)
 script_none form fault never = λ lines kept none. ap is_some none ∙ sym never
 
-pub plans_keep : (form : Option Form) → AllEnd (KeepsRuns form) (plan_of form)
+pub plans_keep : (form : Option Form) → AllEnd (KeepsClusters form) (plan_of form)
 plans_keep None = λ lines kept none. ap is_some none
 plans_keep (Some (schedule list)) = λ bytes.
-    list_ends (KeepsRuns (Some (schedule list))) (λ fault. list_none (Some (schedule list)) fault refl)
+    list_ends (KeepsClusters (Some (schedule list))) (λ fault. list_none (Some (schedule list)) fault refl)
     (λ medl. ends (table_ending medl)) (λ medl lines kept none. ap is_some none) (list_from bytes)
 plans_keep (Some (run list script)) =
-    both_end (KeepsRuns (Some (run list script))) (λ fault. list_none (Some (run list script)) fault refl)
+    both_end (KeepsClusters (Some (run list script))) (λ fault. list_none (Some (run list script)) fault refl)
     (λ fault. script_none (Some (run list script)) fault refl) list script trace_ending
     (λ medl right lines kept is. is_some-and _ kept is)
 plans_keep (Some (keeps list script)) =
-    both_end (KeepsRuns (Some (keeps list script))) (λ fault. list_none (Some (keeps list script)) fault refl)
+    both_end (KeepsClusters (Some (keeps list script))) (λ fault. list_none (Some (keeps list script)) fault refl)
     (λ fault. script_none (Some (keeps list script)) fault refl) list script keep_ending
     (λ medl right lines kept none. ap is_some none)
 plans_keep (Some (precision list script node)) =
-    both_end (KeepsRuns (Some (precision list script node)))
+    both_end (KeepsClusters (Some (precision list script node)))
     (λ fault. list_none (Some (precision list script node)) fault refl)
     (λ fault. script_none (Some (precision list script node)) fault refl) list script (precision_ending node)
     (λ medl right lines kept none. ap is_some none)
+plans_keep (Some (sample list slots number)) = λ bytes.
+    list_ends (KeepsClusters (Some (sample list slots number)))
+    (λ fault. list_none (Some (sample list slots number)) fault refl) (λ medl. ends (sample_ending slots number medl))
+    (λ medl lines kept is. is_some-and _ kept is) (list_from bytes)
 
 and_false : (b : Bool) → (b && false) ≡ false
 and_false true = refl
@@ -57,9 +63,10 @@ and_false false = refl
 
 -- where no cluster is kept, the status is not 0
 pub none_kept : (form : Option Form) (answer : Answer) → answer.kept ≡ None → answer.status ≢ 0
-    → is_some answer.kept ≡ (is_run form && (answer.status == 0))
+    → is_some answer.kept ≡ (runs_cluster form && (answer.status == 0))
 none_kept form answer none not_0 =
-    ap is_some none ∙ sym (ap (λ b. is_run form && b) (ne_eqb answer.status 0 not_0) ∙ and_false (is_run form))
+    ap is_some none
+    ∙ sym (ap (λ b. runs_cluster form && b) (ne_eqb answer.status 0 not_0) ∙ and_false (runs_cluster form))
 
 -- but for `run`, an ending lets nothing stand where memory is refused
 abbrev pub LetsNothing : Option Form → Ending → Type 0
@@ -79,3 +86,6 @@ plans_let (Some (keeps list script)) =
 plans_let (Some (precision list script node)) =
     both_end (LetsNothing (Some (precision list script node))) (λ fault other. refl) (λ fault other. refl) list script
     (precision_ending node) (λ medl right other. refl)
+plans_let (Some (sample list slots number)) = λ bytes.
+    list_ends (LetsNothing (Some (sample list slots number))) (λ fault other. refl)
+    (λ medl. ends (sample_ending slots number medl)) (λ medl other. refl) (list_from bytes)

@@ -11,15 +11,17 @@ use Rattle.medl_text.specs.Schedule.{slot_table}
 use Rattle.medl_text.proofs.Lines.{slot_table-each}
 use Rattle.ttp_top.specs.declared.read.FileFault.{FileFault}
 use Rattle.ttp_top.specs.Calls.Files.{refused_list, after_list, refused_script, after_script, script_plan, both_plan}
-use Rattle.ttp_top.specs.Calls.Forms.{usage_line, table_ending, trace_ending, keep_ending, precision_ending, plan_of}
+use Rattle.ttp_top.specs.Calls.Forms.{usage_line, table_ending, trace_ending, keep_ending, precision_ending}
+use Rattle.ttp_top.specs.Calls.Forms.{sample_ending, plan_of}
 use Rattle.ttp_top.specs.Calls.Plan.{Ending, File, Plan, line_ending, ends}
 use Rattle.ttp_top.specs.Calls.Texts.{Texts, one, fronts, IsAmong, AreLines}
-use Rattle.ttp_top.specs.Calls.Words.{Form, schedule, run, keeps, precision}
+use Rattle.ttp_top.specs.Calls.Words.{Form, schedule, run, keeps, precision, sample}
 use Rattle.ttp_top.specs.Files.Lines.{fault_line}
 use Rattle.ttp_top.specs.Files.Read.{list_from, script_from}
 use Rattle.ttp_top.proofs.Calls.Plans.{AllEnd, list_ends, both_end, EachFile}
 use Rattle.ttp_top.proofs.Calls.Precision.{precisions-each}
 use Rattle.ttp_top.proofs.Files.Lines.{fault_line-is_line}
+use Rattle.ttp_top.proofs.Samples.Lines.{samples-each}
 
 -- each of some texts is made of lines
 abbrev pub AreOfLines : Texts → Type 0
@@ -72,6 +74,9 @@ plans_have (Some (keeps list script)) =
 plans_have (Some (precision list script node)) =
     both_end HasLines no_list no_script list script (precision_ending node)
     (λ medl right. record { texts = precisions-each medl right node; unfinished = one_text [] tt })
+plans_have (Some (sample list slots number)) = λ bytes.
+    list_ends HasLines no_list (λ medl. ends (sample_ending slots number medl))
+    (λ medl. record { texts = samples-each medl slots number; unfinished = one_text [] tt }) (list_from bytes)
 
 -- and so is what is said of a file that could not be loaded
 abbrev pub SaysLine : File → Type 0
@@ -103,3 +108,5 @@ plans_say (Some (schedule list)) =
 plans_say (Some (run list script)) = both_files list script trace_ending
 plans_say (Some (keeps list script)) = both_files list script keep_ending
 plans_say (Some (precision list script node)) = both_files list script (precision_ending node)
+plans_say (Some (sample list slots number)) =
+    (refl, λ bytes. list_files (λ medl. ends (sample_ending slots number medl)) (λ medl. tt) (list_from bytes))

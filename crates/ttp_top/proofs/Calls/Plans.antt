@@ -6,10 +6,11 @@ use Rattle.ttp_world.specs.declared.medl.Medl.{Medl}
 use Rattle.ttp_world.specs.declared.script.Script.{Script}
 use Rattle.ttp_top.specs.declared.read.FileFault.{FileFault}
 use Rattle.ttp_top.specs.Calls.Files.{refused_list, refused_script, after_list, after_script, script_plan, both_plan}
-use Rattle.ttp_top.specs.Calls.Forms.{table_ending, trace_ending, keep_ending, precision_ending, plan_of}
+use Rattle.ttp_top.specs.Calls.Forms.{table_ending, trace_ending, keep_ending, precision_ending, sample_ending}
+use Rattle.ttp_top.specs.Calls.Forms.{plan_of}
 use Rattle.ttp_top.specs.Calls.Plan.{Ending, File, Plan, ends, asks, Comes, AsksFirst, told_ending}
 use Rattle.ttp_top.specs.Calls.Promise.{EachName}
-use Rattle.ttp_top.specs.Calls.Words.{Form, schedule, run, keeps, precision}
+use Rattle.ttp_top.specs.Calls.Words.{Form, schedule, run, keeps, precision, sample}
 use Rattle.ttp_top.specs.Files.Read.{list_from, script_from}
 
 -- each ending of a plan is of a kind
@@ -72,6 +73,9 @@ forms_end (keeps list script) =
 forms_end (precision list script node) =
     both_end IsOfForm list_refused script_refused list script (precision_ending node)
     (λ medl right. (omega arith, λ two. omega arith))
+forms_end (sample list slots number) = λ bytes.
+    list_ends IsOfForm list_refused (λ medl. ends (sample_ending slots number medl))
+    (λ medl. (omega arith, λ two. omega arith)) (list_from bytes)
 
 weaker : (plan : Plan) → AllEnd IsOfForm plan → AllEnd IsFinal plan
 weaker (ends ending) all = all.0

@@ -11,7 +11,7 @@ use Rattle.ttp_top.specs.Calls.Plan.{Comes, AsksFirst, told_ending}
 use Rattle.ttp_top.specs.Calls.Texts.{Texts, nothing, WroteAmong, CutAmong, AreLines, GaveLines}
 use Rattle.ttp_top.specs.Calls.Promise.{Reached, Unloaded, IsDue, IsUnfinished, EachName, NoneAskedRose, Promise}
 use Rattle.ttp_top.specs.Calls.Forms.{plan_of}
-use Rattle.ttp_top.specs.Calls.Words.{Form, is_run}
+use Rattle.ttp_top.specs.Calls.Words.{Form, is_run, runs_cluster}
 use Rattle.ttp_top.proofs.Calls.Kept.{plans_keep, none_kept, plans_let}
 use Rattle.ttp_top.proofs.Calls.Lines.{HasLines, line_has, plans_have, SaysLine, plans_say, lines_front}
 use Rattle.ttp_top.proofs.Calls.Plans.{AllEnd, all_come, file_comes, IsOfForm, IsFinal, forms_end, plans_end}
@@ -332,15 +332,15 @@ empty_at_7 form before now loads (inr some) other =
     wrote_nothing before.output now.output
     (subst (λ (texts : Texts). WroteAmong texts before.output now.output) (lets other) some.2)
 
--- a cluster is kept exactly after status 0 of `run`
+-- a cluster is kept exactly after status 0 of `run` and of `sample`
 kept_then : (form : Option Form) (before now : Outside) (loads : List Load) (answer : Answer)
     → CallWays (plan_of form) before now loads answer
-    → is_some answer.kept ≡ (is_run form && (answer.status == 0))
+    → is_some answer.kept ≡ (runs_cluster form && (answer.status == 0))
 kept_then form before now loads answer (inl a) =
     let showed = a.1.2 in
     let keep = all_come _ before.files.held (plan_of form) loads a.1.0 (plans_keep form) a.1.1.comes in
     keep showed.text.lines answer.kept showed.kept
-    ∙ ap (λ (n : ℕ). is_run form && (n == 0)) (sym showed.status)
+    ∙ ap (λ (n : ℕ). runs_cluster form && (n == 0)) (sym showed.status)
 kept_then form before now loads answer (inr (inl b)) =
     none_kept form answer (unloaded_keeps form before now loads b.1.0 answer b.1.1 b.1.2)
     (λ zero. omega (arith, zero, b.0))

@@ -24,7 +24,7 @@ use Rattle.ttp_top.specs.Calls.Forms.{trace_ending, plan_of}
 use Rattle.ttp_top.specs.Calls.Outcome.{Showed}
 use Rattle.ttp_top.specs.Calls.Plan.{Outside, Ending, Plan, ends, load_of, Comes, AsksFirst, told_ending}
 use Rattle.ttp_top.specs.Calls.Promise.{IsDue, IsUnfinished, EachName, NoneAskedRose, Promise}
-use Rattle.ttp_top.specs.Calls.Texts.{traces, fronts, IsTrace, WroteAmong, CutAmong}
+use Rattle.ttp_top.specs.Calls.Texts.{fronts, IsTrace, WroteAmong, CutAmong}
 use Rattle.ttp_top.specs.Calls.Words.{run}
 use Rattle.ttp_top.specs.Files.Read.{list_limit, list_read, list_from, script_limit, script_read, script_from}
 use Rattle.ttp_top.specs.Scripts.Promise.{MayBe, AreRight, IsSafeSince, WroteTraceOf, WroteTrace, AreTold, RunPromise}

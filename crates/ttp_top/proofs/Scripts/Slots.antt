@@ -34,7 +34,7 @@ pub record HasStepped (old new : ClusterView) : Type 0 where
   pub bytes : AreBytesBefore new.list new.script new.done
 
 -- what is so of list and script before the slot is so after it
-after : {old new : ClusterView} (P : Medl → Script → Type 0) → HasStepped old new → P old.list old.script
+pub after : {old new : ClusterView} (P : Medl → Script → Type 0) → HasStepped old new → P old.list old.script
     → P new.list new.script
 after {old} {new} P s before =
     subst (λ (script : Script). P new.list script) (sym s.script)

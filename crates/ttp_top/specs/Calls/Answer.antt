@@ -3,10 +3,12 @@ use Rattle.std.specs.Prelude.{◌≡◌, ℕ, Option, None, IsSomeAnd}
 use Rattle.ttp_base.specs.Text.{Lines}
 use Rattle.ttp_world.specs.declared.medl.Medl.{Medl}
 use Rattle.ttp_world.specs.declared.script.Script.{Script}
+use Rattle.ttp_world.specs.Legal.{IsLegalRun}
 use Rattle.ttp_world.specs.TraceNumbers.{numbers_in}
 use Rattle.ttp_world.specs.World.{Numbers}
+use Rattle.script_gen.specs.Generator.{generated}
 use Rattle.cluster_run.specs.Standing.{ClusterView, ClusterStandsFor}
-use Rattle.ttp_top.specs.Calls.Texts.{Texts, one, traces, fronts, precisions}
+use Rattle.ttp_top.specs.Calls.Texts.{Texts, one, traces, fronts, precisions, samples}
 
 pub record Answer : Type 0 where
   pub status : ℕ
@@ -26,11 +28,20 @@ pub record HasRun (list : Medl) (script : Script) (numbers : Numbers) (c : Clust
   pub done : c.done ≡ script.slots
   pub stands : ClusterStandsFor c numbers
 
--- what is kept beside a text that is written whole: beside a trace the cluster that ran, which stands for the message
--- numbers that the trace names, and no cluster beside any other text
+-- one that stands for legal ones
+pub record HasRunLegally (list : Medl) (script : Script) (c : ClusterView) : Type 0 where
+  pub numbers : Numbers
+  pub legal : IsLegalRun list script numbers
+  pub run : HasRun list script numbers c
+
+-- What is kept beside a text that is written whole: beside a trace the cluster that ran, which stands for the message
+-- numbers that the trace names; beside the lines on a generated run the cluster that ran, which stands for legal ones;
+-- and no cluster beside any other text.
 abbrev pub IsKeptBeside : Texts → Lines → Option ClusterView → Type 0
 IsKeptBeside (one text) lines kept = kept ≡ None
 IsKeptBeside (traces list script) lines kept =
     IsSomeAnd kept (λ c. HasRun list script (numbers_in list script lines) c)
 IsKeptBeside (fronts list script) lines kept = kept ≡ None
 IsKeptBeside (precisions list script node) lines kept = kept ≡ None
+IsKeptBeside (samples list slots number) lines kept =
+    IsSomeAnd kept (λ c. HasRunLegally list (generated list slots number) c)

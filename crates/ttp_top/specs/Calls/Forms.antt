@@ -6,8 +6,8 @@ use Rattle.ttp_world.specs.Trace.{test_lines}
 use Rattle.medl_text.specs.Schedule.{slot_table}
 use Rattle.ttp_top.specs.Calls.Files.{list_plan, both_plan}
 use Rattle.ttp_top.specs.Calls.Plan.{Ending, Plan, whole_ending, line_ending, ends}
-use Rattle.ttp_top.specs.Calls.Texts.{one, traces, fronts, precisions}
-use Rattle.ttp_top.specs.Calls.Words.{Form, schedule, run, keeps, precision}
+use Rattle.ttp_top.specs.Calls.Texts.{one, traces, fronts, precisions, samples}
+use Rattle.ttp_top.specs.Calls.Words.{Form, schedule, run, keeps, precision, sample}
 
 abbrev pub usage_line : List ℕ
 usage_line =
@@ -34,6 +34,10 @@ keep_ending list script = whole_ending 0 (one (test_lines list script))
 abbrev pub precision_ending : ℕ → Medl → Script → Ending
 precision_ending node list script = whole_ending 0 (precisions list script node)
 
+-- the lines on a generated run
+abbrev pub sample_ending : ℕ → ℕ → Medl → Ending
+sample_ending slots number list = whole_ending 0 (samples list slots number)
+
 -- the plan of a form, and of words that have none
 abbrev pub plan_of : Option Form → Plan
 plan_of None = ends usage_ending
@@ -42,3 +46,4 @@ plan_of (Some (run list script)) = both_plan list script (λ medl right. ends (t
 plan_of (Some (keeps list script)) = both_plan list script (λ medl right. ends (keep_ending medl right))
 plan_of (Some (precision list script node)) =
     both_plan list script (λ medl right. ends (precision_ending node medl right))
+plan_of (Some (sample list slots number)) = list_plan list (λ medl. ends (sample_ending slots number medl))

@@ -8,7 +8,7 @@ use Rattle.ttp_top.specs.Calls.Outcome.{Showed}
 use Rattle.ttp_top.specs.Calls.Plan.{Outside, Ending, File, Plan, ends, asks, load_of, unloaded, Comes, AsksFirst}
 use Rattle.ttp_top.specs.Calls.Plan.{told_ending}
 use Rattle.ttp_top.specs.Calls.Texts.{WroteAmong, CutAmong, GaveLines}
-use Rattle.ttp_top.specs.Calls.Words.{Form, is_run}
+use Rattle.ttp_top.specs.Calls.Words.{Form, is_run, runs_cluster}
 
 -- an ending is due after these loads: each gave its bytes, and no count rose
 pub record Reached (plan : Plan) (before now : Outside) (loads : List Load) (ending : Ending) : Type 0 where
@@ -75,8 +75,8 @@ pub record Promise (form : Option Form) (before now : Outside) (answer : Answer)
   -- Words of no form take no memory, and only they are answered by the usage line.
   pub usage : answer.status ≡ 2 → form ≡ None
   pub no_form : form ≡ None → answer.status ≢ 7
-  -- A cluster is kept exactly after status 0 of `run`.
-  pub kept : is_some answer.kept ≡ (is_run form && (answer.status == 0))
+  -- A cluster is kept exactly after status 0 of `run` and of `sample`.
+  pub kept : is_some answer.kept ≡ (runs_cluster form && (answer.status == 0))
   -- Each piece that was given whole is one line.
   pub pieces : GaveLines before.output now.output
   -- No count falls, and the library holds what it held.

@@ -10,7 +10,9 @@ use Rattle.ttp_world.specs.Medl.{IsValid}
 use Rattle.ttp_world.specs.Script.{IsValidScript}
 use Rattle.ttp_world.specs.Trace.{trace_lines}
 use Rattle.ttp_world.specs.World.{Numbers}
+use Rattle.script_gen.specs.Generator.{generated}
 use Rattle.ttp_top.specs.Calls.Precision.{precision_line}
+use Rattle.ttp_top.specs.Samples.Lines.{sample_lines}
 
 -- A set of texts.
 pub data Texts : Type 0 where
@@ -22,6 +24,8 @@ pub data Texts : Type 0 where
   fronts : (list : Medl) (script : Script) → Texts
   -- the one line on a node that may be two-faced, which is the same for each legal choice
   precisions : (list : Medl) (script : Script) (node : ℕ) → Texts
+  -- the four lines on a generated run, which are the same for each legal choice
+  samples : (list : Medl) (slots number : ℕ) → Texts
 
 -- no lines
 abbrev pub nothing : Texts
@@ -47,11 +51,17 @@ abbrev pub IsPrecision : Medl → Script → ℕ → Lines → Type 0
 IsPrecision list script node lines =
     (numbers : Numbers) → IsLegalRun list script numbers → lines ≡ precision_line list script node numbers ∷ []
 
+abbrev pub IsSample : Medl → ℕ → ℕ → Lines → Type 0
+IsSample list slots number lines =
+    (numbers : Numbers) → IsLegalRun list (generated list slots number) numbers
+    → lines ≡ sample_lines list slots number numbers
+
 abbrev pub IsAmong : Texts → Lines → Type 0
 IsAmong (one text) lines = lines ≡ text
 IsAmong (traces list script) lines = IsTrace list script lines
 IsAmong (fronts list script) lines = (lines ≡ []) ⊎ IsFront list script lines
 IsAmong (precisions list script node) lines = IsPrecision list script node lines
+IsAmong (samples list slots number) lines = IsSample list slots number lines
 
 -- one of these texts was written, each of its lines as one piece
 pub record WroteAmong (texts : Texts) (before now : Output) : Type 0 where

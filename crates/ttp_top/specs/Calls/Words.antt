@@ -1,9 +1,11 @@
 -- The forms of a call's words.
-use Rattle.std.specs.Prelude.{List, [], ◌∷◌, ℕ, nat_le, nat_lt, length, map, codes, String, string_bytes}
-use Rattle.std.specs.Prelude.{Bool, true, false, Option, Some, None, option_map, option_and_then, if◌then◌else◌}
+use Rattle.std.specs.Prelude.{List, [], ◌∷◌, ℕ, ◌^◌, ◌≤◌, nat_le, nat_lt, length, map, codes, String, string_bytes}
+use Rattle.std.specs.Prelude.{Bool, true, false, ◌&&◌, Option, Some, None, option_map, option_and_then}
+use Rattle.std.specs.Prelude.{if◌then◌else◌}
 use Rattle.std.specs.Str.{bytes_eq}
 use Rattle.std.specs.declared.alloc.Global.{Global}
 use Rattle.ttp_base.specs.NodeSet.{most_nodes}
+use Rattle.ttp_world.specs.declared.script.TheConstants.{SLOT_LIMIT}
 use Rattle.ttp_world.specs.TraceNumbers.{number_named}
 use Rattle.ttp_top.specs.declared.words.Command.{Command}
 use Rattle.ttp_top.specs.declared.words.Command.TheVariants as commands
@@ -18,23 +20,50 @@ pub data Form : Type 0 where
   keeps : (list script : List ℕ) → Form
   -- the line of the test for one two-faced sender, this node, for the script and the list of these names
   precision : (list script : List ℕ) (node : ℕ) → Form
+  -- the summary of a run of the list of this name, of so many slots, by the script that this number gives
+  sample : (list : List ℕ) (slots number : ℕ) → Form
 
 abbrev pub is_run : Option Form → Bool
 is_run (Some (run list script)) = true
 is_run _ = false
+
+-- the forms that run a cluster, which is kept once all is written
+abbrev pub runs_cluster : Option Form → Bool
+runs_cluster (Some (run list script)) = true
+runs_cluster (Some (sample list slots number)) = true
+runs_cluster _ = false
 
 -- the words' bytes
 abbrev pub texts_of : List (String Global) → List (List ℕ)
 texts_of words = map string_bytes words
 
 -- a number, where it is below a limit
-abbrev pub node_below : ℕ → ℕ → Option ℕ
-node_below limit k = if nat_lt k limit then Some k else None
+abbrev pub number_below : ℕ → ℕ → Option ℕ
+number_below limit k = if nat_lt k limit then Some k else None
 
 -- the node that a word names: one or two decimal digits, of a number below the most nodes of a list
 abbrev pub node_named : List ℕ → Option ℕ
 node_named word =
-    if nat_le (length word) 2 then option_and_then (node_below most_nodes) (number_named word) else None
+    if nat_le (length word) 2 then option_and_then (number_below most_nodes) (number_named word) else None
+
+-- the number that a word of at most 20 decimal digits names
+abbrev pub numeral_named : List ℕ → Option ℕ
+numeral_named word = if nat_le (length word) 20 then number_named word else None
+
+-- the number of slots that a word names, of those that a script may have
+abbrev pub slots_within : ℕ → Option ℕ
+slots_within slots = if nat_le 1 slots && nat_le slots SLOT_LIMIT then Some slots else None
+
+abbrev pub slots_named : List ℕ → Option ℕ
+slots_named word = option_and_then slots_within (numeral_named word)
+
+-- the number to draw by that a word names, of 64 bits
+abbrev pub draw_named : List ℕ → Option ℕ
+draw_named word = option_and_then (number_below (2 ^ 64)) (numeral_named word)
+
+abbrev pub sample_of : List ℕ → Option ℕ → Option ℕ → Option Form
+sample_of list (Some slots) (Some number) = Some (sample list slots number)
+sample_of list _ _ = None
 
 -- the form that words have, if they have one
 abbrev pub form_of : List (List ℕ) → Option Form
@@ -42,8 +71,9 @@ form_of (verb ∷ list ∷ []) = if bytes_eq verb (codes "schedule") then Some (
 form_of (verb ∷ list ∷ script ∷ []) =
     if bytes_eq verb (codes "run") then Some (run list script)
     else (if bytes_eq verb (codes "keeps") then Some (keeps list script) else None)
-form_of (verb ∷ list ∷ script ∷ node ∷ []) =
-    if bytes_eq verb (codes "precision") then option_map (precision list script) (node_named node) else None
+form_of (verb ∷ list ∷ third ∷ fourth ∷ []) =
+    if bytes_eq verb (codes "precision") then option_map (precision list third) (node_named fourth)
+    else (if bytes_eq verb (codes "sample") then sample_of list (slots_named third) (draw_named fourth) else None)
 form_of _ = None
 
 -- the form that a command of the code stands for
@@ -52,4 +82,10 @@ form_asked (commands.Schedule list) = Some (schedule list.now)
 form_asked (commands.Run list script) = Some (run list.now script.now)
 form_asked (commands.Keeps list script) = Some (keeps list.now script.now)
 form_asked (commands.Precision list script node) = Some (precision list.now script.now node)
+form_asked (commands.Sample list slots number) = Some (sample list.now slots number)
 form_asked commands.NoForm = None
+
+-- a summary is asked of a run with slots, not more than a script may have
+abbrev pub HasSlots : Command → Type 0
+HasSlots (commands.Sample list slots number) = (1 ≤ slots) × (slots ≤ SLOT_LIMIT)
+HasSlots _ = Unit {0}

@@ -1,4 +1,4 @@
-use Rattle.fault_plan.proofs.Counts.{bad-own, bad-first, seen-round, four-sound, four-measured}
+use Rattle.fault_plan.proofs.Counts.{bad-own, bad-first, seen-round, four-lasting, four-measured}
 use Rattle.fault_plan.proofs.Ledgers.{ledger-told}
 use Rattle.fault_plan.proofs.laws.counts_known.Goals as goal
 
@@ -14,8 +14,8 @@ returns-clause-bad_at_first c = bad-first
 pub returns-clause-seen : goal.returns-clause-seen
 returns-clause-seen c = seen-round
 
-pub returns-clause-sound : goal.returns-clause-sound
-returns-clause-sound c = four-sound
+pub returns-clause-lasting : goal.returns-clause-lasting
+returns-clause-lasting c = four-lasting
 
 pub returns-clause-measured : goal.returns-clause-measured
 returns-clause-measured c = four-measured

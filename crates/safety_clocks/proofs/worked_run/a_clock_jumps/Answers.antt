@@ -40,8 +40,9 @@ and-noted : (slot : ℕ) (row : List Entry) (history : History) → OfFive (λ k
 and-noted slot row history sound good tells before = (
   before,
   record {
-    good = λ k is p. each (λ j. TellsOf five_nodes jumping history (sender one_jump (suc slot)) j (entry_of row j))
+    good = λ k is p none. each (λ j. TellsOf five_nodes jumping history (sender one_jump (suc slot)) j (entry_of row j))
         tells k p.0;
+    begins = λ k inside enter. absurd (false≢true enter);
     other = λ k is p. absurd (true≢false (sym good ∙ is));
     jumped = λ k since p is. never k since (each (λ j. fate_of one_jump (suc slot) j ≡ Sound) sound k p) is;
   },
@@ -135,9 +136,10 @@ jump-noted : (history : History)
     → TellsOf five_nodes jumping history 4 2 (entry_of newest_row 2)
     → NotedInSlot five_nodes jumping one_jump 14 newest_row history
 jump-noted history a b c = record {
-  good = λ k is p. each
+  good = λ k is p none. each
       (λ j. is_sound_after one_jump 14 j ≡ true → TellsOf five_nodes jumping history 4 j (entry_of newest_row j))
       (λ sound. a, λ sound. b, λ sound. c, λ sound. absurd (false≢true sound), λ sound. refl) k p.0 p.1;
+  begins = λ k inside enter. absurd (false≢true enter);
   other = λ k is p. absurd (true≢false is);
   jumped = λ k since p is. each
       (λ j. fate_of one_jump 14 j ≡ Falling Jumping since → NotesNothing (entry_of newest_row j))

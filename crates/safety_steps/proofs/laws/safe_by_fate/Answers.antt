@@ -1,18 +1,21 @@
-use Rattle.safety_steps.proofs.Safe.{safe-after, correct-sound, left-after, left-sender, left-lost}
-use Rattle.safety_steps.proofs.Safe.{faulty-leave}
+use Rattle.safety_steps.proofs.Among.{left-after, left-sender, left-lost}
+use Rattle.safety_steps.proofs.Safe.{safe-after, correct-sound, faulty-leave}
 use Rattle.safety_steps.proofs.laws.safe_by_fate.Goals as goal
 
 pub returns-clause-correct : goal.returns-clause-correct
 returns-clause-correct c = correct-sound
 
 pub returns-clause-gone : goal.returns-clause-gone
-returns-clause-gone c = left-after
+returns-clause-gone c = λ list script start plan turn history is.
+    left-after list script start plan turn history is.stands
 
 pub returns-clause-sender : goal.returns-clause-sender
-returns-clause-sender c = left-sender
+returns-clause-sender c = λ list script start plan turn history is.
+    left-sender list script start plan turn history is.stands
 
 pub returns-clause-other : goal.returns-clause-other
-returns-clause-other c = left-lost
+returns-clause-other c = λ list script start plan turn history is.
+    left-lost list script start plan turn history is.stands
 
 pub returns-clause-leave : goal.returns-clause-leave
 returns-clause-leave c = faulty-leave

@@ -1,24 +1,33 @@
 use Rattle.std.proofs.Common.{Some}
 use Rattle.ttp_top.specs.Calls.Answer.{answer}
-use Rattle.ttp_top.specs.Calls.Words.{run}
+use Rattle.ttp_top.specs.Calls.Words.{run, sample}
 use Rattle.ttp_top.proofs.Calls.Promises.{promise}
+use Rattle.ttp_top.proofs.Samples.Promises.{sample_promise}
 use Rattle.ttp_top.proofs.Scripts.Promises.{run_promise}
 use Rattle.ttp_top.proofs.call.bench.Goals as goal
 
 pub returns-clause-promise : goal.returns-clause-promise
 returns-clause-promise g c =
-    promise _ _ _ (answer c.obey.result c.obey.new.kept) (rw c.command_of.ensures at c.obey.ensures.follows)
-    (rw c.command_of.ensures at c.obey.ensures.no_form)
+    promise _ _ _ (answer c.obey.result c.obey.new.kept) (rw c.command_of.ensures.form at c.obey.ensures.follows)
+    (rw c.command_of.ensures.form at c.obey.ensures.no_form)
 
 pub returns-clause-run : goal.returns-clause-run
 returns-clause-run g c = λ list script form.
     let ended = answer c.obey.result c.obey.new.kept in
     run_promise list script _ _ ended
-    (promise (Some (run list script)) _ _ ended (rw (c.command_of.ensures, form) at c.obey.ensures.follows)
-    (rw (c.command_of.ensures, form) at c.obey.ensures.no_form))
+    (promise (Some (run list script)) _ _ ended (rw (c.command_of.ensures.form, form) at c.obey.ensures.follows)
+    (rw (c.command_of.ensures.form, form) at c.obey.ensures.no_form))
+
+pub returns-clause-sample : goal.returns-clause-sample
+returns-clause-sample g c = λ list slots number form.
+    let ended = answer c.obey.result c.obey.new.kept in
+    sample_promise list slots number _ _ ended
+    (promise (Some (sample list slots number)) _ _ ended
+    (rw (c.command_of.ensures.form, form) at c.obey.ensures.follows)
+    (rw (c.command_of.ensures.form, form) at c.obey.ensures.no_form))
 
 pub returns-clause-kept : goal.returns-clause-kept
 returns-clause-kept g c =
     let sentences = promise _ _ _ (answer c.obey.result c.obey.new.kept)
-    (rw c.command_of.ensures at c.obey.ensures.follows) (rw c.command_of.ensures at c.obey.ensures.no_form) in
+    (rw c.command_of.ensures.form at c.obey.ensures.follows) (rw c.command_of.ensures.form at c.obey.ensures.no_form) in
     sentences.kept

@@ -1,0 +1,128 @@
+-- What is known of modes while a trace is read, and what it stands for.
+use Rattle.std.specs.Prelude.{◌≡◌, ℕ, ◌-◌, ◌<◌, Bool, List, [], ◌∷◌, length, drop, get_or, Option, Some, None, IfSome}
+use Rattle.ttp_base.specs.Text.{Lines, lines_of}
+use Rattle.ttp_world.specs.declared.medl.Medl.{Medl}
+use Rattle.ttp_world.specs.declared.node.Chosen.{Chosen}
+use Rattle.ttp_world.specs.declared.node.Delivered.{Delivered}
+use Rattle.ttp_world.specs.declared.node.Entry.{Entry}
+use Rattle.ttp_world.specs.declared.node.Entry.TheVariants as entry
+use Rattle.ttp_world.specs.declared.script.Script.{Script}
+use Rattle.ttp_world.specs.After.{place_after}
+use Rattle.ttp_world.specs.Diary.{History, entry_of, diary_of, place_of}
+use Rattle.ttp_world.specs.Legal.{IsLegalRun}
+use Rattle.ttp_world.specs.Messages.{delivered_of}
+use Rattle.ttp_world.specs.Trace.{trace_head, history_lines, trace_lines}
+use Rattle.ttp_world.specs.World.{Numbers, chosen_of, world}
+use Rattle.slot_clock.specs.StandsFor as clock
+use Rattle.controller.specs.PlantStands.{PlantStandsFor, outcome_at}
+use Rattle.controller.specs.PlantView.{PlantView}
+use Rattle.trace_check.specs.Outgoing.{HoldsNewest}
+use Rattle.mode_change.specs.declared.node.Modes.{Modes}
+use Rattle.mode_change.specs.declared.node.NodeModes.{NodeModes}
+use Rattle.mode_change.specs.declared.run.Run.{Run}
+use Rattle.mode_change.specs.Modes.{mode_asked, mode_delivered, mode_requested, modes_of, live_in}
+
+-- One node.
+
+-- the place of a join is one of the list's
+abbrev pub IsJoinOfList : Medl → Entry → Type 0
+IsJoinOfList list (entry.Joined sender c deviation) = (c.round < list.rounds) × (c.slot < length list.slots)
+IsJoinOfList list _ = Unit {0}
+
+-- what was delivered came from a node of the list
+abbrev pub IsFromList : Medl → Option Delivered → Type 0
+IsFromList list delivered = IfSome delivered (λ d. d.sender < length list.slots)
+
+-- a list has at most eight modes
+abbrev pub AreSmall : Modes → Type 0
+AreSmall modes = IfSome modes.mode (λ m. m < 8) × IfSome modes.next (λ m. m < 8)
+
+-- the mode for which node k was asked, by its entry, the payload that was chosen for its frame, and what it delivered
+abbrev pub mode_by : Medl → ℕ → Entry → List ℕ → Option Delivered → Option ℕ
+mode_by list k (entry.Sent (Some i)) payload delivered = mode_asked list k payload
+mode_by list k _ payload delivered = mode_delivered list delivered
+
+-- whether what node k delivered in the newest slot was live
+abbrev pub newest_live : Medl → Script → History → ℕ → Option Bool
+newest_live list script [] k = None
+newest_live list script (row ∷ before) k = live_in list script row before k
+
+-- all of this is known of node k after a history
+pub record Knows (node : NodeModes) (list : Medl) (script : Script) (history : History) (k : ℕ) : Type 0 where
+  pub clock : clock.StandsFor node.clock list (place_of list k (diary_of history k))
+  pub modes : node.modes ≡ modes_of list script history k
+  pub live : node.live ≡ newest_live list script history k
+  pub small : AreSmall node.modes
+
+-- All nodes.
+
+-- so it is of each node of the list
+pub record KnowAll (nodes : List NodeModes) (list : Medl) (script : Script) (history : History) : Type 0 where
+  pub count : length nodes ≡ length list.slots
+  pub each : (k : ℕ) (node : NodeModes) → k < length list.slots → node ≡ get_or nodes k node
+      → Knows node list script history k
+
+-- A plant is past the slot of a row after a history, in which these messages were chosen.
+pub record IsPast (plant : PlantView) (chosen : List Chosen) (list : Medl) (script : Script) (row : List Entry)
+    (history : History) : Type 0 where
+  pub same : plant.list ≡ list
+  pub stands : PlantStandsFor plant script (row ∷ history)
+  pub nodes : length chosen ≡ length list.slots
+  -- what each node was asked for and delivered can be told by what it did
+  pub asked : (k : ℕ) → k < length list.slots
+      → mode_by list k (entry_of row k) (chosen_of chosen k).payload (outcome_at plant k).delivered
+      ≡ mode_requested list script row history k
+  pub delivered : (k : ℕ) → k < length list.slots
+      → (outcome_at plant k).delivered ≡ delivered_of list script history row k
+  pub from : (k : ℕ) → k < length list.slots → IsFromList list (outcome_at plant k).delivered
+  -- and so can its place
+  pub join : (k : ℕ) → k < length list.slots → IsJoinOfList list (entry_of row k)
+  pub place : (k : ℕ) → k < length list.slots
+      → place_of list k (diary_of (row ∷ history) k)
+      ≡ place_after list k (place_of list k (diary_of history k)) (entry_of row k)
+
+-- so it is, for some script and history, after which all was known of the nodes
+pub record HasStepped (plant : PlantView) (chosen : List Chosen) (nodes : List NodeModes) (list : Medl) : Type 0 where
+  pub script : Script
+  pub row : List Entry
+  pub history : History
+  pub past : IsPast plant chosen list script row history
+  pub known : KnowAll nodes list script history
+
+-- all is known of the nodes after a slot of this number, for some script and history
+pub record IsKnownAfter (nodes : List NodeModes) (list : Medl) (slot : ℕ) : Type 0 where
+  pub script : Script
+  pub row : List Entry
+  pub history : History
+  pub slots : slot ≡ length history
+  pub known : KnowAll nodes list script (row ∷ history)
+
+-- The run.
+
+-- a run stands for these numbers
+pub record StandsFor (run : Run) (list : Medl) (script : Script) (numbers : Numbers) : Type 0 where
+  pub same : run.plant.list ≡ list
+  pub plant : PlantStandsFor run.plant script (world list script numbers)
+  pub outgoing : HoldsNewest run.outgoing list script (length numbers)
+  pub nodes : KnowAll run.nodes.items list script (world list script numbers)
+
+-- the numbers of the first slots of a run, so many
+abbrev pub first_numbers : Script → Numbers → ℕ → Numbers
+first_numbers script whole slot = drop (script.slots - slot) whole
+
+-- the lines of a trace up to those of the first slots
+abbrev pub first_lines : Medl → Script → Numbers → Lines
+first_lines list script numbers = trace_head list script ∷ history_lines list script (world list script numbers) numbers
+
+-- After so many slots of a run by legal numbers, this is left of a text that is its trace.
+pub record IsAt (run : Run) (list : Medl) (script : Script) (whole : Numbers) (slot : ℕ) (rest : List ℕ)
+    : Type 0 where
+  pub legal : IsLegalRun list script whole
+  pub stands : StandsFor run list script (first_numbers script whole slot)
+  pub left : lines_of rest
+      ≡ drop (length (first_lines list script (first_numbers script whole slot))) (trace_lines list script whole)
+
+-- so it is by some
+pub record IsSomewhere (run : Run) (list : Medl) (script : Script) (slot : ℕ) (rest : List ℕ) : Type 0 where
+  pub whole : Numbers
+  pub at : IsAt run list script whole slot rest

@@ -1,0 +1,145 @@
+-- What is known of a plant that is past a slot, and of the rings as they were before it.
+use Rattle.std.proofs.Common.{◌≡◌, ℕ, ◌+◌, ◌<◌, ◌≤◌, Bool, true, false, cond, List, [], ◌∷◌, ◌++◌, length}
+use Rattle.std.proofs.Common.{Option, Some, None, refl, ap, sym, ◌∙◌, subst, arith, length-append}
+use Rattle.std.specs.Prelude.{◌==◌, is_some}
+use Rattle.std.proofs.lemmas.Bool.{eq-eqb, ne_eqb}
+use Rattle.std.proofs.lemmas.List.{append-nil}
+use Rattle.ttp_world.specs.declared.medl.Medl.{Medl}
+use Rattle.ttp_world.specs.declared.node.Chosen.{Chosen}
+use Rattle.ttp_world.specs.declared.node.Delivered.{Delivered}
+use Rattle.ttp_world.specs.declared.node.Entry.{Entry}
+use Rattle.ttp_world.specs.declared.node.NodeState.{NodeState}
+use Rattle.ttp_world.specs.declared.script.Script.{Script}
+use Rattle.ttp_world.specs.Diary.{History}
+use Rattle.ttp_world.specs.Medl.{IsValid}
+use Rattle.ttp_world.specs.Messages.{delivered_of, in_messages, new_messages, newest_number, status_messages}
+use Rattle.ttp_world.specs.Messages.{status_words}
+use Rattle.ttp_world.specs.Past.{state_of}
+use Rattle.ttp_world.specs.World.{node_past, row_in, slot_after}
+use Rattle.ttp_world.proofs.Carried.{delivered_of-row_in}
+use Rattle.ttp_world.proofs.HostPayloads.{in_messages-some}
+use Rattle.controller.specs.Passes.{IsLeft}
+use Rattle.controller.specs.PlantStands.{ShowsNode, outcome_at}
+use Rattle.controller.specs.PlantView.{PlantView}
+use Rattle.trace_text.specs.LineParts.{HasDigits}
+use Rattle.trace_text.proofs.MemberDigits.{state_of-digits}
+use Rattle.trace_check.specs.declared.incoming.Incoming.{Incoming}
+use Rattle.trace_check.specs.Following.{HasEnded, IsPast, row_after}
+
+-- all histories that a plant stands for have as many slots
+pub ended-slot : (plant : PlantView) (incoming other : Incoming) (list : Medl) (slot : ℕ) (script : Script)
+    (history : History) (chosen : List Chosen)
+    → IsPast plant incoming list slot → HasEnded plant other list script history chosen → slot ≡ length history
+ended-slot plant incoming other list slot script history chosen past ended =
+    omega (arith, past.few, past.ended.step.stands.slot, ended.step.stands.slot)
+
+module _ (plant : PlantView) (incoming : Incoming) (list : Medl) (script : Script) (history : History)
+    (chosen : List Chosen) (ended : HasEnded plant incoming list script history chosen) where
+  pub ended-state : (k : ℕ) (state : NodeState) → ShowsNode plant k state
+      → state ≡ state_of (node_past list script (row_after list script history chosen ∷ history) k)
+  ended-state k state shows =
+      shows script (row_in (slot_after plant.list script history) chosen ∷ history) ended.step.stands
+      ∙ ap (λ (l : Medl). state_of (node_past l script (row_in (slot_after l script history) chosen ∷ history) k))
+      ended.same
+
+  pub ended-digits : (k : ℕ) (state : NodeState) → IsValid list → ShowsNode plant k state → HasDigits list state
+  ended-digits k state valid shows =
+      subst (HasDigits list) (sym (ended-state k state shows))
+      (state_of-digits list script (row_after list script history chosen ∷ history) k valid)
+
+  ended-left : (k : ℕ) → k < length list.slots → IsLeft list script history chosen k (outcome_at plant k)
+  ended-left k node =
+      subst (λ (l : Medl). IsLeft l script history chosen k (outcome_at plant k)) ended.same
+      (ended.step.left k (subst (λ (l : Medl). k < length l.slots) (sym ended.same) node))
+
+  pub ended-delivered : (k : ℕ) → k < length list.slots
+      → (outcome_at plant k).delivered
+      ≡ delivered_of list script history (row_after list script history chosen) k
+  ended-delivered k node =
+      (ended-left k node).delivered
+      ∙ sym (delivered_of-row_in list script history chosen k (record { message = ended.of_hosts }))
+
+  pub ended-status : (k : ℕ) → k < length list.slots
+      → (outcome_at plant k).status.words
+      ≡ status_words list (length history)
+      (node_past list script (row_after list script history chosen ∷ history) k)
+      (is_some (delivered_of list script history (row_after list script history chosen) k))
+  ended-status k node =
+      (ended-left k node).status
+      ∙ ap (λ (d : Option Delivered). status_words list (length history)
+      (node_past list script (row_after list script history chosen ∷ history) k) (is_some d))
+      (sym (ended-left k node).delivered ∙ ended-delivered k node)
+
+-- The messages that a slot adds to a ring.
+
+pub delivered-own : (list : Medl) (script : Script) (row : List Entry) (history : History) (k : ℕ) (d : Delivered)
+    (p : ℕ)
+    → delivered_of list script history row k ≡ Some d → d.sender ≡ p
+    → in_messages list script (row ∷ history) k p ≡ in_messages list script history k p ++ d.payload ∷ []
+delivered-own list script row history k d p is own =
+    ap (λ (o : Option Delivered). in_messages list script history k p ++ new_messages p o) is
+    ∙ ap (λ (b : Bool). in_messages list script history k p ++ cond b (d.payload ∷ []) []) (eq-eqb d.sender p own)
+
+pub delivered-other : (list : Medl) (script : Script) (row : List Entry) (history : History) (k : ℕ) (d : Delivered)
+    (p : ℕ)
+    → delivered_of list script history row k ≡ Some d → (d.sender ≡ p → ⊥)
+    → in_messages list script (row ∷ history) k p ≡ in_messages list script history k p
+delivered-other list script row history k d p is other =
+    ap (λ (o : Option Delivered). in_messages list script history k p ++ new_messages p o) is
+    ∙ ap (λ (b : Bool). in_messages list script history k p ++ cond b (d.payload ∷ []) []) (ne_eqb d.sender p other)
+    ∙ append-nil (in_messages list script history k p)
+
+pub delivered-none : (list : Medl) (script : Script) (row : List Entry) (history : History) (k p : ℕ)
+    → delivered_of list script history row k ≡ None
+    → in_messages list script (row ∷ history) k p ≡ in_messages list script history k p
+delivered-none list script row history k p is =
+    ap (λ (o : Option Delivered). in_messages list script history k p ++ new_messages p o) is
+    ∙ append-nil (in_messages list script history k p)
+
+-- so the newest has the next number
+pub delivered-number : (list : Medl) (script : Script) (row : List Entry) (history : History) (k : ℕ) (d : Delivered)
+    (p : ℕ)
+    → delivered_of list script history row k ≡ Some d → d.sender ≡ p
+    → newest_number (in_messages list script (row ∷ history) k p)
+    ≡ newest_number (in_messages list script history k p) + 1
+delivered-number list script row history k d p is own =
+    omega (
+      arith,
+      ap length (delivered-own list script row history k d p is own),
+      length-append (in_messages list script history k p) (d.payload ∷ []),
+      in_messages-some list script history k p,
+    )
+
+-- There are no more messages than slots, and the zeros.
+
+pub one_more : (p : ℕ) (o : Option Delivered) → length (new_messages p o) ≤ 1
+one_more p None = omega arith
+one_more p (Some d) = few (d.sender == p)
+  where
+    few : (b : Bool) → length (cond b (d.payload ∷ []) []) ≤ 1
+    few true = omega arith
+    few false = omega arith
+
+pub in_messages-few : (list : Medl) (script : Script) (history : History) (k p : ℕ)
+    → length (in_messages list script history k p) ≤ 1 + length history
+in_messages-few list script [] k p = omega arith
+in_messages-few list script (row ∷ history) k p =
+    omega (
+      arith,
+      in_messages-few list script history k p,
+      length-append (in_messages list script history k p)
+          (new_messages p (delivered_of list script history row k)),
+      one_more p (delivered_of list script history row k),
+    )
+
+pub length-status : (list : Medl) (script : Script) (history : History) (k : ℕ)
+    → length (status_messages list script history k) ≡ 1 + length history
+length-status list script [] k = refl
+length-status list script (row ∷ history) k =
+    omega (
+      arith,
+      length-status list script history k,
+      length-append (status_messages list script history k)
+          (status_words list (length history) (node_past list script (row ∷ history) k)
+          (is_some (delivered_of list script history row k)) ∷ []),
+    )

@@ -1,0 +1,97 @@
+-- The rings that hosts read before the first slot: each has nothing but the zeros.
+use Rattle.std.proofs.Common.{◌≡◌, ℕ, zero, suc, ◌+◌, ◌*◌, ◌<◌, [], ◌++◌, length, get_or, replicate, Some}
+use Rattle.std.proofs.Common.{inl, inr, ap, sym, ◌∙◌, arith, length-append}
+use Rattle.std.specs.Prelude.{slice_get}
+use Rattle.std.proofs.Math.ListN.{get_or-append}
+use Rattle.std.proofs.Math.Nat.{mul_comm, mul-suc}
+use Rattle.std.proofs.lemmas.Bool.{cases_eq}
+use Rattle.std.proofs.lemmas.List.{get_or-append-add, get_or-replicate, length-replicate}
+use Rattle.std.proofs.lemmas.List.FromFn.{get_or-map-range_with_len, length-map-range_with_len}
+use Rattle.std.proofs.lemmas.Nat.{mul-add-lt}
+use Rattle.std.proofs.lemmas.Option.{same_Some, slice_get-get_or}
+use Rattle.ttp_world.specs.declared.medl.Medl.{Medl}
+use Rattle.ttp_world.specs.declared.node.Chosen.{Chosen}
+use Rattle.ttp_world.specs.declared.node.StatusWords.{StatusWords}
+use Rattle.ttp_world.specs.declared.script.Script.{Script}
+use Rattle.ttp_world.specs.Outgoing.{nothing_chosen}
+use Rattle.trace_check.specs.declared.incoming.Incoming.{Incoming}
+use Rattle.trace_check.specs.Incoming.{IsNewest, TellsRings, first_payloads, zeros_chosen, zeros_of_all}
+
+module _ (list : Medl) where
+  abbrev n : ℕ
+  n = length list.slots
+
+  length-zeros : length (zeros_of_all list) ≡ length list.slots
+  length-zeros = length-map-range_with_len (zeros_chosen list) 0 (length list.slots)
+
+  pub length-first : (receivers : ℕ) → length (first_payloads list receivers) ≡ length list.slots * receivers
+  length-first zero = omega arith
+  length-first (suc receivers) =
+      length-append (first_payloads list receivers) (zeros_of_all list)
+      ∙ (λ i. length-first receivers i + length-zeros i)
+      ∙ sym (mul-suc (length list.slots) receivers)
+
+  pub first-at : (receivers k p : ℕ) → k < receivers → p < length list.slots
+      → get_or (first_payloads list receivers) (k * length list.slots + p) nothing_chosen ≡ zeros_chosen list p
+  first-at zero k p less node = absurd (omega (arith, less))
+  first-at (suc receivers) k p less node =
+      let width = length list.slots in
+      let front = first_payloads list receivers in
+      elim (cases_eq k receivers) as (λ _. get_or (front ++ zeros_of_all list) (k * width + p) nothing_chosen
+      ≡ zeros_chosen list p) [
+        | inl last ↦
+            let many : length front ≡ k * width =
+            length-first receivers ∙ ap (λ (j : ℕ). width * j) (sym last) ∙ mul_comm width k in
+            ap (λ (j : ℕ). get_or (front ++ zeros_of_all list) (j + p) nothing_chosen) (sym many)
+            ∙ get_or-append-add front (zeros_of_all list) p nothing_chosen
+            ∙ get_or-map-range_with_len (zeros_chosen list) 0 width p p nothing_chosen node (omega arith)
+        | inr earlier ↦
+            let before : k < receivers = omega (arith, less, earlier) in
+            let within : k * width + p < length front =
+            omega (arith, length-first receivers, mul-add-lt k width p receivers before node) in
+            get_or-append front (zeros_of_all list) nothing_chosen (k * width + p) within
+            ∙ first-at receivers k p before node
+      ]
+
+newest-zeros : (list : Medl) (script : Script) (k p : ℕ) (message : Chosen) → message ≡ zeros_chosen list p
+    → IsNewest message list script [] k p
+newest-zeros list script k p message is = record {
+  number = ap (λ (c : Chosen). c.number) is;
+  payload = ap (λ (c : Chosen). c.payload) is;
+}
+
+abbrev first_status : StatusWords
+first_status = record { words = replicate 4 0 }
+
+pub first-tells : (incoming : Incoming) (list : Medl) (script : Script) → length list.slots < 256
+    → incoming.nodes ≡ length list.slots
+    → incoming.payloads.items ≡ first_payloads list (length list.slots)
+    → incoming.statuses.items ≡ replicate (length list.slots) (record { words = replicate 4 0 })
+    → length incoming.floors.items ≡ length list.slots * (length list.slots + 1)
+    → TellsRings incoming list script []
+first-tells incoming list script few nodes payloads statuses floors =
+    let width = length list.slots in
+    let first = first_payloads list width in
+    record {
+      places = record {
+        nodes = nodes;
+        few = few;
+        payloads = ap length payloads ∙ length-first list width;
+        statuses = ap length statuses ∙ length-replicate width first_status;
+        floors = floors;
+      };
+      payloads = λ k p node sender message at.
+          let there : slice_get first (k * width + p) ≡ Some message =
+          (λ i. slice_get (sym payloads i) (k * sym nodes i + p)) ∙ at in
+          newest-zeros list script k p message
+          (same_Some message (zeros_chosen list p)
+          (sym there
+          ∙ slice_get-get_or first (k * width + p) nothing_chosen
+          (omega (arith, length-first list width, mul-add-lt k width p width node sender))
+          ∙ ap Some (first-at list width k p node sender)));
+      statuses = λ k node.
+          ap (λ ss. slice_get ss k) statuses
+          ∙ slice_get-get_or (replicate width first_status) k first_status
+          (omega (arith, node, length-replicate width first_status))
+          ∙ ap Some (get_or-replicate width k first_status first_status node);
+    }

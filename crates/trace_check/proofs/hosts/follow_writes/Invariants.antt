@@ -1,0 +1,11 @@
+use Rattle.std.proofs.Common.{take}
+use Rattle.std.specs.List.{filter_map}
+use Rattle.ttp_world.specs.Script.{write_at}
+use Rattle.trace_check.proofs.Written.{HasWrittenLines}
+use Rattle.trace_check.proofs.hosts.follow_writes.Given as goal
+
+-- the writes so far were made, each after its line
+abbrev pub invariant-loop-at : goal.invariant-loop-at
+invariant-loop-at l =
+    HasWrittenLines l.outgoing l.list l.script l.slot l.text l.rest
+    (filter_map (write_at l.script) (take l.at-index l.places))

@@ -1,0 +1,7 @@
+use Rattle.std.proofs.Common.{◌++◌, ◌∷◌, [], ◌∙◌}
+use Rattle.std.proofs.lemmas.List.{replicate_more}
+use Rattle.trace_check.proofs.incoming.first_floors.Goals as goal
+
+pub loop-preserved : goal.loop-preserved
+loop-preserved c =
+    c.in_ok-push.ensures.ok ∙ (λ i. c.loop.invariant i ++ 0 ∷ []) ∙ replicate_more c.loop.counter 0

@@ -1,0 +1,6 @@
+use Rattle.std.proofs.Common.{◌≡◌}
+use Rattle.trace_check.specs.Incoming.{first_payloads}
+use Rattle.trace_check.proofs.incoming.first_payloads.Given as goal
+
+abbrev pub invariant-loop : goal.invariant-loop
+invariant-loop l = l.payloads ≡ first_payloads l.list l.counter

@@ -1,0 +1,5 @@
+use Rattle.std.proofs.Common.{◌≡◌, replicate}
+use Rattle.trace_check.proofs.incoming.first_statuses.Given as goal
+
+abbrev pub invariant-loop : goal.invariant-loop
+invariant-loop l = l.statuses ≡ replicate l.counter (record { words = replicate 4 0 })

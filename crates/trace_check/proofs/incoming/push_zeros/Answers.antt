@@ -1,0 +1,18 @@
+use Rattle.std.proofs.Common.{◌++◌, ◌∷◌, [], ◌∙◌, ap, sym, append_assoc, arith}
+use Rattle.std.specs.Prelude.{map, slice_get}
+use Rattle.std.proofs.lemmas.List.FromFn.{map-range_with_len_more}
+use Rattle.ttp_base.specs.NodeSet.{below}
+use Rattle.trace_check.specs.Incoming.{zeros_chosen}
+use Rattle.trace_check.proofs.FirstOutgoing.{zeros-chosen}
+use Rattle.trace_check.proofs.incoming.push_zeros.Goals as goal
+
+pub loop-sender-preserved : goal.loop-sender-preserved
+loop-sender-preserved c =
+    let list = c.args.list.now in
+    let k = c.loop-sender.sender in
+    let one = zeros-chosen list k c.get.result.now c.zeros.result
+    (ap (slice_get list.slots) (sym c.from.ensures) ∙ c.get.ensures) c.zeros.ensures.number c.zeros.ensures.payload in
+    let old = c.args.payloads.now in
+    c.in_ok-push.ensures.ok ∙ (λ i. c.loop-sender.invariant i ++ one i ∷ [])
+    ∙ append_assoc old (map (zeros_chosen list) (below k)) (zeros_chosen list k ∷ [])
+    ∙ ap (λ row. old ++ row) (sym (map-range_with_len_more (zeros_chosen list) 0 k k (omega arith)))

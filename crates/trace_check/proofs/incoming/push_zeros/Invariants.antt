@@ -1,0 +1,8 @@
+use Rattle.std.proofs.Common.{◌≡◌, ◌++◌}
+use Rattle.std.specs.Prelude.{map}
+use Rattle.ttp_base.specs.NodeSet.{below}
+use Rattle.trace_check.specs.Incoming.{zeros_chosen}
+use Rattle.trace_check.proofs.incoming.push_zeros.Given as goal
+
+abbrev pub invariant-loop-sender : goal.invariant-loop-sender
+invariant-loop-sender l = l.payloads ≡ l.initial.payloads ++ map (zeros_chosen l.list) (below l.sender)

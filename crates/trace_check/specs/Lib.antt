@@ -1,0 +1,4 @@
+pub mod Answer
+pub mod Following
+pub mod Incoming
+pub mod Outgoing

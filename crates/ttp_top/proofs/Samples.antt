@@ -1,0 +1,6 @@
+pub mod Alike
+pub mod Bounds
+pub mod Counted
+pub mod Lines
+pub mod Said
+pub mod Promises

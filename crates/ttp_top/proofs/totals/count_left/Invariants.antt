@@ -1,0 +1,8 @@
+use Rattle.std.proofs.Common.{◌≡◌, ◌≤◌, take}
+use Rattle.std.specs.Prelude.{count_by}
+use Rattle.ttp_top.specs.Samples.Totals.{shows_left}
+use Rattle.ttp_top.proofs.totals.count_left.Given as goal
+
+abbrev pub invariant-loop-line : goal.invariant-loop-line
+invariant-loop-line l =
+    (l.count ≡ count_by (λ line. shows_left line.state) (take l.line-index l.nodes)) × (l.count ≤ l.line-index)

@@ -1,0 +1,8 @@
+use Rattle.std.proofs.Common.{◌≡◌, ◌≤◌, take}
+use Rattle.std.specs.Prelude.{count_by}
+use Rattle.ttp_top.specs.Samples.Totals.{shows_sent}
+use Rattle.ttp_top.proofs.totals.count_sent.Given as goal
+
+abbrev pub invariant-loop-line : goal.invariant-loop-line
+invariant-loop-line l =
+    (l.count ≡ count_by (λ line. shows_sent line.state) (take l.line-index l.nodes)) × (l.count ≤ l.line-index)

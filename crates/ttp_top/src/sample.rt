@@ -1,0 +1,178 @@
+//! The command `sample MEDL SLOTS NUMBER`.
+ghost use Rattle.std.specs.Prelude.{◌≡◌, ◌+◌, ◌≤◌, [], ◌∷◌, ◌++◌, Some, None, length, decimal, OnOk, OnErr};
+ghost use Rattle.ttp_base.specs.Outside.{WroteLines, CutShort};
+ghost use Rattle.ttp_world.specs.declared.script.TheConstants.{SLOT_LIMIT};
+ghost use Rattle.ttp_world.specs.Medl.{IsValid};
+ghost use Rattle.ttp_world.specs.Script.{IsValidScript};
+ghost use Rattle.ttp_top.specs.Calls.Answer.{answer};
+ghost use Rattle.ttp_top.specs.Calls.Forms.{sample_ending, plan_of};
+ghost use Rattle.ttp_top.specs.Calls.Outcome.{Shows, Follows};
+ghost use Rattle.ttp_top.specs.Calls.Plan.{outside};
+ghost use Rattle.ttp_top.specs.Calls.Words.{sample};
+ghost use Rattle.ttp_top.specs.Samples.Counted.{HasFewMembers};
+ghost use Rattle.ttp_top.specs.Samples.Lines.{asked_line, sent_line, hosts_line, summary_lines};
+
+use crate::load::load_list;
+use crate::totals::{Totals, count_run};
+use cluster_run::Cluster;
+use hypothesis::keeps;
+use script_gen::generate;
+use std::alloc::Global;
+use std::sync::Wait;
+use std::thread::Threads;
+use trace_text::put_keep;
+use ttp_base::{Failed, Gate, Library, Line, Sink};
+use ttp_world::{Medl, Script};
+
+// Adds a text and a number behind it.
+#[tactic(auto, using(ttp_base::proofs::Room::room))]
+fn put_count(line: &mut Line, text: &str, count: u64)
+    requires { length line.old + length text.now + 20 ≤ 640 }
+    ensures text { line.new ≡ line.old ++ text.now ++ decimal count }
+    ensures short { length line.new ≤ length line.old + length text.now + 20 }
+{
+    line.put_text(text);
+    line.put_number(count);
+}
+
+// What was asked for.
+fn asked_line(slots: u32, number: u64) -> Line
+    ensures { result ≡ asked_line slots number }
+{
+    let mut line = Line::new();
+    put_count(&mut line, "sample slots ", u64::from(slots));
+    put_count(&mut line, " number ", number);
+    line.put_text("\n");
+    line
+}
+
+// What nodes did, with the members in the digits that the list gives.
+fn sent_line(list: &Medl, totals: &Totals) -> Line
+    requires { HasFewMembers list.now totals.now }
+    ensures { result ≡ sent_line list.now totals.now }
+{
+    let digits = if list.is_wide() { 6 } else { 4 };
+    let mut line = Line::new();
+    put_count(&mut line, "sent ", totals.sent);
+    put_count(&mut line, " left ", totals.left);
+    line.put_text(" members ");
+    line.put_hex(u64::from(totals.members.bits()), digits);
+    line.put_text("\n");
+    line
+}
+
+// What hosts did.
+fn hosts_line(totals: &Totals) -> Line
+    ensures { result ≡ hosts_line totals.now }
+{
+    let mut line = Line::new();
+    put_count(&mut line, "writes ", totals.writes);
+    put_count(&mut line, " reads ", totals.reads);
+    line.put_text("\n");
+    line
+}
+
+fn put_asked<K: Sink>(slots: u32, number: u64, out: &mut K) -> Result<(), Failed>
+    ensures ok { OnOk result (WroteLines (K.output out.old) (K.output out.new) (asked_line slots number ∷ [])) }
+    ensures failed { OnErr result (CutShort (K.output out.old) (K.output out.new) (asked_line slots number ∷ [])) }
+{
+    out.write(asked_line(slots, number).bytes())
+}
+
+fn put_sent<K: Sink>(list: &Medl, totals: &Totals, out: &mut K) -> Result<(), Failed>
+    requires { HasFewMembers list.now totals.now }
+    ensures ok { OnOk result (WroteLines (K.output out.old) (K.output out.new) (sent_line list.now totals.now ∷ [])) }
+    ensures failed { OnErr result
+        (CutShort (K.output out.old) (K.output out.new) (sent_line list.now totals.now ∷ [])) }
+{
+    out.write(sent_line(list, totals).bytes())
+}
+
+fn put_hosts<K: Sink>(totals: &Totals, out: &mut K) -> Result<(), Failed>
+    ensures ok { OnOk result (WroteLines (K.output out.old) (K.output out.new) (hosts_line totals.now ∷ [])) }
+    ensures failed { OnErr result (CutShort (K.output out.old) (K.output out.new) (hosts_line totals.now ∷ [])) }
+{
+    out.write(hosts_line(totals).bytes())
+}
+
+// The four lines, each as one piece.
+fn put_summary<K: Sink>(
+    list: &Medl,
+    script: &Script,
+    number: u64,
+    totals: &Totals,
+    out: &mut K,
+) -> Result<(), Failed>
+    requires valid { IsValid list.now }
+    requires script { IsValidScript list.now script.now }
+    requires members { HasFewMembers list.now totals.now }
+    ensures ok { OnOk result (WroteLines (K.output out.old) (K.output out.new)
+        (summary_lines list.now script.now script.now.slots number totals.now)) }
+    ensures failed { OnErr result (CutShort (K.output out.old) (K.output out.new)
+        (summary_lines list.now script.now script.now.slots number totals.now)) }
+{
+    put_asked(script.slots, number, out)?;
+    put_sent(list, totals, out)?;
+    put_hosts(totals, out)?;
+    put_keep(&keeps(list, script), out)
+}
+
+// The summary of the generated run. All is done before the first line is written, and the cluster is kept
+// once the last one is.
+fn show_sample<R: Threads + Wait + Sync, K: Sink, G: Gate>(
+    rt: &R,
+    alloc: Global,
+    list: Medl,
+    slots: u32,
+    number: u64,
+    out: &mut K,
+    gate: &G,
+    kept: &mut Option<Cluster>,
+) -> u8
+    requires valid { IsValid list }
+    requires slots { (1 ≤ slots) × (slots ≤ SLOT_LIMIT) }
+    requires none { kept.old ≡ None }
+    ensures { Shows (sample_ending slots number list) (K.output out.old) (K.output out.new) (answer result kept.new) }
+{
+    let Ok(script) = generate(alloc, &list, slots, number) else {
+        return 7;
+    };
+    let Ok(mut cluster) = Cluster::make(alloc, list, script) else {
+        return 7;
+    };
+    let Ok(totals) = count_run(rt, &mut cluster, gate) else {
+        return 7;
+    };
+    match put_summary(cluster.list(), cluster.script(), number, &totals, out) {
+        Ok(()) => {
+            *kept = Some(cluster);
+            0
+        }
+        Err(Failed) => 6,
+    }
+}
+
+/// The summary of a run of so many slots of the list of this name, by the script that the number gives. The
+/// cluster that ran is kept where all of the summary was written.
+pub(crate) fn sample<R: Threads + Wait + Sync, L: Library, K: Sink, G: Gate>(
+    rt: &R,
+    alloc: Global,
+    list: &str,
+    slots: u32,
+    number: u64,
+    library: &mut L,
+    out: &mut K,
+    gate: &G,
+    kept: &mut Option<Cluster>,
+) -> u8
+    requires slots { (1 ≤ slots) × (slots ≤ SLOT_LIMIT) }
+    requires none { kept.old ≡ None }
+    ensures { Follows (plan_of (Some (sample list.now slots number)))
+        (outside (L.files library.old) (K.output out.old)) (outside (L.files library.new) (K.output out.new))
+        (answer result kept.new) }
+{
+    match load_list(alloc, list, library, out) {
+        Ok(medl) => show_sample(rt, alloc, medl, slots, number, out, gate, kept),
+        Err(status) => status,
+    }
+}
