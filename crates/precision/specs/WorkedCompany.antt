@@ -1,6 +1,6 @@
 -- A run that was worked out by hand: of five clocks two gain two microticks in each slot and two lose two. The node of
 -- the last one comes on after two rounds.
-use Rattle.std.specs.Prelude.{ℕ, ℤ, List, nat_lt, pos, negsuc, Bool, true, [], ◌∷◌, replicate, Some, None}
+use Rattle.std.specs.Prelude.{ℕ, ℤ, List, nat_lt, pos, negsuc, Bool, [], ◌∷◌, replicate, Some, None}
 use Rattle.ttp_world.specs.declared.medl.Medl.{Medl}
 use Rattle.ttp_world.specs.declared.node.Entry.{Entry}
 use Rattle.ttp_world.specs.declared.node.Entry.TheVariants as entry
@@ -42,7 +42,13 @@ silent = entry.Judged 4 verdict.Null (pos 0)
 
 -- a join on node 2's frame, twelve slots after the start
 abbrev late_join : ℤ → Entry
-late_join deviation = entry.Joined 2 (record { time = 12; round = 0; slot = 2; members = 0 ∷ 1 ∷ 2 ∷ 3 ∷ [] }) deviation
+late_join deviation = entry.Joined 2 (record {
+  time = 12;
+  round = 0;
+  slot = 2;
+  members = 0 ∷ 1 ∷ 2 ∷ 3
+      ∷ [];
+}) deviation
 
 -- ten slots in which four wait, the row in which node 0 starts, and that in which node 4 joins
 abbrev pub waiting : History
@@ -52,7 +58,8 @@ abbrev pub starting : List Entry
 starting = entry.Started ∷ join (negsuc 19) ∷ join (pos 20) ∷ join (negsuc 19) ∷ entry.Off ∷ []
 
 abbrev pub joining : List Entry
-joining = correct 2 (negsuc 12) ∷ correct 2 (negsuc 26) ∷ entry.Sent None ∷ correct 2 (negsuc 26) ∷ late_join (negsuc 6) ∷ []
+joining = correct 2 (negsuc 12) ∷ correct 2 (negsuc 26) ∷ entry.Sent None ∷ correct 2 (negsuc 26)
+    ∷ late_join (negsuc 6) ∷ []
 
 -- node 0 starts in slot 10: the rows of slots 10 to 21, the newest first
 abbrev pub run_of_four : History
@@ -75,10 +82,12 @@ run_of_four =
 abbrev pub run_of_coming : History
 run_of_coming =
     (correct 3 (pos 13) ∷ correct 3 (pos 0) ∷ correct 3 (pos 27) ∷ entry.Sent None ∷ correct 3 (pos 38) ∷ [])
-    ∷ (correct 2 (negsuc 11) ∷ correct 2 (negsuc 22) ∷ entry.Sent None ∷ correct 2 (negsuc 22) ∷ correct 2 (pos 11) ∷ [])
+    ∷ (correct 2 (negsuc 11) ∷ correct 2 (negsuc 22) ∷ entry.Sent None ∷ correct 2 (negsuc 22)
+    ∷ correct 2 (pos 11) ∷ [])
     ∷ (correct 1 (pos 9) ∷ entry.Sent None ∷ correct 1 (pos 19) ∷ correct 1 (pos 0) ∷ correct 1 (pos 30) ∷ [])
     ∷ (entry.Sent None ∷ correct 0 (negsuc 6) ∷ correct 0 (pos 8) ∷ correct 0 (negsuc 6) ∷ correct 0 (pos 19) ∷ [])
-    ∷ (correct 4 (negsuc 16) ∷ correct 4 (negsuc 34) ∷ correct 4 (pos 0) ∷ correct 4 (negsuc 34) ∷ entry.Sent None ∷ [])
+    ∷ (correct 4 (negsuc 16) ∷ correct 4 (negsuc 34) ∷ correct 4 (pos 0) ∷ correct 4 (negsuc 34)
+    ∷ entry.Sent None ∷ [])
     ∷ (correct 3 (pos 16) ∷ correct 3 (pos 0) ∷ correct 3 (pos 31) ∷ entry.Sent None ∷ correct 3 (pos 31) ∷ [])
     ∷ joining
     ∷ run_of_four

@@ -8,7 +8,8 @@ use Rattle.ttp_world.specs.Diary.{History, continues_stint, diary_of, entry_of}
 use Rattle.ttp_world.specs.Script.{jump_of}
 use Rattle.precision.specs.Together.{IsIn, BeginsOn, TellsOf, Nothing, OneFrame, EndsLaterRound, newest_notes}
 use Rattle.precision.specs.Company.{StayedInCompany, RanAsCompany}
-use Rattle.precision.specs.WorkedCompany.{five_nodes, coming_late, first_four, waiting, starting, joining, run_of_four, run_of_coming}
+use Rattle.precision.specs.WorkedCompany.{five_nodes, coming_late, first_four, waiting, starting, joining, run_of_four}
+use Rattle.precision.specs.WorkedCompany.{run_of_coming}
 use Rattle.precision.specs.WorkedRun.{every_node}
 use Rattle.precision.proofs.worked_run.a_node_comes.Goals as goal
 
@@ -126,36 +127,86 @@ four_ran : RanAsCompany five_nodes coming_late true first_four 10 run_of_four
 unfolding members_in with_node
 four_ran =
     next_four _ _ (four_told 1 _ _ (omega arith, refl) refl (refl, (refl, (refl, refl)))
-    ((refl, refl), (refl, ((refl, refl), (refl, refl))))
-    ((λ ends. absurd (false≢true ends.0)), ((λ ends. absurd (false≢true ends.0)), ((λ ends. absurd (false≢true ends.0)), (λ ends. absurd (false≢true ends.0))))))
+    ((refl, refl), (refl, ((refl, refl), (refl, refl)))) (
+      (λ ends. absurd (false≢true ends.0)),
+      (
+        (λ ends. absurd (false≢true ends.0)),
+        ((λ ends. absurd (false≢true ends.0)), (λ ends. absurd (false≢true ends.0))),
+      ),
+    ))
     (next_four _ _ (four_told 0 _ _ (omega arith, refl) refl (refl, (refl, (refl, refl)))
-    (refl, ((refl, refl), ((refl, refl), (refl, refl))))
-    ((λ ends. absurd (false≢true ends.0)), ((λ ends. absurd (false≢true ends.0)), ((λ ends. absurd (false≢true ends.0)), (λ ends. absurd (false≢true ends.0))))))
+    (refl, ((refl, refl), ((refl, refl), (refl, refl)))) (
+      (λ ends. absurd (false≢true ends.0)),
+      (
+        (λ ends. absurd (false≢true ends.0)),
+        ((λ ends. absurd (false≢true ends.0)), (λ ends. absurd (false≢true ends.0))),
+      ),
+    ))
     (next_four _ _ (four_silent _ _ (refl, (refl, (refl, refl))) (refl, (refl, (refl, refl)))
     ((λ ends. many), ((λ ends. many), ((λ ends. many), (λ ends. many)))))
     (next_four _ _ (four_told 3 _ _ (omega arith, refl) refl (refl, (refl, (refl, refl)))
-    ((refl, refl), ((refl, refl), ((refl, refl), refl)))
-    ((λ ends. absurd (false≢true ends.0)), ((λ ends. absurd (false≢true ends.0)), ((λ ends. absurd (false≢true ends.0)), (λ ends. absurd (false≢true ends.0))))))
+    ((refl, refl), ((refl, refl), ((refl, refl), refl))) (
+      (λ ends. absurd (false≢true ends.0)),
+      (
+        (λ ends. absurd (false≢true ends.0)),
+        ((λ ends. absurd (false≢true ends.0)), (λ ends. absurd (false≢true ends.0))),
+      ),
+    ))
     (next_four _ _ (four_told 2 _ _ (omega arith, refl) refl (refl, (refl, (refl, refl)))
-    ((refl, refl), ((refl, refl), (refl, (refl, refl))))
-    ((λ ends. absurd (false≢true ends.0)), ((λ ends. absurd (false≢true ends.0)), ((λ ends. absurd (false≢true ends.0)), (λ ends. absurd (false≢true ends.0))))))
+    ((refl, refl), ((refl, refl), (refl, (refl, refl)))) (
+      (λ ends. absurd (false≢true ends.0)),
+      (
+        (λ ends. absurd (false≢true ends.0)),
+        ((λ ends. absurd (false≢true ends.0)), (λ ends. absurd (false≢true ends.0))),
+      ),
+    ))
     (next_four _ _ (four_told 1 _ _ (omega arith, refl) refl (refl, (refl, (refl, refl)))
-    ((refl, refl), (refl, ((refl, refl), (refl, refl))))
-    ((λ ends. absurd (false≢true ends.0)), ((λ ends. absurd (false≢true ends.0)), ((λ ends. absurd (false≢true ends.0)), (λ ends. absurd (false≢true ends.0))))))
+    ((refl, refl), (refl, ((refl, refl), (refl, refl)))) (
+      (λ ends. absurd (false≢true ends.0)),
+      (
+        (λ ends. absurd (false≢true ends.0)),
+        ((λ ends. absurd (false≢true ends.0)), (λ ends. absurd (false≢true ends.0))),
+      ),
+    ))
     (next_four _ _ (four_told 0 _ _ (omega arith, refl) refl (refl, (refl, (refl, refl)))
-    (refl, ((refl, refl), ((refl, refl), (refl, refl))))
-    ((λ ends. absurd (false≢true ends.0)), ((λ ends. absurd (false≢true ends.0)), ((λ ends. absurd (false≢true ends.0)), (λ ends. absurd (false≢true ends.0))))))
-    (next_four _ _ (four_silent _ _ (refl, (refl, (refl, refl))) (refl, (refl, (refl, refl)))
-    ((λ ends. absurd (omega (arith, ends.1))), ((λ ends. absurd (omega (arith, ends.1))), ((λ ends. absurd (omega (arith, ends.1))), (λ ends. absurd (omega (arith, ends.1)))))))
+    (refl, ((refl, refl), ((refl, refl), (refl, refl)))) (
+      (λ ends. absurd (false≢true ends.0)),
+      (
+        (λ ends. absurd (false≢true ends.0)),
+        ((λ ends. absurd (false≢true ends.0)), (λ ends. absurd (false≢true ends.0))),
+      ),
+    ))
+    (next_four _ _ (four_silent _ _ (refl, (refl, (refl, refl))) (refl, (refl, (refl, refl))) (
+      (λ ends. absurd (omega (arith, ends.1))),
+      (
+        (λ ends. absurd (omega (arith, ends.1))),
+        ((λ ends. absurd (omega (arith, ends.1))), (λ ends. absurd (omega (arith, ends.1)))),
+      ),
+    ))
     (next_four _ _ (four_told 3 _ _ (omega arith, refl) refl (refl, (refl, (refl, refl)))
-    ((refl, refl), ((refl, refl), ((refl, refl), refl)))
-    ((λ ends. absurd (omega (arith, ends.1))), ((λ ends. absurd (omega (arith, ends.1))), ((λ ends. absurd (omega (arith, ends.1))), (λ ends. absurd (omega (arith, ends.1)))))))
+    ((refl, refl), ((refl, refl), ((refl, refl), refl))) (
+      (λ ends. absurd (omega (arith, ends.1))),
+      (
+        (λ ends. absurd (omega (arith, ends.1))),
+        ((λ ends. absurd (omega (arith, ends.1))), (λ ends. absurd (omega (arith, ends.1)))),
+      ),
+    ))
     (next_four _ _ (four_told 2 _ _ (omega arith, refl) refl (refl, (refl, (refl, refl)))
-    ((refl, refl), ((refl, refl), (refl, (refl, refl))))
-    ((λ ends. absurd (omega (arith, ends.1))), ((λ ends. absurd (omega (arith, ends.1))), ((λ ends. absurd (omega (arith, ends.1))), (λ ends. absurd (omega (arith, ends.1)))))))
+    ((refl, refl), ((refl, refl), (refl, (refl, refl)))) (
+      (λ ends. absurd (omega (arith, ends.1))),
+      (
+        (λ ends. absurd (omega (arith, ends.1))),
+        ((λ ends. absurd (omega (arith, ends.1))), (λ ends. absurd (omega (arith, ends.1)))),
+      ),
+    ))
     (next_four _ _ (four_told 1 _ _ (omega arith, refl) refl (refl, (refl, (refl, refl)))
-    ((refl, refl), (refl, ((refl, refl), (refl, refl))))
-    ((λ ends. absurd (omega (arith, ends.1))), ((λ ends. absurd (omega (arith, ends.1))), ((λ ends. absurd (omega (arith, ends.1))), (λ ends. absurd (omega (arith, ends.1)))))))
+    ((refl, refl), (refl, ((refl, refl), (refl, refl)))) (
+      (λ ends. absurd (omega (arith, ends.1))),
+      (
+        (λ ends. absurd (omega (arith, ends.1))),
+        ((λ ends. absurd (omega (arith, ends.1))), (λ ends. absurd (omega (arith, ends.1)))),
+      ),
+    ))
     four_begun))))))))))
 
 -- the slot in which node 4 joins
@@ -213,23 +264,89 @@ five_ran : RanAsCompany five_nodes coming_late true every_node 22 run_of_coming
 unfolding members_in with_node
 five_ran =
     next_five _ _ (five_told 3 _ _ (omega arith, refl) refl (refl, (refl, (refl, (refl, refl))))
-    ((refl, refl), ((refl, refl), ((refl, refl), (refl, (refl, refl)))))
-    ((λ ends. absurd (false≢true ends.0)), ((λ ends. absurd (false≢true ends.0)), ((λ ends. absurd (false≢true ends.0)), ((λ ends. absurd (false≢true ends.0)), (λ ends. absurd (false≢true ends.0)))))))
+    ((refl, refl), ((refl, refl), ((refl, refl), (refl, (refl, refl))))) (
+      (λ ends. absurd (false≢true ends.0)),
+      (
+        (λ ends. absurd (false≢true ends.0)),
+        (
+          (λ ends. absurd (false≢true ends.0)),
+          (
+            (λ ends. absurd (false≢true ends.0)),
+            (λ ends. absurd (false≢true ends.0)),
+          ),
+        ),
+      ),
+    ))
     (next_five _ _ (five_told 2 _ _ (omega arith, refl) refl (refl, (refl, (refl, (refl, refl))))
-    ((refl, refl), ((refl, refl), (refl, ((refl, refl), (refl, refl)))))
-    ((λ ends. absurd (false≢true ends.0)), ((λ ends. absurd (false≢true ends.0)), ((λ ends. absurd (false≢true ends.0)), ((λ ends. absurd (false≢true ends.0)), (λ ends. absurd (false≢true ends.0)))))))
+    ((refl, refl), ((refl, refl), (refl, ((refl, refl), (refl, refl))))) (
+      (λ ends. absurd (false≢true ends.0)),
+      (
+        (λ ends. absurd (false≢true ends.0)),
+        (
+          (λ ends. absurd (false≢true ends.0)),
+          (
+            (λ ends. absurd (false≢true ends.0)),
+            (λ ends. absurd (false≢true ends.0)),
+          ),
+        ),
+      ),
+    ))
     (next_five _ _ (five_told 1 _ _ (omega arith, refl) refl (refl, (refl, (refl, (refl, refl))))
-    ((refl, refl), (refl, ((refl, refl), ((refl, refl), (refl, refl)))))
-    ((λ ends. absurd (omega (arith, ends.1))), ((λ ends. absurd (omega (arith, ends.1))), ((λ ends. absurd (omega (arith, ends.1))), ((λ ends. absurd (omega (arith, ends.1))), (λ ends. absurd (omega (arith, ends.1))))))))
+    ((refl, refl), (refl, ((refl, refl), ((refl, refl), (refl, refl))))) (
+      (λ ends. absurd (omega (arith, ends.1))),
+      (
+        (λ ends. absurd (omega (arith, ends.1))),
+        (
+          (λ ends. absurd (omega (arith, ends.1))),
+          (
+            (λ ends. absurd (omega (arith, ends.1))),
+            (λ ends. absurd (omega (arith, ends.1))),
+          ),
+        ),
+      ),
+    ))
     (next_five _ _ (five_told 0 _ _ (omega arith, refl) refl (refl, (refl, (refl, (refl, refl))))
-    (refl, ((refl, refl), ((refl, refl), ((refl, refl), (refl, refl)))))
-    ((λ ends. absurd (omega (arith, ends.1))), ((λ ends. absurd (omega (arith, ends.1))), ((λ ends. absurd (omega (arith, ends.1))), ((λ ends. absurd (omega (arith, ends.1))), (λ ends. absurd (omega (arith, ends.1))))))))
+    (refl, ((refl, refl), ((refl, refl), ((refl, refl), (refl, refl))))) (
+      (λ ends. absurd (omega (arith, ends.1))),
+      (
+        (λ ends. absurd (omega (arith, ends.1))),
+        (
+          (λ ends. absurd (omega (arith, ends.1))),
+          (
+            (λ ends. absurd (omega (arith, ends.1))),
+            (λ ends. absurd (omega (arith, ends.1))),
+          ),
+        ),
+      ),
+    ))
     (next_five _ _ (five_told 4 _ _ (omega arith, refl) refl (refl, (refl, (refl, (refl, refl))))
-    ((refl, refl), ((refl, refl), ((refl, refl), ((refl, refl), refl))))
-    ((λ ends. absurd (omega (arith, ends.1))), ((λ ends. absurd (omega (arith, ends.1))), ((λ ends. absurd (omega (arith, ends.1))), ((λ ends. absurd (omega (arith, ends.1))), (λ ends. absurd (omega (arith, ends.1))))))))
+    ((refl, refl), ((refl, refl), ((refl, refl), ((refl, refl), refl)))) (
+      (λ ends. absurd (omega (arith, ends.1))),
+      (
+        (λ ends. absurd (omega (arith, ends.1))),
+        (
+          (λ ends. absurd (omega (arith, ends.1))),
+          (
+            (λ ends. absurd (omega (arith, ends.1))),
+            (λ ends. absurd (omega (arith, ends.1))),
+          ),
+        ),
+      ),
+    ))
     (next_five _ _ (five_told 3 _ _ (omega arith, refl) refl (refl, (refl, (refl, (refl, refl))))
-    ((refl, refl), ((refl, refl), ((refl, refl), (refl, (refl, refl)))))
-    ((λ ends. absurd (omega (arith, ends.1))), ((λ ends. absurd (omega (arith, ends.1))), ((λ ends. absurd (omega (arith, ends.1))), ((λ ends. absurd (omega (arith, ends.1))), (λ ends. absurd (omega (arith, ends.1))))))))
+    ((refl, refl), ((refl, refl), ((refl, refl), (refl, (refl, refl))))) (
+      (λ ends. absurd (omega (arith, ends.1))),
+      (
+        (λ ends. absurd (omega (arith, ends.1))),
+        (
+          (λ ends. absurd (omega (arith, ends.1))),
+          (
+            (λ ends. absurd (omega (arith, ends.1))),
+            (λ ends. absurd (omega (arith, ends.1))),
+          ),
+        ),
+      ),
+    ))
     grown)))))
 
 pub returns-clause-world : goal.returns-clause-world
