@@ -1,4 +1,5 @@
 pub mod Precision
+pub mod Differences
 pub mod Texts
 pub mod Answer
 pub mod Plan

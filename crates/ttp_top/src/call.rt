@@ -15,6 +15,7 @@ use crate::lines::say;
 use crate::run::{keeps, run};
 use crate::sample::sample;
 use crate::schedule::schedule;
+use crate::verify::verify;
 use crate::words::{Command, command_of};
 use cluster_run::Cluster;
 use std::alloc::Global;
@@ -45,6 +46,11 @@ fn obey<R: Threads + Wait + Sync, L: Library, K: Sink, G: Gate>(
         Command::Schedule { list } => schedule(alloc, list, library, out),
         Command::Run { list, script } => run(rt, alloc, list, script, library, out, gate, kept),
         Command::Keeps { list, script } => keeps(alloc, list, script, library, out),
+        Command::Verify {
+            list,
+            script,
+            trace,
+        } => verify(alloc, list, script, trace, library, out),
         Command::Precision { list, script, node } => {
             precision(alloc, list, script, node, library, out)
         }
@@ -60,9 +66,10 @@ fn obey<R: Threads + Wait + Sync, L: Library, K: Sink, G: Gate>(
 /// Runs the command that the words spell, and answers its status. The words are those after the
 /// program's name.
 ///
-/// There are five forms so far: `schedule MEDL` writes the slot table of one cluster cycle,
+/// There are six forms so far: `schedule MEDL` writes the slot table of one cluster cycle,
 /// `run MEDL SCRIPT` the trace of a script, `keeps MEDL SCRIPT` its last line alone, the answer of the
-/// test of the single-fault hypothesis, `precision MEDL SCRIPT NODE` the answer of the test for one
+/// test of the single-fault hypothesis, `verify MEDL SCRIPT TRACE` whether a text is a trace of a script, and
+/// else its first wrong line, `precision MEDL SCRIPT NODE` the answer of the test for one
 /// two-faced sender, which is the node of that number, and where it may be one, how far apart the other
 /// nodes' clocks came, in microticks, and `sample MEDL SLOTS NUMBER` four lines on a run of so many slots by
 /// the script that the number gives. NODE is one or two decimal digits of a number below 24, SLOTS 1 to 20
@@ -71,11 +78,12 @@ fn obey<R: Threads + Wait + Sync, L: Library, K: Sink, G: Gate>(
 ///
 /// | status | comes | what is written |
 /// |---|---|---|
-/// | 0 | the command was done | the whole output |
+/// | 0 | the command was done; for `verify` the text is a trace | the whole output |
+/// | 1 | exactly where the text that was read is no trace; for `verify` alone | `differs at line N` |
 /// | 2 | exactly where the words have no form | the usage line |
 /// | 3 | exactly where the list is longer than 1,048,576 bytes or refused | a line that begins `list: ` |
 /// | 4 | exactly where the script is longer than 1,048,576 bytes or refused | a line that begins `script: ` |
-/// | 5 | only where the count of the file's name rose, and no earlier refusal came | `load: list` or `load: script` |
+/// | 5 | only where the count of the file's name rose, and no earlier refusal came | `load: list`, `load: script` or `load: trace` |
 /// | 6 | only where the sink's count rose | so many whole lines of a text that was due, and a front of the next |
 /// | 7 | want of memory | nothing, or for `run` some whole lines of a trace, fewer than all |
 ///

@@ -19,6 +19,7 @@ mod sample;
 mod schedule;
 mod totals;
 mod trace;
+mod verify;
 mod words;
 
 pub use call::bench;

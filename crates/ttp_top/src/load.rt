@@ -1,17 +1,17 @@
-//! A list and a script from their files. Where there is none, what is wrong is said, and its status
-//! answered.
-ghost use Rattle.std.specs.Prelude.{IfOk, IfErr};
+//! A list, a script and the text of a trace from their files. Where there is none, what is wrong is said, and
+//! its status answered.
+ghost use Rattle.std.specs.Prelude.{ℕ, List, IfOk, IfErr};
 ghost use Rattle.ttp_world.specs.declared.medl.Medl.{Medl};
 ghost use Rattle.ttp_world.specs.declared.script.Script.{Script};
 ghost use Rattle.ttp_world.specs.Medl.{IsValid};
 ghost use Rattle.ttp_world.specs.Script.{IsValidScript};
 ghost use Rattle.ttp_top.specs.Calls.Answer.{alone};
-ghost use Rattle.ttp_top.specs.Calls.Files.{list_plan, script_plan, both_plan};
+ghost use Rattle.ttp_top.specs.Calls.Files.{list_plan, script_plan, both_plan, trace_plan};
 ghost use Rattle.ttp_top.specs.Calls.Outcome.{Follows, CameTo};
 ghost use Rattle.ttp_top.specs.Calls.Plan.{Plan, outside};
 
 use crate::lines::{fault_line, say};
-use crate::read::{LIST_LIMIT, Refusal, SCRIPT_LIMIT, list_from, script_from};
+use crate::read::{LIST_LIMIT, Refusal, SCRIPT_LIMIT, TRACE_LIMIT, list_from, script_from};
 use std::alloc::Global;
 use ttp_base::{Library, LoadError, Sink};
 use ttp_world::{Medl, Script};
@@ -94,5 +94,27 @@ pub(crate) fn load_both<L: Library, K: Sink>(
             Err(status) => Err(status),
         },
         Err(status) => Err(status),
+    }
+}
+
+/// The first bytes of the file of this name, one more than a trace may have, or the status of a call that
+/// got none.
+pub(crate) fn load_trace<L: Library, K: Sink>(
+    alloc: Global,
+    name: &str,
+    library: &mut L,
+    out: &mut K,
+) -> Result<Vec<u8>, u8>
+    ensures ok { IfOk result (λ bytes. (next : List ℕ → Plan)
+        → CameTo (trace_plan name.now next) (outside (L.files library.old) (K.output out.old))
+        (next bytes.items) (outside (L.files library.new) (K.output out.new))) }
+    ensures err { IfErr result (λ status. (next : List ℕ → Plan)
+        → Follows (trace_plan name.now next) (outside (L.files library.old) (K.output out.old))
+        (outside (L.files library.new) (K.output out.new)) (alone status)) }
+{
+    match library.load(alloc, name, TRACE_LIMIT) {
+        Ok(bytes) => Ok(bytes),
+        Err(LoadError::Failed) => Err(say(out, b"load: trace\n", 5)),
+        Err(LoadError::Memory) => Err(7),
     }
 }

@@ -15,6 +15,9 @@ pub(crate) const LIST_LIMIT: usize = 1_048_576;
 /// The most bytes of a script file.
 pub(crate) const SCRIPT_LIMIT: usize = 1_048_576;
 
+/// The most bytes that the file of a trace may have.
+pub(crate) const TRACE_LIMIT: usize = 134_217_728;
+
 /// What is wrong with a file's bytes.
 #[derive(Clone, Copy, Debug, PartialEq, Eq)]
 pub enum FileFault {

@@ -1,7 +1,6 @@
 //! The commands `run MEDL SCRIPT` and `keeps MEDL SCRIPT`.
 ghost use Rattle.std.specs.Prelude.{◌≡◌, Some, None};
 ghost use Rattle.ttp_world.specs.Medl.{IsValid};
-ghost use Rattle.ttp_world.specs.Returning.{is_arm, has_arm};
 ghost use Rattle.ttp_world.specs.Script.{IsValidScript};
 ghost use Rattle.ttp_world.specs.Trace.{back_lines};
 ghost use Rattle.ttp_top.specs.Calls.Answer.{alone, answer};
@@ -14,35 +13,13 @@ ghost use Rattle.ttp_top.specs.Calls.Words.{run, keeps};
 use crate::load::load_both;
 use crate::trace::{RunFault, put_run};
 use cluster_run::Cluster;
-use hypothesis::{keeps as keeps_of, returns};
+use hypothesis::{has_arm, keeps as keeps_of, returns};
 use std::alloc::Global;
 use std::sync::Wait;
 use std::thread::Threads;
 use trace_text::{put_back, put_keep};
 use ttp_base::{Gate, Library, Sink};
-use ttp_world::{Event, Medl, Script};
-
-// Whether an event arms a node to listen again.
-fn is_arm(event: &Event) -> bool
-    ensures { result ≡ is_arm event.now }
-{
-    match event {
-        Event::Arm { .. } => true,
-        _ => false,
-    }
-}
-
-// Whether a node is armed.
-fn has_arm(script: &Script) -> bool
-    ensures { result ≡ has_arm script.now }
-{
-    for event in script.events.as_slice() {
-        if is_arm(event) {
-            return true;
-        }
-    }
-    false
-}
+use ttp_world::{Medl, Script};
 
 // The line on armed nodes, where a node is armed.
 fn show_back<K: Sink>(list: &Medl, script: &Script, out: &mut K) -> u8

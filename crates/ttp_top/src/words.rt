@@ -23,6 +23,12 @@ pub(crate) enum Command<'a> {
         list: &'a str,
         script: &'a str,
     },
+    /// Whether a text is a trace of a script for a list, each under its name.
+    Verify {
+        list: &'a str,
+        script: &'a str,
+        trace: &'a str,
+    },
     /// The line of the test for one two-faced sender, this node, for a list and a script, each under its
     /// name.
     Precision {
@@ -153,11 +159,16 @@ fn sample_command<'a>(list: &'a str, slots: &str, number: &str) -> Command<'a>
 }
 
 // The command of four words.
-fn long_command<'a>(verb: &str, list: &'a str, third: &'a str, fourth: &str) -> Command<'a>
+fn long_command<'a>(verb: &str, list: &'a str, third: &'a str, fourth: &'a str) -> Command<'a>
     ensures form { form_asked result ≡ form_of (verb.now ∷ list.now ∷ third.now ∷ fourth.now ∷ []) }
     ensures slots { HasSlots result }
 {
     match verb {
+        "verify" => Command::Verify {
+            list,
+            script: third,
+            trace: fourth,
+        },
         "precision" => match node_named(fourth.as_bytes()) {
             Some(node) => Command::Precision {
                 list,

@@ -9,16 +9,20 @@ use Rattle.ttp_world.specs.Trace.{test_lines}
 use Rattle.ttp_world.proofs.TraceLines.{test_lines-each, trace_lines-each}
 use Rattle.medl_text.specs.Schedule.{slot_table}
 use Rattle.medl_text.proofs.Lines.{slot_table-each}
+use Rattle.trace_check.specs.Answer.{is_trace}
 use Rattle.ttp_top.specs.declared.read.FileFault.{FileFault}
+use Rattle.ttp_top.specs.Calls.Differences.{same_line}
 use Rattle.ttp_top.specs.Calls.Files.{refused_list, after_list, refused_script, after_script, script_plan, both_plan}
-use Rattle.ttp_top.specs.Calls.Forms.{usage_line, table_ending, trace_ending, keep_ending, precision_ending}
-use Rattle.ttp_top.specs.Calls.Forms.{sample_ending, plan_of}
+use Rattle.ttp_top.specs.Calls.Files.{trace_plan}
+use Rattle.ttp_top.specs.Calls.Forms.{usage_line, table_ending, trace_ending, keep_ending, verify_ending}
+use Rattle.ttp_top.specs.Calls.Forms.{precision_ending, sample_ending, plan_of}
 use Rattle.ttp_top.specs.Calls.Plan.{Ending, File, Plan, line_ending, ends}
 use Rattle.ttp_top.specs.Calls.Texts.{Texts, one, fronts, IsAmong, AreLines}
-use Rattle.ttp_top.specs.Calls.Words.{Form, schedule, run, keeps, precision, sample}
+use Rattle.ttp_top.specs.Calls.Words.{Form, schedule, run, keeps, verify, precision, sample}
 use Rattle.ttp_top.specs.Files.Lines.{fault_line}
 use Rattle.ttp_top.specs.Files.Read.{list_from, script_from}
-use Rattle.ttp_top.proofs.Calls.Plans.{AllEnd, list_ends, both_end, EachFile}
+use Rattle.ttp_top.proofs.Calls.Plans.{AllEnd, list_ends, both_end, text_end, one_ends, EachFile}
+use Rattle.ttp_top.proofs.Calls.Differences.{differences-each}
 use Rattle.ttp_top.proofs.Calls.Precision.{precisions-each}
 use Rattle.ttp_top.proofs.Files.Lines.{fault_line-is_line}
 use Rattle.ttp_top.proofs.Samples.Lines.{samples-each}
@@ -71,6 +75,11 @@ plans_have (Some (keeps list script)) =
     both_end HasLines no_list no_script list script keep_ending
     (λ medl right.
     record { texts = one_text (test_lines medl right) (test_lines-each medl right); unfinished = one_text [] tt })
+plans_have (Some (verify list script trace)) =
+    text_end HasLines no_list no_script list script trace verify_ending
+    (λ medl right text.
+    one_ends HasLines (is_trace medl right text) _ _ (line_has 0 same_line refl)
+    (record { texts = differences-each medl right text; unfinished = one_text [] tt }))
 plans_have (Some (precision list script node)) =
     both_end HasLines no_list no_script list script (precision_ending node)
     (λ medl right. record { texts = precisions-each medl right node; unfinished = one_text [] tt })
@@ -87,19 +96,25 @@ list_files : (next : Medl → Plan) → ((list : Medl) → EachFile SaysLine (ne
 list_files next all (Ok list) = all list
 list_files next all (Err fault) = tt
 
-script_files : (ending : Script → Ending) (read : Result Script FileFault)
-    → EachFile SaysLine (after_script (λ script. ends (ending script)) read)
-script_files ending (Ok script) = tt
-script_files ending (Err fault) = tt
+script_files : (next : Script → Plan) → ((script : Script) → EachFile SaysLine (next script))
+    → (read : Result Script FileFault) → EachFile SaysLine (after_script next read)
+script_files next all (Ok script) = all script
+script_files next all (Err fault) = tt
+
+both_go : (list script : List ℕ) (next : Medl → Script → Plan)
+    → ((medl : Medl) (right : Script) → EachFile SaysLine (next medl right))
+    → EachFile SaysLine (both_plan list script next)
+both_go list script next all = (
+  refl,
+  λ bytes.
+      list_files (λ medl. script_plan medl script (next medl))
+      (λ medl. (refl, λ script_bytes. script_files (next medl) (all medl) (script_from medl script_bytes)))
+      (list_from bytes),
+)
 
 both_files : (list script : List ℕ) (ending : Medl → Script → Ending)
     → EachFile SaysLine (both_plan list script (λ medl right. ends (ending medl right)))
-both_files list script ending = (
-  refl,
-  λ bytes.
-      list_files (λ medl. script_plan medl script (λ right. ends (ending medl right)))
-      (λ medl. (refl, λ script_bytes. script_files (ending medl) (script_from medl script_bytes))) (list_from bytes),
-)
+both_files list script ending = both_go list script (λ medl right. ends (ending medl right)) (λ medl right. tt)
 
 pub plans_say : (form : Option Form) → EachFile SaysLine (plan_of form)
 plans_say None = tt
@@ -107,6 +122,9 @@ plans_say (Some (schedule list)) =
     (refl, λ bytes. list_files (λ medl. ends (table_ending medl)) (λ medl. tt) (list_from bytes))
 plans_say (Some (run list script)) = both_files list script trace_ending
 plans_say (Some (keeps list script)) = both_files list script keep_ending
+plans_say (Some (verify list script trace)) =
+    both_go list script (λ medl right. trace_plan trace (λ text. ends (verify_ending medl right text)))
+    (λ medl right. (refl, λ text. tt))
 plans_say (Some (precision list script node)) = both_files list script (precision_ending node)
 plans_say (Some (sample list slots number)) =
     (refl, λ bytes. list_files (λ medl. ends (sample_ending slots number medl)) (λ medl. tt) (list_from bytes))

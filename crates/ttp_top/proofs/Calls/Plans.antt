@@ -1,16 +1,19 @@
 -- The endings that a plan may come to.
-use Rattle.std.proofs.Common.{◌≡◌, ◌≢◌, ℕ, ◌+◌, ◌≤◌, List, [], ◌∷◌, take, Option, Some, None, Result, Ok, Err}
+use Rattle.std.proofs.Common.{◌≡◌, ◌≢◌, ℕ, ◌+◌, ◌≤◌, List, [], ◌∷◌, take, Bool, true, false, Option, Some, None, Result, Ok, Err}
 use Rattle.std.proofs.Common.{subst, sym, arith}
+use Rattle.std.specs.Prelude.{if◌then◌else◌}
 use Rattle.ttp_base.specs.Outside.{Held, untold, absent, holds, Load, Gives}
 use Rattle.ttp_world.specs.declared.medl.Medl.{Medl}
 use Rattle.ttp_world.specs.declared.script.Script.{Script}
+use Rattle.trace_check.specs.Answer.{is_trace}
 use Rattle.ttp_top.specs.declared.read.FileFault.{FileFault}
 use Rattle.ttp_top.specs.Calls.Files.{refused_list, refused_script, after_list, after_script, script_plan, both_plan}
-use Rattle.ttp_top.specs.Calls.Forms.{table_ending, trace_ending, keep_ending, precision_ending, sample_ending}
-use Rattle.ttp_top.specs.Calls.Forms.{plan_of}
+use Rattle.ttp_top.specs.Calls.Files.{trace_plan}
+use Rattle.ttp_top.specs.Calls.Forms.{table_ending, trace_ending, keep_ending, verify_ending, precision_ending}
+use Rattle.ttp_top.specs.Calls.Forms.{sample_ending, plan_of}
 use Rattle.ttp_top.specs.Calls.Plan.{Ending, File, Plan, ends, asks, Comes, AsksFirst, told_ending}
 use Rattle.ttp_top.specs.Calls.Promise.{EachName}
-use Rattle.ttp_top.specs.Calls.Words.{Form, schedule, run, keeps, precision, sample}
+use Rattle.ttp_top.specs.Calls.Words.{Form, schedule, run, keeps, verify, precision, sample}
 use Rattle.ttp_top.specs.Files.Read.{list_from, script_from}
 
 -- each ending of a plan is of a kind
@@ -44,15 +47,36 @@ script_ends : (P : Ending → Type 0) → ((fault : FileFault) → P (refused_sc
 script_ends P refused next all (Ok script) = all script
 script_ends P refused next all (Err fault) = refused fault
 
+both_go : (P : Ending → Type 0) → ((fault : FileFault) → P (refused_list fault))
+    → ((fault : FileFault) → P (refused_script fault)) → (list script : List ℕ) (next : Medl → Script → Plan)
+    → ((medl : Medl) (right : Script) → AllEnd P (next medl right)) → AllEnd P (both_plan list script next)
+both_go P no_list no_script list script next all = λ bytes.
+    list_ends P no_list (λ medl. script_plan medl script (next medl))
+    (λ medl script_bytes. script_ends P no_script (next medl) (all medl) (script_from medl script_bytes))
+    (list_from bytes)
+
 pub both_end : (P : Ending → Type 0) → ((fault : FileFault) → P (refused_list fault))
     → ((fault : FileFault) → P (refused_script fault)) → (list script : List ℕ) (ending : Medl → Script → Ending)
     → ((medl : Medl) (right : Script) → P (ending medl right))
     → AllEnd P (both_plan list script (λ medl right. ends (ending medl right)))
-both_end P no_list no_script list script ending all = λ bytes.
-    list_ends P no_list (λ medl. script_plan medl script (λ right. ends (ending medl right)))
-    (λ medl script_bytes.
-    script_ends P no_script (λ right. ends (ending medl right)) (all medl) (script_from medl script_bytes))
-    (list_from bytes)
+both_end P no_list no_script list script ending all =
+    both_go P no_list no_script list script (λ medl right. ends (ending medl right)) all
+
+-- and where a text is loaded behind both
+pub text_end : (P : Ending → Type 0) → ((fault : FileFault) → P (refused_list fault))
+    → ((fault : FileFault) → P (refused_script fault)) → (list script trace : List ℕ)
+    (ending : Medl → Script → List ℕ → Ending)
+    → ((medl : Medl) (right : Script) (text : List ℕ) → P (ending medl right text))
+    → AllEnd P (both_plan list script (λ medl right. trace_plan trace (λ text. ends (ending medl right text))))
+text_end P no_list no_script list script trace ending all =
+    both_go P no_list no_script list script
+    (λ medl right. trace_plan trace (λ text. ends (ending medl right text))) (λ medl right text. all medl right text)
+
+-- of two endings one
+pub one_ends : (P : Ending → Type 0) (same : Bool) (one other : Ending) → P one → P other
+    → P (if same then one else other)
+one_ends P true one other first second = first
+one_ends P false one other first second = second
 
 list_refused : (fault : FileFault) → IsOfForm (refused_list fault)
 list_refused fault = (omega arith, λ two. omega arith)
@@ -70,6 +94,10 @@ forms_end (run list script) =
 forms_end (keeps list script) =
     both_end IsOfForm list_refused script_refused list script keep_ending
     (λ medl right. (omega arith, λ two. omega arith))
+forms_end (verify list script trace) =
+    text_end IsOfForm list_refused script_refused list script trace verify_ending
+    (λ medl right text.
+    one_ends IsOfForm (is_trace medl right text) _ _ (omega arith, λ two. omega arith) (omega arith, λ two. omega arith))
 forms_end (precision list script node) =
     both_end IsOfForm list_refused script_refused list script (precision_ending node)
     (λ medl right. (omega arith, λ two. omega arith))

@@ -1,6 +1,6 @@
 -- The promise of a call, from the plan that it followed.
 use Rattle.std.proofs.Common.{◌≡◌, ◌≢◌, ◌⊎◌, ℕ, ◌≤◌, List, [], ◌∷◌, ◌++◌, Option, Some, None, refl, ap, sym, subst, ◌∙◌}
-use Rattle.std.proofs.Common.{false, inl, inr, append_assoc, append-nil, arith}
+use Rattle.std.proofs.Common.{true, false, inl, inr, append_assoc, append-nil, arith}
 use Rattle.std.specs.Prelude.{◌==◌, ◌&&◌, is_some}
 use Rattle.ttp_base.specs.Outside.{Held, Load, Files, Gives, HasRisen, NoneRose, NoneFell, HoldsTheSame}
 use Rattle.ttp_base.specs.Outside.{Output, Wrote}
@@ -11,8 +11,8 @@ use Rattle.ttp_top.specs.Calls.Plan.{Comes, AsksFirst, told_ending}
 use Rattle.ttp_top.specs.Calls.Texts.{Texts, nothing, WroteAmong, CutAmong, AreLines, GaveLines}
 use Rattle.ttp_top.specs.Calls.Promise.{Reached, Unloaded, IsDue, IsUnfinished, EachName, NoneAskedRose, Promise}
 use Rattle.ttp_top.specs.Calls.Forms.{plan_of}
-use Rattle.ttp_top.specs.Calls.Words.{Form, is_run, runs_cluster}
-use Rattle.ttp_top.proofs.Calls.Kept.{plans_keep, none_kept, plans_let}
+use Rattle.ttp_top.specs.Calls.Words.{Form, is_run, is_verify, runs_cluster}
+use Rattle.ttp_top.proofs.Calls.Kept.{plans_keep, none_kept, plans_let, plans_differ}
 use Rattle.ttp_top.proofs.Calls.Lines.{HasLines, line_has, plans_have, SaysLine, plans_say, lines_front}
 use Rattle.ttp_top.proofs.Calls.Plans.{AllEnd, all_come, file_comes, IsOfForm, IsFinal, forms_end, plans_end}
 use Rattle.ttp_top.proofs.Calls.Plans.{told_comes}
@@ -355,6 +355,12 @@ usage_alone None held loads ending comes two = refl
 usage_alone (Some form) held loads ending comes two =
     absurd ((all_come IsOfForm held (plan_of (Some form)) loads ending (forms_end form) comes).1 two)
 
+-- status 1 is an answer of `verify`
+differs_alone : (form : Option Form) (held : List ℕ → Held) (loads : List Load) (ending : Ending)
+    → Comes held (plan_of form) loads (ends ending) → ending.status ≡ 1 → is_verify form ≡ true
+differs_alone form held loads ending comes one =
+    all_come _ held (plan_of form) loads ending (plans_differ form) comes one
+
 pub each_last : (P : List ℕ → Type 0) (loads : List Load) (load : Load) → EachName P (loads ++ load ∷ [])
     → P load.name
 each_last P [] load each = each.0
@@ -396,6 +402,9 @@ promise form before now answer follows never =
       usage = λ two.
           let final = up_to_4 answer.status w (omega (arith, two)) in
           usage_alone form before.files.held e.loads final.0 final.1.comes (sym final.2.status ∙ two);
+      differs = λ one.
+          let final = up_to_4 answer.status w (omega (arith, one)) in
+          differs_alone form before.files.held e.loads final.0 final.1.comes (sym final.2.status ∙ one);
       no_form = never;
       kept = kept_then form before now e.loads answer w;
       pieces = gave_lines form before now e.loads answer w;

@@ -8,7 +8,7 @@ use Rattle.ttp_world.specs.TraceNumbers.{numbers_in}
 use Rattle.ttp_world.specs.World.{Numbers}
 use Rattle.script_gen.specs.Generator.{generated}
 use Rattle.cluster_run.specs.Standing.{ClusterView, ClusterStandsFor}
-use Rattle.ttp_top.specs.Calls.Texts.{Texts, one, traces, fronts, precisions, samples}
+use Rattle.ttp_top.specs.Calls.Texts.{Texts, one, traces, fronts, differences, precisions, samples}
 
 pub record Answer : Type 0 where
   pub status : ℕ
@@ -42,6 +42,7 @@ IsKeptBeside (one text) lines kept = kept ≡ None
 IsKeptBeside (traces list script) lines kept =
     IsSomeAnd kept (λ c. HasRun list script (numbers_in list script lines) c)
 IsKeptBeside (fronts list script) lines kept = kept ≡ None
+IsKeptBeside (differences list script text) lines kept = kept ≡ None
 IsKeptBeside (precisions list script node) lines kept = kept ≡ None
 IsKeptBeside (samples list slots number) lines kept =
     IsSomeAnd kept (λ c. HasRunLegally list (generated list slots number) c)

@@ -5,7 +5,7 @@ use Rattle.ttp_world.specs.declared.script.Script.{Script}
 use Rattle.ttp_top.specs.declared.read.FileFault.{FileFault}
 use Rattle.ttp_top.specs.Calls.Plan.{Ending, File, Plan, line_ending, ends, asks}
 use Rattle.ttp_top.specs.Files.Lines.{fault_line}
-use Rattle.ttp_top.specs.Files.Read.{list_limit, list_from, script_limit, script_from}
+use Rattle.ttp_top.specs.Files.Read.{list_limit, list_from, script_limit, script_from, trace_limit}
 
 -- A list.
 
@@ -41,3 +41,11 @@ script_plan list name next = asks (script_file name) (λ bytes. after_script nex
 -- a list, and then a script for it
 abbrev pub both_plan : List ℕ → List ℕ → (Medl → Script → Plan) → Plan
 both_plan list script next = list_plan list (λ medl. script_plan medl script (next medl))
+
+-- A text that may be a trace.
+
+abbrev pub trace_file : List ℕ → File
+trace_file name = record { name = name; limit = trace_limit; missing = codes "load: trace\n" }
+
+abbrev pub trace_plan : List ℕ → (List ℕ → Plan) → Plan
+trace_plan name next = asks (trace_file name) next

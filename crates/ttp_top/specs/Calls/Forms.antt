@@ -1,13 +1,15 @@
 -- What each form asks for, and how it ends.
-use Rattle.std.specs.Prelude.{ℕ, List, Option, Some, None, codes, ◌++◌}
+use Rattle.std.specs.Prelude.{ℕ, List, Option, Some, None, codes, ◌++◌, if◌then◌else◌}
 use Rattle.ttp_world.specs.declared.medl.Medl.{Medl}
 use Rattle.ttp_world.specs.declared.script.Script.{Script}
 use Rattle.ttp_world.specs.Trace.{test_lines}
 use Rattle.medl_text.specs.Schedule.{slot_table}
-use Rattle.ttp_top.specs.Calls.Files.{list_plan, both_plan}
+use Rattle.trace_check.specs.Answer.{is_trace}
+use Rattle.ttp_top.specs.Calls.Differences.{same_line}
+use Rattle.ttp_top.specs.Calls.Files.{list_plan, both_plan, trace_plan}
 use Rattle.ttp_top.specs.Calls.Plan.{Ending, Plan, whole_ending, line_ending, ends}
-use Rattle.ttp_top.specs.Calls.Texts.{one, traces, fronts, precisions, samples}
-use Rattle.ttp_top.specs.Calls.Words.{Form, schedule, run, keeps, precision, sample}
+use Rattle.ttp_top.specs.Calls.Texts.{one, traces, fronts, differences, precisions, samples}
+use Rattle.ttp_top.specs.Calls.Words.{Form, schedule, run, keeps, verify, precision, sample}
 
 abbrev pub usage_line : List ℕ
 usage_line =
@@ -30,6 +32,11 @@ trace_ending list script =
 abbrev pub keep_ending : Medl → Script → Ending
 keep_ending list script = whole_ending 0 (one (test_lines list script))
 
+-- whether a text is a trace of a list and a script: where it is none, the first line that is wrong, with status 1
+abbrev pub verify_ending : Medl → Script → List ℕ → Ending
+verify_ending list script text =
+    if is_trace list script text then line_ending 0 same_line else whole_ending 1 (differences list script text)
+
 -- the line of the test for one two-faced sender
 abbrev pub precision_ending : ℕ → Medl → Script → Ending
 precision_ending node list script = whole_ending 0 (precisions list script node)
@@ -44,6 +51,8 @@ plan_of None = ends usage_ending
 plan_of (Some (schedule list)) = list_plan list (λ medl. ends (table_ending medl))
 plan_of (Some (run list script)) = both_plan list script (λ medl right. ends (trace_ending medl right))
 plan_of (Some (keeps list script)) = both_plan list script (λ medl right. ends (keep_ending medl right))
+plan_of (Some (verify list script trace)) =
+    both_plan list script (λ medl right. trace_plan trace (λ text. ends (verify_ending medl right text)))
 plan_of (Some (precision list script node)) =
     both_plan list script (λ medl right. ends (precision_ending node medl right))
 plan_of (Some (sample list slots number)) = list_plan list (λ medl. ends (sample_ending slots number medl))

@@ -11,6 +11,7 @@ use Rattle.ttp_world.specs.Script.{IsValidScript}
 use Rattle.ttp_world.specs.Trace.{trace_lines}
 use Rattle.ttp_world.specs.World.{Numbers}
 use Rattle.script_gen.specs.Generator.{generated}
+use Rattle.ttp_top.specs.Calls.Differences.{IsDifference}
 use Rattle.ttp_top.specs.Calls.Precision.{precision_line}
 use Rattle.ttp_top.specs.Samples.Lines.{sample_lines}
 
@@ -22,6 +23,8 @@ pub data Texts : Type 0 where
   traces : (list : Medl) (script : Script) → Texts
   -- no lines, or the first lines of a trace of them, but not all
   fronts : (list : Medl) (script : Script) → Texts
+  -- the line that names the first wrong one of a text that is no trace of them
+  differences : (list : Medl) (script : Script) (text : List ℕ) → Texts
   -- the one line on a node that may be two-faced, which is the same for each legal choice
   precisions : (list : Medl) (script : Script) (node : ℕ) → Texts
   -- the four lines on a generated run, which are the same for each legal choice
@@ -60,6 +63,7 @@ abbrev pub IsAmong : Texts → Lines → Type 0
 IsAmong (one text) lines = lines ≡ text
 IsAmong (traces list script) lines = IsTrace list script lines
 IsAmong (fronts list script) lines = (lines ≡ []) ⊎ IsFront list script lines
+IsAmong (differences list script text) lines = IsDifference list script text lines
 IsAmong (precisions list script node) lines = IsPrecision list script node lines
 IsAmong (samples list slots number) lines = IsSample list slots number lines
 

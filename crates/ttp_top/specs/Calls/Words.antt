@@ -18,6 +18,8 @@ pub data Form : Type 0 where
   run : (list script : List ℕ) → Form
   -- the line of the hypothesis test, for the script and the list of these names
   keeps : (list script : List ℕ) → Form
+  -- whether the text of the third name is a trace of the script of this name, for the list of this name
+  verify : (list script trace : List ℕ) → Form
   -- the line of the test for one two-faced sender, this node, for the script and the list of these names
   precision : (list script : List ℕ) (node : ℕ) → Form
   -- the summary of a run of the list of this name, of so many slots, by the script that this number gives
@@ -26,6 +28,10 @@ pub data Form : Type 0 where
 abbrev pub is_run : Option Form → Bool
 is_run (Some (run list script)) = true
 is_run _ = false
+
+abbrev pub is_verify : Option Form → Bool
+is_verify (Some (verify list script trace)) = true
+is_verify _ = false
 
 -- the forms that run a cluster, which is kept once all is written
 abbrev pub runs_cluster : Option Form → Bool
@@ -72,8 +78,9 @@ form_of (verb ∷ list ∷ script ∷ []) =
     if bytes_eq verb (codes "run") then Some (run list script)
     else (if bytes_eq verb (codes "keeps") then Some (keeps list script) else None)
 form_of (verb ∷ list ∷ third ∷ fourth ∷ []) =
-    if bytes_eq verb (codes "precision") then option_map (precision list third) (node_named fourth)
-    else (if bytes_eq verb (codes "sample") then sample_of list (slots_named third) (draw_named fourth) else None)
+    if bytes_eq verb (codes "verify") then Some (verify list third fourth)
+    else (if bytes_eq verb (codes "precision") then option_map (precision list third) (node_named fourth)
+    else (if bytes_eq verb (codes "sample") then sample_of list (slots_named third) (draw_named fourth) else None))
 form_of _ = None
 
 -- the form that a command of the code stands for
@@ -81,6 +88,7 @@ abbrev pub form_asked : Command → Option Form
 form_asked (commands.Schedule list) = Some (schedule list.now)
 form_asked (commands.Run list script) = Some (run list.now script.now)
 form_asked (commands.Keeps list script) = Some (keeps list.now script.now)
+form_asked (commands.Verify list script trace) = Some (verify list.now script.now trace.now)
 form_asked (commands.Precision list script node) = Some (precision list.now script.now node)
 form_asked (commands.Sample list slots number) = Some (sample list.now slots number)
 form_asked commands.NoForm = None

@@ -11,12 +11,15 @@ use Rattle.ttp_top.specs.declared.read.FileFault.TheVariants as wrong
 use Rattle.ttp_top.specs.declared.read.Refusal.{Refusal}
 use Rattle.ttp_top.specs.declared.read.Refusal.TheVariants as refusal
 
--- the most bytes that a list file, and a script file, may have
+-- the most bytes that a list file, a script file, and the file of a trace may have
 abbrev pub list_limit : ℕ
 list_limit = 1048576
 
 abbrev pub script_limit : ℕ
 script_limit = 1048576
+
+abbrev pub trace_limit : ℕ
+trace_limit = 134217728
 
 -- A list.
 

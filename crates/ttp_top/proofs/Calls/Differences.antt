@@ -1,0 +1,77 @@
+-- The lines on whether a text is a trace.
+use Rattle.std.proofs.Common.{◌≡◌, ℕ, Bool, true, false, List, [], ◌∷◌, ◌++◌, refl, ap, sym, subst, ◌∙◌, inl, inr, arith}
+use Rattle.std.specs.Prelude.{◌==◌, ◌↔◌, codes, decimal, if◌then◌else◌}
+use Rattle.std.proofs.lemmas.List.Folds.{list_any-append}
+use Rattle.ttp_base.specs.Outside.{Output}
+use Rattle.ttp_base.specs.Text.{Lines, newline, is_line}
+use Rattle.ttp_base.proofs.Lines.{is_line-append}
+use Rattle.ttp_base.proofs.Numerals.{has, has-decimal}
+use Rattle.ttp_world.specs.declared.medl.Medl.{Medl}
+use Rattle.ttp_world.specs.declared.script.Script.{Script}
+use Rattle.trace_check.specs.declared.answer.Outcome.TheVariants as outcome
+use Rattle.trace_check.specs.Answer.{is_trace, IsFirstWrong}
+use Rattle.ttp_top.specs.Calls.Answer.{Answer}
+use Rattle.ttp_top.specs.Calls.Differences.{same_line, differs_line, IsDifference}
+use Rattle.ttp_top.specs.Calls.Forms.{verify_ending}
+use Rattle.ttp_top.specs.Calls.Outcome.{Says}
+use Rattle.ttp_top.specs.Calls.Plan.{Ending, line_ending, whole_ending}
+use Rattle.ttp_top.specs.Calls.Texts.{differences, AreLines}
+
+-- Each is one line.
+
+differs-by_words : (line : List ℕ) → has 10 line ≡ false → is_line (codes "differs at line " ++ line ++ newline) ≡ true
+differs-by_words line none =
+    is_line-append (codes "differs at line " ++ line) newline (simp (list_any-append (λ c. c == 10), none)) refl
+
+differs_line-is_line : (line : ℕ) → is_line (differs_line line) ≡ true
+differs_line-is_line line = differs-by_words (decimal line) (has-decimal 10 line (omega arith))
+
+pub differences-each : (list : Medl) (script : Script) (text : List ℕ) (lines : Lines)
+    → IsDifference list script text lines → AreLines lines
+differences-each list script text lines is = subst AreLines (sym is.said) (differs_line-is_line is.line, tt)
+
+-- What was said.
+
+-- the ending where a text is a trace, or none
+abbrev ending_if : Medl → Script → List ℕ → Bool → Ending
+ending_if list script text same =
+    if same then line_ending 0 same_line else whole_ending 1 (differences list script text)
+
+-- where a line is named the text is no trace
+pub differs-none : (list : Medl) (script : Script) (text : List ℕ) (line : ℕ)
+    → ((outcome.Differs line ≡ outcome.Same) ↔ (is_trace list script text ≡ true)) → is_trace list script text ≡ false
+differs-none list script text line same = by_case (is_trace list script text) same
+  where
+    by_case : (b : Bool) → ((outcome.Differs line ≡ outcome.Same) ↔ (b ≡ true)) → b ≡ false
+    by_case false is = refl
+    by_case true is = let is_same : outcome.Differs line ≡ outcome.Same = is.1 refl in absurd cc
+
+pub differs-said : (list : Medl) (script : Script) (text : List ℕ) (line : ℕ) (before now : Output) (answer : Answer)
+    → is_trace list script text ≡ false → IsFirstWrong list script text line
+    → Says (line_ending 1 (differs_line line)) before now answer
+    → Says (verify_ending list script text) before now answer
+differs-said list script text line before now answer none first said =
+    subst (λ same. Says (ending_if list script text same) before now answer) (sym none) (told said)
+  where
+    told : Says (line_ending 1 (differs_line line)) before now answer
+        → Says (whole_ending 1 (differences list script text)) before now answer
+    told (inl showed) =
+        inl (record {
+          status = showed.status;
+          text = record {
+            lines = showed.text.lines;
+            among = record { line = line; first = first; said = showed.text.among };
+            wrote = showed.text.wrote;
+          };
+          kept = showed.kept;
+        })
+    told (inr stopped) =
+        inr (record {
+          status = stopped.status;
+          text = record {
+            lines = stopped.text.lines;
+            among = record { line = line; first = first; said = stopped.text.among };
+            cut = stopped.text.cut;
+          };
+          none = stopped.none;
+        })

@@ -1,8 +1,0 @@
-use Rattle.std.proofs.Common.{◌≡◌, drop}
-use Rattle.std.specs.List.{list_any}
-use Rattle.ttp_world.specs.Returning.{is_arm}
-use Rattle.ttp_top.proofs.run.has_arm.Given as goal
-
--- what the events that are left say all of them do
-abbrev pub invariant-loop-event : goal.invariant-loop-event
-invariant-loop-event l = list_any is_arm (drop l.event-index l.script.events) ≡ list_any is_arm l.script.events
