@@ -62,10 +62,6 @@ product_six : (d : ℤ) (n : ℕ) → pos 0 ≤ℤ d
 product_six (pos a) n up = omega (arith, ints)
 product_six (negsuc a) n up = absurd (omega (arith, ints, up))
 
-product_one : (d : ℤ) → pos 0 ≤ℤ d → d *ℤ pos 1 ≡ d
-product_one (pos a) up = omega (arith, ints)
-product_one (negsuc a) up = absurd (omega (arith, ints, up))
-
 pub product_up : (d : ℤ) (n : ℕ) → pos 0 ≤ℤ d → pos 0 ≤ℤ (d *ℤ pos n)
 product_up (pos a) n up = omega (arith, ints)
 product_up (negsuc a) n up = absurd (omega (arith, ints, up))
