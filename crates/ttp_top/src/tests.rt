@@ -32,7 +32,7 @@ const TABLE: [&str; 5] = [
 ];
 
 const USAGE: &str = "usage: schedule MEDL | run MEDL SCRIPT | keeps MEDL SCRIPT | \
-    verify MEDL SCRIPT TRACE | sample MEDL SLOTS NUMBER | precision MEDL SCRIPT NODE\n";
+    verify MEDL SCRIPT TRACE | sample MEDL SLOTS NUMBER | precision MEDL SCRIPT NODE | modes MEDL SCRIPT TRACE\n";
 
 // The texts, one after another.
 fn joined<R: AllocGlobal>(rt: &R, parts: &[&str]) -> Result<String, Fail> {
