@@ -12,3 +12,4 @@
 #![tactic(auto)]
 
 pub mod laws;
+mod worked_case;

@@ -187,7 +187,7 @@ fn the_limit_of_a_list_file(rt: HostRuntime) -> Result<(), Fail> {
 
 #[test]
 fn words_of_no_form(rt: HostRuntime) -> Result<(), Fail> {
-    let words: [&[&str]; 8] = [
+    let words: [&[&str]; 11] = [
         &[],
         &["schedule"],
         &["run", "cluster.toml"],
@@ -196,6 +196,9 @@ fn words_of_no_form(rt: HostRuntime) -> Result<(), Fail> {
         &["Schedule", "cluster.toml"],
         &["schedule", "cluster.toml", "cluster.toml"],
         &["--help"],
+        &["sample", "cluster.toml", "12"],
+        &["Sample", "cluster.toml", "12", "7"],
+        &["run", "cluster.toml", "1", "2", "3", "4", "5"],
     ];
     for words in words {
         let (status, text) = answer(&rt, words, b"", 0, 0)?;
