@@ -30,6 +30,8 @@ class Slot:
         self.data = keys["data"]
         self.sync = keys["sync"]
         self.start = keys["start"]
+        self.requests = keys.get("requests", False)
+        self.live = keys.get("live")
 
 
 class List:
@@ -46,6 +48,7 @@ class List:
                 (slots[-1] if slots and key in ("kinds", "data", "sync", "start", "requests", "live") else top)[key] = meant
         self.version, self.rounds, self.schedule = top["version"], top["rounds"], top["schedule"]
         self.buffers = top["buffers"]
+        self.modes = top.get("modes", 1)
         self.drift, self.error, self.window = top["drift"], top["error"], top["window"]
         self.slots = [Slot(keys) for keys in slots]
         self.nodes = len(slots)

@@ -9,6 +9,7 @@ builds, and prints figures alone; nothing passes or fails here.
 """
 
 import os
+import struct
 import subprocess
 import sys
 import tempfile
@@ -18,33 +19,39 @@ from runs import list_text, program, script_text, written
 
 SLOTS = (1_000, 2_000)
 NODES = 8
+# The counts stand in a file that both processes map, since the program ends without the C library's last steps.
 COUNTING = r"""
 #define _GNU_SOURCE
 #include <dlfcn.h>
 #include <fcntl.h>
 #include <stdarg.h>
 #include <stdatomic.h>
-#include <stdio.h>
 #include <stdlib.h>
+#include <sys/mman.h>
 
 void *__libc_malloc(size_t);
 void *__libc_calloc(size_t, size_t);
 void *__libc_realloc(void *, size_t);
 void *__libc_memalign(size_t, size_t);
-static atomic_long asked, opened;
+static struct { atomic_long asked, opened; } unseen, *counts = &unseen;
 
-void *malloc(size_t size) { asked++; return __libc_malloc(size); }
-void *calloc(size_t count, size_t size) { asked++; return __libc_calloc(count, size); }
-void *realloc(void *old, size_t size) { asked++; return __libc_realloc(old, size); }
-void *memalign(size_t align, size_t size) { asked++; return __libc_memalign(align, size); }
-void *aligned_alloc(size_t align, size_t size) { asked++; return __libc_memalign(align, size); }
+__attribute__((constructor)) static void begin(void) {
+    const char *file = getenv("COUNTED");
+    void *at = file ? mmap(0, sizeof unseen, PROT_READ | PROT_WRITE, MAP_SHARED, atoi(file), 0) : MAP_FAILED;
+    if (at != MAP_FAILED) counts = at;
+}
+void *malloc(size_t size) { counts->asked++; return __libc_malloc(size); }
+void *calloc(size_t count, size_t size) { counts->asked++; return __libc_calloc(count, size); }
+void *realloc(void *old, size_t size) { counts->asked++; return __libc_realloc(old, size); }
+void *memalign(size_t align, size_t size) { counts->asked++; return __libc_memalign(align, size); }
+void *aligned_alloc(size_t align, size_t size) { counts->asked++; return __libc_memalign(align, size); }
 int posix_memalign(void **out, size_t align, size_t size) {
-    asked++;
+    counts->asked++;
     *out = __libc_memalign(align, size);
     return *out ? 0 : 12;
 }
 static int counted(const char *name, const char *path, int flags, int mode) {
-    opened++;
+    counts->opened++;
     return ((int (*)(const char *, int, ...))dlsym(RTLD_NEXT, name))(path, flags, mode);
 }
 int open(const char *path, int flags, ...) {
@@ -54,10 +61,6 @@ int open(const char *path, int flags, ...) {
 int open64(const char *path, int flags, ...) {
     va_list rest; va_start(rest, flags); int mode = va_arg(rest, int); va_end(rest);
     return counted("open64", path, flags, mode);
-}
-__attribute__((destructor)) static void told(void) {
-    const char *file = getenv("COUNTED");
-    if (file) dprintf(atoi(file), "%ld %ld", atomic_load(&asked), atomic_load(&opened));
 }
 """
 
@@ -74,16 +77,15 @@ def host_lines(slots, writes):
 
 def counts_of(library, words):
     """How often memory was asked for, and how many files were opened."""
-    reading, writing = os.pipe()
-    surroundings = {**os.environ, "LD_PRELOAD": library, "COUNTED": str(writing)}
-    command = [program(), *words]
-    ran = subprocess.run(command, env=surroundings, pass_fds=[writing], stdout=subprocess.DEVNULL, check=False)
-    os.close(writing)
-    told = os.read(reading, 100).split()
-    os.close(reading)
-    if ran.returncode != 0:
-        sys.exit(f"status {ran.returncode} from {command}")
-    return tuple(int(count) for count in told)
+    with tempfile.TemporaryFile() as file:
+        file.truncate(16)
+        surroundings = {**os.environ, "LD_PRELOAD": library, "COUNTED": str(file.fileno())}
+        command = [program(), *words]
+        ran = subprocess.run(command, env=surroundings, pass_fds=[file.fileno()], stdout=subprocess.DEVNULL, check=False)
+        if ran.returncode != 0:
+            sys.exit(f"status {ran.returncode} from {command}")
+        file.seek(0)
+        return struct.unpack("ll", file.read(16))
 
 
 def commands(folder):

@@ -21,12 +21,12 @@ def write(path, text):
         file.write(text)
 
 
-def rattle_program(folder, name, uses, source, invariants={}, loop="loop", imports=""):
+def rattle_program(folder, name, uses, source, invariants={}, loop="loop", imports="", proofs={}):
     """A program of this name and source, over a copy of the crates that it uses and those below them.
 
     `uses` is what stands behind the program's name in crates.txt, and `invariants` has what the loop of a function
-    keeps; `loop` names those loops, and `imports` has the lines by which their invariants import words. Building the
-    program proves it, and what `rt` has not proved before.
+    keeps; `loop` names those loops, and `imports` has the lines by which their invariants import words. `proofs` has
+    other files of its proof. Building the program proves it, and what `rt` has not proved before.
     """
     if shutil.which("rt") is None:
         sys.exit("rt is not on the path")
@@ -50,6 +50,8 @@ def rattle_program(folder, name, uses, source, invariants={}, loop="loop", impor
     for function, invariant in invariants.items():
         text = INVARIANT.format(name=name, function=function, invariant=invariant, loop=loop, imports=imports)
         write(os.path.join(program, "proofs", function, "Invariants.antt"), text)
+    for file, text in proofs.items():
+        write(os.path.join(program, "proofs", file), text)
     built = os.path.join(program, "out", name)
     told = subprocess.run(["rt", "run"], cwd=program, stdin=subprocess.DEVNULL, capture_output=True, text=True)
     if not os.path.exists(built):

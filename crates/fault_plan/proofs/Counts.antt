@@ -13,13 +13,13 @@ use Rattle.fault_plan.specs.Fates.{is_shown_in, is_lasting_after, is_steady_afte
 use Rattle.fault_plan.specs.Fates.{is_measured}
 use Rattle.fault_plan.specs.GoodPlan.{IsGoodPlan}
 use Rattle.fault_plan.specs.Ledger.{ledger_of}
-use Rattle.fault_plan.specs.Told.{IsLossOf, IsLedgerOf, IsTold}
+use Rattle.fault_plan.specs.Told.{IsLossOf, IsTold}
 use Rattle.fault_plan.proofs.FateTells.{fate-told}
 use Rattle.fault_plan.proofs.Ledgers.{ledger-told}
 use Rattle.fault_plan.proofs.Persists.{lasting-before}
 use Rattle.fault_plan.proofs.Returns.{entry-is}
 use Rattle.fault_plan.proofs.Tallies.{count-fewer, count-none, count-one, count-below, count-round}
-use Rattle.fault_plan.proofs.Turns.{next_turn, turns_apart}
+use Rattle.fault_plan.proofs.Turns.{turns_apart}
 
 -- First own slots of lost nodes.
 

@@ -2,7 +2,7 @@
 use Rattle.std.proofs.Common.{◌≡◌, ◌≢◌, ℕ, zero, suc, ◌+◌, ◌%◌, ◌<◌, ◌≤◌, Bool, true, false, cond, not, ◌&&◌, ◌||◌}
 use Rattle.std.proofs.Common.{refl, ap, sym, subst, ◌∙◌, inl, inr, mod-lt, arith}
 use Rattle.std.specs.Prelude.{◌==◌}
-use Rattle.std.proofs.lemmas.Bool.{cases_eq, eqb-true, eqb-false, eq-eqb, ne_eqb, and_from, and_right}
+use Rattle.std.proofs.lemmas.Bool.{cases_eq, eq-eqb, ne_eqb}
 use Rattle.std.proofs.Math.Nat.{mod-eq_of_lt}
 use Rattle.ttp_base.specs.NodeSet.{most_nodes, below, has_node, with_node, without_node}
 use Rattle.ttp_base.proofs.NodeLists.{filter-none, with_node-filter, without_node-filter, with_node-nil}
@@ -208,26 +208,11 @@ sound-member plan slot k good less sound own =
     (member-told plan slot k good (omega (arith, good.count)))
     ∙ own
 
--- one that has had none is none,
-pub new-member : (plan : Plan) (slot k : ℕ) → IsGoodPlan plan → k < plan.nodes
-    → is_sound_after plan slot k ≡ true → (ledger_of plan slot k).own ≡ false
-    → has_node (planned_members plan slot) k ≡ false
-new-member plan slot k good less sound none =
-    subst (IsMember plan slot k) (sound-fate (fate_of plan slot k) sound)
-    (member-told plan slot k good (omega (arith, good.count)))
-    ∙ none
-
--- nor is a fallen one, nor one that listens.
+-- and a fallen one is not.
 pub fallen-member : (plan : Plan) (slot k since shown : ℕ) (change : Change) → IsGoodPlan plan → k < plan.nodes
     → fate_of plan slot k ≡ Fallen change since shown
     → has_node (planned_members plan slot) k ≡ false
 fallen-member plan slot k since shown change good less is =
-    subst (IsMember plan slot k) is (member-told plan slot k good (omega (arith, good.count)))
-
-pub listening-member : (plan : Plan) (slot k since : ℕ) → IsGoodPlan plan → k < plan.nodes
-    → fate_of plan slot k ≡ Listening since
-    → has_node (planned_members plan slot) k ≡ false
-listening-member plan slot k since good less is =
     subst (IsMember plan slot k) is (member-told plan slot k good (omega (arith, good.count)))
 
 -- The sender whose frame a falling receiver lost.

@@ -1,14 +1,16 @@
 //! Laws of plans of faults. The functions do nothing; their contracts are the laws.
 ghost use Rattle.std.specs.Prelude.{◌≡◌, ◌≢◌, ◌⊎◌, ℕ, suc, ◌+◌, ◌*◌, ◌<◌, ◌≤◌, true, false, not, length, filter, Some};
 ghost use Rattle.std.specs.Prelude.{None};
+ghost use Rattle.std.specs.List.{Contains};
 ghost use Rattle.ttp_base.specs.NodeSet.{below, has_node};
 ghost use Rattle.ttp_world.specs.declared.keep.Keep.TheVariants as keep;
 ghost use Rattle.ttp_world.specs.declared.medl.Medl.{Medl};
 ghost use Rattle.ttp_world.specs.declared.script.Script.{Script};
 ghost use Rattle.ttp_world.specs.Hypothesis.{keeps};
 ghost use Rattle.ttp_world.specs.Medl.{IsValid};
-ghost use Rattle.fault_plan.specs.Plan.{Change, Receiving, Incident, Plan, sender, incident_at, enters};
-ghost use Rattle.fault_plan.specs.Fates.{Falling, Fallen, fate_of, is_absent, lost_since, may_stay, is_sound_after};
+ghost use Rattle.fault_plan.specs.Plan.{Change, Receiving, Incident, Return, Plan, sender, incident_at};
+ghost use Rattle.fault_plan.specs.Plan.{is_armed_by, enters};
+ghost use Rattle.fault_plan.specs.Fates.{Falling, Fallen, Listening, fate_of, is_absent, lost_since, may_stay, is_sound_after};
 ghost use Rattle.fault_plan.specs.Fates.{lasting_nodes, is_good_slot, is_first_slot};
 ghost use Rattle.fault_plan.specs.Fates.{tally, is_measured};
 ghost use Rattle.fault_plan.specs.Ledger.{planned_members, ledger_of};
@@ -42,7 +44,7 @@ pub fn turns_known()
 {}
 
 /// What the fate of a node tells. One lost node at most may still stay after a slot, and none that
-/// was lost before when the next incident comes.
+/// was lost before when the next incident comes. A sound node was so since the start or its entry.
 pub fn lost_one_by_one()
     ensures told { (plan : Plan) (slot k : ℕ) → IsGoodPlan plan → IsTold plan slot k (fate_of plan slot k) }
     ensures one { (plan : Plan) (slot j k : ℕ) → IsGoodPlan plan
@@ -95,9 +97,26 @@ pub fn members_known()
         → planned_members plan slot ≡ filter (has_node (planned_members plan slot)) (below plan.nodes) }
 {}
 
+/// A node that returns was lost two rounds before it is armed (`armed`). It listens until it enters
+/// (`listens`), in a good slot of another node (`entry`); and no node is lost in all that time (`quiet`).
+pub fn returns_known()
+    ensures armed { (plan : Plan) (slot k : ℕ) → IsGoodPlan plan → is_armed_by plan (suc slot) k ≡ true
+        → (change : Change) × ((since : ℕ) × ((shown : ℕ)
+        × ((fate_of plan slot k ≡ Fallen change since shown) × (since + 2 * plan.nodes ≤ suc slot)))) }
+    ensures listens { (plan : Plan) (r : Return) (slot : ℕ) → IsGoodPlan plan → Contains plan.returns r
+        → r.armed ≤ slot → slot < r.entered
+        → fate_of plan slot r.node ≡ Listening r.armed }
+    ensures entry { (plan : Plan) (slot k : ℕ) → IsGoodPlan plan → enters plan slot k ≡ true
+        → (is_good_slot plan slot ≡ true) × (sender plan slot ≢ k) }
+    ensures quiet { (plan : Plan) (r : Return) (slot : ℕ) → IsGoodPlan plan → Contains plan.returns r
+        → r.armed ≤ slot → slot ≤ r.entered
+        → incident_at plan slot ≡ None }
+{}
+
 /// What a node has counted since its own slot: at most one first own slot of a lost node, and none in
-/// its first round; and when its next slot comes, a good slot of each other sound node, of which
-/// there are three or more. In each round four good slots or more are measured.
+/// its first round, after the start or its entry; and when its next slot comes, a good slot of each other
+/// node that was sound in all of the last round, of which there are three or more. In each round four
+/// good slots or more are measured.
 pub fn counts_known()
     ensures ledger { (plan : Plan) (slot k : ℕ) → IsGoodPlan plan → k < plan.nodes
         → IsLedgerOf plan slot k (ledger_of plan slot k) }

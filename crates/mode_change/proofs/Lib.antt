@@ -4,3 +4,4 @@ pub mod Nodes
 pub mod Writes
 pub mod Slots
 pub mod Texts
+pub mod TextLines

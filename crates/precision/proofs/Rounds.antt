@@ -1,7 +1,7 @@
 -- A company's clocks and notes: what an entry, one slot more, and the correction at the end of a round make of them.
 --
 -- The clocks are those before slot t, of whose round q slots are over. The newest entry is slot l, before it or at t.
-use Rattle.std.proofs.Common.{◌≡◌, ℕ, suc, ◌≢◌, ◌+◌, ◌*◌, ◌<◌, ◌≤◌, ℤ, pos, negsuc, neg_ℤ, ◌+ℤ◌, ◌-ℤ◌, ◌*ℤ◌, ◌≤ℤ◌, Bool}
+use Rattle.std.proofs.Common.{◌≡◌, ℕ, suc, ◌+◌, ◌*◌, ◌<◌, ◌≤◌, ℤ, pos, negsuc, neg_ℤ, ◌+ℤ◌, ◌-ℤ◌, ◌*ℤ◌, ◌≤ℤ◌, Bool}
 use Rattle.std.proofs.Common.{true, false, cond, ◌⊎◌, inl, inr, List, [], ◌∷◌, ◌++◌, length, refl, ap, sym, subst, ◌∙◌}
 use Rattle.std.proofs.Common.{mul-le-mul_left, arith, length-append}
 use Rattle.std.specs.Prelude.{◌==◌, All}
@@ -28,8 +28,8 @@ after_average list =
 abbrev pub drifted : Medl → ℤ → ℕ → ℤ
 drifted list before q = before +ℤ (drift_in list q +ℤ drift_in list q)
 
--- how far apart they were then, but for drifts, in the round of the newest entry: some clocks are within a reading error
--- of one of the others' there, or where none came later, all of one frame
+-- how far apart they were then, but for drifts, in the round of the newest entry: some clocks are within a reading
+-- error of one of the others' there, or where none came later, all of one frame
 abbrev pub entry_width : Medl → Bool → ℤ
 entry_width list true = after_average list +ℤ list.error
 entry_width list false = list.error +ℤ list.error
@@ -61,10 +61,6 @@ product_six : (d : ℤ) (n : ℕ) → pos 0 ≤ℤ d
     ≡ (d *ℤ pos n +ℤ d *ℤ pos n) +ℤ ((d *ℤ pos n +ℤ d *ℤ pos n) +ℤ (d *ℤ pos n +ℤ d *ℤ pos n))
 product_six (pos a) n up = omega (arith, ints)
 product_six (negsuc a) n up = absurd (omega (arith, ints, up))
-
-product_one : (d : ℤ) → pos 0 ≤ℤ d → d *ℤ pos 1 ≡ d
-product_one (pos a) up = omega (arith, ints)
-product_one (negsuc a) up = absurd (omega (arith, ints, up))
 
 pub product_up : (d : ℤ) (n : ℕ) → pos 0 ≤ℤ d → pos 0 ≤ℤ (d *ℤ pos n)
 product_up (pos a) n up = omega (arith, ints)
@@ -378,7 +374,8 @@ apart_come list before p q j k v clock seen notes carried up some member narrow 
 apart_come list before p q j k v clock seen notes carried up some member narrow apart (WasThere one) (IsNew two none) =
     apart_second list.error v (after_average list) (drift_in list q +ℤ drift_in list q) (clock j) (clock p) (seen j)
     (seen k) one.same_clock two (apart j p one.member member) narrow
-apart_come list before p q j k v clock seen notes carried up some member narrow apart (IsNew one none) (IsNew two neither) =
+apart_come list before p q j k v clock seen notes carried up some member narrow apart (IsNew one none)
+    (IsNew two neither) =
     apart_new list.error (after_average list) (drift_in list q +ℤ drift_in list q) (clock p) (seen j) (seen k) one two
     (begun_width list true up some) (product_twice list.drift q up)
 

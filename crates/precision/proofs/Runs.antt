@@ -1,6 +1,6 @@
 -- Nodes that run as a company: in each slot all are at the same place, and their clocks are held.
 use Rattle.std.proofs.Common.{◌≡◌, ◌≢◌, ℕ, suc, ◌+◌, ◌*◌, ◌<◌, ◌≤◌, ℤ, pos, ◌+ℤ◌, ◌-ℤ◌, ◌*ℤ◌, ◌≤ℤ◌, Bool, true, false}
-use Rattle.std.proofs.Common.{◌⊎◌, inl, inr, List, [], ◌∷◌, ◌++◌, length, None, cond, refl, ap, sym, subst, ◌∙◌, arith}
+use Rattle.std.proofs.Common.{◌⊎◌, inl, inr, List, [], ◌∷◌, length, None, cond, refl, ap, sym, subst, ◌∙◌, arith}
 use Rattle.std.specs.Prelude.{◌==◌, ◌||◌, All, IsTrue}
 use Rattle.std.proofs.lemmas.Bool.{cond_both, eqb-true, eqb-false, false≢true}
 use Rattle.std.proofs.lemmas.Int.{ints}
@@ -17,9 +17,10 @@ use Rattle.ttp_world.specs.Medium.{surroundings_in, surroundings_of}
 use Rattle.ttp_world.specs.Medl.{IsValid, plan_at}
 use Rattle.ttp_world.specs.Script.{drift_of, jump_of, reading_error}
 use Rattle.precision.specs.Spread.{spread, spread_rejoining, needed_rejoining}
-use Rattle.precision.specs.Together.{IsIn, BeganTogether, NotedAlike, Nothing, OneFrame, TellsOf, BeginsOn}
-use Rattle.precision.specs.Together.{StayedTogether, RanTogether}
-use Rattle.precision.specs.Together.{NoneJumps, IsCommonRun, clock_at, measured, HoldsClocksWithin, HoldsDeviationsWithin}
+use Rattle.precision.specs.Together.{IsIn, BeganTogether, NotedAlike, Nothing, OneFrame, TellsOf}
+use Rattle.precision.specs.Together.{RanTogether}
+use Rattle.precision.specs.Together.{NoneJumps, IsCommonRun, clock_at, measured, HoldsClocksWithin}
+use Rattle.precision.specs.Together.{HoldsDeviationsWithin}
 use Rattle.precision.specs.Company.{AreCalm, IsCalmIn, IsNotedOf, StayedInCompany, GrewTogether, RanAsCompany}
 use Rattle.precision.specs.Company.{IsCompanyRun, IsSettled, HoldsCompanyClocksWithin, HoldsSettledClocksWithin}
 use Rattle.precision.specs.Company.{HoldsCompanyDeviationsWithin, HoldsSettledDeviationsWithin}
@@ -28,7 +29,8 @@ use Rattle.precision.proofs.Frames.{frame_of, frame_of-node, RunsFrom, moved, be
 use Rattle.precision.proofs.Frames.{begun_near, frames_at, begun_noted, told_noted, told_goes, joins_nothing}
 use Rattle.precision.proofs.ClockBounds.{drift_within, error_within}
 use Rattle.precision.proofs.Rounds.{Held, Slot, IsSame, Comes, WasThere, IsNew, held_part, held_begun, held_next}
-use Rattle.precision.proofs.Rounds.{held_grown, held_corrected, frame_come, correction, corrected_last, corrected_inside}
+use Rattle.precision.proofs.Rounds.{held_grown, held_corrected, frame_come, correction, corrected_last}
+use Rattle.precision.proofs.Rounds.{corrected_inside}
 use Rattle.precision.proofs.Rounds.{drift_in, drifted, entry_width, product_twice, plus_none, same_apart}
 use Rattle.precision.proofs.Rounds.{settled_within, company_within}
 use Rattle.precision.proofs.Entries.{begun_active, continued_active, place_of-active, notes_of-active, place_continued}
@@ -163,7 +165,8 @@ after_slot list script may_grow group l row history place width at held slot = r
     next : Held list may_grow (IsIn list group) l (suc (length history)) (suc place.slot)
         width (later_clock list script row history) (round_notes list (row ∷ history))
     next =
-        held_next list may_grow (IsIn list group) l (length history) place.slot width (set_clock list script row history)
+        held_next list may_grow (IsIn list group) l (length history) place.slot width
+        (set_clock list script row history)
         (later_clock list script row history) (carried list row history place) (added list row place)
         (round_notes list (row ∷ history)) at.on.up held slot
         (λ k p. notes_next list k (diary_of history k) (entry_of row k) place (at.places k p))
@@ -194,7 +197,8 @@ after_slot list script may_grow group l row history place width at held slot = r
               (λ k p. record {
                 member = p;
                 same_clock = corrected_last list place.slot (round_notes list (row ∷ history) k)
-                    (later_clock list script row history k) (clock_after list script (row ∷ history) k) last (moves k p);
+                    (later_clock list script row history k) (clock_after list script (row ∷ history) k) last
+                    (moves k p);
                 same_notes = before_first list (row ∷ history) (next_place list place) k (next_first list place ends);
               }) average.1),
         )
@@ -206,7 +210,8 @@ after_slot list script may_grow group l row history place width at held slot = r
           subst (λ q. Held list may_grow (IsIn list group) l (suc (length history)) q width
               (clock_after list script (row ∷ history)) (notes_before list (row ∷ history) (next_place list place)))
               (sym later)
-              (held_part list may_grow (IsIn list group) (IsIn list group) l (suc (length history)) (suc place.slot) width
+              (held_part list may_grow (IsIn list group) (IsIn list group) l (suc (length history)) (suc place.slot)
+              width
               (later_clock list script row history) (clock_after list script (row ∷ history))
               (round_notes list (row ∷ history)) (notes_before list (row ∷ history) (next_place list place))
               (λ k p. record {
@@ -478,7 +483,8 @@ grew_kept list script before group older l row history first on grew kept =
     place : Place
     place = kept.place
 
-    was_there : (k : ℕ) → IsIn list group k → before k ≡ true → IsRight list script before grew.sender row history place k
+    was_there : (k : ℕ) → IsIn list group k → before k ≡ true
+        → IsRight list script before grew.sender row history place k
     was_there k p there =
         let tells = grew.tells k p there in
         let goes = told_goes list script history grew.sender k (entry_of row k) tells in
@@ -628,7 +634,8 @@ settled_clocks list valid script may_grow group l history run settled j k p q =
     same_apart (clock_after list script history j) (clock_after list script history k) (clock_at list script history j)
     (clock_at list script history k) (spread list)
     (at_beginning list script group history j run.calm p) (at_beginning list script group history k run.calm q)
-    (settled_within list may_grow (IsIn list group) l (length history) ran.place.slot ran.width (clock_after list script history)
+    (settled_within list may_grow (IsIn list group) l (length history) ran.place.slot ran.width
+    (clock_after list script history)
     (notes_before list history ran.place) valid.drift.0 ran.inside
     (settled_round list script may_grow group l history j ran p settled) ran.held j k p q)
 
@@ -640,7 +647,8 @@ company_clocks list valid script may_grow group l history run j k p q =
     same_apart (clock_after list script history j) (clock_after list script history k) (clock_at list script history j)
     (clock_at list script history k) (spread_rejoining list)
     (at_beginning list script group history j run.calm p) (at_beginning list script group history k run.calm q)
-    (company_within list may_grow (IsIn list group) l (length history) ran.place.slot ran.width (clock_after list script history)
+    (company_within list may_grow (IsIn list group) l (length history) ran.place.slot ran.width
+    (clock_after list script history)
     (notes_before list history ran.place) valid.drift.0 valid.error.0 ran.inside ran.held j k p q)
 
 pub clocks_within : (list : Medl) → IsValid list → HoldsClocksWithin list (spread list)

@@ -30,8 +30,8 @@ abbrev pub IsNotedOf : (list : Medl) (script : Script) (before group : ℕ → B
 IsNotedOf list script before group row history (Nothing none) = Unit {0}
 IsNotedOf list script before group row history (OneFrame p tells) = IsCalmIn list script before history p
 
--- in the slot of a row after a history, none came to the group that was before, and those that are left stayed together;
--- where others may come to it later, they noted frames of the company alone
+-- in the slot of a row after a history, none came to the group that was before, and those that are left stayed
+-- together; where others may come to it later, they noted frames of the company alone
 pub record StayedInCompany (list : Medl) (script : Script) (may_grow : Bool) (before group : ℕ → Bool) (newest : ℕ)
     (row : List Entry) (history : History) : Type 0 where
   pub less : (k : ℕ) → IsIn list group k → IsTrue (before k)
@@ -81,7 +81,8 @@ pub record IsCompanyRun (list : Medl) (script : Script) (may_grow : Bool) (group
 abbrev pub slots_over : Medl → History → ℕ → ℕ
 slots_over list history k = (next_place list (stint_place list k (diary_of history k))).slot
 
--- the company may not grow, or its newest entry is two rounds ago, or more than one round before the coming slot's round
+-- the company may not grow, or its newest entry is two rounds ago, or more than one round before the round of the
+-- coming slot
 abbrev pub IsSettled : Medl → Bool → (ℕ → Bool) → ℕ → History → Type 0
 IsSettled list may_grow group newest history =
     (may_grow ≡ false)

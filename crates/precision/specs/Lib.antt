@@ -2,3 +2,4 @@ pub mod Spread
 pub mod Together
 pub mod Company
 pub mod WorkedRun
+pub mod WorkedCompany

@@ -11,7 +11,7 @@ use Rattle.ttp_world.specs.Diary.{History}
 use Rattle.ttp_world.specs.World.{Numbers}
 
 -- four bare slots with sync, for drifts of one microtick and no reading error
-abbrev bare_slot : SlotPlan
+abbrev pub bare_slot : SlotPlan
 bare_slot = record { kinds = kind.I ∷ []; payload = 0; sync = true; start = true; requests = false; live = 1 }
 
 abbrev pub four_nodes : Medl
@@ -34,10 +34,10 @@ drifting = record { slots = 20; on = replicate 4 (Some 0); drift = pos 1 ∷ neg
 abbrev pub no_numbers : Numbers
 no_numbers = replicate 15 (record { sent = []; read = [] })
 
-abbrev correct : ℕ → ℤ → Entry
+abbrev pub correct : ℕ → ℤ → Entry
 correct sender deviation = entry.Judged sender verdict.Correct deviation
 
-abbrev join : ℤ → Entry
+abbrev pub join : ℤ → Entry
 join deviation = entry.Joined 0 (record { time = 0; round = 0; slot = 0; members = 0 ∷ [] }) deviation
 
 -- node 0 starts in slot 8, and each node then sends in its turn: the rows of slots 8 to 14, the newest first

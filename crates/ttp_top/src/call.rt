@@ -12,6 +12,7 @@ ghost use Rattle.ttp_top.specs.Scripts.Promise.{RunPromise};
 
 use crate::faced::precision;
 use crate::lines::say;
+use crate::modes::modes;
 use crate::run::{keeps, run};
 use crate::sample::sample;
 use crate::schedule::schedule;
@@ -24,7 +25,7 @@ use std::thread::Threads;
 use ttp_base::{Gate, Library, Sink};
 
 const USAGE: &str = "usage: schedule MEDL | run MEDL SCRIPT | keeps MEDL SCRIPT | \
-    verify MEDL SCRIPT TRACE | sample MEDL SLOTS NUMBER | precision MEDL SCRIPT NODE\n";
+    verify MEDL SCRIPT TRACE | sample MEDL SLOTS NUMBER | precision MEDL SCRIPT NODE | modes MEDL SCRIPT TRACE\n";
 
 // What the words ask for.
 fn obey<R: Threads + Wait + Sync, L: Library, K: Sink, G: Gate>(
@@ -59,6 +60,11 @@ fn obey<R: Threads + Wait + Sync, L: Library, K: Sink, G: Gate>(
             slots,
             number,
         } => sample(rt, alloc, list, slots, number, library, out, gate, kept),
+        Command::Modes {
+            list,
+            script,
+            trace,
+        } => modes(alloc, list, script, trace, library, out),
         Command::NoForm => say(out, USAGE.as_bytes(), 2),
     }
 }
@@ -66,20 +72,21 @@ fn obey<R: Threads + Wait + Sync, L: Library, K: Sink, G: Gate>(
 /// Runs the command that the words spell, and answers its status. The words are those after the
 /// program's name.
 ///
-/// There are six forms so far: `schedule MEDL` writes the slot table of one cluster cycle,
+/// There are seven forms: `schedule MEDL` writes the slot table of one cluster cycle,
 /// `run MEDL SCRIPT` the trace of a script, `keeps MEDL SCRIPT` its last line alone, the answer of the
 /// test of the single-fault hypothesis, `verify MEDL SCRIPT TRACE` whether a text is a trace of a script, and
 /// else its first wrong line, `precision MEDL SCRIPT NODE` the answer of the test for one
 /// two-faced sender, which is the node of that number, and where it may be one, how far apart the other
-/// nodes' clocks came, in microticks, and `sample MEDL SLOTS NUMBER` four lines on a run of so many slots by
-/// the script that the number gives. NODE is one or two decimal digits of a number below 24, SLOTS 1 to 20
+/// nodes' clocks came, in microticks, `sample MEDL SLOTS NUMBER` four lines on a run of so many slots by
+/// the script that the number gives, and `modes MEDL SCRIPT TRACE` for a text that is a trace which mode each
+/// node runs, for each slot and node, and else its first wrong line. NODE is one or two decimal digits of a number below 24, SLOTS 1 to 20
 /// of a number from 1 to 20,000, and NUMBER 1 to 20 of a number below 2^64. They take any valid list and any
 /// valid script.
 ///
 /// | status | comes | what is written |
 /// |---|---|---|
-/// | 0 | the command was done; for `verify` the text is a trace | the whole output |
-/// | 1 | exactly where the text that was read is no trace; for `verify` alone | `differs at line N` |
+/// | 0 | the command was done; for `verify` and `modes` the text is a trace | the whole output |
+/// | 1 | exactly where TRACE is the trace text for no legal message numbers; for `verify` and `modes` alone | `differs at line N` |
 /// | 2 | exactly where the words have no form | the usage line |
 /// | 3 | exactly where the list is longer than 1,048,576 bytes or refused | a line that begins `list: ` |
 /// | 4 | exactly where the script is longer than 1,048,576 bytes or refused | a line that begins `script: ` |

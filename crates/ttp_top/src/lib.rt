@@ -13,6 +13,7 @@ mod faced;
 pub mod laws;
 mod lines;
 mod load;
+mod modes;
 mod read;
 mod run;
 mod sample;

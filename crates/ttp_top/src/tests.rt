@@ -33,7 +33,7 @@ const TABLE: [&str; 5] = [
 ];
 
 const USAGE: &str = "usage: schedule MEDL | run MEDL SCRIPT | keeps MEDL SCRIPT | \
-    verify MEDL SCRIPT TRACE | sample MEDL SLOTS NUMBER | precision MEDL SCRIPT NODE\n";
+    verify MEDL SCRIPT TRACE | sample MEDL SLOTS NUMBER | precision MEDL SCRIPT NODE | modes MEDL SCRIPT TRACE\n";
 
 // The texts, one after another.
 fn joined<R: AllocGlobal>(rt: &R, parts: &[&str]) -> Result<String, Fail> {
@@ -188,7 +188,7 @@ fn the_limit_of_a_list_file(rt: HostRuntime) -> Result<(), Fail> {
 
 #[test]
 fn words_of_no_form(rt: HostRuntime) -> Result<(), Fail> {
-    let words: [&[&str]; 8] = [
+    let words: [&[&str]; 11] = [
         &[],
         &["schedule"],
         &["run", "cluster.toml"],
@@ -197,6 +197,9 @@ fn words_of_no_form(rt: HostRuntime) -> Result<(), Fail> {
         &["Schedule", "cluster.toml"],
         &["schedule", "cluster.toml", "cluster.toml"],
         &["--help"],
+        &["sample", "cluster.toml", "12"],
+        &["Sample", "cluster.toml", "12", "7"],
+        &["run", "cluster.toml", "1", "2", "3", "4", "5"],
     ];
     for words in words {
         let (status, text) = answer(&rt, words, b"", 0, 0)?;

@@ -16,9 +16,9 @@ use trace_check::{Outcome, verify as outcome_of};
 use ttp_base::{Library, Line, Sink};
 use ttp_world::{Medl, Script};
 
-// The line on a text whose first wrong line has this number.
+/// The line on a text whose first wrong line has this number.
 #[tactic(auto, using(ttp_base::proofs::Room::room))]
-fn differs_line(number: u32) -> Line
+pub(crate) fn differs_line(number: u32) -> Line
     ensures { result ≡ differs_line number }
 {
     let mut line = Line::new();

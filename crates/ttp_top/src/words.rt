@@ -43,6 +43,13 @@ pub(crate) enum Command<'a> {
         slots: u32,
         number: u64,
     },
+    /// Which mode each node runs, for a text that is to be a trace of a script for a list, each under its
+    /// name.
+    Modes {
+        list: &'a str,
+        script: &'a str,
+        trace: &'a str,
+    },
     /// Nothing: the words have no form.
     NoForm,
 }
@@ -178,6 +185,11 @@ fn long_command<'a>(verb: &str, list: &'a str, third: &'a str, fourth: &'a str) 
             None => Command::NoForm,
         },
         "sample" => sample_command(list, third, fourth),
+        "modes" => Command::Modes {
+            list,
+            script: third,
+            trace: fourth,
+        },
         _ => Command::NoForm,
     }
 }

@@ -11,8 +11,7 @@ use Rattle.ttp_world.specs.declared.script.Script.{Script}
 use Rattle.trace_check.specs.declared.answer.Outcome.TheVariants as outcome
 use Rattle.trace_check.specs.Answer.{is_trace, IsFirstWrong}
 use Rattle.ttp_top.specs.Calls.Answer.{Answer}
-use Rattle.ttp_top.specs.Calls.Differences.{same_line, differs_line, IsDifference}
-use Rattle.ttp_top.specs.Calls.Forms.{verify_ending}
+use Rattle.ttp_top.specs.Calls.Differences.{differs_line, IsDifference}
 use Rattle.ttp_top.specs.Calls.Outcome.{Says}
 use Rattle.ttp_top.specs.Calls.Plan.{Ending, line_ending, whole_ending}
 use Rattle.ttp_top.specs.Calls.Texts.{differences, AreLines}
@@ -32,10 +31,9 @@ differences-each list script text lines is = subst AreLines (sym is.said) (diffe
 
 -- What was said.
 
--- the ending where a text is a trace, or none
-abbrev ending_if : Medl → Script → List ℕ → Bool → Ending
-ending_if list script text same =
-    if same then line_ending 0 same_line else whole_ending 1 (differences list script text)
+-- this ending where a text is a trace, and else the line that differs
+abbrev pub ending_if : Ending → Medl → Script → List ℕ → Bool → Ending
+ending_if ending list script text same = if same then ending else whole_ending 1 (differences list script text)
 
 -- where a line is named the text is no trace
 pub differs-none : (list : Medl) (script : Script) (text : List ℕ) (line : ℕ)
@@ -46,12 +44,12 @@ differs-none list script text line same = by_case (is_trace list script text) sa
     by_case false is = refl
     by_case true is = let is_same : outcome.Differs line ≡ outcome.Same = is.1 refl in absurd cc
 
-pub differs-said : (list : Medl) (script : Script) (text : List ℕ) (line : ℕ) (before now : Output) (answer : Answer)
-    → is_trace list script text ≡ false → IsFirstWrong list script text line
+pub differs-said : (ending : Ending) (list : Medl) (script : Script) (text : List ℕ) (line : ℕ) (before now : Output)
+    (answer : Answer) → is_trace list script text ≡ false → IsFirstWrong list script text line
     → Says (line_ending 1 (differs_line line)) before now answer
-    → Says (verify_ending list script text) before now answer
-differs-said list script text line before now answer none first said =
-    subst (λ same. Says (ending_if list script text same) before now answer) (sym none) (told said)
+    → Says (ending_if ending list script text (is_trace list script text)) before now answer
+differs-said ending list script text line before now answer none first said =
+    subst (λ same. Says (ending_if ending list script text same) before now answer) (sym none) (told said)
   where
     told : Says (line_ending 1 (differs_line line)) before now answer
         → Says (whole_ending 1 (differences list script text)) before now answer

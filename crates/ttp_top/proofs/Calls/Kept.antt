@@ -10,11 +10,11 @@ use Rattle.ttp_top.specs.declared.read.FileFault.{FileFault}
 use Rattle.ttp_top.specs.Calls.Answer.{Answer, IsKeptBeside}
 use Rattle.ttp_top.specs.Calls.Files.{refused_list, refused_script}
 use Rattle.ttp_top.specs.Calls.Forms.{table_ending, trace_ending, keep_ending, verify_ending, precision_ending}
-use Rattle.ttp_top.specs.Calls.Forms.{sample_ending, plan_of}
+use Rattle.ttp_top.specs.Calls.Forms.{sample_ending, modes_ending, plan_of}
 use Rattle.ttp_top.specs.Calls.Plan.{Ending, ends}
 use Rattle.ttp_top.specs.Calls.Texts.{nothing}
-use Rattle.ttp_top.specs.Calls.Words.{Form, schedule, run, keeps, verify, precision, sample, is_run}
-use Rattle.ttp_top.specs.Calls.Words.{is_verify, runs_cluster}
+use Rattle.ttp_top.specs.Calls.Words.{Form, schedule, run, keeps, verify, precision, sample, modes, is_run}
+use Rattle.ttp_top.specs.Calls.Words.{takes_trace, runs_cluster}
 use Rattle.ttp_top.specs.Files.Read.{list_from}
 use Rattle.ttp_top.proofs.Calls.Plans.{AllEnd, list_ends, both_end, text_end, one_ends}
 
@@ -65,6 +65,13 @@ plans_keep (Some (sample list slots number)) = λ bytes.
     list_ends (KeepsClusters (Some (sample list slots number)))
     (λ fault. list_none (Some (sample list slots number)) fault refl) (λ medl. ends (sample_ending slots number medl))
     (λ medl lines kept is. is_some-and _ kept is) (list_from bytes)
+plans_keep (Some (modes list script trace)) =
+    let form = Some (modes list script trace) in
+    text_end (KeepsClusters form) (λ fault. list_none form fault refl) (λ fault. script_none form fault refl) list
+    script trace modes_ending
+    (λ medl right text.
+    one_ends (KeepsClusters form) (is_trace medl right text) _ _ (λ lines kept none. ap is_some none)
+    (λ lines kept none. ap is_some none))
 
 and_false : (b : Bool) → (b && false) ≡ false
 and_false true = refl
@@ -103,10 +110,15 @@ plans_let (Some (precision list script node)) =
 plans_let (Some (sample list slots number)) = λ bytes.
     list_ends (LetsNothing (Some (sample list slots number))) (λ fault other. refl)
     (λ medl. ends (sample_ending slots number medl)) (λ medl other. refl) (list_from bytes)
+plans_let (Some (modes list script trace)) =
+    let form = Some (modes list script trace) in
+    text_end (LetsNothing form) (λ fault other. refl) (λ fault other. refl) list script trace modes_ending
+    (λ medl right text.
+    one_ends (LetsNothing form) (is_trace medl right text) _ _ (λ other. refl) (λ other. refl))
 
--- but for `verify`, no ending has status 1
+-- but for the forms that take a trace, no ending has status 1
 abbrev pub DiffersAlone : Option Form → Ending → Type 0
-DiffersAlone form ending = ending.status ≡ 1 → is_verify form ≡ true
+DiffersAlone form ending = ending.status ≡ 1 → takes_trace form ≡ true
 
 pub plans_differ : (form : Option Form) → AllEnd (DiffersAlone form) (plan_of form)
 plans_differ None = λ one. absurd (omega (arith, one))
@@ -130,3 +142,7 @@ plans_differ (Some (precision list script node)) =
 plans_differ (Some (sample list slots number)) = λ bytes.
     list_ends (DiffersAlone (Some (sample list slots number))) (λ fault one. absurd (omega (arith, one)))
     (λ medl. ends (sample_ending slots number medl)) (λ medl one. absurd (omega (arith, one))) (list_from bytes)
+plans_differ (Some (modes list script trace)) =
+    let form = Some (modes list script trace) in
+    text_end (DiffersAlone form) (λ fault one. refl) (λ fault one. refl) list script trace modes_ending
+    (λ medl right text. one_ends (DiffersAlone form) (is_trace medl right text) _ _ (λ one. refl) (λ one. refl))

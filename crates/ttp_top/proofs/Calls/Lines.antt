@@ -2,23 +2,25 @@
 use Rattle.std.proofs.Common.{◌≡◌, ℕ, List, [], ◌∷◌, ◌++◌, true, Option, Some, None, Result, Ok, Err, refl, subst, sym}
 use Rattle.std.proofs.Common.{◌∙◌, inl, inr}
 use Rattle.std.specs.Prelude.{codes}
-use Rattle.ttp_base.specs.Text.{Lines, is_line}
+use Rattle.ttp_base.specs.Text.{Lines, is_line, lines_of}
 use Rattle.ttp_world.specs.declared.medl.Medl.{Medl}
 use Rattle.ttp_world.specs.declared.script.Script.{Script}
 use Rattle.ttp_world.specs.Trace.{test_lines}
+use Rattle.ttp_world.specs.TraceNumbers.{numbers_in}
 use Rattle.ttp_world.proofs.TraceLines.{test_lines-each, trace_lines-each}
 use Rattle.medl_text.specs.Schedule.{slot_table}
 use Rattle.medl_text.proofs.Lines.{slot_table-each}
 use Rattle.trace_check.specs.Answer.{is_trace}
+use Rattle.mode_change.proofs.TextLines.{mode_lines-each}
 use Rattle.ttp_top.specs.declared.read.FileFault.{FileFault}
 use Rattle.ttp_top.specs.Calls.Differences.{same_line}
 use Rattle.ttp_top.specs.Calls.Files.{refused_list, after_list, refused_script, after_script, script_plan, both_plan}
 use Rattle.ttp_top.specs.Calls.Files.{trace_plan}
 use Rattle.ttp_top.specs.Calls.Forms.{usage_line, table_ending, trace_ending, keep_ending, verify_ending}
-use Rattle.ttp_top.specs.Calls.Forms.{precision_ending, sample_ending, plan_of}
+use Rattle.ttp_top.specs.Calls.Forms.{precision_ending, sample_ending, modes_ending, plan_of}
 use Rattle.ttp_top.specs.Calls.Plan.{Ending, File, Plan, line_ending, ends}
 use Rattle.ttp_top.specs.Calls.Texts.{Texts, one, fronts, IsAmong, AreLines}
-use Rattle.ttp_top.specs.Calls.Words.{Form, schedule, run, keeps, verify, precision, sample}
+use Rattle.ttp_top.specs.Calls.Words.{Form, schedule, run, keeps, verify, precision, sample, modes}
 use Rattle.ttp_top.specs.Files.Lines.{fault_line}
 use Rattle.ttp_top.specs.Files.Read.{list_from, script_from}
 use Rattle.ttp_top.proofs.Calls.Plans.{AllEnd, list_ends, both_end, text_end, one_ends, EachFile}
@@ -86,6 +88,12 @@ plans_have (Some (precision list script node)) =
 plans_have (Some (sample list slots number)) = λ bytes.
     list_ends HasLines no_list (λ medl. ends (sample_ending slots number medl))
     (λ medl. record { texts = samples-each medl slots number; unfinished = one_text [] tt }) (list_from bytes)
+plans_have (Some (modes list script trace)) =
+    text_end HasLines no_list no_script list script trace modes_ending
+    (λ medl right text.
+    one_ends HasLines (is_trace medl right text) _ _
+    (record { texts = one_text _ (mode_lines-each medl right (numbers_in medl right (lines_of text))); unfinished = one_text [] tt })
+    (record { texts = differences-each medl right text; unfinished = one_text [] tt }))
 
 -- and so is what is said of a file that could not be loaded
 abbrev pub SaysLine : File → Type 0
@@ -128,3 +136,6 @@ plans_say (Some (verify list script trace)) =
 plans_say (Some (precision list script node)) = both_files list script (precision_ending node)
 plans_say (Some (sample list slots number)) =
     (refl, λ bytes. list_files (λ medl. ends (sample_ending slots number medl)) (λ medl. tt) (list_from bytes))
+plans_say (Some (modes list script trace)) =
+    both_go list script (λ medl right. trace_plan trace (λ text. ends (modes_ending medl right text)))
+    (λ medl right. (refl, λ text. tt))

@@ -10,10 +10,10 @@ use Rattle.ttp_top.specs.declared.read.FileFault.{FileFault}
 use Rattle.ttp_top.specs.Calls.Files.{refused_list, refused_script, after_list, after_script, script_plan, both_plan}
 use Rattle.ttp_top.specs.Calls.Files.{trace_plan}
 use Rattle.ttp_top.specs.Calls.Forms.{table_ending, trace_ending, keep_ending, verify_ending, precision_ending}
-use Rattle.ttp_top.specs.Calls.Forms.{sample_ending, plan_of}
+use Rattle.ttp_top.specs.Calls.Forms.{sample_ending, modes_ending, plan_of}
 use Rattle.ttp_top.specs.Calls.Plan.{Ending, File, Plan, ends, asks, Comes, AsksFirst, told_ending}
 use Rattle.ttp_top.specs.Calls.Promise.{EachName}
-use Rattle.ttp_top.specs.Calls.Words.{Form, schedule, run, keeps, verify, precision, sample}
+use Rattle.ttp_top.specs.Calls.Words.{Form, schedule, run, keeps, verify, precision, sample, modes}
 use Rattle.ttp_top.specs.Files.Read.{list_from, script_from}
 
 -- each ending of a plan is of a kind
@@ -104,6 +104,10 @@ forms_end (precision list script node) =
 forms_end (sample list slots number) = λ bytes.
     list_ends IsOfForm list_refused (λ medl. ends (sample_ending slots number medl))
     (λ medl. (omega arith, λ two. omega arith)) (list_from bytes)
+forms_end (modes list script trace) =
+    text_end IsOfForm list_refused script_refused list script trace modes_ending
+    (λ medl right text.
+    one_ends IsOfForm (is_trace medl right text) _ _ (omega arith, λ two. omega arith) (omega arith, λ two. omega arith))
 
 weaker : (plan : Plan) → AllEnd IsOfForm plan → AllEnd IsFinal plan
 weaker (ends ending) all = all.0

@@ -11,7 +11,7 @@ use Rattle.ttp_top.specs.Calls.Plan.{Comes, AsksFirst, told_ending}
 use Rattle.ttp_top.specs.Calls.Texts.{Texts, nothing, WroteAmong, CutAmong, AreLines, GaveLines}
 use Rattle.ttp_top.specs.Calls.Promise.{Reached, Unloaded, IsDue, IsUnfinished, EachName, NoneAskedRose, Promise}
 use Rattle.ttp_top.specs.Calls.Forms.{plan_of}
-use Rattle.ttp_top.specs.Calls.Words.{Form, is_run, is_verify, runs_cluster}
+use Rattle.ttp_top.specs.Calls.Words.{Form, is_run, takes_trace, runs_cluster}
 use Rattle.ttp_top.proofs.Calls.Kept.{plans_keep, none_kept, plans_let, plans_differ}
 use Rattle.ttp_top.proofs.Calls.Lines.{HasLines, line_has, plans_have, SaysLine, plans_say, lines_front}
 use Rattle.ttp_top.proofs.Calls.Plans.{AllEnd, all_come, file_comes, IsOfForm, IsFinal, forms_end, plans_end}
@@ -357,7 +357,7 @@ usage_alone (Some form) held loads ending comes two =
 
 -- status 1 is an answer of `verify`
 differs_alone : (form : Option Form) (held : List ℕ → Held) (loads : List Load) (ending : Ending)
-    → Comes held (plan_of form) loads (ends ending) → ending.status ≡ 1 → is_verify form ≡ true
+    → Comes held (plan_of form) loads (ends ending) → ending.status ≡ 1 → takes_trace form ≡ true
 differs_alone form held loads ending comes one =
     all_come _ held (plan_of form) loads ending (plans_differ form) comes one
 

@@ -1,20 +1,23 @@
 -- What each form asks for, and how it ends.
 use Rattle.std.specs.Prelude.{ℕ, List, Option, Some, None, codes, ◌++◌, if◌then◌else◌}
+use Rattle.ttp_base.specs.Text.{lines_of}
 use Rattle.ttp_world.specs.declared.medl.Medl.{Medl}
 use Rattle.ttp_world.specs.declared.script.Script.{Script}
 use Rattle.ttp_world.specs.Trace.{test_lines}
+use Rattle.ttp_world.specs.TraceNumbers.{numbers_in}
 use Rattle.medl_text.specs.Schedule.{slot_table}
 use Rattle.trace_check.specs.Answer.{is_trace}
+use Rattle.mode_change.specs.ModeText.{mode_lines}
 use Rattle.ttp_top.specs.Calls.Differences.{same_line}
 use Rattle.ttp_top.specs.Calls.Files.{list_plan, both_plan, trace_plan}
 use Rattle.ttp_top.specs.Calls.Plan.{Ending, Plan, whole_ending, line_ending, ends}
 use Rattle.ttp_top.specs.Calls.Texts.{one, traces, fronts, differences, precisions, samples}
-use Rattle.ttp_top.specs.Calls.Words.{Form, schedule, run, keeps, verify, precision, sample}
+use Rattle.ttp_top.specs.Calls.Words.{Form, schedule, run, keeps, verify, precision, sample, modes}
 
 abbrev pub usage_line : List ℕ
 usage_line =
     codes "usage: schedule MEDL | run MEDL SCRIPT | keeps MEDL SCRIPT | verify MEDL SCRIPT TRACE"
-    ++ codes " | sample MEDL SLOTS NUMBER | precision MEDL SCRIPT NODE\n"
+    ++ codes " | sample MEDL SLOTS NUMBER | precision MEDL SCRIPT NODE | modes MEDL SCRIPT TRACE\n"
 
 abbrev pub usage_ending : Ending
 usage_ending = line_ending 2 usage_line
@@ -45,6 +48,13 @@ precision_ending node list script = whole_ending 0 (precisions list script node)
 abbrev pub sample_ending : ℕ → ℕ → Medl → Ending
 sample_ending slots number list = whole_ending 0 (samples list slots number)
 
+-- which mode each node runs, for a text that is a trace of a list and a script; else the first line that is wrong
+abbrev pub modes_ending : Medl → Script → List ℕ → Ending
+modes_ending list script text =
+    if is_trace list script text
+    then whole_ending 0 (one (mode_lines list script (numbers_in list script (lines_of text))))
+    else whole_ending 1 (differences list script text)
+
 -- the plan of a form, and of words that have none
 abbrev pub plan_of : Option Form → Plan
 plan_of None = ends usage_ending
@@ -56,3 +66,5 @@ plan_of (Some (verify list script trace)) =
 plan_of (Some (precision list script node)) =
     both_plan list script (λ medl right. ends (precision_ending node medl right))
 plan_of (Some (sample list slots number)) = list_plan list (λ medl. ends (sample_ending slots number medl))
+plan_of (Some (modes list script trace)) =
+    both_plan list script (λ medl right. trace_plan trace (λ text. ends (modes_ending medl right text)))

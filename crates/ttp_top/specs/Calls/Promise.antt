@@ -8,7 +8,7 @@ use Rattle.ttp_top.specs.Calls.Outcome.{Showed}
 use Rattle.ttp_top.specs.Calls.Plan.{Outside, Ending, File, Plan, ends, asks, load_of, unloaded, Comes, AsksFirst}
 use Rattle.ttp_top.specs.Calls.Plan.{told_ending}
 use Rattle.ttp_top.specs.Calls.Texts.{WroteAmong, CutAmong, GaveLines}
-use Rattle.ttp_top.specs.Calls.Words.{Form, is_run, is_verify, runs_cluster}
+use Rattle.ttp_top.specs.Calls.Words.{Form, is_run, takes_trace, runs_cluster}
 
 -- an ending is due after these loads: each gave its bytes, and no count rose
 pub record Reached (plan : Plan) (before now : Outside) (loads : List Load) (ending : Ending) : Type 0 where
@@ -72,8 +72,8 @@ pub record Promise (form : Option Form) (before now : Outside) (answer : Answer)
       → NoneAskedRose before now loads
       → ¬ HasRisen before.output.faults now.output.faults
       → Showed ending before.output now.output answer ⊎ (answer.status ≡ 7)
-  -- Status 1 is an answer of `verify` alone.
-  pub differs : answer.status ≡ 1 → is_verify form ≡ true
+  -- Status 1 is an answer of `verify` and `modes` alone.
+  pub differs : answer.status ≡ 1 → takes_trace form ≡ true
   -- Words of no form take no memory, and only they are answered by the usage line.
   pub usage : answer.status ≡ 2 → form ≡ None
   pub no_form : form ≡ None → answer.status ≢ 7

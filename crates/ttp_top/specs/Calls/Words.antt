@@ -24,14 +24,18 @@ pub data Form : Type 0 where
   precision : (list script : List ℕ) (node : ℕ) → Form
   -- the summary of a run of the list of this name, of so many slots, by the script that this number gives
   sample : (list : List ℕ) (slots number : ℕ) → Form
+  -- which mode each node runs, for the text of the third name, which is to be a trace of the script of this name for the
+  -- list of this name
+  modes : (list script trace : List ℕ) → Form
 
 abbrev pub is_run : Option Form → Bool
 is_run (Some (run list script)) = true
 is_run _ = false
 
-abbrev pub is_verify : Option Form → Bool
-is_verify (Some (verify list script trace)) = true
-is_verify _ = false
+abbrev pub takes_trace : Option Form → Bool
+takes_trace (Some (verify list script trace)) = true
+takes_trace (Some (modes list script trace)) = true
+takes_trace _ = false
 
 -- the forms that run a cluster, which is kept once all is written
 abbrev pub runs_cluster : Option Form → Bool
@@ -80,7 +84,8 @@ form_of (verb ∷ list ∷ script ∷ []) =
 form_of (verb ∷ list ∷ third ∷ fourth ∷ []) =
     if bytes_eq verb (codes "verify") then Some (verify list third fourth)
     else (if bytes_eq verb (codes "precision") then option_map (precision list third) (node_named fourth)
-    else (if bytes_eq verb (codes "sample") then sample_of list (slots_named third) (draw_named fourth) else None))
+    else (if bytes_eq verb (codes "sample") then sample_of list (slots_named third) (draw_named fourth)
+    else (if bytes_eq verb (codes "modes") then Some (modes list third fourth) else None)))
 form_of _ = None
 
 -- the form that a command of the code stands for
@@ -91,6 +96,7 @@ form_asked (commands.Keeps list script) = Some (keeps list.now script.now)
 form_asked (commands.Verify list script trace) = Some (verify list.now script.now trace.now)
 form_asked (commands.Precision list script node) = Some (precision list.now script.now node)
 form_asked (commands.Sample list slots number) = Some (sample list.now slots number)
+form_asked (commands.Modes list script trace) = Some (modes list.now script.now trace.now)
 form_asked commands.NoForm = None
 
 -- a summary is asked of a run with slots, not more than a script may have

@@ -99,6 +99,20 @@ fn a_wrong_number_at_the_top(rt: HostRuntime) -> Result<(), Fail> {
                 "list: out of range rounds 0\n",
             ),
             (
+                "rounds = 65\n",
+                NO_ROUNDS,
+                "FSSS",
+                "",
+                "list: out of range rounds 65\n",
+            ),
+            (
+                "rounds = \"1\"\n",
+                NO_ROUNDS,
+                "FSSS",
+                "",
+                "list: wrong kind rounds\n",
+            ),
+            (
                 "version = 1\nrounds = 1\nschedule = 16777216\nbuffers = 2\n",
                 "drift = 0\nerror = 0\nwindow = 1\n",
                 "FSSS",
@@ -144,6 +158,8 @@ fn a_wrong_slot(rt: HostRuntime) -> Result<(), Fail> {
         &[
             ("", HEAD, "", "", "list: missing slot\n"),
             (HEAD, "slot = {}\n", "", "", "list: wrong kind slot\n"),
+            (HEAD, "slot = [1, 2]\n", "", "", "list: wrong kind slot\n"),
+            (HEAD, "slot = []\n", "", "", "list: slot count 0\n"),
             (
                 HEAD,
                 "[slot]\nkinds = \"I\"\n",
@@ -171,6 +187,20 @@ fn a_wrong_slot(rt: HostRuntime) -> Result<(), Fail> {
                 "FSOS",
                 "[[slot]]\nkinds = \"i\"\ndata = 0\nsync = true\nstart = false\n",
                 "list: kinds of slot 2\n",
+            ),
+            (
+                "",
+                HEAD,
+                "FSOS",
+                "[[slot]]\nkinds = \"II\"\ndata = 0\nsync = true\nstart = false\n",
+                "list: kinds of slot 2\n",
+            ),
+            (
+                "",
+                HEAD,
+                "OSSS",
+                "[[slot]]\nkinds = \"N\"\ndata = 241\nsync = true\nstart = true\n",
+                "list: out of range slot 0 data 241\n",
             ),
             (
                 "",

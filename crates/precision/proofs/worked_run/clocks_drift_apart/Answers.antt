@@ -1,4 +1,4 @@
-use Rattle.std.proofs.Common.{ℕ, zero, suc, List, [], inl, inr, refl, arith}
+use Rattle.std.proofs.Common.{ℕ, zero, suc, List, inl, inr, refl, arith}
 use Rattle.std.specs.Prelude.{IsTrue}
 use Rattle.std.proofs.lemmas.Bool.{false≢true}
 use Rattle.ttp_base.specs.NodeSet.{members_in, with_node}

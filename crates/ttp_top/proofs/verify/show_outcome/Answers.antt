@@ -1,5 +1,6 @@
 use Rattle.std.proofs.Common.{◌∙◌, inl}
-use Rattle.ttp_top.specs.Calls.Differences.{differs_line}
+use Rattle.ttp_top.specs.Calls.Differences.{differs_line, same_line}
+use Rattle.ttp_top.specs.Calls.Plan.{line_ending}
 use Rattle.ttp_top.proofs.Calls.Differences.{differs-none, differs-said}
 use Rattle.ttp_top.proofs.Calls.Promises.{said_as}
 use Rattle.ttp_top.proofs.verify.show_outcome.Goals as goal
@@ -12,5 +13,5 @@ returns-in-Ok-Differs g c =
     let line = c.in-Ok-Differs.line in
     let said = said_as 1 _ (differs_line line) _ _ _ (c.bytes.ensures ∙ c.differs_line.ensures) c.say-in-Ok-Differs.ensures in
     let same = rw c.in-Ok-Differs.field-0-is at c.in-Ok-Differs.ensures.same in
-    inl (differs-said list script text line _ _ _ (differs-none list script text line same)
+    inl (differs-said (line_ending 0 same_line) list script text line _ _ _ (differs-none list script text line same)
     ((c.in-Ok-Differs.ensures.differs line).0 c.in-Ok-Differs.field-0-is) said)

@@ -1,0 +1,251 @@
+-- Who hears whom in a slot of a run whose armed nodes return.
+use Rattle.std.proofs.Common.{◌≡◌, ◌≢◌, ℕ, zero, suc, ◌+◌, ◌-◌, ◌<◌, ◌≤◌, Bool, true, false, cond, not, ◌&&◌, ◌||◌}
+use Rattle.std.proofs.Common.{◌∷◌, length, Option, Some, None, refl, ap, sym, ◌∙◌, inl, inr}
+use Rattle.std.proofs.Common.{arith}
+use Rattle.std.specs.Prelude.{◌==◌, find, min}
+use Rattle.std.specs.List.{list_any, filter, range_with_len}
+use Rattle.std.proofs.lemmas.Bool.{and_parts, and_from, or_from, or_left, both_ways, eq-eqb}
+use Rattle.std.proofs.lemmas.Bool.{eqb-false, ne_eqb, not-true, or_parts, or_cases, cases_lt, not_from_false}
+use Rattle.std.proofs.lemmas.Bool.{false_from_ne_true, leb-true, cases_eq}
+use Rattle.ttp_base.specs.NodeSet.{has_node, below}
+use Rattle.ttp_world.specs.declared.medl.Medl.{Medl}
+use Rattle.ttp_world.specs.declared.script.Channel.{Channel}
+use Rattle.ttp_world.specs.declared.script.Channel.TheVariants as channel
+use Rattle.ttp_world.specs.declared.script.Fault.{Fault}
+use Rattle.ttp_world.specs.declared.script.Fault.TheVariants as fault
+use Rattle.ttp_world.specs.declared.script.Script.{Script}
+use Rattle.ttp_world.specs.Hypothesis.{ClusterStart, Loss, Makes, nodes_of, nodes_made, is_breaking}
+use Rattle.ttp_world.specs.Hypothesis.{is_covered, loses, is_other, expected_sender, is_steady}
+use Rattle.ttp_world.specs.Medl.{plan_at}
+use Rattle.ttp_world.specs.Returning.{four_rounds, run_slots, is_deaf, is_deaf_on, is_missed_in, is_sound}
+use Rattle.ttp_world.specs.Script.{is_ever_on, is_on, has_send_fault, has_receive_fault}
+use Rattle.fault_plan.proofs.Hearing.{on-since}
+use Rattle.fault_plan.proofs.Losses.{loser-tells}
+use Rattle.fault_plan.proofs.Sieves.{none-found}
+use Rattle.back_plan.proofs.Arms.{arm-only}
+use Rattle.back_plan.proofs.BackLosses.{fallen, loss_of, loss-asked}
+use Rattle.back_plan.proofs.Entries.{first-found}
+use Rattle.back_plan.proofs.EventLines.{alone-sends, alone-hears}
+use Rattle.back_plan.proofs.Lists.{none-below}
+use Rattle.back_plan.proofs.Runs.{IsBackRun}
+use Rattle.back_plan.proofs.Sounds.{IsClear, clear-after, IsNearArm}
+use Rattle.back_plan.proofs.Walk.{at, after}
+
+-- Nodes that are on.
+
+pub on-now : (list : Medl) (script : Script) (start : ClusterStart) (slot k : ℕ) → IsBackRun list script start
+    → start.slot ≤ slot → k < length list.slots → is_ever_on script k ≡ true → is_on script k slot ≡ true
+on-now list script start slot k run from less ever = on-since list script start k slot run.on less from ever
+
+pub other-clear : (list : Medl) (script : Script) (start : ClusterStart) (slot k : ℕ) → IsBackRun list script start
+    → start.slot ≤ slot → k < length list.slots → k ≢ expected_sender list start slot → IsClear list script start slot k
+    → is_other script (fallen list script start slot) (expected_sender list start slot) slot k ≡ true
+other-clear list script start slot k run from less other clear =
+    let away = fallen list script start slot in
+    let e = expected_sender list start slot in
+    and_from (is_on script k slot) (not (has_node away k) && not (k == e))
+    (on-now list script start slot k run from less clear.ever)
+    (and_from (not (has_node away k)) (not (k == e)) (not_from_false (has_node away k) clear.fallen)
+    (not_from_false (k == e) (ne_eqb k e other)))
+
+made-itself : (loss : Loss) (k : ℕ) → loss ≡ Makes k → has_node (nodes_made loss) k ≡ false → ⊥
+made-itself loss k is none =
+    let same : (k == k) ≡ true = eq-eqb k k refl in
+    both_ways (has_node (nodes_made loss) k) none (ap (λ l. has_node (nodes_made l) k) is ∙ ap (λ b. b || false) same)
+
+-- a clear node that loses a clear node's frame makes one of the two faulty
+pub clear-loses : (list : Medl) (script : Script) (start : ClusterStart) (slot r : ℕ) → IsBackRun list script start
+    → start.slot ≤ slot → slot < script.slots → r < length list.slots → r ≢ expected_sender list start slot
+    → IsClear list script start slot (expected_sender list start slot) → IsClear list script start slot r
+    → loses script (expected_sender list start slot) slot r ≡ false
+clear-loses list script start slot r run from within less other sends hears =
+    let e = expected_sender list start slot in
+    let away = fallen list script start slot in
+    let asked = loss-asked list script start slot from in
+    false_from_ne_true (loses script e slot r) (λ lost.
+    elim (loser-tells list script away slot e r sends.ever sends.fallen less
+    (other-clear list script start slot r run from less other hears) lost
+    (ap is_breaking (sym asked) ∙ run.whole slot within)) [
+      | inl all ↦ made-itself (loss_of list script start slot) e (asked ∙ all) sends.lost
+      | inr one ↦ made-itself (loss_of list script start slot) r (asked ∙ one) hears.lost
+    ])
+
+-- There is another clear node.
+
+filter-none : (p : ℕ → Bool) (a n : ℕ) → ((k : ℕ) → a ≤ k → k < a + n → p k ≡ false)
+    → length (filter p (range_with_len a n)) ≡ 0
+filter-none p a zero none = refl
+filter-none p a (suc n) none =
+    let here = none a (omega arith) (omega arith) in
+    let rest = filter-none p (a + 1) n (λ k from to. none k (omega arith) (omega arith)) in
+    ap (λ b. length (cond b (a ∷ filter p (range_with_len (a + 1) n)) (filter p (range_with_len (a + 1) n))))
+    here ∙ rest
+
+filter-one : (p : ℕ → Bool) (a n e : ℕ) → ((k : ℕ) → a ≤ k → k < a + n → p k ≡ true → k ≡ e)
+    → length (filter p (range_with_len a n)) ≤ 1
+filter-one p a zero e only = omega arith
+filter-one p a (suc n) e only =
+    by (p a) refl (filter-one p (a + 1) n e (λ k from to passes. only k (omega arith) (omega arith) passes))
+  where
+    by : (b : Bool) → p a ≡ b → length (filter p (range_with_len (a + 1) n)) ≤ 1
+        → length (cond b (a ∷ filter p (range_with_len (a + 1) n)) (filter p (range_with_len (a + 1) n))) ≤ 1
+    by true here rest =
+        let same = only a (omega arith) (omega arith) here in
+        let none =
+        filter-none p (a + 1) n (λ k from to. false_from_ne_true (p k) (λ passes.
+        let is = only k (omega arith) (omega arith) passes in
+        omega arith)) in
+        omega (arith, none)
+    by false here rest = rest
+
+another-of : (p : ℕ → Bool) (n e : ℕ) → 2 ≤ length (filter p (below n))
+    → (q : ℕ) × ((q < n) × ((p q ≡ true) × (q ≢ e)))
+another-of p n e some = by (find other (below n)) refl
+  where
+    other : ℕ → Bool
+    other = λ k. p k && not (k == e)
+
+    by : (found : Option ℕ) → find (λ k. p k && not (k == e)) (below n) ≡ found
+        → (q : ℕ) × ((q < n) × ((p q ≡ true) × (q ≢ e)))
+    by None none =
+        let few =
+        filter-one p 0 n e (λ k from to passes.
+        let fails = none-found (λ k. p k && not (k == e)) 0 n k none from to in
+        elim (cases_eq k e) [
+          | inl same ↦ same
+          | inr differs ↦
+              absurd (both_ways (p k && not (k == e)) fails
+              (and_from (p k) (not (k == e)) passes (not_from_false (k == e) (ne_eqb k e differs))))
+        ]) in
+        absurd (omega (arith, some, few))
+    by (Some q) found =
+        let first = first-found (λ k. p k && not (k == e)) 0 n q found in
+        let parts = and_parts (p q) (not (q == e)) first.passes in
+        (q, (omega (arith, first.to), (parts.0, eqb-false q e (not-true (q == e) parts.1))))
+
+another-clear : (list : Medl) (script : Script) (start : ClusterStart) (slot e : ℕ) → IsBackRun list script start
+    → start.slot ≤ slot → slot < script.slots
+    → (q : ℕ) × ((q < length list.slots) × (IsClear list script start slot q × (q ≢ e)))
+another-clear list script start slot e run from within =
+    let gone = after list script start slot in
+    let four : 4 ≤ length (filter (is_steady list script gone) (nodes_of list)) =
+    leb-true 4 (length (filter (is_steady list script gone) (nodes_of list))) (run.steady slot from within) in
+    let found = another-of (is_steady list script gone) (length list.slots) e (omega (arith, four)) in
+    let q = found.0 in
+    let parts =
+    and_parts (plan_at list q).sync (is_ever_on script q && not (has_node gone q)) found.1.1.0 in
+    let rest = and_parts (is_ever_on script q) (not (has_node gone q)) parts.1 in
+    (q, (found.1.0, (clear-after list script start slot q rest.0 (not-true (has_node gone q) rest.1), found.1.1.1)))
+
+-- Frames near an arm line.
+
+covered-parts : (script : Script) (e r slot : ℕ) (c : Channel) → is_covered script e r slot c ≡ true
+    → has_receive_fault script fault.Silence r c slot ≡ false → has_receive_fault script fault.Noise r c slot ≡ false
+    → (has_send_fault script fault.Silence e c slot || has_send_fault script fault.Noise e c slot) ≡ true
+covered-parts script e r slot c is silent noisy =
+    elim (or_cases (has_send_fault script fault.Silence e c slot || has_send_fault script fault.Noise e c slot)
+    (has_receive_fault script fault.Silence r c slot || has_receive_fault script fault.Noise r c slot) is) [
+      | inl sends ↦ sends
+      | inr hears ↦
+          absurd (both_ways _ (or_from (has_receive_fault script fault.Silence r c slot)
+          (has_receive_fault script fault.Noise r c slot) silent noisy) hears)
+    ]
+
+-- a node near its arm line hears what a clear node sends, since else all others would lose it
+pub near-hears : (list : Medl) (script : Script) (start : ClusterStart) (slot r : ℕ) → IsBackRun list script start
+    → start.slot ≤ slot → slot < script.slots
+    → expected_sender list start slot < length list.slots
+    → IsClear list script start slot (expected_sender list start slot) → IsNearArm list script start slot r
+    → loses script (expected_sender list start slot) slot r ≡ false
+near-hears list script start slot r run from within small sends near =
+    let e = expected_sender list start slot in
+    let alone : (kind : Fault) (c : Channel) → has_receive_fault script kind r c slot ≡ false =
+    λ kind c. alone-hears list script kind r near.arm slot c near.from near.to near.is.alone in
+    false_from_ne_true (loses script e slot r) (λ lost.
+    let both = and_parts (is_covered script e r slot channel.A) (is_covered script e r slot channel.B) lost in
+    let a =
+    covered-parts script e r slot channel.A both.0 (alone fault.Silence channel.A) (alone fault.Noise channel.A) in
+    let b =
+    covered-parts script e r slot channel.B both.1 (alone fault.Silence channel.B) (alone fault.Noise channel.B) in
+    let q = another-clear list script start slot e run from within in
+    both_ways (loses script e slot q.0)
+    (clear-loses list script start slot q.0 run from within q.1.0 q.1.1.1 sends q.1.1.0)
+    (and_from (is_covered script e q.0 slot channel.A) (is_covered script e q.0 slot channel.B)
+    (or_left _ _ a) (or_left _ _ b)))
+
+receiver-covered : (script : Script) (e r slot : ℕ) (c : Channel) → is_covered script e r slot c ≡ true
+    → has_send_fault script fault.Silence e c slot ≡ false → has_send_fault script fault.Noise e c slot ≡ false
+    → is_deaf_on script r slot c ≡ true
+receiver-covered script e r slot c is silent noisy =
+    elim (or_cases (has_send_fault script fault.Silence e c slot || has_send_fault script fault.Noise e c slot)
+    (has_receive_fault script fault.Silence r c slot || has_receive_fault script fault.Noise r c slot) is) [
+      | inl sends ↦
+          absurd (both_ways _ (or_from (has_send_fault script fault.Silence e c slot)
+          (has_send_fault script fault.Noise e c slot) silent noisy) sends)
+      | inr hears ↦ hears
+    ]
+
+-- what no slot of the run passes, this one does not
+none-range : (p : ℕ → Bool) (a n slot : ℕ) → list_any p (range_with_len a n) ≡ false → a ≤ slot → slot < a + n
+    → p slot ≡ false
+none-range p a zero slot none from to = absurd (omega arith)
+none-range p a (suc n) slot none from to =
+    let parts = or_parts (p a) (list_any p (range_with_len (a + 1) n)) none in
+    elim (cases_eq a slot) [
+      | inl same ↦ ap p (sym same) ∙ parts.0
+      | inr other ↦ none-range p (a + 1) n slot parts.1 (omega arith) (omega arith)
+    ]
+
+listed : (p : ℕ → Bool) (arm slot many slots : ℕ) → arm ≤ slot → slot < arm + many → slot < slots
+    → list_any p (range_with_len arm (min (arm + many) slots - arm)) ≡ false
+    → p slot ≡ false
+listed p arm slot many slots from to within none =
+    none-range p arm (min (arm + many) slots - arm) slot none from (omega arith)
+
+-- and a clear node hears what a node near its arm line sends
+pub near-heard : (list : Medl) (script : Script) (start : ClusterStart) (slot r : ℕ) → IsBackRun list script start
+    → start.slot ≤ slot → slot < script.slots → r < length list.slots
+    → IsNearArm list script start slot (expected_sender list start slot) → IsClear list script start slot r
+    → loses script (expected_sender list start slot) slot r ≡ false
+near-heard list script start slot r run from within less near hears =
+    let e = expected_sender list start slot in
+    let faulty = at list script start slot in
+    let alone : (kind : Fault) (c : Channel) → has_send_fault script kind e c slot ≡ false =
+    λ kind c. alone-sends list script kind e near.arm slot c near.from near.to near.is.alone in
+    let missed : is_missed_in list script start e slot ≡ false =
+    listed (is_missed_in list script start e) near.arm slot (four_rounds list) script.slots near.from near.to within
+    (not-true (list_any (is_missed_in list script start e) (run_slots script near.arm (four_rounds list)))
+    near.is.heard) in
+    let deaf : list_any (is_deaf script faulty slot) (nodes_of list) ≡ false =
+    second (expected_sender list start slot == e) (list_any (is_deaf script faulty slot) (nodes_of list)) missed
+    (eq-eqb (expected_sender list start slot) e refl) in
+    let here = none-below (is_deaf script faulty slot) (length list.slots) r deaf less in
+    let sound : is_sound script faulty slot r ≡ true =
+    and_from (is_on script r slot) (not (has_node faulty r)) (on-now list script start slot r run from less hears.ever)
+    (not_from_false (has_node faulty r) hears.was) in
+    let hearing : (is_deaf_on script r slot channel.A && is_deaf_on script r slot channel.B) ≡ false =
+    second (is_sound script faulty slot r) (is_deaf_on script r slot channel.A && is_deaf_on script r slot channel.B)
+    here
+    sound in
+    false_from_ne_true (loses script e slot r) (λ lost.
+    let both = and_parts (is_covered script e r slot channel.A) (is_covered script e r slot channel.B) lost in
+    both_ways (is_deaf_on script r slot channel.A && is_deaf_on script r slot channel.B) hearing
+    (and_from (is_deaf_on script r slot channel.A) (is_deaf_on script r slot channel.B)
+    (receiver-covered script e r slot channel.A both.0 (alone fault.Silence channel.A) (alone fault.Noise channel.A))
+    (receiver-covered script e r slot channel.B both.1 (alone fault.Silence channel.B) (alone fault.Noise channel.B))))
+  where
+    second : (b c : Bool) → (b && c) ≡ false → b ≡ true → c ≡ false
+    second true c none is = none
+    second false c none is = absurd (both_ways false refl is)
+
+-- two of them are one
+pub near-same : (list : Medl) (script : Script) (start : ClusterStart) (slot j k : ℕ)
+    → IsNearArm list script start slot j
+    → IsNearArm list script start slot k → j ≡ k
+near-same list script start slot j k one two = elim (cases_lt two.arm one.arm) [
+  | inl later ↦
+      sym (arm-only list script start k two.arm j one.arm two.is one.is.armed (omega (arith, later))
+      (omega (arith, one.from, two.to))).0
+  | inr earlier ↦
+      (arm-only list script start j one.arm k two.arm one.is two.is.armed earlier (omega (arith, two.from, one.to))).0
+]

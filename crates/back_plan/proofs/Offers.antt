@@ -1,0 +1,256 @@
+-- An armed node enters by the first frame of a sound node that carries a place.
+use Rattle.std.proofs.Common.{◌≡◌, ◌≢◌, ℕ, zero, suc, ◌+◌, ◌-◌, ◌*◌, ◌/◌, ◌%◌, ◌<◌, ◌≤◌, Bool, true, false, cond, not}
+use Rattle.std.proofs.Common.{length, refl, ap, sym, subst, ◌∙◌, inl, inr, mod-lt, arith}
+use Rattle.std.specs.Prelude.{◌==◌}
+use Rattle.std.specs.List.{Contains}
+use Rattle.std.proofs.lemmas.Bool.{and_parts, and_from, both_ways, ne_eqb, eqb-true, eqb-false, false_from_ne_true}
+use Rattle.std.proofs.lemmas.Bool.{not_from_false, cases_lt}
+use Rattle.std.proofs.Math.Nat.{mod-add-div', mod-add-mod, mod-eq_of_lt, div-eq_of_lt}
+use Rattle.std.proofs.lemmas.Nat.{div-mul-add}
+use Rattle.ttp_base.specs.NodeSet.{has_node}
+use Rattle.ttp_world.specs.declared.medl.Medl.{Medl}
+use Rattle.ttp_world.specs.declared.script.Script.{Script}
+use Rattle.ttp_world.specs.Diary.{Place, next_place}
+use Rattle.ttp_world.specs.Hypothesis.{ClusterStart, expected_sender}
+use Rattle.ttp_world.specs.Medl.{kind_at}
+use Rattle.ttp_world.specs.Returning.{two_rounds, four_rounds, round_of, carries_place, is_sound as is_sound_in}
+use Rattle.ttp_world.specs.Returning.{offers_place}
+use Rattle.ttp_world.specs.Script.{is_on}
+use Rattle.fault_plan.specs.Plan.{Return, Plan}
+use Rattle.fault_plan.specs.Fates.{is_sound_after, is_good_slot}
+use Rattle.fault_plan.specs.Kept.{kind_in, IsOffered}
+use Rattle.fault_plan.specs.Places.{planned_place}
+use Rattle.fault_plan.proofs.Hearing.{on-since}
+use Rattle.fault_plan.proofs.Places.{place-sender}
+use Rattle.back_plan.specs.BackPlan.{entry_slot, back_plan_of}
+use Rattle.back_plan.proofs.ArmLines.{armed-valid, IsOfLine, return-of}
+use Rattle.back_plan.proofs.Arms.{IsArmedIn, armed-in, arm-only}
+use Rattle.back_plan.proofs.Entries.{IsEntryOf, entry-of}
+use Rattle.back_plan.proofs.ReturnedPlan.{armed-after}
+use Rattle.back_plan.proofs.Runs.{IsBackRun}
+use Rattle.back_plan.proofs.Sounds.{Soundly, BeingClear, NearArm, sound-how}
+use Rattle.back_plan.proofs.Standing.{arm-late}
+use Rattle.back_plan.proofs.Walk.{at, after}
+
+-- The round of a slot.
+
+next-div : (n a : ℕ) (last : Bool) → 0 < n → (suc (a % n) == n) ≡ last → suc a / n ≡ cond last (suc (a / n)) (a / n)
+next-div n a true some last =
+    let whole : a % n + (a / n) * n ≡ a = mod-add-div' a n in
+    let round : suc (a % n) ≡ n = eqb-true (suc (a % n)) n last in
+    let more : (a / n + 1) * n ≡ (a / n) * n + n = omega arith in
+    let next : suc a ≡ (a / n + 1) * n + 0 = omega arith in
+    let one : a / n + 1 ≡ suc (a / n) = omega arith in
+    ap (λ t. t / n) next ∙ div-mul-add (a / n + 1) n 0 some ∙ one
+next-div n a false some inside =
+    let whole : a % n + (a / n) * n ≡ a = mod-add-div' a n in
+    let less : a % n < n = mod-lt a some in
+    let other = eqb-false (suc (a % n)) n inside in
+    let next : suc a ≡ (a / n) * n + suc (a % n) = omega arith in
+    let fits : suc (a % n) < n = fits-in (suc (a % n)) n (omega arith) other in
+    ap (λ t. t / n) next ∙ div-mul-add (a / n) n (suc (a % n)) fits
+  where
+    fits-in : (m k : ℕ) → m ≤ k → m ≢ k → m < k
+    fits-in m k few other = omega arith
+
+round-next : (list : Medl) (place : Place) (last : Bool) → (suc place.slot == length list.slots) ≡ last
+    → (next_place list place).round ≡ cond last ((place.round + 1) % list.rounds) place.round
+round-next list place true last = rw last
+round-next list place false inside = rw inside
+
+planned-round : (list : Medl) (plan : Plan) (slot : ℕ) → plan.nodes ≡ length list.slots → plan.starter < plan.nodes
+    → 0 < list.rounds
+    → (planned_place list plan slot).round ≡ (plan.starter + slot) / length list.slots % list.rounds
+planned-round list plan zero same less rounds =
+    let none : plan.starter + 0 ≡ plan.starter = omega arith in
+    let first : plan.starter / length list.slots ≡ 0 = div-eq_of_lt (subst (λ n. plan.starter < n) same less) in
+    sym (ap (λ t. t / length list.slots % list.rounds) none ∙ ap (λ q. q % list.rounds) first ∙ mod-eq_of_lt rounds)
+planned-round list plan (suc slot) same less rounds =
+    let n = length list.slots in
+    let a = plan.starter + slot in
+    let place = planned_place list plan slot in
+    let at : place.slot ≡ a % n = place-sender list plan slot same less ∙ ap (λ m. a % m) same in
+    let last = suc (a % n) == n in
+    let before = planned-round list plan slot same less rounds in
+    let next : suc a ≡ plan.starter + suc slot = omega arith in
+    round-next list place last (ap (λ t. suc t == n) at)
+    ∙ ap (λ r. cond last ((r + 1) % list.rounds) r) before
+    ∙ turn last
+    ∙ ap (λ q. q % list.rounds) (sym (next-div n a last (subst (λ m. 0 < m) same (omega arith)) refl))
+    ∙ ap (λ t. t / n % list.rounds) next
+  where
+    turn : (last : Bool)
+        → cond last (((plan.starter + slot) / length list.slots % list.rounds + 1) % list.rounds)
+        ((plan.starter + slot) / length list.slots % list.rounds)
+        ≡ cond last (suc ((plan.starter + slot) / length list.slots)) ((plan.starter + slot) / length list.slots)
+        % list.rounds
+    turn true =
+        let q = (plan.starter + slot) / length list.slots in
+        let one : q + 1 ≡ suc q = omega arith in
+        mod-add-mod q list.rounds 1 ∙ ap (λ t. t % list.rounds) one
+    turn false = refl
+
+module _ (list : Medl) (script : Script) (start : ClusterStart) (run : IsBackRun list script start) where
+  abbrev plan : Plan
+  plan = back_plan_of list script start
+
+  turns : (turn : ℕ) → (start.slot + turn) - start.slot ≡ turn
+  turns turn = omega arith
+
+  -- the kind of a slot's frame, by the plan and by the script
+  kind-same : (turn : ℕ) → kind_in list plan turn
+      ≡ kind_at list (round_of list start (start.slot + turn)) (expected_sender list start (start.slot + turn))
+  kind-same turn =
+      let rounds = run.valid.rounds in
+      (λ i. kind_at list
+      ((planned-round list plan turn refl run.alone.node (omega (arith, rounds))
+      ∙ ap (λ t. (start.node + t) / length list.slots % list.rounds) (sym (turns turn))) i)
+      ((place-sender list plan turn refl run.alone.node
+      ∙ ap (λ t. (start.node + t) % length list.slots) (sym (turns turn))) i))
+
+  -- what an arm line offers
+  module _ (r : Return) (of : IsOfLine list script start script.events r) where
+    line : IsArmedIn list script start r.node of.arm
+    line =
+        let fits = armed-valid list script r.node of.arm run.script_valid of.armed in
+        armed-in list script start r.node of.arm run fits.0 fits.1 of.armed
+
+    entry : IsEntryOf list script start r.node of.arm (entry_slot list script start r.node of.arm)
+    entry = entry-of list script start r.node of.arm line
+
+    late : start.slot + four_rounds list ≤ of.arm
+    late = arm-late list script start r.node of.arm run line
+
+    armed-is : start.slot + r.armed ≡ of.arm
+    armed-is =
+        let is : r.armed ≡ of.arm - start.slot = ap (λ (q : Return). q.armed) of.is in
+        let after = late in
+        omega (arith, is, after)
+
+    entered-is : start.slot + r.entered ≡ entry_slot list script start r.node of.arm
+    entered-is =
+        let is : r.entered ≡ entry_slot list script start r.node of.arm - start.slot =
+        ap (λ (q : Return). q.entered) of.is in
+        let after = late in
+        let from = entry.from in
+        omega (arith, is, after, from)
+
+    offers-entry : r.entered < plan.slots → carries_place (kind_in list plan r.entered) ≡ true
+    offers-entry within =
+        let slot = entry_slot list script start r.node of.arm in
+        let there = entered-is in
+        let inside : slot < script.slots = omega (arith, within, there) in
+        let parts = and_parts (not (expected_sender list start slot == r.node)) _ (entry.offered inside) in
+        let carries = and_parts (is_sound_in script (at list script start slot) slot (expected_sender list start slot))
+        _ parts.1 in
+        ap carries_place (kind-same r.entered)
+        ∙ ap (λ t. carries_place (kind_at list (round_of list start t) (expected_sender list start t))) there
+        ∙ carries.1
+
+    -- a good slot before has no such frame
+    none-before : (turn : ℕ) → r.armed ≤ turn → turn < r.entered → turn < plan.slots
+        → is_good_slot plan turn ≡ true → carries_place (kind_in list plan turn) ≡ false
+    none-before turn from to within good =
+        ap carries_place (kind-same turn)
+        ∙ false_from_ne_true (carries_place (kind_at list (round_of list start slot) e)) (λ carries.
+        both_ways (offers_place list script start r.node slot)
+        (entry.none slot (omega (arith, arm_at, from)) (omega (arith, entry_at, to)) inside)
+        (and_from (not (e == r.node)) _ (not_from_false (e == r.node) (ne_eqb e r.node other))
+        (and_from (is_sound_in script (at list script start slot) slot e) _
+        (and_from (is_on script e slot) (not (has_node (at list script start slot) e)) on
+        (not_from_false (has_node (at list script start slot) e) clear.1)) carries)))
+      where
+        slot : ℕ
+        slot = start.slot + turn
+
+        e : ℕ
+        e = expected_sender list start (start.slot + turn)
+
+        arm_at : start.slot + r.armed ≡ of.arm
+        arm_at = armed-is
+
+        entry_at : start.slot + r.entered ≡ entry_slot list script start r.node of.arm
+        entry_at = entered-is
+
+        inside : start.slot + turn < script.slots
+        inside = omega (arith, within)
+
+        e-node : expected_sender list start (start.slot + turn) < length list.slots
+        e-node = let count = run.valid.count in mod-lt _ (omega (arith, count))
+
+        sound : is_sound_after plan turn (expected_sender list start (start.slot + turn)) ≡ true
+        sound =
+            ap (λ t. is_sound_after plan turn ((start.node + t) % length list.slots)) (turns turn) ∙ good
+
+        near : of.arm ≤ start.slot + turn
+        near = omega (arith, arm_at, from)
+
+        soon : start.slot + turn < of.arm + two_rounds list
+        soon = let last = entry.to in omega (arith, entry_at, to, last)
+
+        how : Soundly list script start (start.slot + turn) (expected_sender list start (start.slot + turn))
+            → (is_on script (expected_sender list start (start.slot + turn)) (start.slot + turn) ≡ true)
+            × (has_node (after list script start (start.slot + turn)) (expected_sender list start (start.slot + turn))
+            ≡ false)
+            × (has_node (at list script start (start.slot + turn)) (expected_sender list start (start.slot + turn))
+            ≡ false)
+        how (BeingClear is) = (
+          on-since list script start (expected_sender list start (start.slot + turn)) (start.slot + turn) run.on e-node
+              (omega arith) is.ever,
+          is.none,
+          is.was,
+        )
+        how (NearArm also entered) =
+            let count = run.valid.count in
+            let first = also.from in
+            let last = also.to in
+            absurd (elim (cases_lt of.arm also.arm) [
+              | inl before ↦
+                  let same =
+                  arm-only list script start r.node of.arm (expected_sender list start (start.slot + turn)) also.arm
+                  line also.is.armed (omega arith)
+                  (omega (arith, first, soon, count)) in
+                  let one = same.1 in
+                  omega (arith, one, before)
+              | inr later ↦
+                  let same =
+                  arm-only list script start (expected_sender list start (start.slot + turn)) also.arm r.node of.arm
+                  also.is line.armed later (omega (arith, near, last)) in
+                  let there : entry_slot list script start r.node of.arm ≤ start.slot + turn =
+                  subst (λ j. entry_slot list script start j of.arm ≤ start.slot + turn) same.0
+                  (subst
+                  (λ a. entry_slot list script start (expected_sender list start (start.slot + turn)) a
+                  ≤ start.slot + turn) same.1 entered) in
+                  omega (arith, there, entry_at, to)
+            ])
+
+        known : (is_on script (expected_sender list start (start.slot + turn)) (start.slot + turn) ≡ true)
+            × (has_node (after list script start (start.slot + turn)) (expected_sender list start (start.slot + turn))
+            ≡ false)
+            × (has_node (at list script start (start.slot + turn)) (expected_sender list start (start.slot + turn))
+            ≡ false)
+        known =
+            how (sound-how list script start turn (start.slot + turn) (expected_sender list start (start.slot + turn))
+            run
+            refl inside e-node sound)
+
+        on : is_on script (expected_sender list start (start.slot + turn)) (start.slot + turn) ≡ true
+        on = known.0
+
+        clear : (has_node (after list script start (start.slot + turn)) (expected_sender list start (start.slot + turn))
+            ≡ false)
+            × (has_node (at list script start (start.slot + turn)) (expected_sender list start (start.slot + turn))
+            ≡ false)
+        clear = (known.1, known.2)
+
+        other : expected_sender list start (start.slot + turn) ≢ r.node
+        other same =
+            let count = run.valid.count in
+            both_ways (has_node (after list script start (start.slot + turn)) r.node)
+            (ap (has_node (after list script start (start.slot + turn))) (sym same) ∙ clear.0)
+            (armed-after list script start run (start.slot + turn) r.node of.arm line near (omega (arith, soon, count)))
+
+  pub offered : (r : Return) → Contains plan.returns r → IsOffered list plan r
+  offered r among =
+      let of = return-of list script start r among in
+      record { place = offers-entry r of; none = none-before r of }

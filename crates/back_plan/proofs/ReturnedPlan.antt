@@ -1,0 +1,355 @@
+-- The plan of a run whose armed nodes return is that of its faulty nodes and its arm lines.
+use Rattle.std.proofs.Common.{◌≡◌, ◌≢◌, ℕ, zero, suc, ◌+◌, ◌-◌, ◌<◌, ◌≤◌, Bool, true, false, not, ◌&&◌, ◌||◌}
+use Rattle.std.proofs.Common.{List, [], ◌∷◌, ◌++◌, length, Some, ◌⊎◌, refl, ap, sym, subst, ◌∙◌, inl, inr}
+use Rattle.std.proofs.Common.{mod-lt, arith}
+use Rattle.std.specs.Prelude.{◌==◌}
+use Rattle.std.specs.List.{AllByRecursion, list_any, range_with_len}
+use Rattle.std.proofs.lemmas.Bool.{and_parts, and_from, or_left, or_right, or_cases, both_ways, cases_lt, cases_eq}
+use Rattle.std.proofs.lemmas.Bool.{eq-eqb}
+use Rattle.std.proofs.lemmas.Bool.{false_from_ne_true, not-true}
+use Rattle.ttp_base.specs.NodeSet.{has_node}
+use Rattle.ttp_world.specs.declared.medl.Medl.{Medl}
+use Rattle.ttp_world.specs.declared.script.Script.{Script}
+use Rattle.ttp_world.specs.BackSafety.{is_armed_among}
+use Rattle.ttp_world.specs.Hypothesis.{ClusterStart, FaultyNode, numbers_of, expected_sender, start_of}
+use Rattle.ttp_world.specs.Returning.{four_rounds, slots_before, faulty_since, is_forgiven, started_since}
+use Rattle.ttp_world.specs.Returning.{is_back_correct_after}
+use Rattle.ttp_world.specs.Script.{is_armed, is_ever_on, is_on}
+use Rattle.ttp_world.proofs.Filters.{each-filter}
+use Rattle.fault_plan.specs.Fates.{fate_of, is_sound, is_sound_after, lost_since}
+use Rattle.fault_plan.specs.Plan.{Plan, enters}
+use Rattle.fault_plan.specs.Returned.{IsSoundAgain, IsPlanOfReturns}
+use Rattle.fault_plan.proofs.Hearing.{on-ever}
+use Rattle.fault_plan.proofs.Incidents.{incident_made}
+use Rattle.fault_plan.proofs.Spaced.{all_in}
+use Rattle.back_plan.specs.BackPlan.{back_plan_of}
+use Rattle.back_plan.proofs.Arms.{IsArmedIn, armed-in, arm-quiet, arm-only, arm-stays}
+use Rattle.back_plan.proofs.BackIncidents.{incident-slot}
+use Rattle.back_plan.proofs.BackLosses.{Origin, ByJump, ByLoss, origin-of, made-fresh}
+use Rattle.back_plan.proofs.Entries.{entry-of}
+use Rattle.back_plan.proofs.Runs.{IsBackRun}
+use Rattle.back_plan.proofs.Standing.{Standing, Clear, LostSince, ArmedSince, standing, entry-by, arm-late}
+use Rattle.back_plan.proofs.Walk.{at, made, after, after-has, at-next}
+
+-- Whoever is faulty is a node of the list that is on at some time.
+
+abbrev IsEverNode : Medl → Script → ℕ → Type 0
+IsEverNode list script k = (k < length list.slots) × (is_ever_on script k ≡ true)
+
+made-node : (list : Medl) (script : Script) (start : ClusterStart) (slot k : ℕ) → IsBackRun list script start
+    → has_node (made list script start slot) k ≡ true → IsEverNode list script k
+made-node list script start slot k run has = by (origin-of list script start slot k has)
+  where
+    by : Origin list script start slot k → IsEverNode list script k
+    by (ByJump jumper) = (jumper.less, on-ever script k slot jumper.on)
+    by (ByLoss made is) = elim made.how [
+      | inl own ↦
+          let less : expected_sender list start slot < length list.slots =
+          mod-lt _ (let count = run.valid.count in omega (arith, count)) in (
+            subst (λ j. j < length list.slots) (sym own.0) less,
+            ap (is_ever_on script) own.0 ∙ made.on,
+          )
+      | inr other ↦ (other.0, on-ever script k slot (and_parts (is_on script k slot) _ other.1).0)
+    ]
+
+pub faulty-node : (list : Medl) (script : Script) (start : ClusterStart) (slot k : ℕ) → IsBackRun list script start
+    → has_node (after list script start slot) k ≡ true → IsEverNode list script k
+faulty-node list script start zero k run has =
+    elim (or_cases (has_node (made list script start 0) k) (has_node (at list script start 0) k)
+    (sym (after-has list script start 0 k) ∙ has)) [
+      | inl now ↦ made-node list script start 0 k run now
+      | inr before ↦ absurd (both_ways false refl before)
+    ]
+faulty-node list script start (suc slot) k run has =
+    by (or_cases (has_node (made list script start (suc slot)) k) (has_node (at list script start (suc slot)) k)
+    (sym (after-has list script start (suc slot) k) ∙ has)) (faulty-node list script start slot k run)
+  where
+    by : (has_node (made list script start (suc slot)) k ≡ true) ⊎ (has_node (at list script start (suc slot)) k ≡ true)
+        → (has_node (after list script start slot) k ≡ true → IsEverNode list script k) → IsEverNode list script k
+    by (inl now) older = made-node list script start (suc slot) k run now
+    by (inr before) older =
+        older (and_parts (has_node (after list script start slot) k) _
+        (sym (at-next list script start slot k) ∙ before)).0
+
+-- Whoever is faulty after a slot became so in the slot that is told, and was not forgiven since.
+
+record IsTold (list : Medl) (script : Script) (start : ClusterStart) (slot : ℕ) (f : FaultyNode) : Type 0 where
+  to : f.slot ≤ slot
+  made_in : has_node (made list script start f.slot) f.node ≡ true
+  kept : (later : ℕ) → f.slot < later → later ≤ slot
+      → is_forgiven list script (slots_before list script start later) later f.node ≡ false
+
+told-now : (list : Medl) (script : Script) (start : ClusterStart) (slot : ℕ) (ks : List ℕ)
+    → ((k : ℕ) → has_node ks k ≡ true → has_node (made list script start slot) k ≡ true)
+    → AllByRecursion (IsTold list script start slot) (all_in slot ks)
+told-now list script start slot [] among = tt
+told-now list script start slot (k ∷ ks) among = (
+  record {
+    to = omega arith;
+    made_in = among k (ap (λ b. b || has_node ks k) (eq-eqb k k refl));
+    kept = λ later from to. absurd (omega arith);
+  },
+  told-now list script start slot ks (λ j has. among j (or_right (k == j) (has_node ks j) has)),
+)
+
+told-append : (P : FaultyNode → Type 0) (fs gs : List FaultyNode) → AllByRecursion P fs → AllByRecursion P gs
+    → AllByRecursion P (fs ++ gs)
+told-append P [] gs each later = later
+told-append P (f ∷ fs) gs each later = (each.0, told-append P fs gs each.1 later)
+
+told-later : (list : Medl) (script : Script) (start : ClusterStart) (slot : ℕ) (fs : List FaultyNode)
+    → AllByRecursion (λ f. IsTold list script start slot f
+    × (not (is_forgiven list script (slots_before list script start (suc slot)) (suc slot) f.node) ≡ true)) fs
+    → AllByRecursion (IsTold list script start (suc slot)) fs
+told-later list script start slot [] each = tt
+told-later list script start slot (f ∷ fs) each =
+    let told = each.0.0 in
+    let to = told.to in (
+      record {
+        to = omega (arith, to);
+        made_in = told.made_in;
+        kept = λ later from within. elim (cases_eq later (suc slot)) [
+          | inl same ↦
+              subst (λ t. is_forgiven list script (slots_before list script start t) t f.node ≡ false) (sym same)
+              (not-true (is_forgiven list script (slots_before list script start (suc slot)) (suc slot) f.node)
+              each.0.1)
+          | inr other ↦ told.kept later from (omega (arith, within, other))
+        ];
+      },
+      told-later list script start slot fs each.1,
+    )
+
+told-all : (list : Medl) (script : Script) (start : ClusterStart) (slot : ℕ)
+    → AllByRecursion (IsTold list script start slot) (faulty_since (slots_before list script start (suc slot)))
+told-all list script start zero =
+    told-append (IsTold list script start 0) (all_in 0 (made list script start 0)) []
+    (told-now list script start 0 (made list script start 0) (λ k has. has)) tt
+told-all list script start (suc slot) =
+    told-append (IsTold list script start (suc slot)) (all_in (suc slot) (made list script start (suc slot))) _
+    (told-now list script start (suc slot) (made list script start (suc slot)) (λ k has. has))
+    (told-later list script start slot _
+    (each-filter (IsTold list script start slot)
+    (λ f. not (is_forgiven list script (slots_before list script start (suc slot)) (suc slot) f.node))
+    (faulty_since (slots_before list script start (suc slot))) (told-all list script start slot)))
+
+-- so it was faulty after each slot from then on
+told-stays : (list : Medl) (script : Script) (start : ClusterStart) (slot : ℕ) (f : FaultyNode)
+    → IsTold list script start slot f → (later : ℕ) → f.slot ≤ later → later ≤ slot
+    → has_node (after list script start later) f.node ≡ true
+told-stays list script start slot f told zero from to =
+    let same : f.slot ≡ 0 = omega arith in
+    after-has list script start 0 f.node
+    ∙ or_left (has_node (made list script start 0) f.node) (has_node (at list script start 0) f.node)
+    (subst (λ t. has_node (made list script start t) f.node ≡ true) same told.made_in)
+told-stays list script start slot f told (suc later) from to =
+    by (cases_eq f.slot (suc later)) (told-stays list script start slot f told later)
+  where
+    by : (f.slot ≡ suc later) ⊎ (f.slot ≢ suc later)
+        → (f.slot ≤ later → later ≤ slot → has_node (after list script start later) f.node ≡ true)
+        → has_node (after list script start (suc later)) f.node ≡ true
+    by (inl same) older =
+        after-has list script start (suc later) f.node
+        ∙ or_left (has_node (made list script start (suc later)) f.node)
+        (has_node (at list script start (suc later)) f.node)
+        (subst (λ t. has_node (made list script start t) f.node ≡ true) same told.made_in)
+    by (inr other) older =
+        after-has list script start (suc later) f.node
+        ∙ or_right (has_node (made list script start (suc later)) f.node)
+        (has_node (at list script start (suc later)) f.node)
+        (at-next list script start later f.node
+        ∙ and_from (has_node (after list script start later) f.node) _ (older (omega arith) (omega arith))
+        (ap not (told.kept (suc later) (omega arith) to)))
+
+-- and at the beginning of each later one
+told-at : (list : Medl) (script : Script) (start : ClusterStart) (slot : ℕ) (f : FaultyNode)
+    → IsTold list script start slot f → (later : ℕ) → f.slot < later → later ≤ slot
+    → has_node (at list script start later) f.node ≡ true
+told-at list script start slot f told zero from to = absurd (omega arith)
+told-at list script start slot f told (suc later) from to =
+    at-next list script start later f.node
+    ∙ and_from (has_node (after list script start later) f.node) _
+    (told-stays list script start slot f told later (omega arith) (omega arith))
+    (ap not (told.kept (suc later) (omega arith) to))
+
+-- An arm line among slots.
+
+any-range : (p : ℕ → Bool) (a n slot : ℕ) → a ≤ slot → slot < a + n → p slot ≡ true
+    → list_any p (range_with_len a n) ≡ true
+any-range p a zero slot from to passes = absurd (omega arith)
+any-range p a (suc n) slot from to passes = by (cases_eq a slot) (any-range p (a + 1) n slot)
+  where
+    by : (a ≡ slot) ⊎ (a ≢ slot)
+        → (a + 1 ≤ slot → slot < a + 1 + n → p slot ≡ true → list_any p (range_with_len (a + 1) n) ≡ true)
+        → (p a || list_any p (range_with_len (a + 1) n)) ≡ true
+    by (inl same) rest = or_left (p a) _ (ap p same ∙ passes)
+    by (inr other) rest = or_right (p a) _ (rest (omega arith) (omega arith) passes)
+
+module _ (list : Medl) (script : Script) (start : ClusterStart) (run : IsBackRun list script start) where
+  abbrev plan : Plan
+  plan = back_plan_of list script start
+
+  -- an armed node stays faulty for four rounds
+  pub armed-has : (slot k arm : ℕ) → IsArmedIn list script start k arm → arm ≤ slot → slot < arm + four_rounds list
+      → has_node (at list script start slot) k ≡ true
+  armed-has slot k arm is from to =
+      arm-stays list script start k arm (slot - arm) slot run is (omega arith) (omega arith)
+
+  pub armed-after : (slot k arm : ℕ) → IsArmedIn list script start k arm → arm ≤ slot → slot < arm + four_rounds list
+      → has_node (after list script start slot) k ≡ true
+  armed-after slot k arm is from to =
+      after-has list script start slot k
+      ∙ or_right (has_node (made list script start slot) k) (has_node (at list script start slot) k)
+      (armed-has slot k arm is from to)
+
+  -- Nodes that are not faulty are sound.
+  pub clear-sound : (turn slot k : ℕ) → slot ≡ start.slot + turn → slot < script.slots → k < length list.slots
+      → is_ever_on script k ≡ true → has_node (after list script start slot) k ≡ false
+      → is_sound_after plan turn k ≡ true
+  clear-sound turn slot k now within less ever none =
+      by (standing list script start turn slot k run now within less ever)
+    where
+      by : Standing list script start slot k (fate_of plan turn k) → is_sound_after plan turn k ≡ true
+      by (Clear out sound) = ap is_sound sound
+      by (LostSince since lost) = absurd (both_ways (has_node (after list script start slot) k) none lost.has)
+      by (ArmedSince arm armed) =
+          absurd (both_ways (has_node (after list script start slot) k) none
+          (armed-after slot k arm armed.is armed.from armed.to))
+
+  -- A faulty node that was not armed since is lost since it became faulty.
+  told-lost : (turn slot : ℕ) (f : FaultyNode) → slot ≡ start.slot + turn → slot < script.slots
+      → IsTold list script start slot f
+      → is_armed_among script f.node f.slot (suc slot - f.slot) ≡ false
+      → lost_since (fate_of plan turn f.node) ≡ Some (f.slot - start.slot)
+  told-lost turn slot f now within told unarmed =
+      by (standing list script start turn slot f.node run now within node.0 node.1)
+    where
+      node : IsEverNode list script f.node
+      node = made-node list script start f.slot f.node run told.made_in
+
+      fresh : has_node (at list script start f.slot) f.node ≡ false
+      fresh = made-fresh list script start f.slot f.node told.made_in
+
+      by : Standing list script start slot f.node (fate_of plan turn f.node)
+          → lost_since (fate_of plan turn f.node) ≡ Some (f.slot - start.slot)
+      by (Clear out sound) =
+          absurd (both_ways (has_node (after list script start slot) f.node) out
+          (told-stays list script start slot f told slot told.to (omega arith)))
+      by (LostSince since lost) = elim (cases_eq since f.slot) [
+        | inl same ↦ lost.fate_is ∙ ap (λ s. Some (s - start.slot)) same
+        | inr other ↦ elim (cases_lt since f.slot) [
+          | inl before ↦
+              absurd (both_ways (has_node (at list script start f.slot) f.node) fresh
+              (lost.stays f.slot before told.to))
+          | inr later ↦
+              absurd (both_ways (has_node (at list script start since) f.node) lost.before
+              (told-at list script start slot f told since (omega arith) lost.to))
+        ]
+      ]
+      by (ArmedSince arm armed) = elim (cases_lt arm f.slot) [
+        | inl before ↦
+            let to = told.to in
+            let soon = armed.to in
+            absurd (both_ways (has_node (at list script start f.slot) f.node) fresh
+            (armed-has f.slot f.node arm armed.is (omega arith) (omega (arith, to, soon))))
+        | inr from ↦
+            let to = armed.from in
+            absurd (both_ways (is_armed_among script f.node f.slot (suc slot - f.slot)) unarmed
+            (any-range (is_armed script f.node) f.slot (suc slot - f.slot) arm from (omega (arith, to, from))
+            armed.is.armed))
+      ]
+
+  -- A node that was armed four rounds ago is sound again.
+  again : (turn slot k arm : ℕ) → slot ≡ start.slot + turn → slot < script.slots → suc slot ≡ arm + four_rounds list
+      → IsArmedIn list script start k arm → IsSoundAgain plan turn k
+  again turn slot k arm now within due is = record {
+    late = let late = arm-late list script start k arm run is in omega (arith, late, now, due);
+    sound = by (standing list script start turn slot k run now within node.0 node.1);
+    quiet = λ u to near.
+        incident-slot list script start u (start.slot + u) run refl (omega arith)
+        ∙ ap (incident_made list script start (start.slot + u))
+        (arm-quiet list script start k arm (start.slot + u) is (omega arith) (omega arith) (omega arith));
+    entered = λ u to near. false_from_ne_true (enters plan u k) (λ enter.
+        let by = entry-by list script start u (start.slot + u) k run refl (omega arith) enter in
+        let from = by.from in
+        let soon = by.to in
+        let same = arm-only list script start k arm k by.arm is by.is.armed (omega (arith, soon, near, due, now))
+        (omega (arith, from, due, now, to)) in
+        let one = same.1 in
+        omega (arith, one, soon, near, due, now, count));
+  }
+    where
+      count : 4 ≤ length list.slots
+      count = run.valid.count.0
+
+      node : IsEverNode list script k
+      node = faulty-node list script start arm k run
+          (armed-after arm k arm is (omega arith) (omega (arith, count)))
+
+      has : has_node (at list script start slot) k ≡ true
+      has = armed-has slot k arm is (omega (arith, due, count)) (omega (arith, due))
+
+      by : Standing list script start slot k (fate_of plan turn k) → is_sound_after plan turn k ≡ true
+      by (Clear out sound) =
+          absurd (both_ways (has_node (after list script start slot) k) out
+          (armed-after slot k arm is (omega (arith, due, count)) (omega (arith, due))))
+      by (LostSince since lost) = elim (cases_lt arm since) [
+        | inl before ↦
+            let to = lost.to in
+            absurd (both_ways (has_node (at list script start since) k) lost.before
+            (armed-has since k arm is (omega arith) (omega (arith, to, due))))
+        | inr from ↦ absurd (both_ways (is_armed script k arm) (lost.unarmed arm from (omega (arith, due, count)))
+            is.armed)
+      ]
+      by (ArmedSince other armed) =
+          let from = armed.from in
+          let soon = armed.to in
+          let same : other ≡ arm = elim (cases_lt arm other) [
+            | inl before ↦
+                sym (arm-only list script start k arm k other is armed.is.armed (omega arith)
+                (omega (arith, from, due))).1
+            | inr after ↦
+                (arm-only list script start k other k arm armed.is is.armed after (omega (arith, soon, due, count))).1
+          ] in
+          let entry = entry-of list script start k other armed.is in
+          let to = entry.to in
+          ap is_sound (armed.entered (omega (arith, to, same, due, count)))
+
+  abbrev IsLost : ℕ → FaultyNode → Type 0
+  IsLost turn f =
+      is_armed_among script f.node f.slot (suc (start.slot + turn) - f.slot) ≡ false
+      → lost_since (fate_of plan turn f.node) ≡ Some (f.slot - start.slot)
+
+  pub returned-plan : start_of list script ≡ Some start
+      → IsPlanOfReturns list script start (back_plan_of list script start)
+  returned-plan started = record {
+    sound = λ turn k less within correct.
+        let slot = start.slot + turn in
+        let known : is_back_correct_after list script slot k
+        ≡ (is_on script k slot && not (has_node (after list script start slot) k)) =
+        ap (λ found. is_on script k slot && not (has_node (numbers_of (started_since list script slot found)) k))
+        started in
+        let parts =
+        and_parts (is_on script k slot) (not (has_node (after list script start slot) k)) (sym known ∙ correct)
+        in
+        clear-sound turn slot k refl within less (on-ever script k slot parts.0)
+        (not-true (has_node (after list script start slot) k) parts.1);
+    faulty = λ turn within.
+        subst (AllByRecursion (IsLost turn)) (sym (ap (started_since list script (start.slot + turn)) started))
+        (each-told turn (start.slot + turn) refl within _ (told-all list script start (start.slot + turn)));
+    returned = λ turn k less within long armed.
+        let slot = start.slot + turn in
+        let due : suc slot ≡ suc slot - four_rounds list + four_rounds list = omega (arith, long) in
+        let count = run.valid.count in
+        again turn slot k (suc slot - four_rounds list) refl within due
+        (armed-in list script start k (suc slot - four_rounds list) run less (omega (arith, within, due, count)) armed);
+  }
+    where
+      each-told : (turn slot : ℕ) → slot ≡ start.slot + turn → slot < script.slots → (fs : List FaultyNode)
+          → AllByRecursion (IsTold list script start slot) fs → AllByRecursion (IsLost turn) fs
+      each-told turn slot now within [] each = tt
+      each-told turn slot now within (f ∷ fs) each = (
+        λ unarmed.
+            told-lost turn slot f now within each.0
+            (ap (λ s. is_armed_among script f.node f.slot (suc s - f.slot)) now ∙ unarmed),
+        each-told turn slot now within fs each.1,
+      )

@@ -1,0 +1,65 @@
+-- What the rules say of a run whose armed nodes are owed their places.
+use Rattle.std.proofs.Common.{◌≡◌, ℕ, zero, suc, ◌+◌, ◌<◌, ◌≤◌, true, false, [], length}
+use Rattle.std.proofs.Common.{◌⊎◌, ap, sym, subst, ◌∙◌, inl, inr, arith}
+use Rattle.std.specs.List.{AllByRecursion}
+use Rattle.std.proofs.lemmas.Bool.{not-false}
+use Rattle.std.proofs.Math.Nat.{eq-or-lt_of_le}
+use Rattle.ttp_world.specs.declared.medl.Medl.{Medl}
+use Rattle.ttp_world.specs.declared.script.Channel.{Channel}
+use Rattle.ttp_world.specs.declared.script.Script.{Script}
+use Rattle.ttp_world.specs.Hypothesis.{ClusterStart, FaultyNode}
+use Rattle.ttp_world.specs.Medl.{IsValid}
+use Rattle.ttp_world.specs.Returning.{two_rounds, slots_before, joinings, breaks_back_in, has_four_before, may_return}
+use Rattle.ttp_world.specs.Returning.{fails_if_armed, breaks_arm_in}
+use Rattle.ttp_world.specs.Script.{is_armed, flipped_bits, IsValidScript}
+use Rattle.ttp_world.specs.Starts.{StartsAlone}
+use Rattle.fault_plan.specs.Kept.{IsWithinBounds}
+use Rattle.fault_plan.proofs.FaultySets.{AreOnBy}
+use Rattle.fault_plan.proofs.Spaced.{IsSpaced, all_in}
+use Rattle.back_plan.proofs.Lists.{none-below, any-append}
+use Rattle.back_plan.proofs.Walk.{made}
+
+pub record IsBackRun (list : Medl) (script : Script) (start : ClusterStart) : Type 0 where
+  pub valid : IsValid list
+  pub script_valid : IsValidScript list script
+  pub bounds : IsWithinBounds list script
+  pub flips : (k slot : ℕ) (c : Channel) → flipped_bits script k c slot ≡ []
+  pub alone : StartsAlone list script start
+  pub on : AreOnBy list script start.slot
+  pub whole : (slot : ℕ) → slot < script.slots → breaks_back_in list script start slot ≡ false
+  pub spaced : IsSpaced (two_rounds list) (start.slot + two_rounds list)
+      (joinings (slots_before list script start script.slots))
+  pub steady : (slot : ℕ) → start.slot ≤ slot → slot < script.slots
+      → has_four_before list script start (suc slot) ≡ true
+  pub armed : (k slot : ℕ) → k < length list.slots → slot < script.slots → is_armed script k slot ≡ true
+      → may_return list script start k slot ≡ true
+
+pub armed-may : (list : Medl) (script : Script) (start : ClusterStart) (k slot : ℕ)
+    → breaks_arm_in list script start slot ≡ false → k < length list.slots → is_armed script k slot ≡ true
+    → may_return list script start k slot ≡ true
+armed-may list script start k slot whole less armed =
+    let here =
+    none-below (λ k. fails_if_armed list script start k slot (is_armed script k slot)) (length list.slots) k whole
+    less in
+    not-false (may_return list script start k slot) (ap (fails_if_armed list script start k slot) (sym armed) ∙ here)
+
+-- What holds of all that became faulty in the run holds of those of each slot.
+pub joined-at : (P : FaultyNode → Type 0) (list : Medl) (script : Script) (start : ClusterStart) (last slot : ℕ)
+    → slot < last → AllByRecursion P (joinings (slots_before list script start last))
+    → AllByRecursion P (all_in slot (made list script start slot))
+joined-at P list script start zero slot within each = absurd (omega arith)
+joined-at P list script start (suc last) slot within each =
+    let parts =
+    any-append P (all_in last (made list script start last)) (joinings (slots_before list script start last)) each in
+    by (eq-or-lt_of_le within) parts (joined-at P list script start last slot)
+  where
+    by : (suc slot ≡ suc last) ⊎ (suc slot < suc last)
+        → AllByRecursion P (all_in last (made list script start last))
+        × AllByRecursion P (joinings (slots_before list script start last))
+        → (slot < last → AllByRecursion P (joinings (slots_before list script start last))
+        → AllByRecursion P (all_in slot (made list script start slot)))
+        → AllByRecursion P (all_in slot (made list script start slot))
+    by (inl same) parts older =
+        let is : last ≡ slot = omega arith in
+        subst (λ t. AllByRecursion P (all_in t (made list script start t))) is parts.0
+    by (inr less) parts older = older (omega arith) parts.1

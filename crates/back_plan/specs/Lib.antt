@@ -1,0 +1,2 @@
+pub mod BackPlan
+pub mod WorkedCase
