@@ -1,6 +1,7 @@
 //! Commands over a library and a sink in memory. The expected lines come from the format's own
 //! text and from TOML's, never from a run.
 
+mod changes;
 mod faced;
 mod hosts;
 mod keeps;
