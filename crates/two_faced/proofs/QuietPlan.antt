@@ -70,7 +70,7 @@ module _ (list : Medl) (script : Script) (z slot : ℕ) (valid : IsValid list) (
         let measured = sym (has_node-sieve (λ k. (plan_at list k).sync) (length list.slots) k less) in
         let begins = sym (has_node-sieve (is_ever_on script) (length list.slots) k less) ∙ sym (sound turn k) in
         λ i. measured i
-            && (sym (and-true (is_ever_on script k)) ∙ begins ∙ and-true (is_sound_after plan turn k)) i)
+        && (sym (and-true (is_ever_on script k)) ∙ begins ∙ and-true (is_sound_after plan turn k)) i)
 
     good : IsGoodPlan plan
     good = record {
