@@ -5,6 +5,7 @@ mod changes;
 mod faced;
 mod hosts;
 mod keeps;
+mod modes;
 mod refusals;
 mod rows;
 mod runs;
