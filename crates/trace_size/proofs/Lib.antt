@@ -1,0 +1,12 @@
+pub mod HostEvents
+pub mod HostLineLength
+pub mod MessageSizes
+pub mod NodeLineLength
+pub mod RingCounts
+pub mod Small
+pub mod SmallEntries
+pub mod SmallPasts
+pub mod SmallStates
+pub mod TestLineLength
+pub mod TraceLength
+pub mod WordLengths
