@@ -1,66 +1,12 @@
 //! A trace of five nodes with a change, and what `verify` says of it.
 
-use super::runs::traces::FAULT_FREE;
+use super::runs::traces::changed;
 use super::texts::{list_of, script_of};
-use super::{HEAD, joined};
-use crate::bench;
+use super::{Call, HEAD, call_of, gives, gives_fronts};
+use std::process::Abort;
 use std::sync::Wait;
 use std::test::Fail;
 use std::thread::Threads;
-use ttp_base::{List, MemoryLibrary, MemorySink, OpenGate};
-
-// What `verify` answers and writes for a script of five nodes and 15 slots with these other lines, and a
-// text; this call of the library fails, and this one of the sink; 0 is none.
-fn told<R: Threads + Wait + Sync + AllocGlobal>(
-    rt: &R,
-    lines: &str,
-    text: &str,
-    bad_load: u32,
-    bad_write: u32,
-) -> Result<(u8, Vec<u8>), Fail> {
-    let mut fail_load = List::new(rt.alloc());
-    fail_load.push(bad_load)?;
-    let mut fail_write = List::new(rt.alloc());
-    fail_write.push(bad_write)?;
-    let list = list_of(rt, HEAD, "FSSSS")?;
-    let script = script_of(rt, "slots 15\n", 5, lines)?;
-    let mut library = MemoryLibrary::new(rt.alloc(), fail_load);
-    library.add("cluster.toml", list.as_bytes())?;
-    library.add("five.script", script.as_bytes())?;
-    library.add("five.trace", text.as_bytes())?;
-    let mut out = MemorySink::new(rt.alloc(), 256, fail_write)?;
-    let mut words = Vec::new(rt.alloc());
-    for word in ["verify", "cluster.toml", "five.script", "five.trace"] {
-        words.push(String::from_str(rt.alloc(), word)?)?;
-    }
-    let gate = OpenGate::new();
-    let mut kept = None;
-    let status = bench(
-        rt,
-        rt.alloc(),
-        &words,
-        &mut library,
-        &mut out,
-        &gate,
-        &mut kept,
-    );
-    Ok((status, Vec::from_slice(rt.alloc(), out.bytes())?))
-}
-
-// The trace of a start without faults: so many first lines of it, a text, and its lines from one on.
-fn changed<R: AllocGlobal>(
-    rt: &R,
-    before: usize,
-    with: &str,
-    after: usize,
-) -> Result<String, Fail> {
-    let mut text = joined(rt, FAULT_FREE.get(..before).ok_or("few lines")?)?;
-    text.push_str(with)?;
-    for line in FAULT_FREE.get(after..).ok_or("few lines")? {
-        text.push_str(line)?;
-    }
-    Ok(text)
-}
 
 const POLL: &str = "read 1 11 status\n";
 
@@ -136,26 +82,45 @@ const CASES: [Case; 14] = [
     ),
 ];
 
+// What `verify` answers and writes for a script of five nodes and 15 slots, by a case.
+fn tells<R: Threads + Wait + Sync + AllocGlobal + Abort>(rt: &R, case: &Case) -> Result<(), Fail> {
+    let (lines, before, with, after, answer) = *case;
+    let list = list_of(rt, HEAD, "FSSSS")?;
+    let script = script_of(rt, "slots 15\n", 5, lines)?;
+    let trace = changed(rt, before, with, after)?;
+    let words = ["verify", "cluster.toml", "five.script", "five.trace"];
+    let call = Call {
+        script: Some(script.as_bytes()),
+        trace: Some(trace.as_bytes()),
+        ..call_of(&words, list.as_bytes())
+    };
+    gives(rt, &call, u8::from(answer != "same\n"), &[answer])
+}
+
 #[test]
 fn changes_of_a_trace(rt: HostRuntime) -> Result<(), Fail> {
-    for (lines, before, with, after, answer) in CASES {
-        let text = changed(&rt, before, with, after)?;
-        let (status, written) = told(&rt, lines, text.as_str(), 0, 0)?;
-        assert_eq!(rt; written.as_slice(), answer.as_bytes(), "{with}");
-        assert_eq!(rt; status, u8::from(answer != "same\n"), "{with}");
+    for case in &CASES {
+        tells(&rt, case)?;
     }
     Ok(())
 }
 
 #[test]
 fn a_trace_that_cannot_be_loaded(rt: HostRuntime) -> Result<(), Fail> {
-    let text = changed(&rt, 77, "", 77)?;
-    let (status, written) = told(&rt, "", text.as_str(), 3, 0)?;
-    assert_eq!(rt; status, 5);
-    assert_eq!(rt; written.as_slice(), b"load: trace\n".as_slice());
+    let list = list_of(&rt, HEAD, "FSSSS")?;
+    let script = script_of(&rt, "slots 15\n", 5, "")?;
+    let trace = changed(&rt, 77, "", 77)?;
+    let words = ["verify", "cluster.toml", "five.script", "five.trace"];
+    let call = Call {
+        script: Some(script.as_bytes()),
+        trace: Some(trace.as_bytes()),
+        ..call_of(&words, list.as_bytes())
+    };
+    let failing = Call {
+        bad_load: 3,
+        ..call
+    };
+    gives(&rt, &failing, 5, &["load: trace\n"])?;
     // And an answer that can't be written.
-    let (status, written) = told(&rt, "", text.as_str(), 0, 1)?;
-    assert_eq!(rt; status, 6);
-    assert_eq!(rt; written.len(), 0);
-    Ok(())
+    gives_fronts(&rt, &call, &["same\n"])
 }

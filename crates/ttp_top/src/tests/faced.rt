@@ -2,7 +2,7 @@
 //! name no node.
 
 use super::texts::{DRIFT_HEAD, list_of, script_of};
-use super::{USAGE, answer_files};
+use super::{Call, USAGE, call_of, gives, gives_fronts};
 use std::process::Abort;
 use std::sync::Wait;
 use std::test::Fail;
@@ -17,27 +17,24 @@ const TWO_FACED: &str = "drift 0 1\nerror 0 14 19 19\nerror 1 -14 19 19\n";
 const TOO_FAR: &str = "drift 0 1\nerror 0 15 19 19\nerror 1 -14 19 19\n";
 
 // What `precision` answers and writes for four nodes, a script of 28 slots in which they are on from
-// slot 0, and a word for the node; and where this call of the library fails, or this one of the sink.
+// slot 0, and a word for the node; this call of the library fails; 0 is none. Then the line can't be written.
 fn answers<R: Threads + Wait + Sync + AllocGlobal + Abort>(
     rt: &R,
-    top: &str,
-    lines: &str,
-    node: &str,
+    case: (&str, &str, &str),
     bad_load: u32,
-    bad_write: u32,
-) -> Result<(u8, Vec<u8>), Fail> {
-    let list = list_of(rt, top, "FSSS")?;
-    let script = script_of(rt, "slots 28\n", 4, lines)?;
-    let words = ["precision", "cluster.toml", "five.script", node];
-    let bytes = script.as_bytes();
-    answer_files(
-        rt,
-        &words,
-        list.as_bytes(),
-        Some(bytes),
+    status: u8,
+    line: &str,
+) -> Result<(), Fail> {
+    let list = list_of(rt, case.0, "FSSS")?;
+    let script = script_of(rt, "slots 28\n", 4, case.1)?;
+    let words = ["precision", "cluster.toml", "five.script", case.2];
+    let call = Call {
+        script: Some(script.as_bytes()),
         bad_load,
-        bad_write,
-    )
+        ..call_of(&words, list.as_bytes())
+    };
+    gives(rt, &call, status, &[line])?;
+    gives_fronts(rt, &call, &[line])
 }
 
 #[test]
@@ -79,9 +76,7 @@ fn answers_for_one_two_faced_sender(rt: HostRuntime) -> Result<(), Fail> {
         ),
     ];
     for (top, lines, node, line) in cases {
-        let (status, text) = answers(&rt, top, lines, node, 0, 0)?;
-        assert_eq!(rt; status, 0, "{lines}");
-        assert_eq!(rt; text.as_slice(), line.as_bytes(), "{lines}");
+        answers(&rt, (top, lines, node), 0, 0, line)?;
     }
     Ok(())
 }
@@ -90,33 +85,32 @@ fn answers_for_one_two_faced_sender(rt: HostRuntime) -> Result<(), Fail> {
 #[test]
 fn words_that_name_no_node(rt: HostRuntime) -> Result<(), Fail> {
     for node in ["24", "99", "003", "", "-1", "+3", "3 ", "a", "0x3", "1a"] {
-        let (status, text) = answers(&rt, DRIFT_HEAD, TWO_FACED, node, 1, 0)?;
-        assert_eq!(rt; status, 2, "{node}");
-        assert_eq!(rt; text.as_slice(), USAGE.as_bytes(), "{node}");
+        answers(&rt, (DRIFT_HEAD, TWO_FACED, node), 1, 2, USAGE)?;
     }
     Ok(())
 }
 
 #[test]
 fn files_and_sinks_that_fail(rt: HostRuntime) -> Result<(), Fail> {
-    let (status, text) = answers(&rt, DRIFT_HEAD, TWO_FACED, "3", 1, 0)?;
-    assert_eq!(rt; status, 5);
-    assert_eq!(rt; text.as_slice(), b"load: list\n".as_slice());
-    let (status, text) = answers(&rt, DRIFT_HEAD, TWO_FACED, "3", 2, 0)?;
-    assert_eq!(rt; status, 5);
-    assert_eq!(rt; text.as_slice(), b"load: script\n".as_slice());
-    let (status, text) = answers(&rt, DRIFT_HEAD, TWO_FACED, "3", 0, 1)?;
-    assert_eq!(rt; status, 6);
-    assert_eq!(rt; text.len(), 0);
-    // A list that is refused is told, also where the script's load would fail.
-    let (status, text) = answers(&rt, "version = 3\n", TWO_FACED, "4", 2, 0)?;
-    assert_eq!(rt; status, 3);
-    assert_eq!(rt;
-        text.as_slice(),
-        b"list: out of range version 3\n".as_slice()
-    );
-    let (status, text) = answers(&rt, DRIFT_HEAD, "on 4 0\n", "4", 0, 0)?;
-    assert_eq!(rt; status, 4);
-    assert_eq!(rt; text.as_slice(), b"script: line 6 no node\n".as_slice());
+    let cases = [
+        ((DRIFT_HEAD, TWO_FACED, "3"), 1, 5, "load: list\n"),
+        ((DRIFT_HEAD, TWO_FACED, "3"), 2, 5, "load: script\n"),
+        // A list that is refused is told, also where the script's load would fail.
+        (
+            ("version = 3\n", TWO_FACED, "4"),
+            2,
+            3,
+            "list: out of range version 3\n",
+        ),
+        (
+            (DRIFT_HEAD, "on 4 0\n", "4"),
+            0,
+            4,
+            "script: line 6 no node\n",
+        ),
+    ];
+    for (case, bad_load, status, line) in cases {
+        answers(&rt, case, bad_load, status, line)?;
+    }
     Ok(())
 }

@@ -3,7 +3,7 @@
 //! nodes has a second line.
 
 use super::HEAD;
-use super::texts::{DRIFT_HEAD, NARROW_HEAD, WINDOW_HEAD, answered, script_of};
+use super::texts::{DRIFT_HEAD, NARROW_HEAD, WINDOW_HEAD, gives_for, script_of};
 use std::process::Abort;
 use std::sync::Wait;
 use std::test::Fail;
@@ -26,9 +26,7 @@ fn answers<R: Threads + Wait + Sync + AllocGlobal + Abort>(
 ) -> Result<(), Fail> {
     for (top, slots, length, on, lines, keep) in cases {
         let script = script_of(rt, length, *on, lines)?;
-        let (status, text) = answered(rt, "keeps", top, slots, script.as_str())?;
-        assert_eq!(rt; status, 0, "{script}");
-        assert_eq!(rt; text.as_slice(), keep.as_bytes(), "{script}");
+        gives_for(rt, "keeps", (*top, *slots), &script, 0, &[*keep])?;
     }
     Ok(())
 }

@@ -1,7 +1,7 @@
 //! Lists with one thing wrong, or several, and the line that says which. Each kind of line stands once
 //! at least; which texts have which fault is also told by the worked rows of lists.
 
-use super::{FIRST, HEAD, SLOT, joined, shown};
+use super::{FIRST, HEAD, SLOT, joined, shows};
 use std::process::Abort;
 use std::sync::Wait;
 use std::test::Fail;
@@ -31,20 +31,28 @@ fn slot_of(letter: u8, odd: &str) -> &str {
     }
 }
 
-// Each list, as two texts for its top, letters for its slots and the odd slot, and the line that says
-// what is wrong with it.
+// A list: two texts for its top, letters for its slots, and the odd slot.
+fn list_with<R: AllocGlobal>(
+    rt: &R,
+    tops: &[&str],
+    slots: &str,
+    odd: &str,
+) -> Result<String, Fail> {
+    let mut list = joined(rt, tops)?;
+    for letter in slots.as_bytes() {
+        list.push_str(slot_of(*letter, odd))?;
+    }
+    Ok(list)
+}
+
+// Each list, and the line that says what is wrong with it.
 fn refuses_each<R: Threads + Wait + Sync + AllocGlobal + Abort>(
     rt: &R,
     wrong: &[(&str, &str, &str, &str, &str)],
 ) -> Result<(), Fail> {
     for (before, top, slots, odd, line) in wrong {
-        let mut list = joined(rt, &[before, top])?;
-        for letter in slots.as_bytes() {
-            list.push_str(slot_of(*letter, odd))?;
-        }
-        let (status, text) = shown(rt, list.as_bytes())?;
-        assert_eq!(rt; status, 3, "{list}");
-        assert_eq!(rt; text.as_slice(), line.as_bytes(), "{list}");
+        let list = list_with(rt, &[*before, *top], slots, odd)?;
+        shows(rt, list.as_bytes(), 3, &[*line])?;
     }
     Ok(())
 }

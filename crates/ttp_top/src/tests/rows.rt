@@ -1,10 +1,11 @@
 //! Runs whose lines were worked out by hand from the protocol's rules: for each a list, a script and
 //! lines that its trace must have. Then scripts of which each has one fault.
 
-use super::HEAD;
 use super::texts::{
-    DRIFT_HEAD, LOADED_HEAD, ONE_BUFFER_HEAD, WIDE_HEAD, WINDOW_HEAD, answered, script_of,
+    DRIFT_HEAD, LOADED_HEAD, ONE_BUFFER_HEAD, WIDE_HEAD, WINDOW_HEAD, gives_for, script_of,
+    trace_for,
 };
+use super::{HEAD, has_each};
 use std::process::Abort;
 use std::sync::Wait;
 use std::test::Fail;
@@ -356,26 +357,26 @@ const TWENTY_FOUR: Run<'static> = Run {
     keep: "keeps yes start 48\n",
 };
 
-// The trace of a run, and what `keeps` writes of it.
-fn outputs_of<R: Threads + Wait + Sync + AllocGlobal + Abort>(
-    rt: &R,
-    run: &Run<'_>,
-) -> Result<(Vec<u8>, Vec<u8>), Fail> {
-    let script = script_of(rt, run.length, run.on, run.script)?;
-    let (status, trace) = answered(rt, "run", run.top, run.slots, script.as_str())?;
-    assert_eq!(rt; status, 0, "{script}");
-    let (status, keep) = answered(rt, "keeps", run.top, run.slots, script.as_str())?;
-    assert_eq!(rt; status, 0, "{script}");
-    Ok((trace, keep))
-}
-
 // The trace of a run.
 fn trace_of<R: Threads + Wait + Sync + AllocGlobal + Abort>(
     rt: &R,
     run: &Run<'_>,
 ) -> Result<Vec<u8>, Fail> {
-    let (trace, _keep) = outputs_of(rt, run)?;
-    Ok(trace)
+    let script = script_of(rt, run.length, run.on, run.script)?;
+    trace_for(rt, (run.top, run.slots), &script)
+}
+
+// A run's trace has its lines, and ends with its last one, which `keeps` writes.
+fn has_lines<R: Threads + Wait + Sync + AllocGlobal + Abort>(
+    rt: &R,
+    run: &Run<'_>,
+) -> Result<(), Fail> {
+    let script = script_of(rt, run.length, run.on, run.script)?;
+    gives_for(rt, "keeps", (run.top, run.slots), &script, 0, &[run.keep])?;
+    let trace = trace_of(rt, run)?;
+    has_each(rt, &trace, run.lines)?;
+    assert!(rt; trace.ends_with(run.keep.as_bytes()), "no {script}");
+    Ok(())
 }
 
 #[test]
@@ -400,13 +401,7 @@ fn runs_have_the_lines_that_were_worked_out(rt: HostRuntime) -> Result<(), Fail>
         TWENTY_FOUR,
     ];
     for run in &runs {
-        let (text, keep) = outputs_of(&rt, run)?;
-        let trace = str::from_utf8(&text)?;
-        for line in run.lines {
-            assert!(rt; trace.contains(line), "{line}");
-        }
-        assert!(rt; trace.ends_with(run.keep), "{trace}");
-        assert_eq!(rt; keep.as_slice(), run.keep.as_bytes());
+        has_lines(&rt, run)?;
     }
     Ok(())
 }
@@ -416,14 +411,12 @@ fn runs_have_the_lines_that_were_worked_out(rt: HostRuntime) -> Result<(), Fail>
 #[test]
 fn runs_with_equal_traces(rt: HostRuntime) -> Result<(), Fail> {
     let split = trace_of(&rt, &DEAF_ON_ONE_CHANNEL)?;
-    let deaf = trace_of(&rt, &DEAF_BEFORE_IT_SENDS)?;
-    assert_eq!(rt; split.as_slice(), deaf.as_slice());
+    assert!(rt; split == trace_of(&rt, &DEAF_BEFORE_IT_SENDS)?);
     let noisy = trace_of(&rt, &ONE_CHANNEL_NOISY)?;
-    let good = trace_of(&rt, &NO_FAULT)?;
-    assert_eq!(rt; noisy.as_slice(), good.as_slice());
+    assert!(rt; noisy == trace_of(&rt, &NO_FAULT)?);
     // All five nodes are members on each node line from slot 14 on, and never before.
     let trace = str::from_utf8(&noisy)?;
-    assert_eq!(rt; trace.matches(" mem 001f ").count(), 130);
+    assert!(rt; trace.matches(" mem 001f ").count() == 130);
     Ok(())
 }
 
@@ -478,13 +471,9 @@ fn scripts_that_are_refused(rt: HostRuntime) -> Result<(), Fail> {
         ("slots 20\nread 1 3 1\n", "script: line 2 range\n"),
     ];
     for (script, line) in wrong {
-        let (status, text) = answered(&rt, "run", HEAD, "FTSS", script)?;
-        assert_eq!(rt; status, 4, "{script}");
-        assert_eq!(rt; text.as_slice(), line.as_bytes(), "{script}");
+        gives_for(&rt, "run", (HEAD, "FTSS"), script, 4, &[line])?;
     }
-    let script = "slots 20\nwrite 1 3 0102\n";
-    let (status, text) = answered(&rt, "run", ONE_BUFFER_HEAD, "FTSS", script)?;
-    assert_eq!(rt; status, 4);
-    assert_eq!(rt; text.as_slice(), b"script: line 2 no buffer\n".as_slice());
-    Ok(())
+    let list = (ONE_BUFFER_HEAD, "FTSS");
+    let line = "script: line 2 no buffer\n";
+    gives_for(&rt, "run", list, "slots 20\nwrite 1 3 0102\n", 4, &[line])
 }

@@ -1,23 +1,24 @@
 //! Summaries of generated runs.
 
 use super::texts::{LOADED_HEAD, WIDE_HEAD, list_of};
-use super::{HEAD, USAGE, answer, joined};
-use crate::bench;
+use super::{Call, HEAD, USAGE, answer_at, call_of, gives, gives_fronts};
 use cluster_run::Cluster;
+use std::process::Abort;
 use std::sync::Wait;
 use std::test::Fail;
 use std::thread::Threads;
-use ttp_base::{List, MemoryLibrary, MemorySink, OpenGate};
+use ttp_base::OpenGate;
 
-// What `sample` answers and writes for a list.
-fn sampled<R: Threads + Wait + Sync + AllocGlobal>(
+// What `sample` answers and writes for a list, given by its top and letters for its slots.
+fn samples<R: Threads + Wait + Sync + AllocGlobal + Abort>(
     rt: &R,
-    list: &str,
-    slots: &str,
-    number: &str,
-) -> Result<(u8, Vec<u8>), Fail> {
-    let words = ["sample", "cluster.toml", slots, number];
-    answer(rt, &words, list.as_bytes(), 0, 0)
+    list: (&str, &str),
+    numbers: (&str, &str),
+    texts: &[&str],
+) -> Result<(), Fail> {
+    let list = list_of(rt, list.0, list.1)?;
+    let words = ["sample", "cluster.toml", numbers.0, numbers.1];
+    gives(rt, &call_of(&words, list.as_bytes()), 0, texts)
 }
 
 const FOUR: [&str; 4] = [
@@ -29,14 +30,8 @@ const FOUR: [&str; 4] = [
 
 #[test]
 fn four_nodes_in_twelve_slots(rt: HostRuntime) -> Result<(), Fail> {
-    let list = list_of(&rt, HEAD, "FSSS")?;
-    let lines = joined(&rt, &FOUR)?;
-    for (slots, number) in [("12", "7"), ("00000000000000000012", "07")] {
-        let (status, text) = sampled(&rt, &list, slots, number)?;
-        assert_eq!(rt; status, 0);
-        assert_eq!(rt; text.as_slice(), lines.as_bytes());
-    }
-    Ok(())
+    samples(&rt, (HEAD, "FSSS"), ("12", "7"), &FOUR)?;
+    samples(&rt, (HEAD, "FSSS"), ("00000000000000000012", "07"), &FOUR)
 }
 
 // The first slot of the run is the last one here, and no node is active.
@@ -46,16 +41,14 @@ fn no_node_is_active(rt: HostRuntime) -> Result<(), Fail> {
         (HEAD, "sent 0 left 0 members 0000\n"),
         (WIDE_HEAD, "sent 0 left 0 members 000000\n"),
     ] {
-        let list = list_of(&rt, top, "FSSS")?;
-        let (status, text) = sampled(&rt, &list, "1", "18446744073709551615")?;
         let lines = [
             "sample slots 1 number 18446744073709551615\n",
             members,
             "writes 0 reads 1\n",
             "keeps yes start 8\n",
         ];
-        assert_eq!(rt; status, 0);
-        assert_eq!(rt; text.as_slice(), joined(&rt, &lines)?.as_bytes());
+        let numbers = ("1", "18446744073709551615");
+        samples(&rt, (top, "FSSS"), numbers, &lines)?;
     }
     Ok(())
 }
@@ -71,12 +64,8 @@ const EIGHT: [&str; 4] = [
 // of the next node reads twice. The second line is that of a reading of the rules of its own.
 #[test]
 fn eight_nodes_in_many_slots(rt: HostRuntime) -> Result<(), Fail> {
-    let list = list_of(&rt, LOADED_HEAD, "GGLLLLLL")?;
-    let lines = joined(&rt, &EIGHT)?;
     for _ in 0..2u8 {
-        let (status, text) = sampled(&rt, &list, "2000", "1")?;
-        assert_eq!(rt; status, 0);
-        assert_eq!(rt; text.as_slice(), lines.as_bytes());
+        samples(&rt, (LOADED_HEAD, "GGLLLLLL"), ("2000", "1"), &EIGHT)?;
     }
     Ok(())
 }
@@ -102,9 +91,11 @@ fn words_that_are_no_numbers(rt: HostRuntime) -> Result<(), Fail> {
     ];
     for (slots, number) in words {
         let words = ["sample", "cluster.toml", slots, number];
-        let (status, text) = answer(&rt, &words, b"", 1, 0)?;
-        assert_eq!(rt; status, 2, "{slots} {number}");
-        assert_eq!(rt; text.as_slice(), USAGE.as_bytes());
+        let failing = Call {
+            bad_load: 1,
+            ..call_of(&words, b"")
+        };
+        gives(&rt, &failing, 2, &[USAGE])?;
     }
     Ok(())
 }
@@ -113,22 +104,15 @@ fn words_that_are_no_numbers(rt: HostRuntime) -> Result<(), Fail> {
 fn files_and_sinks_that_fail(rt: HostRuntime) -> Result<(), Fail> {
     let list = list_of(&rt, HEAD, "FSSS")?;
     let words = ["sample", "cluster.toml", "12", "7"];
-    let (status, text) = answer(&rt, &words, list.as_bytes(), 1, 0)?;
-    assert_eq!(rt; status, 5);
-    assert_eq!(rt; text.as_slice(), b"load: list\n".as_slice());
-    let (status, text) = answer(&rt, &words, b"version = 3\n", 0, 0)?;
-    assert_eq!(rt; status, 3);
-    assert_eq!(rt;
-        text.as_slice(),
-        b"list: out of range version 3\n".as_slice()
-    );
-    for bad_write in 1..5u32 {
-        let (status, text) = answer(&rt, &words, list.as_bytes(), 0, bad_write)?;
-        let whole = joined(&rt, FOUR.get(..bad_write as usize - 1).ok_or("few lines")?)?;
-        assert_eq!(rt; status, 6);
-        assert_eq!(rt; text.as_slice(), whole.as_bytes());
-    }
-    Ok(())
+    let call = call_of(&words, list.as_bytes());
+    let failing = Call {
+        bad_load: 1,
+        ..call
+    };
+    gives(&rt, &failing, 5, &["load: list\n"])?;
+    let refused = call_of(&words, b"version = 3\n");
+    gives(&rt, &refused, 3, &["list: out of range version 3\n"])?;
+    gives_fronts(&rt, &call, &FOUR)
 }
 
 // Answers `sample` with this number of slots, and tells how many slots the cluster has done that is kept then.
@@ -137,15 +121,10 @@ fn done_after<R: Threads + Wait + Sync + AllocGlobal>(
     slots: &str,
     kept: &mut Option<Cluster>,
 ) -> Result<Option<u32>, Fail> {
-    let mut library = MemoryLibrary::new(rt.alloc(), List::new(rt.alloc()));
-    library.add("list", list_of(rt, HEAD, "FSSS")?.as_bytes())?;
-    let mut words = Vec::new(rt.alloc());
-    for word in ["sample", "list", slots, "7"] {
-        words.push(joined(rt, &[word])?)?;
-    }
-    let mut out = MemorySink::new(rt.alloc(), 1_000, List::new(rt.alloc()))?;
-    let gate = OpenGate::new();
-    let _status = bench(rt, rt.alloc(), &words, &mut library, &mut out, &gate, kept);
+    let list = list_of(rt, HEAD, "FSSS")?;
+    let words = ["sample", "cluster.toml", slots, "7"];
+    let call = call_of(&words, list.as_bytes());
+    let _answer = answer_at(rt, &call, &OpenGate::new(), kept)?;
     match kept {
         Some(cluster) => Ok(Some(cluster.done())),
         None => Ok(None),

@@ -1,7 +1,8 @@
 //! Lists and scripts in short: the top of a list, a letter for each of its slots, and how many nodes
 //! are on from slot 0.
 
-use super::{FIRST, SLOT, answer_files, joined};
+use super::{Call, FIRST, SLOT, add_each, call_of, gives, joined, output_of};
+use std::process::Abort;
 use std::sync::Wait;
 use std::test::Fail;
 use std::thread::Threads;
@@ -34,7 +35,6 @@ const TWO_BYTES: &str = "[[slot]]\nkinds = \"N\"\ndata = 2\nsync = true\nstart =
 
 const UNSYNCHRONIZED: &str = "[[slot]]\nkinds = \"I\"\ndata = 0\nsync = false\nstart = false\n";
 
-// The nodes that are on from slot 0: the first so many of these.
 const ON: [&str; 24] = [
     "on 0 0\n",
     "on 1 0\n",
@@ -62,6 +62,12 @@ const ON: [&str; 24] = [
     "on 23 0\n",
 ];
 
+// The nodes that are on from slot 0, which are the first so many.
+fn on_lines(nodes: usize) -> &'static [&'static str] {
+    let lines: &'static [&'static str] = &ON;
+    lines.get(..nodes).unwrap_or(&[])
+}
+
 // The slot that a letter stands for.
 fn slot_of(letter: u8) -> &'static str {
     match letter {
@@ -83,9 +89,7 @@ pub(super) fn script_of<R: AllocGlobal>(
     lines: &str,
 ) -> Result<String, Fail> {
     let mut script = joined(rt, &[length])?;
-    for line in ON.get(..on).ok_or("too many nodes")? {
-        script.push_str(line)?;
-    }
+    add_each(&mut script, on_lines(on))?;
     script.push_str(lines)?;
     Ok(script)
 }
@@ -99,16 +103,36 @@ pub(super) fn list_of<R: AllocGlobal>(rt: &R, top: &str, slots: &str) -> Result<
     Ok(list)
 }
 
-// What a command answers and writes for a list, given by its top and letters for its slots, and a
-// script.
-pub(super) fn answered<R: Threads + Wait + Sync + AllocGlobal>(
+// A command for a list, given by its top and letters for its slots, and a script answers this status and
+// writes these texts.
+pub(super) fn gives_for<R: Threads + Wait + Sync + AllocGlobal + Abort>(
     rt: &R,
     verb: &str,
-    top: &str,
-    slots: &str,
+    list: (&str, &str),
     script: &str,
-) -> Result<(u8, Vec<u8>), Fail> {
-    let list = list_of(rt, top, slots)?;
+    status: u8,
+    texts: &[&str],
+) -> Result<(), Fail> {
+    let list = list_of(rt, list.0, list.1)?;
     let words = [verb, "cluster.toml", "five.script"];
-    answer_files(rt, &words, list.as_bytes(), Some(script.as_bytes()), 0, 0)
+    let call = Call {
+        script: Some(script.as_bytes()),
+        ..call_of(&words, list.as_bytes())
+    };
+    gives(rt, &call, status, texts)
+}
+
+// What `run` writes for such a list and a script.
+pub(super) fn trace_for<R: Threads + Wait + Sync + AllocGlobal + Abort>(
+    rt: &R,
+    list: (&str, &str),
+    script: &str,
+) -> Result<Vec<u8>, Fail> {
+    let list = list_of(rt, list.0, list.1)?;
+    let words = ["run", "cluster.toml", "five.script"];
+    let call = Call {
+        script: Some(script.as_bytes()),
+        ..call_of(&words, list.as_bytes())
+    };
+    output_of(rt, &call)
 }

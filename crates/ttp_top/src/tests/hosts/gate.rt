@@ -1,17 +1,15 @@
 //! Threads that are held until others have come: the halves of the controllers run at once, and so do the
 //! controllers and the hosts' reads.
 
-use super::super::{HEAD, joined};
+use super::super::texts::{list_of, script_of};
+use super::super::{Call, HEAD, answer_at, call_of};
 use super::is_polled;
-use crate::bench;
-use crate::tests::texts::{list_of, script_of};
+use cluster_run::Cluster;
 use std::hint::spin_loop;
-use std::sync::Wait;
 use std::sync::atomic::AtomicU64;
 use std::sync::atomic::Ordering::SeqCst;
 use std::test::Fail;
-use std::thread::Threads;
-use ttp_base::{Gate, List, MemoryLibrary, MemorySink};
+use ttp_base::Gate;
 
 // A hold lasts no longer.
 const TURNS: u64 = 10_000_000;
@@ -105,50 +103,34 @@ impl Holds {
     }
 }
 
+// Whether this is the cluster of five nodes after 15 slots.
+fn is_done(cluster: &Cluster) -> bool {
+    let report = cluster.report();
+    cluster.done() == 15
+        && cluster.slots() == 15
+        && cluster.list().slots.len() == 5
+        && cluster.script().on.len() == 5
+        && report.slot == 14
+        && report.nodes.len() == 5
+}
+
 #[test]
 fn controllers_and_hosts_run_at_once(rt: HostRuntime) -> Result<(), Fail> {
-    let mut library = MemoryLibrary::new(rt.alloc(), List::new(rt.alloc()));
-    library.add("list", list_of(&rt, HEAD, "FSSSS")?.as_bytes())?;
-    library.add(
-        "script",
-        script_of(&rt, "slots 15\n", 5, "read 1 11 status\n")?.as_bytes(),
-    )?;
-    let mut words = Vec::new(rt.alloc());
-    for word in ["run", "list", "script"] {
-        words.push(joined(&rt, &[word])?)?;
-    }
-    let mut out = MemorySink::new(rt.alloc(), 10_000, List::new(rt.alloc()))?;
+    let list = list_of(&rt, HEAD, "FSSSS")?;
+    let script = script_of(&rt, "slots 15\n", 5, "read 1 11 status\n")?;
+    let words = ["run", "cluster.toml", "five.script"];
+    let call = Call {
+        script: Some(script.as_bytes()),
+        ..call_of(&words, list.as_bytes())
+    };
     let gate = Holds::new();
     let mut kept = None;
-    let status = bench(
-        &rt,
-        rt.alloc(),
-        &words,
-        &mut library,
-        &mut out,
-        &gate,
-        &mut kept,
-    );
-    assert_eq!(rt; status, 0);
-    assert!(rt; is_polled(&rt, out.bytes())?);
+    let (status, text) = answer_at(&rt, &call, &gate, &mut kept)?;
+    assert!(rt; status == 0 && is_polled(&rt, &text)?);
     assert!(rt; gate.passed());
     // The cluster that ran is kept, until the next call.
-    let Some(cluster) = &kept else {
-        return Err(Fail::from("no cluster"));
-    };
-    assert!(rt; cluster.done() == 15 && cluster.slots() == 15);
-    assert!(rt; cluster.list().slots.len() == 5 && cluster.script().on.len() == 5);
-    assert!(rt; cluster.report().slot == 14 && cluster.report().nodes.len() == 5);
-    words.clear();
-    let status = bench(
-        &rt,
-        rt.alloc(),
-        &words,
-        &mut library,
-        &mut out,
-        &gate,
-        &mut kept,
-    );
+    assert!(rt; kept.as_ref().is_some_and(is_done));
+    let (status, _usage) = answer_at(&rt, &call_of(&[], b""), &gate, &mut kept)?;
     assert!(rt; status == 2 && kept.is_none());
     Ok(())
 }

@@ -2,8 +2,9 @@
 //! receiver, as they run without hosts. In slots 100 to 119 the host of node 1 writes a message, and that
 //! of node 5 reads its status and what came from node 1.
 
-use super::super::answer_files;
 use super::super::texts::{LOADED_HEAD, list_of, script_of};
+use super::super::{Call, call_of, gives, has_each, output_of};
+use std::process::Abort;
 use std::test::Fail;
 
 const FAULTS: &str =
@@ -116,10 +117,9 @@ fn carried<R: AllocGlobal>(rt: &R, text: &str, slot: u32) -> Result<Option<u32>,
     Ok(None)
 }
 
-#[test]
-fn hosts_of_a_loaded_cluster(rt: HostRuntime) -> Result<(), Fail> {
-    let list = list_of(&rt, LOADED_HEAD, "GGLLLLLL")?;
-    let mut script = script_of(&rt, "slots 400\n", 8, FAULTS)?;
+// The script: in slots 100 to 119 host 1 writes 16 times the slot's two digits, and host 5 reads.
+fn loaded_script<R: AllocGlobal>(rt: &R) -> Result<String, Fail> {
+    let mut script = script_of(rt, "slots 400\n", 8, FAULTS)?;
     for slot in 100..120u32 {
         script.push_str(&format!(in rt.alloc(); "write 1 {slot} ")?)?;
         for _ in 0..16u8 {
@@ -127,32 +127,46 @@ fn hosts_of_a_loaded_cluster(rt: HostRuntime) -> Result<(), Fail> {
         }
         script.push_str(&format!(in rt.alloc(); "\nread 5 {slot} status\nread 5 {slot} 1\n")?)?;
     }
-    let words = ["run", "cluster.toml", "five.script"];
-    let files = (list.as_bytes(), Some(script.as_bytes()));
-    let (status, written) = answer_files(&rt, &words, files.0, files.1, 0, 0)?;
-    assert_eq!(rt; status, 0);
-    let text = str::from_utf8(&written)?;
-    for line in LINES {
-        assert!(rt; text.contains(line), "{line}");
-    }
+    Ok(script)
+}
+
+// The messages that node 1's frames carry in slots 105 and 113.
+fn frames_of<R: AllocGlobal>(rt: &R, text: &str) -> Result<Frames, Fail> {
+    let early = carried(rt, text, 105)?.ok_or("node 1's frame in slot 105")?;
+    let late = carried(rt, text, 113)?.ok_or("node 1's frame in slot 113")?;
+    Ok(Frames { early, late })
+}
+
+// A trace has the lines that are the same whatever the hosts read, and legal lines of hosts.
+fn is_loaded<R: AllocGlobal + Abort>(rt: &R, written: &[u8]) -> Result<(), Fail> {
+    has_each(rt, written, &LINES)?;
+    let text = str::from_utf8(written)?;
     assert!(rt; text.ends_with("\nkeeps yes start 16\n"));
-    let Some(early) = carried(&rt, text, 105)? else {
-        return Err(Fail::from("node 1's frame in slot 105"));
-    };
-    let Some(late) = carried(&rt, text, 113)? else {
-        return Err(Fail::from("node 1's frame in slot 113"));
-    };
+    let frames = frames_of(rt, text)?;
     for slot in 100..120u32 {
-        assert!(rt;
-            are_legal(&rt, text, Frames { early, late }, slot)?,
-            "slot {slot}"
-        );
+        assert!(rt; are_legal(rt, text, frames, slot)?, "slot {slot}");
     }
-    // With a sink whose third write fails the first two lines are written.
-    let (status, written) = answer_files(&rt, &words, files.0, files.1, 0, 3)?;
-    assert_eq!(rt; status, 6);
-    let front = "ttpbench trace 1 nodes 8 rounds 4 slots 400 schedule 001234\n\
-        slot 0 node 0 wait peer - msg - mem 0000 acc 0 rej 0 ack none clock 0\n";
-    assert_eq!(rt; written.as_slice(), front.as_bytes());
     Ok(())
+}
+
+#[test]
+fn hosts_of_a_loaded_cluster(rt: HostRuntime) -> Result<(), Fail> {
+    let list = list_of(&rt, LOADED_HEAD, "GGLLLLLL")?;
+    let script = loaded_script(&rt)?;
+    let words = ["run", "cluster.toml", "five.script"];
+    let call = Call {
+        script: Some(script.as_bytes()),
+        ..call_of(&words, list.as_bytes())
+    };
+    is_loaded(&rt, &output_of(&rt, &call)?)?;
+    // With a sink whose third write fails the first two lines are written.
+    let failing = Call {
+        bad_write: 3,
+        ..call
+    };
+    let front = [
+        "ttpbench trace 1 nodes 8 rounds 4 slots 400 schedule 001234\n",
+        "slot 0 node 0 wait peer - msg - mem 0000 acc 0 rej 0 ack none clock 0\n",
+    ];
+    gives(&rt, &failing, 6, &front)
 }
