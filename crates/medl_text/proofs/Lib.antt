@@ -2,3 +2,4 @@ pub mod Tables
 pub mod Counts
 pub mod Lines
 pub mod Microticks
+pub mod Valid
