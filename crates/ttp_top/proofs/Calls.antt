@@ -4,3 +4,4 @@ pub mod Differences
 pub mod Lines
 pub mod Kept
 pub mod Promises
+pub mod Both

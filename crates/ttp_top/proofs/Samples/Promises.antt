@@ -17,7 +17,7 @@ use Rattle.ttp_top.specs.Samples.Promise.{WroteSampleOf, WroteSample, IsTold, Sa
 use Rattle.ttp_top.specs.Scripts.Promise.{MayBe}
 use Rattle.ttp_top.proofs.Calls.Plans.{AllAsk, all_asked}
 use Rattle.ttp_top.proofs.Files.Fronts.{list_from-front}
-use Rattle.ttp_top.proofs.Scripts.Promises.{is_run, may_be, list_from-right}
+use Rattle.ttp_top.proofs.Files.Right.{right_list, may_be, list_from-right}
 
 -- what an ending of status 0 comes from
 record Sampled (list : Held) (slots number : ℕ) (ending : Ending) : Type 0 where
@@ -40,7 +40,7 @@ list_sampled : (held : List ℕ → Held) (list bytes : List ℕ) (slots number 
     → Comes held (after_list (from_list slots number) read) loads (ends ending) → ending.status ≡ 0
     → Gives (held list) list_limit bytes → Sampled (held list) slots number ending
 list_sampled held list bytes slots number (Ok medl) [] ending is comes zero gives =
-    let taken = is_run bytes medl is in
+    let taken = right_list bytes medl is in
     record {
       bytes = bytes;
       medl = medl;
