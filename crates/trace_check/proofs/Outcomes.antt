@@ -95,7 +95,7 @@ take-front : (front others : Lines) (right : ℕ) → length front ≡ right →
 take-front front others right long =
     ap (λ n. take n (front ++ others)) (sym long) ∙ take-append_seam front others
 
-begins-right : (list : Medl) (script : Script) (text rest : List ℕ) (numbers : Numbers) (right : ℕ)
+pub begins-right : (list : Medl) (script : Script) (text rest : List ℕ) (numbers : Numbers) (right : ℕ)
     → IsLegalRun list script numbers → right ≤ length (trace_lines list script numbers)
     → text ≡ concat (take right (trace_lines list script numbers)) ++ rest → BeginsAsTrace list script text right
 begins-right list script text rest numbers right legal within begins = record {

@@ -2,3 +2,4 @@ pub mod Files
 pub mod Calls
 pub mod Scripts
 pub mod Samples
+pub mod Traces

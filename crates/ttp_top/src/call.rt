@@ -5,10 +5,11 @@ ghost use Rattle.ttp_top.specs.Calls.Forms.{plan_of};
 ghost use Rattle.ttp_top.specs.Calls.Outcome.{Follows};
 ghost use Rattle.ttp_top.specs.Calls.Plan.{outside};
 ghost use Rattle.ttp_top.specs.Calls.Promise.{Promise};
-ghost use Rattle.ttp_top.specs.Calls.Words.{run, sample, runs_cluster, texts_of, form_of};
+ghost use Rattle.ttp_top.specs.Calls.Words.{run, verify, sample, modes, runs_cluster, texts_of, form_of};
 ghost use Rattle.ttp_top.specs.Calls.Words.{form_asked, HasSlots};
 ghost use Rattle.ttp_top.specs.Samples.Promise.{SamplePromise};
 ghost use Rattle.ttp_top.specs.Scripts.Promise.{RunPromise};
+ghost use Rattle.ttp_top.specs.Traces.Promise.{VerifyPromise, ModesPromise};
 
 use crate::faced::precision;
 use crate::lines::say;
@@ -132,6 +133,16 @@ pub fn bench<R: Threads + Wait + Sync, L: Library, K: Sink, G: Gate>(
     // status 0 the cluster that ran is kept, and stands for legal numbers.
     ensures sample { (list : List ℕ) (slots number : ℕ) → form_of (texts_of words.now) ≡ Some (sample list slots number)
         → SamplePromise list slots number (outside (L.files library.old) (K.output out.old))
+        (outside (L.files library.new) (K.output out.new)) (answer result kept.new) }
+    // For `verify`, in its own words: status 0 says that the whole text of the third file, however long, is the trace
+    // of a run, and status 1 names its first wrong line; right files give one of the two, with status 6 it was cut
+    // short, and with status 7 nothing is written.
+    ensures verify { (list script trace : List ℕ) → form_of (texts_of words.now) ≡ Some (verify list script trace)
+        → VerifyPromise list script trace (outside (L.files library.old) (K.output out.old))
+        (outside (L.files library.new) (K.output out.new)) (answer result kept.new) }
+    // The same for `modes`, which writes of a trace which mode each node runs.
+    ensures modes { (list script trace : List ℕ) → form_of (texts_of words.now) ≡ Some (modes list script trace)
+        → ModesPromise list script trace (outside (L.files library.old) (K.output out.old))
         (outside (L.files library.new) (K.output out.new)) (answer result kept.new) }
     // A cluster is kept exactly after status 0 of `run` and of `sample`, whatever was kept before.
     ensures kept { is_some kept.new ≡ (runs_cluster (form_of (texts_of words.now)) && (result == 0)) }

@@ -1,9 +1,10 @@
 use Rattle.std.proofs.Common.{Some}
 use Rattle.ttp_top.specs.Calls.Answer.{answer}
-use Rattle.ttp_top.specs.Calls.Words.{run, sample}
+use Rattle.ttp_top.specs.Calls.Words.{run, verify, sample, modes}
 use Rattle.ttp_top.proofs.Calls.Promises.{promise}
 use Rattle.ttp_top.proofs.Samples.Promises.{sample_promise}
 use Rattle.ttp_top.proofs.Scripts.Promises.{run_promise}
+use Rattle.ttp_top.proofs.Traces.Promises.{verify_promise, modes_promise}
 use Rattle.ttp_top.proofs.call.bench.Goals as goal
 
 pub returns-clause-promise : goal.returns-clause-promise
@@ -23,6 +24,22 @@ returns-clause-sample g c = λ list slots number form.
     let ended = answer c.obey.result c.obey.new.kept in
     sample_promise list slots number _ _ ended
     (promise (Some (sample list slots number)) _ _ ended
+    (rw (c.command_of.ensures.form, form) at c.obey.ensures.follows)
+    (rw (c.command_of.ensures.form, form) at c.obey.ensures.no_form))
+
+pub returns-clause-verify : goal.returns-clause-verify
+returns-clause-verify g c = λ list script trace form.
+    let ended = answer c.obey.result c.obey.new.kept in
+    verify_promise list script trace _ _ ended
+    (promise (Some (verify list script trace)) _ _ ended
+    (rw (c.command_of.ensures.form, form) at c.obey.ensures.follows)
+    (rw (c.command_of.ensures.form, form) at c.obey.ensures.no_form))
+
+pub returns-clause-modes : goal.returns-clause-modes
+returns-clause-modes g c = λ list script trace form.
+    let ended = answer c.obey.result c.obey.new.kept in
+    modes_promise list script trace _ _ ended
+    (promise (Some (modes list script trace)) _ _ ended
     (rw (c.command_of.ensures.form, form) at c.obey.ensures.follows)
     (rw (c.command_of.ensures.form, form) at c.obey.ensures.no_form))
 

@@ -1,0 +1,226 @@
+-- The promises of `verify` and of `modes`, from the promise of every form.
+use Rattle.std.proofs.Common.{◌≡◌, ◌⊎◌, ℕ, ◌+◌, ◌≤◌, Bool, true, false, List, [], ◌∷◌, take, Option, Some, refl}
+use Rattle.std.proofs.Common.{ap, sym, subst, ◌∙◌, inl, inr, arith}
+use Rattle.std.specs.Prelude.{if◌then◌else◌}
+use Rattle.std.proofs.lemmas.List.{take_all}
+use Rattle.ttp_base.specs.Outside.{Held, untold, absent, holds, Load, Gives, HasRisen, Output, Wrote}
+use Rattle.ttp_base.specs.Text.{Lines}
+use Rattle.ttp_world.specs.declared.medl.Medl.{Medl}
+use Rattle.ttp_world.specs.declared.script.Script.{Script}
+use Rattle.medl_text.proofs.Valid.{medl_of-valid}
+use Rattle.script_text.proofs.RightFiles.{script_of-valid}
+use Rattle.trace_check.specs.Answer.{is_trace}
+use Rattle.trace_size.proofs.TraceLength.{trace-short}
+use Rattle.ttp_top.specs.Calls.Answer.{Answer}
+use Rattle.ttp_top.specs.Calls.Files.{both_plan, trace_plan}
+use Rattle.ttp_top.specs.Calls.Forms.{plan_of}
+use Rattle.ttp_top.specs.Calls.Outcome.{Showed}
+use Rattle.ttp_top.specs.Calls.Plan.{Outside, Ending, Plan, whole_ending, ends, Comes, told_ending}
+use Rattle.ttp_top.specs.Calls.Promise.{NoneAskedRose, Promise}
+use Rattle.ttp_top.specs.Calls.Texts.{one, differences, IsAmong, CutAmong}
+use Rattle.ttp_top.specs.Calls.Words.{Form, is_run, verify, modes}
+use Rattle.ttp_top.specs.Files.Read.{trace_limit}
+use Rattle.ttp_top.specs.Scripts.Promise.{MayBe, AreRight}
+use Rattle.ttp_top.specs.Traces.Promise.{OfTrace, said_same, said_modes, IsVerdict, HasJudged, CutVerdict, IsJudged}
+use Rattle.ttp_top.specs.Traces.Promise.{AreAllTold, TextPromise, VerifyPromise, ModesPromise}
+use Rattle.ttp_top.proofs.Calls.Both.{both_came, end_comes, both_told, both_ask, due_told}
+use Rattle.ttp_top.proofs.Calls.Plans.{AllAsk, all_asked}
+use Rattle.ttp_top.proofs.Traces.Fronts.{HaveAtMost, is_trace-short, is_trace-front, first_wrong-front}
+
+-- ---- what both forms ask for, and how they end
+
+abbrev judged_ending : OfTrace → Medl → Script → List ℕ → Bool → Ending
+judged_ending said medl right text same =
+    if same then whole_ending 0 (one (said medl right text)) else whole_ending 1 (differences medl right text)
+
+abbrev ending_of : OfTrace → Medl → Script → List ℕ → Ending
+ending_of said medl right text = judged_ending said medl right text (is_trace medl right text)
+
+abbrev from_script : OfTrace → List ℕ → Medl → Script → Plan
+from_script said trace medl right = trace_plan trace (λ text. ends (ending_of said medl right text))
+
+abbrev judged_plan : OfTrace → List ℕ → List ℕ → List ℕ → Plan
+judged_plan said list script trace = both_plan list script (from_script said trace)
+
+-- ---- the verdict
+
+-- an ending is a verdict on the text
+ending_verdict : (said : OfTrace) (medl : Medl) (right : Script) (text : List ℕ) (status : ℕ) (lines : Lines)
+    (same : Bool) → is_trace medl right text ≡ same → status ≡ (judged_ending said medl right text same).status
+    → IsAmong (judged_ending said medl right text same).texts lines → IsVerdict said medl right text status lines
+ending_verdict said medl right text status lines true is end among = inl (end, (is, among))
+ending_verdict said medl right text status lines false is end among = inr (end, (is, among))
+
+module _ (said : OfTrace) (medl : Medl) (right : Script) (limit : ℕ) (most : HaveAtMost medl right limit)
+    (text : List ℕ) where
+  -- the verdict on the first bytes of a text is that on all of it
+  verdict-whole : (status : ℕ) (lines : Lines) → IsVerdict said medl right (take (limit + 1) text) status lines
+      → IsVerdict said medl right text status lines
+  verdict-whole status lines (inl same) =
+      let trace : is_trace medl right text ≡ true = sym (is_trace-front medl right limit most text) ∙ same.1.0 in
+      let short = is_trace-short medl right limit most text trace in
+      let whole : take (limit + 1) text ≡ text = take_all (limit + 1) text (omega (arith, short)) in
+      inl (same.0, (trace, same.1.1 ∙ ap (said medl right) whole))
+  verdict-whole status lines (inr differs) =
+      let d = differs.1.1 in
+      inr (
+        differs.0,
+        (
+          sym (is_trace-front medl right limit most text) ∙ differs.1.0,
+          record { line = d.line; first = first_wrong-front medl right limit most text d.line d.first; said = d.said },
+        ),
+      )
+
+  showed-judged : (before now : Output) (answer : Answer)
+      → Showed (ending_of said medl right (take (limit + 1) text)) before now answer
+      → HasJudged said medl right text before now answer.status
+  showed-judged before now answer showed =
+      let front = take (limit + 1) text in
+      record {
+        lines = showed.text.lines;
+        verdict =
+            verdict-whole answer.status showed.text.lines
+            (ending_verdict said medl right front answer.status showed.text.lines (is_trace medl right front) refl
+            showed.status showed.text.among);
+        wrote = showed.text.wrote;
+      }
+
+  cut-verdict : (before now : Output) → CutAmong (ending_of said medl right (take (limit + 1) text)).texts before now
+      → CutVerdict said medl right text before now
+  cut-verdict before now cut =
+      let front = take (limit + 1) text in
+      let status = (ending_of said medl right front).status in
+      record {
+        status = status;
+        lines = cut.lines;
+        verdict =
+            verdict-whole status cut.lines
+            (ending_verdict said medl right front status cut.lines (is_trace medl right front) refl refl cut.among);
+        cut = cut.cut;
+      }
+
+-- ---- the text that was loaded, and the whole one
+
+-- bytes that were given are the first of a text that the library may hold
+record LoadedFrom (held : Held) (limit : ℕ) (given : List ℕ) : Type 0 where
+  pub text : List ℕ
+  pub may : MayBe held text
+  pub front : given ≡ take (limit + 1) text
+
+loaded_from : (held : Held) (limit : ℕ) (given : List ℕ) → Gives held limit given → LoadedFrom held limit given
+loaded_from untold limit given gives =
+    record { text = given; may = tt; front = sym (take_all (limit + 1) given gives) }
+loaded_from absent limit given gives = absurd gives
+loaded_from (holds all) limit given gives = record { text = all; may = refl; front = gives }
+
+-- the load of the text before an ending
+record CameText (said : OfTrace) (held : Held) (medl : Medl) (right : Script) (ending : Ending) : Type 0 where
+  pub given : List ℕ
+  pub gives : Gives held trace_limit given
+  pub is : ending_of said medl right given ≡ ending
+
+text_came : (said : OfTrace) (held : List ℕ → Held) (trace : List ℕ) (medl : Medl) (right : Script)
+    (loads : List Load) (ending : Ending) → Comes held (from_script said trace medl right) loads (ends ending)
+    → CameText said (held trace) medl right ending
+text_came said held trace medl right [] ending comes = absurd (cc)
+text_came said held trace medl right (load ∷ loads) ending comes = record {
+  given = comes.1.0;
+  gives = comes.1.1;
+  is = end_comes held loads (ending_of said medl right comes.1.0) ending comes.1.2;
+}
+
+-- ---- the promise
+
+have_at_most : (bytes script_bytes : List ℕ) (medl : Medl) (right : Script) → AreRight bytes script_bytes medl right
+    → HaveAtMost medl right trace_limit
+have_at_most bytes script_bytes medl right are =
+    let valid = medl_of-valid bytes medl are.list in
+    let valid_script = script_of-valid medl script_bytes right valid are.script_size are.script in
+    λ numbers legal. trace-short medl right numbers valid valid_script legal.count legal.legal
+
+module _ (said : OfTrace) (form : Option Form) (list script trace : List ℕ)
+    (is : plan_of form ≡ judged_plan said list script trace) (before now : Outside) (answer : Answer)
+    (p : Promise form before now answer) where
+  judged : answer.status ≤ 1 → IsJudged said list script trace before now answer.status
+  judged few =
+      let held = before.files.held in
+      let final = p.ended (omega (arith, few)) in
+      let both = both_came held list script (from_script said trace) final.0 (omega (arith, few, final.2.status))
+      p.loads (subst (λ (plan : Plan). Comes held plan p.loads (ends final.0)) is final.1.comes) in
+      let loaded = text_came said held trace both.medl both.right both.loads final.0 both.comes in
+      let whole = loaded_from (held trace) trace_limit loaded.given loaded.gives in
+      let ending : final.0 ≡ ending_of said both.medl both.right (take (trace_limit + 1) whole.text) =
+      sym loaded.is ∙ ap (ending_of said both.medl both.right) whole.front in
+      let most = have_at_most both.bytes both.script_bytes both.medl both.right both.are in
+      record {
+        bytes = both.bytes;
+        script_bytes = both.script_bytes;
+        text = whole.text;
+        medl = both.medl;
+        right = both.right;
+        list_file = both.list_file;
+        script_file = both.script_file;
+        trace_file = whole.may;
+        are = both.are;
+        judged =
+            showed-judged said both.medl both.right trace_limit most whole.text before.output now.output answer
+            (subst (λ (e : Ending). Showed e before.output now.output answer) ending final.2);
+      }
+
+  -- files that are told
+  module _ (medl : Medl) (right : Script) (text : List ℕ)
+      (files : AreAllTold list script trace before now medl right text) where
+    most_told : HaveAtMost medl right trace_limit
+    most_told = have_at_most files.files.bytes files.files.script_bytes medl right files.files.are
+
+    text_told : told_ending before.files.held (plan_of form)
+        ≡ Some (ending_of said medl right (take (trace_limit + 1) text))
+    text_told =
+        let last : told_ending before.files.held (from_script said trace medl right)
+        ≡ Some (ending_of said medl right (take (trace_limit + 1) text)) = rw files.trace_file refl in
+        ap (told_ending before.files.held) is
+        ∙ both_told list script (from_script said trace) before now medl right files.files
+        ∙ last
+
+    none_rose : NoneAskedRose before now p.loads
+    none_rose =
+        let Q : List ℕ → Type 0 = λ name. ¬ HasRisen (before.files.faults name) (now.files.faults name) in
+        all_asked Q before.files.held (plan_of form) p.loads
+        (subst (AllAsk Q) (sym is)
+        (both_ask Q list script (from_script said trace) files.files.list_quiet files.files.script_quiet
+        (λ m s. (files.trace_quiet, λ bytes. tt)))) p.in_order
+
+    complete : is_run form ≡ false → ¬ HasRisen before.output.faults now.output.faults
+        → HasJudged said medl right text before.output now.output answer.status
+        ⊎ ((answer.status ≡ 7) × Wrote before.output now.output [])
+    complete other sink =
+        elim (p.told (ending_of said medl right (take (trace_limit + 1) text)) text_told none_rose sink) [
+          | inl showed ↦
+              inl (showed-judged said medl right trace_limit most_told text before.output now.output answer showed)
+          | inr seven ↦ inr (seven, p.empty seven other)
+        ]
+
+    cut : answer.status ≡ 6 → CutVerdict said medl right text before.output now.output
+    cut six =
+        let stopped = p.stopped six in
+        let due = due_told (plan_of form) before now p.loads stopped.0
+        (ending_of said medl right (take (trace_limit + 1) text)) text_told none_rose stopped.1 in
+        cut-verdict said medl right trace_limit most_told text before.output now.output
+        (subst (λ (e : Ending). CutAmong e.texts before.output now.output) due stopped.2)
+
+  text_promise : is_run form ≡ false → TextPromise said list script trace before now answer
+  text_promise other = record {
+    judged = judged;
+    complete = λ medl right text files sink. complete medl right text files other sink;
+    cut = λ medl right text files six. cut medl right text files six;
+  }
+
+pub verify_promise : (list script trace : List ℕ) (before now : Outside) (answer : Answer)
+    → Promise (Some (verify list script trace)) before now answer → VerifyPromise list script trace before now answer
+verify_promise list script trace before now answer p =
+    text_promise said_same (Some (verify list script trace)) list script trace refl before now answer p refl
+
+pub modes_promise : (list script trace : List ℕ) (before now : Outside) (answer : Answer)
+    → Promise (Some (modes list script trace)) before now answer → ModesPromise list script trace before now answer
+modes_promise list script trace before now answer p =
+    text_promise said_modes (Some (modes list script trace)) list script trace refl before now answer p refl
