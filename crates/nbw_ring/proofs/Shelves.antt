@@ -44,6 +44,17 @@ pairs_again width (p ∷ pairs) wide =
     ap (λ ws. pairs_of (numbers_in pairs) ws width) back ∙ pairs_again width pairs (wide_tail width p pairs wide) in
     λ i. record { number = p.number; words = front i } ∷ rest i
 
+-- a pair alone takes all words
+pub only_pair : (pairs : List Message) → length pairs ≤ 1
+    → slice_get (pairs_of (numbers_in pairs) (words_in pairs) (length (words_in pairs))) 0 ≡ slice_get pairs 0
+only_pair [] few = refl
+only_pair (p ∷ []) few =
+    let long : length p.words ≡ length (p.words ++ []) = omega (arith, length-append p.words []) in
+    let all : take (length (p.words ++ [])) (p.words ++ []) ≡ p.words =
+    take_at p.words [] (length (p.words ++ [])) long in
+    λ i. Some record { number = p.number; words = all i }
+only_pair (p ∷ q ∷ pairs) few = absurd (omega arith)
+
 drop_further : (xs ys : List ℕ) (n : ℕ) → drop (length xs + n) (xs ++ ys) ≡ drop n ys
 drop_further [] ys n = ap (λ k. drop k ys) (omega arith)
 drop_further (x ∷ xs) ys n =

@@ -1,5 +1,5 @@
 //! What a settled reader got.
-ghost use Rattle.std.specs.Prelude.{◌≡◌, ◌*◌, length, IfOk};
+ghost use Rattle.std.specs.Prelude.{◌≡◌, ◌*◌, length, slice_get, IfOk};
 ghost use Rattle.nbw_ring.specs.Pairs.{pairs_of};
 
 use std::alloc::Global;
@@ -59,6 +59,19 @@ impl Receipts {
     {
         let Receipts { pairs } = self;
         pairs
+    }
+}
+
+/// The first of these numbers, if there is one, as a pair with all these words.
+pub(crate) fn first_pair(numbers: &[u64], words: Vec<u64>) -> Option<Pair>
+    ensures { result ≡ slice_get (pairs_of numbers.now words.items (length words.items)) 0 }
+{
+    match numbers.first() {
+        Some(number) => Some(Pair {
+            number: *number,
+            words,
+        }),
+        None => None,
     }
 }
 

@@ -1,12 +1,13 @@
 //! A ring.
 ghost use Rattle.std.specs.Prelude.{◌≡◌, ◌+◌, ◌*◌, ◌/◌, ◌<◌, ◌≤◌, All, length, IfOk, OnOk, OnErr};
+ghost use Rattle.std.specs.Prelude.{slice_get};
 ghost use Rattle.nbw_ring.specs.Numbers.{most_number, newest_number, IsMessageOf};
 ghost use Rattle.nbw_ring.specs.States.{new_writer, new_reader, with_message, with_joined};
 ghost use Rattle.nbw_ring.specs.Attempts.{number_of, Gets, OnGot, OnOverrun};
 
 use crate::plays::{Begin, End, FirstLoad, LastLoad, Lend, Settle, SettleLoad};
 use crate::reader::{Reader, Try};
-use crate::receipts::{Receipts, pair_up};
+use crate::receipts::{Pair, Receipts, first_pair, pair_up};
 use crate::steps::{Words, load_words, put_words};
 use crate::view::Shape;
 use crate::writer::Writer;
@@ -67,9 +68,11 @@ impl Ring {
     {
         let cells = &self.table.shared;
         let number = writer.number + 1;
+        // Loads that follow a step wait for it, so that this one comes before the first.
+        let shape = self.shape;
         gate.pass(1);
         cells.store::<Begin>(&mut writer.seat, 0, 2 * number - 1);
-        put_words(cells, &mut writer.seat, self.shape, number, words, gate);
+        put_words(cells, &mut writer.seat, shape, number, words, gate);
         gate.pass(3);
         cells.store::<End>(&mut writer.seat, 0, 2 * number);
         writer.number = number;
@@ -174,5 +177,27 @@ impl Ring {
         cells.join_seat::<Settle>(&mut writer.seat, seat);
         cells.load::<SettleLoad>(&mut writer.seat, 0);
         Ok(receipts)
+    }
+
+    /// The same of a reader that got at most one pair, which is the answer, if there is one. It takes no memory.
+    pub fn settle_one(&self, writer: &mut Writer, reader: Reader) -> Option<Pair>
+        requires own { (writer.old.ring ≡ self.now) × (reader.ring ≡ self.now) }
+        requires few { length reader.got ≤ 1 }
+        ensures pair { result ≡ slice_get reader.got 0 }
+        ensures whole { All (IsMessageOf writer.old.messages) reader.got }
+        ensures seen { reader.seen ≤ 2 * newest_number writer.old.messages }
+        ensures joined { writer.new ≡ with_joined writer.old reader }
+    {
+        let Reader {
+            seat,
+            numbers,
+            words,
+            width: _,
+            spare: _,
+        } = reader;
+        let cells = &self.table.shared;
+        cells.join_seat::<Settle>(&mut writer.seat, seat);
+        cells.load::<SettleLoad>(&mut writer.seat, 0);
+        first_pair(&numbers, words)
     }
 }
