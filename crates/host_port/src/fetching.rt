@@ -82,8 +82,7 @@ impl Port {
         let Fetcher { reader } = f;
         if let Some(ring) = &self.outgoing {
             if let Some(writer) = &mut end.writer {
-                let mut pairs = ring.settle(writer, reader)?.into_pairs().into_vec();
-                return Ok(pairs.pop());
+                return Ok(ring.settle_one(writer, reader));
             }
         }
         Err(Memory)

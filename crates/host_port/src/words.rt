@@ -60,8 +60,9 @@ fn word_at(bytes: &[u8], i: usize) -> u64
 }
 
 /// Puts the words of a payload, and answers how many there are.
-pub(crate) fn put_words(bytes: &[u8], words: &mut [u64; MOST_WORDS]) -> usize
-    requires { length bytes.now ≤ PAYLOAD_LIMIT }
+pub(crate) fn put_words(bytes: &[u8], words: &mut [u64]) -> usize
+    requires limit { length bytes.now ≤ PAYLOAD_LIMIT }
+    requires room { length bytes.now ≤ 8 * length words.old }
     ensures count { result ≡ word_count (length bytes.now) }
     ensures within { result ≤ 30 }
     ensures words { take result words.new ≡ words_of_payload bytes.now }

@@ -1,5 +1,5 @@
 //! What is written to a port's rings: status, delivered messages, and a host's messages.
-ghost use Rattle.std.specs.Prelude.{◌≡◌, ◌<◌, length, option_map, IsSomeAnd};
+ghost use Rattle.std.specs.Prelude.{◌≡◌, ◌<◌, ◌≤◌, length, option_map, IsSomeAnd};
 ghost use Rattle.ttp_world.specs.declared.script.Source.TheVariants as source;
 ghost use Rattle.ttp_world.specs.Words.{words_of_payload};
 ghost use Rattle.host_port.specs.Rings.{at_source, IsControllerEndOf, IsHostEndOf};
@@ -35,8 +35,27 @@ fn write_words<G: Gate>(
     0
 }
 
-// The same of a payload.
-fn write_payload<G: Gate>(
+// The same of a payload of at most eight words.
+fn write_short<G: Gate>(
+    ring: &Option<Ring>,
+    writer: &mut Option<Writer>,
+    payload: &[u8],
+    gate: &G,
+) -> u64
+    requires own { option_map (λ w. w.ring) writer.old ≡ ring.now }
+    requires payload { Takes writer.old (length payload.now) }
+    requires short { length payload.now ≤ 64 }
+    requires room { HasRoom writer.old }
+    ensures written { writer.new ≡ written writer.old (words_of_payload payload.now) }
+    ensures number { IsNewest writer.new result }
+{
+    let mut words = [0; 8];
+    let count = put_words(payload, &mut words);
+    write_words(ring, writer, &words[..count], gate)
+}
+
+// The same of any payload.
+fn write_long<G: Gate>(
     ring: &Option<Ring>,
     writer: &mut Option<Writer>,
     payload: &[u8],
@@ -51,6 +70,25 @@ fn write_payload<G: Gate>(
     let mut words = [0; MOST_WORDS];
     let count = put_words(payload, &mut words);
     write_words(ring, writer, &words[..count], gate)
+}
+
+// The same. Most payloads are short, and need no room for the words of the longest one.
+fn write_payload<G: Gate>(
+    ring: &Option<Ring>,
+    writer: &mut Option<Writer>,
+    payload: &[u8],
+    gate: &G,
+) -> u64
+    requires own { option_map (λ w. w.ring) writer.old ≡ ring.now }
+    requires payload { Takes writer.old (length payload.now) }
+    requires room { HasRoom writer.old }
+    ensures written { writer.new ≡ written writer.old (words_of_payload payload.now) }
+    ensures number { IsNewest writer.new result }
+{
+    if payload.len() <= 64 {
+        return write_short(ring, writer, payload, gate);
+    }
+    write_long(ring, writer, payload, gate)
 }
 
 impl Port {
