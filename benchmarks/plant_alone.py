@@ -3,17 +3,18 @@
 
 It builds a program that takes a plant, which is the controllers with the medium and no rings, through the same
 script, counts by itself what each node delivers, and writes the same lines but for the first one. For the two clusters
-of `run_by_slots.py`, over 20,000 slots and with the trace to /dev/null, it prints how long a processor was at work for
-each node and slot, less what a run of one slot takes, by the least of some runs of the two programs in turn, and the
-ratio. It needs the program that `./ttpbench` builds, and prints figures alone; nothing passes or fails here, but that
-both write the same.
+of `run_by_slots.py`, over 20,000 slots and with the trace to /dev/null and to a file in memory, it prints how long a
+processor was at work for each node and slot, less what a run of one slot takes, by the least of some runs of the two
+programs in turn, and the ratio. It needs the program that `./ttpbench` builds, and prints figures alone; nothing passes
+or fails here, but that both write the same.
 """
 
+import os
 import subprocess
 import tempfile
 
 from programs import rattle_program
-from run_by_slots import CLUSTERS
+from run_by_slots import CLUSTERS, SHARED
 from runs import processor_seconds_of, program, script_text, written
 
 SLOTS = 20_000
@@ -244,6 +245,14 @@ def lines_of_run(command):
     return subprocess.run(command, check=True, capture_output=True, text=True).stdout.splitlines()
 
 
+def places():
+    """What the traces are written to: nothing, and a file in memory where there is one."""
+    yield "to /dev/null", os.devnull
+    if os.path.isdir(SHARED):
+        with tempfile.NamedTemporaryFile(dir=SHARED) as file:
+            yield "to a file in memory", file.name
+
+
 def main():
     with tempfile.TemporaryDirectory() as folder:
         alone = rattle_program(folder, "plant_alone", USES, PLANT, proofs=PROOFS)
@@ -257,15 +266,17 @@ def main():
             short = [lines_of_run([*way, medl, scripts[SHORT]]) for way in ways.values()]
             if short[0] != short[1][1:]:
                 raise SystemExit(f"{name}: the traces differ")
-            least = {}
-            for _ in range(RUNS):
-                for way, words in ways.items():
-                    for slots in (1, SLOTS):
-                        taken = processor_seconds_of([*words, medl, scripts[slots]])
-                        least[way, slots] = min(taken, least.get((way, slots), taken))
-            figures = {way: (least[way, SLOTS] - least[way, 1]) * 1e9 / (nodes * (SLOTS - 1)) for way in ways}
-            told = "".join(f"   {way} {figure:6.1f} ns" for way, figure in figures.items())
-            print(f"{name}:{told}   ratio {figures['run'] / figures['through the plant alone']:.2f}")
+            for where, path in places():
+                least = {}
+                for _ in range(RUNS):
+                    for way, words in ways.items():
+                        for slots in (1, SLOTS):
+                            taken = processor_seconds_of([*words, medl, scripts[slots]], path)
+                            least[way, slots] = min(taken, least.get((way, slots), taken))
+                figures = {way: (least[way, SLOTS] - least[way, 1]) * 1e9 / (nodes * (SLOTS - 1)) for way in ways}
+                told = "".join(f"   {way} {figure:6.1f} ns" for way, figure in figures.items())
+                ratio = figures["run"] / figures["through the plant alone"]
+                print(f"{name}, {where}:{told}   ratio {ratio:.2f}")
 
 
 if __name__ == "__main__":
