@@ -9,7 +9,7 @@ use Rattle.ttp_world.specs.Medl.{plan_at}
 use Rattle.ttp_world.specs.Outgoing.{messages_before, nothing_chosen}
 use Rattle.ttp_world.specs.Script.{IsValidScript, writes_in}
 use Rattle.ttp_world.specs.World.{BegunSlot, Numbers, is_loaded, world}
-use Rattle.trace_text.specs.HostLines.{AreBytes}
+use Rattle.line_text.specs.HostLines.{AreBytes}
 use Rattle.controller.specs.Passes.{HaveBegun}
 use Rattle.controller.specs.Turn.{Seat}
 use Rattle.host_port.specs.Rings.{HostState, PortState}

@@ -23,8 +23,8 @@ use Rattle.ttp_world.specs.Messages.{newest_number}
 use Rattle.ttp_world.specs.Outgoing.{messages_before, message_chosen}
 use Rattle.ttp_world.specs.Script.{IsValidScript, messages_written, writes_in}
 use Rattle.ttp_world.specs.Words.{word_count, words_of_payload}
-use Rattle.trace_text.specs.HostLines.{AreBytes, bytes_in}
-use Rattle.trace_text.proofs.PayloadWords.{words_tell}
+use Rattle.line_text.specs.HostLines.{AreBytes, bytes_in}
+use Rattle.line_text.proofs.PayloadWords.{words_tell}
 use Rattle.host_port.specs.Fetching.{HasSeen, IsWhole}
 use Rattle.host_port.specs.Reading.{Attempts, is_intact, settled}
 use Rattle.host_port.specs.Rings.{HostState, message_shape, shape_of}

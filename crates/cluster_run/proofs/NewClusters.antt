@@ -5,7 +5,7 @@ use Rattle.ttp_world.specs.declared.medl.Medl.{Medl}
 use Rattle.ttp_world.specs.declared.script.Script.{Script}
 use Rattle.ttp_world.specs.Medl.{plan_at}
 use Rattle.ttp_world.specs.Outgoing.{zeros_of}
-use Rattle.trace_text.specs.HostLines.{AreBytes}
+use Rattle.line_text.specs.HostLines.{AreBytes}
 use Rattle.cluster_run.specs.declared.nodes.Nodes.{Nodes}
 use Rattle.cluster_run.specs.Choosing.{AreBytesBefore}
 use Rattle.cluster_run.specs.Nodes.{AreNewNodes}

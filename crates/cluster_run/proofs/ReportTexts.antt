@@ -25,12 +25,12 @@ use Rattle.ttp_world.proofs.HostPayloads.{HasRead, IsMessageOf, messages_read}
 use Rattle.ttp_world.proofs.Worlds.{length-world}
 use Rattle.host_port.specs.declared.report.NodeLine.{NodeLine}
 use Rattle.host_port.specs.declared.report.SlotReport.{SlotReport}
-use Rattle.trace_text.specs.HostLines.{HasWords, bytes_in, message_in, message_line}
-use Rattle.trace_text.specs.LineParts.{HasDigits}
+use Rattle.line_text.specs.HostLines.{HasWords, bytes_in, message_in, message_line}
+use Rattle.line_text.specs.LineParts.{HasDigits}
 use Rattle.trace_text.specs.ReportText.{HasMessage, IsListed, node_texts, payload_size, read_text, report_lines}
 use Rattle.trace_text.specs.ReportText.{write_text}
-use Rattle.trace_text.proofs.MemberDigits.{state_of-digits}
-use Rattle.trace_text.proofs.PayloadWords.{words_tell}
+use Rattle.line_text.proofs.MemberDigits.{state_of-digits}
+use Rattle.line_text.proofs.PayloadWords.{words_tell}
 use Rattle.cluster_run.specs.Choosing.{AreBytesBefore}
 use Rattle.cluster_run.specs.NextSlots.{next_row}
 use Rattle.cluster_run.specs.Report.{node_shown, numbers_in, writes_shown, read_shown, ShowsSlot}

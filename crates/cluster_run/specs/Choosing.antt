@@ -7,7 +7,7 @@ use Rattle.ttp_world.specs.declared.script.Script.{Script}
 use Rattle.ttp_world.specs.Legal.{is_legal_message}
 use Rattle.ttp_world.specs.Outgoing.{messages_before, message_chosen}
 use Rattle.ttp_world.specs.World.{BegunSlot, Numbers, slot_after, world, is_loaded, chosen_of}
-use Rattle.trace_text.specs.HostLines.{AreBytes}
+use Rattle.line_text.specs.HostLines.{AreBytes}
 use Rattle.controller.specs.Passes.{HaveBegun}
 use Rattle.controller.specs.Turn.{Seat}
 use Rattle.host_port.specs.Rings.{HostState, message_shape}

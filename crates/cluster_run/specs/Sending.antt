@@ -19,7 +19,7 @@ use Rattle.host_port.specs.declared.report.WriteLine.{WriteLine}
 use Rattle.host_port.specs.Rings.{PortState, HostState}
 use Rattle.host_port.specs.Fetching.{IsFetcherOf}
 use Rattle.host_port.specs.Reading.{lent, Attempts, IsSettled, settled}
-use Rattle.trace_text.specs.HostLines.{AreBytes, bytes_in}
+use Rattle.line_text.specs.HostLines.{AreBytes, bytes_in}
 use Rattle.ttp_world.specs.declared.node.Chosen.{Chosen}
 use Rattle.host_port.specs.Writing.{Takes}
 use Rattle.cluster_run.specs.Ports.{host_at}

@@ -6,7 +6,7 @@ use Rattle.ttp_world.specs.Medl.{node_limit}
 use Rattle.ttp_world.specs.Trace.{slot_lines}
 use Rattle.ttp_world.specs.World.{Numbers, world}
 use Rattle.host_port.specs.declared.report.SlotReport.{SlotReport}
-use Rattle.trace_text.specs.LineParts.{HasDigits}
+use Rattle.line_text.specs.LineParts.{HasDigits}
 use Rattle.trace_text.specs.ReportText.{HasMessage, report_lines}
 use Rattle.cluster_run.specs.NextSlots.{next_row}
 use Rattle.cluster_run.specs.Report.{numbers_in}

@@ -10,7 +10,7 @@ ghost use Rattle.ttp_world.specs.World.{BegunSlot};
 ghost use Rattle.controller.specs.Passes.{HaveBegun};
 ghost use Rattle.host_port.specs.Rings.{PortState, IsHostEndOf};
 ghost use Rattle.host_port.specs.Reading.{IsSettled, settled};
-ghost use Rattle.trace_text.specs.HostLines.{AreBytes, bytes_in};
+ghost use Rattle.line_text.specs.HostLines.{AreBytes, bytes_in};
 ghost use Rattle.ttp_world.specs.Medl.{IsValid, plan_at};
 ghost use Rattle.ttp_world.specs.Outgoing.{nothing_chosen};
 ghost use Rattle.host_port.specs.Writing.{written, Takes, HasRoom};

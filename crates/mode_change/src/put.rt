@@ -15,8 +15,8 @@ ghost use Rattle.mode_change.specs.ModeText.{mode_slot_lines, mode_lines};
 use crate::line::{head_line, make_line};
 use crate::node::NodeModes;
 use crate::run::Run;
+use line_text::cut_line;
 use std::alloc::Global;
-use trace_check::cut_line;
 use ttp_base::{Failed, Line, Sink};
 use ttp_world::{Medl, Script};
 

@@ -12,8 +12,9 @@ ghost use Rattle.mode_change.specs.Knowing.{HasStepped, IsPast, IsAt, IsSomewher
 
 use crate::node::{NodeModes, new_node, node_after};
 use controller::Plant;
+use line_text::cut_line;
 use std::alloc::Global;
-use trace_check::{Outgoing, cut_line};
+use trace_check::Outgoing;
 use ttp_base::{List, Memory};
 use ttp_world::{Chosen, Medl, Script};
 

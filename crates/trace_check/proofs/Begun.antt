@@ -8,7 +8,7 @@ use Rattle.std.proofs.lemmas.List.Folds.{concat-append}
 use Rattle.std.proofs.lemmas.List.FromFn.{map-range_with_len_more}
 use Rattle.ttp_base.specs.NodeSet.{below}
 use Rattle.ttp_base.specs.Text.{Lines}
-use Rattle.trace_text.specs.Reading.{after_label}
+use Rattle.line_text.specs.Labels.{after_label}
 use Rattle.trace_check.specs.Following.{Begins, Departs}
 use Rattle.trace_check.proofs.Labels.{behind-line, no_line}
 

@@ -21,8 +21,8 @@ use Rattle.ttp_world.proofs.HostPayloads.{in_messages-some}
 use Rattle.controller.specs.Passes.{IsLeft}
 use Rattle.controller.specs.PlantStands.{ShowsNode, outcome_at}
 use Rattle.controller.specs.PlantView.{PlantView}
-use Rattle.trace_text.specs.LineParts.{HasDigits}
-use Rattle.trace_text.proofs.MemberDigits.{state_of-digits}
+use Rattle.line_text.specs.LineParts.{HasDigits}
+use Rattle.line_text.proofs.MemberDigits.{state_of-digits}
 use Rattle.trace_check.specs.declared.incoming.Incoming.{Incoming}
 use Rattle.trace_check.specs.Following.{HasEnded, IsPast, row_after}
 

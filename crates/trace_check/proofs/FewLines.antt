@@ -20,7 +20,7 @@ use Rattle.ttp_world.proofs.TraceLines.{trace_lines-each}
 use Rattle.trace_check.specs.Answer.{IsFirstWrong}
 use Rattle.trace_check.specs.Following.{IsTraceAnd, IsAmissAt}
 use Rattle.trace_check.proofs.Counts.{lines_of_slots, lines_in_all, length-test_lines, length-trace_lines}
-use Rattle.trace_check.proofs.Cuts.{AreLines, AreLines-take}
+use Rattle.line_text.proofs.Cuts.{AreLines, AreLines-take}
 use Rattle.trace_check.proofs.Outcomes.{amiss-first_wrong, more-first_wrong}
 
 -- Counting.

@@ -6,7 +6,7 @@ use Rattle.ttp_world.specs.Legal.{IsLegal}
 use Rattle.ttp_world.specs.Trace.{trace_head}
 use Rattle.ttp_world.specs.World.{Numbers}
 use Rattle.ttp_world.proofs.LegalRuns.{legal-none}
-use Rattle.trace_text.specs.Reading.{after_label}
+use Rattle.line_text.specs.Labels.{after_label}
 use Rattle.trace_check.specs.declared.follow.Follower.{Follower}
 use Rattle.trace_check.specs.Following.{Begins, StandsFor, StandsAt, GoesOnTo}
 use Rattle.trace_check.proofs.Labels.{behind-line}

@@ -3,9 +3,9 @@ use Rattle.std.proofs.Common.{◌≡◌, List, ◌++◌, ℕ, Some, None, Result
 use Rattle.std.specs.Prelude.{IfErr}
 use Rattle.std.specs.Result.{IsErrAnd}
 use Rattle.std.proofs.lemmas.Option.{none-some}
-use Rattle.trace_text.specs.Reading.{after_label}
-use Rattle.trace_text.proofs.ReadLines.{label-takes}
-use Rattle.trace_text.proofs.WrittenLines.{label-again}
+use Rattle.line_text.specs.Labels.{after_label}
+use Rattle.line_text.proofs.LabelTexts.{label-takes}
+use Rattle.line_text.proofs.LabelTexts.{label-again}
 
 pub passed_up : {T E : Type 0} (r : Result T E) (e : E) (P : E → Type 0) → IsErrAnd r (λ y. y ≡ e) → P e → IfErr r P
 passed_up (Ok x) e P is p = absurd is

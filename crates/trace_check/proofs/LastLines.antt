@@ -9,7 +9,7 @@ use Rattle.ttp_world.specs.declared.script.Script.{Script}
 use Rattle.ttp_world.specs.Hypothesis.{keeps}
 use Rattle.ttp_world.specs.Returning.{has_arm, returns}
 use Rattle.ttp_world.specs.Trace.{keep_line, back_line, back_lines, back_lines_if, test_lines}
-use Rattle.trace_text.specs.Reading.{after_label}
+use Rattle.line_text.specs.Labels.{after_label}
 use Rattle.trace_check.specs.Following.{Begins, Departs}
 use Rattle.trace_check.proofs.Labels.{behind-line, no_line}
 

@@ -1,5 +1,4 @@
 pub mod Counts
-pub mod Cuts
 pub mod OwnNumbers
 pub mod Outcomes
 pub mod Told
@@ -7,7 +6,6 @@ pub mod Wholes
 pub mod Labels
 pub mod Followed
 pub mod FewLines
-pub mod FirstLines
 pub mod FirstOutgoing
 pub mod NodesAlike
 pub mod Writes

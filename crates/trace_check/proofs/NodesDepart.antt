@@ -31,12 +31,12 @@ use Rattle.ttp_world.proofs.HostMessages.{few_messages}
 use Rattle.ttp_world.proofs.LineWords.{node_line-words}
 use Rattle.ttp_world.proofs.TraceLines.{trace_lines-each}
 use Rattle.ttp_world.proofs.Worlds.{row_of_world}
-use Rattle.trace_text.specs.Reading.{numeral_in}
-use Rattle.trace_text.specs.TraceLines.{message_digits}
-use Rattle.trace_text.proofs.WrittenWords.{numeral-again}
+use Rattle.line_text.specs.Numerals.{numeral_in}
+use Rattle.line_text.specs.Numerals.{message_digits}
+use Rattle.line_text.proofs.WrittenNumbers.{numeral-again}
 use Rattle.trace_check.specs.Following.{lines_of_slot}
 use Rattle.trace_check.specs.Outgoing.{number_in, number_named, number_taken, oldest_number}
-use Rattle.trace_check.proofs.Cuts.{AreLines, lines_of-behind}
+use Rattle.line_text.proofs.Cuts.{AreLines, lines_of-behind}
 
 -- The lines of a slot are lines.
 

@@ -17,7 +17,7 @@ use Rattle.trace_check.specs.Answer.{BeginsAsTrace, IsFirstWrong}
 use Rattle.trace_check.specs.Following.{IsTraceAnd, IsAmissAt}
 use Rattle.trace_check.proofs.Counts.{lines_in_all, length-trace_lines}
 use Rattle.trace_check.proofs.OwnNumbers.{IsTrace}
-use Rattle.trace_check.proofs.Cuts.{AreLines-take, lines_of-behind, concat-lines_of}
+use Rattle.line_text.proofs.Cuts.{AreLines-take, lines_of-behind, concat-lines_of}
 
 -- Beginnings.
 

@@ -21,7 +21,7 @@ use Rattle.ttp_world.specs.Messages.{status_messages}
 use Rattle.ttp_world.proofs.HostPayloads.{in_messages-some}
 use Rattle.controller.specs.PlantStands.{outcome_at}
 use Rattle.controller.specs.PlantView.{PlantView}
-use Rattle.trace_text.specs.HostLines.{message_line}
+use Rattle.line_text.specs.HostLines.{message_line}
 use Rattle.trace_check.specs.declared.incoming.Incoming.{Incoming}
 use Rattle.trace_check.specs.Following.{HasEnded, behind_new_read, behind_read, line_of_read, row_after}
 use Rattle.trace_check.specs.Incoming.{IsNewest, IsRing, TellsRings, newest_before, newest_message}

@@ -15,8 +15,8 @@ use Rattle.ttp_world.specs.Messages.{delivered_of}
 use Rattle.ttp_world.specs.Trace.{message_shown, node_line_of, number_delivered}
 use Rattle.controller.specs.PlantStands.{ShowsNode, outcome_at}
 use Rattle.controller.specs.PlantView.{PlantView}
-use Rattle.trace_text.specs.LineParts.{listed_line}
-use Rattle.trace_text.specs.Reading.{after_label}
+use Rattle.line_text.specs.LineParts.{listed_line}
+use Rattle.line_text.specs.Labels.{after_label}
 use Rattle.trace_check.specs.declared.incoming.Incoming.{Incoming}
 use Rattle.trace_check.specs.Following.{Begins, Departs, HasEnded, IsPast, node_lines, row_after}
 use Rattle.trace_check.specs.Incoming.{HasPlaces}

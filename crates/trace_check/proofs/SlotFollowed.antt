@@ -47,7 +47,7 @@ use Rattle.trace_check.specs.Following.{node_lines, row_after}
 use Rattle.trace_check.specs.Incoming.{AreFloorsWithin, TellsRings, floor_of, floor_place, newest_before}
 use Rattle.trace_check.specs.Outgoing.{Chooses, HasChosen, HoldsNewest, number_in, number_named}
 use Rattle.trace_check.proofs.Counts.{length-read_messages}
-use Rattle.trace_check.proofs.Cuts.{AreLines, AreLines-take}
+use Rattle.line_text.proofs.Cuts.{AreLines, AreLines-take}
 use Rattle.trace_check.proofs.NodesAlike.{node_line-same}
 use Rattle.trace_check.proofs.NodesDepart.{legal-small, line-behind, line-names, node-at, node-is_line, same_message}
 use Rattle.trace_check.proofs.NodesDepart.{slot-lines, taken-named}

@@ -22,8 +22,8 @@ use Rattle.ttp_world.specs.Script.{HostWrite, IsValidScript, messages_written, p
 use Rattle.ttp_world.specs.Trace.{more_write_lines, write_line, write_lines}
 use Rattle.ttp_world.specs.World.{chosen_of}
 use Rattle.ttp_world.proofs.HostMessages.{few_messages, some_message}
-use Rattle.trace_text.specs.HostLines.{written_line}
-use Rattle.trace_text.specs.Reading.{after_label}
+use Rattle.line_text.specs.HostLines.{written_line}
+use Rattle.line_text.specs.Labels.{after_label}
 use Rattle.trace_check.specs.declared.outgoing.Outgoing.{Outgoing}
 use Rattle.trace_check.specs.Following.{Begins, Departs}
 use Rattle.trace_check.specs.Outgoing.{Chooses, HasChosen, HoldsNewest, oldest_number}

@@ -19,7 +19,7 @@ use Rattle.controller.specs.PlantStands.{PlantStandsFor, IsStep, outcome_at}
 use Rattle.controller.specs.PlantView.{PlantView}
 use Rattle.trace_check.specs.declared.follow.Follower.{Follower}
 use Rattle.trace_check.specs.declared.incoming.Incoming.{Incoming}
-use Rattle.trace_text.specs.Reading.{after_label}
+use Rattle.line_text.specs.Labels.{after_label}
 use Rattle.trace_check.specs.Incoming.{IsRing, TellsRings, AreFloorsWithin, floor_of, newest_before}
 use Rattle.trace_check.specs.Outgoing.{HoldsNewest}
 

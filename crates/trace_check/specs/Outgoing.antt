@@ -8,8 +8,8 @@ use Rattle.ttp_world.specs.Messages.{newest_number}
 use Rattle.ttp_world.specs.Outgoing.{messages_before, message_chosen}
 use Rattle.ttp_world.specs.TraceNumbers.{words_of, word_in}
 use Rattle.ttp_world.specs.World.{chosen_of}
-use Rattle.trace_text.specs.Reading.{numeral_in}
-use Rattle.trace_text.specs.TraceLines.{message_digits}
+use Rattle.line_text.specs.Numerals.{numeral_in}
+use Rattle.line_text.specs.Numerals.{message_digits}
 use Rattle.trace_check.specs.declared.outgoing.Outgoing.{Outgoing}
 
 -- the message that a node's line names, if it names one

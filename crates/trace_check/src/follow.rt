@@ -15,8 +15,8 @@ use crate::nodes::follow_nodes;
 use crate::outgoing::Outgoing;
 use crate::text::{Wrong, expect};
 use controller::Plant;
+use line_text::{NodeLines, behind_header};
 use std::alloc::Global;
-use trace_text::{NodeLines, behind_header};
 use ttp_base::{Line, Memory};
 use ttp_world::{Medl, Script};
 

@@ -17,7 +17,7 @@ use crate::incoming::Incoming;
 use crate::outgoing::Outgoing;
 use crate::text::{Wrong, expect};
 use controller::Plant;
-use trace_text::{behind_payload_line, behind_status_line, behind_write_line};
+use line_text::{behind_payload_line, behind_status_line, behind_write_line};
 use ttp_base::Line;
 use ttp_world::{HostRead, Medl, Script, Source};
 

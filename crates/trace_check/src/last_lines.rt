@@ -7,7 +7,7 @@ ghost use Rattle.trace_check.specs.Following.{Begins, Departs};
 
 use crate::text::{Wrong, expect};
 use hypothesis::{has_arm, keeps, returns};
-use trace_text::{behind_back, behind_keep};
+use line_text::{behind_back, behind_keep};
 use ttp_world::{Medl, Script};
 
 /// What is left of a text behind the line of the hypothesis test, and that on armed nodes where there is one;

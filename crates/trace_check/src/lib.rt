@@ -31,7 +31,6 @@ mod text;
 
 pub use answer::{Outcome, verify};
 pub use outgoing::Outgoing;
-pub use text::cut_line;
 
 #[cfg(test)]
 mod tests;

@@ -10,7 +10,7 @@ ghost use Rattle.trace_check.specs.Following.{HasEnded, IsPast, Begins, Departs,
 use crate::incoming::Incoming;
 use crate::text::{Wrong, expect};
 use controller::Plant;
-use trace_text::{NodeLines, behind_node_line};
+use line_text::{NodeLines, behind_node_line};
 use ttp_world::{Entry, Medl};
 
 // The message that a node's line names after the slot.

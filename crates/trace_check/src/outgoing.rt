@@ -7,7 +7,8 @@ ghost use Rattle.ttp_world.specs.Medl.{IsValid};
 ghost use Rattle.ttp_world.specs.Script.{messages_written};
 ghost use Rattle.trace_check.specs.Outgoing.{Chooses, HoldsNewest, number_in, number_taken, oldest_number};
 
-use crate::text::{cut_line, number_named};
+use crate::text::number_named;
+use line_text::cut_line;
 use std::alloc::Global;
 use ttp_base::{List, Memory};
 use ttp_world::{Chosen, Medl, PAYLOAD_LIMIT, Payload, Script};

@@ -1,10 +1,10 @@
 //! The text that is checked, and its lines.
-ghost use Rattle.std.specs.Prelude.{◌≡◌, ◌+◌, ◌<◌, ◌^◌, [], get_or, drop, count_by, option_map, position};
+ghost use Rattle.std.specs.Prelude.{◌≡◌, ◌+◌, ◌<◌, ◌^◌, count_by, option_map};
 ghost use Rattle.std.specs.Prelude.{IfOk, IfErr, Some, None};
-ghost use Rattle.ttp_base.specs.Text.{is_newline, lines_of};
+ghost use Rattle.ttp_base.specs.Text.{is_newline};
 ghost use Rattle.trace_check.specs.Outgoing.{number_named};
 
-use trace_text::message_in;
+use line_text::message_in;
 
 /// A text from its first wrong line on.
 #[derive(Clone, Copy)]
@@ -21,24 +21,6 @@ pub(crate) fn expect<'a>(behind: Option<&'a [u8]>, text: &'a [u8]) -> Result<&'a
     match behind {
         Some(rest) => Ok(rest),
         None => Err(Wrong { text }),
-    }
-}
-
-// Where the first line feed of a text is.
-fn line_feed(text: &[u8]) -> Option<usize>
-    ensures { result ≡ position is_newline text.now }
-{
-    text.iter().position(|byte| *byte == b'\n')
-}
-
-/// The first line of a text, with its line feed if it has one, and what follows it.
-pub fn cut_line(text: &[u8]) -> (&[u8], &[u8])
-    ensures first { get_or (lines_of text.now) 0 [] ≡ result.0.now }
-    ensures others { drop 1 (lines_of text.now) ≡ lines_of result.1.now }
-{
-    match line_feed(text) {
-        Some(end) => text.split_at(end + 1),
-        None => (text, &[]),
     }
 }
 

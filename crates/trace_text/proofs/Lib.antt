@@ -1,14 +1,1 @@
-pub mod DecimalDigits
-pub mod FieldLists
-pub mod HexDigits
-pub mod LineValues
-pub mod MemberDigits
-pub mod Options
-pub mod PayloadWords
-pub mod ReadLines
-pub mod ReadWords
 pub mod ReportTexts
-pub mod WordList
-pub mod WrittenLines
-pub mod WrittenWords
-pub mod WordTexts

@@ -7,7 +7,7 @@ use Rattle.ttp_base.specs.Text.{Lines}
 use Rattle.ttp_base.proofs.Outputs.{Wrote-join, CutShort-after, CutShort-more}
 use Rattle.ttp_world.specs.declared.medl.Medl.{Medl}
 use Rattle.host_port.specs.declared.report.NodeLine.{NodeLine}
-use Rattle.trace_text.specs.LineParts.{listed_line}
+use Rattle.line_text.specs.LineParts.{listed_line}
 use Rattle.trace_text.specs.ReportText.{node_texts}
 
 -- The first lines of a text were written, and the next one is, whole or cut short.

@@ -1,6 +1,1 @@
-pub mod HostLines
-pub mod LineParts
-pub mod Reading
 pub mod ReportText
-pub mod TraceLines
-pub mod WorldLines

@@ -9,8 +9,8 @@ use Rattle.host_port.specs.declared.report.NodeLine.{NodeLine}
 use Rattle.host_port.specs.declared.report.ReadLine.{ReadLine}
 use Rattle.host_port.specs.declared.report.SlotReport.{SlotReport}
 use Rattle.host_port.specs.declared.report.WriteLine.{WriteLine}
-use Rattle.trace_text.specs.HostLines.{HasWords, message_in, written_line, message_line}
-use Rattle.trace_text.specs.LineParts.{listed_line}
+use Rattle.line_text.specs.HostLines.{HasWords, message_in, written_line, message_line}
+use Rattle.line_text.specs.LineParts.{listed_line}
 
 -- the lines of the nodes from a first one on
 abbrev pub node_texts : Medl → ℕ → ℕ → List NodeLine → Lines

@@ -2,14 +2,12 @@
 ghost use Rattle.std.specs.Prelude.{◌≡◌, ◌≤◌, [], ◌∷◌, length, map, All, OnOk, OnErr};
 ghost use Rattle.ttp_base.specs.Outside.{WroteLines, CutShort};
 ghost use Rattle.ttp_world.specs.Medl.{node_limit};
-ghost use Rattle.trace_text.specs.LineParts.{HasDigits};
+ghost use Rattle.line_text.specs.LineParts.{HasDigits};
 ghost use Rattle.trace_text.specs.ReportText.{node_texts, write_text, payload_size, read_text, host_lines};
 ghost use Rattle.trace_text.specs.ReportText.{report_lines, IsListed, HasMessage};
 
-use crate::host_line::RingMessage;
-use crate::node_line::NodeLines;
-use crate::put::{put_node_line, put_read_line, put_write_line};
 use host_port::{NodeLine, ReadLine, SlotReport, WriteLine};
+use line_text::{NodeLines, RingMessage, put_node_line, put_read_line, put_write_line};
 use ttp_base::{Failed, Line, Sink};
 use ttp_world::{Medl, Source};
 

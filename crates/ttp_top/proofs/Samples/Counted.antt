@@ -25,7 +25,7 @@ use Rattle.ttp_world.proofs.Lists.{nodes-most}
 use Rattle.ttp_world.proofs.Worlds.{length-world}
 use Rattle.host_port.specs.declared.report.NodeLine.{NodeLine}
 use Rattle.host_port.specs.declared.report.SlotReport.{SlotReport}
-use Rattle.trace_text.specs.LineParts.{HasDigits}
+use Rattle.line_text.specs.LineParts.{HasDigits}
 use Rattle.cluster_run.specs.NextSlots.{next_row}
 use Rattle.cluster_run.specs.Report.{numbers_in, node_shown, writes_shown, read_shown, ShowsSlot}
 use Rattle.cluster_run.specs.Standing.{ClusterView, ClusterStandsFor}

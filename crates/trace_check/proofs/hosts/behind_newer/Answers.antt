@@ -1,7 +1,7 @@
 use Rattle.std.proofs.Common.{◌≡◌, ◌∙◌, ◌+◌, ℕ, List, Some, ap, sym, subst, arith}
 use Rattle.ttp_world.specs.declared.script.Source.TheVariants as source
 use Rattle.ttp_world.specs.Messages.{delivered_of}
-use Rattle.trace_text.specs.Reading.{after_label}
+use Rattle.line_text.specs.Labels.{after_label}
 use Rattle.trace_check.specs.Following.{row_after}
 use Rattle.trace_check.specs.Incoming.{IsRing, newest_before}
 use Rattle.trace_check.proofs.Ended.{delivered-none, delivered-other, ended-delivered}

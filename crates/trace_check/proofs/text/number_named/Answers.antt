@@ -5,8 +5,8 @@ use Rattle.std.proofs.lemmas.Iterator.Splits.{YieldsList-from_slice_split}
 use Rattle.std.proofs.lemmas.List.{get_or_past}
 use Rattle.std.proofs.lemmas.Option.{get_or_from_slice_get}
 use Rattle.ttp_world.specs.TraceNumbers.{words_of}
-use Rattle.trace_text.specs.Reading.{numeral_in}
-use Rattle.trace_text.specs.TraceLines.{message_digits}
+use Rattle.line_text.specs.Numerals.{numeral_in}
+use Rattle.line_text.specs.Numerals.{message_digits}
 use Rattle.trace_check.proofs.Taken.{past_end}
 use Rattle.trace_check.proofs.text.number_named.Goals as goal
 

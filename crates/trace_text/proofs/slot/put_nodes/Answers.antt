@@ -2,7 +2,7 @@ use Rattle.std.proofs.Common.{◌≡◌, [], ◌∷◌, get_or, sym, ◌∙◌, 
 use Rattle.std.proofs.lemmas.List.{take_all}
 use Rattle.std.proofs.lemmas.Result.{err_from_is_err_and}
 use Rattle.ttp_base.specs.Outside.{WroteLines, CutShort}
-use Rattle.trace_text.specs.LineParts.{listed_line}
+use Rattle.line_text.specs.LineParts.{listed_line}
 use Rattle.trace_text.specs.ReportText.{node_texts}
 use Rattle.trace_text.proofs.ReportTexts.{CutShort-next, WroteLines-next, get_or-node_texts, length-node_texts}
 use Rattle.trace_text.proofs.slot.put_nodes.Goals as goal

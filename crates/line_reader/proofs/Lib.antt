@@ -1,0 +1,9 @@
+pub mod FieldLists
+pub mod HexDigits
+pub mod LineValues
+pub mod Options
+pub mod ReadLines
+pub mod ReadWords
+pub mod WordList
+pub mod WrittenLines
+pub mod WrittenWords

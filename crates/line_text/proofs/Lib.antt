@@ -1,0 +1,9 @@
+pub mod Cuts
+pub mod DecimalDigits
+pub mod FirstLines
+pub mod LabelTexts
+pub mod MemberDigits
+pub mod Options
+pub mod PayloadWords
+pub mod WordTexts
+pub mod WrittenNumbers

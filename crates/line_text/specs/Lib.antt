@@ -1,0 +1,4 @@
+pub mod HostLines
+pub mod Labels
+pub mod LineParts
+pub mod Numerals

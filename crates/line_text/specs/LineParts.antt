@@ -1,0 +1,74 @@
+-- The parts of the lines of a trace, and what a line asks of the state that it shows.
+use Rattle.std.specs.Prelude.{◌≡◌, ℕ, ℤ, ◌*◌, ◌<◌, ◌≤◌, List, ◌++◌, length, take, codes, decimal, Option, IfSome}
+use Rattle.std.specs.Fmt.{signed_decimal}
+use Rattle.ttp_base.specs.NodeSet.{set_bits}
+use Rattle.ttp_base.specs.Text.{hex, newline}
+use Rattle.ttp_world.specs.declared.medl.Medl.{Medl}
+use Rattle.ttp_world.specs.declared.node.Ack.{Ack}
+use Rattle.ttp_world.specs.declared.node.Entry.{Entry}
+use Rattle.ttp_world.specs.declared.node.NodeState.{NodeState}
+use Rattle.ttp_world.specs.Medl.{member_limit, member_bytes}
+use Rattle.ttp_world.specs.Trace.{ack_word, entry_word, verdict_word, peer_of, number_or_dash, member_digits, node_line}
+use Rattle.line_text.specs.declared.node_line.Judged.{Judged}
+
+-- a state's members can be written in the digits that a list gives them
+abbrev pub HasDigits : Medl → NodeState → Type 0
+HasDigits list state = set_bits state.members < member_limit list
+
+-- the line of a node in a list's digits
+abbrev pub listed_line : Medl → ℕ → ℕ → NodeState → Option ℕ → List ℕ
+listed_line list slot k state message = node_line (member_digits list) slot k state message
+
+-- The parts of a node's line.
+
+-- what the lines of a slot begin with
+abbrev pub head_text : ℕ → List ℕ
+head_text slot = codes "slot " ++ decimal slot ++ codes " node "
+
+abbrev pub entry_text : ℕ → Entry → List ℕ
+entry_text k entry = codes " " ++ entry_word entry ++ codes " peer " ++ number_or_dash (peer_of k entry)
+
+abbrev pub message_text : Option ℕ → List ℕ
+message_text message = codes " msg " ++ number_or_dash message
+
+abbrev pub members_text : Medl → List ℕ → List ℕ
+members_text list members = codes " mem " ++ hex (member_digits list) (set_bits members)
+
+-- between the node's number and its counts
+abbrev pub shown_text : Medl → ℕ → NodeState → Option ℕ → List ℕ
+shown_text list k state message =
+    entry_text k state.entry ++ message_text message ++ members_text list state.members ++ codes " acc "
+
+-- behind the accepted frames
+abbrev pub ack_text : ℕ → Ack → List ℕ
+ack_text rejected ack = codes " rej " ++ decimal rejected ++ codes " ack " ++ ack_word ack ++ codes " clock "
+
+abbrev pub end_text : ℕ → Ack → ℤ → List ℕ
+end_text rejected ack offset = ack_text rejected ack ++ signed_decimal offset ++ newline
+
+-- a line that is begun, with all that comes behind
+abbrev pub with_rest : List ℕ → Medl → ℕ → NodeState → Option ℕ → List ℕ
+with_rest begun list k state message =
+    begun ++ decimal k ++ codes " " ++ entry_word state.entry
+    ++ codes " peer " ++ number_or_dash (peer_of k state.entry)
+    ++ codes " msg " ++ number_or_dash message
+    ++ codes " mem " ++ hex (member_digits list) (set_bits state.members)
+    ++ codes " acc " ++ decimal state.accepted ++ codes " rej " ++ decimal state.rejected
+    ++ codes " ack " ++ ack_word state.ack ++ codes " clock " ++ signed_decimal state.offset ++ newline
+
+-- what is shown of a node that judged the slot so
+abbrev pub text_of : Judged → List ℕ
+text_of j =
+    codes " " ++ verdict_word j.verdict ++ codes " peer " ++ decimal j.sender ++ codes " msg "
+    ++ number_or_dash j.message ++ codes " mem " ++ hex (2 * member_bytes j.wide) j.bits ++ codes " acc "
+
+-- a text tells a judgement, if there is one
+pub record IsTold (judged : Option Judged) (text : List ℕ) : Type 0 where
+  pub tells : IfSome judged (λ j. text ≡ text_of j)
+  pub short : length text ≤ 115
+
+-- so much of a line is what the lines of a slot begin with
+pub record IsBegun (slot head : ℕ) (line : List ℕ) : Type 0 where
+  pub begins : take head line ≡ head_text slot
+  pub within : head ≤ length line
+  pub short : head ≤ 40

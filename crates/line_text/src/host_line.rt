@@ -1,0 +1,152 @@
+//! The lines of what hosts write and read in a slot.
+ghost use Rattle.std.specs.Prelude.{◌≡◌, ◌+◌, ◌*◌, ◌≤◌, ◌++◌, length};
+ghost use Rattle.std.specs.List.{flat_map};
+ghost use Rattle.ttp_base.specs.Text.{hex_bytes};
+ghost use Rattle.ttp_world.specs.declared.script.Source.TheVariants as source;
+ghost use Rattle.ttp_world.specs.Trace.{host_head, source_word, word_hex, message_hex};
+ghost use Rattle.line_text.specs.HostLines.{bytes_in, message_in, HasWords, written_line, message_line};
+
+use ttp_base::Line;
+use ttp_world::Source;
+
+/// A message as its ring gives it to the host that reads it.
+#[derive(Clone, Copy, Debug)]
+pub struct RingMessage<'a> {
+    pub source: Source,
+    /// Its number in the ring.
+    pub number: u64,
+    /// Its words: the four of a status, and else those of a payload, the first byte most significant
+    /// and zeros behind the last.
+    pub words: &'a [u64],
+    /// How many bytes a payload has. Of a status it says nothing.
+    pub size: u8,
+}
+
+#[tactic(auto, using(ttp_base::proofs::Room::room))]
+fn put_host(line: &mut Line, slot: u32, host: u8)
+    requires { length line.old + 60 ≤ 640 }
+    ensures text { line.new ≡ line.old ++ host_head slot host }
+    ensures short { length line.new ≤ length line.old + 60 }
+{
+    line.put_text("slot ");
+    line.put_number(u64::from(slot));
+    line.put_text(" host ");
+    line.put_number(u64::from(host));
+}
+
+#[tactic(auto, using(ttp_base::proofs::Room::room))]
+fn put_source(line: &mut Line, source: Source)
+    requires { length line.old + 20 ≤ 640 }
+    ensures text { line.new ≡ line.old ++ source_word source }
+    ensures short { length line.new ≤ length line.old + 20 }
+{
+    match source {
+        Source::Status => line.put_text("status"),
+        Source::Node(node) => line.put_number(u64::from(node)),
+    }
+}
+
+// Adds words, sixteen digits for each.
+#[tactic(auto, using(crate::proofs::WordTexts::lengths))]
+fn put_words(line: &mut Line, words: &[u64])
+    requires { length line.old + 16 * length words.now ≤ 640 }
+    ensures text { line.new ≡ line.old ++ flat_map word_hex words.now }
+    ensures short { length line.new ≤ length line.old + 16 * length words.now }
+{
+    for word in words {
+        line.put_hex(*word, 16);
+    }
+}
+
+// Adds the first bytes of words, two digits for each byte.
+#[tactic(auto, using(crate::proofs::WordTexts::lengths))]
+fn put_bytes(line: &mut Line, words: &[u64], size: u8)
+    requires { length line.old + 2 * size ≤ 640 }
+    ensures text { line.new ≡ line.old ++ hex_bytes (bytes_in size words.now) }
+    ensures short { length line.new ≤ length line.old + 2 * size }
+{
+    let mut left = size as usize;
+    for word in words {
+        let count = left.min(8);
+        line.put_hex_bytes(&word.to_be_bytes()[..count]);
+        left -= count;
+    }
+}
+
+fn put_message(line: &mut Line, message: &RingMessage)
+    requires room { length line.old + 500 ≤ 640 }
+    requires words { HasWords message.now.source message.now.size message.now.words.now }
+    ensures text { line.new ≡ line.old
+        ++ message_hex message.now.source (message_in message.now.source message.now.size message.now.words.now) }
+    ensures short { length line.new ≤ length line.old + 500 }
+{
+    match message.source {
+        Source::Status => put_words(line, message.words),
+        Source::Node(_) => put_bytes(line, message.words, message.size),
+    }
+}
+
+/// The line of a message that a host wrote.
+#[tactic(auto, using(ttp_base::proofs::Room::room))]
+pub(crate) fn make_write_line(slot: u32, host: u8, number: u64, line: &mut Line)
+    ensures { line.new ≡ written_line slot host number }
+{
+    line.clear();
+    put_host(line, slot, host);
+    line.put_text(" write ");
+    line.put_number(number);
+    line.put_text("\n");
+}
+
+/// The line of a message that a host read.
+#[tactic(auto, using(ttp_base::proofs::Room::room))]
+pub(crate) fn make_read_line(slot: u32, host: u8, message: &RingMessage, line: &mut Line)
+    requires { HasWords message.now.source message.now.size message.now.words.now }
+    ensures { line.new ≡ message_line slot host message.now.source message.now.number
+        (message_in message.now.source message.now.size message.now.words.now) }
+{
+    line.clear();
+    put_host(line, slot, host);
+    line.put_text(" read ");
+    put_source(line, message.source);
+    line.put_text(" ");
+    line.put_number(message.number);
+    line.put_text(" ");
+    put_message(line, message);
+    line.put_text("\n");
+}
+
+// Adds the digits of a payload.
+#[tactic(auto, using(ttp_base::proofs::Room::room))]
+fn put_payload(line: &mut Line, payload: &[u8])
+    requires room { length line.old + 480 ≤ 640 }
+    requires size { length payload.now ≤ 240 }
+    ensures text { line.new ≡ line.old ++ hex_bytes payload.now }
+    ensures short { length line.new ≤ length line.old + 480 }
+{
+    line.put_hex_bytes(payload);
+}
+
+/// The line of a message of a node that a host read, by the message's bytes.
+#[tactic(auto, using(ttp_base::proofs::Room::room))]
+pub(crate) fn make_payload_line(
+    slot: u32,
+    host: u8,
+    from: u8,
+    number: u64,
+    payload: &[u8],
+    line: &mut Line,
+)
+    requires { length payload.now ≤ 240 }
+    ensures { line.new ≡ message_line slot host (source.Node from) number payload.now }
+{
+    line.clear();
+    put_host(line, slot, host);
+    line.put_text(" read ");
+    put_source(line, Source::Node(from));
+    line.put_text(" ");
+    line.put_number(number);
+    line.put_text(" ");
+    put_payload(line, payload);
+    line.put_text("\n");
+}

@@ -1,0 +1,43 @@
+//! The lines of a trace, formed and looked for: its first line, the line of a node after a slot, the
+//! lines of what a host wrote and read in it, and at its end the line of the hypothesis test and the one
+//! on armed nodes. Beside them the words and digits that lines are made of.
+//!
+//! Each line is formed in a buffer of fixed size and written as one piece, so no call takes memory. The
+//! lines of nodes and hosts, which are many, are formed in a buffer of the caller's, one for all of them.
+//! What a line says is `trace_head`, `node_line`, `keep_line` and `back_line` of `ttp_world`, and
+//! `written_line` and `message_line` of this crate, which are those of the definition of a trace; which
+//! state and which message a line shows, and which answer the last lines do, is the caller's.
+//!
+//! [`behind_node_line`] and its like look for a line at the front of a text instead, and say what follows it
+//! there. [`after_label`] does so for any bytes, [`cut_line`] cuts a text behind its first line, and
+//! [`numeral_in`] reads a number.
+//!
+//! The crate knows no report and no ring, runs nothing, and reads no line as a value.
+#![tactic(auto)]
+
+mod back_line;
+mod behind;
+mod cut;
+mod head_line;
+mod host_line;
+mod keep_line;
+mod labels;
+pub mod laws;
+mod node_line;
+mod numerals;
+mod put;
+mod words;
+
+pub use behind::{
+    behind_back, behind_header, behind_keep, behind_node_line, behind_payload_line,
+    behind_status_line, behind_write_line,
+};
+pub use cut::cut_line;
+pub use host_line::RingMessage;
+pub use labels::after_label;
+pub use node_line::NodeLines;
+pub use numerals::{message_in, numeral_in};
+pub use put::{put_back, put_header, put_keep, put_node_line, put_read_line, put_write_line};
+
+#[cfg(test)]
+mod tests;

@@ -1,9 +1,0 @@
-use Rattle.std.proofs.Common.{sym, ap, ◌∙◌}
-use Rattle.trace_text.specs.Reading.{line_in}
-use Rattle.trace_text.proofs.Options.{some_same}
-use Rattle.trace_text.proofs.WrittenLines.{line-again}
-use Rattle.trace_text.proofs.laws.one_value.Goals as goal
-
-pub returns : goal.returns
-returns c = λ v w one other same.
-    some_same v w (sym (line-again v one) ∙ ap line_in same ∙ line-again w other)
