@@ -1,0 +1,10 @@
+mod Parts
+mod Digits
+pub mod FaultLines
+pub mod Fronts
+pub mod Right
+pub mod Plans
+pub mod Lines
+pub mod Loads
+pub mod Promises
+pub mod Both
