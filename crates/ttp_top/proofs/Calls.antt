@@ -1,7 +1,4 @@
-pub mod Plans
 pub mod Precision
 pub mod Differences
-pub mod Lines
-pub mod Kept
+pub mod Forms
 pub mod Promises
-pub mod Both

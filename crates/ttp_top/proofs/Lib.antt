@@ -1,5 +1,3 @@
-mod Parts
-pub mod Files
 pub mod Calls
 pub mod Scripts
 pub mod Samples

@@ -2,9 +2,6 @@ pub mod Precision
 pub mod Differences
 pub mod Texts
 pub mod Answer
-pub mod Plan
-pub mod Outcome
-pub mod Files
 pub mod Words
 pub mod Forms
 pub mod Promise

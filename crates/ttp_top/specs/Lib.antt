@@ -1,4 +1,3 @@
-pub mod Files
 pub mod Calls
 pub mod Scripts
 pub mod Samples

@@ -1,18 +1,19 @@
 //! A command, from its words to its status.
 ghost use Rattle.std.specs.Prelude.{◌≡◌, ◌≢◌, ◌==◌, ◌&&◌, ℕ, List, Some, None, is_some};
-ghost use Rattle.ttp_top.specs.Calls.Answer.{answer};
+ghost use Rattle.commands.specs.Outcome.{Follows};
+ghost use Rattle.commands.specs.Plan.{outside};
+ghost use Rattle.commands.specs.Texts.{answer};
+ghost use Rattle.commands.specs.Words.{texts_of};
+ghost use Rattle.ttp_top.specs.Calls.Answer.{ttpbench};
 ghost use Rattle.ttp_top.specs.Calls.Forms.{plan_of};
-ghost use Rattle.ttp_top.specs.Calls.Outcome.{Follows};
-ghost use Rattle.ttp_top.specs.Calls.Plan.{outside};
 ghost use Rattle.ttp_top.specs.Calls.Promise.{Promise};
-ghost use Rattle.ttp_top.specs.Calls.Words.{run, verify, sample, modes, runs_cluster, texts_of, form_of};
+ghost use Rattle.ttp_top.specs.Calls.Words.{run, verify, sample, modes, runs_cluster, form_of};
 ghost use Rattle.ttp_top.specs.Calls.Words.{form_asked, HasSlots};
 ghost use Rattle.ttp_top.specs.Samples.Promise.{SamplePromise};
 ghost use Rattle.ttp_top.specs.Scripts.Promise.{RunPromise};
 ghost use Rattle.ttp_top.specs.Traces.Promise.{VerifyPromise, ModesPromise};
 
 use crate::faced::precision;
-use crate::lines::say;
 use crate::modes::modes;
 use crate::run::{keeps, run};
 use crate::sample::sample;
@@ -20,6 +21,7 @@ use crate::schedule::schedule;
 use crate::verify::verify;
 use crate::words::{Command, command_of};
 use cluster_run::Cluster;
+use commands::say;
 use std::alloc::Global;
 use std::sync::Wait;
 use std::thread::Threads;
@@ -40,7 +42,7 @@ fn obey<R: Threads + Wait + Sync, L: Library, K: Sink, G: Gate>(
 ) -> u8
     requires slots { HasSlots command }
     requires none { kept.old ≡ None }
-    ensures follows { Follows (plan_of (form_asked command.entry)) (outside (L.files library.old) (K.output out.old))
+    ensures follows { Follows ttpbench (plan_of (form_asked command.entry)) (outside (L.files library.old) (K.output out.old))
         (outside (L.files library.new) (K.output out.new)) (answer result kept.new) }
     ensures no_form { form_asked command.entry ≡ None → result ≢ 7 }
 {

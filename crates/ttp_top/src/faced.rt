@@ -3,15 +3,15 @@ ghost use Rattle.std.specs.Prelude.{◌≡◌, ◌+◌, ◌≤◌, ◌++◌, Som
 ghost use Rattle.std.specs.Fmt.{signed_decimal};
 ghost use Rattle.ttp_world.specs.Medl.{IsValid};
 ghost use Rattle.ttp_world.specs.Script.{IsValidScript};
-ghost use Rattle.ttp_top.specs.Calls.Answer.{alone};
+ghost use Rattle.commands.specs.Outcome.{Follows, Shows};
+ghost use Rattle.commands.specs.Plan.{outside};
+ghost use Rattle.commands.specs.Texts.{alone};
+ghost use Rattle.ttp_top.specs.Calls.Answer.{ttpbench};
 ghost use Rattle.ttp_top.specs.Calls.Forms.{precision_ending, plan_of};
-ghost use Rattle.ttp_top.specs.Calls.Outcome.{Shows, Follows};
-ghost use Rattle.ttp_top.specs.Calls.Plan.{outside};
 ghost use Rattle.ttp_top.specs.Calls.Precision.{faced_line, broken_line};
 ghost use Rattle.ttp_top.specs.Calls.Words.{precision};
 
-use crate::lines::say;
-use crate::load::load_both;
+use commands::{load_both, say};
 use std::alloc::Global;
 use ttp_base::{Library, Line, Sink};
 use ttp_world::{Medl, Script};
@@ -69,7 +69,7 @@ fn broken_line(rule: u8, slot: u32) -> Line
 fn show_precision<K: Sink>(alloc: Global, list: &Medl, script: &Script, node: u8, out: &mut K) -> u8
     requires valid { IsValid list.now }
     requires script { IsValidScript list.now script.now }
-    ensures { Shows (precision_ending node list.now script.now) (K.output out.old) (K.output out.new) (alone result) }
+    ensures { Shows ttpbench (precision_ending node list.now script.now) (K.output out.old) (K.output out.new) (alone result) }
 {
     match find_faced(list, script, node) {
         Faced::Yes { start } => match find_seen(alloc, list, script, node) {
@@ -90,7 +90,7 @@ pub(crate) fn precision<L: Library, K: Sink>(
     library: &mut L,
     out: &mut K,
 ) -> u8
-    ensures { Follows (plan_of (Some (precision list.now script.now node)))
+    ensures { Follows ttpbench (plan_of (Some (precision list.now script.now node)))
         (outside (L.files library.old) (K.output out.old)) (outside (L.files library.new) (K.output out.new))
         (alone result) }
 {

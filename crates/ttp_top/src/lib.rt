@@ -11,10 +11,7 @@
 mod call;
 mod faced;
 pub mod laws;
-mod lines;
-mod load;
 mod modes;
-mod read;
 mod run;
 mod sample;
 mod schedule;
@@ -24,7 +21,3 @@ mod verify;
 mod words;
 
 pub use call::bench;
-pub use read::FileFault;
-
-#[cfg(test)]
-mod tests;

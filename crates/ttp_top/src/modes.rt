@@ -3,15 +3,15 @@ ghost use Rattle.std.specs.Prelude.{◌≡◌, Some, IsTrue};
 ghost use Rattle.ttp_world.specs.Medl.{IsValid};
 ghost use Rattle.ttp_world.specs.Script.{IsValidScript};
 ghost use Rattle.trace_check.specs.Answer.{is_trace};
-ghost use Rattle.ttp_top.specs.Calls.Answer.{alone};
+ghost use Rattle.commands.specs.Outcome.{Follows, Shows};
+ghost use Rattle.commands.specs.Plan.{outside};
+ghost use Rattle.commands.specs.Texts.{alone};
+ghost use Rattle.ttp_top.specs.Calls.Answer.{ttpbench};
 ghost use Rattle.ttp_top.specs.Calls.Forms.{modes_ending, plan_of};
-ghost use Rattle.ttp_top.specs.Calls.Outcome.{Shows, Follows};
-ghost use Rattle.ttp_top.specs.Calls.Plan.{outside};
 ghost use Rattle.ttp_top.specs.Calls.Words.{modes};
 
-use crate::lines::say;
-use crate::load::{load_both, load_trace};
 use crate::verify::differs_line;
+use commands::{load_both, load_trace, say};
 use mode_change::{ModeFault, put_modes};
 use std::alloc::Global;
 use trace_check::{Outcome, verify as outcome_of};
@@ -23,7 +23,7 @@ fn show_text<K: Sink>(alloc: Global, list: &Medl, script: &Script, text: &[u8], 
     requires valid { IsValid list.now }
     requires script { IsValidScript list.now script.now }
     requires trace { IsTrue (is_trace list.now script.now text.now) }
-    ensures { Shows (modes_ending list.now script.now text.now) (K.output out.old) (K.output out.new) (alone result) }
+    ensures { Shows ttpbench (modes_ending list.now script.now text.now) (K.output out.old) (K.output out.new) (alone result) }
 {
     match put_modes(alloc, list, script, text, out) {
         Ok(()) => 0,
@@ -36,7 +36,7 @@ fn show_text<K: Sink>(alloc: Global, list: &Medl, script: &Script, text: &[u8], 
 fn show_modes<K: Sink>(alloc: Global, list: &Medl, script: &Script, text: &[u8], out: &mut K) -> u8
     requires valid { IsValid list.now }
     requires script { IsValidScript list.now script.now }
-    ensures { Shows (modes_ending list.now script.now text.now) (K.output out.old) (K.output out.new) (alone result) }
+    ensures { Shows ttpbench (modes_ending list.now script.now text.now) (K.output out.old) (K.output out.new) (alone result) }
 {
     match outcome_of(alloc, list, script, text) {
         Ok(Outcome::Same) => show_text(alloc, list, script, text, out),
@@ -55,7 +55,7 @@ pub(crate) fn modes<L: Library, K: Sink>(
     library: &mut L,
     out: &mut K,
 ) -> u8
-    ensures { Follows (plan_of (Some (modes list.now script.now trace.now)))
+    ensures { Follows ttpbench (plan_of (Some (modes list.now script.now trace.now)))
         (outside (L.files library.old) (K.output out.old)) (outside (L.files library.new) (K.output out.new))
         (alone result) }
 {

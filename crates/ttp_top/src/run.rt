@@ -3,16 +3,16 @@ ghost use Rattle.std.specs.Prelude.{◌≡◌, Some, None};
 ghost use Rattle.ttp_world.specs.Medl.{IsValid};
 ghost use Rattle.ttp_world.specs.Script.{IsValidScript};
 ghost use Rattle.ttp_world.specs.Trace.{back_lines};
-ghost use Rattle.ttp_top.specs.Calls.Answer.{alone, answer};
+ghost use Rattle.commands.specs.Outcome.{Follows, Says, Shows};
+ghost use Rattle.commands.specs.Plan.{outside, whole_ending};
+ghost use Rattle.commands.specs.Texts.{alone, answer, one};
+ghost use Rattle.ttp_top.specs.Calls.Answer.{ttpbench};
 ghost use Rattle.ttp_top.specs.Calls.Forms.{trace_ending, keep_ending, plan_of};
-ghost use Rattle.ttp_top.specs.Calls.Outcome.{Says, Shows, Follows};
-ghost use Rattle.ttp_top.specs.Calls.Plan.{outside, whole_ending};
-ghost use Rattle.ttp_top.specs.Calls.Texts.{one};
 ghost use Rattle.ttp_top.specs.Calls.Words.{run, keeps};
 
-use crate::load::load_both;
 use crate::trace::{RunFault, put_run};
 use cluster_run::Cluster;
+use commands::load_both;
 use hypothesis::{has_arm, keeps as keeps_of, returns};
 use std::alloc::Global;
 use std::sync::Wait;
@@ -25,7 +25,7 @@ use ttp_world::{Medl, Script};
 fn show_back<K: Sink>(list: &Medl, script: &Script, out: &mut K) -> u8
     requires valid { IsValid list.now }
     requires script { IsValidScript list.now script.now }
-    ensures { Says (whole_ending 0 (one (back_lines list.now script.now))) (K.output out.old) (K.output out.new)
+    ensures { Says ttpbench (whole_ending 0 (one (back_lines list.now script.now))) (K.output out.old) (K.output out.new)
         (alone result) }
 {
     if !has_arm(script) {
@@ -41,7 +41,7 @@ fn show_back<K: Sink>(list: &Medl, script: &Script, out: &mut K) -> u8
 fn show_keep<K: Sink>(list: &Medl, script: &Script, out: &mut K) -> u8
     requires valid { IsValid list.now }
     requires script { IsValidScript list.now script.now }
-    ensures { Says (keep_ending list.now script.now) (K.output out.old) (K.output out.new) (alone result) }
+    ensures { Says ttpbench (keep_ending list.now script.now) (K.output out.old) (K.output out.new) (alone result) }
 {
     match put_keep(&keeps_of(list, script), out) {
         Ok(()) => show_back(list, script, out),
@@ -63,7 +63,7 @@ fn show_trace<R: Threads + Wait + Sync, K: Sink, G: Gate>(
     requires valid { IsValid list }
     requires script { IsValidScript list script }
     requires none { kept.old ≡ None }
-    ensures { Shows (trace_ending list script) (K.output out.old) (K.output out.new) (answer result kept.new) }
+    ensures { Shows ttpbench (trace_ending list script) (K.output out.old) (K.output out.new) (answer result kept.new) }
 {
     let Ok(mut cluster) = Cluster::make(alloc, list, script) else {
         return 7;
@@ -94,7 +94,7 @@ pub(crate) fn run<R: Threads + Wait + Sync, L: Library, K: Sink, G: Gate>(
     kept: &mut Option<Cluster>,
 ) -> u8
     requires { kept.old ≡ None }
-    ensures { Follows (plan_of (Some (run list.now script.now))) (outside (L.files library.old) (K.output out.old))
+    ensures { Follows ttpbench (plan_of (Some (run list.now script.now))) (outside (L.files library.old) (K.output out.old))
         (outside (L.files library.new) (K.output out.new)) (answer result kept.new) }
 {
     match load_both(alloc, list, script, library, out) {
@@ -111,7 +111,7 @@ pub(crate) fn keeps<L: Library, K: Sink>(
     library: &mut L,
     out: &mut K,
 ) -> u8
-    ensures { Follows (plan_of (Some (keeps list.now script.now))) (outside (L.files library.old) (K.output out.old))
+    ensures { Follows ttpbench (plan_of (Some (keeps list.now script.now))) (outside (L.files library.old) (K.output out.old))
         (outside (L.files library.new) (K.output out.new)) (alone result) }
 {
     match load_both(alloc, list, script, library, out) {

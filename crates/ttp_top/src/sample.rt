@@ -4,17 +4,18 @@ ghost use Rattle.ttp_base.specs.Outside.{WroteLines, CutShort};
 ghost use Rattle.ttp_world.specs.declared.script.TheConstants.{SLOT_LIMIT};
 ghost use Rattle.ttp_world.specs.Medl.{IsValid};
 ghost use Rattle.ttp_world.specs.Script.{IsValidScript};
-ghost use Rattle.ttp_top.specs.Calls.Answer.{answer};
+ghost use Rattle.commands.specs.Outcome.{Follows, Shows};
+ghost use Rattle.commands.specs.Plan.{outside};
+ghost use Rattle.commands.specs.Texts.{answer};
+ghost use Rattle.ttp_top.specs.Calls.Answer.{ttpbench};
 ghost use Rattle.ttp_top.specs.Calls.Forms.{sample_ending, plan_of};
-ghost use Rattle.ttp_top.specs.Calls.Outcome.{Shows, Follows};
-ghost use Rattle.ttp_top.specs.Calls.Plan.{outside};
 ghost use Rattle.ttp_top.specs.Calls.Words.{sample};
 ghost use Rattle.ttp_top.specs.Samples.Counted.{HasFewMembers};
 ghost use Rattle.ttp_top.specs.Samples.Lines.{asked_line, sent_line, hosts_line, summary_lines};
 
-use crate::load::load_list;
 use crate::totals::{Totals, count_run};
 use cluster_run::Cluster;
+use commands::load_list;
 use hypothesis::keeps;
 use script_gen::generate;
 use std::alloc::Global;
@@ -132,7 +133,7 @@ fn show_sample<R: Threads + Wait + Sync, K: Sink, G: Gate>(
     requires valid { IsValid list }
     requires slots { (1 ≤ slots) × (slots ≤ SLOT_LIMIT) }
     requires none { kept.old ≡ None }
-    ensures { Shows (sample_ending slots number list) (K.output out.old) (K.output out.new) (answer result kept.new) }
+    ensures { Shows ttpbench (sample_ending slots number list) (K.output out.old) (K.output out.new) (answer result kept.new) }
 {
     let Ok(script) = generate(alloc, &list, slots, number) else {
         return 7;
@@ -167,7 +168,7 @@ pub(crate) fn sample<R: Threads + Wait + Sync, L: Library, K: Sink, G: Gate>(
 ) -> u8
     requires slots { (1 ≤ slots) × (slots ≤ SLOT_LIMIT) }
     requires none { kept.old ≡ None }
-    ensures { Follows (plan_of (Some (sample list.now slots number)))
+    ensures { Follows ttpbench (plan_of (Some (sample list.now slots number)))
         (outside (L.files library.old) (K.output out.old)) (outside (L.files library.new) (K.output out.new))
         (answer result kept.new) }
 {

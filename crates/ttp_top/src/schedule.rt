@@ -1,13 +1,14 @@
 //! The command `schedule MEDL`.
 ghost use Rattle.std.specs.Prelude.{Some};
 ghost use Rattle.ttp_world.specs.Medl.{IsValid};
-ghost use Rattle.ttp_top.specs.Calls.Answer.{alone};
+ghost use Rattle.commands.specs.Outcome.{Follows, Says};
+ghost use Rattle.commands.specs.Plan.{outside};
+ghost use Rattle.commands.specs.Texts.{alone};
+ghost use Rattle.ttp_top.specs.Calls.Answer.{ttpbench};
 ghost use Rattle.ttp_top.specs.Calls.Forms.{table_ending, plan_of};
-ghost use Rattle.ttp_top.specs.Calls.Outcome.{Says, Follows};
-ghost use Rattle.ttp_top.specs.Calls.Plan.{outside};
 ghost use Rattle.ttp_top.specs.Calls.Words.{schedule};
 
-use crate::load::load_list;
+use commands::load_list;
 use medl_text::put_schedule;
 use std::alloc::Global;
 use ttp_base::{Library, Sink};
@@ -16,7 +17,7 @@ use ttp_world::Medl;
 // The slot table of a list.
 fn show_table<K: Sink>(list: &Medl, out: &mut K) -> u8
     requires { IsValid list.now }
-    ensures { Says (table_ending list.now) (K.output out.old) (K.output out.new) (alone result) }
+    ensures { Says ttpbench (table_ending list.now) (K.output out.old) (K.output out.new) (alone result) }
 {
     match put_schedule(list, out) {
         Ok(()) => 0,
@@ -31,7 +32,7 @@ pub(crate) fn schedule<L: Library, K: Sink>(
     library: &mut L,
     out: &mut K,
 ) -> u8
-    ensures { Follows (plan_of (Some (schedule list.now))) (outside (L.files library.old) (K.output out.old))
+    ensures { Follows ttpbench (plan_of (Some (schedule list.now))) (outside (L.files library.old) (K.output out.old))
         (outside (L.files library.new) (K.output out.new)) (alone result) }
 {
     match load_list(alloc, list, library, out) {

@@ -2,15 +2,15 @@
 ghost use Rattle.std.specs.Prelude.{◌≡◌, Some};
 ghost use Rattle.ttp_world.specs.Medl.{IsValid};
 ghost use Rattle.ttp_world.specs.Script.{IsValidScript};
-ghost use Rattle.ttp_top.specs.Calls.Answer.{alone};
+ghost use Rattle.commands.specs.Outcome.{Follows, Shows};
+ghost use Rattle.commands.specs.Plan.{outside};
+ghost use Rattle.commands.specs.Texts.{alone};
+ghost use Rattle.ttp_top.specs.Calls.Answer.{ttpbench};
 ghost use Rattle.ttp_top.specs.Calls.Differences.{differs_line};
 ghost use Rattle.ttp_top.specs.Calls.Forms.{verify_ending, plan_of};
-ghost use Rattle.ttp_top.specs.Calls.Outcome.{Shows, Follows};
-ghost use Rattle.ttp_top.specs.Calls.Plan.{outside};
 ghost use Rattle.ttp_top.specs.Calls.Words.{verify};
 
-use crate::lines::say;
-use crate::load::{load_both, load_trace};
+use commands::{load_both, load_trace, say};
 use std::alloc::Global;
 use trace_check::{Outcome, verify as outcome_of};
 use ttp_base::{Library, Line, Sink};
@@ -38,7 +38,7 @@ fn show_outcome<K: Sink>(
 ) -> u8
     requires valid { IsValid list.now }
     requires script { IsValidScript list.now script.now }
-    ensures { Shows (verify_ending list.now script.now text.now) (K.output out.old) (K.output out.new) (alone result) }
+    ensures { Shows ttpbench (verify_ending list.now script.now text.now) (K.output out.old) (K.output out.new) (alone result) }
 {
     match outcome_of(alloc, list, script, text) {
         Ok(Outcome::Same) => say(out, b"same\n", 0),
@@ -57,7 +57,7 @@ pub(crate) fn verify<L: Library, K: Sink>(
     library: &mut L,
     out: &mut K,
 ) -> u8
-    ensures { Follows (plan_of (Some (verify list.now script.now trace.now)))
+    ensures { Follows ttpbench (plan_of (Some (verify list.now script.now trace.now)))
         (outside (L.files library.old) (K.output out.old)) (outside (L.files library.new) (K.output out.new))
         (alone result) }
 {

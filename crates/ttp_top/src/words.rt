@@ -1,9 +1,10 @@
 //! The forms of a call's words.
-ghost use Rattle.std.specs.Prelude.{◌≡◌, ◌-◌, ◌^◌, ◌<◌, ◌≤◌, [], ◌∷◌, IfSome, SomeIff, IsTrue};
-ghost use Rattle.ttp_world.specs.TraceNumbers.{is_digit};
-ghost use Rattle.ttp_top.specs.Calls.Words.{node_named, numeral_named, slots_named, draw_named, sample_of, texts_of};
+ghost use Rattle.std.specs.Prelude.{◌≡◌, ◌≤◌, [], ◌∷◌, IfSome};
+ghost use Rattle.commands.specs.Words.{texts_of};
+ghost use Rattle.ttp_top.specs.Calls.Words.{node_named, slots_named, draw_named, sample_of};
 ghost use Rattle.ttp_top.specs.Calls.Words.{form_of, form_asked, HasSlots};
 
+use commands::numeral_named;
 use ttp_world::SLOT_LIMIT;
 
 /// What a call is asked for.
@@ -57,57 +58,27 @@ pub(crate) enum Command<'a> {
 // The most nodes of a list.
 const MOST_NODES: u8 = 24;
 
-// The number that a decimal digit is.
-fn digit_in(byte: u8) -> Option<u8>
-    ensures value { SomeIff result (IsTrue (is_digit byte)) (byte - 48) }
-    ensures small { IfSome result (λ digit. digit < 10) }
+// The node that a word names.
+fn node_named(word: &[u8]) -> Option<u8>
+    ensures { result ≡ node_named word.now }
 {
-    if byte.is_ascii_digit() {
-        Some(byte - b'0')
+    let node = numeral_named(word, 2)?;
+    if node < u128::from(MOST_NODES) {
+        Some(node as u8)
     } else {
         None
     }
 }
 
-// The node that a word names.
-fn node_named(word: &[u8]) -> Option<u8>
-    ensures { result ≡ node_named word.now }
-{
-    let node = match word {
-        [ones] => digit_in(*ones)?,
-        [tens, ones] => 10 * digit_in(*tens)? + digit_in(*ones)?,
-        _ => return None,
-    };
-    if node < MOST_NODES { Some(node) } else { None }
-}
-
 // The most digits of a number of slots, and of a number to draw by.
 const NUMBER_DIGITS: usize = 20;
-
-// The number that a word of digits is.
-fn numeral_named(word: &[u8]) -> Option<u128>
-    ensures value { result ≡ numeral_named word.now }
-    ensures small { IfSome result (λ number. number < 10 ^ 20) }
-{
-    if word.is_empty() || NUMBER_DIGITS < word.len() {
-        return None;
-    }
-    let mut number: u128 = 0;
-    for byte in word {
-        if !byte.is_ascii_digit() {
-            return None;
-        }
-        number = number * 10 + u128::from(*byte - b'0');
-    }
-    Some(number)
-}
 
 // The number of slots that a word names.
 fn slots_named(word: &[u8]) -> Option<u32>
     ensures value { result ≡ slots_named word.now }
     ensures within { IfSome result (λ slots. (1 ≤ slots) × (slots ≤ SLOT_LIMIT)) }
 {
-    let slots = numeral_named(word)?;
+    let slots = numeral_named(word, NUMBER_DIGITS)?;
     if 1 <= slots && slots <= u128::from(SLOT_LIMIT) {
         Some(slots as u32)
     } else {
@@ -119,7 +90,7 @@ fn slots_named(word: &[u8]) -> Option<u32>
 fn draw_named(word: &[u8]) -> Option<u64>
     ensures { result ≡ draw_named word.now }
 {
-    let number = numeral_named(word)?;
+    let number = numeral_named(word, NUMBER_DIGITS)?;
     if number <= u128::from(u64::MAX) {
         Some(number as u64)
     } else {

@@ -1,5 +1,5 @@
 -- The lines on whether a text is a trace.
-use Rattle.std.proofs.Common.{◌≡◌, ℕ, Bool, true, false, List, [], ◌∷◌, ◌++◌, refl, ap, sym, subst, ◌∙◌, inl, inr, arith}
+use Rattle.std.proofs.Common.{◌≡◌, ℕ, Bool, true, false, List, ◌++◌, refl, sym, subst, inl, inr, arith}
 use Rattle.std.specs.Prelude.{◌==◌, ◌↔◌, codes, decimal, if◌then◌else◌}
 use Rattle.std.proofs.lemmas.List.Folds.{list_any-append}
 use Rattle.ttp_base.specs.Outside.{Output}
@@ -10,11 +10,13 @@ use Rattle.ttp_world.specs.declared.medl.Medl.{Medl}
 use Rattle.ttp_world.specs.declared.script.Script.{Script}
 use Rattle.trace_check.specs.declared.answer.Outcome.TheVariants as outcome
 use Rattle.trace_check.specs.Answer.{is_trace, IsFirstWrong}
-use Rattle.ttp_top.specs.Calls.Answer.{Answer}
+use Rattle.commands.specs.Lines.{AreLines}
+use Rattle.commands.specs.Outcome.{Says}
+use Rattle.commands.specs.Plan.{line_ending, whole_ending}
+use Rattle.commands.specs.Texts.{those}
+use Rattle.ttp_top.specs.Calls.Answer.{Answer, Ending, ttpbench}
 use Rattle.ttp_top.specs.Calls.Differences.{differs_line, IsDifference}
-use Rattle.ttp_top.specs.Calls.Outcome.{Says}
-use Rattle.ttp_top.specs.Calls.Plan.{Ending, line_ending, whole_ending}
-use Rattle.ttp_top.specs.Calls.Texts.{differences, AreLines}
+use Rattle.ttp_top.specs.Calls.Texts.{differences}
 
 -- Each is one line.
 
@@ -33,7 +35,7 @@ differences-each list script text lines is = subst AreLines (sym is.said) (diffe
 
 -- this ending where a text is a trace, and else the line that differs
 abbrev pub ending_if : Ending → Medl → Script → List ℕ → Bool → Ending
-ending_if ending list script text same = if same then ending else whole_ending 1 (differences list script text)
+ending_if ending list script text same = if same then ending else whole_ending 1 (those (differences list script text))
 
 -- where a line is named the text is no trace
 pub differs-none : (list : Medl) (script : Script) (text : List ℕ) (line : ℕ)
@@ -46,13 +48,13 @@ differs-none list script text line same = by_case (is_trace list script text) sa
 
 pub differs-said : (ending : Ending) (list : Medl) (script : Script) (text : List ℕ) (line : ℕ) (before now : Output)
     (answer : Answer) → is_trace list script text ≡ false → IsFirstWrong list script text line
-    → Says (line_ending 1 (differs_line line)) before now answer
-    → Says (ending_if ending list script text (is_trace list script text)) before now answer
+    → Says ttpbench (line_ending 1 (differs_line line)) before now answer
+    → Says ttpbench (ending_if ending list script text (is_trace list script text)) before now answer
 differs-said ending list script text line before now answer none first said =
-    subst (λ same. Says (ending_if ending list script text same) before now answer) (sym none) (told said)
+    subst (λ same. Says ttpbench (ending_if ending list script text same) before now answer) (sym none) (told said)
   where
-    told : Says (line_ending 1 (differs_line line)) before now answer
-        → Says (whole_ending 1 (differences list script text)) before now answer
+    told : Says ttpbench (line_ending 1 (differs_line line)) before now answer
+        → Says ttpbench (whole_ending 1 (those (differences list script text))) before now answer
     told (inl showed) =
         inl (record {
           status = showed.status;

@@ -18,12 +18,13 @@ use Rattle.two_faced.specs.declared.faced.Faced.TheVariants as faced
 use Rattle.two_faced.specs.declared.seen.Seen.{Seen}
 use Rattle.two_faced.specs.Faced.{bound, faced_of}
 use Rattle.two_faced.specs.Seen.{seen_of}
-use Rattle.ttp_top.specs.Calls.Answer.{Answer}
+use Rattle.commands.specs.Lines.{AreLines}
+use Rattle.commands.specs.Outcome.{Says}
+use Rattle.commands.specs.Plan.{line_ending}
+use Rattle.ttp_top.specs.Calls.Answer.{Answer, ttpbench}
 use Rattle.ttp_top.specs.Calls.Forms.{precision_ending}
-use Rattle.ttp_top.specs.Calls.Outcome.{Says}
-use Rattle.ttp_top.specs.Calls.Plan.{line_ending}
 use Rattle.ttp_top.specs.Calls.Precision.{faced_line, broken_line, answer_line, precision_line}
-use Rattle.ttp_top.specs.Calls.Texts.{IsPrecision, AreLines}
+use Rattle.ttp_top.specs.Calls.Texts.{IsPrecision}
 
 -- It is one line.
 
@@ -84,7 +85,7 @@ broken_line-is list script node rule slot numbers answers =
 pub precision-said : (list : Medl) (script : Script) (node : ℕ) (line : List ℕ) (before now : Output)
     (answer : Answer)
     → ((numbers : Numbers) → IsLegalRun list script numbers → line ≡ precision_line list script node numbers)
-    → Says (line_ending 0 line) before now answer → Says (precision_ending node list script) before now answer
+    → Says ttpbench (line_ending 0 line) before now answer → Says ttpbench (precision_ending node list script) before now answer
 precision-said list script node line before now answer is (inl showed) =
     inl (record {
       status = showed.status;

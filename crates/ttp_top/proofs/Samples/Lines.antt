@@ -14,8 +14,9 @@ use Rattle.ttp_world.specs.World.{world}
 use Rattle.ttp_world.proofs.LegalRuns.{legal-none, legal-whole}
 use Rattle.ttp_world.proofs.TraceLines.{keep_line-IsLine}
 use Rattle.script_gen.specs.Generator.{generated}
+use Rattle.commands.specs.Lines.{AreLines}
 use Rattle.ttp_top.specs.declared.totals.Totals.{Totals}
-use Rattle.ttp_top.specs.Calls.Texts.{IsSample, AreLines}
+use Rattle.ttp_top.specs.Calls.Texts.{IsSample}
 use Rattle.ttp_top.specs.Samples.Lines.{asked_line, sent_line, hosts_line, summary_lines}
 use Rattle.ttp_top.specs.Samples.Totals.{totals_of}
 

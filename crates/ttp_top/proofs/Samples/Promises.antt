@@ -4,20 +4,21 @@ use Rattle.std.proofs.Common.{inl, inr, arith}
 use Rattle.ttp_base.specs.Outside.{Held, Load, Gives, HasRisen, Output, Wrote}
 use Rattle.ttp_world.specs.declared.medl.Medl.{Medl}
 use Rattle.medl_text.specs.ListFile.{medl_of}
-use Rattle.ttp_top.specs.declared.read.FileFault.{FileFault}
-use Rattle.ttp_top.specs.Calls.Answer.{Answer}
-use Rattle.ttp_top.specs.Calls.Files.{refused_list, after_list}
+use Rattle.commands.proofs.Fronts.{list_from-front}
+use Rattle.commands.proofs.Plans.{AllAsk, all_asked, same_end}
+use Rattle.commands.proofs.Right.{right_list, may_be, list_from-right}
+use Rattle.commands.specs.Files.{refused_list}
+use Rattle.commands.specs.Outcome.{Showed}
+use Rattle.commands.specs.Plan.{after, said_ending, Outside, ends, Comes, AsksFirst, told_ending}
+use Rattle.commands.specs.Promise.{NoneAskedRose}
+use Rattle.commands.specs.Read.{list_limit, list_from}
+use Rattle.commands.specs.Right.{MayBe}
+use Rattle.commands.specs.declared.read.FileFault.{FileFault}
+use Rattle.ttp_top.specs.Calls.Answer.{Answer, Ending, Plan, ttpbench}
 use Rattle.ttp_top.specs.Calls.Forms.{sample_ending, plan_of}
-use Rattle.ttp_top.specs.Calls.Outcome.{Showed}
-use Rattle.ttp_top.specs.Calls.Plan.{Outside, Ending, Plan, ends, Comes, AsksFirst, told_ending}
-use Rattle.ttp_top.specs.Calls.Promise.{NoneAskedRose, Promise}
+use Rattle.ttp_top.specs.Calls.Promise.{Promise}
 use Rattle.ttp_top.specs.Calls.Words.{sample}
-use Rattle.ttp_top.specs.Files.Read.{list_limit, list_from}
 use Rattle.ttp_top.specs.Samples.Promise.{WroteSampleOf, WroteSample, IsTold, SamplePromise}
-use Rattle.ttp_top.specs.Scripts.Promise.{MayBe}
-use Rattle.ttp_top.proofs.Calls.Plans.{AllAsk, all_asked}
-use Rattle.ttp_top.proofs.Files.Fronts.{list_from-front}
-use Rattle.ttp_top.proofs.Files.Right.{right_list, may_be, list_from-right}
 
 -- what an ending of status 0 comes from
 record Sampled (list : Held) (slots number : ℕ) (ending : Ending) : Type 0 where
@@ -32,12 +33,9 @@ record Sampled (list : Held) (slots number : ℕ) (ending : Ending) : Type 0 whe
 abbrev from_list : ℕ → ℕ → Medl → Plan
 from_list slots number medl = ends (sample_ending slots number medl)
 
-same_end : (one other : Ending) → ends one ≡ ends other → one ≡ other
-same_end one other same = cc
-
 list_sampled : (held : List ℕ → Held) (list bytes : List ℕ) (slots number : ℕ) (read : Result Medl FileFault)
     (loads : List Load) (ending : Ending) → list_from bytes ≡ read
-    → Comes held (after_list (from_list slots number) read) loads (ends ending) → ending.status ≡ 0
+    → Comes held (after refused_list (from_list slots number) read) loads (ends ending) → ending.status ≡ 0
     → Gives (held list) list_limit bytes → Sampled (held list) slots number ending
 list_sampled held list bytes slots number (Ok medl) [] ending is comes zero gives =
     let taken = right_list bytes medl is in
@@ -51,7 +49,7 @@ list_sampled held list bytes slots number (Ok medl) [] ending is comes zero give
     }
 list_sampled held list bytes slots number (Ok medl) (load ∷ loads) ending is comes zero gives = absurd comes
 list_sampled held list bytes slots number (Err fault) [] ending is comes zero gives =
-    absurd (omega (arith, zero, ap (λ (e : Ending). e.status) (same_end (refused_list fault) ending comes)))
+    absurd (omega (arith, zero, ap (λ (e : Ending). e.status) (same_end (said_ending (refused_list fault)) ending comes)))
 list_sampled held list bytes slots number (Err fault) (load ∷ loads) ending is comes zero gives = absurd comes
 
 sampled : (held : List ℕ → Held) (list : List ℕ) (slots number : ℕ) (loads : List Load) (ending : Ending)
@@ -62,7 +60,7 @@ sampled held list slots number (load ∷ loads) ending comes zero =
     list_sampled held list comes.1.0 slots number (list_from comes.1.0) loads ending refl comes.1.2 zero comes.1.1
 
 wrote_sample_of : (medl : Medl) (slots number : ℕ) (before now : Output) (answer : Answer)
-    → Showed (sample_ending slots number medl) before now answer
+    → Showed ttpbench (sample_ending slots number medl) before now answer
     → WroteSampleOf medl slots number before now answer.kept
 wrote_sample_of medl slots number before now answer showed = record {
   lines = showed.text.lines;
@@ -85,7 +83,7 @@ wrote_sample list slots number before now answer p zero =
       right = s.right;
       text =
           wrote_sample_of s.medl slots number before.output now.output answer
-          (subst (λ (e : Ending). Showed e before.output now.output answer) s.comes final.2);
+          (subst (λ (e : Ending). Showed ttpbench e before.output now.output answer) s.comes final.2);
     }
 
 -- A right list.
@@ -98,7 +96,7 @@ sample_told list slots number before now medl file =
     rw (file.list_file, list_from-front file.bytes, list_from-right file.bytes medl file.size file.right) refl
 
 asks_no_more : (Q : List ℕ → Type 0) (slots number : ℕ) (read : Result Medl FileFault)
-    → AllAsk Q (after_list (from_list slots number) read)
+    → AllAsk Q (after refused_list (from_list slots number) read)
 asks_no_more Q slots number (Ok medl) = tt
 asks_no_more Q slots number (Err fault) = tt
 
@@ -112,7 +110,7 @@ none_rose list slots number before now medl loads file asked =
 
 completed : (list : List ℕ) (slots number : ℕ) (before now : Outside) (answer : Answer) (medl : Medl)
     → Promise (Some (sample list slots number)) before now answer
-    → Showed (sample_ending slots number medl) before.output now.output answer ⊎ (answer.status ≡ 7)
+    → Showed ttpbench (sample_ending slots number medl) before.output now.output answer ⊎ (answer.status ≡ 7)
     → ((answer.status ≡ 0) × WroteSampleOf medl slots number before.output now.output answer.kept)
     ⊎ ((answer.status ≡ 7) × Wrote before.output now.output [])
 completed list slots number before now answer medl p (inl showed) =

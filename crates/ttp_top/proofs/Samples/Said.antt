@@ -10,10 +10,11 @@ use Rattle.ttp_world.specs.Script.{IsValidScript}
 use Rattle.ttp_world.specs.World.{world}
 use Rattle.script_gen.specs.Generator.{generated}
 use Rattle.cluster_run.specs.Standing.{ClusterView}
+use Rattle.commands.specs.Outcome.{Shows}
+use Rattle.commands.specs.Texts.{answer, alone}
 use Rattle.ttp_top.specs.declared.totals.Totals.{Totals}
-use Rattle.ttp_top.specs.Calls.Answer.{answer, alone, HasRunLegally}
+use Rattle.ttp_top.specs.Calls.Answer.{HasRunLegally, ttpbench}
 use Rattle.ttp_top.specs.Calls.Forms.{sample_ending}
-use Rattle.ttp_top.specs.Calls.Outcome.{Shows}
 use Rattle.ttp_top.specs.Calls.Texts.{IsSample}
 use Rattle.ttp_top.specs.Samples.Counted.{HasCounted}
 use Rattle.ttp_top.specs.Samples.Lines.{summary_lines}
@@ -66,7 +67,7 @@ summary-is list slots number c totals w = λ numbers legal.
 pub sample_said : (list : Medl) (slots number : ℕ) (before now : Output) (c : ClusterView) (totals : Totals)
     → HasCountedAll list (generated list slots number) c totals
     → WroteLines before now (summary list slots number totals)
-    → Shows (sample_ending slots number list) before now (answer 0 (Some c))
+    → Shows ttpbench (sample_ending slots number list) before now (answer 0 (Some c))
 sample_said list slots number before now c totals w wrote =
     inl (inl (record {
       status = refl;
@@ -82,7 +83,7 @@ sample_said list slots number before now c totals w wrote =
 pub sample_stopped : (list : Medl) (slots number : ℕ) (before now : Output) (c : ClusterView) (totals : Totals)
     → HasCountedAll list (generated list slots number) c totals
     → CutShort before now (summary list slots number totals)
-    → Shows (sample_ending slots number list) before now (alone 6)
+    → Shows ttpbench (sample_ending slots number list) before now (alone 6)
 sample_stopped list slots number before now c totals w cut =
     inl (inr (record {
       status = refl;
@@ -96,7 +97,7 @@ sample_stopped list slots number before now c totals w cut =
 
 -- memory was refused before the first one
 pub sample_refused : (list : Medl) (slots number : ℕ) (o : Output)
-    → Shows (sample_ending slots number list) o o (alone 7)
+    → Shows ttpbench (sample_ending slots number list) o o (alone 7)
 sample_refused list slots number o = inr (record {
   status = refl;
   text = record { lines = []; among = refl; wrote = Wrote-none o };

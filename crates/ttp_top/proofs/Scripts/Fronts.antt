@@ -15,7 +15,8 @@ use Rattle.ttp_world.specs.Trace.{test_lines, trace_lines}
 use Rattle.ttp_world.specs.World.{Numbers, world}
 use Rattle.ttp_world.proofs.LegalRuns.{legal-whole}
 use Rattle.cluster_run.specs.NextSlots.{next_row}
-use Rattle.ttp_top.specs.Calls.Texts.{fronts, traces, IsTrace, IsFront, WroteAmong, CutAmong}
+use Rattle.ttp_top.specs.Calls.Answer.{WroteOf, CutOf}
+use Rattle.ttp_top.specs.Calls.Texts.{fronts, traces, IsTrace, IsFront}
 
 -- The lines of a run go on from those of its first slots.
 pub record GoesOn (list : Medl) (script : Script) (whole older : Numbers) : Type 0 where
@@ -85,7 +86,7 @@ front_before list script lines whole (next ∷ rest) last more trace text =
 -- memory was refused after these slots
 pub wrote_front : (list : Medl) (script : Script) (before now : Output) → IsValid list → IsValidScript list script
     → (numbers : Numbers) → IsLegal list script numbers → length numbers ≤ script.slots
-    → WroteLines before now (run_lines list script numbers) → WroteAmong (fronts list script) before now
+    → WroteLines before now (run_lines list script numbers) → WroteOf (fronts list script) before now
 wrote_front list script before now valid valid_script numbers legal few wrote =
     let t = trace_from list script valid valid_script numbers legal few in
     record {
@@ -99,7 +100,7 @@ wrote_front list script before now valid valid_script numbers legal few wrote =
 -- the sink failed in these slots
 pub cut_in : (list : Medl) (script : Script) (before now : Output) → IsValid list → IsValidScript list script
     → (numbers : Numbers) → IsLegal list script numbers → length numbers ≤ script.slots
-    → CutShort before now (run_lines list script numbers) → CutAmong (traces list script) before now
+    → CutShort before now (run_lines list script numbers) → CutOf (traces list script) before now
 cut_in list script before now valid valid_script numbers legal few cut =
     let t = trace_from list script valid valid_script numbers legal few in
     record {

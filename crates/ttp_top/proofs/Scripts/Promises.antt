@@ -9,16 +9,19 @@ use Rattle.ttp_world.specs.Trace.{trace_lines}
 use Rattle.ttp_world.specs.TraceNumbers.{numbers_in}
 use Rattle.ttp_world.specs.World.{Numbers, world}
 use Rattle.ttp_world.proofs.TraceNumbers.{numbers_in-trace}
-use Rattle.ttp_top.specs.Calls.Answer.{Answer}
+use Rattle.commands.proofs.Both.{both_came, both_told, both_ask, due_told}
+use Rattle.commands.proofs.Plans.{end_comes, all_asked}
+use Rattle.commands.specs.Outcome.{Showed}
+use Rattle.commands.specs.Plan.{Outside, ends, AsksFirst, told_ending}
+use Rattle.commands.specs.Promise.{IsDue, IsUnfinished, NoneAskedRose}
+use Rattle.commands.specs.Right.{AreTold}
+use Rattle.commands.specs.Texts.{WroteAmong, CutAmong}
+use Rattle.ttp_top.specs.Calls.Answer.{Answer, Ending, Plan, WroteOf, ttpbench}
 use Rattle.ttp_top.specs.Calls.Forms.{trace_ending, plan_of}
-use Rattle.ttp_top.specs.Calls.Outcome.{Showed}
-use Rattle.ttp_top.specs.Calls.Plan.{Outside, Ending, Plan, ends, AsksFirst, told_ending}
-use Rattle.ttp_top.specs.Calls.Promise.{IsDue, IsUnfinished, NoneAskedRose, Promise}
-use Rattle.ttp_top.specs.Calls.Texts.{fronts, IsTrace, WroteAmong, CutAmong}
+use Rattle.ttp_top.specs.Calls.Promise.{Promise}
+use Rattle.ttp_top.specs.Calls.Texts.{fronts, IsTrace}
 use Rattle.ttp_top.specs.Calls.Words.{run}
-use Rattle.ttp_top.specs.Scripts.Promise.{IsSafeSince, WroteTraceOf, WroteTrace, AreTold, RunPromise}
-use Rattle.ttp_top.proofs.Calls.Both.{both_came, end_comes, both_told, both_ask, due_told}
-use Rattle.ttp_top.proofs.Calls.Plans.{all_asked}
+use Rattle.ttp_top.specs.Scripts.Promise.{IsSafeSince, WroteTraceOf, WroteTrace, RunPromise}
 use Rattle.ttp_top.proofs.Scripts.Safe.{safe-since}
 
 -- the plan of a run, from a script on
@@ -35,7 +38,7 @@ own_numbers medl right lines t =
     ∙ numbers_in-trace medl right t.numbers t.valid t.valid_script t.legal.count t.legal.legal
 
 wrote_trace_of : (medl : Medl) (right : Script) (before now : Output) (answer : Answer)
-    → Showed (trace_ending medl right) before now answer → WroteTraceOf medl right before now answer.kept
+    → Showed ttpbench (trace_ending medl right) before now answer → WroteTraceOf medl right before now answer.kept
 wrote_trace_of medl right before now answer showed =
     let w = showed.text in
     let t = w.among in
@@ -71,7 +74,7 @@ wrote_trace list script before now answer p zero =
       are = came.are;
       text =
           wrote_trace_of came.medl came.right before.output now.output answer
-          (subst (λ (e : Ending). Showed e before.output now.output answer) (sym is) final.2);
+          (subst (λ (e : Ending). Showed ttpbench e before.output now.output answer) (sym is) final.2);
     }
 
 -- ---- right files
@@ -102,19 +105,19 @@ cut_trace list script before now medl right loads ending files quiet due =
 -- what was written when memory was refused begins one of them
 begun_trace : (list script : List ℕ) (before now : Outside) (medl : Medl) (right : Script) (loads : List Load)
     → AreTold list script before now medl right → NoneAskedRose before now loads
-    → IsUnfinished (plan_of (Some (run list script))) before now loads
-    → WroteAmong (fronts medl right) before.output now.output
+    → IsUnfinished ttpbench (plan_of (Some (run list script))) before now loads
+    → WroteOf (fronts medl right) before.output now.output
 begun_trace list script before now medl right loads files quiet (inl none) =
     record { lines = []; among = inl refl; wrote = none }
 begun_trace list script before now medl right loads files quiet (inr some) =
     let is = cut_trace list script before now medl right loads some.0 files quiet (inl some.1) in
-    subst (λ (e : Ending). WroteAmong e.unfinished before.output now.output) is some.2
+    subst (λ (e : Ending). WroteAmong ttpbench e.unfinished before.output now.output) is some.2
 
 pub run_promise : (list script : List ℕ) (before now : Outside) (answer : Answer)
     → Promise (Some (run list script)) before now answer → RunPromise list script before now answer
 run_promise list script before now answer p =
     let begun : (medl : Medl) (right : Script) → AreTold list script before now medl right → answer.status ≡ 7
-    → WroteAmong (fronts medl right) before.output now.output = λ medl right files seven.
+    → WroteOf (fronts medl right) before.output now.output = λ medl right files seven.
     begun_trace list script before now medl right p.loads files
     (none_rose list script before now medl right p.loads files p.in_order) (p.refused seven).1 in
     record {
@@ -129,6 +132,6 @@ run_promise list script before now answer p =
           let stopped = p.stopped six in
           let quiet = none_rose list script before now medl right p.loads files p.in_order in
           let is = cut_trace list script before now medl right p.loads stopped.0 files quiet stopped.1 in
-          subst (λ (e : Ending). CutAmong e.texts before.output now.output) is stopped.2;
+          subst (λ (e : Ending). CutAmong ttpbench e.texts before.output now.output) is stopped.2;
       begun = begun;
     }

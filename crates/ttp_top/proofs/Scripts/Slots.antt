@@ -18,7 +18,8 @@ use Rattle.cluster_run.specs.Slots.{Steps}
 use Rattle.cluster_run.specs.Standing.{ClusterView, ClusterStandsFor}
 use Rattle.cluster_run.specs.Texts.{TellsNext}
 use Rattle.cluster_run.proofs.ReportTexts.{tells_next}
-use Rattle.ttp_top.specs.Calls.Texts.{fronts, traces, WroteAmong, CutAmong}
+use Rattle.ttp_top.specs.Calls.Answer.{WroteOf, CutOf}
+use Rattle.ttp_top.specs.Calls.Texts.{fronts, traces}
 use Rattle.ttp_top.specs.Scripts.Written.{HasWritten}
 use Rattle.ttp_top.proofs.Scripts.Fronts.{wrote_front, cut_in}
 
@@ -75,7 +76,7 @@ slot_written old new s first before now wrote w =
 -- and where it is cut short, one of the traces is
 pub slot_cut : (old new : ClusterView) → HasStepped old new → (first before now : Output)
     → CutShort before now (report_lines new.list new.report) → HasWritten first before old
-    → CutAmong (traces old.list old.script) first now
+    → CutOf (traces old.list old.script) first now
 slot_cut old new s first before now cut w =
     let told = tells old new s w.numbers w.stands w.legal in
     let next = s.steps w.numbers w.stands in
@@ -93,7 +94,7 @@ slot_cut old new s first before now cut w =
 
 -- where memory is refused for a slot, what was written begins a trace
 pub slot_refused : (c : ClusterView) (first now : Output) → IsValid c.list → IsValidScript c.list c.script
-    → c.done ≤ c.script.slots → HasWritten first now c → WroteAmong (fronts c.list c.script) first now
+    → c.done ≤ c.script.slots → HasWritten first now c → WroteOf (fronts c.list c.script) first now
 slot_refused c first now valid valid_script few w =
     wrote_front c.list c.script first now valid valid_script w.numbers w.legal (omega (arith, w.stands.done, few))
     w.lines
@@ -106,6 +107,6 @@ head_written c before now stands wrote =
     record { numbers = []; stands = stands; legal = legal-none c.list c.script; lines = wrote }
 
 pub head_cut : (list : Medl) (script : Script) (before now : Output) → IsValid list → IsValidScript list script
-    → CutShort before now (trace_head list script ∷ []) → CutAmong (traces list script) before now
+    → CutShort before now (trace_head list script ∷ []) → CutOf (traces list script) before now
 head_cut list script before now valid valid_script cut =
     cut_in list script before now valid valid_script [] (legal-none list script) (omega arith) cut

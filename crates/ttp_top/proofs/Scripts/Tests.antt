@@ -1,5 +1,5 @@
 -- The lines of the tests: that of the hypothesis, and the one on armed nodes where a node is armed.
-use Rattle.std.proofs.Common.{◌≡◌, ℕ, Bool, true, false, [], ◌∷◌, refl, subst, ap, sym, ◌∙◌, inl, inr}
+use Rattle.std.proofs.Common.{◌≡◌, ℕ, true, false, [], ◌∷◌, refl, subst, ap, sym, inl, inr}
 use Rattle.ttp_base.specs.Outside.{Output, WroteLines, CutShort}
 use Rattle.ttp_base.proofs.Outputs.{Wrote-none, Wrote-join, CutShort-after, CutShort-more}
 use Rattle.ttp_world.specs.declared.medl.Medl.{Medl}
@@ -7,11 +7,11 @@ use Rattle.ttp_world.specs.declared.script.Script.{Script}
 use Rattle.ttp_world.specs.Hypothesis.{keeps}
 use Rattle.ttp_world.specs.Returning.{has_arm, returns}
 use Rattle.ttp_world.specs.Trace.{keep_line, back_line, back_lines, back_lines_if, test_lines}
-use Rattle.ttp_top.specs.Calls.Answer.{alone}
+use Rattle.commands.specs.Outcome.{Says}
+use Rattle.commands.specs.Plan.{whole_ending}
+use Rattle.commands.specs.Texts.{alone, one}
+use Rattle.ttp_top.specs.Calls.Answer.{Ending, ttpbench}
 use Rattle.ttp_top.specs.Calls.Forms.{keep_ending}
-use Rattle.ttp_top.specs.Calls.Outcome.{Says}
-use Rattle.ttp_top.specs.Calls.Plan.{Ending, whole_ending}
-use Rattle.ttp_top.specs.Calls.Texts.{one}
 
 -- the ending with the line on armed nodes alone, where a node is armed
 abbrev pub back_ending : Medl → Script → Ending
@@ -19,7 +19,7 @@ back_ending list script = whole_ending 0 (one (back_lines list script))
 
 -- no node is armed
 pub none_armed : (list : Medl) (script : Script) (o : Output) → has_arm script ≡ false
-    → Says (back_ending list script) o o (alone 0)
+    → Says ttpbench (back_ending list script) o o (alone 0)
 none_armed list script o none =
     inl (record {
       status = refl;
@@ -33,7 +33,7 @@ none_armed list script o none =
 
 -- one is, and its line was written, or it was cut short
 pub armed_said : (list : Medl) (script : Script) (a b : Output) → has_arm script ≡ true
-    → WroteLines a b (back_line (returns list script) ∷ []) → Says (back_ending list script) a b (alone 0)
+    → WroteLines a b (back_line (returns list script) ∷ []) → Says ttpbench (back_ending list script) a b (alone 0)
 armed_said list script a b some wrote =
     inl (record {
       status = refl;
@@ -46,7 +46,7 @@ armed_said list script a b some wrote =
     })
 
 pub armed_cut : (list : Medl) (script : Script) (a b : Output) → has_arm script ≡ true
-    → CutShort a b (back_line (returns list script) ∷ []) → Says (back_ending list script) a b (alone 6)
+    → CutShort a b (back_line (returns list script) ∷ []) → Says ttpbench (back_ending list script) a b (alone 6)
 armed_cut list script a b some cut =
     inr (record {
       status = refl;
@@ -60,8 +60,8 @@ armed_cut list script a b some cut =
 
 -- the line of the hypothesis test was written, and then this was said
 pub keep_said : (list : Medl) (script : Script) (a b c : Output) (status : ℕ)
-    → WroteLines a b (keep_line (keeps list script) ∷ []) → Says (back_ending list script) b c (alone status)
-    → Says (keep_ending list script) a c (alone status)
+    → WroteLines a b (keep_line (keeps list script) ∷ []) → Says ttpbench (back_ending list script) b c (alone status)
+    → Says ttpbench (keep_ending list script) a c (alone status)
 keep_said list script a b c status wrote (inl showed) =
     let back : WroteLines b c (back_lines list script) = subst (WroteLines b c) showed.text.among showed.text.wrote in
     inl (record {
@@ -87,7 +87,7 @@ keep_said list script a b c status wrote (inr stopped) =
 
 -- or it was cut short itself
 pub keep_cut : (list : Medl) (script : Script) (a b : Output) → CutShort a b (keep_line (keeps list script) ∷ [])
-    → Says (keep_ending list script) a b (alone 6)
+    → Says ttpbench (keep_ending list script) a b (alone 6)
 keep_cut list script a b cut =
     inr (record {
       status = refl;

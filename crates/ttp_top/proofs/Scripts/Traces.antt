@@ -1,5 +1,5 @@
 -- A trace: the lines of a run, and then those of the tests.
-use Rattle.std.proofs.Common.{◌≡◌, ◌≢◌, ℕ, [], ◌∷◌, Some, refl, sym, subst, ◌∙◌, inl, inr, arith}
+use Rattle.std.proofs.Common.{◌≡◌, ◌≢◌, ℕ, Some, refl, sym, subst, ◌∙◌, inl, inr, arith}
 use Rattle.ttp_base.specs.Outside.{Output, WroteLines, CutShort}
 use Rattle.ttp_base.proofs.Outputs.{Wrote-join, CutShort-after}
 use Rattle.ttp_world.specs.declared.medl.Medl.{Medl}
@@ -12,10 +12,11 @@ use Rattle.ttp_world.specs.TraceNumbers.{numbers_in}
 use Rattle.ttp_world.specs.World.{Numbers}
 use Rattle.ttp_world.proofs.TraceNumbers.{numbers_in-trace}
 use Rattle.cluster_run.specs.Standing.{ClusterView}
+use Rattle.commands.specs.Outcome.{Says, Shows}
+use Rattle.commands.specs.Texts.{answer, alone}
 use Rattle.ttp_top.specs.declared.trace.RunFault.TheVariants as fault
-use Rattle.ttp_top.specs.Calls.Answer.{answer, alone, HasRun}
+use Rattle.ttp_top.specs.Calls.Answer.{HasRun, ttpbench}
 use Rattle.ttp_top.specs.Calls.Forms.{trace_ending, keep_ending}
-use Rattle.ttp_top.specs.Calls.Outcome.{Says, Shows}
 use Rattle.ttp_top.specs.Scripts.Written.{HasWritten, Leaves}
 use Rattle.ttp_top.proofs.Scripts.Fronts.{is_trace}
 
@@ -50,8 +51,8 @@ run_named list script numbers c valid valid_script legal run =
 
 -- the last lines were said after a run, with status 0, and the cluster kept
 pub trace_said : (list : Medl) (script : Script) (a b d : Output) (c : ClusterView) (status : ℕ) → IsValid list
-    → IsValidScript list script → HasWrittenAll list script a b c → Says (keep_ending list script) b d (alone status)
-    → status ≡ 0 → Shows (trace_ending list script) a d (answer status (Some c))
+    → IsValidScript list script → HasWrittenAll list script a b c → Says ttpbench (keep_ending list script) b d (alone status)
+    → status ≡ 0 → Shows ttpbench (trace_ending list script) a d (answer status (Some c))
 trace_said list script a b d c status valid valid_script w (inl showed) zero =
     let last = test_lines list script in
     let wrote : WroteLines b d last = subst (WroteLines b d) showed.text.among showed.text.wrote in
@@ -69,8 +70,8 @@ trace_said list script a b d c status valid valid_script w (inr stopped) zero =
 
 -- or they were not, and none is kept
 pub trace_stopped : (list : Medl) (script : Script) (a b d : Output) (c : ClusterView) (status : ℕ) → IsValid list
-    → IsValidScript list script → HasWrittenAll list script a b c → Says (keep_ending list script) b d (alone status)
-    → status ≢ 0 → Shows (trace_ending list script) a d (alone status)
+    → IsValidScript list script → HasWrittenAll list script a b c → Says ttpbench (keep_ending list script) b d (alone status)
+    → status ≢ 0 → Shows ttpbench (trace_ending list script) a d (alone status)
 trace_stopped list script a b d c status valid valid_script w (inl showed) other = absurd (other showed.status)
 trace_stopped list script a b d c status valid valid_script w (inr stopped) other =
     let last = test_lines list script in
@@ -87,9 +88,9 @@ trace_stopped list script a b d c status valid valid_script w (inr stopped) othe
 
 -- a run was not written whole
 pub trace_left : (list : Medl) (script : Script) (a b : Output) → Leaves fault.Memory list script a b
-    → Shows (trace_ending list script) a b (alone 7)
+    → Shows ttpbench (trace_ending list script) a b (alone 7)
 trace_left list script a b left = inr (record { status = refl; text = left; none = refl })
 
 pub trace_cut : (list : Medl) (script : Script) (a b : Output) → Leaves fault.Failed list script a b
-    → Shows (trace_ending list script) a b (alone 6)
+    → Shows ttpbench (trace_ending list script) a b (alone 6)
 trace_cut list script a b cut = inl (inr (record { status = refl; text = cut; none = refl }))

@@ -11,27 +11,29 @@ use Rattle.medl_text.proofs.Valid.{medl_of-valid}
 use Rattle.script_text.proofs.RightFiles.{script_of-valid}
 use Rattle.trace_check.specs.Answer.{is_trace}
 use Rattle.trace_size.proofs.TraceLength.{trace-short}
-use Rattle.ttp_top.specs.Calls.Answer.{Answer}
-use Rattle.ttp_top.specs.Calls.Files.{both_plan, trace_plan}
+use Rattle.commands.proofs.Both.{both_came, both_told, both_ask, due_told}
+use Rattle.commands.proofs.Plans.{end_comes, AllAsk, all_asked}
+use Rattle.commands.specs.Files.{both_plan, trace_plan}
+use Rattle.commands.specs.Outcome.{Showed}
+use Rattle.commands.specs.Plan.{Outside, whole_ending, ends, Comes, told_ending}
+use Rattle.commands.specs.Promise.{NoneAskedRose}
+use Rattle.commands.specs.Read.{trace_limit}
+use Rattle.commands.specs.Right.{MayBe, AreRight}
+use Rattle.commands.specs.Texts.{one, those, IsAmong, CutAmong}
+use Rattle.ttp_top.specs.Calls.Answer.{Answer, Ending, Plan, ttpbench}
 use Rattle.ttp_top.specs.Calls.Forms.{plan_of}
-use Rattle.ttp_top.specs.Calls.Outcome.{Showed}
-use Rattle.ttp_top.specs.Calls.Plan.{Outside, Ending, Plan, whole_ending, ends, Comes, told_ending}
-use Rattle.ttp_top.specs.Calls.Promise.{NoneAskedRose, Promise}
-use Rattle.ttp_top.specs.Calls.Texts.{one, differences, IsAmong, CutAmong}
+use Rattle.ttp_top.specs.Calls.Promise.{Promise}
+use Rattle.ttp_top.specs.Calls.Texts.{differences}
 use Rattle.ttp_top.specs.Calls.Words.{Form, is_run, verify, modes}
-use Rattle.ttp_top.specs.Files.Read.{trace_limit}
-use Rattle.ttp_top.specs.Scripts.Promise.{MayBe, AreRight}
 use Rattle.ttp_top.specs.Traces.Promise.{OfTrace, said_same, said_modes, IsVerdict, HasJudged, CutVerdict, IsJudged}
 use Rattle.ttp_top.specs.Traces.Promise.{AreAllTold, TextPromise, VerifyPromise, ModesPromise}
-use Rattle.ttp_top.proofs.Calls.Both.{both_came, end_comes, both_told, both_ask, due_told}
-use Rattle.ttp_top.proofs.Calls.Plans.{AllAsk, all_asked}
 use Rattle.ttp_top.proofs.Traces.Fronts.{HaveAtMost, is_trace-short, is_trace-front, first_wrong-front}
 
 -- ---- what both forms ask for, and how they end
 
 abbrev judged_ending : OfTrace → Medl → Script → List ℕ → Bool → Ending
 judged_ending said medl right text same =
-    if same then whole_ending 0 (one (said medl right text)) else whole_ending 1 (differences medl right text)
+    if same then whole_ending 0 (one (said medl right text)) else whole_ending 1 (those (differences medl right text))
 
 abbrev ending_of : OfTrace → Medl → Script → List ℕ → Ending
 ending_of said medl right text = judged_ending said medl right text (is_trace medl right text)
@@ -47,7 +49,7 @@ judged_plan said list script trace = both_plan list script (from_script said tra
 -- an ending is a verdict on the text
 ending_verdict : (said : OfTrace) (medl : Medl) (right : Script) (text : List ℕ) (status : ℕ) (lines : Lines)
     (same : Bool) → is_trace medl right text ≡ same → status ≡ (judged_ending said medl right text same).status
-    → IsAmong (judged_ending said medl right text same).texts lines → IsVerdict said medl right text status lines
+    → IsAmong ttpbench (judged_ending said medl right text same).texts lines → IsVerdict said medl right text status lines
 ending_verdict said medl right text status lines true is end among = inl (end, (is, among))
 ending_verdict said medl right text status lines false is end among = inr (end, (is, among))
 
@@ -72,7 +74,7 @@ module _ (said : OfTrace) (medl : Medl) (right : Script) (limit : ℕ) (most : H
       )
 
   showed-judged : (before now : Output) (answer : Answer)
-      → Showed (ending_of said medl right (take (limit + 1) text)) before now answer
+      → Showed ttpbench (ending_of said medl right (take (limit + 1) text)) before now answer
       → HasJudged said medl right text before now answer.status
   showed-judged before now answer showed =
       let front = take (limit + 1) text in
@@ -85,7 +87,7 @@ module _ (said : OfTrace) (medl : Medl) (right : Script) (limit : ℕ) (most : H
         wrote = showed.text.wrote;
       }
 
-  cut-verdict : (before now : Output) → CutAmong (ending_of said medl right (take (limit + 1) text)).texts before now
+  cut-verdict : (before now : Output) → CutAmong ttpbench (ending_of said medl right (take (limit + 1) text)).texts before now
       → CutVerdict said medl right text before now
   cut-verdict before now cut =
       let front = take (limit + 1) text in
@@ -164,7 +166,7 @@ module _ (said : OfTrace) (form : Option Form) (list script trace : List ℕ)
         are = both.are;
         judged =
             showed-judged said both.medl both.right trace_limit most whole.text before.output now.output answer
-            (subst (λ (e : Ending). Showed e before.output now.output answer) ending final.2);
+            (subst (λ (e : Ending). Showed ttpbench e before.output now.output answer) ending final.2);
       }
 
   -- files that are told
@@ -206,7 +208,7 @@ module _ (said : OfTrace) (form : Option Form) (list script trace : List ℕ)
         let due = due_told (plan_of form) before now p.loads stopped.0
         (ending_of said medl right (take (trace_limit + 1) text)) text_told none_rose stopped.1 in
         cut-verdict said medl right trace_limit most_told text before.output now.output
-        (subst (λ (e : Ending). CutAmong e.texts before.output now.output) due stopped.2)
+        (subst (λ (e : Ending). CutAmong ttpbench e.texts before.output now.output) due stopped.2)
 
   text_promise : is_run form ≡ false → TextPromise said list script trace before now answer
   text_promise other = record {

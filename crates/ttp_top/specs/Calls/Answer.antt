@@ -1,5 +1,6 @@
--- What a call answers: its status, and the cluster that it keeps.
-use Rattle.std.specs.Prelude.{◌≡◌, ℕ, Option, None, IsSomeAnd}
+-- What is this program's own in the promise of a call: its sets of texts, and the cluster that it keeps beside some.
+use Rattle.std.specs.Prelude.{◌≡◌, Option, None, IsSomeAnd}
+use Rattle.ttp_base.specs.Outside.{Output}
 use Rattle.ttp_base.specs.Text.{Lines}
 use Rattle.ttp_world.specs.declared.medl.Medl.{Medl}
 use Rattle.ttp_world.specs.declared.script.Script.{Script}
@@ -8,18 +9,9 @@ use Rattle.ttp_world.specs.TraceNumbers.{numbers_in}
 use Rattle.ttp_world.specs.World.{Numbers}
 use Rattle.script_gen.specs.Generator.{generated}
 use Rattle.cluster_run.specs.Standing.{ClusterView, ClusterStandsFor}
-use Rattle.ttp_top.specs.Calls.Texts.{Texts, one, traces, fronts, differences, precisions, samples}
-
-pub record Answer : Type 0 where
-  pub status : ℕ
-  pub kept : Option ClusterView
-
-abbrev pub answer : ℕ → Option ClusterView → Answer
-answer status kept = record { status = status; kept = kept }
-
--- a status, and no cluster
-abbrev pub alone : ℕ → Answer
-alone status = answer status None
+use Rattle.commands.specs.Plan.{Ending as EndingOf, Plan as PlanOf}
+use Rattle.commands.specs.Texts.{Program, those, Answer as AnswerOf, WroteAmong, CutAmong}
+use Rattle.ttp_top.specs.Calls.Texts.{Sets, traces, fronts, differences, precisions, samples, IsOf}
 
 -- a cluster that has done all slots of a script for a list, and stands for these message numbers
 pub record HasRun (list : Medl) (script : Script) (numbers : Numbers) (c : ClusterView) : Type 0 where
@@ -34,15 +26,33 @@ pub record HasRunLegally (list : Medl) (script : Script) (c : ClusterView) : Typ
   pub legal : IsLegalRun list script numbers
   pub run : HasRun list script numbers c
 
--- What is kept beside a text that is written whole: beside a trace the cluster that ran, which stands for the message
--- numbers that the trace names; beside the lines on a generated run the cluster that ran, which stands for legal ones;
--- and no cluster beside any other text.
-abbrev pub IsKeptBeside : Texts → Lines → Option ClusterView → Type 0
-IsKeptBeside (one text) lines kept = kept ≡ None
-IsKeptBeside (traces list script) lines kept =
-    IsSomeAnd kept (λ c. HasRun list script (numbers_in list script lines) c)
-IsKeptBeside (fronts list script) lines kept = kept ≡ None
-IsKeptBeside (differences list script text) lines kept = kept ≡ None
-IsKeptBeside (precisions list script node) lines kept = kept ≡ None
-IsKeptBeside (samples list slots number) lines kept =
+-- What is kept beside a text of a set that is written whole: beside a trace the cluster that ran, which stands for the
+-- message numbers that the trace names; beside the lines on a generated run the cluster that ran, which stands for legal
+-- ones; and no cluster beside any other text.
+abbrev pub IsBeside : Sets → Lines → Option ClusterView → Type 0
+IsBeside (traces list script) lines kept = IsSomeAnd kept (λ c. HasRun list script (numbers_in list script lines) c)
+IsBeside (fronts list script) lines kept = kept ≡ None
+IsBeside (differences list script text) lines kept = kept ≡ None
+IsBeside (precisions list script node) lines kept = kept ≡ None
+IsBeside (samples list slots number) lines kept =
     IsSomeAnd kept (λ c. HasRunLegally list (generated list slots number) c)
+
+abbrev pub ttpbench : Program
+ttpbench = record { Sets = Sets; Kept = ClusterView; IsOf = IsOf; Beside = IsBeside }
+
+-- a status, and the cluster that is kept
+abbrev pub Answer : Type 0
+Answer = AnswerOf ClusterView
+
+abbrev pub Ending : Type 0
+Ending = EndingOf Sets
+
+abbrev pub Plan : Type 0
+Plan = PlanOf Sets
+
+-- a text of a set was written, each of its lines as one piece, or a fault of the sink cut one short
+abbrev pub WroteOf : Sets → Output → Output → Type 0
+WroteOf set before now = WroteAmong ttpbench (those set) before now
+
+abbrev pub CutOf : Sets → Output → Output → Type 0
+CutOf set before now = CutAmong ttpbench (those set) before now

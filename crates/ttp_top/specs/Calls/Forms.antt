@@ -8,10 +8,12 @@ use Rattle.ttp_world.specs.TraceNumbers.{numbers_in}
 use Rattle.medl_text.specs.Schedule.{slot_table}
 use Rattle.trace_check.specs.Answer.{is_trace}
 use Rattle.mode_change.specs.ModeText.{mode_lines}
+use Rattle.commands.specs.Files.{list_plan, both_plan, trace_plan}
+use Rattle.commands.specs.Plan.{whole_ending, line_ending, ends}
+use Rattle.commands.specs.Texts.{one, those}
+use Rattle.ttp_top.specs.Calls.Answer.{Ending, Plan}
 use Rattle.ttp_top.specs.Calls.Differences.{same_line}
-use Rattle.ttp_top.specs.Calls.Files.{list_plan, both_plan, trace_plan}
-use Rattle.ttp_top.specs.Calls.Plan.{Ending, Plan, whole_ending, line_ending, ends}
-use Rattle.ttp_top.specs.Calls.Texts.{one, traces, fronts, differences, precisions, samples}
+use Rattle.ttp_top.specs.Calls.Texts.{traces, fronts, differences, precisions, samples}
 use Rattle.ttp_top.specs.Calls.Words.{Form, schedule, run, keeps, verify, precision, sample, modes}
 
 abbrev pub usage_line : List ℕ
@@ -29,7 +31,7 @@ table_ending list = whole_ending 0 (one (slot_table list))
 -- a trace of a list and a script, which takes memory in each slot
 abbrev pub trace_ending : Medl → Script → Ending
 trace_ending list script =
-    record { status = 0; texts = traces list script; unfinished = fronts list script }
+    record { status = 0; texts = those (traces list script); unfinished = those (fronts list script) }
 
 -- the last lines of a trace alone, which are those of the tests
 abbrev pub keep_ending : Medl → Script → Ending
@@ -38,22 +40,22 @@ keep_ending list script = whole_ending 0 (one (test_lines list script))
 -- whether a text is a trace of a list and a script: where it is none, the first line that is wrong, with status 1
 abbrev pub verify_ending : Medl → Script → List ℕ → Ending
 verify_ending list script text =
-    if is_trace list script text then line_ending 0 same_line else whole_ending 1 (differences list script text)
+    if is_trace list script text then line_ending 0 same_line else whole_ending 1 (those (differences list script text))
 
 -- the line of the test for one two-faced sender
 abbrev pub precision_ending : ℕ → Medl → Script → Ending
-precision_ending node list script = whole_ending 0 (precisions list script node)
+precision_ending node list script = whole_ending 0 (those (precisions list script node))
 
 -- the lines on a generated run
 abbrev pub sample_ending : ℕ → ℕ → Medl → Ending
-sample_ending slots number list = whole_ending 0 (samples list slots number)
+sample_ending slots number list = whole_ending 0 (those (samples list slots number))
 
 -- which mode each node runs, for a text that is a trace of a list and a script; else the first line that is wrong
 abbrev pub modes_ending : Medl → Script → List ℕ → Ending
 modes_ending list script text =
     if is_trace list script text
     then whole_ending 0 (one (mode_lines list script (numbers_in list script (lines_of text))))
-    else whole_ending 1 (differences list script text)
+    else whole_ending 1 (those (differences list script text))
 
 -- the plan of a form, and of words that have none
 abbrev pub plan_of : Option Form → Plan

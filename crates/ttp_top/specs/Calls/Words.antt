@@ -1,14 +1,13 @@
 -- The forms of a call's words.
-use Rattle.std.specs.Prelude.{List, [], ◌∷◌, ℕ, ◌^◌, ◌≤◌, nat_le, nat_lt, length, map, codes, String, string_bytes}
+use Rattle.std.specs.Prelude.{List, [], ◌∷◌, ℕ, ◌^◌, ◌≤◌, nat_le, codes}
 use Rattle.std.specs.Prelude.{Bool, true, false, ◌&&◌, Option, Some, None, option_map, option_and_then}
 use Rattle.std.specs.Prelude.{if◌then◌else◌}
 use Rattle.std.specs.Str.{bytes_eq}
-use Rattle.std.specs.declared.alloc.Global.{Global}
 use Rattle.ttp_base.specs.NodeSet.{most_nodes}
 use Rattle.ttp_world.specs.declared.script.TheConstants.{SLOT_LIMIT}
-use Rattle.ttp_world.specs.TraceNumbers.{number_named}
+use Rattle.commands.specs.Words.{number_below, numeral_named}
 use Rattle.ttp_top.specs.declared.words.Command.{Command}
-use Rattle.ttp_top.specs.declared.words.Command.TheVariants as commands
+use Rattle.ttp_top.specs.declared.words.Command.TheVariants as command
 
 -- what a call is asked for
 pub data Form : Type 0 where
@@ -43,33 +42,24 @@ runs_cluster (Some (run list script)) = true
 runs_cluster (Some (sample list slots number)) = true
 runs_cluster _ = false
 
--- the words' bytes
-abbrev pub texts_of : List (String Global) → List (List ℕ)
-texts_of words = map string_bytes words
-
--- a number, where it is below a limit
-abbrev pub number_below : ℕ → ℕ → Option ℕ
-number_below limit k = if nat_lt k limit then Some k else None
-
 -- the node that a word names: one or two decimal digits, of a number below the most nodes of a list
 abbrev pub node_named : List ℕ → Option ℕ
-node_named word =
-    if nat_le (length word) 2 then option_and_then (number_below most_nodes) (number_named word) else None
+node_named word = option_and_then (number_below most_nodes) (numeral_named 2 word)
 
--- the number that a word of at most 20 decimal digits names
-abbrev pub numeral_named : List ℕ → Option ℕ
-numeral_named word = if nat_le (length word) 20 then number_named word else None
+-- the most digits of a number of slots, and of a number to draw by
+abbrev pub number_digits : ℕ
+number_digits = 20
 
 -- the number of slots that a word names, of those that a script may have
 abbrev pub slots_within : ℕ → Option ℕ
 slots_within slots = if nat_le 1 slots && nat_le slots SLOT_LIMIT then Some slots else None
 
 abbrev pub slots_named : List ℕ → Option ℕ
-slots_named word = option_and_then slots_within (numeral_named word)
+slots_named word = option_and_then slots_within (numeral_named number_digits word)
 
 -- the number to draw by that a word names, of 64 bits
 abbrev pub draw_named : List ℕ → Option ℕ
-draw_named word = option_and_then (number_below (2 ^ 64)) (numeral_named word)
+draw_named word = option_and_then (number_below (2 ^ 64)) (numeral_named number_digits word)
 
 abbrev pub sample_of : List ℕ → Option ℕ → Option ℕ → Option Form
 sample_of list (Some slots) (Some number) = Some (sample list slots number)
@@ -90,16 +80,16 @@ form_of _ = None
 
 -- the form that a command of the code stands for
 abbrev pub form_asked : Command → Option Form
-form_asked (commands.Schedule list) = Some (schedule list.now)
-form_asked (commands.Run list script) = Some (run list.now script.now)
-form_asked (commands.Keeps list script) = Some (keeps list.now script.now)
-form_asked (commands.Verify list script trace) = Some (verify list.now script.now trace.now)
-form_asked (commands.Precision list script node) = Some (precision list.now script.now node)
-form_asked (commands.Sample list slots number) = Some (sample list.now slots number)
-form_asked (commands.Modes list script trace) = Some (modes list.now script.now trace.now)
-form_asked commands.NoForm = None
+form_asked (command.Schedule list) = Some (schedule list.now)
+form_asked (command.Run list script) = Some (run list.now script.now)
+form_asked (command.Keeps list script) = Some (keeps list.now script.now)
+form_asked (command.Verify list script trace) = Some (verify list.now script.now trace.now)
+form_asked (command.Precision list script node) = Some (precision list.now script.now node)
+form_asked (command.Sample list slots number) = Some (sample list.now slots number)
+form_asked (command.Modes list script trace) = Some (modes list.now script.now trace.now)
+form_asked command.NoForm = None
 
 -- a summary is asked of a run with slots, not more than a script may have
 abbrev pub HasSlots : Command → Type 0
-HasSlots (commands.Sample list slots number) = (1 ≤ slots) × (slots ≤ SLOT_LIMIT)
+HasSlots (command.Sample list slots number) = (1 ≤ slots) × (slots ≤ SLOT_LIMIT)
 HasSlots _ = Unit {0}

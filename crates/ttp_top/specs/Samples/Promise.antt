@@ -8,11 +8,11 @@ use Rattle.ttp_world.specs.World.{Numbers}
 use Rattle.medl_text.specs.ListFile.{medl_of}
 use Rattle.script_gen.specs.Generator.{generated}
 use Rattle.cluster_run.specs.Standing.{ClusterView}
+use Rattle.commands.specs.Plan.{Outside}
+use Rattle.commands.specs.Read.{list_limit}
+use Rattle.commands.specs.Right.{MayBe}
 use Rattle.ttp_top.specs.Calls.Answer.{Answer, HasRunLegally}
-use Rattle.ttp_top.specs.Calls.Plan.{Outside}
-use Rattle.ttp_top.specs.Files.Read.{list_limit}
 use Rattle.ttp_top.specs.Samples.Lines.{sample_lines}
-use Rattle.ttp_top.specs.Scripts.Promise.{MayBe}
 
 -- The four lines were written, and they are the same for all legal numbers of the generated run. The cluster that ran
 -- is kept, and stands for some of them.

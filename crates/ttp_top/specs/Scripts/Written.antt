@@ -8,7 +8,8 @@ use Rattle.ttp_world.specs.World.{Numbers}
 use Rattle.cluster_run.specs.Standing.{ClusterView, ClusterStandsFor}
 use Rattle.ttp_top.specs.declared.trace.RunFault.{RunFault}
 use Rattle.ttp_top.specs.declared.trace.RunFault.TheVariants as fault
-use Rattle.ttp_top.specs.Calls.Texts.{traces, fronts, WroteAmong, CutAmong}
+use Rattle.ttp_top.specs.Calls.Answer.{WroteOf, CutOf}
+use Rattle.ttp_top.specs.Calls.Texts.{traces, fronts}
 
 -- a cluster stands for legal numbers of as many slots as it has done
 pub record StandsLegally (c : ClusterView) : Type 0 where
@@ -25,5 +26,5 @@ pub record HasWritten (before now : Output) (c : ClusterView) : Type 0 where
 
 -- want of memory comes between two slots, and leaves whole lines
 abbrev pub Leaves : RunFault → Medl → Script → Output → Output → Type 0
-Leaves fault.Memory list script before now = WroteAmong (fronts list script) before now
-Leaves fault.Failed list script before now = CutAmong (traces list script) before now
+Leaves fault.Memory list script before now = WroteOf (fronts list script) before now
+Leaves fault.Failed list script before now = CutOf (traces list script) before now

@@ -8,10 +8,10 @@ use Rattle.ttp_world.specs.declared.script.Script.{Script}
 use Rattle.ttp_world.specs.TraceNumbers.{numbers_in}
 use Rattle.trace_check.specs.Answer.{is_trace}
 use Rattle.mode_change.specs.ModeText.{mode_lines}
+use Rattle.commands.specs.Plan.{Outside}
+use Rattle.commands.specs.Right.{MayBe, AreRight, AreTold}
 use Rattle.ttp_top.specs.Calls.Answer.{Answer}
 use Rattle.ttp_top.specs.Calls.Differences.{same_line, IsDifference}
-use Rattle.ttp_top.specs.Calls.Plan.{Outside}
-use Rattle.ttp_top.specs.Scripts.Promise.{MayBe, AreRight, AreTold}
 
 -- what a command writes for a text that is a trace of a list and a script
 abbrev pub OfTrace : Type 0

@@ -1,5 +1,5 @@
 use Rattle.std.proofs.Common.{Some}
-use Rattle.ttp_top.specs.Calls.Answer.{answer}
+use Rattle.commands.specs.Texts.{answer}
 use Rattle.ttp_top.specs.Calls.Words.{run, verify, sample, modes}
 use Rattle.ttp_top.proofs.Calls.Promises.{promise}
 use Rattle.ttp_top.proofs.Samples.Promises.{sample_promise}

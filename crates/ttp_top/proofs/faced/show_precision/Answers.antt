@@ -1,7 +1,8 @@
 use Rattle.std.proofs.Common.{◌∙◌, inl}
+use Rattle.commands.proofs.Loads.{said_as}
+use Rattle.ttp_top.specs.Calls.Answer.{ttpbench}
 use Rattle.ttp_top.specs.Calls.Precision.{faced_line, broken_line}
 use Rattle.ttp_top.proofs.Calls.Precision.{faced_line-is, broken_line-is, precision-said}
-use Rattle.ttp_top.proofs.Calls.Promises.{said_as}
 use Rattle.ttp_top.proofs.faced.show_precision.Goals as goal
 
 pub returns-in-Ok : goal.returns-in-Ok
@@ -10,7 +11,7 @@ returns-in-Ok g c =
     let script = c.args.script.now in
     let node = c.args.node in
     let line = faced_line list node c.in-Yes.start c.in-Ok.seen in
-    let said = said_as 0 _ line _ _ _ (c.bytes.ensures ∙ c.faced_line.ensures) c.say.ensures in
+    let said = said_as ttpbench 0 _ line _ _ _ (c.bytes.ensures ∙ c.faced_line.ensures) c.say.ensures in
     inl (precision-said list script node line _ _ _
     (λ numbers legal.
     faced_line-is list script node c.in-Yes.start c.in-Ok.seen numbers c.in-Yes.ensures
@@ -23,6 +24,6 @@ returns-in-No g c =
     let script = c.args.script.now in
     let node = c.args.node in
     let line = broken_line c.in-No.rule c.in-No.slot in
-    let said = said_as 0 _ line _ _ _ (c.bytes-in-No.ensures ∙ c.broken_line.ensures) c.say-in-No.ensures in
+    let said = said_as ttpbench 0 _ line _ _ _ (c.bytes-in-No.ensures ∙ c.broken_line.ensures) c.say-in-No.ensures in
     inl (precision-said list script node line _ _ _
     (λ numbers legal. broken_line-is list script node c.in-No.rule c.in-No.slot numbers c.in-No.ensures) said)

@@ -2,11 +2,12 @@ use Rattle.std.proofs.Common.{◌∙◌, inl}
 use Rattle.ttp_base.specs.Text.{lines_of}
 use Rattle.ttp_world.specs.TraceNumbers.{numbers_in}
 use Rattle.mode_change.specs.ModeText.{mode_lines}
+use Rattle.commands.proofs.Loads.{said_as}
+use Rattle.commands.specs.Plan.{whole_ending}
+use Rattle.commands.specs.Texts.{one}
+use Rattle.ttp_top.specs.Calls.Answer.{ttpbench}
 use Rattle.ttp_top.specs.Calls.Differences.{differs_line}
-use Rattle.ttp_top.specs.Calls.Plan.{whole_ending}
-use Rattle.ttp_top.specs.Calls.Texts.{one}
 use Rattle.ttp_top.proofs.Calls.Differences.{differs-none, differs-said}
-use Rattle.ttp_top.proofs.Calls.Promises.{said_as}
 use Rattle.ttp_top.proofs.modes.show_modes.Goals as goal
 
 pub returns-in-Ok-Differs : goal.returns-in-Ok-Differs
@@ -15,7 +16,7 @@ returns-in-Ok-Differs g c =
     let script = c.args.script.now in
     let text = c.args.text.now in
     let line = c.in-Ok-Differs.line in
-    let said = said_as 1 _ (differs_line line) _ _ _ (c.bytes.ensures ∙ c.differs_line.ensures) c.say.ensures in
+    let said = said_as ttpbench 1 _ (differs_line line) _ _ _ (c.bytes.ensures ∙ c.differs_line.ensures) c.say.ensures in
     let same = rw c.in-Ok-Differs.field-0-is at c.in-Ok-Differs.ensures.same in
     let whole = whole_ending 0 (one (mode_lines list script (numbers_in list script (lines_of text)))) in
     inl (differs-said whole list script text line _ _ _ (differs-none list script text line same)

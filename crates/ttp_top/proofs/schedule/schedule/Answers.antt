@@ -1,14 +1,20 @@
 use Rattle.std.proofs.Common.{refl, inl}
-use Rattle.ttp_top.specs.Calls.Answer.{alone}
+use Rattle.commands.specs.Files.{list_file, refused_list}
+use Rattle.commands.specs.Plan.{outside, ends}
+use Rattle.commands.specs.Read.{list_from}
+use Rattle.commands.specs.Texts.{alone}
+use Rattle.commands.proofs.Loads.{value_came, no_value}
+use Rattle.ttp_top.specs.Calls.Answer.{ttpbench}
 use Rattle.ttp_top.specs.Calls.Forms.{table_ending}
-use Rattle.ttp_top.specs.Calls.Plan.{outside, ends}
 use Rattle.ttp_top.proofs.schedule.schedule.Goals as goal
 
 pub returns-in-Ok : goal.returns-in-Ok
 returns-in-Ok g c =
     let later = outside (g.L.Library.files c.load_list.new.library) (g.K.Sink.output c.show_table.new.out) in
-    c.in-Ok.ensures.ok (λ list. ends (table_ending list)) later (alone c.show_table.result)
-    (refl, inl c.show_table.ensures)
+    value_came ttpbench (list_file c.args.list.now) list_from refused_list (λ list. ends (table_ending list)) _ _ c.in-Ok.medl
+    c.in-Ok.ensures.ok later (alone c.show_table.result) (refl, inl c.show_table.ensures)
 
 pub returns-in-Err : goal.returns-in-Err
-returns-in-Err g c = c.in-Err.ensures.err (λ list. ends (table_ending list))
+returns-in-Err g c =
+    no_value ttpbench (list_file c.args.list.now) list_from refused_list (λ list. ends (table_ending list)) _ _
+    c.in-Err.status c.in-Err.ensures.err

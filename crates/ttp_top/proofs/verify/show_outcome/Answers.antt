@@ -1,8 +1,9 @@
 use Rattle.std.proofs.Common.{◌∙◌, inl}
+use Rattle.commands.proofs.Loads.{said_as}
+use Rattle.commands.specs.Plan.{line_ending}
+use Rattle.ttp_top.specs.Calls.Answer.{ttpbench}
 use Rattle.ttp_top.specs.Calls.Differences.{differs_line, same_line}
-use Rattle.ttp_top.specs.Calls.Plan.{line_ending}
 use Rattle.ttp_top.proofs.Calls.Differences.{differs-none, differs-said}
-use Rattle.ttp_top.proofs.Calls.Promises.{said_as}
 use Rattle.ttp_top.proofs.verify.show_outcome.Goals as goal
 
 pub returns-in-Ok-Differs : goal.returns-in-Ok-Differs
@@ -11,7 +12,7 @@ returns-in-Ok-Differs g c =
     let script = c.args.script.now in
     let text = c.args.text.now in
     let line = c.in-Ok-Differs.line in
-    let said = said_as 1 _ (differs_line line) _ _ _ (c.bytes.ensures ∙ c.differs_line.ensures) c.say-in-Ok-Differs.ensures in
+    let said = said_as ttpbench 1 _ (differs_line line) _ _ _ (c.bytes.ensures ∙ c.differs_line.ensures) c.say-in-Ok-Differs.ensures in
     let same = rw c.in-Ok-Differs.field-0-is at c.in-Ok-Differs.ensures.same in
     inl (differs-said (line_ending 0 same_line) list script text line _ _ _ (differs-none list script text line same)
     ((c.in-Ok-Differs.ensures.differs line).0 c.in-Ok-Differs.field-0-is) said)

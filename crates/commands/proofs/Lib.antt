@@ -1,0 +1,9 @@
+mod Parts
+pub mod FaultLines
+pub mod Fronts
+pub mod Right
+pub mod Plans
+pub mod Lines
+pub mod Loads
+pub mod Promises
+pub mod Both

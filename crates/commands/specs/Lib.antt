@@ -1,0 +1,11 @@
+pub mod Words
+pub mod Lines
+pub mod Texts
+pub mod Plan
+pub mod Outcome
+pub mod Promise
+pub mod Loads
+pub mod Read
+pub mod Faults
+pub mod Files
+pub mod Right
