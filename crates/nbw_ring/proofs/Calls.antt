@@ -14,8 +14,8 @@ use Rattle.nbw_ring.specs.declared.view.View.{View}
 use Rattle.nbw_ring.specs.declared.view.View.TheVariants.{Writer, Reader}
 use Rattle.nbw_ring.specs.Numbers.{newest_number, limit, place, IsMessageOf, odd_part}
 use Rattle.nbw_ring.specs.Rule.{IsSettled, Kept}
-use Rattle.nbw_ring.specs.Seats.{writing_of, reading_of, RingSeat, IsTableOf, ring_of, writer_state, reader_state}
-use Rattle.nbw_ring.specs.States.{RingState, WriterState, ReaderState}
+use Rattle.nbw_ring.specs.Seats.{writing_of, reading_of, IsTableOf, ring_of}
+use Rattle.nbw_ring.specs.States.{RingState}
 use Rattle.nbw_ring.specs.Steps.{Sat, with_open, as_writer, as_reader, with_first, attempt_of, with_last}
 use Rattle.nbw_ring.specs.Steps.{reading_settlement, with_settled, joined_view, Confirms, tells_put, tells_word_load}
 use Rattle.nbw_ring.proofs.Places.{place_inside}
@@ -70,21 +70,11 @@ load_next shape key slots id me y number start k same is half long inside begins
     word_loads key slots id me y (start + k) (view_is me _ is) (omega arith)
     (place_from_start shape key number start k (y.first / 2) (length y.words) same begins half long)
 
--- a writer and a reader of a ring sit at its table, and know its shape
-pub writer_table : (seat : RingSeat) (w : WriterState) (id : TableId) (shape : Shape) (r : RingState)
-    → writer_state seat ≡ w → ring_of id shape ≡ r → w.ring ≡ r
-    → (seat.table_id ≡ id) × ((writing_of seat.me.0).shape ≡ shape)
-writer_table seat w id shape r is ring own =
-    let e : ring_of seat.table_id (writing_of seat.me.0).shape ≡ ring_of id shape = ap (λ (z : WriterState). z.ring) is
-    ∙ (own ∙ sym ring) in
-    (ap (λ (z : RingState). z.id) e, ap (λ (z : RingState). z.shape) e)
-
-pub reader_table : (seat : RingSeat) (spare : ℕ) (y : ReaderState) (id : TableId) (shape : Shape) (r : RingState)
-    → reader_state seat spare ≡ y → ring_of id shape ≡ r → y.ring ≡ r
-    → (seat.table_id ≡ id) × ((reading_of seat.me.0).shape ≡ shape)
-reader_table seat spare y id shape r is ring own =
-    let e : ring_of seat.table_id (reading_of seat.me.0).shape ≡ ring_of id shape = ap (λ (z : ReaderState). z.ring) is
-    ∙ (own ∙ sym ring) in
+-- who sits at a ring sits at its table, and knows its shape
+pub at_ring : (id mine : TableId) (shape known : Shape) (r held : RingState) → ring_of mine known ≡ r
+    → ring_of id shape ≡ held → held ≡ r → (mine ≡ id) × (known ≡ shape)
+at_ring id mine shape known r held own ring is =
+    let e : ring_of mine known ≡ ring_of id shape = own ∙ sym (ring ∙ is) in
     (ap (λ (z : RingState). z.id) e, ap (λ (z : RingState). z.shape) e)
 
 -- below the limit the last load gets the attempt's message

@@ -11,7 +11,7 @@ use Rattle.nbw_ring.specs.declared.view.Reading.{Reading}
 use Rattle.nbw_ring.specs.declared.view.View.TheVariants.{Reader}
 use Rattle.nbw_ring.specs.declared.reader.Reader.TheInside.{Inside}
 use Rattle.nbw_ring.specs.Pairs.{numbers_in, words_in, pairs_of}
-use Rattle.nbw_ring.specs.Seats.{RingSeat, reading_of}
+use Rattle.nbw_ring.specs.Seats.{RingSeat, reading_of, ring_of}
 use Rattle.nbw_ring.specs.Shelves.{IsShelved}
 
 abbrev Wide : ℕ → List Message → Type 0
@@ -92,13 +92,13 @@ one_less (suc spare) width some_room =
     let e : suc spare - 1 ≡ spare = omega arith in ap (λ k. k * width + width) e ∙ omega (arith, suc-mul spare width)
 
 pub shelved_more : (r : Inside) (seat : RingSeat) (numbers words : Vec ℕ Global) (y : Reading) (p : Message)
-    → IsShelved r → 1 ≤ r.spare → (reading_of r.seat.me.0).shape ≡ y.shape
+    → IsShelved r → 1 ≤ r.spare → seat.table_id ≡ r.seat.table_id → (reading_of r.seat.me.0).shape ≡ y.shape
     → y.got ≡ (reading_of r.seat.me.0).got ++ p ∷ [] → seat.me ≡ (Reader y, []) → length p.words ≡ r.width
     → numbers.items ≡ r.numbers.items ++ p.number ∷ [] → words.items ≡ r.words.items ++ p.words
     → vec_len numbers ≡ vec_len r.numbers + 1 → vec_capacity numbers ≡ vec_capacity r.numbers
     → vec_len words ≡ vec_len r.words + r.width → vec_capacity words ≡ vec_capacity r.words
-    → IsShelved record { seat = seat; numbers = numbers; words = words; width = r.width; spare = r.spare - 1 }
-shelved_more r seat numbers words y p shelved some_room shape got is wide more_numbers more_words numbers_long
+    → IsShelved record r { seat = seat; numbers = numbers; words = words; spare = r.spare - 1 }
+shelved_more r seat numbers words y p shelved some_room table shape got is wide more_numbers more_words numbers_long
     numbers_room words_long words_room =
     let v : Reading = reading_of r.seat.me.0 in
     let known : reading_of seat.me.0 ≡ y = ap (λ m. reading_of m.0) is in
@@ -106,6 +106,7 @@ shelved_more r seat numbers words y p shelved some_room shape got is wide more_n
     let word_room = shelved.word_room in
     let less = one_less r.spare r.width some_room in
     record {
+      own = (λ i. ring_of (table i) ((ap (λ (z : Reading). z.shape) known ∙ sym shape) i)) ∙ shelved.own;
       seated = is ∙ (λ i. (Reader (sym known i), []));
       width = shelved.width ∙ (ap (λ s. s.width) shape ∙ ap (λ (z : Reading). z.shape.width) (sym known));
       wide = subst (λ (g : List Message). Wide r.width g) (sym got ∙ ap (λ (z : Reading). z.got) (sym known))

@@ -1,11 +1,13 @@
 -- How a reader keeps the pairs that it got.
 use Rattle.std.specs.Prelude.{◌≡◌, ◌+◌, ◌*◌, ◌≤◌, All, length, vec_len, vec_capacity}
+use Rattle.std.specs.Arc.{arc_value}
 use Rattle.nbw_ring.specs.declared.reader.Reader.TheInside.{Inside}
 use Rattle.nbw_ring.specs.Pairs.{numbers_in, words_in}
-use Rattle.nbw_ring.specs.Seats.{reading_of, IsReaderSeat}
+use Rattle.nbw_ring.specs.Seats.{reading_of, IsReaderSeat, ring_of}
 
--- the numbers and the words of the pairs that the reader got, and room for more
+-- the reader sits at the ring that it holds, with the numbers and the words of the pairs that it got, and room for more
 pub record IsShelved (r : Inside) : Type 0 where
+  pub own : ring_of r.seat.table_id (reading_of r.seat.me.0).shape ≡ arc_value r.ring
   pub seated : IsReaderSeat r.seat
   pub width : r.width ≡ (reading_of r.seat.me.0).shape.width
   pub wide : All (λ p. length p.words ≡ r.width) (reading_of r.seat.me.0).got

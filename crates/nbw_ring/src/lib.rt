@@ -11,14 +11,19 @@
 //! [`ttp_base::Gate`] is passed with the number of the step. `docs/RING.md` has the steps, and what
 //! holds between any two of them.
 //!
-//! The crate never takes a lock, and only [`Ring::read`] may wait: it repeats attempts. It doesn't say
-//! that a reader which repeats attempts ever gets a message.
+//! A writer and a reader hold their ring, so that whose they are is known by themselves: their own calls
+//! ask nothing of it. The calls of a [`Ring`] are the same ones, for who has the ring at hand.
+//!
+//! The crate never takes a lock, and only [`Reader::read`] may wait: it repeats attempts, as
+//! [`Ring::read`] does, which is the same call. The crate doesn't say that a reader which repeats
+//! attempts ever gets a message.
 #![tactic(auto)]
 
 mod plays;
 mod reader;
 mod receipts;
 mod ring;
+mod shared;
 mod steps;
 mod view;
 mod writer;

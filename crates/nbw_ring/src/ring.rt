@@ -5,36 +5,33 @@ ghost use Rattle.nbw_ring.specs.Numbers.{most_number, newest_number, IsMessageOf
 ghost use Rattle.nbw_ring.specs.States.{new_writer, new_reader, with_message, with_joined};
 ghost use Rattle.nbw_ring.specs.Attempts.{number_of, Gets, OnGot, OnOverrun};
 
-use crate::plays::{Begin, End, FirstLoad, LastLoad, Lend, Settle, SettleLoad};
 use crate::reader::{Reader, Try};
-use crate::receipts::{Pair, Receipts, first_pair, pair_up};
-use crate::steps::{Words, load_words, put_words};
+use crate::receipts::{Pair, Receipts};
+use crate::shared::RingWords;
 use crate::view::Shape;
 use crate::writer::Writer;
 use atomic_table::Table;
 use std::alloc::Global;
 use std::marker::Model;
-use std::sync::Wait;
+use std::sync::{Arc, Wait};
 use ttp_base::{Gate, Memory};
 
 /// A ring, which threads share by reference. Contracts see which ring it is, and its shape.
+///
+/// Its writer and its readers hold the ring too, and have the same calls, which ask nothing of whose
+/// they are.
 #[derive(Drop)]
 pub struct Ring {
-    table: Words,
-    shape: Shape,
-    alloc: Global,
+    words: Arc<RingWords>,
 }
 
 impl Model for Ring {
+    ghost use Rattle.std.specs.Arc.{arc_value};
     ghost use Rattle.nbw_ring.specs.States.{RingState};
 
     ghost Value = { RingState };
 
-    ghost use Rattle.nbw_ring.specs.Seats.{ring_of, IsTableOf};
-
-    ghost view = { λ r. ring_of r.table.shared.table_id r.shape };
-
-    ghost invariant = { λ r. IsTableOf r.shape r.table.shared.key r.table.shared.table_id };
+    ghost view = { λ r. arc_value r.words };
 }
 
 impl Ring {
@@ -47,15 +44,26 @@ impl Ring {
         ensures writer { IfOk result (λ r. r.1 ≡ new_writer r.0) }
     {
         let shape = Shape { width, buffers };
-        let words = vec![in alloc; 0u64; 1 + buffers * width]?;
-        let (table, seat) = Table::of_words(alloc, words.as_slice(), &shape)?;
-        Ok((
-            Ring {
+        let zeros = vec![in alloc; 0u64; 1 + buffers * width]?;
+        let (table, seat) = Table::of_words(alloc, zeros.as_slice(), &shape)?;
+        let Ok(words) = Arc::new(
+            alloc,
+            RingWords {
                 table,
                 shape,
                 alloc,
             },
-            Writer { seat, number: 0 },
+        ) else {
+            return Err(Memory);
+        };
+        let ring = Arc::try_clone(&words)?;
+        Ok((
+            Ring { words },
+            Writer {
+                ring,
+                seat,
+                number: 0,
+            },
         ))
     }
 
@@ -66,16 +74,7 @@ impl Ring {
         requires room { newest_number writer.old.messages < most_number }
         ensures { writer.new ≡ with_message writer.old words.now }
     {
-        let cells = &self.table.shared;
-        let number = writer.number + 1;
-        // Loads that follow a step wait for it, so that this one comes before the first.
-        let shape = self.shape;
-        gate.pass(1);
-        cells.store::<Begin>(&mut writer.seat, 0, 2 * number - 1);
-        put_words(cells, &mut writer.seat, shape, number, words, gate);
-        gate.pass(3);
-        cells.store::<End>(&mut writer.seat, 0, 2 * number);
-        writer.number = number;
+        writer.write(words, gate);
     }
 
     /// A new reader with room for so many messages, none of them older than the writer's newest.
@@ -84,19 +83,7 @@ impl Ring {
         ensures reader { IfOk result (λ r. r ≡ new_reader writer.old reads) }
         ensures writer { writer.new ≡ writer.old }
     {
-        let Some(room) = reads.checked_mul(self.shape.width) else {
-            return Err(Memory);
-        };
-        let numbers = Vec::with_capacity(self.alloc, reads)?;
-        let words = Vec::with_capacity(self.alloc, room)?;
-        let seat = self.table.shared.split_seat::<Lend>(&mut writer.seat);
-        Ok(Reader {
-            seat,
-            numbers,
-            words,
-            width: self.shape.width,
-            spare: reads,
-        })
+        writer.lend(reads)
     }
 
     /// One attempt to read the newest message.
@@ -112,27 +99,7 @@ impl Ring {
         ensures got { OnGot reader.old reader.new result }
         ensures overrun { OnOverrun reader.old reader.new result }
     {
-        let cells = &self.table.shared;
-        gate.pass(4);
-        let begin = cells.load::<FirstLoad>(&mut reader.seat, 0);
-        let number = begin / 2;
-        let limit = 2 * (number + self.shape.buffers as u64) - 1;
-        if begin >= limit {
-            let end = begin;
-            return Try::Overrun { number, begin, end };
-        }
-        let kept = reader.words.len();
-        let (seat, words) = (&mut reader.seat, &mut reader.words);
-        load_words(cells, seat, self.shape, number, words, gate);
-        gate.pass(6);
-        let end = cells.load::<LastLoad>(&mut reader.seat, 0);
-        if end >= limit {
-            reader.words.truncate(kept);
-            return Try::Overrun { number, begin, end };
-        }
-        reader.numbers.push_reserved(number);
-        reader.spare -= 1;
-        Try::Got { number }
+        reader.try_read(gate)
     }
 
     /// Attempts to read until a message is got, and answers its number.
@@ -147,12 +114,7 @@ impl Ring {
         ensures floor { reader.old.floor ≤ result }
         ensures got { Gets reader.old reader.new result }
     {
-        for _ in rt.forever() {
-            if let Try::Got { number } = self.try_read(reader, gate) {
-                return number;
-            }
-        }
-        unreachable!()
+        reader.read(rt, gate)
     }
 
     /// Takes a reader back, and hands out the pairs that it got: each is the writer's message of its
@@ -165,18 +127,7 @@ impl Ring {
         ensures joined { OnOk result (writer.new ≡ with_joined writer.old reader) }
         ensures err { OnErr result (writer.new ≡ writer.old) }
     {
-        let Reader {
-            seat,
-            numbers,
-            words,
-            width,
-            spare: _,
-        } = reader;
-        let receipts = pair_up(self.alloc, &numbers, &words, width)?;
-        let cells = &self.table.shared;
-        cells.join_seat::<Settle>(&mut writer.seat, seat);
-        cells.load::<SettleLoad>(&mut writer.seat, 0);
-        Ok(receipts)
+        writer.settle(reader)
     }
 
     /// The same of a reader that got at most one pair, which is the answer, if there is one. It takes no memory.
@@ -188,16 +139,6 @@ impl Ring {
         ensures seen { reader.seen ≤ 2 * newest_number writer.old.messages }
         ensures joined { writer.new ≡ with_joined writer.old reader }
     {
-        let Reader {
-            seat,
-            numbers,
-            words,
-            width: _,
-            spare: _,
-        } = reader;
-        let cells = &self.table.shared;
-        cells.join_seat::<Settle>(&mut writer.seat, seat);
-        cells.load::<SettleLoad>(&mut writer.seat, 0);
-        first_pair(&numbers, words)
+        writer.settle_one(reader)
     }
 }

@@ -1,11 +1,12 @@
-//! The words of a ring, and the two loops over the words of a message.
-ghost use Rattle.std.specs.Prelude.{◌≡◌, ◌+◌, ◌≤◌, [], ◌++◌, length, vec_len, vec_capacity};
+//! The words of a ring, the two loops over the words of a message, and how a reader is joined.
+ghost use Rattle.std.specs.Prelude.{◌≡◌, ◌+◌, ◌*◌, ◌<◌, ◌≤◌, [], ◌++◌, All, length, vec_len, vec_capacity, false};
 ghost use Rattle.nbw_ring.specs.declared.view.View.TheVariants.{Writer, Reader};
-ghost use Rattle.nbw_ring.specs.Numbers.{place};
+ghost use Rattle.nbw_ring.specs.Numbers.{place, newest_number, IsMessageOf};
 ghost use Rattle.nbw_ring.specs.Seats.{writing_of, reading_of, IsWriterSeat, IsReaderSeat, IsShape, IsTableOf};
 ghost use Rattle.nbw_ring.specs.Seats.{IsWriting, IsAttempting};
+ghost use Rattle.nbw_ring.specs.Steps.{with_settled};
 
-use crate::plays::{Put, RingRule, WordLoad};
+use crate::plays::{Put, RingRule, Settle, SettleLoad, WordLoad};
 use crate::view::{Shape, View};
 use atomic_table::{Shared, Table};
 use std::alloc::Global;
@@ -80,4 +81,24 @@ pub(crate) fn load_words<G: Gate>(
         let word = cells.load::<WordLoad>(seat, start + k);
         words.push_reserved(word);
     }
+}
+
+/// Joins a reader in the writer of its ring. The counter that is loaded then tells that each pair that
+/// the reader got is the writer's, and that it loaded no counter above twice the writer's number.
+pub(crate) fn join_reader(cells: &Cells, writer: &mut Seat, reader: Seat)
+    requires writer { writer.old.table_id ≡ cells.now.table_id }
+    requires reader { reader.table_id ≡ cells.now.table_id }
+    requires words { 0 < cells.now.table_id.words }
+    requires writes { IsWriterSeat writer.old }
+    requires closed { (writing_of writer.old.me.0).is_open ≡ false }
+    requires reads { IsReaderSeat reader }
+    ensures table { writer.new.table_id ≡ writer.old.table_id }
+    ensures seat { writer.new.me ≡ (Writer (with_settled (reading_of reader.me.0) (writing_of writer.old.me.0)), []) }
+    ensures whole { let written = (writing_of writer.old.me.0).messages in
+        All (IsMessageOf written) (reading_of reader.me.0).got }
+    ensures seen { let newest = newest_number (writing_of writer.old.me.0).messages in
+        (reading_of reader.me.0).seen ≤ 2 * newest }
+{
+    cells.join_seat::<Settle>(writer, reader);
+    cells.load::<SettleLoad>(writer, 0);
 }

@@ -1,5 +1,0 @@
-use Rattle.nbw_ring.proofs.Attempts.{StillReads}
-use Rattle.nbw_ring.proofs.ring.Ring.read.Given as goal
-
-abbrev pub invariant-loop : goal.invariant-loop
-invariant-loop g l = StillReads l.fn.reader l.reader
