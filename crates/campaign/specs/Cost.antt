@@ -1,8 +1,8 @@
 -- What is read of a run: who left, who was hurt, when memberships were split, and what is left at the end.
-use Rattle.std.specs.Prelude.{ℕ, Bool, true, false, ◌&&◌, ◌||◌, not, List, [], ◌∷◌, map, length, filter, Option, Some, None}
+use Rattle.std.specs.Prelude.{ℕ, nat_le, Bool, true, false, ◌&&◌, ◌||◌, not, List, [], ◌∷◌, length, filter, Option, Some, None}
+use Rattle.std.specs.Prelude.{if◌then◌else◌}
 use Rattle.std.specs.List.{filter_map}
 use Rattle.std.specs.Str.{bytes_eq}
-use Rattle.ttp_base.specs.NodeSet.{has_node}
 use Rattle.ttp_world.specs.declared.keep.Back.{Back}
 use Rattle.ttp_world.specs.declared.keep.Back.TheVariants as back
 use Rattle.ttp_world.specs.declared.keep.Keep.{Keep}
@@ -10,12 +10,15 @@ use Rattle.ttp_world.specs.declared.keep.Keep.TheVariants as keep
 use Rattle.ttp_world.specs.declared.medl.Medl.{Medl}
 use Rattle.ttp_world.specs.declared.node.Entry.{Entry}
 use Rattle.ttp_world.specs.declared.node.Entry.TheVariants as entry
-use Rattle.ttp_world.specs.declared.node.Reason.{Reason}
 use Rattle.ttp_world.specs.declared.script.Script.{Script}
-use Rattle.ttp_world.specs.Diary.{History, entry_of, diary_of, is_active}
+use Rattle.ttp_world.specs.Acknowledgement.{ack_of, is_doubt}
+use Rattle.ttp_world.specs.Diary.{Diary, History, entry_of, diary_of, is_active}
 use Rattle.ttp_world.specs.Hypothesis.{nodes_of, numbers_of, faulty_after, keeps}
-use Rattle.ttp_world.specs.Returning.{has_arm, returns, back_faulty_after}
-use Rattle.ttp_world.specs.Safety.{newest_slot, is_settled, members_of_node, agree_among}
+use Rattle.campaign.specs.declared.cost.Cost.{Cost}
+use Rattle.campaign.specs.declared.cost.Leave.{Leave}
+use Rattle.campaign.specs.declared.cost.Span.{Span}
+use Rattle.ttp_world.specs.Returning.{has_arm, returns, back_faulty_after, is_sound}
+use Rattle.ttp_world.specs.Safety.{newest_slot, members_of_node}
 
 -- The test of a script: the one on armed nodes where a node is armed, and else the single-fault hypothesis.
 
@@ -46,12 +49,6 @@ faulty_by_test list script slot = faulty_if list script slot (has_arm script)
 
 -- Who left.
 
--- a node that left, the slot of the newest time, and why it did then
-pub record Leave : Type 0 where
-  pub node : ℕ
-  pub slot : ℕ
-  pub reason : Reason
-
 abbrev pub leave_after : ℕ → ℕ → Entry → Option Leave → Option Leave
 leave_after k slot (entry.Left reason peer) before = Some (record { node = k; slot = slot; reason = reason })
 leave_after k slot _ before = before
@@ -64,13 +61,13 @@ newest_leave (row ∷ history) k = leave_after k (length history) (entry_of row 
 abbrev pub leaves : Medl → History → List Leave
 leaves list history = filter_map (newest_leave history) (nodes_of list)
 
--- Who was hurt: left, though not faulty.
+-- Who was hurt: left in a slot after which it was correct, which is on and not faulty.
 
 abbrev pub is_hurt_in : Medl → Script → ℕ → ℕ → Entry → Bool
-is_hurt_in list script slot k (entry.Left reason peer) = not (has_node (faulty_by_test list script slot) k)
+is_hurt_in list script slot k (entry.Left reason peer) = is_sound script (faulty_by_test list script slot) slot k
 is_hurt_in list script slot k _ = false
 
--- in some slot, after which it was not faulty
+-- in some slot
 abbrev pub is_hurt : Medl → Script → History → ℕ → Bool
 is_hurt list script [] k = false
 is_hurt list script (row ∷ history) k =
@@ -79,24 +76,36 @@ is_hurt list script (row ∷ history) k =
 abbrev pub hurt_nodes : Medl → Script → History → List ℕ
 hurt_nodes list script history = filter (is_hurt list script history) (nodes_of list)
 
--- When memberships were split: two nodes that were active, not in doubt and not faulty held different ones.
+-- Memberships: those that active nodes hold that are not in doubt, in the order of the lowest node that holds each.
 
-abbrev pub is_firm : History → ℕ → Bool
-is_firm history k = is_active (diary_of history k) && is_settled history k
+-- active, and not in doubt
+abbrev pub is_firm : Diary → Bool
+is_firm diary = is_active diary && not (is_doubt (ack_of diary))
 
--- active, not in doubt, and none of these
-abbrev pub firm_nodes : Medl → History → List ℕ → List ℕ
-firm_nodes list history faulty = filter (λ k. is_firm history k && not (has_node faulty k)) (nodes_of list)
+-- the members of node k, where it is one of those that a test names
+abbrev pub firm_members : Medl → History → (ℕ → Bool) → ℕ → Option (List ℕ)
+firm_members list history among k =
+    if is_firm (diary_of history k) && among k then Some (members_of_node list history k) else None
+
+abbrev pub each_once : List (List ℕ) → List (List ℕ)
+each_once [] = []
+each_once (members ∷ sets) = members ∷ filter (λ m. not (bytes_eq members m)) (each_once sets)
+
+-- each once
+abbrev pub memberships : Medl → History → (ℕ → Bool) → List (List ℕ)
+memberships list history among = each_once (filter_map (firm_members list history among) (nodes_of list))
+
+abbrev pub has_two : List (List ℕ) → Bool
+has_two sets = nat_le 2 (length sets)
+
+-- When memberships were split: correct nodes held two or more.
 
 abbrev pub is_split : Medl → Script → History → Bool
 is_split list script history =
-    not (agree_among list history (firm_nodes list history (faulty_by_test list script (newest_slot history))))
+    let slot = newest_slot history in
+    has_two (memberships list history (is_sound script (faulty_by_test list script slot) slot))
 
 -- the first and the last slot after which they were
-pub record Span : Type 0 where
-  pub first : ℕ
-  pub last : ℕ
-
 abbrev pub span_with : ℕ → Option Span → Span
 span_with slot None = record { first = slot; last = slot }
 span_with slot (Some span) = record { first = span.first; last = slot }
@@ -110,28 +119,12 @@ split_span list script [] = None
 split_span list script (row ∷ history) =
     span_after (length history) (is_split list script (row ∷ history)) (split_span list script history)
 
--- What is left: the memberships that active nodes hold that are not in doubt, each once.
-
-abbrev pub each_once : List (List ℕ) → List (List ℕ)
-each_once [] = []
-each_once (members ∷ others) = members ∷ filter (λ m. not (bytes_eq members m)) (each_once others)
-
--- in the order of the lowest node that holds it
-abbrev pub memberships : Medl → History → List (List ℕ)
-memberships list history = each_once (map (members_of_node list history) (firm_nodes list history []))
-
 -- All of it.
-
-pub record Cost : Type 0 where
-  pub left : List Leave
-  pub hurt : List ℕ
-  pub split : Option Span
-  pub end : List (List ℕ)
 
 abbrev pub cost_of : Medl → Script → History → Cost
 cost_of list script history = record {
   left = leaves list history;
   hurt = hurt_nodes list script history;
   split = split_span list script history;
-  end = memberships list history;
+  end = memberships list history (λ k. true);
 }

@@ -15,7 +15,9 @@ use Rattle.ttp_world.specs.declared.script.Script.{Script}
 use Rattle.ttp_world.specs.Hypothesis.{keeps}
 use Rattle.ttp_world.specs.Returning.{has_arm, returns}
 use Rattle.ttp_world.specs.Trace.{reason_word, member_digits, keep_line, back_line}
-use Rattle.campaign.specs.Cost.{Leave, Span, Cost}
+use Rattle.campaign.specs.declared.cost.Cost.{Cost}
+use Rattle.campaign.specs.declared.cost.Leave.{Leave}
+use Rattle.campaign.specs.declared.cost.Span.{Span}
 
 -- The test: its line, without the line feed.
 

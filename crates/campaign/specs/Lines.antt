@@ -9,7 +9,9 @@ use Rattle.ttp_world.specs.declared.script.Event.{Event}
 use Rattle.ttp_world.specs.declared.script.Event.TheVariants as event
 use Rattle.ttp_world.specs.declared.script.Script.{Script}
 use Rattle.ttp_world.specs.Diary.{History}
-use Rattle.campaign.specs.Cost.{says_yes, Cost, cost_of}
+use Rattle.campaign.specs.declared.cost.Cost.{Cost}
+use Rattle.campaign.specs.declared.cost.Counts.{Counts}
+use Rattle.campaign.specs.Cost.{says_yes, has_two, cost_of}
 use Rattle.campaign.specs.CostText.{test_words, cost_words, fault_words}
 use Rattle.campaign.specs.Tried.{with_fault, faults_from}
 use Rattle.campaign.specs.ZerosWorld.{zeros_world}
@@ -55,10 +57,11 @@ fault_node (event.Receive node channels kind from to) = node
 fault_node (event.Jump node value slot) = node
 fault_node _ = 0
 
+abbrev pub place_words : Event → List ℕ
+place_words fault = codes "slot " ++ decimal (fault_slot fault) ++ codes " node " ++ decimal (fault_node fault) ++ codes " "
+
 abbrev pub fault_line : Medl → Event → Summary → List ℕ
-fault_line list fault s =
-    codes "slot " ++ decimal (fault_slot fault) ++ codes " node " ++ decimal (fault_node fault) ++ codes " "
-    ++ summary_words list s ++ fault_words fault ++ newline
+fault_line list fault s = place_words fault ++ summary_words list s ++ fault_words fault ++ newline
 
 -- Counts.
 
@@ -71,30 +74,41 @@ has_hurt cost = not (length cost.hurt == 0)
 
 -- two or more memberships are left
 abbrev pub is_torn : Cost → Bool
-is_torn cost = nat_le 2 (length cost.end)
+is_torn cost = has_two cost.end
 
 -- none of two nodes or more is
 abbrev pub is_dead : Cost → Bool
 is_dead cost = not (list_any (λ members. nat_le 2 (length members)) cost.end)
 
--- so many, and for how many of them each is so
-abbrev pub counts_line : Medl → List ℕ → Cost → List Cost → List ℕ
-counts_line list name own costs =
-    name ++ decimal (length costs)
-    ++ codes " same " ++ decimal (count_by (is_same_cost list own) costs)
-    ++ codes " hurt " ++ decimal (count_by has_hurt costs)
-    ++ codes " split " ++ decimal (count_by (λ cost. is_some cost.split) costs)
-    ++ codes " torn " ++ decimal (count_by is_torn costs)
-    ++ codes " dead " ++ decimal (count_by is_dead costs) ++ newline
+-- how many there are, and for how many of them each is so
+abbrev pub counts_of : Medl → Cost → List Cost → Counts
+counts_of list own costs = record {
+  runs = length costs;
+  same = count_by (is_same_cost list own) costs;
+  hurt = count_by has_hurt costs;
+  split = count_by (λ cost. is_some cost.split) costs;
+  torn = count_by is_torn costs;
+  dead = count_by is_dead costs;
+}
+
+abbrev pub counts_line : List ℕ → Counts → List ℕ
+counts_line name counts =
+    name ++ decimal counts.runs
+    ++ codes " same " ++ decimal counts.same
+    ++ codes " hurt " ++ decimal counts.hurt
+    ++ codes " split " ++ decimal counts.split
+    ++ codes " torn " ++ decimal counts.torn
+    ++ codes " dead " ++ decimal counts.dead ++ newline
 
 abbrev pub costs_of : List Summary → List Cost
 costs_of summaries = map (λ s. s.cost) summaries
 
-abbrev pub kept_line : Medl → Cost → List Summary → List ℕ
-kept_line list own summaries = counts_line list (codes "kept ") own (costs_of (filter (λ s. s.yes) summaries))
+-- of the runs whose test says yes, and of those whose test says no
+abbrev pub kept_counts : Medl → Cost → List Summary → Counts
+kept_counts list own summaries = counts_of list own (costs_of (filter (λ s. s.yes) summaries))
 
-abbrev pub broken_line : Medl → Cost → List Summary → List ℕ
-broken_line list own summaries = counts_line list (codes "broken ") own (costs_of (filter (λ s. not s.yes) summaries))
+abbrev pub broken_counts : Medl → Cost → List Summary → Counts
+broken_counts list own summaries = counts_of list own (costs_of (filter (λ s. not s.yes) summaries))
 
 -- The whole.
 
@@ -114,8 +128,8 @@ run_line list script fault = fault_line list fault (summary_with list script fau
 abbrev pub lines_with : Medl → Script → ℕ → ℕ → Summary → List Event → Lines
 lines_with list script first last own faults =
     head_line list script first last ∷ own_line list own ∷ map (run_line list script) faults
-    ++ kept_line list own.cost (map (summary_with list script) faults)
-    ∷ broken_line list own.cost (map (summary_with list script) faults) ∷ []
+    ++ counts_line (codes "kept ") (kept_counts list own.cost (map (summary_with list script) faults))
+    ∷ counts_line (codes "broken ") (broken_counts list own.cost (map (summary_with list script) faults)) ∷ []
 
 abbrev pub campaign_lines : Medl → Script → ℕ → ℕ → Lines
 campaign_lines list script first last =

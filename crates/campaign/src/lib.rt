@@ -7,5 +7,10 @@
 //! (`specs/CostText.antt`, `specs/Lines.antt`), over the world and the tests of scripts that ttp_world
 //! defines. A run is that of `specs/ZerosWorld.antt`, one for all legal message numbers.
 //!
-//! It has no code, and promises nothing: the words are those of the contracts above it.
+//! It has no code but for the types of what a run costs, and promises nothing: the words are those of the
+//! contracts above it.
 #![tactic(auto)]
+
+mod cost;
+
+pub use cost::{Cost, Counts, Leave, Span};

@@ -1,8 +1,7 @@
 -- A campaign as a whole: two nodes of four are on, node 0 starts in slot 8, and node 1 sends in slot 9.
 --
 -- Among so few the hypothesis has too few clocks to measure, so each line says `no`.
-use Rattle.std.specs.Prelude.{ℕ, pos, List, [], ◌∷◌, replicate, Some, None, codes}
-use Rattle.ttp_base.specs.NodeSet.{below}
+use Rattle.std.specs.Prelude.{pos, [], ◌∷◌, replicate, Some, None, codes}
 use Rattle.ttp_base.specs.Text.{Lines}
 use Rattle.ttp_world.specs.declared.script.Script.{Script}
 
