@@ -1,0 +1,5 @@
+pub mod Tried
+pub mod ZerosWorld
+pub mod Cost
+pub mod CostText
+pub mod Lines
