@@ -7,7 +7,21 @@ import subprocess
 import rules
 import script_tests
 
-PROGRAM = os.path.join(os.path.dirname(os.path.dirname(os.path.abspath(__file__))), "ttpbench")
+HERE = os.path.dirname(os.path.abspath(__file__))
+
+
+def program():
+    """The program that TTPBENCH_UNPROVED names, built with no proof; else the proved one, and where none stands `./ttpbench`."""
+    top = os.path.dirname(HERE)
+    unproved = os.environ.get("TTPBENCH_UNPROVED")
+    if unproved:
+        return unproved
+    if subprocess.run([os.path.join(HERE, "is_proved")], check=False).returncode == 0:
+        return os.path.join(top, "crates", "ttpbench", "out", "ttpbench")
+    return os.path.join(top, "ttpbench")
+
+
+PROGRAM = program()
 
 
 class Differs(Exception):

@@ -1,9 +1,10 @@
 -- Controllers in a slot of the world: what each stands for at each turn is its node of the slot after the history, and
 -- what they send in the second pass is on the medium.
 use Rattle.std.proofs.Common.{◌≡◌, ℕ, ◌<◌, ◌≤◌, ℤ, ◌+ℤ◌, Bool, true, false, cond, List, [], ◌∷◌, length, min, Option}
-use Rattle.std.proofs.Common.{is_some, refl, ap, sym, ◌∙◌, subst, arith, ◌+◌, get_or, set, unsigned_abs, ⊎_elim}
+use Rattle.std.proofs.Common.{is_some, refl, ap, sym, ◌∙◌, subst, arith, ◌+◌, get_or, set, unsigned_abs, pos}
 use Rattle.std.specs.List.{flat_map}
-use Rattle.std.specs.Prelude.{All}
+use Rattle.std.specs.Option.{option_map_or}
+use Rattle.std.specs.Prelude.{slice_get, None, Some}
 use Rattle.std.proofs.lemmas.Bool.{cases_lt}
 use Rattle.std.proofs.lemmas.List.{length-map, get_or_past}
 use Rattle.std.proofs.lemmas.List.Elements.{All-get_or}
@@ -42,82 +43,15 @@ use Rattle.controller.specs.Hearing.{hearing_of}
 use Rattle.controller.specs.Limits.{intent_by, loaded_length, seat_clock, seat_intent, turn_intent, turn_jump, IsBegun}
 use Rattle.controller.specs.Kept.{kept}
 use Rattle.controller.specs.Passes.{StandsAfter, StandsForNode, jump_begun, HasBegun, HasPlanned, frames_by, IsLeft}
-use Rattle.controller.specs.Passes.{AreChosen, Carries, IsPayloadFor, payload_handed, HaveBegun, MayPlan}
+use Rattle.controller.specs.Passes.{Carries, payload_handed, HaveBegun, IsFromClocks, KeepsClocks}
 use Rattle.controller.specs.Passes.{IsPlannedFrom, PlansIn, PutsFrames}
 use Rattle.controller.specs.StandsFor.{Stands, IsSameSeat, Begins, Plans, Ends, seat_past, frames_planned, most_slots}
 use Rattle.controller.specs.StandsFor.{message_planned, payload_planned, clock_begun}
 use Rattle.controller.specs.Turn.{Turn, Ended, Begun, Planned, Seat}
 use Rattle.controller.specs.PlantWithin.{AreSeats, IsFromWithin}
 use Rattle.controller.proofs.Near.{AreHanded}
+use Rattle.controller.proofs.Payloads.{payload_planned-handed}
 use Rattle.controller.proofs.Parts.{ArePassed, ArePassed-none, ArePassed-more, ArePassed-coming, each-of}
-
--- What a node sends.
-
--- the payload that is handed to a node is as long as it asks for, where that which is chosen for a frame that carries
--- payload is as long as the list says
-pub length-payload_handed : (list : Medl) (k : ℕ) (wanted : Intent) (chosen : Chosen)
-    → (wanted ≡ intent.Loaded → length chosen.payload ≡ loaded_length list k intent.Loaded)
-    → length (payload_handed wanted chosen) ≡ loaded_length list k wanted
-length-payload_handed list k intent.Loaded chosen whole = whole refl
-length-payload_handed list k _ chosen whole = refl
-
--- what is kept of a past says the same of it
-intent_by-kept : (list : Medl) (past : NodePast) (a : Act) → intent_by list (kept past) a ≡ intent_by list past a
-intent_by-kept list past Send = refl
-intent_by-kept list past _ = refl
-
--- the payload is the one that the node's frame carries
-
-carried_or : (carries : Bool) (chosen : Chosen)
-    → cond carries chosen.payload [] ≡ payload_handed (cond carries intent.Loaded intent.Bare) chosen
-carried_or true chosen = refl
-carried_or false chosen = refl
-
-payload_by-intent : (list : Medl) (past : NodePast) (chosen : Chosen) (a : Act)
-    → payload_planned list past chosen a ≡ payload_handed (intent_by list past a) chosen
-payload_by-intent list past chosen Send = carried_or (carries_payload list (coming_place list past)) chosen
-payload_by-intent list past chosen _ = refl
-
-payload_planned-handed : {seat : Seat} {diary : Diary} {surroundings : Surroundings} {a : Act} {jump : ℤ}
-    (chosen : Chosen) → Stands seat diary surroundings (Begun a jump)
-    → payload_planned seat.list (seat_past seat diary surroundings) chosen a ≡ payload_handed (seat_intent seat) chosen
-payload_planned-handed {seat = seat} {diary = diary} {surroundings = surroundings} {a = a} chosen stands =
-    let past = seat_past seat diary surroundings in
-    payload_by-intent seat.list past chosen a
-    ∙ ap (λ (wanted : Intent). payload_handed wanted chosen) (sym (intent_by-kept seat.list past a))
-    ∙ (λ i. payload_handed (turn_intent seat.list (sym stands.past i) (sym stands.turn i)) chosen)
-
--- whether this is to send a frame with payload
-abbrev pub is_loading : Intent → Bool
-is_loading intent.Loaded = true
-is_loading _ = false
-
-loading_or : (carries : Bool) → is_loading (cond carries intent.Loaded intent.Bare) ≡ carries
-loading_or true = refl
-loading_or false = refl
-
-loading_by : (list : Medl) (past : NodePast) (a : Act) → is_loading (intent_by list past a) ≡ sends_payload list past a
-loading_by list past Send = loading_or (carries_payload list (coming_place list past))
-loading_by list past _ = refl
-
--- so the message that is chosen for a node is as long as its frame wants it
-pub payload-node : {s : BegunSlot} {k : ℕ} {seat : Seat} {message : Chosen} (chosen : List Chosen)
-    → message ≡ chosen_of chosen k → k < length s.list.slots → HasBegun s k seat → AreChosen s chosen
-    → IsPayloadFor seat message
-payload-node {s = s} {k = k} chosen is node begun are loading =
-    let past = (node_of s k).past in
-    let does = (node_of s k).act in
-    let loaded = sym (loading_by s.list past does) ∙ ap is_loading (sym (intent_by-kept s.list past does))
-    ∙ (λ i. is_loading (turn_intent (sym begun.list i) (sym begun.past i) (sym begun.turn i)))
-    ∙ ap is_loading loading in
-    ap (λ (m : Chosen). length m.payload) is ∙ are k node loaded
-    ∙ (λ i. (plan_at (sym begun.list i) (sym begun.node i)).payload)
-
--- where no frame carries payload, none may be chosen for all
-pub nothing-chosen : (s : BegunSlot) (chosen : List Chosen) → ((k : ℕ) → (plan_at s.list k).payload ≡ 0)
-    → length s.list.slots ≤ length chosen → All (λ m. m.payload ≡ []) chosen → AreChosen s chosen
-nothing-chosen s chosen bare few all = λ k node loaded.
-    ap length (All-get_or (λ m. m.payload ≡ []) chosen k nothing_chosen (omega (arith, node, few)) all) ∙ sym (bare k)
 
 length-diary_of : (history : History) (k : ℕ) → length (diary_of history k) ≡ length history
 length-diary_of history k = length-map history (λ row. entry_of row k)
@@ -252,10 +186,15 @@ module _ (list : Medl) (script : Script) (history : History) (k : ℕ) (node : k
 abbrev pub IsSentBy : Medl → Script → List Chosen → ℕ → Seat → Seat → Seat → Type 0
 IsSentBy list script chosen k old new left = IsPlannedFrom old new × PlansIn list script k (chosen_of chosen k) old new
 
+-- the clock of each controller; where there is none, 0
+abbrev pub clock_in : List Seat → ℕ → ℤ
+clock_in seats p = option_map_or seat_clock (slice_get seats p) (pos 0)
+
 -- the first controllers, so many, have planned, and what they send is on the medium
 pub record AreSent (list : Medl) (script : Script) (slot : ℕ) (chosen : List Chosen) (k : ℕ) (old new : List Seat)
     (carried : Carried) : Type 0 where
   pub passed : ArePassed (IsSentBy list script chosen) k old new new
+  pub from : IsFromClocks carried script slot (clock_in old)
   pub carries : (history : History) → length history ≡ slot → HaveBegun (slot_after list script history) 0 old
       → Carries (slot_after list script history)
       (flat_map (frames_of (slot_after list script history) chosen) (below k)) carried
@@ -265,6 +204,7 @@ module _ {list : Medl} {script : Script} {slot : ℕ} {chosen : List Chosen} whe
       → AreSent list script slot chosen 0 seats seats carried
   AreSent-none {seats = seats} {carried = carried} begins = record {
     passed = ArePassed-none seats seats (omega arith);
+    from = record { frames = []; stands = begins script (clock_in seats) };
     carries = λ history long begun.
         let clock = λ (p : ℕ). (node_of (slot_after list script history) p).clock in
         subst (λ (t : ℕ). medium.StandsFor carried script t [] clock) (sym long) (begins script clock);
@@ -274,46 +214,42 @@ module _ {list : Medl} {script : Script} {slot : ℕ} {chosen : List Chosen} whe
       (d : Seat) → AreSent list script slot chosen k old new before → k < length old → message ≡ chosen_of chosen k
       → IsPlannedFrom (get_or new k d) planned → PlansIn list script k message (get_or new k d) planned
       → PutsFrames list script k (get_or new k d) message before after
+      → KeepsClocks script k (get_or new k d) before after
       → AreSent list script slot chosen (k + 1) old (set new k planned) after
-  AreSent-more {k = k} {new = new} {before = before} {after = after} {planned = planned} d sent within is by plans
-      puts =
+  AreSent-more {k = k} {old = old} {new = new} {before = before} {after = after} {planned = planned} d sent within is
+      by plans puts clocks =
       let seat = get_or new k d in
+      let coming = ArePassed-coming sent.passed d within in
       record {
         passed = ArePassed-more sent.passed d within
             (by, subst (λ (m : Chosen). PlansIn list script k m seat planned) is plans);
+        from = clocks slot (clock_in old) (ap (λ (o : Option Seat). option_map_or seat_clock o (pos 0)) (sym coming)) sent.from;
         carries = λ history long begun.
             let s = slot_after list script history in
             subst (λ (frames : List SentFrame). Carries s frames after) (sym (flat_map-next (frames_of s chosen) k))
             (subst (λ (m : Chosen). PutsFrames list script k seat m before after) is puts history _
-            (each-of begun k (ArePassed-coming sent.passed d within)) (sent.carries history long begun));
+            (each-of begun k coming) (sent.carries history long begun));
       }
 
   -- the medium is in that slot
   pub AreSent-slot : {k : ℕ} {old new : List Seat} {carried : Carried}
-      → AreSent list script slot chosen k old new carried → MayPlan list script slot old chosen → carried.slot ≡ slot
-  AreSent-slot sent may = (sent.carries may.history may.slot_is may.begun).slot ∙ may.slot_is
+      → AreSent list script slot chosen k old new carried → carried.slot ≡ slot
+  AreSent-slot sent = sent.from.stands.slot
 
-  -- when all have planned, what is on the medium was sent by nodes whose clocks are near 0
-  pub AreSent-near : {bound n : ℕ} {old new : List Seat} {carried : Carried}
-      → AreSent list script slot chosen n old new carried → n ≡ length list.slots
-      → MayPlan list script slot old chosen → AreSeats list IsBegun bound 0 old → IsFromWithin carried script bound
-  AreSent-near {bound = bound} {n = n} {carried = carried} sent are_nodes may seats =
-      let s = slot_after list script may.history in
-      let stands = sent.carries may.history may.slot_is may.begun in
-      let frames = flat_map (frames_of s chosen) (below n) in
-      let clock = λ (p : ℕ). (node_of s p).clock in
-      let near = λ (z : ℤ). unsigned_abs z ≤ bound in
+  -- what is on the medium was sent by nodes whose clocks are near 0
+  pub AreSent-near : {bound k : ℕ} {old new : List Seat} {carried : Carried}
+      → AreSent list script slot chosen k old new carried → AreSeats list IsBegun bound 0 old
+      → IsFromWithin carried script bound
+  AreSent-near {bound = bound} {old = old} {carried = carried} sent seats =
       record {
-        frames = frames;
-        clock = clock;
-        stands = subst (λ (t : ℕ). medium.StandsFor carried script t frames clock) (sym stands.slot) stands;
-        near = λ p. ⊎_elim (λ (less : p < n).
-            let at = sent.passed.done p less in
-            subst near
-            (clock-node list script may.history p (omega (arith, are_nodes)) (each-of may.begun p at.was))
-            (each-of seats p at.was).clock)
-            (λ (beyond : n ≤ p).
-            let count = length-map-range_with_len (node_after list script may.history) 0 (length list.slots) in
-            let nobody = get_or_past s.nodes p (no_node list) (omega (arith, are_nodes, count)) in
-            subst near (ap (λ (b : BegunNode). b.clock) (sym nobody)) (omega arith)) (cases_lt p n);
+        frames = sent.from.frames;
+        clock = clock_in old;
+        stands = subst (λ (t : ℕ). medium.StandsFor carried script t sent.from.frames (clock_in old))
+            (sym sent.from.stands.slot) sent.from.stands;
+        near = λ p. near (slice_get old p) p refl;
       }
+    where
+      near : (there : Option Seat) (p : ℕ) → slice_get old p ≡ there
+          → unsigned_abs (option_map_or seat_clock there (pos 0)) ≤ bound
+      near (Some seat) p here = (each-of seats p here).clock
+      near None p here = omega arith

@@ -3,6 +3,7 @@ pub mod Heard
 pub mod InSlot
 pub mod Near
 pub mod Parts
+pub mod Payloads
 pub mod Sets
 pub mod Standing
 pub mod Stints

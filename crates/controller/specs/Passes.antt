@@ -4,12 +4,13 @@ use Rattle.ttp_world.specs.declared.medl.Medl.{Medl}
 use Rattle.ttp_world.specs.declared.node.Chosen.{Chosen}
 use Rattle.ttp_world.specs.declared.node.Delivered.{Delivered}
 use Rattle.ttp_world.specs.declared.script.Script.{Script}
+use Rattle.ttp_world.specs.Act.{act}
 use Rattle.ttp_world.specs.Conduct.{node_frames}
 use Rattle.ttp_world.specs.Diary.{History, diary_of, entry_of}
 use Rattle.ttp_world.specs.Medium.{SentFrame, surroundings_of}
 use Rattle.ttp_world.specs.Medl.{plan_at}
 use Rattle.ttp_world.specs.Messages.{status_words}
-use Rattle.ttp_world.specs.Script.{jump_of}
+use Rattle.ttp_world.specs.Script.{is_armed, is_on, jump_of}
 use Rattle.ttp_world.specs.World.{BegunSlot, jump_taken, node_of, node_past, slot_after, is_loaded, chosen_of}
 use Rattle.ttp_world.specs.World.{frames_in}
 use Rattle.ttp_world.specs.World.{delivered_in, row_in}
@@ -19,7 +20,7 @@ use Rattle.controller.specs.declared.controller.Intent.{Intent}
 use Rattle.controller.specs.declared.controller.Intent.TheVariants as intent
 use Rattle.controller.specs.declared.controller.Outcome.{Outcome}
 use Rattle.controller.specs.Kept.{kept}
-use Rattle.controller.specs.Limits.{IsPlanned, seat_clock, seat_intent}
+use Rattle.controller.specs.Limits.{IsPlanned, intent_by, seat_clock, seat_intent}
 use Rattle.controller.specs.Parts.{EachFrom}
 use Rattle.controller.specs.StandsFor.{StandsFor, IsSameSeat, message_planned, frames_planned, most_slots}
 use Rattle.controller.specs.Turn.{Turn, Begun, Planned, Seat}
@@ -64,12 +65,33 @@ AreChosen s chosen =
     (k : ℕ) → k < length s.list.slots → is_loaded s k ≡ true
     → length (chosen_of chosen k).payload ≡ (plan_at s.list k).payload
 
--- all controllers have begun the slot after some history, and the messages are chosen for it
-pub record MayPlan (list : Medl) (script : Script) (slot : ℕ) (seats : List Seat) (chosen : List Chosen) : Type 0 where
-  pub history : History
-  pub slot_is : length history ≡ slot
-  pub begun : HaveBegun (slot_after list script history) 0 seats
-  pub chosen_are : AreChosen (slot_after list script history) chosen
+-- So it is by what the controllers keep, whatever they stand for: where the frame of a controller's node carries a
+-- message, the one that is chosen has as much payload as the list gives the node.
+
+abbrev pub IsPayloadFor : Seat → Chosen → Type 0
+IsPayloadFor seat chosen =
+    seat_intent seat ≡ intent.Loaded → length chosen.payload ≡ (plan_at seat.list seat.node).payload
+
+-- for the controllers of the nodes from a first one on
+abbrev pub ArePayloadsFor : List Chosen → ℕ → List Seat → Type 0
+ArePayloadsFor chosen first seats = EachFrom first (λ k seat. IsPayloadFor seat (chosen_of chosen k)) seats
+
+-- what node k is to send in a slot, by what its controller keeps before it
+abbrev pub intent_before : Script → ℕ → ℕ → Seat → Intent
+intent_before script slot k seat =
+    intent_by seat.list seat.past
+    (act seat.list seat.node (is_on script k slot) (is_armed script k slot) seat.past)
+
+-- the same of the slot that comes
+
+abbrev pub IsPayloadBefore : Script → ℕ → Chosen → ℕ → Seat → Type 0
+IsPayloadBefore script slot chosen k seat =
+    intent_before script slot k seat ≡ intent.Loaded
+    → length chosen.payload ≡ (plan_at seat.list seat.node).payload
+
+abbrev pub ArePayloadsBefore : Script → ℕ → List Chosen → ℕ → List Seat → Type 0
+ArePayloadsBefore script slot chosen first seats =
+    EachFrom first (λ k seat. IsPayloadBefore script slot (chosen_of chosen k) k seat) seats
 
 -- the payload that is handed to a node that will send this
 abbrev pub payload_handed : Intent → Chosen → List ℕ
@@ -156,10 +178,16 @@ EndsSlot list script carried k old new outcome =
     HasPlanned s (chosen_of chosen k) k old → Carries s (frames_in s chosen) carried
     → StandsAfter script (row_in s chosen ∷ history) k new × IsLeft list script history chosen k outcome
 
--- where its frame carries a message, the one that is chosen has as much payload as the list gives its node
-abbrev pub IsPayloadFor : Seat → Chosen → Type 0
-IsPayloadFor seat chosen =
-    seat_intent seat ≡ intent.Loaded → length chosen.payload ≡ (plan_at seat.list seat.node).payload
+-- what is on the medium was sent in a slot, by nodes whose clocks are so far ahead
+pub record IsFromClocks (carried : Carried) (script : Script) (slot : ℕ) (clock : ℕ → ℤ) : Type 0 where
+  pub frames : List SentFrame
+  pub stands : medium.StandsFor carried script slot frames clock
+
+-- so it is still, once what node k sends is put
+abbrev pub KeepsClocks : Script → ℕ → Seat → Carried → Carried → Type 0
+KeepsClocks script k old before after =
+    (slot : ℕ) (clock : ℕ → ℤ) → seat_clock old ≡ clock k → IsFromClocks before script slot clock
+    → IsFromClocks after script slot clock
 
 -- it stays the controller of its node, with the clock of the slot, and has planned
 pub record IsPlannedFrom (old new : Seat) : Type 0 where

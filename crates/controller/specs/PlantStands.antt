@@ -9,14 +9,17 @@ use Rattle.ttp_world.specs.Past.{state_of}
 use Rattle.ttp_world.specs.World.{slot_after, row_in, node_past}
 use Rattle.controller.specs.declared.controller.Outcome.{Outcome}
 use Rattle.controller.specs.Parts.{EachFrom}
-use Rattle.controller.specs.Passes.{StandAfter, AreChosen, IsLeft}
+use Rattle.controller.specs.Passes.{ArePayloadsBefore, IsLeft, StandAfter}
 use Rattle.controller.specs.PlantView.{PlantView}
+use Rattle.controller.specs.PlantWithin.{AreSeats, IsEnded, most_ahead}
 use Rattle.controller.specs.StandsFor.{StandsFor}
 use Rattle.controller.specs.Turn.{Seat}
 
--- each controller stands for its node's diary, and for what came to the node from outside
+-- each controller is its node's, and stands for the node's diary and for what came to the node from outside
 pub record PlantStandsFor (plant : PlantView) (script : Script) (history : History) : Type 0 where
   pub slot : plant.slot ≡ length history
+  pub count : length plant.seats ≡ length plant.list.slots
+  pub are : AreSeats plant.list IsEnded (most_ahead plant.slot) 0 plant.seats
   pub seats : StandAfter script history 0 plant.seats
 
 -- the plant of a list after so many slots
@@ -36,11 +39,10 @@ outcome_at plant k = get_or plant.outcomes k no_outcome
 
 -- A slot.
 
--- the plant stands for some history, and messages are chosen for the slot after it
-pub record MayStep (plant : PlantView) (script : Script) (chosen : List Chosen) : Type 0 where
-  pub history : History
-  pub stands : PlantStandsFor plant script history
-  pub chosen_are : AreChosen (slot_after plant.list script history) chosen
+-- Where a node's frame is to carry a message in the slot that comes, the one that is chosen has as much payload as the
+-- list gives the node. What the frame is to carry is told by what the node's controller keeps, and by this script.
+abbrev pub MayStep : PlantView → Script → List Chosen → Type 0
+MayStep plant script chosen = ArePayloadsBefore script plant.slot chosen 0 plant.seats
 
 -- a slot takes a plant from a history to the history with one row more
 pub record IsStep (new : PlantView) (script : Script) (history : History) (chosen : List Chosen) : Type 0 where

@@ -1,10 +1,11 @@
 //! A controller: one node, slot by slot.
 ghost use Rattle.std.specs.Prelude.{◌≡◌, ◌&&◌, ◌<◌, ◌≤◌, ◌+◌, [], length, unsigned_abs, IsOk, IfOk};
+ghost use Rattle.ttp_world.specs.Act.{act};
 ghost use Rattle.ttp_world.specs.Medl.{IsValid};
 ghost use Rattle.ttp_world.specs.World.{jump_taken};
 ghost use Rattle.controller.specs.Hearing.{is_silent_arrival};
 ghost use Rattle.controller.specs.Limits.{JumpFits, ArrivalFits, StaysNear, IsBegun, IsPlanned, seat_clock};
-ghost use Rattle.controller.specs.Limits.{seat_intent, payload_wanted};
+ghost use Rattle.controller.specs.Limits.{intent_by, seat_intent, payload_wanted};
 ghost use Rattle.controller.specs.StandsFor.{StandsFor, IsSameSeat, Begins, Plans, Ends, ShowsState};
 ghost use Rattle.controller.specs.Turn.{Ended};
 
@@ -136,6 +137,8 @@ impl Controller {
         requires clock { JumpFits self.old.past.offset jump }
         ensures same { IsSameSeat self.old self.new }
         ensures begins { Begins self.old self.new on armed jump }
+        ensures sends { seat_intent self.new
+            ≡ intent_by self.old.list self.old.past (act self.old.list self.old.node on armed self.old.past) }
         ensures clock { unsigned_abs (seat_clock self.new) ≤ unsigned_abs self.old.past.offset + unsigned_abs jump }
         ensures turn { IsBegun self.new.turn }
     {

@@ -20,6 +20,7 @@ mod controller;
 mod ending;
 mod form;
 mod hearing;
+pub mod laws;
 mod node;
 mod passes;
 mod plant;

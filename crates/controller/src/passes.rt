@@ -19,9 +19,10 @@ ghost use Rattle.ttp_world.specs.Medl.{IsValid};
 ghost use Rattle.ttp_world.specs.Script.{IsWithinSpan};
 ghost use Rattle.ttp_world.specs.World.{BegunSlot, slot_after, is_loaded, frames_in};
 ghost use Rattle.controller.specs.Limits.{IsBegun, IsPlanned};
-ghost use Rattle.controller.specs.Passes.{StandAfter, HasBegun, HaveBegun, MayPlan, HavePlanned, Carries, HaveEnded};
+ghost use Rattle.controller.specs.Passes.{StandAfter, HasBegun, HaveBegun, HavePlanned, Carries, HaveEnded};
 ghost use Rattle.controller.specs.Passes.{BeginsSlot, PlansSlot, PlansIn, PutsFrames, EndsSlot, IsPlannedFrom};
-ghost use Rattle.controller.specs.Passes.{IsPayloadFor, payload_handed};
+ghost use Rattle.controller.specs.Passes.{ArePayloadsBefore, ArePayloadsFor, IsPayloadBefore, IsPayloadFor};
+ghost use Rattle.controller.specs.Passes.{KeepsClocks, payload_handed};
 ghost use Rattle.controller.specs.PlantWithin.{most_ahead, most_ahead_in, IsEnded, IsSeatOf, AreSeats};
 ghost use Rattle.controller.specs.PlantWithin.{IsIncidentsOf, AreIncidents, IsFromWithin};
 
@@ -45,6 +46,8 @@ fn begin_one(
     ensures incidents { IsIncidentsOf script.now slot k incidents.new }
     ensures seat { IsSeatOf list.now IsBegun (most_ahead_in slot) k controller.new }
     ensures begins { BeginsSlot list.now script.now slot k controller.old controller.new }
+    ensures payload { (chosen : Choice) → IsPayloadBefore script.now slot chosen k controller.old
+        → IsPayloadFor controller.new chosen }
 {
     let mut last = controller.last_look_up();
     *incidents = script.incidents_after(k, slot, &mut last);
@@ -77,6 +80,8 @@ pub fn begin_all(
     ensures seats { AreSeats list.now IsBegun (most_ahead_in slot) first controllers.new }
     ensures begin { (history : History) → length history ≡ slot → StandAfter script.now history first controllers.old
         → HaveBegun (slot_after list.now script.now history) first controllers.new }
+    ensures payloads { (chosen : List Choice) → ArePayloadsBefore script.now slot chosen first controllers.old
+        → ArePayloadsFor chosen first controllers.new }
 {
     for j in 0..controllers.len() {
         begin_one(
@@ -137,6 +142,7 @@ fn send_one(
     ensures planned { IsPlannedFrom controller.old controller.new }
     ensures plans { PlansIn list.now script.now k chosen.now controller.old controller.new }
     ensures puts { PutsFrames list.now script.now k controller.old chosen.now medium.old medium.new }
+    ensures clocks { KeepsClocks script.now k controller.old medium.old medium.new }
 {
     if let Some(frame) = plan_one(controller, list, chosen) {
         medium.put(script, incidents, k, &frame, controller.clock());
@@ -163,7 +169,7 @@ pub fn plan_all(
     requires looked_up { length incidents.now ≡ length list.now.slots }
     requires incidents { AreIncidents script.now slot 0 incidents.now }
     requires count { length chosen.now ≡ length list.now.slots }
-    requires chosen { MayPlan list.now script.now slot controllers.old chosen.now }
+    requires chosen { ArePayloadsFor chosen.now 0 controllers.old }
     ensures count { length controllers.new ≡ length controllers.old }
     ensures seats { AreSeats list.now IsPlanned (most_ahead_in slot) 0 controllers.new }
     ensures slot { medium.new.slot ≡ slot }

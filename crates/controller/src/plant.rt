@@ -18,6 +18,7 @@ use crate::passes::{begin_all, plan_all, take_all};
 use medium::Medium;
 use std::alloc::Global;
 use std::marker::Model;
+use std::snapshot::Snapshot;
 use ttp_base::{List, Memory};
 use ttp_world::{Channels, Chosen, Delivered, Incidents, Medl, NodeState, Script, StatusWords};
 
@@ -27,7 +28,8 @@ use ttp_world::{Channels, Chosen, Delivered, Incidents, Medl, NodeState, Script,
 /// diary. A slot takes it to that history with one row more, which is the world's.
 #[derive(Drop)]
 pub struct Plant {
-    list: Medl,
+    // The list that it was made with. Proofs alone read it, and it takes no bytes.
+    given: Snapshot<Medl>,
     // How many slots there were.
     slot: u32,
     medium: Medium,
@@ -46,9 +48,9 @@ impl Model for Plant {
 
     ghost use Rattle.controller.specs.PlantStands.{plant_of};
 
-    ghost view = { λ p. plant_of p.list p.slot p.controllers.items p.outcomes.items };
+    ghost view = { λ p. plant_of p.given.value p.slot p.controllers.items p.outcomes.items };
 
-    ghost invariant = { λ p. IsPlantWithin p.list p.slot p.controllers.items p.incidents.items p.outcomes.items };
+    ghost invariant = { λ p. IsPlantWithin p.given.value p.slot p.controllers.items p.incidents.items p.outcomes.items };
 }
 
 /// The controllers of a list's nodes, before the first slot.
@@ -143,7 +145,7 @@ impl Plant {
         ensures outcomes { IfOk result (λ plant. plant.outcomes ≡ no_outcomes list.now) }
     {
         Ok(Plant {
-            list: list.copy(alloc)?,
+            given: Snapshot::of(list),
             slot: 0,
             medium: Medium::new(alloc, list)?,
             controllers: controllers_of(alloc, list)?,

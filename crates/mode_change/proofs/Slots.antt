@@ -30,6 +30,7 @@ use Rattle.ttp_world.proofs.Worlds.{row_of_world, world-of_list}
 use Rattle.controller.specs.Passes.{AreChosen, IsLeft}
 use Rattle.controller.specs.PlantStands.{PlantStandsFor, MayStep, IsStep, Steps, outcome_at}
 use Rattle.controller.specs.PlantView.{PlantView}
+use Rattle.controller.proofs.Payloads.{chosen-step}
 use Rattle.trace_check.specs.declared.outgoing.Outgoing.{Outgoing}
 use Rattle.trace_check.specs.Following.{lines_of_slot}
 use Rattle.trace_check.specs.Outgoing.{Chooses, HoldsNewest, number_in, number_named}
@@ -108,13 +109,11 @@ module _ (list : Medl) (script : Script) (valid : IsValid list) (valid_script : 
 
   pub may-step : (plant : PlantView) → plant.list ≡ list → PlantStandsFor plant script (world list script numbers)
       → MayStep plant script chosen
-  may-step plant same stands = record {
-    history = world list script numbers;
-    stands = stands;
-    chosen_are = subst (λ (l : Medl). AreChosen (slot_after l script (world list script numbers)) chosen) (sym same)
-        (chosen-sizes list script valid valid_script numbers legal chosen
-        (number_in list script (length numbers) text) number_legal chosen_at);
-  }
+  may-step plant same stands =
+      chosen-step chosen (subst IsValid (sym same) valid) stands
+      (subst (λ (l : Medl). AreChosen (slot_after l script (world list script numbers)) chosen) (sym same)
+      (chosen-sizes list script valid valid_script numbers legal chosen
+      (number_in list script (length numbers) text) number_legal chosen_at))
 
   -- what a node was asked for, by its entry
   asked-by : (delivered : Option Delivered) (k : ℕ) → k < length list.slots

@@ -38,6 +38,7 @@ use Rattle.frame_fates.proofs.NamedRuns.{legal-names, named-run}
 use Rattle.controller.specs.Passes.{AreChosen}
 use Rattle.controller.specs.PlantStands.{MayStep, PlantStandsFor, Steps}
 use Rattle.controller.specs.PlantView.{PlantView}
+use Rattle.controller.proofs.Payloads.{chosen-step}
 use Rattle.trace_check.specs.declared.follow.Follower.{Follower}
 use Rattle.trace_check.specs.declared.incoming.Incoming.{Incoming}
 use Rattle.trace_check.specs.declared.outgoing.Outgoing.{Outgoing}
@@ -149,13 +150,11 @@ module _ (list : Medl) (script : Script) (valid : IsValid list) (valid_script : 
       ∙ ap (λ (m : ℕ). message_chosen list script m k (Some (number_in list script m text k))) count
 
   pub may-step : MayStep old.plant script chosen
-  may-step = record {
-    history = world list script numbers;
-    stands = stands.plant;
-    chosen_are = subst (λ (l : Medl). AreChosen (slot_after l script (world list script numbers)) chosen) (sym stands.same)
-        (chosen-sizes list script valid valid_script numbers legal chosen (number_in list script (length numbers) text)
-        number_legal chosen_at);
-  }
+  may-step =
+      chosen-step chosen (subst IsValid (sym stands.same) valid) stands.plant
+      (subst (λ (l : Medl). AreChosen (slot_after l script (world list script numbers)) chosen) (sym stands.same)
+      (chosen-sizes list script valid valid_script numbers legal chosen (number_in list script (length numbers) text)
+      number_legal chosen_at))
 
   module _ (plant : PlantView) (steps : Steps old.plant plant script chosen) (same : plant.list ≡ old.plant.list) where
     pub ended : HasEnded plant old.incoming list script (world list script numbers) chosen

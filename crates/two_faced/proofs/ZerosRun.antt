@@ -6,12 +6,13 @@ use Rattle.ttp_world.specs.declared.medl.Medl.{Medl}
 use Rattle.ttp_world.specs.declared.node.Chosen.{Chosen}
 use Rattle.ttp_world.specs.declared.script.Script.{Script}
 use Rattle.ttp_world.specs.Diary.{History}
-use Rattle.ttp_world.specs.Medl.{plan_at}
+use Rattle.ttp_world.specs.Medl.{IsValid, plan_at}
 use Rattle.ttp_world.specs.Outgoing.{nothing_chosen}
 use Rattle.ttp_world.specs.World.{slot_after, step}
 use Rattle.controller.specs.Passes.{AreChosen}
 use Rattle.controller.specs.PlantStands.{PlantStandsFor, MayStep, Steps}
 use Rattle.controller.specs.PlantView.{PlantView}
+use Rattle.controller.proofs.Payloads.{chosen-step}
 use Rattle.frame_fates.specs.Runs.{HaveSizes, IsRun}
 use Rattle.two_faced.specs.ZerosRun.{zeros_chosen, all_zeros, zeros_world}
 
@@ -48,17 +49,14 @@ zeros-run list script (suc slots) = (
 
 -- A plant.
 
-pub may_step : (list : Medl) (script : Script) (slot : ℕ) (plant : PlantView) (chosen : List Chosen)
+pub may_step : (list : Medl) (script : Script) (slot : ℕ) (plant : PlantView) (chosen : List Chosen) → IsValid list
     → plant.list ≡ list → chosen ≡ all_zeros list → PlantStandsFor plant script (zeros_world list script slot)
     → MayStep plant script chosen
-may_step list script slot plant chosen same zeros stands = record {
-  history = zeros_world list script slot;
-  stands = stands;
-  chosen_are =
-      subst (λ (l : Medl). AreChosen (slot_after l script (zeros_world list script slot)) chosen) (sym same)
-      (subst (AreChosen (slot_after list script (zeros_world list script slot))) (sym zeros)
-      (zeros-sizes list script (zeros_world list script slot)));
-}
+may_step list script slot plant chosen valid same zeros stands =
+    chosen-step chosen (subst IsValid (sym same) valid) stands
+    (subst (λ (l : Medl). AreChosen (slot_after l script (zeros_world list script slot)) chosen) (sym same)
+    (subst (AreChosen (slot_after list script (zeros_world list script slot))) (sym zeros)
+    (zeros-sizes list script (zeros_world list script slot))))
 
 pub plant_next : (list : Medl) (script : Script) (slot : ℕ) (old new : PlantView) (chosen : List Chosen)
     → new.list ≡ list → chosen ≡ all_zeros list

@@ -7,7 +7,7 @@ mod parts;
 
 use self::parts::slot_in_parts;
 use crate::node::tests::four_nodes;
-use crate::{Controller, Plant, is_loaded};
+use crate::{Controller, Plant, is_loaded, laws};
 use std::alloc::Global;
 use std::test::Fail;
 use ttp_base::{List, Memory};
@@ -100,6 +100,7 @@ fn after(alloc: Global, slots: u32, in_parts: bool) -> Result<Plant, Memory>
 fn a_cluster_starts(rt: HostRuntime) -> Result<(), Fail> {
     let alloc = rt.alloc();
     let list = four_nodes(alloc)?;
+    laws::plants_of_scripts_that_agree();
     let plant = Plant::new(alloc, &list)?;
     assert!(rt; plant.node(0).phase == Phase::Off);
     assert!(rt; !is_loaded(&Controller::new(alloc, &list, 0)?));

@@ -6,6 +6,7 @@ use Rattle.ttp_world.proofs.Worlds.{length-world}
 use Rattle.controller.specs.Limits.{IsBegun, IsPlanned}
 use Rattle.controller.specs.Passes.{AreChosen, Carries, HaveBegun, HavePlanned, StandAfter}
 use Rattle.controller.specs.PlantWithin.{AreIncidents, AreSeats, most_ahead_in}
+use Rattle.controller.proofs.Payloads.{payloads-chosen}
 use Rattle.host_port.specs.Rings.{PortState}
 use Rattle.cluster_run.specs.Choosing.{HaveBegunFor, HaveChosen, next_slot}
 use Rattle.cluster_run.proofs.ChosenSizes.{chosen_sizes}
@@ -69,15 +70,18 @@ plan_all-requires-clause-chosen g c =
     } in
     let told = with_items_is nodes.chosen c.choose.new.chosen
     (omega (arith, c.in_ok-writes.ensures.chosen_count, c.deref_mut-3.ensures.len)) in
-    record {
-      history = world list script numbers;
-      slot_is = slots;
-      begun = subst (HaveBegun s 0) (sym (c.deref_mut-4.ensures.value ∙ begun)) has_begun;
-      chosen_are =
-          subst (AreChosen s) (sym (c.deref-4.ensures.value ∙ told))
-          (chosen_sizes list script numbers c.choose.new.chosen c.choose.new.ends.items c.requires.script
-          (c.in_ok-writes.ensures.chooses numbers begun_for));
-    }
+    payloads-chosen c.deref-4.result.now
+    (omega (
+      arith,
+      ap length (c.deref_mut-4.ensures.value ∙ begun),
+      c.begin_all.ensures.count,
+      ap length c.deref_mut.ensures.value,
+      c.requires.nodes.controllers,
+    ))
+    (subst (HaveBegun s 0) (sym (c.deref_mut-4.ensures.value ∙ begun)) has_begun)
+    (subst (AreChosen s) (sym (c.deref-4.ensures.value ∙ told))
+    (chosen_sizes list script numbers c.choose.new.chosen c.choose.new.ends.items c.requires.script
+    (c.in_ok-writes.ensures.chooses numbers begun_for)))
 
 pub returns-clause-nodes : goal.returns-clause-nodes
 returns-clause-nodes g c =

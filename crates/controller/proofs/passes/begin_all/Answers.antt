@@ -1,4 +1,5 @@
-use Rattle.std.proofs.Common.{arith}
+use Rattle.std.proofs.Common.{◌+◌, arith}
+use Rattle.ttp_world.specs.World.{chosen_of}
 use Rattle.controller.proofs.Parts.{ArePassed-none, ArePassed-more, ArePassed-coming, each-new, each-left}
 use Rattle.controller.proofs.passes.begin_all.Goals as goal
 
@@ -13,7 +14,7 @@ begin_one-requires-clause-seat c =
 pub loop-j-preserved : goal.loop-j-preserved
 loop-j-preserved c =
     ArePassed-more c.loop-j.invariant c.index-controllers-j.result (omega arith)
-    (c.begin_one.ensures.incidents, c.begin_one.ensures.seat, c.begin_one.ensures.begins)
+    (c.begin_one.ensures.incidents, c.begin_one.ensures.seat, c.begin_one.ensures.begins, c.begin_one.ensures.payload)
 
 pub returns-clause-incidents : goal.returns-clause-incidents
 returns-clause-incidents c =
@@ -26,3 +27,8 @@ returns-clause-seats c = each-new c.loop-j.invariant (omega arith) c.requires.se
 pub returns-clause-begin : goal.returns-clause-begin
 returns-clause-begin c history long stand =
     each-new c.loop-j.invariant (omega arith) stand (λ j x y z of stands. of.2 history long stands)
+
+pub returns-clause-payloads : goal.returns-clause-payloads
+returns-clause-payloads c chosen before =
+    each-new c.loop-j.invariant (omega arith) before
+    (λ j x y z of was. of.3 (chosen_of chosen (c.args.first + j)) was)

@@ -1,7 +1,10 @@
 use Rattle.std.proofs.Common.{sym, ◌∙◌, ap}
+use Rattle.ttp_world.specs.Act.{act}
 use Rattle.ttp_world.specs.Script.{is_on, is_armed, jump_of}
+use Rattle.controller.specs.Limits.{intent_by}
 use Rattle.controller.proofs.InSlot.{begun-node}
 use Rattle.controller.proofs.Near.{jump_same, jump_fits, begun-seat}
+use Rattle.controller.proofs.Payloads.{payload-begun}
 use Rattle.controller.proofs.passes.begin_one.Goals as goal
 
 pub begin-requires-clause-clock : goal.begin-requires-clause-clock
@@ -24,3 +27,12 @@ returns-clause-begins c history long stands =
     (ap (λ w. w.armed) happens.value ∙ ap (is_armed script k) (sym long))
     (jump_same happens.bounds ∙ ap (λ w. w.jump) happens.value ∙ ap (jump_of script k) (sym long))
     c.requires.seat.list c.requires.seat.node c.begin.ensures.same c.begin.ensures.begins stands)
+
+pub returns-clause-payload : goal.returns-clause-payload
+returns-clause-payload c chosen before =
+    let seat = c.args.controller.now in
+    let armed = ap (λ w. w.armed) c.incidents_after.ensures.value in
+    rw c.keep_look_up.ensures
+    (payload-begun c.args.script.now c.args.slot c.args.k chosen c.begin.ensures.same
+    (c.begin.ensures.sends
+    ∙ (λ i. intent_by seat.list seat.past (act seat.list seat.node (c.is_on.ensures i) (armed i) seat.past))) before)

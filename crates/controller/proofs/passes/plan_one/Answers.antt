@@ -1,7 +1,8 @@
 use Rattle.std.proofs.Common.{length, ap, ◌∙◌}
 use Rattle.controller.specs.Limits.{seat_intent}
 use Rattle.controller.specs.Passes.{payload_handed}
-use Rattle.controller.proofs.InSlot.{length-payload_handed, planned-node}
+use Rattle.controller.proofs.InSlot.{planned-node}
+use Rattle.controller.proofs.Payloads.{length-payload_handed}
 use Rattle.controller.proofs.passes.plan_one.Goals as goal
 
 pub plan-requires-clause-payload : goal.plan-requires-clause-payload

@@ -7,7 +7,8 @@ ghost use Rattle.ttp_world.specs.Medl.{IsValid};
 ghost use Rattle.ttp_world.specs.Script.{IsValidScript, IsWithinSpan};
 ghost use Rattle.ttp_world.specs.World.{slot_after, frames_in};
 ghost use Rattle.controller.specs.Limits.{IsBegun, IsPlanned};
-ghost use Rattle.controller.specs.Passes.{StandAfter, HaveBegun, HavePlanned, Carries, HaveEnded};
+ghost use Rattle.controller.specs.Passes.{ArePayloadsBefore, ArePayloadsFor, StandAfter, HaveBegun, HavePlanned};
+ghost use Rattle.controller.specs.Passes.{Carries, HaveEnded};
 ghost use Rattle.controller.specs.PlantStands.{plant_of, MayStep, Steps};
 ghost use Rattle.controller.specs.PlantWithin.{most_ahead, most_ahead_in, IsEnded, AreSeats, AreIncidents};
 ghost use Rattle.controller.specs.PlantWithin.{IsFromWithin};
@@ -42,6 +43,8 @@ fn begin_in_parts(
     ensures seats { AreSeats list.now IsBegun (most_ahead_in slot) 0 controllers.new }
     ensures begin { (history : History) → length history ≡ slot → StandAfter script.now history 0 controllers.old
         → HaveBegun (slot_after list.now script.now history) 0 controllers.new }
+    ensures payloads { (chosen : List Choice) → ArePayloadsBefore script.now slot chosen 0 controllers.old
+        → ArePayloadsFor chosen 0 controllers.new }
 {
     let (front, back) = controllers.split_at_mut(cut as usize);
     let (front_incidents, back_incidents) = incidents.split_at_mut(cut as usize);

@@ -2,6 +2,7 @@ use Rattle.std.proofs.Common.{w64, rules, sym, ap, subst, ◌∙◌}
 use Rattle.std.proofs.lemmas.Int.{to_z-of_z}
 use Rattle.ttp_world.specs.Act.{act}
 use Rattle.ttp_world.specs.World.{jump_taken}
+use Rattle.controller.specs.Limits.{intent_by}
 use Rattle.controller.specs.SeatWithin.{IsSeatWithin}
 use Rattle.controller.proofs.Standing.{Begins-turn}
 use Rattle.controller.proofs.controller.Controller.begin.Goals as goal
@@ -23,3 +24,11 @@ returns-clause-begins c =
     (c.act-act.ensures ∙ (λ i. act (same i) n.number c.args.on c.args.armed n.node))
     (to_z-of_z w64 c.jump_taken.result (search rules) ∙ c.jump_taken.ensures ∙ ap (jump_taken c.act-act.result)
     (to_z-of_z w64 c.args.jump (search rules))))
+
+pub returns-clause-sends : goal.returns-clause-sends
+returns-clause-sends c =
+    let n = c.self.inside in
+    let same = c.requires.list ∙ ap (λ seat. seat.list) (sym c.self.view_is) in
+    rw (← c.self.view_is)
+    (ap (intent_by n.given.value n.node)
+    (c.act-act.ensures ∙ (λ i. act (same i) n.number c.args.on c.args.armed n.node)))

@@ -1,7 +1,7 @@
-use Rattle.std.proofs.Common.{◌+◌, [], length, ap, ◌∙◌, arith}
-use Rattle.ttp_world.specs.Medl.{plan_at}
+use Rattle.std.proofs.Common.{◌+◌, [], length, ap, ◌∙◌, subst, sym, arith}
+use Rattle.ttp_world.specs.Medl.{IsValid, plan_at}
 use Rattle.ttp_world.specs.World.{slot_after}
-use Rattle.controller.proofs.InSlot.{nothing-chosen}
+use Rattle.controller.proofs.Payloads.{chosen-step, nothing-chosen}
 use Rattle.controller.proofs.plant.tests.after.Goals as goal
 
 pub loop-slot-init : goal.loop-slot-init
@@ -12,15 +12,13 @@ loop-slot-init c =
 pub slot_by-requires-clause-chosen : goal.slot_by-requires-clause-chosen
 slot_by-requires-clause-chosen c =
     let invariant = c.loop-slot.invariant in
-    record {
-      history = invariant.history;
-      stands = invariant.stands;
-      chosen_are = nothing-chosen (slot_after c.loop-slot.plant.list c.in_ok-script.script invariant.history)
-          c.nothing_for_all-chosen.result
-          (λ k. ap (λ l. (plan_at l k).payload) invariant.list ∙ c.in_ok-list.ensures.bare k)
-          (omega (arith, ap (λ l. length l.slots) invariant.list, c.in_ok-list.ensures.slots))
-          c.nothing_for_all-chosen.ensures;
-    }
+    let same = invariant.list in
+    chosen-step c.nothing_for_all-chosen.result (subst IsValid (sym same) c.in_ok-list.ensures.valid) invariant.stands
+    (nothing-chosen (slot_after c.loop-slot.plant.list c.in_ok-script.script invariant.history)
+    c.nothing_for_all-chosen.result
+    (λ k. ap (λ l. (plan_at l k).payload) same ∙ c.in_ok-list.ensures.bare k)
+    (omega (arith, ap (λ l. length l.slots) same, c.in_ok-list.ensures.slots))
+    c.nothing_for_all-chosen.ensures)
 
 pub loop-slot-preserved : goal.loop-slot-preserved
 loop-slot-preserved c =

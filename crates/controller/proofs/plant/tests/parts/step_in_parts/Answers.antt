@@ -10,7 +10,18 @@ returns-clause-steps c history stands =
     let ended = c.take_in_parts.ensures.end history c.args.chosen.now (c.plan_all.ensures.plan history begun)
     (c.plan_all.ensures.carries history (sym stands.slot) begun) in
     record {
-      stands = record { slot = add-one c.args.slot ∙ ap suc stands.slot; seats = ended.stand };
+      stands = record {
+        slot = add-one c.args.slot ∙ ap suc stands.slot;
+        count = omega (
+          arith,
+          c.take_in_parts.ensures.count,
+          c.plan_all.ensures.count,
+          c.begin_in_parts.ensures.count,
+          c.requires.nodes,
+        );
+        are = rw (c.plan_all.ensures.slot) at c.take_in_parts.ensures.seats;
+        seats = ended.stand;
+      };
       left = λ k node. each-of ended.left k
           (slice_get-get_or c.take_in_parts.new.outcomes k no_outcome (omega (arith, c.requires.outcomes)));
     }

@@ -1,0 +1,69 @@
+"""Checks that are counted, for the scripts of this folder: each compares what was found with what is right.
+
+`TTPBENCH_UNPROVED` names a program that was built with no proof, which stands for the proved one. It is many times slower
+and does its own bookkeeping of memory, so some checks are left out with it, and counted as left.
+"""
+
+import concurrent.futures
+import os
+import subprocess
+import sys
+import threading
+
+TOP = os.path.dirname(os.path.dirname(os.path.realpath(__file__)))
+UNPROVED = os.environ.get("TTPBENCH_UNPROVED")
+
+
+def program():
+    """The program that is checked."""
+    built = UNPROVED or os.path.join(TOP, "crates", "ttpbench", "out", "ttpbench")
+    if not os.path.exists(built):
+        sys.exit(f"{built} is not there: ./prove builds it")
+    return built
+
+
+def answer(words, *, out=subprocess.PIPE, seconds=120, **how):
+    """The status, the output as text, and what was said on standard error, of the program with these words."""
+    try:
+        ran = subprocess.run(
+            [program(), *words], stdout=out, stderr=subprocess.PIPE, stdin=subprocess.DEVNULL, timeout=seconds, check=False, **how
+        )
+    except subprocess.TimeoutExpired:
+        return "no end", "", ""
+    return ran.returncode, (ran.stdout or b"").decode("latin-1"), ran.stderr.decode("latin-1")
+
+
+class Counted:
+    """What was checked so far, by as many threads as there are processors."""
+
+    def __init__(self, name):
+        self.name = name
+        self.passed = self.failed = self.left = 0
+        self.lock = threading.Lock()
+
+    def check(self, what, found, right):
+        with self.lock:
+            if found == right:
+                self.passed += 1
+                return True
+            self.failed += 1
+            print(f"check failed: {self.name}: {what}\n--- expected\n{right}\n--- found\n{found}", flush=True)
+            return False
+
+    def leave(self, count):
+        """So many checks are not made with a program that is not proved."""
+        self.left += count
+
+    def side_by_side(self, tasks):
+        """Does all tasks; one that raises is a check that failed."""
+        with concurrent.futures.ThreadPoolExecutor(len(os.sched_getaffinity(0))) as pool:
+            for what, done in [(what, pool.submit(task)) for what, task in tasks]:
+                fault = done.exception()
+                if fault is not None:
+                    self.check(what, repr(fault), "an answer")
+
+    def end(self):
+        """Prints the counts, and gives the status to end with."""
+        left = f", {self.left} left out" if self.left else ""
+        print(f"{self.name}: {self.passed} passed, {self.failed} failed{left}")
+        return 1 if self.failed or not self.passed else 0

@@ -1,0 +1,152 @@
+-- What is chosen for a node to send is as long as its frame wants it.
+use Rattle.std.proofs.Common.{◌≡◌, ℕ, ◌<◌, ◌≤◌, ℤ, Bool, true, false, cond, List, [], ◌∷◌, length, refl, ap, sym, ◌∙◌}
+use Rattle.std.proofs.Common.{◌+◌, arith}
+use Rattle.std.specs.Prelude.{All}
+use Rattle.std.proofs.lemmas.List.Elements.{All-get_or}
+use Rattle.std.proofs.lemmas.Option.{slice_get_within}
+use Rattle.ttp_world.specs.declared.medl.Medl.{Medl}
+use Rattle.ttp_world.specs.declared.node.Act.{Act}
+use Rattle.ttp_world.specs.declared.node.Act.TheVariants.{Send}
+use Rattle.ttp_world.specs.declared.node.Chosen.{Chosen}
+use Rattle.ttp_world.specs.declared.script.Script.{Script}
+use Rattle.ttp_world.specs.Act.{act, coming_place}
+use Rattle.ttp_world.specs.Conduct.{carries_payload}
+use Rattle.ttp_world.specs.Diary.{Diary, History, Surroundings, diary_of}
+use Rattle.ttp_world.specs.Medium.{surroundings_of}
+use Rattle.ttp_world.specs.Medl.{IsValid, plan_at}
+use Rattle.ttp_world.specs.Outgoing.{nothing_chosen}
+use Rattle.ttp_world.specs.Past.{NodePast, past_of}
+use Rattle.ttp_world.specs.Script.{is_on, is_armed}
+use Rattle.ttp_world.specs.World.{BegunNode, BegunSlot, node_of, slot_after, chosen_of, sends_payload, is_loaded}
+use Rattle.ttp_world.proofs.Slots.{node_of-slot_after}
+use Rattle.controller.specs.declared.controller.Intent.{Intent}
+use Rattle.controller.specs.declared.controller.Intent.TheVariants as intent
+use Rattle.controller.specs.Limits.{intent_by, loaded_length, seat_intent, turn_intent}
+use Rattle.controller.specs.Kept.{kept}
+use Rattle.controller.specs.Passes.{AreChosen, ArePayloadsFor, HasBegun, HaveBegun, IsPayloadBefore, IsPayloadFor}
+use Rattle.controller.specs.Passes.{intent_before, payload_handed}
+use Rattle.controller.specs.PlantStands.{MayStep, PlantStandsFor}
+use Rattle.controller.specs.PlantView.{PlantView}
+use Rattle.controller.specs.StandsFor.{IsSameSeat, Stands, seat_past, payload_planned}
+use Rattle.controller.specs.Turn.{Begun, Seat}
+use Rattle.controller.proofs.Standing.{act_kept-of}
+
+-- the payload that is handed to a node is as long as it asks for, where that which is chosen for a frame that carries
+-- payload is as long as the list says
+pub length-payload_handed : (list : Medl) (k : ℕ) (wanted : Intent) (chosen : Chosen)
+    → (wanted ≡ intent.Loaded → length chosen.payload ≡ loaded_length list k intent.Loaded)
+    → length (payload_handed wanted chosen) ≡ loaded_length list k wanted
+length-payload_handed list k intent.Loaded chosen whole = whole refl
+length-payload_handed list k _ chosen whole = refl
+
+-- what is kept of a past says the same of it
+intent_by-kept : (list : Medl) (past : NodePast) (a : Act) → intent_by list (kept past) a ≡ intent_by list past a
+intent_by-kept list past Send = refl
+intent_by-kept list past _ = refl
+
+-- the payload is the one that the node's frame carries
+
+carried_or : (carries : Bool) (chosen : Chosen)
+    → cond carries chosen.payload [] ≡ payload_handed (cond carries intent.Loaded intent.Bare) chosen
+carried_or true chosen = refl
+carried_or false chosen = refl
+
+payload_by-intent : (list : Medl) (past : NodePast) (chosen : Chosen) (a : Act)
+    → payload_planned list past chosen a ≡ payload_handed (intent_by list past a) chosen
+payload_by-intent list past chosen Send = carried_or (carries_payload list (coming_place list past)) chosen
+payload_by-intent list past chosen _ = refl
+
+pub payload_planned-handed : {seat : Seat} {diary : Diary} {surroundings : Surroundings} {a : Act} {jump : ℤ}
+    (chosen : Chosen) → Stands seat diary surroundings (Begun a jump)
+    → payload_planned seat.list (seat_past seat diary surroundings) chosen a ≡ payload_handed (seat_intent seat) chosen
+payload_planned-handed {seat = seat} {diary = diary} {surroundings = surroundings} {a = a} chosen stands =
+    let past = seat_past seat diary surroundings in
+    payload_by-intent seat.list past chosen a
+    ∙ ap (λ (wanted : Intent). payload_handed wanted chosen) (sym (intent_by-kept seat.list past a))
+    ∙ (λ i. payload_handed (turn_intent seat.list (sym stands.past i) (sym stands.turn i)) chosen)
+
+-- whether this is to send a frame with payload
+abbrev pub is_loading : Intent → Bool
+is_loading intent.Loaded = true
+is_loading _ = false
+
+loading_or : (carries : Bool) → is_loading (cond carries intent.Loaded intent.Bare) ≡ carries
+loading_or true = refl
+loading_or false = refl
+
+loading_by : (list : Medl) (past : NodePast) (a : Act) → is_loading (intent_by list past a) ≡ sends_payload list past a
+loading_by list past Send = loading_or (carries_payload list (coming_place list past))
+loading_by list past _ = refl
+
+-- so the message that is chosen for a node is as long as its frame wants it
+pub payload-node : {s : BegunSlot} {k : ℕ} {seat : Seat} {message : Chosen} (chosen : List Chosen)
+    → message ≡ chosen_of chosen k → k < length s.list.slots → HasBegun s k seat → AreChosen s chosen
+    → IsPayloadFor seat message
+payload-node {s = s} {k = k} chosen is node begun are loading =
+    let past = (node_of s k).past in
+    let does = (node_of s k).act in
+    let loaded = sym (loading_by s.list past does) ∙ ap is_loading (sym (intent_by-kept s.list past does))
+    ∙ (λ i. is_loading (turn_intent (sym begun.list i) (sym begun.past i) (sym begun.turn i)))
+    ∙ ap is_loading loading in
+    ap (λ (m : Chosen). length m.payload) is ∙ are k node loaded
+    ∙ (λ i. (plan_at (sym begun.list i) (sym begun.node i)).payload)
+
+-- where no frame carries payload, none may be chosen for all
+pub nothing-chosen : (s : BegunSlot) (chosen : List Chosen) → ((k : ℕ) → (plan_at s.list k).payload ≡ 0)
+    → length s.list.slots ≤ length chosen → All (λ m. m.payload ≡ []) chosen → AreChosen s chosen
+nothing-chosen s chosen bare few all = λ k node loaded.
+    ap length (All-get_or (λ m. m.payload ≡ []) chosen k nothing_chosen (omega (arith, node, few)) all) ∙ sym (bare k)
+
+-- whoever has begun a slot sends in it what it was to send
+pub payload-begun : {old new : Seat} (script : Script) (slot k : ℕ) (chosen : Chosen) → IsSameSeat old new
+    → seat_intent new ≡ intent_before script slot k old → IsPayloadBefore script slot chosen k old
+    → IsPayloadFor new chosen
+payload-begun script slot k chosen same sends before = λ loaded.
+    before (sym sends ∙ loaded) ∙ (λ i. (plan_at (sym same.list i) (sym same.node i)).payload)
+
+-- where all have begun a slot, what is chosen for it is as long as they want it
+pub payloads-chosen : {s : BegunSlot} {seats : List Seat} (chosen : List Chosen) → length seats ≤ length s.list.slots
+    → HaveBegun s 0 seats → AreChosen s chosen → ArePayloadsFor chosen 0 seats
+payloads-chosen {seats = seats} chosen few begun are = record {
+  each = λ j seat here.
+      payload-node chosen refl (omega (arith, few, slice_get_within seats j seat here)) (begun.each j seat here) are;
+}
+
+-- Before a slot, what is read of a node's past says what it is to send.
+
+loading-before : (list : Medl) (k : ℕ) (on armed : Bool) (past : NodePast) (diary : Diary) (surroundings : Surroundings)
+    → IsValid list → k < length list.slots → past ≡ kept (past_of list k diary surroundings)
+    → is_loading (intent_by list past (act list k on armed past))
+    ≡ sends_payload list (past_of list k diary surroundings) (act list k on armed (past_of list k diary surroundings))
+loading-before list k on armed past diary surroundings valid node is =
+    let read = past_of list k diary surroundings in
+    let does = act list k on armed read in
+    (λ i. is_loading (intent_by list (is i) (act_kept-of list k on armed past diary surroundings valid node is i)))
+    ∙ ap is_loading (intent_by-kept list read does)
+    ∙ loading_by list read does
+
+-- so a plant may be stepped by what is chosen for the slot after a history that it stands for
+pub chosen-step : {plant : PlantView} {script : Script} {history : History} (chosen : List Chosen)
+    → IsValid plant.list → PlantStandsFor plant script history → AreChosen (slot_after plant.list script history) chosen
+    → MayStep plant script chosen
+chosen-step {plant = plant} {script = script} {history = history} chosen valid stands are = record {
+  each = λ j seat here loaded.
+      let k = 0 + j in
+      let list = plant.list in
+      let node : k < length list.slots = omega (arith, stands.count, slice_get_within plant.seats j seat here) in
+      let of = stands.are.each j seat here in
+      let diary = diary_of history k in
+      let surroundings = surroundings_of script history k in
+      let past_is = (stands.seats.each j seat here).past
+      ∙ (λ i. kept (past_of (of.list i) (of.node i) diary surroundings)) in
+      let on = λ (t : ℕ). is_on script k t in
+      let armed = λ (t : ℕ). is_armed script k t in
+      let sends : is_loaded (slot_after list script history) k ≡ true =
+      ap (λ (n : BegunNode). sends_payload list n.past n.act) (node_of-slot_after list script history k node)
+      ∙ sym (loading-before list k (on (length history)) (armed (length history)) seat.past diary surroundings valid node
+      past_is)
+      ∙ (λ i. is_loading (intent_by (sym of.list i) seat.past
+      (act (sym of.list i) (sym of.node i) (on (sym stands.slot i)) (armed (sym stands.slot i)) seat.past)))
+      ∙ ap is_loading loaded in
+      are k node sends ∙ (λ i. (plan_at (sym of.list i) (sym of.node i)).payload);
+}

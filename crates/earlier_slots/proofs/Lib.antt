@@ -1,0 +1,3 @@
+pub mod SameSlots
+pub mod SameWorlds
+pub mod LaterEvents
