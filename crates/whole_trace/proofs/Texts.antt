@@ -1,0 +1,48 @@
+-- The first line of a text that is left.
+use Rattle.std.proofs.Common.{◌≡◌, ℕ, ◌+◌, ◌<◌, Bool, true, false, cond, List, [], ◌∷◌, ◌++◌, length, get_or, drop}
+use Rattle.std.proofs.Common.{Option, Some, None, refl, sym, ap, ◌∙◌, arith, length-append}
+use Rattle.std.specs.List.{concat}
+use Rattle.ttp_base.specs.Text.{Lines, newline, is_newline, before_lines, lines_of}
+use Rattle.line_reader.specs.declared.trace_line.TraceLine.{TraceLine}
+use Rattle.line_text.proofs.Cuts.{concat-lines_of}
+use Rattle.whole_trace.specs.Whole.{value_of}
+
+uncons : (lines : Lines) → 0 < length lines → lines ≡ get_or lines 0 [] ∷ drop 1 lines
+uncons [] some = absurd (omega (arith, some))
+uncons (line ∷ lines) some = refl
+
+before-some : (b : ℕ) (lines : Lines) → 0 < length (before_lines b lines)
+before-some b [] = omega arith
+before-some b (line ∷ lines) = omega arith
+
+lines-some : (text : List ℕ) → 0 < length text → 0 < length (lines_of text)
+lines-some [] some = absurd (omega (arith, some))
+lines-some (b ∷ text) some = by_feed (is_newline b)
+  where
+    by_feed : (feed : Bool) → 0 < length (cond feed (newline ∷ lines_of text) (before_lines b (lines_of text)))
+    by_feed true = omega arith
+    by_feed false = before-some b (lines_of text)
+
+-- what is cut off the front of a text that has some bytes is its first line
+pub cut-front : (text line rest : List ℕ) → get_or (lines_of text) 0 [] ≡ line → drop 1 (lines_of text) ≡ lines_of rest
+    → 0 < length text → lines_of text ≡ line ∷ lines_of rest
+cut-front text line rest first others some =
+    uncons (lines_of text) (lines-some text some)
+    ∙ ap (λ (l : List ℕ). l ∷ drop 1 (lines_of text)) first ∙ ap (λ (ls : Lines). line ∷ ls) others
+
+some-bytes : (line : List ℕ) (v : TraceLine) → value_of line ≡ Some v → 0 < length line
+some-bytes [] v is = cc
+some-bytes (b ∷ line) v is = omega arith
+
+-- a text from which a line with a value is cut has some bytes
+pub text-some : (text line : List ℕ) (v : TraceLine) → get_or (lines_of text) 0 [] ≡ line → value_of line ≡ Some v
+    → 0 < length text
+text-some [] line v first is = let none : value_of [] ≡ Some v = ap value_of first ∙ is in absurd (omega (arith, some-bytes [] v none))
+text-some (b ∷ text) line v first is = omega arith
+
+pub rest-shorter : (text line rest : List ℕ) (v : TraceLine) → lines_of text ≡ line ∷ lines_of rest
+    → value_of line ≡ Some v → length rest < length text
+rest-shorter text line rest v cut is =
+    let whole : text ≡ line ++ rest =
+    sym (concat-lines_of text) ∙ ap concat cut ∙ ap (λ (bytes : List ℕ). line ++ bytes) (concat-lines_of rest) in
+    omega (arith, ap length whole, length-append line rest, some-bytes line v is)
