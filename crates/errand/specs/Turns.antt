@@ -1,0 +1,74 @@
+-- A job goes from the giver to the worker and back. The first word says whose turn it is: 1 the worker's, and 2 the
+-- giver's again. The two others say whether an end sleeps, and the rule says nothing of them.
+use Rattle.std.specs.Prelude.{◌≡◌, ◌≢◌, ◌⊎◌, ℕ, List, [], ◌∷◌, Option, Some, None}
+use mathlib.Core.Option.{some}
+use mathlib.Core.Option as maybe
+use Rattle.atomic_table.specs.Table.{State, Me}
+use Rattle.errand.specs.declared.note.Note.{Note}
+use Rattle.errand.specs.declared.note.Role.{Role}
+use Rattle.errand.specs.declared.note.Role.TheVariants.{Alone, Fresh, Gives, Works}
+
+-- tells roles apart
+abbrev pub number : Role → ℕ
+number Alone = 0
+number Fresh = 1
+number Gives = 2
+number Works = 3
+
+abbrev pub note : {J : Type 0} → Role → Option J → Note J
+note r j = record { role = r; job = j }
+
+module _ {J : Type 0} where
+  -- the table, with both seats
+  abbrev pub paired : ℕ → ℕ → ℕ → maybe.Option (Option J) → Role → Option J → Option J → State (Option J) (Note J)
+  paired n p q h r a b = record { words = n ∷ p ∷ q ∷ []; homes = h ∷ []; views = note r a ∷ note Works b ∷ [] }
+
+  -- the table, before there is a worker
+  abbrev pub alone : State (Option J) (Note J)
+  alone = record { words = 0 ∷ 0 ∷ 0 ∷ []; homes = some None ∷ []; views = note Alone None ∷ [] }
+
+  -- a seat that holds no slot, and one that holds the slot with this in it
+  abbrev pub bare : Role → Option J → Me (Option J) (Note J)
+  bare r a = (note r a, [])
+
+  abbrev pub laden : Role → Option J → Option J → Me (Option J) (Note J)
+  laden r a x = (note r a, (0, x) ∷ [])
+
+  abbrev pub content : List (ℕ × Option J) → Option J
+  content [] = None
+  content (c ∷ cs) = c.1
+
+  -- what an errand needs of a job, and what it makes of it
+  module _ (needs : J → Type 0) (does : J → J → Type 0) where
+    -- the job j was given: either it lies there, and is one that the errand may do, or it lies there done, or the worker
+    -- has it
+    abbrev pub Given : ℕ → maybe.Option (Option J) → J → Option J → Type 0
+    Given n h j None = ((n ≡ 1) × (h ≡ some (Some j)) × needs j) ⊎ ((n ≡ 2) × ((k : J) × (h ≡ some (Some k)) × does j k))
+    Given n h j (Some x) = (n ≡ 1) × (x ≡ j)
+
+    abbrev pub Stage : ℕ → maybe.Option (Option J) → Role → Option J → Option J → Type 0
+    Stage n h Alone a b = ⊥
+    Stage n h Fresh a b = (n ≢ 1) × (h ≡ some None) × (b ≡ None)
+    Stage n h Gives None b = (n ≢ 1) × (b ≡ None)
+    Stage n h Gives (Some j) b = Given n h j b
+    Stage n h Works a b = ⊥
+
+    abbrev pub Turns : State (Option J) (Note J) → Type 0
+    Turns s = (s ≡ alone) ⊎ ((n : ℕ) × (p : ℕ) × (q : ℕ) × (h : maybe.Option (Option J)) × (r : Role) × (a : Option J) × (b : Option J) × (s ≡ paired n p q h r a b) × Stage n h r a b)
+
+    -- the giver looks: at 2 it has the slot, in which is what work made of the job
+    abbrev pub fetched : Me (Option J) (Note J) → ℕ → Me (Option J) (Note J) → Type 0
+    fetched m n m' = (n ≡ 2 → (k : J) × (m' ≡ laden Gives None (Some k)) × ((j : J) → m.0.job ≡ Some j → does j k)) × (n ≢ 2 → m' ≡ m)
+
+    -- the worker looks: at 1 it has the slot, with the job
+    abbrev pub took : Me (Option J) (Note J) → ℕ → Me (Option J) (Note J) → Type 0
+    took m n m' = (n ≡ 1 → (j : J) × (m' ≡ laden Works (Some j) (Some j)) × needs j) × (n ≢ 1 → m' ≡ m)
+
+  abbrev pub began : Me (Option J) (Note J) → Type 0
+  began m' = m' ≡ laden Gives None None
+
+  abbrev pub asked : Me (Option J) (Note J) → Me (Option J) (Note J) → Type 0
+  asked m m' = m' ≡ bare Gives (content m.1)
+
+  abbrev pub gave : Me (Option J) (Note J) → Type 0
+  gave m' = m' ≡ bare Works None

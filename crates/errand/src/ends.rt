@@ -1,0 +1,226 @@
+//! The giver's end and the worker's.
+ghost use Rattle.std.specs.Prelude.{true, ◌∷◌, ◌≡◌, ◌≢◌, ◌<◌, ℕ, [], None, Some, IfOk};
+ghost use Rattle.errand.specs.declared.note.Role.TheVariants.{Alone, Fresh, Gives, Works};
+ghost use Rattle.errand.specs.Turns.{number, bare, laden, fetched, took, gave};
+ghost use Rattle.errand.specs.Ends.{IsSeated};
+
+use crate::note::Note;
+use crate::rule::{Ask, Begin, Board, ByTurns, Errand, Fetch, Give, Hire, Same, Take};
+use atomic_table::{Seat, Table};
+use std::alloc::{AllocError, Global};
+use std::sync::Wait;
+use std::{hint, thread};
+
+// Words of the table: whose turn it is, and how it is with the worker and with the giver.
+const TURN: usize = 0;
+
+const WORKER: usize = 1;
+
+const GIVER: usize = 2;
+
+// How it is with an end: it is not at work yet (0), it sleeps, or it is awake.
+const AWAY: u64 = 0;
+
+const ASLEEP: u64 = 1;
+
+const AWAKE: u64 = 2;
+
+// What the turn's word says.
+const GIVEN: u64 = 1;
+
+const DONE: u64 = 2;
+
+const STOPPED: u64 = 3;
+
+// Looks before a yield, and before a sleep.
+const SPINS: u32 = 400;
+
+const YIELDS: u32 = 450;
+
+pub type End<J> = Seat<Option<J>, Note<J>>;
+
+pub type Whole<J, D> = Table<Option<J>, Note<J>, (), ByTurns<D>, Global>;
+
+/// A table for the jobs of one worker.
+pub fn open<J: Drop, D: Errand<J>>(alloc: Global) -> Result<(Whole<J, D>, End<J>), AllocError>
+    ensures { IfOk result (λ r. IsSeated r.0.shared.table_id r.1.table_id × (r.1.me ≡ bare Alone None)) }
+{
+    Table::vacant(alloc, &[0, 0, 0], 1, &())
+}
+
+/// The end that gives jobs, while no job is out. Its drop ends the worker.
+pub struct Giver<'a, J, D: Errand<J>> {
+    board: &'a Board<J, D>,
+    seat: End<J>,
+    ghost seated: { IsSeated board.now.table_id seat.table_id },
+    ghost idle: { seat.me ≡ laden Gives None None },
+}
+
+/// The end that gives jobs, while one is out. It has no `Drop`, so that the job is taken back.
+pub struct Waiting<'a, J, D: Errand<J>> {
+    board: &'a Board<J, D>,
+    seat: End<J>,
+    ghost seated: { IsSeated board.now.table_id seat.table_id },
+    ghost given: { (seat.me ≡ bare Gives seat.me.0.job) × (seat.me.0.job ≢ None) },
+}
+
+/// The end that works.
+#[derive(Drop)]
+pub struct Worker<'a, J, D: Errand<J>> {
+    board: &'a Board<J, D>,
+    seat: End<J>,
+    ghost seated: { IsSeated board.now.table_id seat.table_id },
+    ghost free: { seat.me ≡ bare Works None },
+}
+
+/// Makes the two ends.
+pub fn hire<'a, J, D: Errand<J>>(
+    board: &'a Board<J, D>,
+    mut seat: End<J>,
+) -> (Giver<'a, J, D>, Worker<'a, J, D>)
+    requires { IsSeated board.now.table_id seat.table_id × (seat.me ≡ bare Alone None) }
+{
+    let other = board.split_seat::<Hire>(&mut seat);
+    board.load::<Begin>(&mut seat, TURN);
+    (Giver { board, seat }, Worker { board, seat: other })
+}
+
+// Waits a little before the next look, longer from look to look.
+fn rest<R: Wait, J, D: Errand<J>>(
+    rt: &R,
+    board: &Board<J, D>,
+    seat: &mut End<J>,
+    looks: u32,
+    flag: usize,
+    seen: u32,
+)
+    requires seated { IsSeated board.now.table_id seat.old.table_id }
+    requires flag { (0 < flag) × (flag < 3) }
+    requires seat { number seat.old.me.0.role ≢ 0 }
+    ensures { (seat.new.table_id ≡ seat.old.table_id) × (seat.new.me ≡ seat.old.me) }
+{
+    if looks < SPINS {
+        hint::spin_loop();
+    } else if looks < YIELDS {
+        thread::yield_now();
+    } else {
+        board.store::<Same>(seat, flag, ASLEEP);
+        board.park(rt, TURN, seen);
+        board.store::<Same>(seat, flag, AWAKE);
+    }
+}
+
+impl<'a, J, D: Errand<J>> Giver<'a, J, D> {
+    /// Whether the worker has begun to serve. Until then a job that is given may lie there for good, so
+    /// whoever asks looks first, and does the work without it.
+    pub fn is_served(&self) -> bool {
+        self.board.peek(WORKER) != AWAY
+    }
+
+    /// Gives a job to the worker.
+    pub fn ask(self, job: J) -> Waiting<'a, J, D>
+        requires may { D.needs job }
+        ensures { result.seat.me.0.job ≡ Some job }
+    {
+        let Giver { board, mut seat } = self;
+        match board.exchange(&mut seat, 0, Some(job)) {
+            None => {}
+            Some(_) => unreachable!(),
+        }
+        board.store::<Ask>(&mut seat, TURN, GIVEN);
+        if board.peek(WORKER) == ASLEEP {
+            board.wake_one(TURN);
+        }
+        Waiting { board, seat }
+    }
+}
+
+impl<'a, J, D: Errand<J>> Drop for Giver<'a, J, D> {
+    fn drop(self) {
+        let Self { board, mut seat } = self;
+        board.store::<Same>(&mut seat, TURN, STOPPED);
+        board.wake_one(TURN);
+    }
+}
+
+// Waits until the job is done, and has the slot with it.
+fn wait_done<R: Wait, J, D: Errand<J>>(rt: &R, board: &Board<J, D>, seat: &mut End<J>)
+    requires seated { IsSeated board.now.table_id seat.old.table_id }
+    requires given { (seat.old.me ≡ bare Gives seat.old.me.0.job) × (seat.old.me.0.job ≢ None) }
+    ensures { (seat.new.table_id ≡ seat.old.table_id) × ((k : J) × (seat.new.me ≡ laden Gives None (Some k)) × ((j : J) → seat.old.me.0.job ≡ Some j → D.does j k)) }
+{
+    let mut looks = 0u32;
+    for _ in rt.forever() {
+        if board.load::<Fetch<D>>(seat, TURN) == DONE {
+            return;
+        }
+        rest(rt, board, seat, looks, GIVER, 1);
+        looks = looks.saturating_add(1);
+    }
+    unreachable!()
+}
+
+impl<'a, J, D: Errand<J>> Waiting<'a, J, D> {
+    /// Waits for the job. It comes back as the work leaves it.
+    pub fn take<R: Wait>(self, rt: &R) -> (Giver<'a, J, D>, J)
+        ensures { (j : J) → self.entry.seat.me.0.job ≡ Some j → D.does j result.1 }
+    {
+        let Waiting { board, mut seat } = self;
+        wait_done(rt, board, &mut seat);
+        let job = board.exchange(&mut seat, 0, None).unwrap();
+        (Giver { board, seat }, job)
+    }
+}
+
+// Waits for a job, and has the slot with it. False where the work is at its end.
+fn wait_given<R: Wait, J, D: Errand<J>>(rt: &R, board: &Board<J, D>, seat: &mut End<J>) -> bool
+    requires seated { IsSeated board.now.table_id seat.old.table_id }
+    requires free { seat.old.me ≡ bare Works None }
+    ensures { (seat.new.table_id ≡ seat.old.table_id)
+        × (result ≡ true → (j : J) × (seat.new.me ≡ laden Works (Some j) (Some j)) × D.needs j) }
+{
+    let mut looks = 0u32;
+    for _ in rt.forever() {
+        match board.load::<Take<D>>(seat, TURN) {
+            GIVEN => return true,
+            STOPPED => return false,
+            DONE => rest(rt, board, seat, looks, WORKER, 2),
+            _ => rest(rt, board, seat, looks, WORKER, 0),
+        }
+        looks = looks.saturating_add(1);
+    }
+    unreachable!()
+}
+
+// Does the job that lies in the slot, and gives it back.
+fn do_job<J, D: Errand<J>>(board: &Board<J, D>, seat: &mut End<J>, errand: &D)
+    requires seated { IsSeated board.now.table_id seat.old.table_id }
+    requires taken { (j : J) × (seat.old.me ≡ laden Works (Some j) (Some j)) × D.needs j }
+    ensures { (seat.new.table_id ≡ seat.old.table_id) × (seat.new.me ≡ bare Works None) }
+{
+    let job = board.exchange(seat, 0, None).unwrap();
+    let done = errand.run(job);
+    match board.exchange(seat, 0, Some(done)) {
+        None => {}
+        Some(_) => unreachable!(),
+    }
+    board.store::<Give>(seat, TURN, DONE);
+    if board.peek(GIVER) == ASLEEP {
+        board.wake_one(TURN);
+    }
+}
+
+impl<'a, J, D: Errand<J>> Worker<'a, J, D> {
+    /// Works on each job until the giver is dropped.
+    pub fn serve<R: Wait>(self, rt: &R, errand: &D) {
+        let Worker { board, mut seat } = self;
+        board.store::<Same>(&mut seat, WORKER, AWAKE);
+        for _ in rt.forever() {
+            if !wait_given(rt, board, &mut seat) {
+                return;
+            }
+            do_job(board, &mut seat, errand);
+        }
+        unreachable!()
+    }
+}

@@ -1,0 +1,25 @@
+//! A worker that stays: work that is handed to a thread by value, again and again, and comes back with what the
+//! work makes of it.
+//!
+//! Starting and joining a thread takes microseconds on a quiet machine and far more on a busy one. Here a thread
+//! is started once. One end, a [`Giver`](ends::Giver), gives it a job, which is a value, and may do something else
+//! meanwhile; then it takes the job back. What holds between the job as it was given and as it comes back is said by
+//! the [`Errand`](rule::Errand), and [`Waiting::take`](ends::Waiting::take) passes it on, as `join` passes on what a
+//! closure ensures. No job is lost: an end that has given one can't be dropped, only take it back.
+//!
+//! A job costs each side a store and a load at least, all sequentially consistent, and takes no memory. Who waits
+//! looks again for a while, then yields, and then sleeps until it is woken.
+//!
+//! The crate starts no thread. Its caller runs `serve` in one, best by `std::thread::join_mut` with `serve` first,
+//! which runs the other closure first where no thread is to be had; and asks nothing of a worker that has not begun to
+//! serve ([`is_served`](ends::Giver::is_served)). So work is done without threads where there are none. That a worker
+//! ever begins, or comes back with a job, is no clause: `take` and `serve` may wait.
+//!
+//! `src/tests.rt` has a proved caller.
+#![tactic(auto)]
+
+pub mod ends;
+pub mod note;
+pub mod rule;
+#[cfg(test)]
+mod tests;
