@@ -2,3 +2,4 @@ pub mod Precision
 pub mod Differences
 pub mod Forms
 pub mod Promises
+pub mod OneList

@@ -1,4 +1,3 @@
-pub mod Safe
 pub mod Promises
 pub mod Fronts
 pub mod Slots

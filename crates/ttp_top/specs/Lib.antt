@@ -2,3 +2,5 @@ pub mod Calls
 pub mod Scripts
 pub mod Samples
 pub mod Traces
+pub mod Lists
+pub mod Tests

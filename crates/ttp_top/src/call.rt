@@ -7,10 +7,12 @@ ghost use Rattle.commands.specs.Words.{texts_of};
 ghost use Rattle.ttp_top.specs.Calls.Answer.{ttpbench};
 ghost use Rattle.ttp_top.specs.Calls.Forms.{plan_of};
 ghost use Rattle.ttp_top.specs.Calls.Promise.{Promise};
-ghost use Rattle.ttp_top.specs.Calls.Words.{run, verify, sample, modes, runs_cluster, form_of};
+ghost use Rattle.ttp_top.specs.Calls.Words.{schedule, run, keeps, verify, precision, sample, modes, runs_cluster, form_of};
 ghost use Rattle.ttp_top.specs.Calls.Words.{form_asked, HasSlots};
+ghost use Rattle.ttp_top.specs.Lists.Promise.{SchedulePromise};
 ghost use Rattle.ttp_top.specs.Samples.Promise.{SamplePromise};
 ghost use Rattle.ttp_top.specs.Scripts.Promise.{RunPromise};
+ghost use Rattle.ttp_top.specs.Tests.Promise.{KeepsPromise, PrecisionPromise};
 ghost use Rattle.ttp_top.specs.Traces.Promise.{VerifyPromise, ModesPromise};
 
 use crate::faced::precision;
@@ -124,8 +126,9 @@ pub fn bench<R: Threads + Wait + Sync, L: Library, K: Sink, G: Gate>(
     ensures promise { Promise (form_of (texts_of words.now)) (outside (L.files library.old) (K.output out.old))
         (outside (L.files library.new) (K.output out.new)) (answer result kept.new) }
     // For `run`, in its own words: status 0 is the trace of the world's run for the numbers that the trace
-    // names, which are legal, and where the script keeps the single-fault hypothesis, that run is safe from
-    // its start on; right files give one; with status 6 one was cut short, and with status 7 it ends with a
+    // names, which are legal. Where the script keeps the single-fault hypothesis, that run is safe from its start on,
+    // clocks of correct nodes are near, and they have judged the same frames and run one mode; where armed nodes are
+    // owed their places, it is safe with armed nodes. Right files give one; with status 6 one was cut short, and with status 7 it ends with a
     // whole line before its last one. After status 0 the cluster that ran is kept, and stands for these numbers.
     ensures run { (list script : List ℕ) → form_of (texts_of words.now) ≡ Some (run list script)
         → RunPromise list script (outside (L.files library.old) (K.output out.old))
@@ -142,9 +145,24 @@ pub fn bench<R: Threads + Wait + Sync, L: Library, K: Sink, G: Gate>(
     ensures verify { (list script trace : List ℕ) → form_of (texts_of words.now) ≡ Some (verify list script trace)
         → VerifyPromise list script trace (outside (L.files library.old) (K.output out.old))
         (outside (L.files library.new) (K.output out.new)) (answer result kept.new) }
-    // The same for `modes`, which writes of a trace which mode each node runs.
+    // The same for `modes`, which writes of a trace which mode each node runs; where the script keeps the single-fault
+    // hypothesis, the lines of all correct nodes show one mode after each slot from the start on.
     ensures modes { (list script trace : List ℕ) → form_of (texts_of words.now) ≡ Some (modes list script trace)
         → ModesPromise list script trace (outside (L.files library.old) (K.output out.old))
+        (outside (L.files library.new) (K.output out.new)) (answer result kept.new) }
+    // For `schedule`, in its own words: status 0 is the slot table of the list.
+    ensures schedule { (list : List ℕ) → form_of (texts_of words.now) ≡ Some (schedule list)
+        → SchedulePromise list (outside (L.files library.old) (K.output out.old))
+        (outside (L.files library.new) (K.output out.new)) (answer result kept.new) }
+    // For `keeps`: status 0 is the last lines of a trace, those of the tests of the script.
+    ensures keeps { (list script : List ℕ) → form_of (texts_of words.now) ≡ Some (keeps list script)
+        → KeepsPromise list script (outside (L.files library.old) (K.output out.old))
+        (outside (L.files library.new) (K.output out.new)) (answer result kept.new) }
+    // For `precision`: status 0 is the line on the node; where that shows a start and a bound, the difference of clocks that
+    // it shows is within the bound, and so are the clocks after each slot from the start on, in every run by legal
+    // message numbers, and all nodes that are on are active and hold one membership.
+    ensures precision { (list script : List ℕ) (node : ℕ) → form_of (texts_of words.now) ≡ Some (precision list script node)
+        → PrecisionPromise list script node (outside (L.files library.old) (K.output out.old))
         (outside (L.files library.new) (K.output out.new)) (answer result kept.new) }
     // A cluster is kept exactly after status 0 of `run` and of `sample`, whatever was kept before.
     ensures kept { is_some kept.new ≡ (runs_cluster (form_of (texts_of words.now)) && (result == 0)) }

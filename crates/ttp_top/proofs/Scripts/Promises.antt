@@ -9,6 +9,8 @@ use Rattle.ttp_world.specs.Trace.{trace_lines}
 use Rattle.ttp_world.specs.TraceNumbers.{numbers_in}
 use Rattle.ttp_world.specs.World.{Numbers, world}
 use Rattle.ttp_world.proofs.TraceNumbers.{numbers_in-trace}
+use Rattle.theorems.specs.KeptRun.{IsKeptRun, IsBackRun}
+use Rattle.theorems.proofs.Runs.{kept-run, back-run}
 use Rattle.commands.proofs.Both.{both_came, both_told, both_ask, due_told}
 use Rattle.commands.proofs.Plans.{end_comes, all_asked}
 use Rattle.commands.specs.Outcome.{Showed}
@@ -21,8 +23,7 @@ use Rattle.ttp_top.specs.Calls.Forms.{trace_ending, plan_of}
 use Rattle.ttp_top.specs.Calls.Promise.{Promise}
 use Rattle.ttp_top.specs.Calls.Texts.{fronts, IsTrace}
 use Rattle.ttp_top.specs.Calls.Words.{run}
-use Rattle.ttp_top.specs.Scripts.Promise.{IsSafeSince, WroteTraceOf, WroteTrace, RunPromise}
-use Rattle.ttp_top.proofs.Scripts.Safe.{safe-since}
+use Rattle.ttp_top.specs.Scripts.Promise.{WroteTraceOf, WroteTrace, RunPromise}
 
 -- the plan of a run, from a script on
 abbrev from_script : Medl → Script → Plan
@@ -47,11 +48,17 @@ wrote_trace_of medl right before now answer showed =
       lines = w.lines;
       wrote = w.wrote;
       text = t.text ∙ ap (trace_lines medl right) (sym own);
+      valid = t.valid;
+      valid_script = t.valid_script;
       legal = subst (IsLegalRun medl right) (sym own) t.legal;
-      safe = λ start kept.
-          let safe = safe-since medl right start t.valid t.valid_script kept t.numbers t.legal.legal
+      keeping = λ start kept.
+          let run = kept-run medl right start t.valid t.valid_script kept t.numbers t.legal.legal
           (omega (arith, t.legal.count)) in
-          subst (λ (numbers : Numbers). IsSafeSince medl right start (world medl right numbers)) (sym own) safe;
+          subst (λ (numbers : Numbers). IsKeptRun medl right start (world medl right numbers)) (sym own) run;
+      returning = λ start kept.
+          let run = back-run medl right start t.valid t.valid_script kept t.numbers t.legal.legal
+          (omega (arith, t.legal.count)) in
+          subst (λ (numbers : Numbers). IsBackRun medl right start (world medl right numbers)) (sym own) run;
       ran = showed.kept;
     }
 

@@ -4,12 +4,23 @@ use Rattle.std.proofs.Common.{ap, sym, subst, ◌∙◌, inl, inr, arith}
 use Rattle.std.specs.Prelude.{if◌then◌else◌}
 use Rattle.std.proofs.lemmas.List.{take_all}
 use Rattle.ttp_base.specs.Outside.{Held, untold, absent, holds, Load, Gives, HasRisen, Output, Wrote}
-use Rattle.ttp_base.specs.Text.{Lines}
+use Rattle.ttp_base.specs.Text.{Lines, lines_of}
 use Rattle.ttp_world.specs.declared.medl.Medl.{Medl}
 use Rattle.ttp_world.specs.declared.script.Script.{Script}
+use Rattle.ttp_world.specs.Legal.{IsLegalRun}
+use Rattle.ttp_world.specs.Medl.{IsValid}
+use Rattle.ttp_world.specs.Script.{IsValidScript}
+use Rattle.ttp_world.specs.Trace.{trace_lines}
+use Rattle.ttp_world.specs.TraceNumbers.{numbers_in}
+use Rattle.ttp_world.proofs.TraceLines.{trace_lines-each}
+use Rattle.ttp_world.proofs.TraceNumbers.{numbers_in-trace}
 use Rattle.medl_text.proofs.Valid.{medl_of-valid}
 use Rattle.script_text.proofs.RightFiles.{script_of-valid}
+use Rattle.ttp_base.proofs.Lines.{lines_of-concat}
 use Rattle.trace_check.specs.Answer.{is_trace}
+use Rattle.trace_check.proofs.OwnNumbers.{is_trace-numbers}
+use Rattle.theorems.specs.ModeText.{ShowsOneMode}
+use Rattle.theorems.proofs.ModeTexts.{mode-text}
 use Rattle.trace_size.proofs.TraceLength.{trace-short}
 use Rattle.commands.proofs.Both.{both_came, both_told, both_ask, due_told}
 use Rattle.commands.proofs.Plans.{end_comes, AllAsk, all_asked}
@@ -26,7 +37,7 @@ use Rattle.ttp_top.specs.Calls.Promise.{Promise}
 use Rattle.ttp_top.specs.Calls.Texts.{differences}
 use Rattle.ttp_top.specs.Calls.Words.{Form, is_run, verify, modes}
 use Rattle.ttp_top.specs.Traces.Promise.{OfTrace, said_same, said_modes, IsVerdict, HasJudged, CutVerdict, IsJudged}
-use Rattle.ttp_top.specs.Traces.Promise.{AreAllTold, TextPromise, VerifyPromise, ModesPromise}
+use Rattle.ttp_top.specs.Traces.Promise.{AreAllTold, TextPromise, ShowOneMode, VerifyPromise, ModesPromise}
 use Rattle.ttp_top.proofs.Traces.Fronts.{HaveAtMost, is_trace-short, is_trace-front, first_wrong-front}
 
 -- ---- what both forms ask for, and how they end
@@ -222,7 +233,37 @@ pub verify_promise : (list script trace : List ℕ) (before now : Outside) (answ
 verify_promise list script trace before now answer p =
     text_promise said_same (Some (verify list script trace)) list script trace refl before now answer p refl
 
+-- ---- the modes that a text of modes shows
+
+-- the numbers that a trace names are legal
+legal_named : (medl : Medl) (right : Script) (text : List ℕ) → IsValid medl → IsValidScript medl right
+    → is_trace medl right text ≡ true → IsLegalRun medl right (numbers_in medl right (lines_of text))
+legal_named medl right text valid valid_script is =
+    let t = is_trace-numbers medl right text is in
+    let own = ap (λ (bytes : List ℕ). numbers_in medl right (lines_of bytes)) t.whole
+    ∙ ap (numbers_in medl right) (lines_of-concat (trace_lines medl right t.numbers)
+    (trace_lines-each medl right t.numbers))
+    ∙ numbers_in-trace medl right t.numbers valid valid_script t.legal.count t.legal.legal in
+    subst (IsLegalRun medl right) (sym own) t.legal
+
+shows_one : (medl : Medl) (right : Script) (text : List ℕ) (status : ℕ) (lines : Lines) → IsValid medl
+    → IsValidScript medl right → status ≡ 0 → IsVerdict said_modes medl right text status lines
+    → ShowOneMode medl right lines
+shows_one medl right text status lines valid valid_script zero (inl same) start kept slot since within =
+    let numbers = numbers_in medl right (lines_of text) in
+    subst (λ (ls : Lines). ShowsOneMode medl right ls slot) (sym same.1.1)
+    (mode-text medl right start valid valid_script kept numbers
+    (legal_named medl right text valid valid_script same.1.0) slot since within)
+shows_one medl right text status lines valid valid_script zero (inr differs) start kept slot since within =
+    absurd (omega (arith, zero, differs.0))
+
 pub modes_promise : (list script trace : List ℕ) (before now : Outside) (answer : Answer)
     → Promise (Some (modes list script trace)) before now answer → ModesPromise list script trace before now answer
-modes_promise list script trace before now answer p =
-    text_promise said_modes (Some (modes list script trace)) list script trace refl before now answer p refl
+modes_promise list script trace before now answer p = record {
+  text = text_promise said_modes (Some (modes list script trace)) list script trace refl before now answer p refl;
+  one_mode = λ zero was.
+      let valid = medl_of-valid was.bytes was.medl was.are.list in
+      shows_one was.medl was.right was.text answer.status was.judged.lines valid
+      (script_of-valid was.medl was.script_bytes was.right valid was.are.script_size was.are.script) zero
+      was.judged.verdict;
+}

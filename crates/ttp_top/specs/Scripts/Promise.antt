@@ -1,39 +1,42 @@
 -- The promise of `run MEDL SCRIPT` in its own words.
-use Rattle.std.specs.Prelude.{◌≡◌, ◌⊎◌, ◌≤◌, ℕ, List, [], ◌∷◌, length, Option, IsSomeAnd}
+use Rattle.std.specs.Prelude.{◌≡◌, ◌⊎◌, ℕ, List, [], length, Option, IsSomeAnd}
 use Rattle.ttp_base.specs.Outside.{HasRisen, Output, WroteLines}
 use Rattle.ttp_base.specs.Text.{Lines}
+use Rattle.ttp_world.specs.declared.keep.Back.TheVariants as back
 use Rattle.ttp_world.specs.declared.keep.Keep.TheVariants as keep
 use Rattle.ttp_world.specs.declared.medl.Medl.{Medl}
 use Rattle.ttp_world.specs.declared.script.Script.{Script}
-use Rattle.ttp_world.specs.Diary.{History}
 use Rattle.ttp_world.specs.Hypothesis.{keeps}
 use Rattle.ttp_world.specs.Legal.{IsLegalRun}
-use Rattle.ttp_world.specs.Safety.{IsSafe}
+use Rattle.ttp_world.specs.Medl.{IsValid}
+use Rattle.ttp_world.specs.Returning.{returns}
+use Rattle.ttp_world.specs.Script.{IsValidScript}
 use Rattle.ttp_world.specs.Trace.{trace_lines}
 use Rattle.ttp_world.specs.TraceNumbers.{numbers_in}
 use Rattle.ttp_world.specs.World.{world}
 use Rattle.cluster_run.specs.Standing.{ClusterView}
+use Rattle.theorems.specs.KeptRun.{IsKeptRun, IsBackRun}
 use Rattle.commands.specs.Plan.{Outside}
 use Rattle.commands.specs.Right.{MayBe, AreRight, AreTold}
 use Rattle.ttp_top.specs.Calls.Answer.{Answer, HasRun, WroteOf, CutOf}
 use Rattle.ttp_top.specs.Calls.Texts.{traces, fronts}
 
--- a run is safe after each of its slots from this one on
-abbrev pub IsSafeSince : Medl → Script → ℕ → History → Type 0
-IsSafeSince medl right start [] = Unit {0}
-IsSafeSince medl right start (row ∷ history) =
-    IsSafeSince medl right start history × (start ≤ length history → IsSafe medl right (row ∷ history))
-
--- A text was written that is the trace of the world's run for the numbers that its own lines name, and they are legal.
--- Where the script keeps the single-fault hypothesis, that run is safe from its start on. The cluster that ran is kept,
--- and stands for the same numbers.
+-- A text was written that is the trace of the world's run for the numbers that its own lines name, and they are legal;
+-- the list and the script are valid. Where the script keeps the single-fault hypothesis, after each slot of that run from
+-- its start on it is safe, clocks of correct nodes are near, and they have judged the same frames and run one mode; where
+-- armed nodes are owed their places, it is safe with armed nodes. The cluster that ran is kept, and stands for the same
+-- numbers.
 pub record WroteTraceOf (medl : Medl) (right : Script) (before now : Output) (kept : Option ClusterView) : Type 0 where
   pub lines : Lines
   pub wrote : WroteLines before now lines
   pub text : lines ≡ trace_lines medl right (numbers_in medl right lines)
+  pub valid : IsValid medl
+  pub valid_script : IsValidScript medl right
   pub legal : IsLegalRun medl right (numbers_in medl right lines)
-  pub safe : (start : ℕ) → keeps medl right ≡ keep.Yes start
-      → IsSafeSince medl right start (world medl right (numbers_in medl right lines))
+  pub keeping : (start : ℕ) → keeps medl right ≡ keep.Yes start
+      → IsKeptRun medl right start (world medl right (numbers_in medl right lines))
+  pub returning : (start : ℕ) → returns medl right ≡ back.Yes start
+      → IsBackRun medl right start (world medl right (numbers_in medl right lines))
   pub ran : IsSomeAnd kept (λ c. HasRun medl right (numbers_in medl right lines) c)
 
 -- it was written for a list and a script that the files of these names may be

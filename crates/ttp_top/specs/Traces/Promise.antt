@@ -1,13 +1,16 @@
 -- The promises of `verify MEDL SCRIPT TRACE` and of `modes MEDL SCRIPT TRACE` in their own words. They speak of the
 -- whole text that the file of the trace holds, however long it is.
-use Rattle.std.specs.Prelude.{◌≡◌, ◌⊎◌, ◌≤◌, ℕ, true, false, List, [], ◌∷◌}
+use Rattle.std.specs.Prelude.{◌≡◌, ◌⊎◌, ◌<◌, ◌≤◌, ℕ, true, false, List, [], ◌∷◌}
 use Rattle.ttp_base.specs.Outside.{holds, HasRisen, Output, Wrote, WroteLines, CutShort}
 use Rattle.ttp_base.specs.Text.{Lines, lines_of}
+use Rattle.ttp_world.specs.declared.keep.Keep.TheVariants as keep
 use Rattle.ttp_world.specs.declared.medl.Medl.{Medl}
 use Rattle.ttp_world.specs.declared.script.Script.{Script}
+use Rattle.ttp_world.specs.Hypothesis.{keeps}
 use Rattle.ttp_world.specs.TraceNumbers.{numbers_in}
 use Rattle.trace_check.specs.Answer.{is_trace}
 use Rattle.mode_change.specs.ModeText.{mode_lines}
+use Rattle.theorems.specs.ModeText.{ShowsOneMode}
 use Rattle.commands.specs.Plan.{Outside}
 use Rattle.commands.specs.Right.{MayBe, AreRight, AreTold}
 use Rattle.ttp_top.specs.Calls.Answer.{Answer}
@@ -85,5 +88,16 @@ pub record TextPromise (said : OfTrace) (list script trace : List ℕ) (before n
 abbrev pub VerifyPromise : (list script trace : List ℕ) (before now : Outside) (answer : Answer) → Type 0
 VerifyPromise list script trace before now answer = TextPromise said_same list script trace before now answer
 
-abbrev pub ModesPromise : (list script trace : List ℕ) (before now : Outside) (answer : Answer) → Type 0
-ModesPromise list script trace before now answer = TextPromise said_modes list script trace before now answer
+-- a text of modes of a script that keeps the single-fault hypothesis shows one mode for all correct nodes after each slot
+-- from the start on
+abbrev pub ShowOneMode : Medl → Script → Lines → Type 0
+ShowOneMode medl right lines =
+    (start : ℕ) → keeps medl right ≡ keep.Yes start → (slot : ℕ) → start ≤ slot → slot < right.slots
+    → ShowsOneMode medl right lines slot
+
+pub record ModesPromise (list script trace : List ℕ) (before now : Outside) (answer : Answer) : Type 0 where
+  pub text : TextPromise said_modes list script trace before now answer
+  pub open text use *
+  -- what was written on a trace with status 0 shows one mode
+  pub one_mode : answer.status ≡ 0 → (was : IsJudged said_modes list script trace before now answer.status)
+      → ShowOneMode was.medl was.right was.judged.lines

@@ -1,9 +1,11 @@
 use Rattle.std.proofs.Common.{Some}
 use Rattle.commands.specs.Texts.{answer}
-use Rattle.ttp_top.specs.Calls.Words.{run, verify, sample, modes}
+use Rattle.ttp_top.specs.Calls.Words.{schedule, run, keeps, verify, precision, sample, modes}
 use Rattle.ttp_top.proofs.Calls.Promises.{promise}
+use Rattle.ttp_top.proofs.Lists.Promises.{schedule_promise}
 use Rattle.ttp_top.proofs.Samples.Promises.{sample_promise}
 use Rattle.ttp_top.proofs.Scripts.Promises.{run_promise}
+use Rattle.ttp_top.proofs.Tests.Promises.{keeps_promise, precision_promise}
 use Rattle.ttp_top.proofs.Traces.Promises.{verify_promise, modes_promise}
 use Rattle.ttp_top.proofs.call.bench.Goals as goal
 
@@ -40,6 +42,28 @@ returns-clause-modes g c = λ list script trace form.
     let ended = answer c.obey.result c.obey.new.kept in
     modes_promise list script trace _ _ ended
     (promise (Some (modes list script trace)) _ _ ended
+    (rw (c.command_of.ensures.form, form) at c.obey.ensures.follows)
+    (rw (c.command_of.ensures.form, form) at c.obey.ensures.no_form))
+
+pub returns-clause-schedule : goal.returns-clause-schedule
+returns-clause-schedule g c = λ list form.
+    let ended = answer c.obey.result c.obey.new.kept in
+    schedule_promise list _ _ ended
+    (promise (Some (schedule list)) _ _ ended (rw (c.command_of.ensures.form, form) at c.obey.ensures.follows)
+    (rw (c.command_of.ensures.form, form) at c.obey.ensures.no_form))
+
+pub returns-clause-keeps : goal.returns-clause-keeps
+returns-clause-keeps g c = λ list script form.
+    let ended = answer c.obey.result c.obey.new.kept in
+    keeps_promise list script _ _ ended
+    (promise (Some (keeps list script)) _ _ ended (rw (c.command_of.ensures.form, form) at c.obey.ensures.follows)
+    (rw (c.command_of.ensures.form, form) at c.obey.ensures.no_form))
+
+pub returns-clause-precision : goal.returns-clause-precision
+returns-clause-precision g c = λ list script node form.
+    let ended = answer c.obey.result c.obey.new.kept in
+    precision_promise list script node _ _ ended
+    (promise (Some (precision list script node)) _ _ ended
     (rw (c.command_of.ensures.form, form) at c.obey.ensures.follows)
     (rw (c.command_of.ensures.form, form) at c.obey.ensures.no_form))
 
