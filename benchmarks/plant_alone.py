@@ -225,6 +225,20 @@ abbrev pub invariant-loop-slot : goal.invariant-loop-slot
 invariant-loop-slot g l =
     (l.plant.list ≡ l.list) × (l.plant.slot ≡ l.slot) × ((history : History) × PlantStandsFor l.plant l.script history)
 """,
+    "put_slots/Answers.antt": """use Rattle.std.proofs.Common.{◌≡◌, ℕ, ◌<◌, length, subst, sym}
+use Rattle.ttp_world.specs.declared.medl.Medl.{Medl}
+use Rattle.ttp_world.specs.Medl.{plan_at}
+use Rattle.ttp_world.specs.World.{chosen_of}
+use Rattle.controller.proofs.Payloads.{sized-step}
+use Rattle.plant_alone.proofs.put_slots.Goals as goal
+
+pub slot-requires-clause-chosen : goal.slot-requires-clause-chosen
+slot-requires-clause-chosen g c =
+    sized-step c.args.chosen.now c.loop-slot.invariant.2.1
+    (subst (λ (l : Medl). (k : ℕ) → k < length l.slots
+    → length (chosen_of c.args.chosen.now k).payload ≡ (plan_at l k).payload) (sym c.loop-slot.invariant.0)
+    c.requires.sizes)
+""",
     "put_all/Answers.antt": """use Rattle.plant_alone.proofs.put_all.Goals as goal
 
 pub put_slots-requires-clause-stands : goal.put_slots-requires-clause-stands

@@ -11,7 +11,7 @@ use Rattle.ttp_world.specs.Script.{IsValidScript, writes_in}
 use Rattle.ttp_world.specs.World.{BegunSlot, Numbers, is_loaded, world}
 use Rattle.line_text.specs.HostLines.{AreBytes}
 use Rattle.controller.specs.Passes.{HaveBegun}
-use Rattle.controller.specs.Turn.{Seat}
+use Rattle.controller.specs.declared.seat.Seat.{Seat}
 use Rattle.host_port.specs.Rings.{HostState, PortState}
 use Rattle.cluster_run.specs.Choosing.{AreBytesBefore, HaveBegunFor, HaveChosen, next_slot}
 use Rattle.cluster_run.specs.Ports.{host_at, ring_of}

@@ -28,7 +28,7 @@ use Rattle.ttp_world.proofs.DeliveredSizes.{carries, taken_size}
 use Rattle.ttp_world.proofs.EntriesMade.{listening_entry-holds}
 use Rattle.ttp_world.proofs.Slots.{node_of-slot_after, entry_of-row_in}
 use Rattle.controller.specs.Passes.{delivered_at}
-use Rattle.controller.specs.SeatWithin.{IsPossible}
+use Rattle.controller.specs.ControllerWithin.{IsPossible}
 use Rattle.controller.proofs.Endings.{possible-at}
 
 pub record IsDeliverable (list : Medl) (k : ℕ) (d : Delivered) : Type 0 where

@@ -4,14 +4,12 @@ use Rattle.std.proofs.Common.{Option, None, refl, sym, ap, subst, ◌∙◌, ⊎
 use Rattle.std.proofs.lemmas.Bool.{cases_lt}
 use Rattle.std.proofs.lemmas.List.{map-append, length-map, get_or_append_left, take-append-drop}
 use Rattle.medium.specs.Carried.{Carried}
-use Rattle.ttp_world.specs.declared.events.Incidents.{Incidents}
 use Rattle.ttp_world.specs.declared.medl.Medl.{Medl}
 use Rattle.ttp_world.specs.declared.script.Script.{Script}
 use Rattle.ttp_world.specs.World.{slot_after}
-use Rattle.controller.specs.declared.controller.Outcome.{Outcome}
 use Rattle.controller.specs.Passes.{delivered_at}
-use Rattle.controller.specs.PlantStands.{no_outcome}
-use Rattle.controller.specs.Turn.{Seat}
+use Rattle.controller.specs.PlantStands.{no_outcome, outcomes_of}
+use Rattle.controller.specs.declared.seat.Seat.{Seat}
 use Rattle.controller.proofs.Parts.{each-front, each-back, each-joined}
 use Rattle.host_port.specs.Rings.{PortState, ControllerState}
 use Rattle.cluster_run.specs.Ending.{MayHandOn, IsPartReady, HasPartEnded, handed_on, number_handed}
@@ -76,13 +74,12 @@ mapped_parts f g {xs1 = xs1} {xs2 = xs2} {ys1 = ys1} {ys2 = ys2} x y same =
     (sym (map-append f xs1 xs2) ∙ ap (map f) (sym x.is) ∙ same ∙ ap (map g) y.is ∙ map-append g ys1 ys2)
 
 -- The parts of all that the end of a slot works on.
-module _ {half : ℕ} {cs cs1 cs2 : List Seat} {os os1 os2 : List Outcome} {es es1 es2 : List ControllerState}
-    {ns ns1 ns2 : List (Option ℕ)} {hs hs1 hs2 : List Incidents} {ps ps1 ps2 : List PortState}
-    (c : AreParts half cs cs1 cs2) (o : AreParts half os os1 os2) (e : AreParts half es es1 es2)
-    (n : AreParts half ns ns1 ns2) (h : AreParts half hs hs1 hs2) (p : AreParts half ps ps1 ps2) where
+module _ {half : ℕ} {ss ss1 ss2 : List Seat} {es es1 es2 : List ControllerState} {ns ns1 ns2 : List (Option ℕ)}
+    {ps ps1 ps2 : List PortState} (c : AreParts half ss ss1 ss2) (e : AreParts half es es1 es2)
+    (n : AreParts half ns ns1 ns2) (p : AreParts half ps ps1 ps2) where
   -- where the whole is ready, each part is
-  pub front_ready : {l : Medl} {sc : Script} {carried : Carried} → IsPartReady l sc carried 0 cs os es ns hs ps
-      → IsPartReady l sc carried 0 cs1 os1 es1 ns1 hs1 ps1
+  pub front_ready : {l : Medl} {sc : Script} {carried : Carried} → IsPartReady l sc carried 0 ss es ns ps
+      → IsPartReady l sc carried 0 ss1 es1 ns1 ps1
   front_ready {l = l} {sc = sc} ready =
       let may = ready.may in
       record {
@@ -92,17 +89,15 @@ module _ {half : ℕ} {cs cs1 cs2 : List Seat} {os os1 os2 : List Outcome} {es e
         drift = ready.drift;
         slot = ready.slot;
         medium = ready.medium;
-        looked_up = h.count ∙ sym c.count;
-        incidents = each-front hs2 h.is ready.incidents;
-        room = o.count ∙ sym c.count;
-        seats = each-front cs2 c.is ready.seats;
+        incidents = each-front ss2 c.is ready.incidents;
+        seats = each-front ss2 c.is ready.seats;
         ports_count = p.count ∙ sym c.count;
         ports = (mapped_parts rings_of (λ (port : PortState). port.incoming) e p ready.ports).front;
         numbers = n.count ∙ sym c.count;
         may = record {
           history = may.history;
           chosen = may.chosen;
-          planned = each-front cs2 c.is may.planned;
+          planned = each-front ss2 c.is may.planned;
           carries = may.carries;
           hands_on = λ j near.
               subst (λ (end : ControllerState). MayHandOn end
@@ -112,12 +107,11 @@ module _ {half : ℕ} {cs cs1 cs2 : List Seat} {os os1 os2 : List Outcome} {es e
         };
       }
 
-  pub back_ready : {l : Medl} {sc : Script} {carried : Carried} → IsPartReady l sc carried 0 cs os es ns hs ps
-      → IsPartReady l sc carried half cs2 os2 es2 ns2 hs2 ps2
+  pub back_ready : {l : Medl} {sc : Script} {carried : Carried} → IsPartReady l sc carried 0 ss es ns ps
+      → IsPartReady l sc carried half ss2 es2 ns2 ps2
   back_ready {l = l} {sc = sc} ready =
       let may = ready.may in
-      let next : half ≡ 0 + length hs1 = omega (arith, h.count) in
-      let next_seat : half ≡ 0 + length cs1 = omega (arith, c.count) in
+      let next : half ≡ 0 + length ss1 = omega (arith, c.count) in
       record {
         list = ready.list;
         nodes = omega (arith, ready.nodes, parts_length c);
@@ -125,17 +119,15 @@ module _ {half : ℕ} {cs cs1 cs2 : List Seat} {os os1 os2 : List Outcome} {es e
         drift = ready.drift;
         slot = ready.slot;
         medium = ready.medium;
-        looked_up = omega (arith, ready.looked_up, parts_length h, parts_length c);
-        incidents = each-back hs1 h.is next ready.incidents;
-        room = omega (arith, ready.room, parts_length o, parts_length c);
-        seats = each-back cs1 c.is next_seat ready.seats;
+        incidents = each-back ss1 c.is next ready.incidents;
+        seats = each-back ss1 c.is next ready.seats;
         ports_count = omega (arith, ready.ports_count, parts_length p, parts_length c);
         ports = (mapped_parts rings_of (λ (port : PortState). port.incoming) e p ready.ports).back;
         numbers = omega (arith, ready.numbers, parts_length n, parts_length c);
         may = record {
           history = may.history;
           chosen = may.chosen;
-          planned = each-back cs1 c.is next_seat may.planned;
+          planned = each-back ss1 c.is next may.planned;
           carries = may.carries;
           hands_on = λ j near.
               let at : 0 + (half + j) ≡ half + j = omega arith in
@@ -148,32 +140,33 @@ module _ {half : ℕ} {cs cs1 cs2 : List Seat} {os os1 os2 : List Outcome} {es e
       }
 
   -- where both parts have ended, the whole has
-  pub both_ended : {l : Medl} {sc : Script} {carried : Carried} {cs' cs1' cs2' : List Seat}
-      {os' os1' os2' : List Outcome} {es' es1' es2' : List ControllerState} {ns' ns1' ns2' : List (Option ℕ)}
-      → cs' ≡ cs1' ++ cs2' → os' ≡ os1' ++ os2' → es' ≡ es1' ++ es2' → ns' ≡ ns1' ++ ns2'
-      → length os ≡ length cs → length es1' ≡ half → length ns1' ≡ half
-      → HasPartEnded l sc carried 0 cs1 cs1' os1 os1' es1 es1' ns1' ps1
-      → HasPartEnded l sc carried half cs2 cs2' os2 os2' es2 es2' ns2' ps2
-      → HasPartEnded l sc carried 0 cs cs' os os' es es' ns' ps
-  both_ended {cs' = cs'} {cs1' = cs1'} {cs2' = cs2'} {os' = os'} {os1' = os1'} {os2' = os2'} {es' = es'} {es1' = es1'}
-      {es2' = es2'} {ns' = ns'} {ns1' = ns1'} {ns2' = ns2'} c' o' e' n' room ends numbers front back =
-      let controllers : AreParts half cs' cs1' cs2' = record { is = c'; count = front.count ∙ c.count } in
-      let outcomes : AreParts half os' os1' os2' = record { is = o'; count = front.room ∙ o.count } in
+  pub both_ended : {l : Medl} {sc : Script} {carried : Carried} {ss' ss1' ss2' : List Seat}
+      {es' es1' es2' : List ControllerState} {ns' ns1' ns2' : List (Option ℕ)}
+      → ss' ≡ ss1' ++ ss2' → es' ≡ es1' ++ es2' → ns' ≡ ns1' ++ ns2' → length es1' ≡ half → length ns1' ≡ half
+      → HasPartEnded l sc carried 0 ss1 ss1' es1 es1' ns1' ps1
+      → HasPartEnded l sc carried half ss2 ss2' es2 es2' ns2' ps2
+      → HasPartEnded l sc carried 0 ss ss' es es' ns' ps
+  both_ended {ss' = ss'} {ss1' = ss1'} {ss2' = ss2'} {es' = es'} {es1' = es1'} {es2' = es2'} {ns' = ns'} {ns1' = ns1'}
+      {ns2' = ns2'} c' e' n' ends numbers front back =
+      let left = λ (seat : Seat). seat.outcome in
+      let seats : AreParts half ss' ss1' ss2' = record { is = c'; count = front.count ∙ c.count } in
+      let outcomes : AreParts half (outcomes_of ss') (outcomes_of ss1') (outcomes_of ss2') = record {
+        is = ap outcomes_of c' ∙ map-append left ss1' ss2';
+        count = length-map ss1' left ∙ seats.count;
+      } in
       let after : AreParts half es' es1' es2' = record { is = e'; count = ends } in
       let told : AreParts half ns' ns1' ns2' = record { is = n'; count = numbers } in
-      let next : half ≡ 0 + length cs1' = omega (arith, controllers.count) in
-      let next_outcome : half ≡ 0 + length os1' = omega (arith, outcomes.count) in
-      let next_seat : half ≡ 0 + length cs1 = omega (arith, c.count) in
+      let next : half ≡ 0 + length ss1' = omega (arith, seats.count) in
+      let next_seat : half ≡ 0 + length ss1 = omega (arith, c.count) in
       record {
-        count = omega (arith, parts_length controllers, parts_length c, back.count);
-        room = omega (arith, parts_length outcomes, parts_length o, back.room);
+        count = omega (arith, parts_length seats, parts_length c, back.count);
         seats = rw c' (each-joined next front.seats back.seats);
         end = λ history chosen planned carries.
-            let first = front.end history chosen (each-front cs2 c.is planned) carries in
-            let second = back.end history chosen (each-back cs1 c.is next_seat planned) carries in
+            let first = front.end history chosen (each-front ss2 c.is planned) carries in
+            let second = back.end history chosen (each-back ss1 c.is next_seat planned) carries in
             record {
               stand = rw c' (each-joined next first.stand second.stand);
-              left = rw o' (each-joined next_outcome first.left second.left);
+              left = rw c' (each-joined next first.left second.left);
             };
         ports =
             ap (map rings_of) e' ∙ map-append rings_of es1' es2'
@@ -193,7 +186,7 @@ module _ {half : ℕ} {cs cs1 cs2 : List Seat} {os os1 os2 : List Outcome} {es e
               ∙ at_back [] (j - half) after
               ∙ back.handed.ends (j - half) within
               ∙ (λ i. handed_on (sym (at_back [] (j - half) e) i) (sym (at_back no_outcome (j - half) outcomes) i))
-              ∙ (λ i. handed_on (end_at es (at i)) (outcome_of os' (at i))))
+              ∙ (λ i. handed_on (end_at es (at i)) (outcome_of (outcomes_of ss') (at i))))
               (cases_lt j half);
           numbers_are = λ j near. ⊎_elim
               (λ less.
@@ -209,7 +202,7 @@ module _ {half : ℕ} {cs cs1 cs2 : List Seat} {os os1 os2 : List Outcome} {es e
               ∙ back.handed.numbers_are (j - half) within
               ∙ (λ i. number_handed (sym (at_back [] (j - half) e) i)
               (sym (at_back no_outcome (j - half) outcomes) i).delivered)
-              ∙ (λ i. number_handed (end_at es (at i)) (outcome_of os' (at i)).delivered))
+              ∙ (λ i. number_handed (end_at es (at i)) (outcome_of (outcomes_of ss') (at i)).delivered))
               (cases_lt j half);
         };
       }

@@ -9,6 +9,7 @@ use Rattle.ttp_world.specs.Script.{reads_in}
 use Rattle.host_port.specs.Reading.{ReadersState, IsSettled, got_of, reads_from, settled}
 use Rattle.host_port.specs.Rings.{ControllerState, HostState, at_source}
 use Rattle.cluster_run.specs.declared.nodes.Nodes.{Nodes}
+use Rattle.controller.specs.PlantStands.{outcomes_of}
 use Rattle.cluster_run.specs.Ending.{HaveHandedOn}
 use Rattle.cluster_run.specs.Ports.{end_at}
 use Rattle.cluster_run.specs.Reading.{ReadsMany, SettlesReadsOf, calls_in, has_reads, reader_at, reader_in}
@@ -48,7 +49,7 @@ none_settled e = record {
 }
 
 pub none_read : (list : Medl) (script : Script) (slot : ℕ) (old new : Nodes) → reads_in script slot ≡ []
-    → HaveHandedOn new.outcomes.items old.controller_ends.items new.controller_ends.items new.delivered.items
+    → HaveHandedOn (outcomes_of new.seats.items) old.controller_ends.items new.controller_ends.items new.delivered.items
     → TellsReads list script slot old new []
 none_read list script slot old new quiet handed =
     let n = length list.slots in

@@ -22,7 +22,7 @@ use Rattle.ttp_world.specs.Script.{writes_in}
 use Rattle.ttp_world.specs.Words.{word_count, words_of_payload}
 use Rattle.ttp_world.specs.World.{BegunSlot, Numbers, is_loaded, world}
 use Rattle.line_text.specs.HostLines.{AreBytes}
-use Rattle.controller.specs.Turn.{Seat}
+use Rattle.controller.specs.declared.seat.Seat.{Seat}
 use Rattle.host_port.specs.Reading.{Attempts, is_intact}
 use Rattle.host_port.specs.Rings.{HostState, PortState, message_shape, shape_of}
 use Rattle.host_port.specs.Writing.{Takes}

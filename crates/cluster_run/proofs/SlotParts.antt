@@ -22,7 +22,7 @@ use Rattle.cluster_run.proofs.PortLists.{same-count}
 
 may_end : (list : Medl) (script : Script) (slot : ℕ) (nodes : Nodes) → IsValid list → slot ≤ SLOT_LIMIT
     → ArePlannedNodes list script slot nodes → MayEndSlot list script slot nodes
-    → MayEnd list script nodes.medium 0 nodes.controllers.items nodes.controller_ends.items
+    → MayEnd list script nodes.medium 0 nodes.seats.items nodes.controller_ends.items
 may_end list script slot nodes valid few are may =
     let history = world list script may.numbers in
     let chosen = nodes.chosen.items in
@@ -52,23 +52,21 @@ may_end list script slot nodes valid few are may =
 pub part_ready : (list : Medl) (script : Script) (slot : ℕ) (nodes : Nodes) → IsValid list
     → IsValidScript list script → slot < script.slots
     → ArePlannedNodes list script slot nodes → MayEndSlot list script slot nodes
-    → IsPartReady list script nodes.medium 0 nodes.controllers.items nodes.outcomes.items nodes.controller_ends.items
-    nodes.delivered.items nodes.incidents.items nodes.ports.items
+    → IsPartReady list script nodes.medium 0 nodes.seats.items nodes.controller_ends.items nodes.delivered.items
+    nodes.ports.items
 part_ready list script slot nodes valid valid_script within are may =
     let is = sym are.slot_is in
     record {
       list = valid;
-      nodes = omega (arith, are.controllers);
+      nodes = omega (arith, are.seats_count);
       drifts = valid_script.drift_count;
       drift = valid_script.drift;
       slot = omega (arith, are.slot_is, within, valid_script.slots);
       medium = subst (λ n. IsFromWithin nodes.medium script (most_ahead_in n)) is are.medium;
-      looked_up = are.incidents_count ∙ sym are.controllers;
-      incidents = subst (λ n. AreIncidents script n 0 nodes.incidents.items) is are.incidents;
-      room = are.outcomes ∙ sym are.controllers;
-      seats = subst (λ n. AreSeats list IsPlanned (most_ahead_in n) 0 nodes.controllers.items) is are.seats;
-      ports_count = are.ports_count ∙ sym are.controllers;
+      incidents = subst (λ n. AreIncidents script n 0 nodes.seats.items) is are.incidents;
+      seats = subst (λ n. AreSeats list IsPlanned (most_ahead_in n) 0 nodes.seats.items) is are.seats;
+      ports_count = are.ports_count ∙ sym are.seats_count;
       ports = are.ports.controllers;
-      numbers = are.delivered ∙ sym are.controllers;
+      numbers = are.delivered ∙ sym are.seats_count;
       may = may_end list script slot nodes valid (omega (arith, within, valid_script.slots)) are may;
     }

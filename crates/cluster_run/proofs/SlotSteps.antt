@@ -8,7 +8,6 @@ use Rattle.std.proofs.Math.ListN.{get_or-map}
 use Rattle.std.proofs.lemmas.Bool.{eq-eqb}
 use Rattle.std.proofs.lemmas.List.{length-map}
 use Rattle.std.proofs.lemmas.List.FromFn.{fill_by_all}
-use Rattle.std.proofs.lemmas.Option.{slice_get-get_or}
 use Rattle.ttp_base.specs.NodeSet.{below}
 use Rattle.ttp_base.proofs.Below.{all-below}
 use Rattle.ttp_world.specs.declared.medl.Medl.{Medl}
@@ -31,8 +30,8 @@ use Rattle.ttp_world.proofs.Slots.{length-row_in}
 use Rattle.ttp_world.proofs.Worlds.{length-world, row_of_world, row_of_world-told}
 use Rattle.controller.specs.declared.controller.Outcome.{Outcome}
 use Rattle.controller.specs.Passes.{HaveEnded, IsLeft, StandAfter}
-use Rattle.controller.specs.PlantStands.{no_outcome}
-use Rattle.controller.proofs.Parts.{each-of}
+use Rattle.controller.specs.PlantStands.{outcomes_of}
+use Rattle.controller.proofs.Plants.{left_at}
 use Rattle.host_port.specs.declared.report.NodeLine.{NodeLine}
 use Rattle.host_port.specs.declared.report.SlotReport.{SlotReport}
 use Rattle.host_port.specs.Reading.{ReadersState}
@@ -76,18 +75,18 @@ same_numbers (None ∷ ns) = same_numbers ns
 same_numbers (Some n ∷ ns) = λ i. eq-eqb n n refl i && same_numbers ns i
 
 -- What is known of a slot, once it has ended and is told.
-pub record IsTold (list : Medl) (script : Script) (numbers : Numbers) (chosen : List Chosen) (outcomes : List Outcome)
+pub record IsTold (list : Medl) (script : Script) (numbers : Numbers) (chosen : List Chosen)
     (delivered : List (Option ℕ)) (old : Desks) (handed : List ControllerState) (new : Desks)
     (first last : List (Option ReadersState)) (report : SlotReport) : Type 0 where
   pub valid : IsValid list
   pub stands : DesksStandFor list script old numbers
   pub ends_count : length old.controller_ends ≡ length list.slots
-  pub outcomes_count : length outcomes ≡ length list.slots
+  pub seats_count : length new.seats ≡ length list.slots
   pub first_count : length first ≡ length list.slots
   pub last_count : length last ≡ length list.slots
   pub chosen_are : HaveChosen list script numbers chosen new.host_ends
-  pub ended : HaveEnded list script (world list script numbers) chosen 0 new.seats outcomes
-  pub handed_are : HaveHandedOn outcomes old.controller_ends handed delivered
+  pub ended : HaveEnded list script (world list script numbers) chosen 0 new.seats
+  pub handed_are : HaveHandedOn (outcomes_of new.seats) old.controller_ends handed delivered
   pub lent : AreReadersLent (reads_in script (length numbers)) old.controller_ends first
   pub read : HaveRead list.buffers (reads_in script (length numbers)) first last
   pub settles : SettlesReads handed last new.controller_ends
@@ -96,10 +95,13 @@ pub record IsTold (list : Medl) (script : Script) (numbers : Numbers) (chosen : 
   pub slot_is : report.slot ≡ length numbers
   pub writes : report.writes ≡ writes_shown list script (length numbers) [] (writes_in script (length numbers))
 
-module _ {list : Medl} {script : Script} {numbers : Numbers} {chosen : List Chosen} {outcomes : List Outcome}
+module _ {list : Medl} {script : Script} {numbers : Numbers} {chosen : List Chosen}
     {delivered : List (Option ℕ)} {old : Desks} {handed : List ControllerState} {new : Desks}
     {first last : List (Option ReadersState)} {report : SlotReport}
-    (so : IsTold list script numbers chosen outcomes delivered old handed new first last report) where
+    (so : IsTold list script numbers chosen delivered old handed new first last report) where
+  abbrev outcomes : List Outcome
+  outcomes = outcomes_of new.seats
+
   abbrev before : History
   before = world list script numbers
 
@@ -118,13 +120,12 @@ module _ {list : Medl} {script : Script} {numbers : Numbers} {chosen : List Chos
 
   -- What was handed on.
 
-  left_at : (k : ℕ) → k < length list.slots → IsLeft list script before chosen k (outcome_of outcomes k)
-  left_at k node =
-      each-of so.ended.left k (slice_get-get_or outcomes k no_outcome (omega (arith, node, so.outcomes_count)))
+  left_here : (k : ℕ) → k < length list.slots → IsLeft list script before chosen k (outcome_of outcomes k)
+  left_here k node = left_at so.ended.left k (omega (arith, node, so.seats_count))
 
   handed_of : (k : ℕ) → k < length list.slots → IsHandedOf list script row before k (outcome_of outcomes k)
   handed_of k node =
-      let left = left_at k node in
+      let left = left_here k node in
       let same = sym (delivered_of-row_in list script before chosen k of_hosts) in
       record {
         delivered = left.delivered ∙ same;
@@ -146,7 +147,7 @@ module _ {list : Medl} {script : Script} {numbers : Numbers} {chosen : List Chos
       ∙ number_is_told list script row before k (pairs_read list script numbers k) (end_at old.controller_ends k) d
       (came k node)
       (subst (λ (o : Option Delivered). IfSome o
-      (IsDeliverable list k)) (sym (left_at k node).delivered)
+      (IsDeliverable list k)) (sym (left_here k node).delivered)
       (delivered-deliverable list script before chosen k node))
       (handed_of k node).delivered
 

@@ -9,7 +9,7 @@ use Rattle.ttp_world.specs.Outgoing.{messages_before, message_chosen}
 use Rattle.ttp_world.specs.World.{BegunSlot, Numbers, slot_after, world, is_loaded, chosen_of}
 use Rattle.line_text.specs.HostLines.{AreBytes}
 use Rattle.controller.specs.Passes.{HaveBegun}
-use Rattle.controller.specs.Turn.{Seat}
+use Rattle.controller.specs.declared.seat.Seat.{Seat}
 use Rattle.host_port.specs.Rings.{HostState, message_shape}
 use Rattle.cluster_run.specs.Ports.{host_at}
 use Rattle.cluster_run.specs.Rings.{IsRingOf, words_written, pairs_sent, pair_sent}

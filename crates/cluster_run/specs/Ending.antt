@@ -7,7 +7,6 @@ use Rattle.ttp_world.specs.declared.node.Chosen.{Chosen}
 use Rattle.ttp_world.specs.declared.node.Delivered.{Delivered}
 use Rattle.ttp_world.specs.declared.script.Script.{Script}
 use Rattle.ttp_world.specs.declared.script.Source.TheVariants as source
-use Rattle.ttp_world.specs.declared.events.Incidents.{Incidents}
 use Rattle.ttp_world.specs.declared.script.TheConstants.{SLOT_LIMIT, DRIFT_LIMIT}
 use Rattle.ttp_world.specs.Diary.{History}
 use Rattle.ttp_world.specs.Medl.{IsValid}
@@ -18,8 +17,8 @@ use Rattle.controller.specs.declared.controller.Outcome.{Outcome}
 use Rattle.controller.specs.Limits.{IsPlanned}
 use Rattle.controller.specs.Passes.{HavePlanned, Carries, HaveEnded, delivered_at}
 use Rattle.controller.specs.PlantWithin.{most_ahead, most_ahead_in, IsEnded, AreSeats, AreIncidents, IsFromWithin}
-use Rattle.controller.specs.PlantStands.{no_outcome}
-use Rattle.controller.specs.Turn.{Seat}
+use Rattle.controller.specs.PlantStands.{no_outcome, outcomes_of}
+use Rattle.controller.specs.declared.seat.Seat.{Seat}
 use Rattle.host_port.specs.Rings.{PortState, ControllerState, at_source}
 use Rattle.host_port.specs.Writing.{written_at, HasRoom, Takes}
 use Rattle.cluster_run.specs.Ports.{rings_of, end_at}
@@ -67,34 +66,30 @@ pub record HaveHandedOn (outcomes : List Outcome) (old new : List ControllerStat
         → get_or numbers j None ≡ number_handed (end_at old j) (outcome_of outcomes j).delivered
 
 -- A part of the nodes, those from a first one on, before the end of a slot: each list has a place for each of them,
--- their controllers have planned, and what each hands on has room. `cs` are the controllers, `os` what slots leave,
--- `es` the controllers' ends of the ports `ps`, `ns` the numbers of what was delivered, and `happens` the incidents of
--- the slot.
-pub record IsPartReady (l : Medl) (sc : Script) (carried : Carried) (first : ℕ) (cs : List Seat) (os : List Outcome)
-    (es : List ControllerState) (ns : List (Option ℕ)) (happens : List Incidents) (ps : List PortState) : Type 0 where
+-- their controllers have planned, and what each hands on has room. `ss` are the seats, `es` the controllers' ends of the
+-- ports `ps`, and `ns` the numbers of what was delivered.
+pub record IsPartReady (l : Medl) (sc : Script) (carried : Carried) (first : ℕ) (ss : List Seat)
+    (es : List ControllerState) (ns : List (Option ℕ)) (ps : List PortState) : Type 0 where
   pub list : IsValid l
-  pub nodes : first + length cs ≤ length l.slots
+  pub nodes : first + length ss ≤ length l.slots
   pub drifts : length sc.drift ≡ length l.slots
   pub drift : All (IsWithinSpan DRIFT_LIMIT) sc.drift
   pub slot : carried.slot < SLOT_LIMIT
   pub medium : IsFromWithin carried sc (most_ahead_in carried.slot)
-  pub looked_up : length happens ≡ length cs
-  pub incidents : AreIncidents sc carried.slot first happens
-  pub room : length os ≡ length cs
-  pub seats : AreSeats l IsPlanned (most_ahead_in carried.slot) first cs
-  pub ports_count : length ps ≡ length cs
+  pub incidents : AreIncidents sc carried.slot first ss
+  pub seats : AreSeats l IsPlanned (most_ahead_in carried.slot) first ss
+  pub ports_count : length ps ≡ length ss
   pub ports : map rings_of es ≡ map (λ port. port.incoming) ps
-  pub numbers : length ns ≡ length cs
-  pub may : MayEnd l sc carried first cs es
+  pub numbers : length ns ≡ length ss
+  pub may : MayEnd l sc carried first ss es
 
 -- and after it: the controllers have ended the slot, and have handed on what it left
-pub record HasPartEnded (l : Medl) (sc : Script) (carried : Carried) (first : ℕ) (cs cs' : List Seat)
-    (os os' : List Outcome) (es es' : List ControllerState) (ns' : List (Option ℕ)) (ps : List PortState) : Type 0 where
-  pub count : length cs' ≡ length cs
-  pub room : length os' ≡ length os
-  pub seats : AreSeats l IsEnded (most_ahead (carried.slot + 1)) first cs'
-  pub end : (history : History) (chosen : List Chosen) → HavePlanned (slot_after l sc history) chosen first cs
+pub record HasPartEnded (l : Medl) (sc : Script) (carried : Carried) (first : ℕ) (ss ss' : List Seat)
+    (es es' : List ControllerState) (ns' : List (Option ℕ)) (ps : List PortState) : Type 0 where
+  pub count : length ss' ≡ length ss
+  pub seats : AreSeats l IsEnded (most_ahead (carried.slot + 1)) first ss'
+  pub end : (history : History) (chosen : List Chosen) → HavePlanned (slot_after l sc history) chosen first ss
       → Carries (slot_after l sc history) (frames_in (slot_after l sc history) chosen) carried
-      → HaveEnded l sc history chosen first cs' os'
+      → HaveEnded l sc history chosen first ss'
   pub ports : map rings_of es' ≡ map (λ port. port.incoming) ps
-  pub handed : HaveHandedOn os' es es' ns'
+  pub handed : HaveHandedOn (outcomes_of ss') es es' ns'

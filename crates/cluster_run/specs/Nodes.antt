@@ -9,11 +9,9 @@ use Rattle.cluster_run.specs.Ports.{ArePortsOf, AreNewPorts}
 -- There is a place for each node of the list in all that slots share. Each controller is its node's, with its clock
 -- within reach, and each end is of its node's port.
 pub record AreNodesOf (list : Medl) (slot : ℕ) (nodes : Nodes) : Type 0 where
-  pub controllers : length nodes.controllers.items ≡ length list.slots
-  pub seats : AreSeats list IsEnded (most_ahead slot) 0 nodes.controllers.items
-  pub incidents : length nodes.incidents.items ≡ length list.slots
+  pub seats_count : length nodes.seats.items ≡ length list.slots
+  pub seats : AreSeats list IsEnded (most_ahead slot) 0 nodes.seats.items
   pub chosen : length nodes.chosen.items ≡ length list.slots
-  pub outcomes : length nodes.outcomes.items ≡ length list.slots
   pub delivered : length nodes.delivered.items ≡ length list.slots
   pub ports_count : length nodes.ports.items ≡ length list.slots
   pub ports : ArePortsOf list nodes.ports.items nodes.controller_ends.items nodes.host_ends.items
@@ -21,5 +19,5 @@ pub record AreNodesOf (list : Medl) (slot : ℕ) (nodes : Nodes) : Type 0 where
 -- those before the first slot: no controller has an entry, and no ring a message but the zeros
 pub record AreNewNodes (list : Medl) (nodes : Nodes) : Type 0 where
   pub are : AreNodesOf list 0 nodes
-  pub stand : AllStandAtFirst nodes.controllers.items
+  pub stand : AllStandAtFirst nodes.seats.items
   pub rings : AreNewPorts list (length list.slots) nodes.controller_ends.items nodes.host_ends.items

@@ -16,7 +16,7 @@ use Rattle.ttp_world.specs.Trace.{message_shown, number_delivered}
 use Rattle.ttp_world.specs.World.{SlotNumbers, Numbers, node_past, world}
 use Rattle.controller.specs.Passes.{StandAfter}
 use Rattle.controller.specs.PlantWithin.{IsEnded, AreSeats}
-use Rattle.controller.specs.Turn.{Seat}
+use Rattle.controller.specs.declared.seat.Seat.{Seat}
 use Rattle.host_port.specs.declared.report.NodeLine.{NodeLine}
 use Rattle.host_port.specs.declared.report.ReadLine.{ReadLine}
 use Rattle.host_port.specs.declared.report.SlotReport.{SlotReport}

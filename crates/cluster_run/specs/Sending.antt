@@ -14,7 +14,7 @@ use Rattle.ttp_world.specs.Script.{HostWrite, payload_of_host, write_at}
 use Rattle.ttp_world.specs.Words.{words_of_payload, word_count}
 use Rattle.ttp_world.specs.World.{BegunSlot, is_loaded}
 use Rattle.controller.specs.Passes.{HaveBegun}
-use Rattle.controller.specs.Turn.{Seat}
+use Rattle.controller.specs.declared.seat.Seat.{Seat}
 use Rattle.host_port.specs.declared.report.WriteLine.{WriteLine}
 use Rattle.host_port.specs.Rings.{PortState, HostState}
 use Rattle.host_port.specs.Fetching.{IsFetcherOf}

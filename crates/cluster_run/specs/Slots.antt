@@ -8,6 +8,7 @@ use Rattle.ttp_world.specs.Script.{reads_in}
 use Rattle.ttp_world.specs.World.{Numbers, world, frames_in}
 use Rattle.controller.specs.Limits.{IsPlanned}
 use Rattle.controller.specs.Passes.{HavePlanned, Carries, HaveEnded}
+use Rattle.controller.specs.PlantStands.{outcomes_of}
 use Rattle.controller.specs.PlantWithin.{AreSeats, AreIncidents, IsFromWithin, most_ahead_in}
 use Rattle.host_port.specs.declared.report.ReadLine.{ReadLine}
 use Rattle.host_port.specs.declared.report.SlotReport.{SlotReport}
@@ -38,12 +39,10 @@ pub record StandsForSome (list : Medl) (script : Script) (slot : ℕ) (desks : D
 -- There is a place for each node, each controller is its node's and has planned, and what is on the medium was sent by
 -- them.
 pub record ArePlannedNodes (list : Medl) (script : Script) (slot : ℕ) (nodes : Nodes) : Type 0 where
-  pub controllers : length nodes.controllers.items ≡ length list.slots
-  pub seats : AreSeats list IsPlanned (most_ahead_in slot) 0 nodes.controllers.items
-  pub incidents_count : length nodes.incidents.items ≡ length list.slots
-  pub incidents : AreIncidents script slot 0 nodes.incidents.items
+  pub seats_count : length nodes.seats.items ≡ length list.slots
+  pub seats : AreSeats list IsPlanned (most_ahead_in slot) 0 nodes.seats.items
+  pub incidents : AreIncidents script slot 0 nodes.seats.items
   pub chosen : length nodes.chosen.items ≡ length list.slots
-  pub outcomes : length nodes.outcomes.items ≡ length list.slots
   pub delivered : length nodes.delivered.items ≡ length list.slots
   pub ports_count : length nodes.ports.items ≡ length list.slots
   pub ports : ArePortsOf list nodes.ports.items nodes.controller_ends.items nodes.host_ends.items
@@ -53,7 +52,7 @@ pub record ArePlannedNodes (list : Medl) (script : Script) (slot : ℕ) (nodes :
 -- the slot is the one after the world of these numbers
 pub record HavePlannedSlot (list : Medl) (script : Script) (numbers : Numbers) (nodes : Nodes) : Type 0 where
   pub chosen : HaveChosen list script numbers nodes.chosen.items nodes.host_ends.items
-  pub planned : HavePlanned (next_slot list script numbers) nodes.chosen.items 0 nodes.controllers.items
+  pub planned : HavePlanned (next_slot list script numbers) nodes.chosen.items 0 nodes.seats.items
   pub carries : Carries (next_slot list script numbers) (frames_in (next_slot list script numbers) nodes.chosen.items)
       nodes.medium
 
@@ -69,7 +68,7 @@ pub record MayEndSlot (list : Medl) (script : Script) (slot : ℕ) (nodes : Node
 
 abbrev pub HaveEndedFor : Medl → Script → Numbers → Nodes → Nodes → Type 0
 HaveEndedFor list script numbers old new =
-    HaveEnded list script (world list script numbers) old.chosen.items 0 new.controllers.items new.outcomes.items
+    HaveEnded list script (world list script numbers) old.chosen.items 0 new.seats.items
 
 -- The controllers have handed on what the slot left, and hosts have read what these lines tell: each that reads by
 -- readers that were lent before, which are settled after it. `first` are the readers as they were lent, `last` those once
@@ -81,7 +80,7 @@ pub record TellsReads (list : Medl) (script : Script) (slot : ℕ) (old new : No
     pub last : List (Option ReadersState)
     pub first_count : length first ≡ length list.slots
     pub last_count : length last ≡ length list.slots
-    pub handed_are : HaveHandedOn new.outcomes.items old.controller_ends.items handed new.delivered.items
+    pub handed_are : HaveHandedOn (outcomes_of new.seats.items) old.controller_ends.items handed new.delivered.items
     pub lent : AreReadersLent (reads_in script slot) old.controller_ends.items first
     pub read : HaveRead list.buffers (reads_in script slot) first last
     pub settles : SettlesReads handed last new.controller_ends.items

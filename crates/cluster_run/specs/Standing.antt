@@ -5,7 +5,7 @@ use Rattle.ttp_world.specs.declared.script.Script.{Script}
 use Rattle.ttp_world.specs.declared.script.Source.{Source}
 use Rattle.ttp_world.specs.World.{Numbers, world}
 use Rattle.controller.specs.Passes.{StandAfter}
-use Rattle.controller.specs.Turn.{Seat}
+use Rattle.controller.specs.declared.seat.Seat.{Seat}
 use Rattle.host_port.specs.declared.report.SlotReport.{SlotReport}
 use Rattle.host_port.specs.Rings.{at_source, ControllerState, HostState, message_shape, incoming_shape}
 use Rattle.cluster_run.specs.declared.nodes.Nodes.{Nodes}
@@ -30,7 +30,7 @@ pub record ClusterView : Type 0 where
 
 abbrev pub desks_of : Nodes → Desks
 desks_of nodes = record {
-  seats = nodes.controllers.items;
+  seats = nodes.seats.items;
   controller_ends = nodes.controller_ends.items;
   host_ends = nodes.host_ends.items;
 }

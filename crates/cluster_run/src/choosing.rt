@@ -10,7 +10,7 @@ ghost use Rattle.cluster_run.specs.Report.{writes_shown};
 
 use crate::fetching::fetch_each;
 use crate::sending::{lend_fetchers, settle_fetchers, write_and_fetch};
-use controller::Controller;
+use controller::Seat;
 use host_port::{HostEnd, Port, WriteLine};
 use std::alloc::Global;
 use std::mem;
@@ -29,7 +29,7 @@ fn write_and_choose<R: Threads + Sync, G: Gate>(
     places: &[usize],
     ports: &[Port],
     mut ends: Vec<HostEnd>,
-    controllers: &[Controller],
+    seats: &[Seat],
     chosen: &mut [Chosen],
     gate: &G,
 ) -> Result<(Vec<HostEnd>, Vec<WriteLine>), Memory>
@@ -39,20 +39,20 @@ fn write_and_choose<R: Threads + Sync, G: Gate>(
     requires places { filter_map (write_at script.now) places.now ≡ writes_in script.now slot }
     requires count { length ports.now ≡ length list.now.slots }
     requires ports { map ring_of ends.items ≡ map (λ port. port.outgoing) ports.now }
-    requires controllers { length controllers.now ≡ length ports.now }
+    requires seats { length seats.now ≡ length ports.now }
     requires chosen_count { length chosen.old ≡ length ports.now }
     requires bytes { AreBytesBefore list.now script.now slot }
-    requires may { MayChoose list.now script.now slot controllers.now ends.items }
+    requires may { MayChoose list.now script.now slot seats.now ends.items }
     ensures chosen_count { length chosen.new ≡ length chosen.old }
     ensures ports { IfOk result (λ r. map ring_of r.0.items ≡ map (λ port. port.outgoing) ports.now) }
     ensures bytes { OnOk result (AreBytesBefore list.now script.now (slot + 1)) }
     ensures lines { IfOk result (λ r. r.1.items
         ≡ writes_shown list.now script.now slot [] (writes_in script.now slot)) }
     ensures chooses { IfOk result (λ r. (numbers : Numbers)
-        → HaveBegunFor list.now script.now slot numbers controllers.now ends.items
+        → HaveBegunFor list.now script.now slot numbers seats.now ends.items
         → HaveChosen list.now script.now numbers chosen.new r.0.items) }
 {
-    let fetchers = lend_fetchers(alloc, ports, ends.as_mut_slice(), controllers)?;
+    let fetchers = lend_fetchers(alloc, ports, ends.as_mut_slice(), seats)?;
     let lines = Vec::with_capacity(alloc, places.len())?;
     let (mut ends, lines, fetchers) = write_and_fetch(
         rt, ports, ends, fetchers, script, places, lines, gate,
@@ -69,7 +69,7 @@ fn fetch_and_choose<G: Gate>(
     slot: u32,
     ports: &[Port],
     ends: &mut [HostEnd],
-    controllers: &[Controller],
+    seats: &[Seat],
     chosen: &mut [Chosen],
     gate: &G,
 ) -> Result<Vec<WriteLine>, Memory>
@@ -79,20 +79,20 @@ fn fetch_and_choose<G: Gate>(
     requires quiet { writes_in script.now slot ≡ [] }
     requires count { length ports.now ≡ length list.now.slots }
     requires ports { map ring_of ends.old ≡ map (λ port. port.outgoing) ports.now }
-    requires controllers { length controllers.now ≡ length ports.now }
+    requires seats { length seats.now ≡ length ports.now }
     requires chosen_count { length chosen.old ≡ length ports.now }
     requires bytes { AreBytesBefore list.now script.now slot }
-    requires may { MayChoose list.now script.now slot controllers.now ends.old }
+    requires may { MayChoose list.now script.now slot seats.now ends.old }
     ensures chosen_count { length chosen.new ≡ length chosen.old }
     ensures ports { OnOk result (map ring_of ends.new ≡ map (λ port. port.outgoing) ports.now) }
     ensures bytes { OnOk result (AreBytesBefore list.now script.now (slot + 1)) }
     ensures lines { IfOk result (λ lines. lines.items
         ≡ writes_shown list.now script.now slot [] (writes_in script.now slot)) }
     ensures chooses { OnOk result ((numbers : Numbers)
-        → HaveBegunFor list.now script.now slot numbers controllers.now ends.old
+        → HaveBegunFor list.now script.now slot numbers seats.now ends.old
         → HaveChosen list.now script.now numbers chosen.new ends.new) }
 {
-    fetch_each(list, ports, ends, controllers, chosen, gate)?;
+    fetch_each(list, ports, ends, seats, chosen, gate)?;
     Ok(Vec::new(alloc))
 }
 
@@ -106,7 +106,7 @@ pub(crate) fn choose<R: Threads + Sync, G: Gate>(
     slot: u32,
     ports: &[Port],
     ends: &mut Vec<HostEnd>,
-    controllers: &[Controller],
+    seats: &[Seat],
     chosen: &mut [Chosen],
     gate: &G,
 ) -> Result<Vec<WriteLine>, Memory>
@@ -115,17 +115,17 @@ pub(crate) fn choose<R: Threads + Sync, G: Gate>(
     requires slot { slot < script.now.slots }
     requires count { length ports.now ≡ length list.now.slots }
     requires ports { map ring_of ends.old.items ≡ map (λ port. port.outgoing) ports.now }
-    requires controllers { length controllers.now ≡ length ports.now }
+    requires seats { length seats.now ≡ length ports.now }
     requires chosen_count { length chosen.old ≡ length ports.now }
     requires bytes { AreBytesBefore list.now script.now slot }
-    requires may { MayChoose list.now script.now slot controllers.now ends.old.items }
+    requires may { MayChoose list.now script.now slot seats.now ends.old.items }
     ensures chosen_count { length chosen.new ≡ length chosen.old }
     ensures ports { OnOk result (map ring_of ends.new.items ≡ map (λ port. port.outgoing) ports.now) }
     ensures bytes { OnOk result (AreBytesBefore list.now script.now (slot + 1)) }
     ensures lines { IfOk result (λ lines. lines.items
         ≡ writes_shown list.now script.now slot [] (writes_in script.now slot)) }
     ensures chooses { OnOk result ((numbers : Numbers)
-        → HaveBegunFor list.now script.now slot numbers controllers.now ends.old.items
+        → HaveBegunFor list.now script.now slot numbers seats.now ends.old.items
         → HaveChosen list.now script.now numbers chosen.new ends.new.items) }
 {
     let places = script.writes(slot);
@@ -137,7 +137,7 @@ pub(crate) fn choose<R: Threads + Sync, G: Gate>(
             slot,
             ports,
             ends.as_mut_slice(),
-            controllers,
+            seats,
             chosen,
             gate,
         )?;
@@ -146,17 +146,7 @@ pub(crate) fn choose<R: Threads + Sync, G: Gate>(
     // A thread has the ends by value.
     let given = mem::replace(ends, Vec::new(alloc));
     let (given, lines) = write_and_choose(
-        rt,
-        alloc,
-        list,
-        script,
-        slot,
-        places,
-        ports,
-        given,
-        controllers,
-        chosen,
-        gate,
+        rt, alloc, list, script, slot, places, ports, given, seats, chosen, gate,
     )?;
     *ends = given;
     Ok(lines)

@@ -9,18 +9,19 @@ ghost use Rattle.ttp_world.specs.World.{slot_after, frames_in};
 ghost use Rattle.controller.specs.Limits.{IsPlanned};
 ghost use Rattle.controller.specs.Passes.{HavePlanned, Carries, HaveEnded};
 ghost use Rattle.controller.specs.PlantWithin.{most_ahead, most_ahead_in, IsEnded, AreSeats, AreIncidents};
+ghost use Rattle.controller.specs.PlantStands.{outcomes_of};
 ghost use Rattle.controller.specs.PlantWithin.{IsFromWithin};
 ghost use Rattle.host_port.specs.Rings.{IsControllerEndOf};
 ghost use Rattle.cluster_run.specs.Ending.{MayHandOn, delivered_to, handed_on, number_handed, MayEnd, HaveHandedOn};
 ghost use Rattle.cluster_run.specs.Ending.{IsPartReady, HasPartEnded};
 ghost use Rattle.cluster_run.specs.Ports.{rings_of};
 
-use controller::{Controller, Outcome, take_all};
+use controller::{Outcome, Seat, take_all};
 use host_port::{ControllerEnd, Port};
 use medium::Medium;
 use std::thread::{Threads, join_mut};
 use ttp_base::Gate;
-use ttp_world::{Delivered, Incidents, Medl, Script};
+use ttp_world::{Delivered, Medl, Script};
 
 // A controller delivers a payload, if there is one, and answers its number.
 fn deliver<G: Gate>(
@@ -63,11 +64,9 @@ fn hand_on<G: Gate>(
 // The controllers of the nodes from `first` on end the slot, and then hand on what it left, one after
 // another.
 fn end_part<G: Gate>(
-    controllers: &mut [Controller],
-    outcomes: &mut [Outcome],
+    seats: &mut [Seat],
     ends: &mut [ControllerEnd],
     delivered: &mut [Option<u64>],
-    incidents: &[Incidents],
     ports: &[Port],
     medium: &Medium,
     list: &Medl,
@@ -76,51 +75,38 @@ fn end_part<G: Gate>(
     gate: &G,
 )
     requires list { IsValid list.now }
-    requires nodes { first + length controllers.old ≤ length list.now.slots }
+    requires nodes { first + length seats.old ≤ length list.now.slots }
     requires drifts { length script.now.drift ≡ length list.now.slots }
     requires drift { All (IsWithinSpan DRIFT_LIMIT) script.now.drift }
     requires slot { medium.now.slot < SLOT_LIMIT }
     requires medium { IsFromWithin medium.now script.now (most_ahead_in medium.now.slot) }
-    requires looked_up { length incidents.now ≡ length controllers.old }
-    requires incidents { AreIncidents script.now medium.now.slot first incidents.now }
-    requires room { length outcomes.old ≡ length controllers.old }
-    requires seats { AreSeats list.now IsPlanned (most_ahead_in medium.now.slot) first controllers.old }
-    requires ports_count { length ports.now ≡ length controllers.old }
+    requires incidents { AreIncidents script.now medium.now.slot first seats.old }
+    requires seats { AreSeats list.now IsPlanned (most_ahead_in medium.now.slot) first seats.old }
+    requires ports_count { length ports.now ≡ length seats.old }
     requires ports { map rings_of ends.old ≡ map (λ port. port.incoming) ports.now }
-    requires numbers { length delivered.old ≡ length controllers.old }
-    requires may { MayEnd list.now script.now medium.now first controllers.old ends.old }
-    ensures count { length controllers.new ≡ length controllers.old }
-    ensures room { length outcomes.new ≡ length outcomes.old }
-    ensures seats { AreSeats list.now IsEnded (most_ahead (medium.now.slot + 1)) first controllers.new }
+    requires numbers { length delivered.old ≡ length seats.old }
+    requires may { MayEnd list.now script.now medium.now first seats.old ends.old }
+    ensures count { length seats.new ≡ length seats.old }
+    ensures seats { AreSeats list.now IsEnded (most_ahead (medium.now.slot + 1)) first seats.new }
     ensures end { (history : History) (chosen : List Choice)
-        → HavePlanned (slot_after list.now script.now history) chosen first controllers.old
+        → HavePlanned (slot_after list.now script.now history) chosen first seats.old
         → Carries (slot_after list.now script.now history)
         (frames_in (slot_after list.now script.now history) chosen) medium.now
-        → HaveEnded list.now script.now history chosen first controllers.new outcomes.new }
+        → HaveEnded list.now script.now history chosen first seats.new }
     ensures ports { map rings_of ends.new ≡ map (λ port. port.incoming) ports.now }
-    ensures handed { HaveHandedOn outcomes.new ends.old ends.new delivered.new }
+    ensures handed { HaveHandedOn (outcomes_of seats.new) ends.old ends.new delivered.new }
 {
-    take_all(
-        controllers,
-        outcomes,
-        incidents,
-        medium,
-        list,
-        script,
-        first,
-    );
+    take_all(seats, medium, list, script, first);
     for j in 0..ports.len() {
-        delivered[j] = hand_on(&ports[j], &mut ends[j], &outcomes[j], gate);
+        delivered[j] = hand_on(&ports[j], &mut ends[j], &seats[j].outcome, gate);
     }
 }
 
 /// The same, said in one.
 pub(crate) fn end_half<G: Gate>(
-    controllers: &mut [Controller],
-    outcomes: &mut [Outcome],
+    seats: &mut [Seat],
     ends: &mut [ControllerEnd],
     delivered: &mut [Option<u64>],
-    incidents: &[Incidents],
     ports: &[Port],
     medium: &Medium,
     list: &Medl,
@@ -128,40 +114,25 @@ pub(crate) fn end_half<G: Gate>(
     first: u8,
     gate: &G,
 )
-    requires ready { IsPartReady list.now script.now medium.now first controllers.old outcomes.old ends.old
-        delivered.old incidents.now ports.now }
-    ensures ended { HasPartEnded list.now script.now medium.now first controllers.old controllers.new outcomes.old
-        outcomes.new ends.old ends.new delivered.new ports.now }
+    requires ready { IsPartReady list.now script.now medium.now first seats.old ends.old delivered.old ports.now }
+    ensures ended { HasPartEnded list.now script.now medium.now first seats.old seats.new ends.old ends.new
+        delivered.new ports.now }
 {
     end_part(
-        controllers,
-        outcomes,
-        ends,
-        delivered,
-        incidents,
-        ports,
-        medium,
-        list,
-        script,
-        first,
-        gate,
+        seats, ends, delivered, ports, medium, list, script, first, gate,
     );
 }
 
 /// Both halves end the slot, each in a thread.
 pub(crate) fn end_both<R: Threads + Sync, G: Gate>(
     rt: &R,
-    front: &mut [Controller],
-    front_outcomes: &mut [Outcome],
+    front: &mut [Seat],
     front_ends: &mut [ControllerEnd],
     front_delivered: &mut [Option<u64>],
-    front_incidents: &[Incidents],
     front_ports: &[Port],
-    back: &mut [Controller],
-    back_outcomes: &mut [Outcome],
+    back: &mut [Seat],
     back_ends: &mut [ControllerEnd],
     back_delivered: &mut [Option<u64>],
-    back_incidents: &[Incidents],
     back_ports: &[Port],
     medium: &Medium,
     list: &Medl,
@@ -169,28 +140,25 @@ pub(crate) fn end_both<R: Threads + Sync, G: Gate>(
     half: u8,
     gate: &G,
 )
-    requires front { IsPartReady list.now script.now medium.now 0 front.old front_outcomes.old front_ends.old
-        front_delivered.old front_incidents.now front_ports.now }
-    requires back { IsPartReady list.now script.now medium.now half back.old back_outcomes.old back_ends.old
-        back_delivered.old back_incidents.now back_ports.now }
-    ensures front { HasPartEnded list.now script.now medium.now 0 front.old front.new front_outcomes.old
-        front_outcomes.new front_ends.old front_ends.new front_delivered.new front_ports.now }
-    ensures back { HasPartEnded list.now script.now medium.now half back.old back.new back_outcomes.old
-        back_outcomes.new back_ends.old back_ends.new back_delivered.new back_ports.now }
+    requires front { IsPartReady list.now script.now medium.now 0 front.old front_ends.old front_delivered.old
+        front_ports.now }
+    requires back { IsPartReady list.now script.now medium.now half back.old back_ends.old back_delivered.old
+        back_ports.now }
+    ensures front { HasPartEnded list.now script.now medium.now 0 front.old front.new front_ends.old front_ends.new
+        front_delivered.new front_ports.now }
+    ensures back { HasPartEnded list.now script.now medium.now half back.old back.new back_ends.old back_ends.new
+        back_delivered.new back_ports.now }
 {
     let mut first = ||
-        requires { IsPartReady list.now script.now medium.now 0 front.now front_outcomes.now front_ends.now
-            front_delivered.now front_incidents.now front_ports.now }
+        requires { IsPartReady list.now script.now medium.now 0 front.now front_ends.now front_delivered.now
+            front_ports.now }
         ensures { HasPartEnded list.entry.now script.entry.now medium.entry.now 0 front.entry.now front.exit.now
-            front_outcomes.entry.now front_outcomes.exit.now front_ends.entry.now front_ends.exit.now
-            front_delivered.exit.now front_ports.entry.now }
+            front_ends.entry.now front_ends.exit.now front_delivered.exit.now front_ports.entry.now }
     {
         end_half(
             front,
-            front_outcomes,
             front_ends,
             front_delivered,
-            front_incidents,
             front_ports,
             medium,
             list,
@@ -200,18 +168,15 @@ pub(crate) fn end_both<R: Threads + Sync, G: Gate>(
         )
     };
     let mut second = ||
-        requires { IsPartReady list.now script.now medium.now half back.now back_outcomes.now back_ends.now
-            back_delivered.now back_incidents.now back_ports.now }
+        requires { IsPartReady list.now script.now medium.now half back.now back_ends.now back_delivered.now
+            back_ports.now }
         ensures { HasPartEnded list.entry.now script.entry.now medium.entry.now half back.entry.now back.exit.now
-            back_outcomes.entry.now back_outcomes.exit.now back_ends.entry.now back_ends.exit.now
-            back_delivered.exit.now back_ports.entry.now }
+            back_ends.entry.now back_ends.exit.now back_delivered.exit.now back_ports.entry.now }
     {
         end_half(
             back,
-            back_outcomes,
             back_ends,
             back_delivered,
-            back_incidents,
             back_ports,
             medium,
             list,

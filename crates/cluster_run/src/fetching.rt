@@ -9,7 +9,7 @@ ghost use Rattle.cluster_run.specs.Ports.{ring_of, host_at};
 ghost use Rattle.cluster_run.specs.Sending.{MayFetchAlone, MaySettleAfter, FetchesAlone};
 
 use crate::sending::{fetch_one, lend_one, settle_one};
-use controller::{Controller, is_loaded};
+use controller::{Seat, is_loaded};
 use host_port::{HostEnd, Port};
 use ttp_base::{Gate, Memory};
 use ttp_world::{Chosen, Medl, PAYLOAD_LIMIT};
@@ -44,24 +44,24 @@ pub(crate) fn fetch_each<G: Gate>(
     list: &Medl,
     ports: &[Port],
     ends: &mut [HostEnd],
-    controllers: &[Controller],
+    seats: &[Seat],
     chosen: &mut [Chosen],
     gate: &G,
 ) -> Result<(), Memory>
     requires list { IsValid list.now }
     requires count { length ports.now ≡ length list.now.slots }
     requires ports { map ring_of ends.old ≡ map (λ port. port.outgoing) ports.now }
-    requires controllers { length controllers.now ≡ length ports.now }
+    requires seats { length seats.now ≡ length ports.now }
     requires chosen_count { length chosen.old ≡ length ports.now }
-    requires may { MayFetchAlone list.now ports.now controllers.now ends.old }
+    requires may { MayFetchAlone list.now ports.now seats.now ends.old }
     ensures ports { OnOk result (map ring_of ends.new ≡ map (λ port. port.outgoing) ports.now) }
     ensures chosen_count { length chosen.new ≡ length chosen.old }
-    ensures fetches { OnOk result ((s : BegunSlot) → HaveBegun s 0 controllers.now → (k : ℕ) → k < length ports.now
+    ensures fetches { OnOk result ((s : BegunSlot) → HaveBegun s 0 seats.now → (k : ℕ) → k < length ports.now
         → FetchesAlone (plan_at list.now k).payload (is_loaded s k) (host_at ends.old k) (host_at ends.new k)
         (get_or chosen.old k nothing_chosen) (get_or chosen.new k nothing_chosen)) }
 {
     for k in 0..ports.len() {
-        let loaded = is_loaded(&controllers[k]);
+        let loaded = is_loaded(&seats[k].controller);
         let len = list.slots.get(k).payload;
         fetch_for(&ports[k], &mut ends[k], loaded, len, &mut chosen[k], gate)?;
     }

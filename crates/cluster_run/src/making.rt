@@ -5,7 +5,7 @@ ghost use Rattle.cluster_run.specs.Ports.{ArePortsOf, AreNewPorts};
 ghost use Rattle.cluster_run.specs.Nodes.{AreNewNodes};
 
 use crate::nodes::Nodes;
-use controller::{controllers_of, first_outcomes, incidents_of};
+use controller::seats_of;
 use host_port::{ControllerEnd, HostEnd, Port};
 use medium::Medium;
 use std::alloc::Global;
@@ -74,10 +74,8 @@ pub(crate) fn nodes_of(alloc: Global, list: &Medl) -> Result<Nodes, Memory>
     let (ports, controller_ends, host_ends) = ports_of(alloc, list)?;
     Ok(Nodes {
         medium: Medium::new(alloc, list)?,
-        controllers: controllers_of(alloc, list)?,
-        incidents: incidents_of(alloc, list)?,
+        seats: seats_of(alloc, list)?,
         chosen: nothing_chosen(alloc, list)?,
-        outcomes: first_outcomes(alloc, list)?,
         delivered: nothing_delivered(alloc, list)?,
         ports,
         controller_ends,

@@ -1,21 +1,17 @@
 //! The nodes of a cluster, with all memory that its slots share.
 
-use controller::{Controller, Outcome};
+use controller::Seat;
 use host_port::{ControllerEnd, HostEnd, Port};
 use medium::Medium;
-use ttp_world::{Chosen, Incidents};
+use ttp_world::Chosen;
 
 /// The nodes of a cluster between two slots. Each list has a place for each node.
 #[derive(Drop)]
 pub(crate) struct Nodes {
     pub(crate) medium: Medium,
-    pub(crate) controllers: Vec<Controller>,
-    /// What happens to each node in the newest slot.
-    pub(crate) incidents: Vec<Incidents>,
+    pub(crate) seats: Vec<Seat>,
     /// The message that each node's frame carried in the newest slot in which it carried one.
     pub(crate) chosen: Vec<Chosen>,
-    /// What the newest slot left for each node's host.
-    pub(crate) outcomes: Vec<Outcome>,
     /// The number, in its ring, of the message that was delivered to each host in the newest slot.
     pub(crate) delivered: Vec<Option<u64>>,
     pub(crate) ports: Vec<Port>,

@@ -6,7 +6,7 @@ ghost use Rattle.ttp_world.specs.declared.script.Script.{Script};
 ghost use Rattle.ttp_world.specs.Diary.{History};
 ghost use Rattle.cluster_run.specs.Report.{message_named, node_shown, HaveEndedSlot};
 
-use controller::Controller;
+use controller::Seat;
 use host_port::NodeLine;
 use std::alloc::Global;
 use ttp_base::{List, Memory};
@@ -40,20 +40,20 @@ fn emptied(alloc: Global, mut lines: Vec<NodeLine>, room: usize) -> Result<Vec<N
 pub(crate) fn node_lines(
     alloc: Global,
     spare: Vec<NodeLine>,
-    controllers: &[Controller],
+    seats: &[Seat],
     delivered: &[Option<u64>],
 ) -> Result<List<NodeLine>, Memory>
-    requires { length delivered.now ≡ length controllers.now }
+    requires { length delivered.now ≡ length seats.now }
     ensures { IfOk result (λ lines. (list : Medl) (script : Script) (row : Items Entry) (before : History)
-        → HaveEndedSlot list script row before controllers.now delivered.now
-        → lines ≡ map (node_shown list script row before) (below (length controllers.now))) }
+        → HaveEndedSlot list script row before seats.now delivered.now
+        → lines ≡ map (node_shown list script row before) (below (length seats.now))) }
 {
-    let mut lines = emptied(alloc, spare, controllers.len())?;
-    for k in 0..controllers.len() {
-        let state = controllers[k].state();
+    let mut lines = emptied(alloc, spare, seats.len())?;
+    for k in 0..seats.len() {
+        let state = seats[k].controller.state();
         // Its entry is asked for anew: where one state serves both, it is put together piece by piece, and
         // takes twice as long.
-        let message = message_shown(&controllers[k].state().entry, delivered[k]);
+        let message = message_shown(&seats[k].controller.state().entry, delivered[k]);
         lines.push_reserved(NodeLine { state, message });
     }
     Ok(List::from_vec(lines))

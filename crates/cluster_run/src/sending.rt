@@ -20,7 +20,7 @@ ghost use Rattle.cluster_run.specs.Sending.{write_lines, MayWriteAll, WritesByte
 ghost use Rattle.cluster_run.specs.Sending.{Fetches, MayFetch, MayFetchAll, FetchAll, MaySettle, choice_of};
 ghost use Rattle.cluster_run.specs.Sending.{SettlesFetch};
 
-use controller::{Controller, is_loaded};
+use controller::{Seat, is_loaded};
 use host_port::{Fetcher, HostEnd, Port, WriteLine};
 use std::alloc::Global;
 use std::thread::{Threads, join};
@@ -49,18 +49,18 @@ pub(crate) fn lend_fetchers(
     alloc: Global,
     ports: &[Port],
     ends: &mut [HostEnd],
-    controllers: &[Controller],
+    seats: &[Seat],
 ) -> Result<Vec<Option<Fetcher>>, Memory>
     requires ports { map ring_of ends.old ≡ map (λ port. port.outgoing) ports.now }
-    requires controllers { length controllers.now ≡ length ports.now }
-    requires rings { MayLend controllers.now ends.old }
-    ensures fetchers { IfOk result (λ fetchers. (s : BegunSlot) → HaveBegun s 0 controllers.now
+    requires seats { length seats.now ≡ length ports.now }
+    requires rings { MayLend seats.now ends.old }
+    ensures fetchers { IfOk result (λ fetchers. (s : BegunSlot) → HaveBegun s 0 seats.now
         → AreLent s ends.old fetchers.items) }
     ensures ends { ends.new ≡ ends.old }
 {
     let mut fetchers = Vec::with_capacity(alloc, ports.len())?;
     for k in 0..ports.len() {
-        let loaded = is_loaded(&controllers[k]);
+        let loaded = is_loaded(&seats[k].controller);
         fetchers.push_reserved(lend_one(&ports[k], &mut ends[k], loaded)?);
     }
     Ok(fetchers)

@@ -3,6 +3,7 @@ ghost use Rattle.std.specs.Prelude.{◌≡◌, ◌+◌, ◌<◌, ℕ, [], All, I
 ghost use Rattle.ttp_world.specs.Medl.{IsValid};
 ghost use Rattle.ttp_world.specs.Script.{IsValidScript, reads_in, writes_in};
 ghost use Rattle.ttp_world.specs.World.{Numbers};
+ghost use Rattle.controller.specs.PlantStands.{outcomes_of};
 ghost use Rattle.cluster_run.specs.Choosing.{AreBytesBefore};
 ghost use Rattle.cluster_run.specs.Ending.{IsPartReady, HasPartEnded, HaveHandedOn};
 ghost use Rattle.cluster_run.specs.Nodes.{AreNodesOf};
@@ -17,54 +18,45 @@ use crate::ending::{end_both, end_half};
 use crate::nodes::Nodes;
 use crate::reading::{lend_readers, read_all, read_lines};
 use crate::reporting::node_lines;
-use controller::{Controller, Outcome, begin_all, plan_all};
+use controller::{Seat, begin_all, plan_all};
 use host_port::{ControllerEnd, HostReaders, NodeLine, Port, ReadLine, SlotReport, WriteLine};
 use medium::Medium;
 use std::alloc::Global;
 use std::sync::Wait;
 use std::thread::{Threads, join_mut};
 use ttp_base::{Gate, List, Memory};
-use ttp_world::{HostRead, Incidents, Medl, Script};
+use ttp_world::{HostRead, Medl, Script};
 
 // The two halves of the controllers end the slot, each in a thread.
 fn end_halves<R: Threads + Sync, G: Gate>(
     rt: &R,
-    controllers: &mut [Controller],
-    outcomes: &mut [Outcome],
+    seats: &mut [Seat],
     ends: &mut [ControllerEnd],
     delivered: &mut [Option<u64>],
-    incidents: &[Incidents],
     ports: &[Port],
     medium: &Medium,
     list: &Medl,
     script: &Script,
     gate: &G,
 )
-    requires { IsPartReady list.now script.now medium.now 0 controllers.old outcomes.old ends.old delivered.old
-        incidents.now ports.now }
-    ensures { HasPartEnded list.now script.now medium.now 0 controllers.old controllers.new outcomes.old outcomes.new
-        ends.old ends.new delivered.new ports.now }
+    requires { IsPartReady list.now script.now medium.now 0 seats.old ends.old delivered.old ports.now }
+    ensures { HasPartEnded list.now script.now medium.now 0 seats.old seats.new ends.old ends.new delivered.new
+        ports.now }
 {
-    let half = controllers.len() / 2;
-    let (front, back) = controllers.split_at_mut(half);
-    let (front_outcomes, back_outcomes) = outcomes.split_at_mut(half);
+    let half = seats.len() / 2;
+    let (front, back) = seats.split_at_mut(half);
     let (front_ends, back_ends) = ends.split_at_mut(half);
     let (front_delivered, back_delivered) = delivered.split_at_mut(half);
-    let (front_incidents, back_incidents) = incidents.split_at(half);
     let (front_ports, back_ports) = ports.split_at(half);
     end_both(
         rt,
         front,
-        front_outcomes,
         front_ends,
         front_delivered,
-        front_incidents,
         front_ports,
         back,
-        back_outcomes,
         back_ends,
         back_delivered,
-        back_incidents,
         back_ports,
         medium,
         list,
@@ -77,12 +69,10 @@ fn end_halves<R: Threads + Sync, G: Gate>(
 // The controllers end the slot beside the reads of hosts, in threads.
 fn end_and_read<R: Threads + Wait + Sync, G: Gate>(
     rt: &R,
-    controllers: &mut [Controller],
-    outcomes: &mut [Outcome],
+    seats: &mut [Seat],
     ends: &mut [ControllerEnd],
     delivered: &mut [Option<u64>],
     readers: &mut [Option<HostReaders>],
-    incidents: &[Incidents],
     ports: &[Port],
     medium: &Medium,
     list: &Medl,
@@ -90,35 +80,22 @@ fn end_and_read<R: Threads + Wait + Sync, G: Gate>(
     reads: &[HostRead],
     gate: &G,
 )
-    requires ready { IsPartReady list.now script.now medium.now 0 controllers.old outcomes.old ends.old delivered.old
-        incidents.now ports.now }
+    requires ready { IsPartReady list.now script.now medium.now 0 seats.old ends.old delivered.old ports.now }
     requires own { AreReadersOfAll ports.now readers.old }
     requires left { MayReadAll reads.now readers.old }
-    ensures ended { HasPartEnded list.now script.now medium.now 0 controllers.old controllers.new outcomes.old
-        outcomes.new ends.old ends.new delivered.new ports.now }
+    ensures ended { HasPartEnded list.now script.now medium.now 0 seats.old seats.new ends.old ends.new
+        delivered.new ports.now }
     ensures own { AreReadersOfAll ports.now readers.new }
     ensures reads { (buffers : ℕ) → All (λ port. port.buffers ≡ buffers) ports.now
         → HaveRead buffers reads.now readers.old readers.new }
 {
     let mut end = ||
-        requires { IsPartReady list.now script.now medium.now 0 controllers.now outcomes.now ends.now delivered.now
-            incidents.now ports.now }
-        ensures { HasPartEnded list.entry.now script.entry.now medium.entry.now 0 controllers.entry.now
-            controllers.exit.now outcomes.entry.now outcomes.exit.now ends.entry.now ends.exit.now
-            delivered.exit.now ports.entry.now }
+        requires { IsPartReady list.now script.now medium.now 0 seats.now ends.now delivered.now ports.now }
+        ensures { HasPartEnded list.entry.now script.entry.now medium.entry.now 0 seats.entry.now seats.exit.now
+            ends.entry.now ends.exit.now delivered.exit.now ports.entry.now }
     {
         end_halves(
-            rt,
-            controllers,
-            outcomes,
-            ends,
-            delivered,
-            incidents,
-            ports,
-            medium,
-            list,
-            script,
-            gate,
+            rt, seats, ends, delivered, ports, medium, list, script, gate,
         )
     };
     let mut read = ||
@@ -155,14 +132,7 @@ fn plan<R: Threads + Sync, G: Gate>(
     ensures plans { OnOk result ((numbers : Numbers) → StandsAt list.now script.now slot (desks_of nodes.old) numbers
         → HavePlannedSlot list.now script.now numbers nodes.new) }
 {
-    begin_all(
-        &mut nodes.controllers,
-        &mut nodes.incidents,
-        list,
-        script,
-        0,
-        slot,
-    );
+    begin_all(&mut nodes.seats, list, script, 0, slot);
     let writes = choose(
         rt,
         alloc,
@@ -171,14 +141,13 @@ fn plan<R: Threads + Sync, G: Gate>(
         slot,
         &nodes.ports,
         &mut nodes.host_ends,
-        &nodes.controllers,
+        &nodes.seats,
         &mut nodes.chosen,
         gate,
     )?;
     plan_all(
-        &mut nodes.controllers,
+        &mut nodes.seats,
         &mut nodes.medium,
-        &nodes.incidents,
         list,
         script,
         slot,
@@ -209,19 +178,17 @@ fn end<R: Threads + Wait + Sync, G: Gate>(
     ensures host_ends { nodes.new.host_ends ≡ nodes.old.host_ends }
     ensures own { AreReadersOfAll nodes.new.ports.items readers.new }
     ensures reads { HaveRead list.now.buffers (reads_in script.now slot) readers.old readers.new }
-    ensures handed { HaveHandedOn nodes.new.outcomes.items nodes.old.controller_ends.items
+    ensures handed { HaveHandedOn (outcomes_of nodes.new.seats.items) nodes.old.controller_ends.items
         nodes.new.controller_ends.items nodes.new.delivered.items }
     ensures ends { (numbers : Numbers) → HavePlannedSlot list.now script.now numbers nodes.old
         → HaveEndedFor list.now script.now numbers nodes.old nodes.new }
 {
     end_and_read(
         rt,
-        &mut nodes.controllers,
-        &mut nodes.outcomes,
+        &mut nodes.seats,
         &mut nodes.controller_ends,
         &mut nodes.delivered,
         readers,
-        &nodes.incidents,
         &nodes.ports,
         &nodes.medium,
         list,
@@ -240,17 +207,15 @@ fn end_unread<G: Gate>(list: &Medl, script: &Script, slot: u32, nodes: &mut Node
     requires may { MayEndSlot list.now script.now slot nodes.old }
     ensures nodes { AreNodesOf list.now (slot + 1) nodes.new }
     ensures host_ends { nodes.new.host_ends ≡ nodes.old.host_ends }
-    ensures handed { HaveHandedOn nodes.new.outcomes.items nodes.old.controller_ends.items
+    ensures handed { HaveHandedOn (outcomes_of nodes.new.seats.items) nodes.old.controller_ends.items
         nodes.new.controller_ends.items nodes.new.delivered.items }
     ensures ends { (numbers : Numbers) → HavePlannedSlot list.now script.now numbers nodes.old
         → HaveEndedFor list.now script.now numbers nodes.old nodes.new }
 {
     end_half(
-        &mut nodes.controllers,
-        &mut nodes.outcomes,
+        &mut nodes.seats,
         &mut nodes.controller_ends,
         &mut nodes.delivered,
-        &nodes.incidents,
         &nodes.ports,
         &nodes.medium,
         list,
@@ -352,7 +317,7 @@ pub(crate) fn slot_of<R: Threads + Wait + Sync, G: Gate>(
 {
     let writes = plan(rt, alloc, list, script, slot, nodes, gate)?;
     let reads = end_slot(rt, alloc, list, script, slot, nodes, gate)?;
-    let lines = node_lines(alloc, spare, &nodes.controllers, &nodes.delivered)?;
+    let lines = node_lines(alloc, spare, &nodes.seats, &nodes.delivered)?;
     Ok(SlotReport {
         slot,
         nodes: lines,

@@ -48,7 +48,7 @@ use Rattle.controller.specs.Ending.{EndsAs}
 use Rattle.controller.specs.Hearing.{ReadingFits, hearing_of}
 use Rattle.controller.specs.Kept.{kept}
 use Rattle.controller.specs.Limits.{loaded_length, most_clock, offset_of_arrival, ArrivalFits}
-use Rattle.controller.specs.SeatWithin.{IsPossible, IsPlannedWithin}
+use Rattle.controller.specs.ControllerWithin.{IsPossible, IsPlannedWithin}
 use Rattle.controller.specs.Within.{IsEntryWithin, IsNearEnough, IsWithin}
 use Rattle.controller.proofs.Heard.{signal_from, clock_from, shows_a, shows_b}
 use Rattle.controller.proofs.Sets.{joinable-within}

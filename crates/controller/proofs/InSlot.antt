@@ -39,15 +39,16 @@ use Rattle.medium.specs.StandsFor as medium
 use Rattle.controller.specs.declared.controller.Intent.{Intent}
 use Rattle.controller.specs.declared.controller.Intent.TheVariants as intent
 use Rattle.controller.specs.declared.controller.Outcome.{Outcome}
+use Rattle.controller.specs.declared.seat.Seat.{Seat}
 use Rattle.controller.specs.Hearing.{hearing_of}
-use Rattle.controller.specs.Limits.{intent_by, loaded_length, seat_clock, seat_intent, turn_intent, turn_jump, IsBegun}
+use Rattle.controller.specs.Limits.{intent_by, loaded_length, view_clock, view_intent, turn_intent, turn_jump, IsBegun}
 use Rattle.controller.specs.Kept.{kept}
 use Rattle.controller.specs.Passes.{StandsAfter, StandsForNode, jump_begun, HasBegun, HasPlanned, frames_by, IsLeft}
 use Rattle.controller.specs.Passes.{Carries, payload_handed, HaveBegun, IsFromClocks, KeepsClocks}
 use Rattle.controller.specs.Passes.{IsPlannedFrom, PlansIn, PutsFrames}
-use Rattle.controller.specs.StandsFor.{Stands, IsSameSeat, Begins, Plans, Ends, seat_past, frames_planned, most_slots}
+use Rattle.controller.specs.StandsFor.{Stands, IsSameNode, Begins, Plans, Ends, view_past, frames_planned, most_slots}
 use Rattle.controller.specs.StandsFor.{message_planned, payload_planned, clock_begun}
-use Rattle.controller.specs.Turn.{Turn, Ended, Begun, Planned, Seat}
+use Rattle.controller.specs.ControllerView.{Turn, Ended, Begun, Planned, ControllerView}
 use Rattle.controller.specs.PlantWithin.{AreSeats, IsFromWithin}
 use Rattle.controller.proofs.Near.{AreHanded}
 use Rattle.controller.proofs.Payloads.{payload_planned-handed}
@@ -59,39 +60,39 @@ length-diary_of history k = length-map history (λ row. entry_of row k)
 -- Node k of the slot after a history.
 module _ (list : Medl) (script : Script) (history : History) (k : ℕ) (node : k < length list.slots) where
   -- its past is what is read of its diary
-  past-node : (seat : Seat) → seat.list ≡ list → seat.node ≡ k
-      → seat_past seat (diary_of history k) (surroundings_of script history k)
+  past-node : (view : ControllerView) → view.list ≡ list → view.node ≡ k
+      → view_past view (diary_of history k) (surroundings_of script history k)
       ≡ (node_of (slot_after list script history) k).past
-  past-node seat list_is node_is =
+  past-node view list_is node_is =
       (λ i. past_of (list_is i) (node_is i) (diary_of history k) (surroundings_of script history k))
       ∙ ap (λ (n : BegunNode). n.past) (sym (node_of-slot_after list script history k node))
 
   -- so what a controller stands for may be told by the diary and by the slot
 
-  stands-node : {seat : Seat} {now there : Turn} → seat.list ≡ list → seat.node ≡ k → now ≡ there
-      → Stands seat (diary_of history k) (surroundings_of script history k) now
-      → StandsForNode (slot_after list script history) k there seat
-  stands-node {seat = seat} list_is node_is same stands = record {
+  stands-node : {view : ControllerView} {now there : Turn} → view.list ≡ list → view.node ≡ k → now ≡ there
+      → Stands view (diary_of history k) (surroundings_of script history k) now
+      → StandsForNode (slot_after list script history) k there view
+  stands-node {view = view} list_is node_is same stands = record {
     list = list_is;
     node = node_is;
-    past = stands.past ∙ ap kept (past-node seat list_is node_is);
+    past = stands.past ∙ ap kept (past-node view list_is node_is);
     slots = stands.slots ∙ ap (λ n. min n most_slots) (length-diary_of history k);
     turn = stands.turn ∙ same;
   }
 
-  node-stands : {seat : Seat} {now there : Turn} → now ≡ there
-      → StandsForNode (slot_after list script history) k now seat
-      → Stands seat (diary_of history k) (surroundings_of script history k) there
-  node-stands {seat = seat} same stands = record {
-    past = stands.past ∙ ap kept (sym (past-node seat stands.list stands.node));
+  node-stands : {view : ControllerView} {now there : Turn} → now ≡ there
+      → StandsForNode (slot_after list script history) k now view
+      → Stands view (diary_of history k) (surroundings_of script history k) there
+  node-stands {view = view} same stands = record {
+    past = stands.past ∙ ap kept (sym (past-node view stands.list stands.node));
     slots = stands.slots ∙ ap (λ n. min n most_slots) (sym (length-diary_of history k));
     turn = stands.turn ∙ same;
   }
 
   -- the beginning
-  pub begun-node : {old new : Seat} {on armed : Bool} {jump : ℤ} → on ≡ is_on script k (length history)
+  pub begun-node : {old new : ControllerView} {on armed : Bool} {jump : ℤ} → on ≡ is_on script k (length history)
       → armed ≡ is_armed script k (length history) → jump ≡ jump_of script k (length history)
-      → old.list ≡ list → old.node ≡ k → IsSameSeat old new → Begins old new on armed jump
+      → old.list ≡ list → old.node ≡ k → IsSameNode old new → Begins old new on armed jump
       → StandsAfter script history k old → HasBegun (slot_after list script history) k new
   begun-node on_is armed_is jump_is list_is node_is same begins stands =
       let diary = diary_of history k in
@@ -113,14 +114,14 @@ module _ (list : Medl) (script : Script) (history : History) (k : ℕ) (node : k
       ∙ ap (λ (n : BegunNode). n.clock) (sym is)
 
   -- so is its controller's
-  pub clock-node : {seat : Seat} → HasBegun (slot_after list script history) k seat
-      → seat_clock seat ≡ (node_of (slot_after list script history) k).clock
+  pub clock-node : {view : ControllerView} → HasBegun (slot_after list script history) k view
+      → view_clock view ≡ (node_of (slot_after list script history) k).clock
   clock-node begun = (λ i. (begun.past i).offset +ℤ turn_jump (begun.turn i)) ∙ offset-node
 
   -- the plan
-  pub planned-node : {old new : Seat} {payload : List ℕ} {bytes : Option (List ℕ)} (chosen : Chosen)
-      → IsSameSeat old new → Plans old new chosen.number payload bytes
-      → payload ≡ payload_handed (seat_intent old) chosen →
+  pub planned-node : {old new : ControllerView} {payload : List ℕ} {bytes : Option (List ℕ)} (chosen : Chosen)
+      → IsSameNode old new → Plans old new chosen.number payload bytes
+      → payload ≡ payload_handed (view_intent old) chosen →
       let s = slot_after list script history in
       HasBegun s k old → HasPlanned s chosen k new × (frames_planned k bytes ≡ frames_by s chosen k)
   planned-node {old = old} {bytes = bytes} chosen same plans handed begun =
@@ -137,8 +138,8 @@ module _ (list : Medl) (script : Script) (history : History) (k : ℕ) (node : k
       )
 
   -- the end
-  pub ended-node : {planned new : Seat} {outcome : Outcome} {carried : Carried} {error drift : ℤ}
-      (chosen : List Chosen) (a b : Arrival) → carried.slot < SLOT_LIMIT → IsSameSeat planned new
+  pub ended-node : {planned new : ControllerView} {outcome : Outcome} {carried : Carried} {error drift : ℤ}
+      (chosen : List Chosen) (a b : Arrival) → carried.slot < SLOT_LIMIT → IsSameNode planned new
       → Ends planned new outcome a b error drift → AreHanded script carried.slot k error drift
       → medium.ShowsHeard carried script k channel.A a → medium.ShowsHeard carried script k channel.B b →
       let s = slot_after list script history in
@@ -164,7 +165,7 @@ module _ (list : Medl) (script : Script) (history : History) (k : ℕ) (node : k
       let error_is = handed.error_is ∙ ap (reading_error script k) carries.slot in
       let own_is = (λ i. clock_begun (past_is i) jump) ∙ offset-node in
       let hearing_is : hearing_of (on channel.A) (on channel.B) clock
-      (clock_begun (seat_past planned diary surroundings) jump) error
+      (clock_begun (view_past planned diary surroundings) jump) error
       ≡ hearing_in s frames k = λ i. hearing_of (on channel.A) (on channel.B) clock (own_is i) (error_is i) in
       let entry_is = (λ i. new_entry (has.list i) (has.node i) (past_is i) message (hearing_is i) does)
       ∙ sym (entry_of-row_in s chosen k node) in
@@ -182,18 +183,20 @@ module _ (list : Medl) (script : Script) (history : History) (k : ℕ) (node : k
 
 -- The second pass: node by node, controllers plan, and what they send is put on the medium.
 
--- what a pass makes of node k's controller
-abbrev pub IsSentBy : Medl → Script → List Chosen → ℕ → Seat → Seat → Seat → Type 0
-IsSentBy list script chosen k old new left = IsPlannedFrom old new × PlansIn list script k (chosen_of chosen k) old new
+-- what a pass makes of node k's seat
+abbrev pub IsSentBy : Medl → Script → List Chosen → ℕ → Seat → Seat → Type 0
+IsSentBy list script chosen k old new =
+    IsPlannedFrom old.controller new.controller × PlansIn list script k (chosen_of chosen k) old.controller new.controller
+    × (new.incidents ≡ old.incidents)
 
--- the clock of each controller; where there is none, 0
+-- the clock of each node; where there is none, 0
 abbrev pub clock_in : List Seat → ℕ → ℤ
-clock_in seats p = option_map_or seat_clock (slice_get seats p) (pos 0)
+clock_in seats p = option_map_or (λ (seat : Seat). view_clock seat.controller) (slice_get seats p) (pos 0)
 
 -- the first controllers, so many, have planned, and what they send is on the medium
 pub record AreSent (list : Medl) (script : Script) (slot : ℕ) (chosen : List Chosen) (k : ℕ) (old new : List Seat)
     (carried : Carried) : Type 0 where
-  pub passed : ArePassed (IsSentBy list script chosen) k old new new
+  pub passed : ArePassed (IsSentBy list script chosen) k old new
   pub from : IsFromClocks carried script slot (clock_in old)
   pub carries : (history : History) → length history ≡ slot → HaveBegun (slot_after list script history) 0 old
       → Carries (slot_after list script history)
@@ -203,31 +206,35 @@ module _ {list : Medl} {script : Script} {slot : ℕ} {chosen : List Chosen} whe
   pub AreSent-none : {seats : List Seat} {carried : Carried} → medium.StandsAtBeginning carried slot
       → AreSent list script slot chosen 0 seats seats carried
   AreSent-none {seats = seats} {carried = carried} begins = record {
-    passed = ArePassed-none seats seats (omega arith);
+    passed = ArePassed-none seats;
     from = record { frames = []; stands = begins script (clock_in seats) };
     carries = λ history long begun.
         let clock = λ (p : ℕ). (node_of (slot_after list script history) p).clock in
         subst (λ (t : ℕ). medium.StandsFor carried script t [] clock) (sym long) (begins script clock);
   }
 
-  pub AreSent-more : {k : ℕ} {old new : List Seat} {before after : Carried} {message : Chosen} {planned : Seat}
-      (d : Seat) → AreSent list script slot chosen k old new before → k < length old → message ≡ chosen_of chosen k
-      → IsPlannedFrom (get_or new k d) planned → PlansIn list script k message (get_or new k d) planned
-      → PutsFrames list script k (get_or new k d) message before after
-      → KeepsClocks script k (get_or new k d) before after
+  pub AreSent-more : {k : ℕ} {old new : List Seat} {before after : Carried} {message : Chosen}
+      (d planned : Seat) → AreSent list script slot chosen k old new before → k < length old → message ≡ chosen_of chosen k
+      → IsPlannedFrom (get_or new k d).controller planned.controller
+      → PlansIn list script k message (get_or new k d).controller planned.controller
+      → planned.incidents ≡ (get_or new k d).incidents
+      → PutsFrames list script k (get_or new k d).controller message before after
+      → KeepsClocks script k (get_or new k d).controller before after
       → AreSent list script slot chosen (k + 1) old (set new k planned) after
-  AreSent-more {k = k} {old = old} {new = new} {before = before} {after = after} {planned = planned} d sent within is
-      by plans puts clocks =
-      let seat = get_or new k d in
+  AreSent-more {k = k} {old = old} {new = new} {before = before} {after = after} d planned sent within is
+      by plans same puts clocks =
+      let view = (get_or new k d).controller in
       let coming = ArePassed-coming sent.passed d within in
       record {
         passed = ArePassed-more sent.passed d within
-            (by, subst (λ (m : Chosen). PlansIn list script k m seat planned) is plans);
-        from = clocks slot (clock_in old) (ap (λ (o : Option Seat). option_map_or seat_clock o (pos 0)) (sym coming)) sent.from;
+            (by, subst (λ (m : Chosen). PlansIn list script k m view planned.controller) is plans, same);
+        from = clocks slot (clock_in old)
+            (ap (λ (o : Option Seat). option_map_or (λ (seat : Seat). view_clock seat.controller) o (pos 0)) (sym coming))
+            sent.from;
         carries = λ history long begun.
             let s = slot_after list script history in
             subst (λ (frames : List SentFrame). Carries s frames after) (sym (flat_map-next (frames_of s chosen) k))
-            (subst (λ (m : Chosen). PutsFrames list script k seat m before after) is puts history _
+            (subst (λ (m : Chosen). PutsFrames list script k view m before after) is puts history _
             (each-of begun k coming) (sent.carries history long begun));
       }
 
@@ -250,6 +257,6 @@ module _ {list : Medl} {script : Script} {slot : ℕ} {chosen : List Chosen} whe
       }
     where
       near : (there : Option Seat) (p : ℕ) → slice_get old p ≡ there
-          → unsigned_abs (option_map_or seat_clock there (pos 0)) ≤ bound
+          → unsigned_abs (option_map_or (λ (seat : Seat). view_clock seat.controller) there (pos 0)) ≤ bound
       near (Some seat) p here = (each-of seats p here).clock
       near None p here = omega arith

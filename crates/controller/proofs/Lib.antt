@@ -4,6 +4,7 @@ pub mod InSlot
 pub mod Near
 pub mod Parts
 pub mod Payloads
+pub mod Plants
 pub mod Sets
 pub mod Standing
 pub mod Stints

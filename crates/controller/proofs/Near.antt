@@ -20,12 +20,12 @@ use Rattle.medium.specs.Carried.{Carried}
 use Rattle.medium.specs.Shows.{Shows}
 use Rattle.medium.specs.StandsFor as medium
 use Rattle.controller.specs.Limits.{ArrivalFits, IsBegun, IsPlanned, JumpFits, StaysNear, offset_of_arrival}
-use Rattle.controller.specs.Limits.{seat_clock, turn_jump}
+use Rattle.controller.specs.Limits.{view_clock, turn_jump}
 use Rattle.controller.specs.Passes.{IsPlannedFrom}
-use Rattle.controller.specs.PlantWithin.{most_ahead, most_ahead_in, most_error, most_jump, IsEnded, IsSeatOf}
+use Rattle.controller.specs.PlantWithin.{most_ahead, most_ahead_in, most_error, most_jump, IsEnded, IsControllerOf}
 use Rattle.controller.specs.PlantWithin.{IsFromWithin, IsIncidentsOf}
-use Rattle.controller.specs.StandsFor.{IsSameSeat, StandsFor}
-use Rattle.controller.specs.Turn.{Ended, Seat}
+use Rattle.controller.specs.StandsFor.{IsSameNode, StandsFor}
+use Rattle.controller.specs.ControllerView.{Ended, ControllerView}
 
 -- a number within a span is small
 span-abs : (bound : ℕ) (z : ℤ) → IsWithinSpan bound z → unsigned_abs z ≤ bound
@@ -39,8 +39,8 @@ same_number bound z within few =
 
 -- The beginning. The clock of a controller between two slots is what it keeps.
 
-pub ended-clock : (seat : Seat) → seat.turn ≡ Ended → seat_clock seat ≡ seat.past.offset
-ended-clock seat ended = ap (λ turn. seat.past.offset +ℤ turn_jump turn) ended ∙ add-nothing seat.past.offset
+pub ended-clock : (view : ControllerView) → view.turn ≡ Ended → view_clock view ≡ view.past.offset
+ended-clock view ended = ap (λ turn. view.past.offset +ℤ turn_jump turn) ended ∙ add-nothing view.past.offset
   where
     add-nothing : (z : ℤ) → z +ℤ pos 0 ≡ z
     add-nothing z = omega (arith, ints)
@@ -48,8 +48,8 @@ ended-clock seat ended = ap (λ turn. seat.past.offset +ℤ turn_jump turn) ende
 pub jump_same : {incidents : Incidents} → AreBounded incidents → to_z w64 (of_z w64 incidents.jump) ≡ incidents.jump
 jump_same {incidents = incidents} bounds = same_number most_jump incidents.jump bounds.jump (omega arith)
 
-module _ {list : Medl} {k : ℕ} {old : Seat} {incidents : Incidents} (slot : ℕ)
-    (of : IsSeatOf list IsEnded (most_ahead slot) k old) (bounds : AreBounded incidents) where
+module _ {list : Medl} {k : ℕ} {old : ControllerView} {incidents : Incidents} (slot : ℕ)
+    (of : IsControllerOf list IsEnded (most_ahead slot) k old) (bounds : AreBounded incidents) where
   -- what the clock comes to with the jump
   jumped : unsigned_abs old.past.offset + unsigned_abs (to_z w64 (of_z w64 incidents.jump)) ≤ most_ahead_in slot
   jumped =
@@ -60,11 +60,11 @@ module _ {list : Medl} {k : ℕ} {old : Seat} {incidents : Incidents} (slot : �
   pub jump_fits : slot ≤ SLOT_LIMIT → JumpFits old.past.offset (to_z w64 (of_z w64 incidents.jump))
   jump_fits few = omega (arith, jumped)
 
-  pub begun-seat : {new : Seat} → IsSameSeat old new
-      → unsigned_abs (seat_clock new)
+  pub begun-controller : {new : ControllerView} → IsSameNode old new
+      → unsigned_abs (view_clock new)
       ≤ unsigned_abs old.past.offset + unsigned_abs (to_z w64 (of_z w64 incidents.jump))
-      → IsBegun new.turn → IsSeatOf list IsBegun (most_ahead_in slot) k new
-  begun-seat same clock begun = record {
+      → IsBegun new.turn → IsControllerOf list IsBegun (most_ahead_in slot) k new
+  begun-controller same clock begun = record {
     list = same.list ∙ of.list;
     node = same.node ∙ of.node;
     turn = begun;
@@ -72,9 +72,9 @@ module _ {list : Medl} {k : ℕ} {old : Seat} {incidents : Incidents} (slot : �
   }
 
 -- before the first slot it is at 0
-pub first-seat : {list : Medl} {k : ℕ} {seat : Seat} → seat.list ≡ list → seat.node ≡ k → StandsFor seat [] []
-    → IsSeatOf list IsEnded (most_ahead 0) k seat
-first-seat list_is node_is stands = record {
+pub first-controller : {list : Medl} {k : ℕ} {view : ControllerView} → view.list ≡ list → view.node ≡ k → StandsFor view [] []
+    → IsControllerOf list IsEnded (most_ahead 0) k view
+first-controller list_is node_is stands = record {
   list = list_is;
   node = node_is;
   turn = stands.turn;
@@ -82,9 +82,9 @@ first-seat list_is node_is stands = record {
 }
 
 -- The plan: the clock is that with which it began.
-pub planned-seat : {list : Medl} {bound k : ℕ} {old new : Seat} → IsPlannedFrom old new
-    → IsSeatOf list IsBegun bound k old → IsSeatOf list IsPlanned bound k new
-planned-seat {bound = bound} planned of = record {
+pub planned-controller : {list : Medl} {bound k : ℕ} {old new : ControllerView} → IsPlannedFrom old new
+    → IsControllerOf list IsBegun bound k old → IsControllerOf list IsPlanned bound k new
+planned-controller {bound = bound} planned of = record {
   list = planned.same.list ∙ of.list;
   node = planned.same.node ∙ of.node;
   turn = planned.turn;
@@ -123,9 +123,9 @@ shown-near (Bits sender sent) _ clock bound shows near = absurd shows
 shown-near _ came clock bound shows near = rw shows (omega arith)
 
 -- So all that a controller is to add up fits, and its clock stays near 0.
-module _ {carried : Carried} {script : Script} {list : Medl} {k : ℕ} {seat : Seat} {error drift : ℤ}
+module _ {carried : Carried} {script : Script} {list : Medl} {k : ℕ} {view : ControllerView} {error drift : ℤ}
     (valid : IsValid list) (from : IsFromWithin carried script (most_ahead_in carried.slot))
-    (of : IsSeatOf list IsPlanned (most_ahead_in carried.slot) k seat)
+    (of : IsControllerOf list IsPlanned (most_ahead_in carried.slot) k view)
     (handed : AreHanded script carried.slot k error drift) where
   heard-near : (c : Channel) (came : Arrival) → medium.ShowsHeard carried script k c came
       → unsigned_abs (offset_of_arrival came) ≤ most_ahead_in carried.slot
@@ -133,23 +133,23 @@ module _ {carried : Carried} {script : Script} {list : Medl} {k : ℕ} {seat : S
       shown-near (heard script carried.slot k c from.frames) came from.clock (most_ahead_in carried.slot)
       (shows carried.slot from.frames from.clock from.stands) from.near
 
-  window-small : unsigned_abs seat.list.window ≤ 1000000
+  window-small : unsigned_abs view.list.window ≤ 1000000
   window-small =
       subst (λ (l : Medl). unsigned_abs l.window ≤ 1000000) (sym of.list)
       (omega (arith, ints, valid.window.0, valid.window.1))
 
   pub arrival_fits : (c : Channel) (came : Arrival) → carried.slot < SLOT_LIMIT
-      → medium.ShowsHeard carried script k c came → ArrivalFits seat.list (seat_clock seat) came error drift
+      → medium.ShowsHeard carried script k c came → ArrivalFits view.list (view_clock view) came error drift
   arrival_fits c came early shows =
       let near = heard-near c came shows in
       let window = window-small in
       omega (arith, of.clock, near, handed.few_error, handed.few_drift, window)
 
-  pub ended-seat : {new : Seat} (a b : Arrival) → medium.ShowsHeard carried script k channel.A a
-      → medium.ShowsHeard carried script k channel.B b → IsSameSeat seat new
-      → StaysNear new.past.offset seat a b error drift → new.turn ≡ Ended
-      → IsSeatOf list IsEnded (most_ahead (carried.slot + 1)) k new
-  ended-seat {new = new} a b on_a on_b same near turn =
+  pub ended-controller : {new : ControllerView} (a b : Arrival) → medium.ShowsHeard carried script k channel.A a
+      → medium.ShowsHeard carried script k channel.B b → IsSameNode view new
+      → StaysNear new.past.offset view a b error drift → new.turn ≡ Ended
+      → IsControllerOf list IsEnded (most_ahead (carried.slot + 1)) k new
+  ended-controller {new = new} a b on_a on_b same near turn =
       let own = ap unsigned_abs (ended-clock new turn) in
       let near_a = heard-near channel.A a on_a in
       let near_b = heard-near channel.B b on_b in

@@ -1,4 +1,4 @@
--- A pass over a part of a cluster's nodes: each element is written once, beside a list that gets one for each.
+-- A pass over a part of a cluster's nodes: each element is written once.
 use Rattle.std.proofs.Common.{◌≡◌, ◌≢◌, ℕ, zero, suc, ◌+◌, ◌-◌, ◌<◌, ◌≤◌, List, [], ◌∷◌, ◌++◌, length, get_or, set}
 use Rattle.std.proofs.Common.{Some, refl, sym, ap, ◌∙◌, subst, ⊎_elim, below_more, arith}
 use Rattle.std.specs.Prelude.{slice_get}
@@ -20,92 +20,88 @@ slice_get-set_other (x ∷ xs) zero (suc k) y other = refl
 slice_get-set_other (x ∷ xs) (suc i) zero y other = refl
 slice_get-set_other (x ∷ xs) (suc i) (suc k) y other = slice_get-set_other xs i k y (λ same. other (ap suc same))
 
--- what was, is and was left at a place that was written
-pub record IsPassed {X Z : Type 0} (R : ℕ → X → X → Z → Type 0) (k : ℕ) (old new : List X) (out : List Z) : Type 0
-  where
-    pub before : X
-    pub after : X
-    pub left : Z
-    pub was : slice_get old k ≡ Some before
-    pub is : slice_get new k ≡ Some after
-    pub leaves : slice_get out k ≡ Some left
-    pub by : R k before after left
+-- what was and is at a place that was written
+pub record IsPassed {X : Type 0} (R : ℕ → X → X → Type 0) (k : ℕ) (old new : List X) : Type 0 where
+  pub before : X
+  pub after : X
+  pub was : slice_get old k ≡ Some before
+  pub is : slice_get new k ≡ Some after
+  pub by : R k before after
 
--- the first elements, so many, were written, each with what it left; the others are as they were
-pub record ArePassed {X Z : Type 0} (R : ℕ → X → X → Z → Type 0) (i : ℕ) (old new : List X) (out : List Z) : Type 0
-  where
-    pub count : length new ≡ length old
-    pub room : length old ≤ length out
-    pub done : (k : ℕ) → k < i → IsPassed R k old new out
-    pub rest : (k : ℕ) → i ≤ k → slice_get new k ≡ slice_get old k
+-- the first elements, so many, were written; the others are as they were
+pub record ArePassed {X : Type 0} (R : ℕ → X → X → Type 0) (i : ℕ) (old new : List X) : Type 0 where
+  pub count : length new ≡ length old
+  pub done : (k : ℕ) → k < i → IsPassed R k old new
+  pub rest : (k : ℕ) → i ≤ k → slice_get new k ≡ slice_get old k
 
-pub ArePassed-none : {X Z : Type 0} {R : ℕ → X → X → Z → Type 0} (xs : List X) (out : List Z) → length xs ≤ length out
-    → ArePassed R 0 xs xs out
-ArePassed-none xs out room =
-    record { count = refl; room = room; done = λ k less. absurd (omega arith); rest = λ k _. refl }
+pub ArePassed-none : {X : Type 0} {R : ℕ → X → X → Type 0} (xs : List X) → ArePassed R 0 xs xs
+ArePassed-none xs = record { count = refl; done = λ k less. absurd (omega arith); rest = λ k _. refl }
 
 -- After a pass over the first of them.
-module _ {X Z : Type 0} {R : ℕ → X → X → Z → Type 0} {i : ℕ} {old new : List X} {out : List Z}
-    (passed : ArePassed R i old new out) where
+module _ {X : Type 0} {R : ℕ → X → X → Type 0} {i : ℕ} {old new : List X} (passed : ArePassed R i old new) where
   -- what an element that is still to come was
   pub ArePassed-coming : (d : X) → i < length old → slice_get old i ≡ Some (get_or new i d)
   ArePassed-coming d within =
       sym (passed.rest i (omega arith)) ∙ slice_get-get_or new i d (omega (arith, passed.count))
 
   -- one element more
-  pub ArePassed-more : {y : X} {z : Z} (d : X) → i < length old → R i (get_or new i d) y z
-      → ArePassed R (i + 1) old (set new i y) (set out i z)
-  ArePassed-more {y = y} {z = z} d within by = record {
+  pub ArePassed-more : {y : X} (d : X) → i < length old → R i (get_or new i d) y → ArePassed R (i + 1) old (set new i y)
+  ArePassed-more {y = y} d within by = record {
     count = length-set new i y ∙ passed.count;
-    room = omega (arith, length-set out i z, passed.room);
-    done = below_more (λ k. IsPassed R k old (set new i y) (set out i z)) i (λ k earlier.
+    done = below_more (λ k. IsPassed R k old (set new i y)) i (λ k earlier.
         let at = passed.done k earlier in record {
           before = at.before;
           after = at.after;
-          left = at.left;
           was = at.was;
           by = at.by;
           is = slice_get-set_other new i k y (omega arith) ∙ at.is;
-          leaves = slice_get-set_other out i k z (omega arith) ∙ at.leaves;
         }) (record {
           before = get_or new i d;
           after = y;
-          left = z;
           was = ArePassed-coming d within;
           is = slice_get-set_same new i y (omega (arith, passed.count));
-          leaves = slice_get-set_same out i z (omega (arith, passed.room));
           by = by;
         });
     rest = λ k later. slice_get-set_other new i k y (omega arith) ∙ passed.rest k (omega arith);
   }
 
-  -- When all were written, what follows of each, or of what it left, holds of the whole part.
+  -- When all were written, what follows of each holds of the whole part.
 
   pub each-new : {first : ℕ} {P Q : ℕ → X → Type 0} → length old ≤ i → EachFrom first P old
-      → ((j : ℕ) (x y : X) (z : Z) → R j x y z → P (first + j) x → Q (first + j) y) → EachFrom first Q new
+      → ((j : ℕ) (x y : X) → R j x y → P (first + j) x → Q (first + j) y) → EachFrom first Q new
   each-new {first = first} {Q = Q} all was step = record {
     each = λ j y here.
         let at = passed.done j (omega (arith, slice_get_within new j y here, passed.count)) in
         subst (Q (first + j)) (same_Some _ _ (sym at.is ∙ here))
-        (step j at.before at.after at.left at.by (was.each j at.before at.was));
+        (step j at.before at.after at.by (was.each j at.before at.was));
   }
 
   -- where the part begins with node 0
   pub all-new : {P Q : ℕ → X → Type 0} → length old ≤ i → EachFrom 0 P old
-      → ((j : ℕ) (x y : X) (z : Z) → R j x y z → P j x → Q j y) → EachFrom 0 Q new
+      → ((j : ℕ) (x y : X) → R j x y → P j x → Q j y) → EachFrom 0 Q new
   all-new {P = P} {Q = Q} all was step =
-      each-new all was (λ j x y z by. let at : j ≡ 0 + j = omega arith in
-      subst (λ (n : ℕ). P n x → Q n y) at (step j x y z by))
+      each-new all was (λ j x y by. let at : j ≡ 0 + j = omega arith in
+      subst (λ (n : ℕ). P n x → Q n y) at (step j x y by))
 
-  pub each-left : {first : ℕ} {P : ℕ → X → Type 0} {Q : ℕ → Z → Type 0} → length old ≤ i → length out ≡ length old
-      → EachFrom first P old → ((j : ℕ) (x y : X) (z : Z) → R j x y z → P (first + j) x → Q (first + j) z)
-      → EachFrom first Q out
-  each-left {first = first} {Q = Q} all count was step = record {
-    each = λ j z here.
-        let at = passed.done j (omega (arith, slice_get_within out j z here)) in
-        subst (Q (first + j)) (same_Some _ _ (sym at.leaves ∙ here))
-        (step j at.before at.after at.left at.by (was.each j at.before at.was));
-  }
+-- When all were written as they stand in another list, they are that list.
+
+same_lists : {X : Type 0} (xs ys : List X) → length xs ≡ length ys
+    → ((k : ℕ) (y : X) → slice_get ys k ≡ Some y → slice_get xs k ≡ Some y) → xs ≡ ys
+same_lists [] [] count same = refl
+same_lists [] (y ∷ ys) count same = absurd (omega (arith, count))
+same_lists (x ∷ xs) [] count same = absurd (omega (arith, count))
+same_lists (x ∷ xs) (y ∷ ys) count same =
+    let first : x ≡ y = same_Some _ _ (same 0 y refl) in
+    let rest = same_lists xs ys (omega (arith, count)) (λ k z here. same (suc k) z here) in
+    λ i. first i ∷ rest i
+
+pub all-copied : {X : Type 0} {i : ℕ} {old new : List X} (from : List X)
+    → ArePassed (λ j before after. slice_get from j ≡ Some after) i old new → length old ≤ i → length old ≡ length from
+    → new ≡ from
+all-copied {new = new} from passed all count =
+    same_lists new from (passed.count ∙ count) (λ k y here.
+    let at = passed.done k (omega (arith, slice_get_within from k y here, count)) in
+    at.is ∙ sym at.by ∙ here)
 
 -- What holds of each element holds of the one at a place of a part that begins with node 0.
 pub each-of : {X : Type 0} {P : ℕ → X → Type 0} {xs : List X} {x : X} → EachFrom 0 P xs → (k : ℕ)

@@ -21,14 +21,15 @@ use Rattle.ttp_world.specs.World.{BegunNode, BegunSlot, node_of, slot_after, cho
 use Rattle.ttp_world.proofs.Slots.{node_of-slot_after}
 use Rattle.controller.specs.declared.controller.Intent.{Intent}
 use Rattle.controller.specs.declared.controller.Intent.TheVariants as intent
-use Rattle.controller.specs.Limits.{intent_by, loaded_length, seat_intent, turn_intent}
+use Rattle.controller.specs.declared.seat.Seat.{Seat}
+use Rattle.controller.specs.Limits.{intent_by, loaded_length, view_intent, turn_intent}
 use Rattle.controller.specs.Kept.{kept}
 use Rattle.controller.specs.Passes.{AreChosen, ArePayloadsFor, HasBegun, HaveBegun, IsPayloadBefore, IsPayloadFor}
 use Rattle.controller.specs.Passes.{intent_before, payload_handed}
 use Rattle.controller.specs.PlantStands.{MayStep, PlantStandsFor}
 use Rattle.controller.specs.PlantView.{PlantView}
-use Rattle.controller.specs.StandsFor.{IsSameSeat, Stands, seat_past, payload_planned}
-use Rattle.controller.specs.Turn.{Begun, Seat}
+use Rattle.controller.specs.StandsFor.{IsSameNode, Stands, view_past, payload_planned}
+use Rattle.controller.specs.ControllerView.{Begun, ControllerView}
 use Rattle.controller.proofs.Standing.{act_kept-of}
 
 -- the payload that is handed to a node is as long as it asks for, where that which is chosen for a frame that carries
@@ -56,14 +57,14 @@ payload_by-intent : (list : Medl) (past : NodePast) (chosen : Chosen) (a : Act)
 payload_by-intent list past chosen Send = carried_or (carries_payload list (coming_place list past)) chosen
 payload_by-intent list past chosen _ = refl
 
-pub payload_planned-handed : {seat : Seat} {diary : Diary} {surroundings : Surroundings} {a : Act} {jump : ℤ}
-    (chosen : Chosen) → Stands seat diary surroundings (Begun a jump)
-    → payload_planned seat.list (seat_past seat diary surroundings) chosen a ≡ payload_handed (seat_intent seat) chosen
-payload_planned-handed {seat = seat} {diary = diary} {surroundings = surroundings} {a = a} chosen stands =
-    let past = seat_past seat diary surroundings in
-    payload_by-intent seat.list past chosen a
-    ∙ ap (λ (wanted : Intent). payload_handed wanted chosen) (sym (intent_by-kept seat.list past a))
-    ∙ (λ i. payload_handed (turn_intent seat.list (sym stands.past i) (sym stands.turn i)) chosen)
+pub payload_planned-handed : {view : ControllerView} {diary : Diary} {surroundings : Surroundings} {a : Act} {jump : ℤ}
+    (chosen : Chosen) → Stands view diary surroundings (Begun a jump)
+    → payload_planned view.list (view_past view diary surroundings) chosen a ≡ payload_handed (view_intent view) chosen
+payload_planned-handed {view = view} {diary = diary} {surroundings = surroundings} {a = a} chosen stands =
+    let past = view_past view diary surroundings in
+    payload_by-intent view.list past chosen a
+    ∙ ap (λ (wanted : Intent). payload_handed wanted chosen) (sym (intent_by-kept view.list past a))
+    ∙ (λ i. payload_handed (turn_intent view.list (sym stands.past i) (sym stands.turn i)) chosen)
 
 -- whether this is to send a frame with payload
 abbrev pub is_loading : Intent → Bool
@@ -79,9 +80,9 @@ loading_by list past Send = loading_or (carries_payload list (coming_place list 
 loading_by list past _ = refl
 
 -- so the message that is chosen for a node is as long as its frame wants it
-pub payload-node : {s : BegunSlot} {k : ℕ} {seat : Seat} {message : Chosen} (chosen : List Chosen)
-    → message ≡ chosen_of chosen k → k < length s.list.slots → HasBegun s k seat → AreChosen s chosen
-    → IsPayloadFor seat message
+pub payload-node : {s : BegunSlot} {k : ℕ} {view : ControllerView} {message : Chosen} (chosen : List Chosen)
+    → message ≡ chosen_of chosen k → k < length s.list.slots → HasBegun s k view → AreChosen s chosen
+    → IsPayloadFor view message
 payload-node {s = s} {k = k} chosen is node begun are loading =
     let past = (node_of s k).past in
     let does = (node_of s k).act in
@@ -98,8 +99,8 @@ nothing-chosen s chosen bare few all = λ k node loaded.
     ap length (All-get_or (λ m. m.payload ≡ []) chosen k nothing_chosen (omega (arith, node, few)) all) ∙ sym (bare k)
 
 -- whoever has begun a slot sends in it what it was to send
-pub payload-begun : {old new : Seat} (script : Script) (slot k : ℕ) (chosen : Chosen) → IsSameSeat old new
-    → seat_intent new ≡ intent_before script slot k old → IsPayloadBefore script slot chosen k old
+pub payload-begun : {old new : ControllerView} (script : Script) (slot k : ℕ) (chosen : Chosen) → IsSameNode old new
+    → view_intent new ≡ intent_before script slot k old → IsPayloadBefore script slot chosen k old
     → IsPayloadFor new chosen
 payload-begun script slot k chosen same sends before = λ loaded.
     before (sym sends ∙ loaded) ∙ (λ i. (plan_at (sym same.list i) (sym same.node i)).payload)
@@ -143,10 +144,22 @@ chosen-step {plant = plant} {script = script} {history = history} chosen valid s
       let armed = λ (t : ℕ). is_armed script k t in
       let sends : is_loaded (slot_after list script history) k ≡ true =
       ap (λ (n : BegunNode). sends_payload list n.past n.act) (node_of-slot_after list script history k node)
-      ∙ sym (loading-before list k (on (length history)) (armed (length history)) seat.past diary surroundings valid node
+      ∙ sym (loading-before list k (on (length history)) (armed (length history)) seat.controller.past diary surroundings valid node
       past_is)
-      ∙ (λ i. is_loading (intent_by (sym of.list i) seat.past
-      (act (sym of.list i) (sym of.node i) (on (sym stands.slot i)) (armed (sym stands.slot i)) seat.past)))
+      ∙ (λ i. is_loading (intent_by (sym of.list i) seat.controller.past
+      (act (sym of.list i) (sym of.node i) (on (sym stands.slot i)) (armed (sym stands.slot i)) seat.controller.past)))
       ∙ ap is_loading loaded in
       are k node sends ∙ (λ i. (plan_at (sym of.list i) (sym of.node i)).payload);
+}
+
+-- or by as much payload for each node as the list gives it
+pub sized-step : {plant : PlantView} {script : Script} {history : History} (chosen : List Chosen)
+    → PlantStandsFor plant script history
+    → ((k : ℕ) → k < length plant.list.slots → length (chosen_of chosen k).payload ≡ (plan_at plant.list k).payload)
+    → MayStep plant script chosen
+sized-step {plant = plant} chosen stands sizes = record {
+  each = λ j seat here loaded.
+      let of = stands.are.each j seat here in
+      sizes (0 + j) (omega (arith, stands.count, slice_get_within plant.seats j seat here))
+      ∙ (λ i. (plan_at (sym of.list i) (sym of.node i)).payload);
 }

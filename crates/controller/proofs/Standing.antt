@@ -37,10 +37,10 @@ use Rattle.controller.specs.Ending.{EndsAs}
 use Rattle.controller.specs.Hearing.{hearing_of, is_silent_arrival}
 use Rattle.controller.specs.Kept.{kept}
 use Rattle.controller.specs.Limits.{intent_by, message_carried}
-use Rattle.controller.specs.SeatWithin.{IsPossible, IsPlannedWithin}
+use Rattle.controller.specs.ControllerWithin.{IsPossible, IsPlannedWithin}
 use Rattle.controller.specs.StandsFor.{message_planned, payload_planned, Begins, Plans, frames_planned, most_slots}
 use Rattle.controller.specs.StandsFor.{Ends}
-use Rattle.controller.specs.Turn.{Turn, Ended, Begun, Planned, Seat}
+use Rattle.controller.specs.ControllerView.{Turn, Ended, Begun, Planned, ControllerView}
 use Rattle.controller.proofs.Heard.{silence-shown}
 use Rattle.controller.proofs.Stints.{limit_of-within, correction_after-take}
 
@@ -138,8 +138,8 @@ pub status_words-kept : (list : Medl) (slot : ℕ) (past : NodePast) (delivers :
 status_words-kept list slot past delivers = rw (enough-kept past.notes) refl
 
 -- a controller at a turn
-abbrev pub seat_at : Medl → ℕ → NodePast → ℕ → Turn → Seat
-seat_at list k past slots now = record { list = list; node = k; past = past; slots = slots; turn = now }
+abbrev pub view_at : Medl → ℕ → NodePast → ℕ → Turn → ControllerView
+view_at list k past slots now = record { list = list; node = k; past = past; slots = slots; turn = now }
 
 -- The beginning.
 
@@ -156,7 +156,7 @@ act_kept-of list k on armed past diary surroundings valid node is =
 pub Begins-turn : (list : Medl) (k : ℕ) (past : NodePast) (slots : ℕ) (now : Turn) (on armed : Bool) (jump : ℤ)
     (does : Act) (jumped : ℤ) → IsValid list → k < length list.slots
     → does ≡ act list k on armed past → jumped ≡ jump_taken does jump
-    → Begins (seat_at list k past slots now) (seat_at list k past slots (Begun does jumped)) on armed jump
+    → Begins (view_at list k past slots now) (view_at list k past slots (Begun does jumped)) on armed jump
 Begins-turn list k past slots now on armed jump does jumped valid node is taken = λ diary surroundings stands.
     let done = is ∙ act_kept-of list k on armed past diary surroundings valid node stands.past in
     record {
@@ -190,7 +190,7 @@ pub Plans-turn : (list : Medl) (k : ℕ) (past : NodePast) (slots : ℕ) (now : 
     → now ≡ Begun does jumped → again ≡ jumped
     → message ≡ message_carried (intent_by list past does) number
     → IsFrameOf list k past does payload planned
-    → Plans (seat_at list k past slots now) (seat_at list k past slots (Planned does again message)) number payload
+    → Plans (view_at list k past slots now) (view_at list k past slots (Planned does again message)) number payload
     planned
 Plans-turn list k past slots now does jumped again number payload message planned begun same carries frames =
     λ diary surroundings a jump chosen stands numbered paid.
@@ -266,7 +266,7 @@ read_next list k past diary surroundings does chosen h s valid node is possible 
     (new_entry-follows list k possible.on possible.armed diary surroundings chosen h) in
     past_of-cons list k diary surroundings (new_entry list k read chosen h does) s follows
 
-pub Ends-seat : (list : Medl) (k : ℕ) (past : NodePast) (slots : ℕ) (t : Turn) (new : NodePast) (ended : ℕ)
+pub Ends-controller : (list : Medl) (k : ℕ) (past : NodePast) (slots : ℕ) (t : Turn) (new : NodePast) (ended : ℕ)
     (outcome : Outcome) (made : Entry) (handed : Option Delivered) (does : Act) (jump : ℤ) (message : Option ℕ)
     (a b : Arrival) (error drift : ℤ) (x : SlotSurroundings) → IsValid list → k < length list.slots
     → t ≡ Planned does jump message → IsPlannedWithin list k past does jump message
@@ -274,8 +274,8 @@ pub Ends-seat : (list : Medl) (k : ℕ) (past : NodePast) (slots : ℕ) (t : Tur
     → x.jump ≡ jump → x.drift ≡ drift → x.is_silent ≡ (is_silent_arrival a && is_silent_arrival b)
     → new ≡ kept (past_after list k past made x) → ended ≡ min (slots + 1) most_slots
     → outcome.delivered ≡ handed → outcome.status.words ≡ status_words list slots new (is_some handed)
-    → Ends (seat_at list k past slots t) (seat_at list k new ended Ended) outcome a b error drift
-Ends-seat list k past slots t new ended outcome made handed does jump message a b error drift x valid node turn planned
+    → Ends (view_at list k past slots t) (view_at list k new ended Ended) outcome a b error drift
+Ends-controller list k past slots t new ended outcome made handed does jump message a b error drift x valid node turn planned
     ends jumps drifts silent entered counted delivered status =
     λ diary surroundings there jumped chosen sent_a sent_b clock s stands shown_a shown_b around.
     let read = past_of list k diary surroundings in

@@ -1,8 +1,8 @@
 pub mod Kept
 pub mod Within
 pub mod Stint
-pub mod Turn
-pub mod SeatWithin
+pub mod ControllerView
+pub mod ControllerWithin
 pub mod Sending
 pub mod Limits
 pub mod Hearing

@@ -11,7 +11,7 @@ use Rattle.medium.specs.declared.arrival.Arrival.{Arrival}
 use Rattle.medium.specs.declared.arrival.Arrival.TheVariants as arrival
 use Rattle.controller.specs.declared.controller.Intent.{Intent}
 use Rattle.controller.specs.declared.controller.Intent.TheVariants as intent
-use Rattle.controller.specs.Turn.{Turn, Ended, Begun, Planned, Seat}
+use Rattle.controller.specs.ControllerView.{Turn, Ended, Begun, Planned, ControllerView}
 
 -- clocks are within so many microticks of 0
 abbrev pub most_clock : ℕ
@@ -51,8 +51,8 @@ turn_jump Ended = pos 0
 turn_jump (Begun act jump) = jump
 turn_jump (Planned act jump message) = jump
 
-abbrev pub seat_clock : Seat → ℤ
-seat_clock seat = seat.past.offset +ℤ turn_jump seat.turn
+abbrev pub view_clock : ControllerView → ℤ
+view_clock view = view.past.offset +ℤ turn_jump view.turn
 
 -- Sending.
 
@@ -68,8 +68,8 @@ turn_intent list past (Begun act jump) = intent_by list past act
 turn_intent list past (Planned act jump message) = intent.Quiet
 
 -- what the node will send in a slot that was begun
-abbrev pub seat_intent : Seat → Intent
-seat_intent seat = turn_intent seat.list seat.past seat.turn
+abbrev pub view_intent : ControllerView → Intent
+view_intent view = turn_intent view.list view.past view.turn
 
 -- the message of this number goes into a frame with payload
 abbrev pub message_carried : Intent → ℕ → Option ℕ
@@ -83,20 +83,20 @@ loaded_length list k intent.Quiet = 0
 loaded_length list k intent.Bare = 0
 loaded_length list k intent.Loaded = (plan_at list k).payload
 
-abbrev pub payload_wanted : Seat → ℕ
-payload_wanted seat = loaded_length seat.list seat.node (seat_intent seat)
+abbrev pub payload_wanted : ControllerView → ℕ
+payload_wanted view = loaded_length view.list view.node (view_intent view)
 
 -- The clock after a slot.
 
 -- within these many microticks of 0 are a node's clock and those of the senders of what came
-abbrev pub most_ahead_of : Seat → Arrival → Arrival → ℕ
-most_ahead_of seat came_a came_b =
-    max (unsigned_abs (seat_clock seat))
+abbrev pub most_ahead_of : ControllerView → Arrival → Arrival → ℕ
+most_ahead_of view came_a came_b =
+    max (unsigned_abs (view_clock view))
     (max (unsigned_abs (offset_of_arrival came_a)) (unsigned_abs (offset_of_arrival came_b)))
 
 -- A slot takes a clock no further from 0 than one of them is, but for a reading error, the drift and a correction,
 -- which is within the window.
-abbrev pub StaysNear : ℤ → Seat → Arrival → Arrival → ℤ → ℤ → Type 0
-StaysNear offset seat came_a came_b error drift =
+abbrev pub StaysNear : ℤ → ControllerView → Arrival → Arrival → ℤ → ℤ → Type 0
+StaysNear offset view came_a came_b error drift =
     unsigned_abs offset
-    ≤ most_ahead_of seat came_a came_b + unsigned_abs error + unsigned_abs drift + unsigned_abs seat.list.window
+    ≤ most_ahead_of view came_a came_b + unsigned_abs error + unsigned_abs drift + unsigned_abs view.list.window

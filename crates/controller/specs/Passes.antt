@@ -1,4 +1,4 @@
--- What the three passes of a slot make of a cluster's controllers, in the words of the world's slot.
+-- What the three passes of a slot make of a cluster's nodes, in the words of the world's slot.
 use Rattle.std.specs.Prelude.{◌≡◌, ℕ, ◌<◌, ℤ, true, List, [], ◌∷◌, ◌++◌, length, min, Option, is_some}
 use Rattle.ttp_world.specs.declared.medl.Medl.{Medl}
 use Rattle.ttp_world.specs.declared.node.Chosen.{Chosen}
@@ -19,31 +19,33 @@ use Rattle.medium.specs.StandsFor as medium
 use Rattle.controller.specs.declared.controller.Intent.{Intent}
 use Rattle.controller.specs.declared.controller.Intent.TheVariants as intent
 use Rattle.controller.specs.declared.controller.Outcome.{Outcome}
+use Rattle.controller.specs.declared.seat.Seat.{Seat}
 use Rattle.controller.specs.Kept.{kept}
-use Rattle.controller.specs.Limits.{IsPlanned, intent_by, seat_clock, seat_intent}
+use Rattle.controller.specs.Limits.{IsPlanned, intent_by, view_clock, view_intent}
 use Rattle.controller.specs.Parts.{EachFrom}
-use Rattle.controller.specs.StandsFor.{StandsFor, IsSameSeat, message_planned, frames_planned, most_slots}
-use Rattle.controller.specs.Turn.{Turn, Begun, Planned, Seat}
+use Rattle.controller.specs.StandsFor.{StandsFor, IsSameNode, message_planned, frames_planned, most_slots}
+use Rattle.controller.specs.ControllerView.{Turn, Begun, Planned, ControllerView}
 
 -- Between two slots.
 
 -- node k's controller stands for its diary in a history, and for what came to the node from outside
-abbrev pub StandsAfter : Script → History → ℕ → Seat → Type 0
-StandsAfter script history k seat = StandsFor seat (diary_of history k) (surroundings_of script history k)
+abbrev pub StandsAfter : Script → History → ℕ → ControllerView → Type 0
+StandsAfter script history k view = StandsFor view (diary_of history k) (surroundings_of script history k)
 
 -- so do the controllers of the nodes from a first one on
 abbrev pub StandAfter : Script → History → ℕ → List Seat → Type 0
-StandAfter script history first seats = EachFrom first (StandsAfter script history) seats
+StandAfter script history first seats =
+    EachFrom first (λ k seat. StandsAfter script history k seat.controller) seats
 
 -- In a slot.
 
 -- A controller stands for node k of a slot that has begun, at this turn of it: it keeps the node's past.
-pub record StandsForNode (s : BegunSlot) (k : ℕ) (now : Turn) (seat : Seat) : Type 0 where
-  pub list : seat.list ≡ s.list
-  pub node : seat.node ≡ k
-  pub past : seat.past ≡ kept (node_of s k).past
-  pub slots : seat.slots ≡ min s.number most_slots
-  pub turn : seat.turn ≡ now
+pub record StandsForNode (s : BegunSlot) (k : ℕ) (now : Turn) (view : ControllerView) : Type 0 where
+  pub list : view.list ≡ s.list
+  pub node : view.node ≡ k
+  pub past : view.past ≡ kept (node_of s k).past
+  pub slots : view.slots ≡ min s.number most_slots
+  pub turn : view.turn ≡ now
 
 -- by how much its clock jumped
 abbrev pub jump_begun : BegunSlot → ℕ → ℤ
@@ -51,11 +53,11 @@ jump_begun s k = jump_taken (node_of s k).act (jump_of s.script k s.number)
 
 -- The first pass: each has begun the slot, with what its node does in it and its clock's jump.
 
-abbrev pub HasBegun : BegunSlot → ℕ → Seat → Type 0
-HasBegun s k seat = StandsForNode s k (Begun (node_of s k).act (jump_begun s k)) seat
+abbrev pub HasBegun : BegunSlot → ℕ → ControllerView → Type 0
+HasBegun s k view = StandsForNode s k (Begun (node_of s k).act (jump_begun s k)) view
 
 abbrev pub HaveBegun : BegunSlot → ℕ → List Seat → Type 0
-HaveBegun s first seats = EachFrom first (HasBegun s) seats
+HaveBegun s first seats = EachFrom first (λ k seat. HasBegun s k seat.controller) seats
 
 -- The second: each has planned it, where this message is chosen for its node, and what it sends is on the medium.
 
@@ -68,30 +70,30 @@ AreChosen s chosen =
 -- So it is by what the controllers keep, whatever they stand for: where the frame of a controller's node carries a
 -- message, the one that is chosen has as much payload as the list gives the node.
 
-abbrev pub IsPayloadFor : Seat → Chosen → Type 0
-IsPayloadFor seat chosen =
-    seat_intent seat ≡ intent.Loaded → length chosen.payload ≡ (plan_at seat.list seat.node).payload
+abbrev pub IsPayloadFor : ControllerView → Chosen → Type 0
+IsPayloadFor view chosen =
+    view_intent view ≡ intent.Loaded → length chosen.payload ≡ (plan_at view.list view.node).payload
 
 -- for the controllers of the nodes from a first one on
 abbrev pub ArePayloadsFor : List Chosen → ℕ → List Seat → Type 0
-ArePayloadsFor chosen first seats = EachFrom first (λ k seat. IsPayloadFor seat (chosen_of chosen k)) seats
+ArePayloadsFor chosen first seats = EachFrom first (λ k seat. IsPayloadFor seat.controller (chosen_of chosen k)) seats
 
 -- what node k is to send in a slot, by what its controller keeps before it
-abbrev pub intent_before : Script → ℕ → ℕ → Seat → Intent
-intent_before script slot k seat =
-    intent_by seat.list seat.past
-    (act seat.list seat.node (is_on script k slot) (is_armed script k slot) seat.past)
+abbrev pub intent_before : Script → ℕ → ℕ → ControllerView → Intent
+intent_before script slot k view =
+    intent_by view.list view.past
+    (act view.list view.node (is_on script k slot) (is_armed script k slot) view.past)
 
 -- the same of the slot that comes
 
-abbrev pub IsPayloadBefore : Script → ℕ → Chosen → ℕ → Seat → Type 0
-IsPayloadBefore script slot chosen k seat =
-    intent_before script slot k seat ≡ intent.Loaded
-    → length chosen.payload ≡ (plan_at seat.list seat.node).payload
+abbrev pub IsPayloadBefore : Script → ℕ → Chosen → ℕ → ControllerView → Type 0
+IsPayloadBefore script slot chosen k view =
+    intent_before script slot k view ≡ intent.Loaded
+    → length chosen.payload ≡ (plan_at view.list view.node).payload
 
 abbrev pub ArePayloadsBefore : Script → ℕ → List Chosen → ℕ → List Seat → Type 0
 ArePayloadsBefore script slot chosen first seats =
-    EachFrom first (λ k seat. IsPayloadBefore script slot (chosen_of chosen k) k seat) seats
+    EachFrom first (λ k seat. IsPayloadBefore script slot (chosen_of chosen k) k seat.controller) seats
 
 -- the payload that is handed to a node that will send this
 abbrev pub payload_handed : Intent → Chosen → List ℕ
@@ -99,14 +101,15 @@ payload_handed intent.Quiet chosen = []
 payload_handed intent.Bare chosen = []
 payload_handed intent.Loaded chosen = chosen.payload
 
-abbrev pub HasPlanned : BegunSlot → Chosen → ℕ → Seat → Type 0
-HasPlanned s chosen k seat =
+abbrev pub HasPlanned : BegunSlot → Chosen → ℕ → ControllerView → Type 0
+HasPlanned s chosen k view =
     StandsForNode s k
     (Planned (node_of s k).act (jump_begun s k)
-    (message_planned s.list (node_of s k).past chosen (node_of s k).act)) seat
+    (message_planned s.list (node_of s k).past chosen (node_of s k).act)) view
 
 abbrev pub HavePlanned : BegunSlot → List Chosen → ℕ → List Seat → Type 0
-HavePlanned s chosen first seats = EachFrom first (λ k seat. HasPlanned s (chosen_of chosen k) k seat) seats
+HavePlanned s chosen first seats =
+    EachFrom first (λ k seat. HasPlanned s (chosen_of chosen k) k seat.controller) seats
 
 -- the frames that node k sends, where this message is chosen for it
 abbrev pub frames_by : BegunSlot → Chosen → ℕ → List SentFrame
@@ -131,25 +134,26 @@ pub record IsLeft (list : Medl) (script : Script) (history : History) (chosen : 
       (node_past list script (row_in (slot_after list script history) chosen ∷ history) k)
       (is_some (delivered_at (slot_after list script history) chosen k))
 
-abbrev pub AreLeft : Medl → Script → History → List Chosen → ℕ → List Outcome → Type 0
-AreLeft list script history chosen first outcomes = EachFrom first (IsLeft list script history chosen) outcomes
+abbrev pub AreLeft : Medl → Script → History → List Chosen → ℕ → List Seat → Type 0
+AreLeft list script history chosen first seats =
+    EachFrom first (λ k seat. IsLeft list script history chosen k seat.outcome) seats
 
--- the controllers and outcomes of the nodes from a first one on, after a slot
+-- the nodes from a first one on, after a slot
 pub record HaveEnded (list : Medl) (script : Script) (history : History) (chosen : List Chosen) (first : ℕ)
-    (seats : List Seat) (outcomes : List Outcome) : Type 0 where
+    (seats : List Seat) : Type 0 where
   pub stand : StandAfter script (row_in (slot_after list script history) chosen ∷ history) first seats
-  pub left : AreLeft list script history chosen first outcomes
+  pub left : AreLeft list script history chosen first seats
 
 -- What each pass makes of one controller.
 
 -- whatever history of so many slots it stood for, it has begun the slot after it
-abbrev pub BeginsSlot : Medl → Script → ℕ → ℕ → Seat → Seat → Type 0
+abbrev pub BeginsSlot : Medl → Script → ℕ → ℕ → ControllerView → ControllerView → Type 0
 BeginsSlot list script slot k old new =
     (history : History) → length history ≡ slot → StandsAfter script history k old
     → HasBegun (slot_after list script history) k new
 
 -- whatever slot it has begun, it has planned it, and sends these bytes, or nothing, by the message that is chosen
-abbrev pub PlansSlot : Seat → Seat → Chosen → Option (List ℕ) → Type 0
+abbrev pub PlansSlot : ControllerView → ControllerView → Chosen → Option (List ℕ) → Type 0
 PlansSlot old new chosen bytes =
     (list : Medl) (script : Script) (history : History) (k : ℕ) →
     let s = slot_after list script history in
@@ -157,13 +161,13 @@ PlansSlot old new chosen bytes =
     → HasPlanned s chosen k new × (frames_planned k bytes ≡ frames_by s chosen k)
 
 -- one of node k
-abbrev pub PlansIn : Medl → Script → ℕ → Chosen → Seat → Seat → Type 0
+abbrev pub PlansIn : Medl → Script → ℕ → Chosen → ControllerView → ControllerView → Type 0
 PlansIn list script k chosen old new =
     (history : History) → HasBegun (slot_after list script history) k old
     → HasPlanned (slot_after list script history) chosen k new
 
 -- and what it sends is put on the medium
-abbrev pub PutsFrames : Medl → Script → ℕ → Seat → Chosen → Carried → Carried → Type 0
+abbrev pub PutsFrames : Medl → Script → ℕ → ControllerView → Chosen → Carried → Carried → Type 0
 PutsFrames list script k old chosen before after =
     (history : History) (frames : List SentFrame) →
     let s = slot_after list script history in
@@ -171,7 +175,7 @@ PutsFrames list script k old chosen before after =
 
 -- whatever slot it has planned, and whatever was chosen in it, if this medium carries the frames of that slot, it
 -- stands for its diary after it, and leaves what its host is to get
-abbrev pub EndsSlot : Medl → Script → Carried → ℕ → Seat → Seat → Outcome → Type 0
+abbrev pub EndsSlot : Medl → Script → Carried → ℕ → ControllerView → ControllerView → Outcome → Type 0
 EndsSlot list script carried k old new outcome =
     (history : History) (chosen : List Chosen) →
     let s = slot_after list script history in
@@ -184,13 +188,13 @@ pub record IsFromClocks (carried : Carried) (script : Script) (slot : ℕ) (cloc
   pub stands : medium.StandsFor carried script slot frames clock
 
 -- so it is still, once what node k sends is put
-abbrev pub KeepsClocks : Script → ℕ → Seat → Carried → Carried → Type 0
+abbrev pub KeepsClocks : Script → ℕ → ControllerView → Carried → Carried → Type 0
 KeepsClocks script k old before after =
-    (slot : ℕ) (clock : ℕ → ℤ) → seat_clock old ≡ clock k → IsFromClocks before script slot clock
+    (slot : ℕ) (clock : ℕ → ℤ) → view_clock old ≡ clock k → IsFromClocks before script slot clock
     → IsFromClocks after script slot clock
 
 -- it stays the controller of its node, with the clock of the slot, and has planned
-pub record IsPlannedFrom (old new : Seat) : Type 0 where
-  pub same : IsSameSeat old new
-  pub clock : seat_clock new ≡ seat_clock old
+pub record IsPlannedFrom (old new : ControllerView) : Type 0 where
+  pub same : IsSameNode old new
+  pub clock : view_clock new ≡ view_clock old
   pub turn : IsPlanned new.turn

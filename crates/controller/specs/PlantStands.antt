@@ -1,5 +1,5 @@
 -- What a plant stands for: a history of its cluster under a script.
-use Rattle.std.specs.Prelude.{◌≡◌, ℕ, ◌<◌, List, [], ◌∷◌, length, get_or, replicate, None}
+use Rattle.std.specs.Prelude.{◌≡◌, ℕ, ◌<◌, List, [], ◌∷◌, length, map, get_or, replicate, None}
 use Rattle.ttp_world.specs.declared.medl.Medl.{Medl}
 use Rattle.ttp_world.specs.declared.node.Chosen.{Chosen}
 use Rattle.ttp_world.specs.declared.node.NodeState.{NodeState}
@@ -8,12 +8,12 @@ use Rattle.ttp_world.specs.Diary.{History}
 use Rattle.ttp_world.specs.Past.{state_of}
 use Rattle.ttp_world.specs.World.{slot_after, row_in, node_past}
 use Rattle.controller.specs.declared.controller.Outcome.{Outcome}
+use Rattle.controller.specs.declared.seat.Seat.{Seat}
 use Rattle.controller.specs.Parts.{EachFrom}
 use Rattle.controller.specs.Passes.{ArePayloadsBefore, IsLeft, StandAfter}
 use Rattle.controller.specs.PlantView.{PlantView}
 use Rattle.controller.specs.PlantWithin.{AreSeats, IsEnded, most_ahead}
 use Rattle.controller.specs.StandsFor.{StandsFor}
-use Rattle.controller.specs.Turn.{Seat}
 
 -- each controller is its node's, and stands for the node's diary and for what came to the node from outside
 pub record PlantStandsFor (plant : PlantView) (script : Script) (history : History) : Type 0 where
@@ -23,8 +23,8 @@ pub record PlantStandsFor (plant : PlantView) (script : Script) (history : Histo
   pub seats : StandAfter script history 0 plant.seats
 
 -- the plant of a list after so many slots
-abbrev pub plant_of : Medl → ℕ → List Seat → List Outcome → PlantView
-plant_of list slot seats outcomes = record { list = list; slot = slot; seats = seats; outcomes = outcomes }
+abbrev pub plant_of : Medl → ℕ → List Seat → PlantView
+plant_of list slot seats = record { list = list; slot = slot; seats = seats }
 
 -- What is left for hosts: nothing before the first slot, and then what the newest one left.
 
@@ -34,8 +34,11 @@ no_outcome = record { delivered = None; status = record { words = replicate 4 0 
 abbrev pub no_outcomes : Medl → List Outcome
 no_outcomes list = replicate (length list.slots) no_outcome
 
+abbrev pub outcomes_of : List Seat → List Outcome
+outcomes_of seats = map (λ (seat : Seat). seat.outcome) seats
+
 abbrev pub outcome_at : PlantView → ℕ → Outcome
-outcome_at plant k = get_or plant.outcomes k no_outcome
+outcome_at plant k = get_or (outcomes_of plant.seats) k no_outcome
 
 -- A slot.
 
@@ -57,7 +60,7 @@ Steps old new script chosen = (history : History) → PlantStandsFor old script 
 
 -- each controller stands for no entry
 abbrev pub AllStandAtFirst : List Seat → Type 0
-AllStandAtFirst seats = EachFrom 0 (λ k seat. StandsFor seat [] []) seats
+AllStandAtFirst seats = EachFrom 0 (λ k seat. StandsFor seat.controller [] []) seats
 
 -- node k's state, whatever history it stands for
 abbrev pub ShowsNode : PlantView → ℕ → NodeState → Type 0

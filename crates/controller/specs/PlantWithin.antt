@@ -10,10 +10,10 @@ use Rattle.ttp_world.specs.Medl.{IsValid}
 use Rattle.ttp_world.specs.Script.{AreBounded, incidents_of}
 use Rattle.medium.specs.Carried.{Carried}
 use Rattle.medium.specs.StandsFor as medium
-use Rattle.controller.specs.declared.controller.Outcome.{Outcome}
-use Rattle.controller.specs.Limits.{seat_clock}
+use Rattle.controller.specs.declared.seat.Seat.{Seat}
+use Rattle.controller.specs.Limits.{view_clock}
 use Rattle.controller.specs.Parts.{EachFrom}
-use Rattle.controller.specs.Turn.{Turn, Ended, Seat}
+use Rattle.controller.specs.ControllerView.{Turn, Ended, ControllerView}
 
 -- How far a clock may be from 0, in microticks.
 
@@ -42,15 +42,15 @@ abbrev pub IsEnded : Turn → Type 0
 IsEnded turn = turn ≡ Ended
 
 -- node k's controller, at a turn of which this holds, with its clock within so much of 0
-pub record IsSeatOf (l : Medl) (IsAt : Turn → Type 0) (bound k : ℕ) (seat : Seat) : Type 0 where
-  pub list : seat.list ≡ l
-  pub node : seat.node ≡ k
-  pub turn : IsAt seat.turn
-  pub clock : unsigned_abs (seat_clock seat) ≤ bound
+pub record IsControllerOf (l : Medl) (IsAt : Turn → Type 0) (bound k : ℕ) (view : ControllerView) : Type 0 where
+  pub list : view.list ≡ l
+  pub node : view.node ≡ k
+  pub turn : IsAt view.turn
+  pub clock : unsigned_abs (view_clock view) ≤ bound
 
 -- those of the nodes from a first one on
 abbrev pub AreSeats : Medl → (Turn → Type 0) → ℕ → ℕ → List Seat → Type 0
-AreSeats list IsAt bound first seats = EachFrom first (IsSeatOf list IsAt bound) seats
+AreSeats list IsAt bound first seats = EachFrom first (λ k seat. IsControllerOf list IsAt bound k seat.controller) seats
 
 -- The slot.
 
@@ -59,8 +59,9 @@ pub record IsIncidentsOf (script : Script) (slot k : ℕ) (incidents : Incidents
   pub value : incidents ≡ incidents_of script k slot
   pub bounds : AreBounded incidents
 
-abbrev pub AreIncidents : Script → ℕ → ℕ → List Incidents → Type 0
-AreIncidents script slot first incidents = EachFrom first (IsIncidentsOf script slot) incidents
+-- to the nodes from a first one on
+abbrev pub AreIncidents : Script → ℕ → ℕ → List Seat → Type 0
+AreIncidents script slot first seats = EachFrom first (λ k seat. IsIncidentsOf script slot k seat.incidents) seats
 
 -- what is on the medium was sent by nodes whose clocks are within so much of 0
 pub record IsFromWithin (carried : Carried) (script : Script) (bound : ℕ) : Type 0 where
@@ -71,11 +72,8 @@ pub record IsFromWithin (carried : Carried) (script : Script) (bound : ℕ) : Ty
 
 -- The plant between two slots.
 
-pub record IsPlantWithin (list : Medl) (slot : ℕ) (seats : List Seat) (incidents : List Incidents)
-    (outcomes : List Outcome) : Type 0 where
+pub record IsPlantWithin (list : Medl) (slot : ℕ) (seats : List Seat) : Type 0 where
   pub valid : IsValid list
   pub few : slot ≤ SLOT_LIMIT
   pub count : length seats ≡ length list.slots
   pub are : AreSeats list IsEnded (most_ahead slot) 0 seats
-  pub incidents_count : length incidents ≡ length list.slots
-  pub outcomes_count : length outcomes ≡ length list.slots

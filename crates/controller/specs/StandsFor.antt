@@ -21,36 +21,36 @@ use Rattle.medium.specs.Shows.{Shows}
 use Rattle.controller.specs.declared.controller.Outcome.{Outcome}
 use Rattle.controller.specs.Hearing.{hearing_of}
 use Rattle.controller.specs.Kept.{kept}
-use Rattle.controller.specs.Turn.{Turn, Ended, Begun, Planned, Seat}
+use Rattle.controller.specs.ControllerView.{Turn, Ended, Begun, Planned, ControllerView}
 
 -- the count of slots stops at this
 abbrev pub most_slots : ℕ
 most_slots = 2 ^ 64 - 1
 
-abbrev pub seat_past : Seat → Diary → Surroundings → NodePast
-seat_past seat diary surroundings = past_of seat.list seat.node diary surroundings
+abbrev pub view_past : ControllerView → Diary → Surroundings → NodePast
+view_past view diary surroundings = past_of view.list view.node diary surroundings
 
 -- it stands for a diary and surroundings, at this turn of the slot after them
-pub record Stands (seat : Seat) (diary : Diary) (surroundings : Surroundings) (now : Turn) : Type 0 where
-  pub past : seat.past ≡ kept (seat_past seat diary surroundings)
-  pub slots : seat.slots ≡ min (length diary) most_slots
-  pub turn : seat.turn ≡ now
+pub record Stands (view : ControllerView) (diary : Diary) (surroundings : Surroundings) (now : Turn) : Type 0 where
+  pub past : view.past ≡ kept (view_past view diary surroundings)
+  pub slots : view.slots ≡ min (length diary) most_slots
+  pub turn : view.turn ≡ now
 
 -- between two slots
-abbrev pub StandsFor : Seat → Diary → Surroundings → Type 0
-StandsFor seat diary surroundings = Stands seat diary surroundings Ended
+abbrev pub StandsFor : ControllerView → Diary → Surroundings → Type 0
+StandsFor view diary surroundings = Stands view diary surroundings Ended
 
 -- the list and the node stay
-pub record IsSameSeat (old new : Seat) : Type 0 where
+pub record IsSameNode (old new : ControllerView) : Type 0 where
   pub list : new.list ≡ old.list
   pub node : new.node ≡ old.node
 
 -- The beginning of a slot: what the node does is settled, whatever diary the controller stood for.
 
-abbrev pub act_begun : Seat → Diary → Surroundings → Bool → Bool → Act
-act_begun seat diary surroundings on armed = act seat.list seat.node on armed (seat_past seat diary surroundings)
+abbrev pub act_begun : ControllerView → Diary → Surroundings → Bool → Bool → Act
+act_begun view diary surroundings on armed = act view.list view.node on armed (view_past view diary surroundings)
 
-abbrev pub Begins : Seat → Seat → Bool → Bool → ℤ → Type 0
+abbrev pub Begins : ControllerView → ControllerView → Bool → Bool → ℤ → Type 0
 Begins old new on armed jump =
     (diary : Diary) (surroundings : Surroundings) → StandsFor old diary surroundings
     → Stands new diary surroundings
@@ -72,20 +72,20 @@ abbrev pub payload_planned : Medl → NodePast → Chosen → Act → List ℕ
 payload_planned list past chosen Send = payload_sent list (coming_place list past) chosen
 payload_planned list past chosen _ = []
 
-pub record IsPlan (old new : Seat) (planned : Option (List ℕ)) (diary : Diary) (surroundings : Surroundings) (a : Act)
+pub record IsPlan (old new : ControllerView) (planned : Option (List ℕ)) (diary : Diary) (surroundings : Surroundings) (a : Act)
     (jump : ℤ) (chosen : Chosen) : Type 0 where
   pub frames : frames_planned old.node planned
-      ≡ node_frames old.list old.node (seat_past old diary surroundings) chosen a
+      ≡ node_frames old.list old.node (view_past old diary surroundings) chosen a
   pub stands : Stands new diary surroundings
-      (Planned a jump (message_planned old.list (seat_past old diary surroundings) chosen a))
+      (Planned a jump (message_planned old.list (view_past old diary surroundings) chosen a))
 
 -- whatever diary it stood for, and whatever was chosen, if it has this number and, where the frame carries payload,
 -- this one
-abbrev pub Plans : Seat → Seat → ℕ → List ℕ → Option (List ℕ) → Type 0
+abbrev pub Plans : ControllerView → ControllerView → ℕ → List ℕ → Option (List ℕ) → Type 0
 Plans old new number payload planned =
     (diary : Diary) (surroundings : Surroundings) (a : Act) (jump : ℤ) (chosen : Chosen)
     → Stands old diary surroundings (Begun a jump)
-    → chosen.number ≡ number → payload_planned old.list (seat_past old diary surroundings) chosen a ≡ payload
+    → chosen.number ≡ number → payload_planned old.list (view_past old diary surroundings) chosen a ≡ payload
     → IsPlan old new planned diary surroundings a jump chosen
 
 -- The end of a slot.
@@ -103,21 +103,21 @@ pub record AreSurroundings (s : SlotSurroundings) (a : Act) (jumped drifts : ℤ
 
 -- what a slot ends with: the diary has the entry of the world for what was heard, and the surroundings what came from
 -- outside; what is delivered and the status are those of the world
-pub record IsEnd (old new : Seat) (outcome : Outcome) (diary : Diary) (surroundings : Surroundings) (e : Entry)
+pub record IsEnd (old new : ControllerView) (outcome : Outcome) (diary : Diary) (surroundings : Surroundings) (e : Entry)
     (s : SlotSurroundings) (handed : Option Delivered) : Type 0 where
   pub stands : StandsFor new (e ∷ diary) (s ∷ surroundings)
   pub delivered : outcome.delivered ≡ handed
   pub status : length diary ≤ most_slots
       → outcome.status.words
-      ≡ status_words old.list (length diary) (seat_past old (e ∷ diary) (s ∷ surroundings)) (is_some handed)
+      ≡ status_words old.list (length diary) (view_past old (e ∷ diary) (s ∷ surroundings)) (is_some handed)
 
 -- whatever diary the one stood for in a slot, and whatever signals the arrivals show, the other stands for the diary
 -- with the slot's entry
-abbrev pub Ends : Seat → Seat → Outcome → Arrival → Arrival → ℤ → ℤ → Type 0
+abbrev pub Ends : ControllerView → ControllerView → Outcome → Arrival → Arrival → ℤ → ℤ → Type 0
 Ends old new outcome came_a came_b error drift =
     (diary : Diary) (surroundings : Surroundings) (a : Act) (jump : ℤ) (chosen : Chosen) (sent_a sent_b : Signal)
     (clock : ℕ → ℤ) (s : SlotSurroundings) →
-    let past = seat_past old diary surroundings in
+    let past = view_past old diary surroundings in
     let h = hearing_of sent_a sent_b clock (clock_begun past jump) error in
     let e = new_entry old.list old.node past chosen h a in
     Stands old diary surroundings (Planned a jump (message_planned old.list past chosen a))
@@ -126,7 +126,7 @@ Ends old new outcome came_a came_b error drift =
 
 -- What is shown of the node.
 
-abbrev pub ShowsState : Seat → NodeState → Type 0
-ShowsState seat state =
-    (diary : Diary) (surroundings : Surroundings) (turn : Turn) → Stands seat diary surroundings turn
-    → state ≡ state_of (seat_past seat diary surroundings)
+abbrev pub ShowsState : ControllerView → NodeState → Type 0
+ShowsState view state =
+    (diary : Diary) (surroundings : Surroundings) (turn : Turn) → Stands view diary surroundings turn
+    → state ≡ state_of (view_past view diary surroundings)

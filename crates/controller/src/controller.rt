@@ -4,10 +4,10 @@ ghost use Rattle.ttp_world.specs.Act.{act};
 ghost use Rattle.ttp_world.specs.Medl.{IsValid};
 ghost use Rattle.ttp_world.specs.World.{jump_taken};
 ghost use Rattle.controller.specs.Hearing.{is_silent_arrival};
-ghost use Rattle.controller.specs.Limits.{JumpFits, ArrivalFits, StaysNear, IsBegun, IsPlanned, seat_clock};
-ghost use Rattle.controller.specs.Limits.{intent_by, seat_intent, payload_wanted};
-ghost use Rattle.controller.specs.StandsFor.{StandsFor, IsSameSeat, Begins, Plans, Ends, ShowsState};
-ghost use Rattle.controller.specs.Turn.{Ended};
+ghost use Rattle.controller.specs.Limits.{JumpFits, ArrivalFits, StaysNear, IsBegun, IsPlanned, view_clock};
+ghost use Rattle.controller.specs.Limits.{intent_by, view_intent, payload_wanted};
+ghost use Rattle.controller.specs.StandsFor.{StandsFor, IsSameNode, Begins, Plans, Ends, ShowsState};
+ghost use Rattle.controller.specs.ControllerView.{Ended};
 
 use crate::ending::ending_of;
 use crate::hearing::Reading;
@@ -80,10 +80,10 @@ pub struct Controller {
 }
 
 impl Model for Controller {
-    ghost use Rattle.controller.specs.Turn.{Seat};
-    ghost use Rattle.controller.specs.SeatWithin.{IsSeatWithin};
+    ghost use Rattle.controller.specs.ControllerView.{ControllerView};
+    ghost use Rattle.controller.specs.ControllerWithin.{IsControllerWithin};
 
-    ghost Value = { Seat };
+    ghost Value = { ControllerView };
 
     ghost view = { λ c. record {
       list = c.given.value;
@@ -93,7 +93,7 @@ impl Model for Controller {
       turn = c.turn;
     } };
 
-    ghost invariant = { λ c. IsSeatWithin c.given.value c.number c.node c.turn c.intent };
+    ghost invariant = { λ c. IsControllerWithin c.given.value c.number c.node c.turn c.intent };
 }
 
 impl Controller {
@@ -135,11 +135,11 @@ impl Controller {
         requires list { list.now ≡ self.old.list }
         requires turn { self.old.turn ≡ Ended }
         requires clock { JumpFits self.old.past.offset jump }
-        ensures same { IsSameSeat self.old self.new }
+        ensures same { IsSameNode self.old self.new }
         ensures begins { Begins self.old self.new on armed jump }
-        ensures sends { seat_intent self.new
+        ensures sends { view_intent self.new
             ≡ intent_by self.old.list self.old.past (act self.old.list self.old.node on armed self.old.past) }
-        ensures clock { unsigned_abs (seat_clock self.new) ≤ unsigned_abs self.old.past.offset + unsigned_abs jump }
+        ensures clock { unsigned_abs (view_clock self.new) ≤ unsigned_abs self.old.past.offset + unsigned_abs jump }
         ensures turn { IsBegun self.new.turn }
     {
         let act = self.node.act(list, self.number, on, armed);
@@ -153,14 +153,14 @@ impl Controller {
     /// Whether this slot's `plan` sends nothing, a frame without payload, or one with payload. It is
     /// Quiet where no slot has begun, or its plan was made.
     pub fn intent(&self) -> Intent
-        ensures { result ≡ seat_intent self.now }
+        ensures { result ≡ view_intent self.now }
     {
         self.intent
     }
 
     /// The node's clock in this slot, in microticks, with the slot's jump.
     pub fn clock(&self) -> i64
-        ensures { result ≡ seat_clock self.now }
+        ensures { result ≡ view_clock self.now }
     {
         match self.turn {
             Turn::Ended => self.node.offset(),
@@ -175,8 +175,8 @@ impl Controller {
         requires list { list.now ≡ self.old.list }
         requires turn { IsBegun self.old.turn }
         requires payload { length payload.now ≡ payload_wanted self.old }
-        ensures same { IsSameSeat self.old self.new }
-        ensures clock { seat_clock self.new ≡ seat_clock self.old }
+        ensures same { IsSameNode self.old self.new }
+        ensures clock { view_clock self.new ≡ view_clock self.old }
         ensures plans { Plans self.old self.new message payload.now result }
         ensures turn { IsPlanned self.new.turn }
     {
@@ -206,9 +206,9 @@ impl Controller {
     )
         requires list { list.now ≡ self.old.list }
         requires turn { IsPlanned self.old.turn }
-        requires a { ArrivalFits self.old.list (seat_clock self.old) a.now error drift }
-        requires b { ArrivalFits self.old.list (seat_clock self.old) b.now error drift }
-        ensures same { IsSameSeat self.old self.new }
+        requires a { ArrivalFits self.old.list (view_clock self.old) a.now error drift }
+        requires b { ArrivalFits self.old.list (view_clock self.old) b.now error drift }
+        ensures same { IsSameNode self.old self.new }
         ensures ends { Ends self.old self.new outcome.new a.now b.now error drift }
         ensures clock { StaysNear self.new.past.offset self.old a.now b.now error drift }
         ensures turn { self.new.turn ≡ Ended }
@@ -234,9 +234,9 @@ impl Controller {
     )
         requires list { list.now ≡ self.old.list }
         requires turn { self.old.turn ≡ Turn.Planned act jump message }
-        requires a { ArrivalFits self.old.list (seat_clock self.old) a.now error drift }
-        requires b { ArrivalFits self.old.list (seat_clock self.old) b.now error drift }
-        ensures same { IsSameSeat self.old self.new }
+        requires a { ArrivalFits self.old.list (view_clock self.old) a.now error drift }
+        requires b { ArrivalFits self.old.list (view_clock self.old) b.now error drift }
+        ensures same { IsSameNode self.old self.new }
         ensures ends { Ends self.old self.new outcome.new a.now b.now error drift }
         ensures clock { StaysNear self.new.past.offset self.old a.now b.now error drift }
         ensures turn { self.new.turn ≡ Ended }
@@ -263,6 +263,19 @@ impl Controller {
         outcome.status = status_words(list, self.number, self.slots, &self.node, delivers);
         self.slots = self.slots.saturating_add(1);
         self.turn = Turn::Ended;
+    }
+
+    /// Makes it a copy of another controller of the same list, at the same turn of a slot.
+    pub(crate) fn copy_from(&mut self, other: &Controller)
+        requires { other.now.list ≡ self.old.list }
+        ensures { self.new ≡ other.now }
+    {
+        self.number = other.number;
+        self.node = other.node.copy();
+        self.slots = other.slots;
+        self.turn = other.turn;
+        self.intent = other.intent;
+        self.last = other.last;
     }
 
     /// What is shown of the node after the newest slot.

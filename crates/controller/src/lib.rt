@@ -24,11 +24,13 @@ pub mod laws;
 mod node;
 mod passes;
 mod plant;
+mod seat;
 mod sending;
 mod status;
 mod turn;
 
 pub use controller::{Controller, Intent, Outcome};
 pub use passes::{begin_all, is_loaded, plan_all, take_all};
-pub use plant::{Plant, controllers_of, first_outcomes, incidents_of};
+pub use plant::Plant;
+pub use seat::{Seat, seats_of};
 pub use status::StatusFlags;

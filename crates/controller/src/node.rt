@@ -185,6 +185,22 @@ impl Node {
         }
     }
 
+    /// The same past once more.
+    pub(crate) fn copy(&self) -> Node
+        ensures { result ≡ self.now }
+    {
+        Node {
+            entry: self.entry,
+            cstate: self.cstate,
+            counts: self.counts,
+            ack: self.ack,
+            cold_start: self.cold_start,
+            listener: self.listener,
+            offset: self.offset,
+            measures: self.measures.copy(),
+        }
+    }
+
     pub(crate) fn phase(&self) -> Phase
         ensures { result ≡ self.now.phase }
     {

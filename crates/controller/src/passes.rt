@@ -1,14 +1,13 @@
-//! The three passes of a slot over a cluster's controllers.
+//! The three passes of a slot over a cluster's nodes.
 //!
 //! In a slot all controllers begin; then all plan, and what they send is put on the medium; then each
 //! takes what it hears. Between the first pass and the second [`is_loaded`] says for which nodes a
 //! message is to be chosen.
 //!
 //! The first pass and the third go over any run of node numbers, so that threads can share them: each
-//! thread has its own part of the controllers, of the incidents and of the outcomes, as
-//! `split_at_mut` gives them, and the number of its first node, and all share the list, the script
-//! and, in the third pass, the medium. Each part is to be passed once. The second pass goes over all
-//! controllers, since the medium takes one frame after another.
+//! thread has its own part of the seats, as `split_at_mut` gives them, and the number of its first
+//! node, and all share the list, the script and, in the third pass, the medium. Each part is to be
+//! passed once. The second pass goes over all seats, since the medium takes one frame after another.
 //!
 //! No pass takes memory.
 ghost use Rattle.std.specs.Prelude.{◌≡◌, ℕ, ◌<◌, ◌≤◌, ◌+◌, List, length, All};
@@ -23,75 +22,53 @@ ghost use Rattle.controller.specs.Passes.{StandAfter, HasBegun, HaveBegun, HaveP
 ghost use Rattle.controller.specs.Passes.{BeginsSlot, PlansSlot, PlansIn, PutsFrames, EndsSlot, IsPlannedFrom};
 ghost use Rattle.controller.specs.Passes.{ArePayloadsBefore, ArePayloadsFor, IsPayloadBefore, IsPayloadFor};
 ghost use Rattle.controller.specs.Passes.{KeepsClocks, payload_handed};
-ghost use Rattle.controller.specs.PlantWithin.{most_ahead, most_ahead_in, IsEnded, IsSeatOf, AreSeats};
+ghost use Rattle.controller.specs.PlantWithin.{most_ahead, most_ahead_in, IsEnded, IsControllerOf, AreSeats};
 ghost use Rattle.controller.specs.PlantWithin.{IsIncidentsOf, AreIncidents, IsFromWithin};
 
-use crate::controller::{Controller, Intent, Outcome};
+use crate::controller::{Controller, Intent};
+use crate::seat::Seat;
 use medium::{Medium, Outgoing};
-use ttp_world::{Channel, Chosen, Incidents, Medl, Script};
+use ttp_world::{Channel, Chosen, Medl, Script};
 
 // A controller begins the slot. What happens to its node in it is written in place.
-fn begin_one(
-    controller: &mut Controller,
-    incidents: &mut Incidents,
-    list: &Medl,
-    script: &Script,
-    k: u8,
-    slot: u32,
-)
+fn begin_one(seat: &mut Seat, list: &Medl, script: &Script, k: u8, slot: u32)
     requires node { k < length list.now.slots }
     requires on { length script.now.on ≡ length list.now.slots }
     requires slot { slot ≤ SLOT_LIMIT }
-    requires seat { IsSeatOf list.now IsEnded (most_ahead slot) k controller.old }
-    ensures incidents { IsIncidentsOf script.now slot k incidents.new }
-    ensures seat { IsSeatOf list.now IsBegun (most_ahead_in slot) k controller.new }
-    ensures begins { BeginsSlot list.now script.now slot k controller.old controller.new }
-    ensures payload { (chosen : Choice) → IsPayloadBefore script.now slot chosen k controller.old
-        → IsPayloadFor controller.new chosen }
+    requires controller { IsControllerOf list.now IsEnded (most_ahead slot) k seat.old.controller }
+    ensures incidents { IsIncidentsOf script.now slot k seat.new.incidents }
+    ensures controller { IsControllerOf list.now IsBegun (most_ahead_in slot) k seat.new.controller }
+    ensures begins { BeginsSlot list.now script.now slot k seat.old.controller seat.new.controller }
+    ensures payload { (chosen : Choice) → IsPayloadBefore script.now slot chosen k seat.old.controller
+        → IsPayloadFor seat.new.controller chosen }
 {
-    let mut last = controller.last_look_up();
-    *incidents = script.incidents_after(k, slot, &mut last);
-    controller.begin(list, script.is_on(k, slot), incidents.armed, incidents.jump);
-    controller.keep_look_up(last);
+    let mut last = seat.controller.last_look_up();
+    let incidents = script.incidents_after(k, slot, &mut last);
+    seat.controller.begin(list, script.is_on(k, slot), incidents.armed, incidents.jump);
+    seat.controller.keep_look_up(last);
+    seat.incidents = incidents;
 }
 
-/// The first pass, over the controllers of the nodes from `first` on: each begins the slot. What
-/// happens to each node in the slot is looked up in the script, here alone, and kept in `incidents`,
-/// which has a place for each controller.
+/// The first pass, over the seats of the nodes from `first` on: each begins the slot. What happens to
+/// each node in the slot is looked up in the script, here alone, and kept in its seat.
 ///
 /// It costs a look-up in the script for each node.
-pub fn begin_all(
-    controllers: &mut [Controller],
-    incidents: &mut [Incidents],
-    list: &Medl,
-    script: &Script,
-    first: u8,
-    slot: u32,
-)
+pub fn begin_all(seats: &mut [Seat], list: &Medl, script: &Script, first: u8, slot: u32)
     requires list { IsValid list.now }
     requires on { length script.now.on ≡ length list.now.slots }
     requires slot { slot ≤ SLOT_LIMIT }
-    requires nodes { first + length controllers.old ≤ length list.now.slots }
-    requires room { length incidents.old ≡ length controllers.old }
-    requires seats { AreSeats list.now IsEnded (most_ahead slot) first controllers.old }
-    ensures count { length controllers.new ≡ length controllers.old }
-    ensures room { length incidents.new ≡ length incidents.old }
-    ensures incidents { AreIncidents script.now slot first incidents.new }
-    ensures seats { AreSeats list.now IsBegun (most_ahead_in slot) first controllers.new }
-    ensures begin { (history : History) → length history ≡ slot → StandAfter script.now history first controllers.old
-        → HaveBegun (slot_after list.now script.now history) first controllers.new }
-    ensures payloads { (chosen : List Choice) → ArePayloadsBefore script.now slot chosen first controllers.old
-        → ArePayloadsFor chosen first controllers.new }
+    requires nodes { first + length seats.old ≤ length list.now.slots }
+    requires seats { AreSeats list.now IsEnded (most_ahead slot) first seats.old }
+    ensures count { length seats.new ≡ length seats.old }
+    ensures incidents { AreIncidents script.now slot first seats.new }
+    ensures seats { AreSeats list.now IsBegun (most_ahead_in slot) first seats.new }
+    ensures begin { (history : History) → length history ≡ slot → StandAfter script.now history first seats.old
+        → HaveBegun (slot_after list.now script.now history) first seats.new }
+    ensures payloads { (chosen : List Choice) → ArePayloadsBefore script.now slot chosen first seats.old
+        → ArePayloadsFor chosen first seats.new }
 {
-    for j in 0..controllers.len() {
-        begin_one(
-            &mut controllers[j],
-            &mut incidents[j],
-            list,
-            script,
-            first + j as u8,
-            slot,
-        );
+    for j in 0..seats.len() {
+        begin_one(&mut seats[j], list, script, first + j as u8, slot);
     }
 }
 
@@ -127,150 +104,113 @@ fn plan_one(controller: &mut Controller, list: &Medl, chosen: &Chosen) -> Option
 
 // A controller plans, and its frame is put on the medium, if it sends one.
 fn send_one(
-    controller: &mut Controller,
+    seat: &mut Seat,
     medium: &mut Medium,
-    incidents: &Incidents,
     list: &Medl,
     script: &Script,
     k: u8,
     chosen: &Chosen,
 )
     requires node { k < length list.now.slots }
-    requires seat { IsSeatOf list.now IsBegun (most_ahead_in medium.old.slot) k controller.old }
-    requires payload { IsPayloadFor controller.old chosen.now }
-    requires incidents { IsIncidentsOf script.now medium.old.slot k incidents.now }
-    ensures planned { IsPlannedFrom controller.old controller.new }
-    ensures plans { PlansIn list.now script.now k chosen.now controller.old controller.new }
-    ensures puts { PutsFrames list.now script.now k controller.old chosen.now medium.old medium.new }
-    ensures clocks { KeepsClocks script.now k controller.old medium.old medium.new }
+    requires controller { IsControllerOf list.now IsBegun (most_ahead_in medium.old.slot) k seat.old.controller }
+    requires payload { IsPayloadFor seat.old.controller chosen.now }
+    requires incidents { IsIncidentsOf script.now medium.old.slot k seat.old.incidents }
+    ensures incidents { seat.new.incidents ≡ seat.old.incidents }
+    ensures planned { IsPlannedFrom seat.old.controller seat.new.controller }
+    ensures plans { PlansIn list.now script.now k chosen.now seat.old.controller seat.new.controller }
+    ensures puts { PutsFrames list.now script.now k seat.old.controller chosen.now medium.old medium.new }
+    ensures clocks { KeepsClocks script.now k seat.old.controller medium.old medium.new }
 {
-    if let Some(frame) = plan_one(controller, list, chosen) {
-        medium.put(script, incidents, k, &frame, controller.clock());
+    if let Some(frame) = plan_one(&mut seat.controller, list, chosen) {
+        medium.put(script, &seat.incidents, k, &frame, seat.controller.clock());
     }
 }
 
-/// The second pass, over all controllers: each plans its frame, and those that are sent are put on
-/// the medium. Where [`is_loaded`] says so, a node's message is to have as much payload as the list
-/// gives the node; what is there for the others is not read.
+/// The second pass, over all seats: each plans its frame, and those that are sent are put on the
+/// medium. Where [`is_loaded`] says so, a node's message is to have as much payload as the list gives
+/// the node; what is there for the others is not read.
 ///
 /// It costs the making of each frame, with its check word, and what it costs to put it.
 pub fn plan_all(
-    controllers: &mut [Controller],
+    seats: &mut [Seat],
     medium: &mut Medium,
-    incidents: &[Incidents],
     list: &Medl,
     script: &Script,
     slot: u32,
     chosen: &[Chosen],
 )
     requires list { IsValid list.now }
-    requires nodes { length controllers.old ≡ length list.now.slots }
-    requires seats { AreSeats list.now IsBegun (most_ahead_in slot) 0 controllers.old }
-    requires looked_up { length incidents.now ≡ length list.now.slots }
-    requires incidents { AreIncidents script.now slot 0 incidents.now }
+    requires nodes { length seats.old ≡ length list.now.slots }
+    requires seats { AreSeats list.now IsBegun (most_ahead_in slot) 0 seats.old }
+    requires incidents { AreIncidents script.now slot 0 seats.old }
     requires count { length chosen.now ≡ length list.now.slots }
-    requires chosen { ArePayloadsFor chosen.now 0 controllers.old }
-    ensures count { length controllers.new ≡ length controllers.old }
-    ensures seats { AreSeats list.now IsPlanned (most_ahead_in slot) 0 controllers.new }
+    requires chosen { ArePayloadsFor chosen.now 0 seats.old }
+    ensures count { length seats.new ≡ length seats.old }
+    ensures seats { AreSeats list.now IsPlanned (most_ahead_in slot) 0 seats.new }
+    ensures incidents { AreIncidents script.now slot 0 seats.new }
     ensures slot { medium.new.slot ≡ slot }
     ensures medium { IsFromWithin medium.new script.now (most_ahead_in slot) }
-    ensures plan { (history : History) → HaveBegun (slot_after list.now script.now history) 0 controllers.old
-        → HavePlanned (slot_after list.now script.now history) chosen.now 0 controllers.new }
+    ensures plan { (history : History) → HaveBegun (slot_after list.now script.now history) 0 seats.old
+        → HavePlanned (slot_after list.now script.now history) chosen.now 0 seats.new }
     ensures carries { (history : History) → length history ≡ slot
-        → HaveBegun (slot_after list.now script.now history) 0 controllers.old
+        → HaveBegun (slot_after list.now script.now history) 0 seats.old
         → Carries (slot_after list.now script.now history)
         (frames_in (slot_after list.now script.now history) chosen.now) medium.new }
 {
     medium.begin(slot);
-    for k in 0..controllers.len() {
-        send_one(
-            &mut controllers[k],
-            medium,
-            &incidents[k],
-            list,
-            script,
-            k as u8,
-            &chosen[k],
-        );
+    for k in 0..seats.len() {
+        send_one(&mut seats[k], medium, list, script, k as u8, &chosen[k]);
     }
 }
 
 // A controller takes what its node hears.
-fn take_one(
-    controller: &mut Controller,
-    outcome: &mut Outcome,
-    incidents: &Incidents,
-    medium: &Medium,
-    list: &Medl,
-    script: &Script,
-    k: u8,
-)
+fn take_one(seat: &mut Seat, medium: &Medium, list: &Medl, script: &Script, k: u8)
     requires list { IsValid list.now }
     requires node { k < length list.now.slots }
     requires drifts { length script.now.drift ≡ length list.now.slots }
     requires drift { All (IsWithinSpan DRIFT_LIMIT) script.now.drift }
     requires slot { medium.now.slot < SLOT_LIMIT }
     requires medium { IsFromWithin medium.now script.now (most_ahead_in medium.now.slot) }
-    requires incidents { IsIncidentsOf script.now medium.now.slot k incidents.now }
-    requires seat { IsSeatOf list.now IsPlanned (most_ahead_in medium.now.slot) k controller.old }
-    ensures seat { IsSeatOf list.now IsEnded (most_ahead (medium.now.slot + 1)) k controller.new }
-    ensures ends { EndsSlot list.now script.now medium.now k controller.old controller.new outcome.new }
+    requires incidents { IsIncidentsOf script.now medium.now.slot k seat.old.incidents }
+    requires controller { IsControllerOf list.now IsPlanned (most_ahead_in medium.now.slot) k seat.old.controller }
+    ensures controller { IsControllerOf list.now IsEnded (most_ahead (medium.now.slot + 1)) k seat.new.controller }
+    ensures ends { EndsSlot list.now script.now medium.now k seat.old.controller seat.new.controller
+        seat.new.outcome }
 {
-    let a = medium.heard(incidents, Channel::A);
-    let b = medium.heard(incidents, Channel::B);
-    controller.take(
+    let a = medium.heard(&seat.incidents, Channel::A);
+    let b = medium.heard(&seat.incidents, Channel::B);
+    seat.controller.take(
         list,
         &a,
         &b,
-        incidents.error,
+        seat.incidents.error,
         *script.drift.get(k as usize),
-        outcome,
+        &mut seat.outcome,
     );
 }
 
-/// The third pass, over the controllers of the nodes from `first` on: each takes what its node hears.
-/// `incidents` are those that the first pass kept of these nodes, and `outcomes`, which has a place
-/// for each controller, gets what the slot leaves for their hosts.
+/// The third pass, over the seats of the nodes from `first` on: each takes what its node hears, and
+/// keeps what the slot leaves for its host.
 ///
 /// It costs at most two check words for each channel that a node judges.
-pub fn take_all(
-    controllers: &mut [Controller],
-    outcomes: &mut [Outcome],
-    incidents: &[Incidents],
-    medium: &Medium,
-    list: &Medl,
-    script: &Script,
-    first: u8,
-)
+pub fn take_all(seats: &mut [Seat], medium: &Medium, list: &Medl, script: &Script, first: u8)
     requires list { IsValid list.now }
-    requires nodes { first + length controllers.old ≤ length list.now.slots }
+    requires nodes { first + length seats.old ≤ length list.now.slots }
     requires drifts { length script.now.drift ≡ length list.now.slots }
     requires drift { All (IsWithinSpan DRIFT_LIMIT) script.now.drift }
     requires slot { medium.now.slot < SLOT_LIMIT }
     requires medium { IsFromWithin medium.now script.now (most_ahead_in medium.now.slot) }
-    requires looked_up { length incidents.now ≡ length controllers.old }
-    requires incidents { AreIncidents script.now medium.now.slot first incidents.now }
-    requires room { length outcomes.old ≡ length controllers.old }
-    requires seats { AreSeats list.now IsPlanned (most_ahead_in medium.now.slot) first controllers.old }
-    ensures count { length controllers.new ≡ length controllers.old }
-    ensures room { length outcomes.new ≡ length outcomes.old }
-    ensures seats { AreSeats list.now IsEnded (most_ahead (medium.now.slot + 1)) first controllers.new }
+    requires incidents { AreIncidents script.now medium.now.slot first seats.old }
+    requires seats { AreSeats list.now IsPlanned (most_ahead_in medium.now.slot) first seats.old }
+    ensures count { length seats.new ≡ length seats.old }
+    ensures seats { AreSeats list.now IsEnded (most_ahead (medium.now.slot + 1)) first seats.new }
     ensures end { (history : History) (chosen : List Choice)
-        → HavePlanned (slot_after list.now script.now history) chosen first controllers.old
+        → HavePlanned (slot_after list.now script.now history) chosen first seats.old
         → Carries (slot_after list.now script.now history)
         (frames_in (slot_after list.now script.now history) chosen) medium.now
-        → HaveEnded list.now script.now history chosen first controllers.new outcomes.new }
+        → HaveEnded list.now script.now history chosen first seats.new }
 {
-    for j in 0..controllers.len() {
-        let k = first + j as u8;
-        take_one(
-            &mut controllers[j],
-            &mut outcomes[j],
-            &incidents[j],
-            medium,
-            list,
-            script,
-            k,
-        );
+    for j in 0..seats.len() {
+        take_one(&mut seats[j], medium, list, script, first + j as u8);
     }
 }

@@ -9,7 +9,7 @@ ghost use Rattle.slot_clock.specs.StandsFor.{StandsFor};
 ghost use Rattle.ttp_frame.specs.FrameBytes.{bytes_of};
 ghost use Rattle.ttp_frame.specs.Shape.{IsShape, HaveRoom};
 ghost use Rattle.controller.specs.Limits.{intent_by, loaded_length, message_carried};
-ghost use Rattle.controller.specs.SeatWithin.{IsPossible};
+ghost use Rattle.controller.specs.ControllerWithin.{IsPossible};
 ghost use Rattle.controller.specs.Sending.{frame_at};
 ghost use Rattle.controller.specs.StandsFor.{frames_planned, payload_planned};
 ghost use Rattle.controller.specs.Within.{IsWithin};

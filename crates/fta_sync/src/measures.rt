@@ -45,6 +45,19 @@ impl Measures {
         }
     }
 
+    /// The same notes once more.
+    pub fn copy(&self) -> Measures
+        ensures { result ≡ self.now }
+    {
+        Measures {
+            newest: self.newest,
+            second: self.second,
+            third: self.third,
+            fourth: self.fourth,
+            count: self.count,
+        }
+    }
+
     /// Notes one deviation more.
     pub fn note(&mut self, deviation: i64)
         requires { IsDeviation deviation }

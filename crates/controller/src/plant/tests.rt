@@ -106,6 +106,9 @@ fn a_cluster_starts(rt: HostRuntime) -> Result<(), Fail> {
     assert!(rt; !is_loaded(&Controller::new(alloc, &list, 0)?));
     assert!(rt; plant.delivered(1).is_none());
     assert!(rt; plant.status(3).words == [0, 0, 0, 0]);
+    let mut copy = Plant::new(alloc, &list)?;
+    copy.copy_from(&plant);
+    assert!(rt; copy.node(2) == plant.node(2) && copy.delivered(2).is_none());
     // Node 0 waits for two rounds, then starts, and node 1 sends the first frame after it.
     for slots in 1..10u32 {
         assert!(rt;

@@ -18,7 +18,7 @@ lend_fetchers-requires-clause-rings g c =
     let ends = c.args.ends.items in
     let count : length ends ≡ length c.args.list.now.slots =
     same-count ring_of (λ (p : PortState). p.outgoing) ends c.args.ports.now c.requires.ports ∙ c.requires.count in
-    subst (MayLend c.args.controllers.now) (sym c.as_mut_slice.ensures.value) (may_lend count c.requires.may.begun)
+    subst (MayLend c.args.seats.now) (sym c.as_mut_slice.ensures.value) (may_lend count c.requires.may.begun)
 
 pub write_and_fetch-ends-requires-clause-writes : goal.write_and_fetch-ends-requires-clause-writes
 write_and_fetch-ends-requires-clause-writes g c κs within =

@@ -1,7 +1,10 @@
 use Rattle.std.proofs.Common.{◌≡◌, ◌<◌, [], length, get_or, refl, sym, ap, ◌∙◌, arith}
+use Rattle.std.proofs.Math.ListN.{get_or-map}
+use Rattle.std.proofs.lemmas.List.{length-map}
 use Rattle.std.proofs.lemmas.Option.{slice_get_read}
 use Rattle.host_port.specs.Rings.{PortState, IsControllerEndOf}
-use Rattle.controller.specs.declared.controller.Outcome.{Outcome}
+use Rattle.controller.specs.declared.seat.Seat.{Seat}
+use Rattle.controller.specs.PlantStands.{outcomes_of}
 use Rattle.cluster_run.specs.Ending.{handed_on, number_handed}
 use Rattle.cluster_run.specs.Ports.{rings_of, end_at}
 use Rattle.cluster_run.proofs.HandingOn.{handed_more}
@@ -30,22 +33,23 @@ hand_on-requires-clause-room g c κs within =
     omega (arith, same-count rings_of incoming old c.args.ports.now c.requires.ports, c.loop-j-test.true) in
     let may = c.requires.may in
     let ended = c.take_all.ensures.end may.history may.chosen may.planned may.carries in
-    let outcomes = c.take_all.new.outcomes in
-    let outcome_near : j < length outcomes =
-    omega (arith, c.take_all.ensures.room, c.requires.room, c.requires.ports_count, c.loop-j-test.true) in
-    let there = slice_get_read outcomes (length outcomes) j c.index-outcomes-j.result refl outcome_near
-    c.index-outcomes-j.is in
-    let left = ended.left.each j c.index-outcomes-j.result there in
+    let seats = c.take_all.new.seats in
+    let seat_near : j < length seats =
+    omega (arith, c.take_all.ensures.count, c.requires.ports_count, c.loop-j-test.true) in
+    let there = slice_get_read seats (length seats) j c.index-seats-j.result refl seat_near c.index-seats-j.is in
+    let left = ended.left.each j c.index-seats-j.result there in
     let end_is : get_or ends j c.index-ends-j.result ≡ end_at old j =
     at_any ends j c.index-ends-j.result [] near ∙ c.loop-j.invariant.rest j (omega arith) in
-    let delivered_is = ap (λ (o : Outcome). o.delivered) (sym c.index-outcomes-j.is) ∙ left.delivered in
+    let delivered_is = ap (λ (s : Seat). s.outcome.delivered) (sym c.index-seats-j.is) ∙ left.delivered in
     rw (end_is, delivered_is) (may.hands_on j old_near)
 
 pub loop-j-preserved : goal.loop-j-preserved
 loop-j-preserved g c =
     let j = c.loop-j.j in
     let ends = c.loop-j.ends in
+    let seats = c.take_all.new.seats in
     let incoming = λ (p : PortState). p.incoming in
+    let left = λ (s : Seat). s.outcome in
     let own = c.loop-j.invariant.own in
     let near : j < length ends = omega (
       arith,
@@ -56,15 +60,22 @@ loop-j-preserved g c =
     in
     let number_near : j < length c.loop-j.delivered =
     omega (arith, c.loop-j.auto.delivered, c.requires.numbers, c.requires.ports_count, c.loop-j-test.true) in
-    let outcome_near : j < length c.take_all.new.outcomes =
-    omega (arith, c.take_all.ensures.room, c.requires.room, c.requires.ports_count, c.loop-j-test.true) in
+    let outcome_near : j < length (outcomes_of seats) =
+    omega (
+      arith,
+      length-map seats left,
+      c.take_all.ensures.count,
+      c.requires.ports_count,
+      c.loop-j-test.true,
+    ) in
+    let outcome_is = ap left c.index-seats-j.is ∙ sym (get_or-map left seats j c.index-seats-j.result) in
     let was : IsControllerEndOf c.index-ports-j.result c.index-ends-j.result =
     same_at rings_of incoming ends c.args.ports.now j c.index-ends-j.result c.index-ports-j.result own near
     c.index-ends-j.is c.index-ports-j.is in
     let is = c.hand_on.ensures.end
-    ∙ (λ t. handed_on (sym c.index-ends-j.is t) (sym c.index-outcomes-j.is t)) in
+    ∙ (λ t. handed_on (sym c.index-ends-j.is t) (sym c.index-seats-j.is t).outcome) in
     let number = c.hand_on.ensures.number
-    ∙ (λ t. number_handed (sym c.index-ends-j.is t) (sym c.index-outcomes-j.is t).delivered) in
-    handed_more c.index-ends-j.result c.hand_on.new.end c.index-outcomes-j.result c.hand_on.result
-    c.index-ports-j.result c.loop-j.invariant near number_near outcome_near c.index-ends-j.is c.index-outcomes-j.is was
+    ∙ (λ t. number_handed (sym c.index-ends-j.is t) (sym c.index-seats-j.is t).outcome.delivered) in
+    handed_more c.index-ends-j.result c.hand_on.new.end c.index-seats-j.result.outcome c.hand_on.result
+    c.index-ports-j.result c.loop-j.invariant near number_near outcome_near c.index-ends-j.is outcome_is was
     c.hand_on.ensures.own is number

@@ -1,5 +1,6 @@
+use Rattle.controller.specs.PlantStands.{outcomes_of}
 use Rattle.cluster_run.proofs.HandingOn.{AreHandedOn}
 use Rattle.cluster_run.proofs.ending.end_part.Given as goal
 
 abbrev pub invariant-loop-j : goal.invariant-loop-j
-invariant-loop-j g l = AreHandedOn l.ports l.outcomes l.j l.fn.ends l.ends l.delivered
+invariant-loop-j g l = AreHandedOn l.ports (outcomes_of l.seats) l.j l.fn.ends l.ends l.delivered

@@ -1,6 +1,6 @@
 use Rattle.std.proofs.Common.{◌<◌, length, None, refl, subst, sym, ap, ◌∙◌, arith}
 use Rattle.std.specs.Prelude.{IsSome}
-use Rattle.std.proofs.lemmas.Option.{slice_get_read}
+use Rattle.std.proofs.lemmas.Option.{slice_get_read, slice_get-get_or}
 use Rattle.ttp_world.specs.World.{is_loaded}
 use Rattle.host_port.specs.Rings.{PortState}
 use Rattle.controller.proofs.Parts.{each-of}
@@ -32,8 +32,8 @@ fetch_for-requires-clause-ring g c κs within = λ loaded.
       same-count ring_of (λ (p : PortState). p.outgoing) ends c.args.ports.now c.loop-k.invariant.own,
       c.loop-k-test.true,
     ) in
-    let seat = slice_get_read c.args.controllers.now (length c.args.controllers.now) k c.index-controllers-k.result refl
-    (omega (arith, c.requires.controllers, c.loop-k-test.true)) c.index-controllers-k.is in
+    let seat = slice_get-get_or c.args.seats.now k c.index-seats-k.result
+    (omega (arith, c.requires.seats, c.loop-k-test.true)) in
     let is = sym (c.is_loaded-loaded.ensures may.slot k (each-of may.begun k seat)) ∙ loaded in
     subst IsSome
     (sym (c.loop-k.invariant.ends_rest k (omega arith)) ∙ at_any ends k None c.index-ends-k.result within)
@@ -58,8 +58,8 @@ fetch_for-requires-clause-may g c κs within =
     ) in
     let port = slice_get_read ports (length ports) k c.index-ports-k.result refl c.loop-k-test.true
     c.index-ports-k.is in
-    let seat = slice_get_read c.args.controllers.now (length c.args.controllers.now) k c.index-controllers-k.result refl
-    (omega (arith, c.requires.controllers, c.loop-k-test.true)) c.index-controllers-k.is in
+    let seat = slice_get-get_or c.args.seats.now k c.index-seats-k.result
+    (omega (arith, c.requires.seats, c.loop-k-test.true)) in
     let loaded = c.is_loaded-loaded.ensures may.lend.slot k (each-of may.lend.begun k seat) in
     let end = sym (c.loop-k.invariant.ends_rest k (omega arith)) ∙ at_any ends k None c.index-ends-k.result within in
     rw (← plan_there list k c.get.result.now c.get.ensures, loaded)
@@ -78,8 +78,8 @@ loop-k-preserved g c =
     ) in
     let chosen_near : k < length c.loop-k.chosen =
     omega (arith, c.loop-k.invariant.chosen_count, c.requires.chosen_count, c.loop-k-test.true) in
-    let seat = slice_get_read c.args.controllers.now (length c.args.controllers.now) k c.index-controllers-k.result refl
-    (omega (arith, c.requires.controllers, c.loop-k-test.true)) c.index-controllers-k.is in
+    let seat = slice_get-get_or c.args.seats.now k c.index-seats-k.result
+    (omega (arith, c.requires.seats, c.loop-k-test.true)) in
     fetched_more c.is_loaded-loaded.result c.get.result.now.payload c.index-ends-k.result c.fetch_for.new.end
     c.index-chosen-k.result c.fetch_for.new.chosen c.loop-k.invariant end_near chosen_near c.index-ends-k.is
     c.index-chosen-k.is (ap (λ p. p.payload) (plan_there c.args.list.now k c.get.result.now c.get.ensures))

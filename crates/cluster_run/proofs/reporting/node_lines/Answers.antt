@@ -1,10 +1,10 @@
 use Rattle.std.proofs.Common.{◌≡◌, ◌∷◌, ◌++◌, [], None, length, get_or, refl, sym, ◌∙◌, subst, arith, zero-add}
-use Rattle.std.proofs.lemmas.Option.{same_Some, slice_get_read}
+use Rattle.std.proofs.lemmas.Option.{same_Some, slice_get-get_or}
 use Rattle.ttp_base.proofs.Below.{map-next}
 use Rattle.controller.specs.Passes.{StandsAfter}
-use Rattle.controller.specs.PlantWithin.{IsEnded, IsSeatOf}
+use Rattle.controller.specs.PlantWithin.{IsEnded, IsControllerOf}
 use Rattle.controller.specs.StandsFor.{ShowsState}
-use Rattle.controller.specs.Turn.{Seat}
+use Rattle.controller.specs.declared.seat.Seat.{Seat}
 use Rattle.host_port.specs.declared.report.NodeLine.{NodeLine}
 use Rattle.cluster_run.specs.Report.{node_shown}
 use Rattle.cluster_run.proofs.NodeLines.{line_shown}
@@ -13,27 +13,26 @@ use Rattle.cluster_run.proofs.reporting.node_lines.Goals as goal
 pub loop-k-preserved : goal.loop-k-preserved
 loop-k-preserved c =
     let k = c.loop-k.k in
-    let controllers = c.args.controllers.now in
-    let seat = c.index-controllers-k.result in
-    let seat_again = c.index-controllers-k-in-loop-k.result in
+    let seats = c.args.seats.now in
+    let seat = get_or seats k c.index-seats-k.result in
+    let seat_again = get_or seats k c.index-seats-k-in-loop-k.result in
     let number = get_or c.args.delivered.now k None in
     let line : NodeLine = record { state = c.state-state.result; message = c.message_shown-message.result } in
-    let there = slice_get_read controllers (length controllers) k seat refl c.loop-k-test.true
-    c.index-controllers-k.is in
+    let there = slice_get-get_or seats k c.index-seats-k.result c.loop-k-test.true in
     let same : seat_again ≡ seat =
-    same_Some seat_again seat (sym (slice_get_read controllers (length controllers) k seat_again refl
-    c.loop-k-test.true c.index-controllers-k-in-loop-k.is) ∙ there) in
+    same_Some seat_again seat
+    (sym (slice_get-get_or seats k c.index-seats-k-in-loop-k.result c.loop-k-test.true) ∙ there) in
     record {
       count = omega (arith, c.push_reserved.ensures.len, c.loop-k.invariant.count);
       room = omega (arith, c.push_reserved.ensures.capacity, c.loop-k.invariant.room);
       shown = λ list script row before so.
           let is : line ≡ node_shown list script row before k =
-          line_shown list script row before so.bound k seat number line c.state.result
-          (subst (λ j. IsSeatOf list IsEnded so.bound j seat) (zero-add k) (so.seats_are.each k seat there))
-          (subst (λ j. StandsAfter script (row ∷ before) j seat) (zero-add k) (so.stand.each k seat there))
+          line_shown list script row before so.bound k seat.controller number line c.state.result
+          (subst (λ j. IsControllerOf list IsEnded so.bound j seat.controller) (zero-add k) (so.seats_are.each k seat there))
+          (subst (λ j. StandsAfter script (row ∷ before) j seat.controller) (zero-add k) (so.stand.each k seat there))
           (so.numbers k c.loop-k-test.true)
           c.state-state.ensures.shows
-          (subst (λ (x : Seat). ShowsState x c.state.result) same c.state.ensures.shows)
+          (subst (λ (x : Seat). ShowsState x.controller c.state.result) same c.state.ensures.shows)
           c.message_shown-message.ensures in
           c.push_reserved.ensures.items
           ∙ (λ i. c.loop-k.invariant.shown list script row before so i ++ is i ∷ [])

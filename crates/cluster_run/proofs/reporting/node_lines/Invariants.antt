@@ -10,8 +10,8 @@ use Rattle.cluster_run.proofs.reporting.node_lines.Given as goal
 abbrev pub invariant-loop-k : goal.invariant-loop-k
 invariant-loop-k l = record {
   count : vec_len l.lines ≡ l.k;
-  room : length l.controllers ≤ vec_capacity l.lines;
+  room : length l.seats ≤ vec_capacity l.lines;
   shown : (list : Medl) (script : Script) (row : List Entry) (before : History)
-      → HaveEndedSlot list script row before l.controllers l.delivered
+      → HaveEndedSlot list script row before l.seats l.delivered
       → l.lines.items ≡ map (node_shown list script row before) (below l.k);
 }

@@ -2,7 +2,7 @@ use Rattle.std.proofs.Common.{◌≡◌, ◌<◌, ◌∷◌, [], None, length, m
 use Rattle.std.proofs.Common.{below_more, arith}
 use Rattle.std.specs.Prelude.{IsSome}
 use Rattle.std.proofs.lemmas.List.{get_or_append_left, get_or_push}
-use Rattle.std.proofs.lemmas.Option.{slice_get_read}
+use Rattle.std.proofs.lemmas.Option.{slice_get-get_or}
 use Rattle.ttp_world.specs.World.{is_loaded}
 use Rattle.host_port.proofs.ReaderLists.{set_back}
 use Rattle.host_port.specs.Rings.{PortState}
@@ -28,8 +28,8 @@ lend_one-requires-clause-ring c = λ loaded.
     let ends = c.args.ends.now in
     let count = same-count ring_of (λ (p : PortState). p.outgoing) ends c.args.ports.now c.requires.ports in
     let within : k < length ends = omega (arith, count, c.loop-k-test.true) in
-    let seat = slice_get_read c.args.controllers.now (length c.args.controllers.now) k c.index-controllers-k.result refl
-    (omega (arith, c.requires.controllers, c.loop-k-test.true)) c.index-controllers-k.is in
+    let seat = slice_get-get_or c.args.seats.now k c.index-seats-k.result
+    (omega (arith, c.requires.seats, c.loop-k-test.true)) in
     let is = sym (c.is_loaded-loaded.ensures c.requires.rings.slot k (each-of c.requires.rings.begun k seat))
     ∙ loaded in
     subst IsSome
@@ -45,8 +45,8 @@ loop-k-preserved c =
     let new = c.in_ok-lend_one.field-0 in
     let count = same-count ring_of (λ (p : PortState). p.outgoing) ends c.args.ports.now c.requires.ports in
     let within : k < length ends = omega (arith, count, c.loop-k-test.true) in
-    let seat = slice_get_read c.args.controllers.now (length c.args.controllers.now) k c.index-controllers-k.result refl
-    (omega (arith, c.requires.controllers, c.loop-k-test.true)) c.index-controllers-k.is in
+    let seat = slice_get-get_or c.args.seats.now k c.index-seats-k.result
+    (omega (arith, c.requires.seats, c.loop-k-test.true)) in
     let end = ap (λ xs. get_or xs k c.index-ends-k.result) c.loop-k.invariant.ends
     ∙ at_any ends k c.index-ends-k.result None within in
     record {

@@ -10,6 +10,6 @@ invariant-loop-k l = record {
   ends : l.ends ≡ l.fn.ends;
   count : vec_len l.fetchers ≡ l.k;
   room : vec_capacity l.fetchers ≡ length l.ports;
-  lent : (s : BegunSlot) → HaveBegun s 0 l.controllers → (j : ℕ) → j < l.k
+  lent : (s : BegunSlot) → HaveBegun s 0 l.seats → (j : ℕ) → j < l.k
       → get_or l.fetchers.items j None ≡ fetcher_lent (is_loaded s j) (host_at l.fn.ends j);
 }

@@ -16,9 +16,7 @@ end_and_read-requires-clause-ready g c κs within =
       c.deref_mut.ensures.value,
       c.deref_mut-2.ensures.value,
       c.deref_mut-3.ensures.value,
-      c.deref_mut-4.ensures.value,
       c.deref.ensures.value,
-      c.deref-2.ensures.value,
     )
     (part_ready c.args.list.now c.args.script.now c.args.slot c.args.nodes.now c.requires.list c.requires.script
     c.requires.slot c.requires.nodes c.requires.may)
@@ -41,10 +39,8 @@ end_and_read-requires-clause-left g c κs within =
 pub returns-clause-ends : goal.returns-clause-ends
 returns-clause-ends g c = λ numbers planned.
     let nodes = c.args.nodes.now in
-    let cs = with_items_is nodes.controllers c.end_and_read.new.controllers
-    (omega (arith, c.end_and_read.auto.controllers, c.deref_mut.ensures.len)) in
-    let os = with_items_is nodes.outcomes c.end_and_read.new.outcomes
-    (omega (arith, c.end_and_read.auto.outcomes, c.deref_mut-2.ensures.len)) in
-    rw (cs, os)
+    let seats = with_items_is nodes.seats c.end_and_read.new.seats
+    (omega (arith, c.end_and_read.auto.seats, c.deref_mut.ensures.len)) in
+    rw seats
     (c.end_and_read.ensures.ended.end (world c.args.list.now c.args.script.now numbers) nodes.chosen.items
     (rw c.deref_mut.ensures.value planned.planned) planned.carries)

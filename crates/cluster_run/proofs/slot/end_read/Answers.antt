@@ -2,6 +2,7 @@ use Rattle.std.proofs.Common.{◌<◌, length, map, All, sym, ap, subst, ◌∙�
 use Rattle.std.proofs.lemmas.List.{with_items_is}
 use Rattle.ttp_world.specs.declared.host_lines.HostRead.{HostRead}
 use Rattle.ttp_world.specs.Script.{reads_in}
+use Rattle.controller.specs.PlantStands.{outcomes_of}
 use Rattle.host_port.specs.Rings.{PortState}
 use Rattle.cluster_run.specs.Ending.{HaveHandedOn}
 use Rattle.cluster_run.specs.Ports.{rings_of}
@@ -19,12 +20,10 @@ end-requires-clause-nodes g c κs within =
     (omega (arith, ap length c.lend_readers.ensures.ends, c.deref_mut.ensures.len))
     ∙ c.lend_readers.ensures.ends ∙ c.deref_mut.ensures.value in
     record {
-      controllers = are.controllers;
+      seats_count = are.seats_count;
       seats = are.seats;
-      incidents_count = are.incidents_count;
       incidents = are.incidents;
       chosen = are.chosen;
-      outcomes = are.outcomes;
       delivered = are.delivered;
       ports_count = are.ports_count;
       ports = record {
@@ -113,7 +112,7 @@ returns-clause-tells g c =
       first_count = c.in_ok-readers.ensures.own.count ∙ ap length c.deref.ensures.value ∙ c.requires.nodes.ports_count;
       last_count = c.end.ensures.own.count ∙ c.end.ensures.nodes.ports_count;
       handed_are =
-          subst (λ es. HaveHandedOn done.outcomes.items es handed done.delivered.items) lent c.end.ensures.handed;
+          subst (λ es. HaveHandedOn (outcomes_of done.seats.items) es handed done.delivered.items) lent c.end.ensures.handed;
       lent =
           subst (λ es. AreReadersLent reads es c.in_ok-readers.readers.items) c.deref_mut.ensures.value
           c.in_ok-readers.ensures.lent;

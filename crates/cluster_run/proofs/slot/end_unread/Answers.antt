@@ -10,9 +10,7 @@ end_half-requires-clause-ready g c κs within =
       c.deref_mut.ensures.value,
       c.deref_mut-2.ensures.value,
       c.deref_mut-3.ensures.value,
-      c.deref_mut-4.ensures.value,
       c.deref.ensures.value,
-      c.deref-2.ensures.value,
     )
     (part_ready c.args.list.now c.args.script.now c.args.slot c.args.nodes.now c.requires.list c.requires.script
     c.requires.slot c.requires.nodes c.requires.may)
@@ -20,10 +18,8 @@ end_half-requires-clause-ready g c κs within =
 pub returns-clause-ends : goal.returns-clause-ends
 returns-clause-ends g c = λ numbers planned.
     let nodes = c.args.nodes.now in
-    let cs = with_items_is nodes.controllers c.end_half.new.controllers
-    (omega (arith, c.end_half.auto.controllers, c.deref_mut.ensures.len)) in
-    let os = with_items_is nodes.outcomes c.end_half.new.outcomes
-    (omega (arith, c.end_half.auto.outcomes, c.deref_mut-2.ensures.len)) in
-    rw (cs, os)
+    let seats = with_items_is nodes.seats c.end_half.new.seats
+    (omega (arith, c.end_half.auto.seats, c.deref_mut.ensures.len)) in
+    rw seats
     (c.end_half.ensures.ended.end (world c.args.list.now c.args.script.now numbers) nodes.chosen.items
     (rw c.deref_mut.ensures.value planned.planned) planned.carries)

@@ -20,7 +20,7 @@ choose-requires-clause-may g c κs within =
     let numbers = c.requires.stands.numbers in
     let at = c.requires.stands.at in
     let s = next_slot list script numbers in
-    let begun = with_items_is nodes.controllers c.begin_all.new.controllers
+    let begun = with_items_is nodes.seats c.begin_all.new.seats
     (omega (arith, c.begin_all.ensures.count, c.deref_mut.ensures.len)) in
     let stand = subst (StandAfter script (world list script numbers) 0) (sym c.deref_mut.ensures.value)
     at.stands.seats in
@@ -37,16 +37,16 @@ choose-requires-clause-may g c κs within =
 
 pub plan_all-requires-clause-seats : goal.plan_all-requires-clause-seats
 plan_all-requires-clause-seats g c =
-    let begun = with_items_is c.args.nodes.now.controllers c.begin_all.new.controllers
+    let begun = with_items_is c.args.nodes.now.seats c.begin_all.new.seats
     (omega (arith, c.begin_all.ensures.count, c.deref_mut.ensures.len)) in
-    subst (AreSeats c.args.list.now IsBegun (most_ahead_in c.args.slot) 0) (sym (c.deref_mut-4.ensures.value ∙ begun))
+    subst (AreSeats c.args.list.now IsBegun (most_ahead_in c.args.slot) 0) (sym (c.deref_mut-3.ensures.value ∙ begun))
     c.begin_all.ensures.seats
 
 pub plan_all-requires-clause-incidents : goal.plan_all-requires-clause-incidents
 plan_all-requires-clause-incidents g c =
-    let known = with_items_is c.args.nodes.now.incidents c.begin_all.new.incidents
-    (omega (arith, c.begin_all.ensures.room, c.deref_mut-2.ensures.len)) in
-    subst (AreIncidents c.args.script.now c.args.slot 0) (sym (c.deref-3.ensures.value ∙ known))
+    let begun = with_items_is c.args.nodes.now.seats c.begin_all.new.seats
+    (omega (arith, c.begin_all.ensures.count, c.deref_mut.ensures.len)) in
+    subst (AreIncidents c.args.script.now c.args.slot 0) (sym (c.deref_mut-3.ensures.value ∙ begun))
     c.begin_all.ensures.incidents
 
 pub plan_all-requires-clause-chosen : goal.plan_all-requires-clause-chosen
@@ -57,7 +57,7 @@ plan_all-requires-clause-chosen g c =
     let numbers = c.requires.stands.numbers in
     let at = c.requires.stands.at in
     let s = next_slot list script numbers in
-    let begun = with_items_is nodes.controllers c.begin_all.new.controllers
+    let begun = with_items_is nodes.seats c.begin_all.new.seats
     (omega (arith, c.begin_all.ensures.count, c.deref_mut.ensures.len)) in
     let stand = subst (StandAfter script (world list script numbers) 0) (sym c.deref_mut.ensures.value)
     at.stands.seats in
@@ -69,17 +69,17 @@ plan_all-requires-clause-chosen g c =
       written = at.stands.written;
     } in
     let told = with_items_is nodes.chosen c.choose.new.chosen
-    (omega (arith, c.in_ok-writes.ensures.chosen_count, c.deref_mut-3.ensures.len)) in
-    payloads-chosen c.deref-4.result.now
+    (omega (arith, c.in_ok-writes.ensures.chosen_count, c.deref_mut-2.ensures.len)) in
+    payloads-chosen c.deref-3.result.now
     (omega (
       arith,
-      ap length (c.deref_mut-4.ensures.value ∙ begun),
+      ap length (c.deref_mut-3.ensures.value ∙ begun),
       c.begin_all.ensures.count,
       ap length c.deref_mut.ensures.value,
-      c.requires.nodes.controllers,
+      c.requires.nodes.seats_count,
     ))
-    (subst (HaveBegun s 0) (sym (c.deref_mut-4.ensures.value ∙ begun)) has_begun)
-    (subst (AreChosen s) (sym (c.deref-4.ensures.value ∙ told))
+    (subst (HaveBegun s 0) (sym (c.deref_mut-3.ensures.value ∙ begun)) has_begun)
+    (subst (AreChosen s) (sym (c.deref-3.ensures.value ∙ told))
     (chosen_sizes list script numbers c.choose.new.chosen c.choose.new.ends.items c.requires.script
     (c.in_ok-writes.ensures.chooses numbers begun_for)))
 
@@ -87,41 +87,31 @@ pub returns-clause-nodes : goal.returns-clause-nodes
 returns-clause-nodes g c =
     let list = c.args.list.now in
     let nodes = c.args.nodes.now in
-    let begun = with_items_is nodes.controllers c.begin_all.new.controllers
+    let begun = with_items_is nodes.seats c.begin_all.new.seats
     (omega (arith, c.begin_all.ensures.count, c.deref_mut.ensures.len)) in
-    let planned = with_items_is (with_items nodes.controllers c.begin_all.new.controllers) c.plan_all.new.controllers
-    (omega (arith, c.plan_all.ensures.count, c.deref_mut-4.ensures.len)) in
-    let known = with_items_is nodes.incidents c.begin_all.new.incidents
-    (omega (arith, c.begin_all.ensures.room, c.deref_mut-2.ensures.len)) in
+    let planned = with_items_is (with_items nodes.seats c.begin_all.new.seats) c.plan_all.new.seats
+    (omega (arith, c.plan_all.ensures.count, c.deref_mut-3.ensures.len)) in
     let told = with_items_is nodes.chosen c.choose.new.chosen
-    (omega (arith, c.in_ok-writes.ensures.chosen_count, c.deref_mut-3.ensures.len)) in
+    (omega (arith, c.in_ok-writes.ensures.chosen_count, c.deref_mut-2.ensures.len)) in
     record {
-      controllers = omega (
+      seats_count = omega (
         arith,
         ap length planned,
         c.plan_all.ensures.count,
-        ap length (c.deref_mut-4.ensures.value ∙ begun),
+        ap length (c.deref_mut-3.ensures.value ∙ begun),
         c.begin_all.ensures.count,
         ap length c.deref_mut.ensures.value,
-        c.requires.nodes.controllers,
+        c.requires.nodes.seats_count,
       );
       seats = subst (AreSeats list IsPlanned (most_ahead_in c.args.slot) 0) (sym planned) c.plan_all.ensures.seats;
-      incidents_count = omega (
-        arith,
-        ap length known,
-        c.begin_all.ensures.room,
-        ap length c.deref_mut-2.ensures.value,
-        c.requires.nodes.incidents,
-      );
-      incidents = subst (AreIncidents c.args.script.now c.args.slot 0) (sym known) c.begin_all.ensures.incidents;
+      incidents = subst (AreIncidents c.args.script.now c.args.slot 0) (sym planned) c.plan_all.ensures.incidents;
       chosen = omega (
         arith,
         ap length told,
         c.in_ok-writes.ensures.chosen_count,
-        ap length c.deref_mut-3.ensures.value,
+        ap length c.deref_mut-2.ensures.value,
         c.requires.nodes.chosen,
       );
-      outcomes = c.requires.nodes.outcomes;
       delivered = c.requires.nodes.delivered;
       ports_count = c.requires.nodes.ports_count;
       ports = record {
@@ -142,7 +132,7 @@ returns-clause-plans g c = λ numbers at.
     let script = c.args.script.now in
     let nodes = c.args.nodes.now in
     let s = next_slot list script numbers in
-    let begun = with_items_is nodes.controllers c.begin_all.new.controllers
+    let begun = with_items_is nodes.seats c.begin_all.new.seats
     (omega (arith, c.begin_all.ensures.count, c.deref_mut.ensures.len)) in
     let stand = subst (StandAfter script (world list script numbers) 0) (sym c.deref_mut.ensures.value)
     at.stands.seats in
@@ -154,19 +144,19 @@ returns-clause-plans g c = λ numbers at.
       written = at.stands.written;
     } in
     let told = with_items_is nodes.chosen c.choose.new.chosen
-    (omega (arith, c.in_ok-writes.ensures.chosen_count, c.deref_mut-3.ensures.len)) in
-    let planned = with_items_is (with_items nodes.controllers c.begin_all.new.controllers) c.plan_all.new.controllers
-    (omega (arith, c.plan_all.ensures.count, c.deref_mut-4.ensures.len)) in
-    let begun_now = subst (HaveBegun s 0) (sym (c.deref_mut-4.ensures.value ∙ begun)) has_begun in
+    (omega (arith, c.in_ok-writes.ensures.chosen_count, c.deref_mut-2.ensures.len)) in
+    let planned = with_items_is (with_items nodes.seats c.begin_all.new.seats) c.plan_all.new.seats
+    (omega (arith, c.plan_all.ensures.count, c.deref_mut-3.ensures.len)) in
+    let begun_now = subst (HaveBegun s 0) (sym (c.deref_mut-3.ensures.value ∙ begun)) has_begun in
     record {
       chosen =
           subst (λ xs. HaveChosen list script numbers xs c.choose.new.ends.items) (sym told)
           (c.in_ok-writes.ensures.chooses numbers begun_for);
       planned =
           subst (HavePlanned s (with_items nodes.chosen c.choose.new.chosen).items 0) (sym planned)
-          (subst (λ xs. HavePlanned s xs 0 c.plan_all.new.controllers) c.deref-4.ensures.value
+          (subst (λ xs. HavePlanned s xs 0 c.plan_all.new.seats) c.deref-3.ensures.value
           (c.plan_all.ensures.plan (world list script numbers) begun_now));
       carries =
-          subst (λ xs. Carries s (frames_in s xs) c.plan_all.new.medium) c.deref-4.ensures.value
+          subst (λ xs. Carries s (frames_in s xs) c.plan_all.new.medium) c.deref-3.ensures.value
           (c.plan_all.ensures.carries (world list script numbers) slots begun_now);
     }

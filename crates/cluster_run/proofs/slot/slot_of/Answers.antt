@@ -2,6 +2,7 @@ use Rattle.std.proofs.Common.{◌+◌, [], length, map, sym, ap, subst, ◌∙�
 use Rattle.ttp_base.specs.NodeSet.{below}
 use Rattle.ttp_world.specs.Script.{reads_in, writes_in}
 use Rattle.ttp_world.specs.World.{row_in, world}
+use Rattle.controller.specs.PlantStands.{outcomes_of}
 use Rattle.controller.specs.PlantWithin.{most_ahead}
 use Rattle.host_port.specs.Rings.{PortState}
 use Rattle.cluster_run.specs.Choosing.{HaveChosen, next_slot}
@@ -26,14 +27,14 @@ returns-clause-steps g c = λ numbers at.
     let reads = c.in_ok-reads.ensures.tells in
     let ends_count = same-count rings_of (λ (p : PortState). p.incoming) nodes.controller_ends.items nodes.ports.items
     c.requires.nodes.ports.controllers ∙ c.requires.nodes.ports_count in
-    let so : IsTold list script numbers mid.chosen.items done.outcomes.items done.delivered.items (desks_of nodes)
+    let so : IsTold list script numbers mid.chosen.items done.delivered.items (desks_of nodes)
     reads.handed (desks_of done) reads.first reads.last
     (record { slot = slot; nodes = c.in_ok-lines.lines; writes = c.from_vec.result; reads = c.in_ok-reads.reads }) =
     record {
       valid = c.requires.list;
       stands = at.stands;
       ends_count = ends_count;
-      outcomes_count = c.in_ok-reads.ensures.nodes.outcomes;
+      seats_count = c.in_ok-reads.ensures.nodes.seats_count;
       first_count = reads.first_count;
       last_count = reads.last_count;
       chosen_are =
@@ -41,7 +42,7 @@ returns-clause-steps g c = λ numbers at.
           planned.chosen;
       ended = c.in_ok-reads.ensures.ends numbers planned;
       handed_are =
-          subst (λ es. HaveHandedOn done.outcomes.items es reads.handed done.delivered.items)
+          subst (λ es. HaveHandedOn (outcomes_of done.seats.items) es reads.handed done.delivered.items)
           (ap (λ v. v.items) c.plan.ensures.ends) reads.handed_are;
       lent =
           subst (λ es. AreReadersLent (reads_in script (length numbers)) es reads.first) (ap (λ v. v.items) c.plan.ensures.ends)
@@ -60,15 +61,15 @@ returns-clause-steps g c = λ numbers at.
     } in
     let row = row_in (next_slot list script numbers) mid.chosen.items in
     let before = world list script numbers in
-    let ended : HaveEndedSlot list script row before done.controllers.items done.delivered.items = record {
+    let ended : HaveEndedSlot list script row before done.seats.items done.delivered.items = record {
       bound = most_ahead (slot + 1);
       seats_are = c.in_ok-reads.ensures.nodes.seats;
       stand = so.ended.stand;
-      numbers = λ k near. numbers_delivered so k (omega (arith, near, c.in_ok-reads.ensures.nodes.controllers));
+      numbers = λ k near. numbers_delivered so k (omega (arith, near, c.in_ok-reads.ensures.nodes.seats_count));
     } in
     let there = subst (λ ks. HaveEndedSlot list script row before ks c.deref-2.result.now) (sym c.deref.ensures.value)
-    (subst (HaveEndedSlot list script row before done.controllers.items) (sym c.deref-2.ensures.value) ended) in
+    (subst (HaveEndedSlot list script row before done.seats.items) (sym c.deref-2.ensures.value) ended) in
     let lines = c.in_ok-lines.ensures list script row before there
     ∙ ap (λ n. map (node_shown list script row before) (below n))
-    (ap length c.deref.ensures.value ∙ c.in_ok-reads.ensures.nodes.controllers) in
+    (ap length c.deref.ensures.value ∙ c.in_ok-reads.ensures.nodes.seats_count) in
     is_next so lines

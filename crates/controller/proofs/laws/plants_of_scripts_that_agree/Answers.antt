@@ -11,7 +11,7 @@ returns c plant one other history agree stands = record {
   are = stands.are;
   seats = record {
     each = λ j seat here.
-        subst (λ (s : Surroundings). StandsFor seat (diary_of history (0 + j)) s)
+        subst (λ (s : Surroundings). StandsFor seat.controller (diary_of history (0 + j)) s)
         (surroundings_of-same agree history (0 + j) (omega (arith, stands.slot)))
         (stands.seats.each j seat here);
   };

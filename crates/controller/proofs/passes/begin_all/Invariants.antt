@@ -2,14 +2,15 @@ use Rattle.std.proofs.Common.{◌+◌}
 use Rattle.ttp_world.specs.declared.node.Chosen.{Chosen}
 use Rattle.controller.specs.Limits.{IsBegun}
 use Rattle.controller.specs.Passes.{BeginsSlot, IsPayloadBefore, IsPayloadFor}
-use Rattle.controller.specs.PlantWithin.{IsIncidentsOf, IsSeatOf, most_ahead_in}
+use Rattle.controller.specs.PlantWithin.{IsIncidentsOf, IsControllerOf, most_ahead_in}
 use Rattle.controller.proofs.Parts.{ArePassed}
 use Rattle.controller.proofs.passes.begin_all.Given as goal
 
 abbrev pub invariant-loop-j : goal.invariant-loop-j
 invariant-loop-j l = ArePassed
-    (λ j old new incidents. IsIncidentsOf l.script l.slot (l.first + j) incidents
-    × IsSeatOf l.list IsBegun (most_ahead_in l.slot) (l.first + j) new
-    × BeginsSlot l.list l.script l.slot (l.first + j) old new
-    × ((chosen : Chosen) → IsPayloadBefore l.script l.slot chosen (l.first + j) old → IsPayloadFor new chosen))
-    l.j l.fn.controllers l.controllers l.incidents
+    (λ j old new. IsIncidentsOf l.script l.slot (l.first + j) new.incidents
+    × IsControllerOf l.list IsBegun (most_ahead_in l.slot) (l.first + j) new.controller
+    × BeginsSlot l.list l.script l.slot (l.first + j) old.controller new.controller
+    × ((chosen : Chosen) → IsPayloadBefore l.script l.slot chosen (l.first + j) old.controller
+    → IsPayloadFor new.controller chosen))
+    l.j l.fn.seats l.seats

@@ -3,36 +3,36 @@ use Rattle.ttp_world.specs.Act.{act}
 use Rattle.ttp_world.specs.Script.{is_on, is_armed, jump_of}
 use Rattle.controller.specs.Limits.{intent_by}
 use Rattle.controller.proofs.InSlot.{begun-node}
-use Rattle.controller.proofs.Near.{jump_same, jump_fits, begun-seat}
+use Rattle.controller.proofs.Near.{jump_same, jump_fits, begun-controller}
 use Rattle.controller.proofs.Payloads.{payload-begun}
 use Rattle.controller.proofs.passes.begin_one.Goals as goal
 
 pub begin-requires-clause-clock : goal.begin-requires-clause-clock
 begin-requires-clause-clock c =
-    jump_fits c.args.slot c.requires.seat c.incidents_after.ensures.bounds c.requires.slot
+    jump_fits c.args.slot c.requires.controller c.incidents_after-incidents.ensures.bounds c.requires.slot
 
-pub returns-clause-seat : goal.returns-clause-seat
-returns-clause-seat c =
+pub returns-clause-controller : goal.returns-clause-controller
+returns-clause-controller c =
     let begun = c.begin.ensures in
     rw c.keep_look_up.ensures
-    (begun-seat c.args.slot c.requires.seat c.incidents_after.ensures.bounds begun.same begun.clock begun.turn)
+    (begun-controller c.args.slot c.requires.controller c.incidents_after-incidents.ensures.bounds begun.same begun.clock begun.turn)
 
 pub returns-clause-begins : goal.returns-clause-begins
 returns-clause-begins c history long stands =
     let script = c.args.script.now in
     let k = c.args.k in
-    let happens = c.incidents_after.ensures in
+    let happens = c.incidents_after-incidents.ensures in
     rw c.keep_look_up.ensures
     (begun-node c.args.list.now script history k c.requires.node (c.is_on.ensures ∙ ap (is_on script k) (sym long))
     (ap (λ w. w.armed) happens.value ∙ ap (is_armed script k) (sym long))
     (jump_same happens.bounds ∙ ap (λ w. w.jump) happens.value ∙ ap (jump_of script k) (sym long))
-    c.requires.seat.list c.requires.seat.node c.begin.ensures.same c.begin.ensures.begins stands)
+    c.requires.controller.list c.requires.controller.node c.begin.ensures.same c.begin.ensures.begins stands)
 
 pub returns-clause-payload : goal.returns-clause-payload
 returns-clause-payload c chosen before =
-    let seat = c.args.controller.now in
-    let armed = ap (λ w. w.armed) c.incidents_after.ensures.value in
+    let view = c.args.seat.now.controller in
+    let armed = ap (λ w. w.armed) c.incidents_after-incidents.ensures.value in
     rw c.keep_look_up.ensures
     (payload-begun c.args.script.now c.args.slot c.args.k chosen c.begin.ensures.same
     (c.begin.ensures.sends
-    ∙ (λ i. intent_by seat.list seat.past (act seat.list seat.node (c.is_on.ensures i) (armed i) seat.past))) before)
+    ∙ (λ i. intent_by view.list view.past (act view.list view.node (c.is_on.ensures i) (armed i) view.past))) before)

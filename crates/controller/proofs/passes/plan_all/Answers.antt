@@ -1,49 +1,55 @@
 use Rattle.std.proofs.Common.{◌≡◌, ℕ, length, get_or, sym, subst, arith}
 use Rattle.std.specs.List.{flat_map}
 use Rattle.std.proofs.lemmas.List.{get_or_read}
-use Rattle.std.proofs.lemmas.Option.{slice_get-get_or}
 use Rattle.ttp_base.specs.NodeSet.{below}
+use Rattle.ttp_world.specs.declared.events.Incidents.{Incidents}
 use Rattle.ttp_world.specs.Outgoing.{nothing_chosen}
 use Rattle.ttp_world.specs.World.{slot_after, frames_of}
 use Rattle.controller.specs.Passes.{Carries, IsPayloadFor}
-use Rattle.controller.proofs.Near.{planned-seat}
-use Rattle.controller.proofs.Parts.{ArePassed-coming, each-of, all-new}
+use Rattle.controller.specs.PlantWithin.{IsIncidentsOf}
 use Rattle.controller.proofs.InSlot.{AreSent-none, AreSent-more, AreSent-slot, AreSent-near}
+use Rattle.controller.proofs.Near.{planned-controller}
+use Rattle.controller.proofs.Parts.{ArePassed-coming, each-of, all-new}
 use Rattle.controller.proofs.passes.plan_all.Goals as goal
 
 pub loop-k-init : goal.loop-k-init
 loop-k-init c = AreSent-none c.begin.ensures
 
-pub send_one-requires-clause-seat : goal.send_one-requires-clause-seat
-send_one-requires-clause-seat c =
+pub send_one-requires-clause-controller : goal.send_one-requires-clause-controller
+send_one-requires-clause-controller c =
     rw (AreSent-slot c.loop-k.invariant) (each-of c.requires.seats c.loop-k.k
-    (ArePassed-coming c.loop-k.invariant.passed c.index-controllers-k.result (omega arith)))
+    (ArePassed-coming c.loop-k.invariant.passed c.index-seats-k.result (omega arith)))
 
 pub send_one-requires-clause-payload : goal.send_one-requires-clause-payload
 send_one-requires-clause-payload c =
-    let seat = get_or c.loop-k.controllers c.loop-k.k c.index-controllers-k.result in
-    subst (IsPayloadFor seat)
+    let seat = get_or c.loop-k.seats c.loop-k.k c.index-seats-k.result in
+    subst (IsPayloadFor seat.controller)
     (sym (get_or_read c.args.chosen.now c.loop-k.k c.index-chosen-k.result
     (omega (arith, c.requires.count, c.requires.nodes)) c.index-chosen-k.is nothing_chosen))
     (each-of c.requires.chosen c.loop-k.k
-    (ArePassed-coming c.loop-k.invariant.passed c.index-controllers-k.result (omega arith)))
+    (ArePassed-coming c.loop-k.invariant.passed c.index-seats-k.result (omega arith)))
 
 pub send_one-requires-clause-incidents : goal.send_one-requires-clause-incidents
 send_one-requires-clause-incidents c =
-    let k = c.loop-k.k in
-    rw (AreSent-slot c.loop-k.invariant) (each-of c.requires.incidents k
-    (slice_get-get_or c.args.incidents.now k _ (omega (arith, c.requires.looked_up, c.requires.nodes))))
+    rw (AreSent-slot c.loop-k.invariant) (each-of c.requires.incidents c.loop-k.k
+    (ArePassed-coming c.loop-k.invariant.passed c.index-seats-k.result (omega arith)))
 
 pub loop-k-preserved : goal.loop-k-preserved
 loop-k-preserved c =
-    AreSent-more c.index-controllers-k.result c.loop-k.invariant (omega arith)
+    let sent = c.send_one.ensures in
+    AreSent-more c.index-seats-k.result _ c.loop-k.invariant (omega arith)
     (get_or_read c.args.chosen.now c.loop-k.k c.index-chosen-k.result
     (omega (arith, c.requires.count, c.requires.nodes)) c.index-chosen-k.is nothing_chosen)
-    c.send_one.ensures.planned c.send_one.ensures.plans c.send_one.ensures.puts c.send_one.ensures.clocks
+    sent.planned sent.plans sent.incidents sent.puts sent.clocks
 
 pub returns-clause-seats : goal.returns-clause-seats
 returns-clause-seats c =
-    all-new c.loop-k.invariant.passed (omega arith) c.requires.seats (λ k x y z by was. planned-seat by.0 was)
+    all-new c.loop-k.invariant.passed (omega arith) c.requires.seats (λ k x y by was. planned-controller by.0 was)
+
+pub returns-clause-incidents : goal.returns-clause-incidents
+returns-clause-incidents c =
+    all-new c.loop-k.invariant.passed (omega arith) c.requires.incidents (λ k x y by was.
+    subst (λ (i : Incidents). IsIncidentsOf c.args.script.now c.args.slot k i) (sym by.2) was)
 
 pub returns-clause-slot : goal.returns-clause-slot
 returns-clause-slot c = AreSent-slot c.loop-k.invariant
@@ -53,7 +59,7 @@ returns-clause-medium c = AreSent-near c.loop-k.invariant c.requires.seats
 
 pub returns-clause-plan : goal.returns-clause-plan
 returns-clause-plan c history begun =
-    all-new c.loop-k.invariant.passed (omega arith) begun (λ k x y z by was. by.1 history was)
+    all-new c.loop-k.invariant.passed (omega arith) begun (λ k x y by was. by.1 history was)
 
 pub returns-clause-carries : goal.returns-clause-carries
 returns-clause-carries c history long begun =

@@ -1,5 +1,5 @@
 use Rattle.std.proofs.Common.{length, ap, ◌∙◌}
-use Rattle.controller.specs.Limits.{seat_intent}
+use Rattle.controller.specs.Limits.{view_intent}
 use Rattle.controller.specs.Passes.{payload_handed}
 use Rattle.controller.proofs.InSlot.{planned-node}
 use Rattle.controller.proofs.Payloads.{length-payload_handed}
@@ -7,11 +7,11 @@ use Rattle.controller.proofs.passes.plan_one.Goals as goal
 
 pub plan-requires-clause-payload : goal.plan-requires-clause-payload
 plan-requires-clause-payload c =
-    let seat = c.args.controller.now in
+    let view = c.args.controller.now in
     let chosen = c.args.chosen.now in
     ap length c.payload_for-payload.ensures
     ∙ ap (λ wanted. length (payload_handed wanted chosen)) c.intent.ensures
-    ∙ length-payload_handed seat.list seat.node (seat_intent seat) chosen c.requires.payload
+    ∙ length-payload_handed view.list view.node (view_intent view) chosen c.requires.payload
 
 pub returns-clause-plans : goal.returns-clause-plans
 returns-clause-plans c list script history k node =

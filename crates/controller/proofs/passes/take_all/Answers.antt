@@ -1,32 +1,30 @@
 use Rattle.std.proofs.Common.{arith}
-use Rattle.std.proofs.lemmas.Option.{slice_get-get_or}
-use Rattle.controller.proofs.Parts.{ArePassed-none, ArePassed-more, ArePassed-coming, each-new, each-left}
+use Rattle.controller.proofs.Parts.{ArePassed-none, ArePassed-more, ArePassed-coming, each-new}
 use Rattle.controller.proofs.passes.take_all.Goals as goal
 
 pub loop-j-init : goal.loop-j-init
-loop-j-init c = ArePassed-none c.args.controllers.now c.args.outcomes.now (omega (arith, c.requires.room))
+loop-j-init c = ArePassed-none c.args.seats.now
 
-pub take_one-requires-clause-seat : goal.take_one-requires-clause-seat
-take_one-requires-clause-seat c =
+pub take_one-requires-clause-controller : goal.take_one-requires-clause-controller
+take_one-requires-clause-controller c =
     c.requires.seats.each c.loop-j.j _
-    (ArePassed-coming c.loop-j.invariant c.index-controllers-j.result (omega arith))
+    (ArePassed-coming c.loop-j.invariant c.index-seats-j.result (omega arith))
 
 pub take_one-requires-clause-incidents : goal.take_one-requires-clause-incidents
 take_one-requires-clause-incidents c =
     c.requires.incidents.each c.loop-j.j _
-    (slice_get-get_or c.args.incidents.now c.loop-j.j _ (omega (arith, c.requires.looked_up)))
+    (ArePassed-coming c.loop-j.invariant c.index-seats-j.result (omega arith))
 
 pub loop-j-preserved : goal.loop-j-preserved
 loop-j-preserved c =
-    ArePassed-more c.loop-j.invariant c.index-controllers-j.result (omega arith)
-    (c.take_one.ensures.seat, c.take_one.ensures.ends)
+    ArePassed-more c.loop-j.invariant c.index-seats-j.result (omega arith)
+    (c.take_one.ensures.controller, c.take_one.ensures.ends)
 
 pub returns-clause-seats : goal.returns-clause-seats
-returns-clause-seats c = each-new c.loop-j.invariant (omega arith) c.requires.seats (λ j x y z of _. of.0)
+returns-clause-seats c = each-new c.loop-j.invariant (omega arith) c.requires.seats (λ j x y of _. of.0)
 
 pub returns-clause-end : goal.returns-clause-end
 returns-clause-end c history chosen planned carries = record {
-  stand = each-new c.loop-j.invariant (omega arith) planned (λ j x y z of was. (of.1 history chosen was carries).0);
-  left = each-left c.loop-j.invariant (omega arith) (omega (arith, c.requires.room)) planned
-      (λ j x y z of was. (of.1 history chosen was carries).1);
+  stand = each-new c.loop-j.invariant (omega arith) planned (λ j x y of was. (of.1 history chosen was carries).0);
+  left = each-new c.loop-j.invariant (omega arith) planned (λ j x y of was. (of.1 history chosen was carries).1);
 }

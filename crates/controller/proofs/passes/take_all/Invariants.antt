@@ -1,11 +1,11 @@
 use Rattle.std.proofs.Common.{◌+◌}
 use Rattle.controller.specs.Passes.{EndsSlot}
-use Rattle.controller.specs.PlantWithin.{IsEnded, IsSeatOf, most_ahead}
+use Rattle.controller.specs.PlantWithin.{IsEnded, IsControllerOf, most_ahead}
 use Rattle.controller.proofs.Parts.{ArePassed}
 use Rattle.controller.proofs.passes.take_all.Given as goal
 
 abbrev pub invariant-loop-j : goal.invariant-loop-j
 invariant-loop-j l = ArePassed
-    (λ j old new outcome. IsSeatOf l.list IsEnded (most_ahead (l.medium.slot + 1)) (l.first + j) new
-    × EndsSlot l.list l.script l.medium (l.first + j) old new outcome)
-    l.j l.fn.controllers l.controllers l.outcomes
+    (λ j old new. IsControllerOf l.list IsEnded (most_ahead (l.medium.slot + 1)) (l.first + j) new.controller
+    × EndsSlot l.list l.script l.medium (l.first + j) old.controller new.controller new.outcome)
+    l.j l.fn.seats l.seats

@@ -14,103 +14,61 @@ ghost use Rattle.controller.specs.PlantWithin.{most_ahead, most_ahead_in, IsEnde
 ghost use Rattle.controller.specs.PlantWithin.{IsFromWithin};
 
 use crate::node::tests::four_nodes;
-use crate::plant::{controllers_of, first_outcomes, incidents_of};
-use crate::{Controller, Outcome, Plant, begin_all, plan_all, take_all};
+use crate::{Plant, Seat, begin_all, plan_all, seats_of, take_all};
 use medium::Medium;
 use std::test::Fail;
-use ttp_world::{Chosen, Incidents, Medl, Script};
+use ttp_world::{Chosen, Medl, Script};
 
 // The first pass over the nodes before `cut`, and then over the others.
 #[tactic(auto, using(crate::proofs::Parts::halves))]
-fn begin_in_parts(
-    controllers: &mut [Controller],
-    incidents: &mut [Incidents],
-    list: &Medl,
-    script: &Script,
-    cut: u8,
-    slot: u32,
-)
+fn begin_in_parts(seats: &mut [Seat], list: &Medl, script: &Script, cut: u8, slot: u32)
     requires list { IsValid list.now }
     requires on { length script.now.on ≡ length list.now.slots }
     requires slot { slot ≤ SLOT_LIMIT }
-    requires nodes { length controllers.old ≡ length list.now.slots }
+    requires nodes { length seats.old ≡ length list.now.slots }
     requires cut { cut ≤ length list.now.slots }
-    requires room { length incidents.old ≡ length list.now.slots }
-    requires seats { AreSeats list.now IsEnded (most_ahead slot) 0 controllers.old }
-    ensures count { length controllers.new ≡ length controllers.old }
-    ensures room { length incidents.new ≡ length incidents.old }
-    ensures incidents { AreIncidents script.now slot 0 incidents.new }
-    ensures seats { AreSeats list.now IsBegun (most_ahead_in slot) 0 controllers.new }
-    ensures begin { (history : History) → length history ≡ slot → StandAfter script.now history 0 controllers.old
-        → HaveBegun (slot_after list.now script.now history) 0 controllers.new }
-    ensures payloads { (chosen : List Choice) → ArePayloadsBefore script.now slot chosen 0 controllers.old
-        → ArePayloadsFor chosen 0 controllers.new }
+    requires seats { AreSeats list.now IsEnded (most_ahead slot) 0 seats.old }
+    ensures count { length seats.new ≡ length seats.old }
+    ensures incidents { AreIncidents script.now slot 0 seats.new }
+    ensures seats { AreSeats list.now IsBegun (most_ahead_in slot) 0 seats.new }
+    ensures begin { (history : History) → length history ≡ slot → StandAfter script.now history 0 seats.old
+        → HaveBegun (slot_after list.now script.now history) 0 seats.new }
+    ensures payloads { (chosen : List Choice) → ArePayloadsBefore script.now slot chosen 0 seats.old
+        → ArePayloadsFor chosen 0 seats.new }
 {
-    let (front, back) = controllers.split_at_mut(cut as usize);
-    let (front_incidents, back_incidents) = incidents.split_at_mut(cut as usize);
-    begin_all(front, front_incidents, list, script, 0, slot);
-    begin_all(back, back_incidents, list, script, cut, slot);
+    let (front, back) = seats.split_at_mut(cut as usize);
+    begin_all(front, list, script, 0, slot);
+    begin_all(back, list, script, cut, slot);
 }
 
 // The third pass over the nodes from `cut` on, and then over the others.
 #[tactic(auto, using(crate::proofs::Parts::halves))]
-fn take_in_parts(
-    controllers: &mut [Controller],
-    outcomes: &mut [Outcome],
-    incidents: &[Incidents],
-    medium: &Medium,
-    list: &Medl,
-    script: &Script,
-    cut: u8,
-)
+fn take_in_parts(seats: &mut [Seat], medium: &Medium, list: &Medl, script: &Script, cut: u8)
     requires list { IsValid list.now }
-    requires nodes { length controllers.old ≡ length list.now.slots }
+    requires nodes { length seats.old ≡ length list.now.slots }
     requires cut { cut ≤ length list.now.slots }
     requires drifts { length script.now.drift ≡ length list.now.slots }
     requires drift { All (IsWithinSpan DRIFT_LIMIT) script.now.drift }
     requires slot { medium.now.slot < SLOT_LIMIT }
     requires medium { IsFromWithin medium.now script.now (most_ahead_in medium.now.slot) }
-    requires looked_up { length incidents.now ≡ length list.now.slots }
-    requires incidents { AreIncidents script.now medium.now.slot 0 incidents.now }
-    requires room { length outcomes.old ≡ length list.now.slots }
-    requires seats { AreSeats list.now IsPlanned (most_ahead_in medium.now.slot) 0 controllers.old }
-    ensures count { length controllers.new ≡ length controllers.old }
-    ensures room { length outcomes.new ≡ length outcomes.old }
-    ensures seats { AreSeats list.now IsEnded (most_ahead (medium.now.slot + 1)) 0 controllers.new }
+    requires incidents { AreIncidents script.now medium.now.slot 0 seats.old }
+    requires seats { AreSeats list.now IsPlanned (most_ahead_in medium.now.slot) 0 seats.old }
+    ensures count { length seats.new ≡ length seats.old }
+    ensures seats { AreSeats list.now IsEnded (most_ahead (medium.now.slot + 1)) 0 seats.new }
     ensures end { (history : History) (chosen : List Choice)
-        → HavePlanned (slot_after list.now script.now history) chosen 0 controllers.old
+        → HavePlanned (slot_after list.now script.now history) chosen 0 seats.old
         → Carries (slot_after list.now script.now history)
         (frames_in (slot_after list.now script.now history) chosen) medium.now
-        → HaveEnded list.now script.now history chosen 0 controllers.new outcomes.new }
+        → HaveEnded list.now script.now history chosen 0 seats.new }
 {
-    let (front, back) = controllers.split_at_mut(cut as usize);
-    let (front_outcomes, back_outcomes) = outcomes.split_at_mut(cut as usize);
-    let (front_incidents, back_incidents) = incidents.split_at(cut as usize);
-    take_all(
-        back,
-        back_outcomes,
-        back_incidents,
-        medium,
-        list,
-        script,
-        cut,
-    );
-    take_all(
-        front,
-        front_outcomes,
-        front_incidents,
-        medium,
-        list,
-        script,
-        0,
-    );
+    let (front, back) = seats.split_at_mut(cut as usize);
+    take_all(back, medium, list, script, cut);
+    take_all(front, medium, list, script, 0);
 }
 
-// A slot of all controllers, in which two passes go over parts of them.
+// A slot of all nodes, in which two passes go over parts of them.
 fn step_in_parts(
-    controllers: &mut [Controller],
-    incidents: &mut [Incidents],
-    outcomes: &mut [Outcome],
+    seats: &mut [Seat],
     medium: &mut Medium,
     list: &Medl,
     script: &Script,
@@ -122,23 +80,19 @@ fn step_in_parts(
     requires script { IsValidScript list.now script.now }
     requires cut { cut ≤ length list.now.slots }
     requires slot { slot < script.now.slots }
-    requires nodes { length controllers.old ≡ length list.now.slots }
-    requires incidents { length incidents.old ≡ length list.now.slots }
-    requires outcomes { length outcomes.old ≡ length list.now.slots }
-    requires seats { AreSeats list.now IsEnded (most_ahead slot) 0 controllers.old }
+    requires nodes { length seats.old ≡ length list.now.slots }
+    requires seats { AreSeats list.now IsEnded (most_ahead slot) 0 seats.old }
     requires count { length chosen.now ≡ length list.now.slots }
-    requires chosen { MayStep (plant_of list.now slot controllers.old outcomes.old) script.now chosen.now }
-    ensures nodes { length controllers.new ≡ length controllers.old }
-    ensures incidents { length incidents.new ≡ length incidents.old }
-    ensures outcomes { length outcomes.new ≡ length outcomes.old }
-    ensures seats { AreSeats list.now IsEnded (most_ahead (slot + 1)) 0 controllers.new }
-    ensures steps { let old = plant_of list.now slot controllers.old outcomes.old in
-        let new = plant_of list.now (slot + 1) controllers.new outcomes.new in
+    requires chosen { MayStep (plant_of list.now slot seats.old) script.now chosen.now }
+    ensures nodes { length seats.new ≡ length seats.old }
+    ensures seats { AreSeats list.now IsEnded (most_ahead (slot + 1)) 0 seats.new }
+    ensures steps { let old = plant_of list.now slot seats.old in
+        let new = plant_of list.now (slot + 1) seats.new in
         Steps old new script.now chosen.now }
 {
-    begin_in_parts(controllers, incidents, list, script, cut, slot);
-    plan_all(controllers, medium, incidents, list, script, slot, chosen);
-    take_in_parts(controllers, outcomes, incidents, medium, list, script, cut);
+    begin_in_parts(seats, list, script, cut, slot);
+    plan_all(seats, medium, list, script, slot, chosen);
+    take_in_parts(seats, medium, list, script, cut);
 }
 
 /// The same as [`Plant::slot`], by two parts of the nodes.
@@ -160,9 +114,7 @@ pub(super) fn slot_in_parts(
     ensures steps { Steps plant.old plant.new script.now chosen.now }
 {
     step_in_parts(
-        &mut plant.controllers,
-        &mut plant.incidents,
-        &mut plant.outcomes,
+        &mut plant.seats,
         &mut plant.medium,
         list,
         script,
@@ -180,9 +132,7 @@ fn may_cross<T: Send + Sync>(_value: &T) {}
 fn parts_may_go_to_threads(rt: HostRuntime) -> Result<(), Fail> {
     let alloc = rt.alloc();
     let list = four_nodes(alloc)?;
-    may_cross(&controllers_of(alloc, &list)?);
-    may_cross(&first_outcomes(alloc, &list)?);
-    may_cross(&incidents_of(alloc, &list)?);
+    may_cross(&seats_of(alloc, &list)?);
     may_cross(&Medium::new(alloc, &list)?);
     Ok(())
 }

@@ -3,21 +3,21 @@ use Rattle.std.proofs.lemmas.Int.{to_z-of_z}
 use Rattle.ttp_world.specs.Act.{act}
 use Rattle.ttp_world.specs.World.{jump_taken}
 use Rattle.controller.specs.Limits.{intent_by}
-use Rattle.controller.specs.SeatWithin.{IsSeatWithin}
+use Rattle.controller.specs.ControllerWithin.{IsControllerWithin}
 use Rattle.controller.proofs.Standing.{Begins-turn}
 use Rattle.controller.proofs.controller.Controller.begin.Goals as goal
 
 pub act-act-requires : goal.act-act-requires
 act-act-requires c =
     let n = c.self.inside in
-    let same = c.requires.list ∙ ap (λ seat. seat.list) (sym c.self.view_is) in
-    let w = subst (λ l. IsSeatWithin l n.number n.node n.turn n.intent) (sym same) c.self.invariant in
+    let same = c.requires.list ∙ ap (λ view. view.list) (sym c.self.view_is) in
+    let w = subst (λ l. IsControllerWithin l n.number n.node n.turn n.intent) (sym same) c.self.invariant in
     record { valid = w.valid; node = w.node; within = w.within }
 
 pub returns-clause-begins : goal.returns-clause-begins
 returns-clause-begins c =
     let n = c.self.inside in
-    let same = c.requires.list ∙ ap (λ seat. seat.list) (sym c.self.view_is) in
+    let same = c.requires.list ∙ ap (λ view. view.list) (sym c.self.view_is) in
     rw (← c.self.view_is)
     (Begins-turn n.given.value n.number n.node n.slots n.turn c.args.on c.args.armed c.args.jump c.act-act.result _
     c.self.invariant.valid c.self.invariant.node
@@ -28,7 +28,7 @@ returns-clause-begins c =
 pub returns-clause-sends : goal.returns-clause-sends
 returns-clause-sends c =
     let n = c.self.inside in
-    let same = c.requires.list ∙ ap (λ seat. seat.list) (sym c.self.view_is) in
+    let same = c.requires.list ∙ ap (λ view. view.list) (sym c.self.view_is) in
     rw (← c.self.view_is)
     (ap (intent_by n.given.value n.node)
     (c.act-act.ensures ∙ (λ i. act (same i) n.number c.args.on c.args.armed n.node)))

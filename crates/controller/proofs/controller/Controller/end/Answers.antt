@@ -5,10 +5,10 @@ use Rattle.ttp_world.specs.Diary.{SlotSurroundings}
 use Rattle.ttp_world.specs.Messages.{status_words}
 use Rattle.controller.specs.Kept.{kept}
 use Rattle.controller.specs.Limits.{offset_of_arrival, turn_intent}
-use Rattle.controller.specs.SeatWithin.{IsTurnWithin}
+use Rattle.controller.specs.ControllerWithin.{IsTurnWithin}
 use Rattle.controller.specs.Within.{IsWithin, IsEntryWithin}
 use Rattle.controller.proofs.Endings.{IsEnded, ended-by, furthest, past_after-near}
-use Rattle.controller.proofs.Standing.{Ends-seat}
+use Rattle.controller.proofs.Standing.{Ends-controller}
 use Rattle.controller.proofs.controller.Controller.end.Goals as goal
 
 pub enter-requires-clause-entry : goal.enter-requires-clause-entry
@@ -16,7 +16,7 @@ enter-requires-clause-entry c =
     let n = c.self.inside in
     let a = c.args in
     let turn = rw (← c.self.view_is) at c.requires.turn in
-    let same = c.requires.list ∙ ap (λ seat. seat.list) (sym c.self.view_is) in
+    let same = c.requires.list ∙ ap (λ view. view.list) (sym c.self.view_is) in
     let is = ended-by c.ending_of-entry.result c.ending_of-entry.new.delivered a.list.now n.given.value n.number n.node
     a.act a.jump a.message a.a.now a.b.now a.error a.drift c.offset.result c.self.invariant.valid
     (subst (IsTurnWithin n.given.value n.number n.node) turn c.self.invariant.turn)
@@ -35,7 +35,7 @@ ended c =
     (subst (IsTurnWithin n.given.value n.number n.node) turn c.self.invariant.turn)
     (rw (← c.self.view_is, turn) at c.requires.a) (rw (← c.self.view_is, turn) at c.requires.b)
     (search rules) (search rules) (search rules)
-    (c.requires.list ∙ ap (λ seat. seat.list) (sym c.self.view_is)) c.offset.ensures c.ending_of-entry.ensures
+    (c.requires.list ∙ ap (λ view. view.list) (sym c.self.view_is)) c.offset.ensures c.ending_of-entry.ensures
 
 abbrev around : goal.After-self-2-1 → SlotSurroundings
 around c = record { jump = c.args.jump; drift = c.args.drift; is_silent = c.are_silent.result }
@@ -45,7 +45,7 @@ entered : (c : goal.After-self-2-1) → c.enter.new.self
     (around c))
 entered c =
     let n = c.self.inside in
-    let same = c.requires.list ∙ ap (λ seat. seat.list) (sym c.self.view_is) in
+    let same = c.requires.list ∙ ap (λ view. view.list) (sym c.self.view_is) in
     (rw (to_z-of_z w64 c.args.jump (search rules), to_z-of_z w64 c.args.drift (search rules)) at c.enter.ensures.value)
     ∙ (λ i. kept (past_after (same i) n.number n.node c.ending_of-entry.result (around c)))
 
@@ -65,7 +65,7 @@ invariant_of-self c =
     let n = c.self.inside in
     let a = c.args in
     let turn = rw (← c.self.view_is) at c.requires.turn in
-    let same = c.requires.list ∙ ap (λ seat. seat.list) (sym c.self.view_is) in
+    let same = c.requires.list ∙ ap (λ view. view.list) (sym c.self.view_is) in
     record {
       valid = c.self.invariant.valid;
       node = c.self.invariant.node;
@@ -85,9 +85,9 @@ returns-clause-ends c =
     let n = c.self.inside in
     let a = c.args in
     let turn = rw (← c.self.view_is) at c.requires.turn in
-    let same = c.requires.list ∙ ap (λ seat. seat.list) (sym c.self.view_is) in
+    let same = c.requires.list ∙ ap (λ view. view.list) (sym c.self.view_is) in
     rw (← c.self.view_is)
-    (Ends-seat n.given.value n.number n.node n.slots n.turn c.enter.new.self c.saturating_add-self-inside.result _
+    (Ends-controller n.given.value n.number n.node n.slots n.turn c.enter.new.self c.saturating_add-self-inside.result _
     c.ending_of-entry.result c.ending_of-entry.new.delivered a.act a.jump a.message a.a.now a.b.now a.error a.drift
     (around c) c.self.invariant.valid c.self.invariant.node turn
     (subst (IsTurnWithin n.given.value n.number n.node) turn c.self.invariant.turn) (ended c).ends refl refl

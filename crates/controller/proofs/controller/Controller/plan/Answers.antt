@@ -1,7 +1,7 @@
 use Rattle.std.proofs.Common.{[], w64, rules, refl, sym, ap, ◌∙◌, subst}
 use Rattle.std.proofs.lemmas.Int.{to_z-of_z}
 use Rattle.controller.specs.Limits.{message_carried, turn_intent}
-use Rattle.controller.specs.SeatWithin.{IsBegunWithin, IsTurnWithin}
+use Rattle.controller.specs.ControllerWithin.{IsBegunWithin, IsTurnWithin}
 use Rattle.controller.proofs.Standing.{IsFrameOf, Plans-turn, message_carried-planned}
 use Rattle.controller.proofs.controller.Controller.plan.Goals as goal
 
@@ -29,7 +29,7 @@ invariant_of-self c =
 pub returns-in-Begun-clause-plans : goal.returns-in-Begun-clause-plans
 returns-in-Begun-clause-plans c =
     let n = c.self.inside in
-    let same = c.requires.list ∙ ap (λ seat. seat.list) (sym c.self.view_is) in
+    let same = c.requires.list ∙ ap (λ view. view.list) (sym c.self.view_is) in
     let sends = c.self.invariant.intent ∙ ap (turn_intent n.given.value n.node) c.in-Begun.is in
     rw (← c.self.view_is)
     (Plans-turn n.given.value n.number n.node n.slots n.turn c.in-Begun.act c.in-Begun.jump _ c.args.message

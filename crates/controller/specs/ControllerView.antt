@@ -5,7 +5,7 @@ use Rattle.ttp_world.specs.Past.{NodePast}
 pub use Rattle.controller.specs.declared.turn.Turn.{Turn}
 pub use Rattle.controller.specs.declared.turn.Turn.TheVariants.{Ended, Begun, Planned}
 
-pub record Seat : Type 0 where
+pub record ControllerView : Type 0 where
   pub list : Medl
   pub node : ℕ
   -- what it keeps of its node's past before this slot

@@ -10,7 +10,7 @@ use Rattle.ttp_world.specs.World.{jump_taken}
 use Rattle.controller.specs.declared.controller.Intent.{Intent}
 use Rattle.controller.specs.Limits.{most_clock, JumpFits, turn_intent}
 use Rattle.controller.specs.StandsFor.{message_planned}
-use Rattle.controller.specs.Turn.{Turn, Ended, Begun, Planned}
+use Rattle.controller.specs.ControllerView.{Turn, Ended, Begun, Planned}
 use Rattle.controller.specs.Within.{IsWithin}
 
 -- node k can do this in the coming slot, be it switched on and armed or not
@@ -38,7 +38,7 @@ IsTurnWithin list k past (Begun does jump) = IsBegunWithin list k past does jump
 IsTurnWithin list k past (Planned does jump message) = IsPlannedWithin list k past does jump message
 
 -- node k's controller, which keeps what its next plan sends
-pub record IsSeatWithin (list : Medl) (k : ℕ) (past : NodePast) (now : Turn) (sends : Intent) : Type 0 where
+pub record IsControllerWithin (list : Medl) (k : ℕ) (past : NodePast) (now : Turn) (sends : Intent) : Type 0 where
   pub valid : IsValid list
   pub node : k < length list.slots
   pub within : IsWithin list k past

@@ -1,0 +1,33 @@
+-- What a slot leaves for the hosts of a plant's nodes.
+use Rattle.std.proofs.Common.{◌≡◌, ℕ, zero, suc, ◌<◌, List, [], ◌∷◌, length, get_or, Some, refl, sym, ap, subst, arith}
+use Rattle.std.specs.Prelude.{slice_get}
+use Rattle.std.proofs.lemmas.Option.{none-some, same_Some}
+use Rattle.ttp_world.specs.declared.medl.Medl.{Medl}
+use Rattle.ttp_world.specs.declared.node.Chosen.{Chosen}
+use Rattle.ttp_world.specs.declared.script.Script.{Script}
+use Rattle.ttp_world.specs.Diary.{History}
+use Rattle.controller.specs.declared.controller.Outcome.{Outcome}
+use Rattle.controller.specs.declared.seat.Seat.{Seat}
+use Rattle.controller.specs.Passes.{AreLeft, IsLeft}
+use Rattle.controller.specs.PlantStands.{no_outcome, outcomes_of}
+use Rattle.controller.proofs.Parts.{each-of}
+
+-- each place of a list has something
+pub some_at : {X : Type 0} (xs : List X) (k : ℕ) → k < length xs → (x : X) × (slice_get xs k ≡ Some x)
+some_at [] k less = absurd (omega arith)
+some_at (x ∷ xs) zero less = (x, refl)
+some_at (x ∷ xs) (suc k) less = some_at xs k (omega arith)
+
+-- what is left at a place is left by the seat there
+pub outcome_there : (seats : List Seat) (k : ℕ) (seat : Seat) → slice_get seats k ≡ Some seat
+    → get_or (outcomes_of seats) k no_outcome ≡ seat.outcome
+outcome_there [] k seat here = absurd (none-some seat here)
+outcome_there (x ∷ seats) zero seat here = ap (λ (s : Seat). s.outcome) (same_Some _ _ here)
+outcome_there (x ∷ seats) (suc k) seat here = outcome_there seats k seat here
+
+pub left_at : {list : Medl} {script : Script} {history : History} {chosen : List Chosen} {seats : List Seat}
+    → AreLeft list script history chosen 0 seats → (k : ℕ) → k < length seats
+    → IsLeft list script history chosen k (get_or (outcomes_of seats) k no_outcome)
+left_at {list = list} {script = script} {history = history} {chosen = chosen} {seats = seats} left k less =
+    let found = some_at seats k less in
+    subst (IsLeft list script history chosen k) (sym (outcome_there seats k found.0 found.1)) (each-of left k found.1)
