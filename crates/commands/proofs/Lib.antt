@@ -7,3 +7,4 @@ pub mod Lines
 pub mod Loads
 pub mod Promises
 pub mod Both
+pub mod Told

@@ -2,4 +2,3 @@ pub mod Precision
 pub mod Differences
 pub mod Forms
 pub mod Promises
-pub mod OneList

@@ -10,6 +10,7 @@
 
 mod call;
 mod faced;
+mod kept;
 pub mod laws;
 mod modes;
 mod run;

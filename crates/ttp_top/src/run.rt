@@ -1,15 +1,17 @@
 //! The commands `run MEDL SCRIPT` and `keeps MEDL SCRIPT`.
-ghost use Rattle.std.specs.Prelude.{◌≡◌, Some, None};
+ghost use Rattle.std.specs.Prelude.{◌≡◌, [], Some, None};
 ghost use Rattle.ttp_world.specs.Medl.{IsValid};
 ghost use Rattle.ttp_world.specs.Script.{IsValidScript};
 ghost use Rattle.ttp_world.specs.Trace.{back_lines};
+ghost use Rattle.cluster_run.specs.Standing.{ClusterStandsFor};
 ghost use Rattle.commands.specs.Outcome.{Follows, Says, Shows};
 ghost use Rattle.commands.specs.Plan.{outside, whole_ending};
 ghost use Rattle.commands.specs.Texts.{alone, answer, one};
-ghost use Rattle.ttp_top.specs.Calls.Answer.{ttpbench};
+ghost use Rattle.ttp_top.specs.Calls.Answer.{ttpbench, kept_after};
 ghost use Rattle.ttp_top.specs.Calls.Forms.{trace_ending, keep_ending, plan_of};
 ghost use Rattle.ttp_top.specs.Calls.Words.{run, keeps};
 
+use crate::kept::keep_after;
 use crate::trace::{RunFault, put_run};
 use cluster_run::Cluster;
 use commands::load_both;
@@ -49,8 +51,28 @@ fn show_keep<K: Sink>(list: &Medl, script: &Script, out: &mut K) -> u8
     }
 }
 
-// The trace, whose last lines are those of the tests. The cluster is made before the first line is
-// written, and kept once the last one is.
+// The trace of a new cluster, whose last lines are those of the tests.
+fn put_trace<R: Threads + Wait + Sync, K: Sink, G: Gate>(
+    rt: &R,
+    cluster: &mut Cluster,
+    out: &mut K,
+    gate: &G,
+) -> u8
+    requires valid { IsValid cluster.old.list }
+    requires script { IsValidScript cluster.old.list cluster.old.script }
+    requires new { ClusterStandsFor cluster.old [] }
+    ensures { Shows ttpbench (trace_ending cluster.old.list cluster.old.script) (K.output out.old) (K.output out.new)
+        (answer result (kept_after result cluster.new)) }
+{
+    match put_run(rt, cluster, out, gate) {
+        Ok(()) => show_keep(cluster.list(), cluster.script(), out),
+        Err(RunFault::Failed) => 6,
+        Err(RunFault::Memory) => 7,
+    }
+}
+
+// The trace of a script. The cluster is made before the first line is written, and kept once the last one
+// is.
 fn show_trace<R: Threads + Wait + Sync, K: Sink, G: Gate>(
     rt: &R,
     alloc: Global,
@@ -65,19 +87,13 @@ fn show_trace<R: Threads + Wait + Sync, K: Sink, G: Gate>(
     requires none { kept.old ≡ None }
     ensures { Shows ttpbench (trace_ending list script) (K.output out.old) (K.output out.new) (answer result kept.new) }
 {
-    let Ok(mut cluster) = Cluster::make(alloc, list, script) else {
-        return 7;
-    };
-    match put_run(rt, &mut cluster, out, gate) {
-        Ok(()) => {
-            let status = show_keep(cluster.list(), cluster.script(), out);
-            if status == 0 {
-                *kept = Some(cluster);
-            }
+    match Cluster::make(alloc, list, script) {
+        Ok(mut cluster) => {
+            let status = put_trace(rt, &mut cluster, out, gate);
+            keep_after(status, cluster, kept);
             status
         }
-        Err(RunFault::Failed) => 6,
-        Err(RunFault::Memory) => 7,
+        Err(_) => 7,
     }
 }
 

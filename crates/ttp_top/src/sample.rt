@@ -4,15 +4,18 @@ ghost use Rattle.ttp_base.specs.Outside.{WroteLines, CutShort};
 ghost use Rattle.ttp_world.specs.declared.script.TheConstants.{SLOT_LIMIT};
 ghost use Rattle.ttp_world.specs.Medl.{IsValid};
 ghost use Rattle.ttp_world.specs.Script.{IsValidScript};
+ghost use Rattle.script_gen.specs.Generator.{generated};
+ghost use Rattle.cluster_run.specs.Standing.{ClusterStandsFor};
 ghost use Rattle.commands.specs.Outcome.{Follows, Shows};
 ghost use Rattle.commands.specs.Plan.{outside};
 ghost use Rattle.commands.specs.Texts.{answer};
-ghost use Rattle.ttp_top.specs.Calls.Answer.{ttpbench};
+ghost use Rattle.ttp_top.specs.Calls.Answer.{ttpbench, kept_after};
 ghost use Rattle.ttp_top.specs.Calls.Forms.{sample_ending, plan_of};
 ghost use Rattle.ttp_top.specs.Calls.Words.{sample};
 ghost use Rattle.ttp_top.specs.Samples.Counted.{HasFewMembers};
 ghost use Rattle.ttp_top.specs.Samples.Lines.{asked_line, sent_line, hosts_line, summary_lines};
 
+use crate::kept::keep_after;
 use crate::totals::{Totals, count_run};
 use cluster_run::Cluster;
 use commands::load_list;
@@ -100,6 +103,7 @@ fn put_hosts<K: Sink>(totals: &Totals, out: &mut K) -> Result<(), Failed>
 fn put_summary<K: Sink>(
     list: &Medl,
     script: &Script,
+    slots: u32,
     number: u64,
     totals: &Totals,
     out: &mut K,
@@ -108,18 +112,50 @@ fn put_summary<K: Sink>(
     requires script { IsValidScript list.now script.now }
     requires members { HasFewMembers list.now totals.now }
     ensures ok { OnOk result (WroteLines (K.output out.old) (K.output out.new)
-        (summary_lines list.now script.now script.now.slots number totals.now)) }
+        (summary_lines list.now script.now slots number totals.now)) }
     ensures failed { OnErr result (CutShort (K.output out.old) (K.output out.new)
-        (summary_lines list.now script.now script.now.slots number totals.now)) }
+        (summary_lines list.now script.now slots number totals.now)) }
 {
-    put_asked(script.slots, number, out)?;
+    put_asked(slots, number, out)?;
     put_sent(list, totals, out)?;
     put_hosts(totals, out)?;
     put_keep(&keeps(list, script), out)
 }
 
-// The summary of the generated run. All is done before the first line is written, and the cluster is kept
-// once the last one is.
+// The summary of the run of a new cluster by a generated script. All slots are done before the first line is
+// written.
+fn put_sample<R: Threads + Wait + Sync, K: Sink, G: Gate>(
+    rt: &R,
+    cluster: &mut Cluster,
+    slots: u32,
+    number: u64,
+    out: &mut K,
+    gate: &G,
+) -> u8
+    requires valid { IsValid cluster.old.list }
+    requires script { IsValidScript cluster.old.list cluster.old.script }
+    requires generated { cluster.old.script ≡ generated cluster.old.list slots number }
+    requires new { ClusterStandsFor cluster.old [] }
+    ensures { Shows ttpbench (sample_ending slots number cluster.old.list) (K.output out.old) (K.output out.new)
+        (answer result (kept_after result cluster.new)) }
+{
+    match count_run(rt, cluster, gate) {
+        Ok(totals) => match put_summary(
+            cluster.list(),
+            cluster.script(),
+            slots,
+            number,
+            &totals,
+            out,
+        ) {
+            Ok(()) => 0,
+            Err(Failed) => 6,
+        },
+        Err(_) => 7,
+    }
+}
+
+// The summary of the generated run. The cluster is kept once the last line is written.
 fn show_sample<R: Threads + Wait + Sync, K: Sink, G: Gate>(
     rt: &R,
     alloc: Global,
@@ -133,23 +169,19 @@ fn show_sample<R: Threads + Wait + Sync, K: Sink, G: Gate>(
     requires valid { IsValid list }
     requires slots { (1 ≤ slots) × (slots ≤ SLOT_LIMIT) }
     requires none { kept.old ≡ None }
-    ensures { Shows ttpbench (sample_ending slots number list) (K.output out.old) (K.output out.new) (answer result kept.new) }
+    ensures { Shows ttpbench (sample_ending slots number list) (K.output out.old) (K.output out.new)
+        (answer result kept.new) }
 {
     let Ok(script) = generate(alloc, &list, slots, number) else {
         return 7;
     };
-    let Ok(mut cluster) = Cluster::make(alloc, list, script) else {
-        return 7;
-    };
-    let Ok(totals) = count_run(rt, &mut cluster, gate) else {
-        return 7;
-    };
-    match put_summary(cluster.list(), cluster.script(), number, &totals, out) {
-        Ok(()) => {
-            *kept = Some(cluster);
-            0
+    match Cluster::make(alloc, list, script) {
+        Ok(mut cluster) => {
+            let status = put_sample(rt, &mut cluster, slots, number, out, gate);
+            keep_after(status, cluster, kept);
+            status
         }
-        Err(Failed) => 6,
+        Err(_) => 7,
     }
 }
 

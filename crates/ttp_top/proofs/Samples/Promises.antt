@@ -1,15 +1,25 @@
 -- The promise of `sample`, from the promise of every form.
-use Rattle.std.proofs.Common.{◌≡◌, ◌⊎◌, ℕ, List, [], Some, refl, sym, subst, ◌∙◌, inl, inr, arith}
+use Rattle.std.proofs.Common.{◌≡◌, ◌⊎◌, ℕ, List, [], Some, refl, sym, subst}
+use Rattle.std.proofs.Common.{inl, inr, arith}
 use Rattle.ttp_base.specs.Outside.{HasRisen, Output, Wrote}
 use Rattle.ttp_world.specs.declared.medl.Medl.{Medl}
+use Rattle.commands.proofs.Fronts.{list_from-front}
+use Rattle.commands.proofs.Both.{list_came}
+use Rattle.commands.proofs.Plans.{list_every, end_comes}
+use Rattle.commands.proofs.Right.{list_from-right}
+use Rattle.commands.proofs.Told.{Quiet, told_shows}
 use Rattle.commands.specs.Outcome.{Showed}
-use Rattle.commands.specs.Plan.{Outside}
-use Rattle.ttp_top.specs.Calls.Answer.{Answer, Ending, ttpbench}
-use Rattle.ttp_top.specs.Calls.Forms.{sample_ending}
+use Rattle.commands.specs.Plan.{Outside, ends, told_ending}
+use Rattle.commands.specs.Read.{list_from}
+use Rattle.ttp_top.specs.Calls.Answer.{Answer, Ending, Plan, ttpbench}
+use Rattle.ttp_top.specs.Calls.Forms.{sample_ending, plan_of}
 use Rattle.ttp_top.specs.Calls.Promise.{Promise}
 use Rattle.ttp_top.specs.Calls.Words.{sample}
-use Rattle.ttp_top.specs.Samples.Promise.{WroteSampleOf, WroteSample, SamplePromise}
-use Rattle.ttp_top.proofs.Calls.OneList.{came_of_list, list_told, list_quiet}
+use Rattle.ttp_top.specs.Samples.Promise.{WroteSampleOf, WroteSample, IsTold, SamplePromise}
+
+-- the plan from a list on
+abbrev from_list : ℕ → ℕ → Medl → Plan
+from_list slots number medl = ends (sample_ending slots number medl)
 
 wrote_sample_of : (medl : Medl) (slots number : ℕ) (before now : Output) (answer : Answer)
     → Showed ttpbench (sample_ending slots number medl) before now answer
@@ -25,36 +35,50 @@ wrote_sample : (list : List ℕ) (slots number : ℕ) (before now : Outside) (an
     → Promise (Some (sample list slots number)) before now answer → answer.status ≡ 0
     → WroteSample list slots number before now answer.kept
 wrote_sample list slots number before now answer p zero =
+    let held = before.files.held in
     let final = p.ended (omega (arith, zero)) in
-    let s = came_of_list (sample_ending slots number) before.files.held list p.loads final.0 final.1.comes
-    (sym final.2.status ∙ zero) in
+    let came = list_came held final.0 (omega (arith, zero, final.2.status)) list (from_list slots number) p.loads
+    final.1.comes in
+    let is = end_comes held came.loads (sample_ending slots number came.medl) final.0 came.comes in
     record {
-      bytes = s.bytes;
-      medl = s.medl;
-      list_file = s.list_file;
-      size = s.size;
-      right = s.right;
+      bytes = came.bytes;
+      medl = came.medl;
+      list_file = came.list_file;
+      size = came.right.size;
+      right = came.right.list;
       text =
-          wrote_sample_of s.medl slots number before.output now.output answer
-          (subst (λ (e : Ending). Showed ttpbench e before.output now.output answer) s.comes final.2);
+          wrote_sample_of came.medl slots number before.output now.output answer
+          (subst (λ (e : Ending). Showed ttpbench e before.output now.output answer) (sym is) final.2);
     }
 
+-- A right list.
+
+sample_told : (list : List ℕ) (slots number : ℕ) (before now : Outside) (medl : Medl)
+    → (file : IsTold list before now medl)
+    → told_ending before.files.held (plan_of (Some (sample list slots number)))
+    ≡ Some (sample_ending slots number medl)
+sample_told list slots number before now medl file =
+    rw (file.list_file, list_from-front file.bytes, list_from-right file.bytes medl file.size file.right) refl
+
 completed : (list : List ℕ) (slots number : ℕ) (before now : Outside) (answer : Answer) (medl : Medl)
-    → Promise (Some (sample list slots number)) before now answer
-    → Showed ttpbench (sample_ending slots number medl) before.output now.output answer ⊎ (answer.status ≡ 7)
+    → Promise (Some (sample list slots number)) before now answer → IsTold list before now medl
+    → ¬ HasRisen before.output.faults now.output.faults
     → ((answer.status ≡ 0) × WroteSampleOf medl slots number before.output now.output answer.kept)
     ⊎ ((answer.status ≡ 7) × Wrote before.output now.output [])
-completed list slots number before now answer medl p (inl showed) =
-    inl (showed.status, wrote_sample_of medl slots number before.output now.output answer showed)
-completed list slots number before now answer medl p (inr seven) = inr (seven, p.empty seven refl)
+completed list slots number before now answer medl p file sink =
+    let quiet = list_every (λ ending. Unit {0}) (λ f. Quiet before now f.name) list (from_list slots number) file.quiet
+    (λ fault. tt) (λ medl. tt) in
+    elim (told_shows ttpbench (plan_of (Some (sample list slots number))) before now answer
+    (sample_ending slots number medl) p.call (sample_told list slots number before now medl file) quiet sink) [
+      | inl showed ↦
+          inl (showed.status, wrote_sample_of medl slots number before.output now.output answer showed)
+      | inr seven ↦ inr (seven, p.empty seven refl)
+    ]
 
 pub sample_promise : (list : List ℕ) (slots number : ℕ) (before now : Outside) (answer : Answer)
     → Promise (Some (sample list slots number)) before now answer
     → SamplePromise list slots number before now answer
 sample_promise list slots number before now answer p = record {
   sample = wrote_sample list slots number before now answer p;
-  complete = λ medl file quiet.
-      completed list slots number before now answer medl p
-      (p.told (sample_ending slots number medl) (list_told (sample_ending slots number) list before now medl file)
-      (list_quiet (sample_ending slots number) list before now medl p.loads file p.in_order) quiet);
+  complete = λ medl file sink. completed list slots number before now answer medl p file sink;
 }

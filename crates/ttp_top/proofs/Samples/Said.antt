@@ -21,10 +21,6 @@ use Rattle.ttp_top.specs.Samples.Lines.{summary_lines}
 use Rattle.ttp_top.specs.Samples.Totals.{totals_of}
 use Rattle.ttp_top.proofs.Samples.Alike.{totals-legal}
 
-pub generated-slots : (list : Medl) (slots number : ℕ) → (generated list slots number).slots ≡ slots
-unfolding generated
-generated-slots list slots number = refl
-
 -- a cluster has done all slots of the generated script, and these are the totals of the run
 pub record HasCountedAll (list : Medl) (script : Script) (c : ClusterView) (totals : Totals) : Type 0 where
   pub valid : IsValidScript list script
@@ -51,7 +47,7 @@ all_counted list script c totals valid list_is script_is done w = record {
 -- what is written of it
 abbrev pub summary : Medl → ℕ → ℕ → Totals → Lines
 summary list slots number totals =
-    let script = generated list slots number in summary_lines list script script.slots number totals
+    summary_lines list (generated list slots number) slots number totals
 
 -- they are the same for all legal numbers
 summary-is : (list : Medl) (slots number : ℕ) (c : ClusterView) (totals : Totals)
@@ -59,8 +55,7 @@ summary-is : (list : Medl) (slots number : ℕ) (c : ClusterView) (totals : Tota
     → IsSample list slots number (summary list slots number totals)
 summary-is list slots number c totals w = λ numbers legal.
     let script = generated list slots number in
-    ap (λ n. summary_lines list script n number totals) (generated-slots list slots number)
-    ∙ ap (summary_lines list script slots number)
+    ap (summary_lines list script slots number)
     (w.totals_are ∙ totals-legal list script w.ran.numbers numbers w.valid w.ran.legal legal)
 
 -- they were written, and the cluster kept

@@ -1,6 +1,6 @@
 -- The promise of `run`, from the promise of every form.
-use Rattle.std.proofs.Common.{◌≡◌, ℕ, List, [], Some, refl, ap, sym, subst, ◌∙◌, inl, inr, arith}
-use Rattle.ttp_base.specs.Outside.{Load, HasRisen, Output}
+use Rattle.std.proofs.Common.{◌≡◌, ◌⊎◌, ℕ, List, [], Some, refl, ap, sym, subst, ◌∙◌, inl, inr, arith}
+use Rattle.ttp_base.specs.Outside.{HasRisen, Output}
 use Rattle.ttp_base.specs.Text.{Lines}
 use Rattle.ttp_world.specs.declared.medl.Medl.{Medl}
 use Rattle.ttp_world.specs.declared.script.Script.{Script}
@@ -11,17 +11,16 @@ use Rattle.ttp_world.specs.World.{Numbers, world}
 use Rattle.ttp_world.proofs.TraceNumbers.{numbers_in-trace}
 use Rattle.theorems.specs.KeptRun.{IsKeptRun, IsBackRun}
 use Rattle.theorems.proofs.Runs.{kept-run, back-run}
-use Rattle.commands.proofs.Both.{both_came, both_told, both_ask, due_told}
-use Rattle.commands.proofs.Plans.{end_comes, all_asked}
+use Rattle.commands.proofs.Both.{both_came, both_told, both_ask}
+use Rattle.commands.proofs.Plans.{end_comes, AllAsk}
+use Rattle.commands.proofs.Told.{Quiet, told_shows, told_cut, told_leaves}
 use Rattle.commands.specs.Outcome.{Showed}
-use Rattle.commands.specs.Plan.{Outside, ends, AsksFirst, told_ending}
-use Rattle.commands.specs.Promise.{IsDue, IsUnfinished, NoneAskedRose}
+use Rattle.commands.specs.Plan.{Outside, ends, told_ending}
 use Rattle.commands.specs.Right.{AreTold}
-use Rattle.commands.specs.Texts.{WroteAmong, CutAmong}
-use Rattle.ttp_top.specs.Calls.Answer.{Answer, Ending, Plan, WroteOf, ttpbench}
+use Rattle.ttp_top.specs.Calls.Answer.{Answer, Ending, Plan, WroteOf, CutOf, ttpbench}
 use Rattle.ttp_top.specs.Calls.Forms.{trace_ending, plan_of}
 use Rattle.ttp_top.specs.Calls.Promise.{Promise}
-use Rattle.ttp_top.specs.Calls.Texts.{fronts, IsTrace}
+use Rattle.ttp_top.specs.Calls.Texts.{traces, fronts, IsTrace}
 use Rattle.ttp_top.specs.Calls.Words.{run}
 use Rattle.ttp_top.specs.Scripts.Promise.{WroteTraceOf, WroteTrace, RunPromise}
 
@@ -68,7 +67,7 @@ wrote_trace : (list script : List ℕ) (before now : Outside) (answer : Answer)
 wrote_trace list script before now answer p zero =
     let held = before.files.held in
     let final = p.ended (omega (arith, zero)) in
-    let came = both_came held list script from_script final.0 (omega (arith, zero, final.2.status)) p.loads
+    let came = both_came held final.0 (omega (arith, zero, final.2.status)) list script from_script p.loads
     final.1.comes in
     let is = end_comes held came.loads (trace_ending came.medl came.right) final.0 came.comes in
     record {
@@ -86,59 +85,44 @@ wrote_trace list script before now answer p zero =
 
 -- ---- right files
 
--- they come to the traces of their list and their script
-run_told : (list script : List ℕ) (before now : Outside) (medl : Medl) (right : Script)
-    → AreTold list script before now medl right
-    → told_ending before.files.held (plan_of (Some (run list script))) ≡ Some (trace_ending medl right)
-run_told list script before now medl right files = both_told list script from_script before now medl right files
+module _ (list script : List ℕ) (before now : Outside) (answer : Answer)
+    (p : Promise (Some (run list script)) before now answer) (medl : Medl) (right : Script)
+    (files : AreTold list script before now medl right) where
+  -- they come to the traces of their list and their script
+  run_told : told_ending before.files.held (plan_of (Some (run list script))) ≡ Some (trace_ending medl right)
+  run_told = both_told list script from_script before now medl right files
 
--- and no count of a name rises that a run asks for
-none_rose : (list script : List ℕ) (before now : Outside) (medl : Medl) (right : Script) (loads : List Load)
-    → AreTold list script before now medl right → AsksFirst before.files.held (plan_of (Some (run list script))) loads
-    → NoneAskedRose before now loads
-none_rose list script before now medl right loads files asked =
-    let Q : List ℕ → Type 0 = λ name. ¬ HasRisen (before.files.faults name) (now.files.faults name) in
-    all_asked Q before.files.held (plan_of (Some (run list script))) loads
-    (both_ask Q list script from_script files.list_quiet files.script_quiet (λ medl right. tt)) asked
+  -- and no count of a name rises that a run asks for
+  quiet : AllAsk (Quiet before now) (plan_of (Some (run list script)))
+  quiet =
+      both_ask (Quiet before now) list script from_script files.list_quiet files.script_quiet (λ medl right. tt)
 
--- what was due and was cut short is one of those traces
-cut_trace : (list script : List ℕ) (before now : Outside) (medl : Medl) (right : Script) (loads : List Load)
-    (ending : Ending) → AreTold list script before now medl right → NoneAskedRose before now loads
-    → IsDue (plan_of (Some (run list script))) before now loads ending → ending ≡ trace_ending medl right
-cut_trace list script before now medl right loads ending files quiet due =
-    due_told (plan_of (Some (run list script))) before now loads ending (trace_ending medl right)
-    (run_told list script before now medl right files) quiet due
+  cut : answer.status ≡ 6 → CutOf (traces medl right) before.output now.output
+  cut six =
+      told_cut ttpbench (plan_of (Some (run list script))) before now answer (trace_ending medl right) p.call run_told
+      quiet six
 
--- what was written when memory was refused begins one of them
-begun_trace : (list script : List ℕ) (before now : Outside) (medl : Medl) (right : Script) (loads : List Load)
-    → AreTold list script before now medl right → NoneAskedRose before now loads
-    → IsUnfinished ttpbench (plan_of (Some (run list script))) before now loads
-    → WroteOf (fronts medl right) before.output now.output
-begun_trace list script before now medl right loads files quiet (inl none) =
-    record { lines = []; among = inl refl; wrote = none }
-begun_trace list script before now medl right loads files quiet (inr some) =
-    let is = cut_trace list script before now medl right loads some.0 files quiet (inl some.1) in
-    subst (λ (e : Ending). WroteAmong ttpbench e.unfinished before.output now.output) is some.2
+  -- what was written when memory was refused begins one of them
+  begun : answer.status ≡ 7 → WroteOf (fronts medl right) before.output now.output
+  begun seven =
+      elim (told_leaves ttpbench (plan_of (Some (run list script))) before now answer (trace_ending medl right) p.call
+      run_told quiet seven) [ inl none ↦ record { lines = []; among = inl refl; wrote = none } | inr some ↦ some ]
+
+  complete : ¬ HasRisen before.output.faults now.output.faults
+      → ((answer.status ≡ 0) × WroteTraceOf medl right before.output now.output answer.kept)
+      ⊎ ((answer.status ≡ 7) × WroteOf (fronts medl right) before.output now.output)
+  complete sink =
+      elim (told_shows ttpbench (plan_of (Some (run list script))) before now answer (trace_ending medl right) p.call
+      run_told quiet sink) [
+        | inl showed ↦ inl (showed.status, wrote_trace_of medl right before.output now.output answer showed)
+        | inr seven ↦ inr (seven, begun seven)
+      ]
 
 pub run_promise : (list script : List ℕ) (before now : Outside) (answer : Answer)
     → Promise (Some (run list script)) before now answer → RunPromise list script before now answer
-run_promise list script before now answer p =
-    let begun : (medl : Medl) (right : Script) → AreTold list script before now medl right → answer.status ≡ 7
-    → WroteOf (fronts medl right) before.output now.output = λ medl right files seven.
-    begun_trace list script before now medl right p.loads files
-    (none_rose list script before now medl right p.loads files p.in_order) (p.refused seven).1 in
-    record {
-      trace = wrote_trace list script before now answer p;
-      complete = λ medl right files sink.
-          let quiet = none_rose list script before now medl right p.loads files p.in_order in
-          elim (p.told (trace_ending medl right) (run_told list script before now medl right files) quiet sink) [
-            | inl showed ↦ inl (showed.status, wrote_trace_of medl right before.output now.output answer showed)
-            | inr seven ↦ inr (seven, begun medl right files seven)
-          ];
-      cut = λ medl right files six.
-          let stopped = p.stopped six in
-          let quiet = none_rose list script before now medl right p.loads files p.in_order in
-          let is = cut_trace list script before now medl right p.loads stopped.0 files quiet stopped.1 in
-          subst (λ (e : Ending). CutAmong ttpbench e.texts before.output now.output) is stopped.2;
-      begun = begun;
-    }
+run_promise list script before now answer p = record {
+  trace = wrote_trace list script before now answer p;
+  complete = complete list script before now answer p;
+  cut = cut list script before now answer p;
+  begun = begun list script before now answer p;
+}

@@ -14,10 +14,9 @@ use Rattle.ttp_world.proofs.TraceNumbers.{numbers_in-trace}
 use Rattle.cluster_run.specs.Standing.{ClusterView}
 use Rattle.commands.specs.Outcome.{Says, Shows}
 use Rattle.commands.specs.Texts.{answer, alone}
-use Rattle.ttp_top.specs.declared.trace.RunFault.TheVariants as fault
-use Rattle.ttp_top.specs.Calls.Answer.{HasRun, ttpbench}
+use Rattle.ttp_top.specs.Calls.Answer.{HasRun, ttpbench, kept_after}
 use Rattle.ttp_top.specs.Calls.Forms.{trace_ending, keep_ending}
-use Rattle.ttp_top.specs.Scripts.Written.{HasWritten, Leaves}
+use Rattle.ttp_top.specs.Scripts.Written.{HasWritten}
 use Rattle.ttp_top.proofs.Scripts.Fronts.{is_trace}
 
 -- a run was written whole, and its cluster has its list and its script
@@ -49,48 +48,34 @@ run_named list script numbers c valid valid_script legal run =
     subst (λ (ns : Numbers). HasRun list script ns c)
     (sym (numbers_in-trace list script numbers valid valid_script legal.count legal.legal)) run
 
--- the last lines were said after a run, with status 0, and the cluster kept
-pub trace_said : (list : Medl) (script : Script) (a b d : Output) (c : ClusterView) (status : ℕ) → IsValid list
-    → IsValidScript list script → HasWrittenAll list script a b c → Says ttpbench (keep_ending list script) b d (alone status)
-    → status ≡ 0 → Shows ttpbench (trace_ending list script) a d (answer status (Some c))
-trace_said list script a b d c status valid valid_script w (inl showed) zero =
+-- the last lines were said after a run, and the cluster is kept after status 0
+pub trace_shown : (list : Medl) (script : Script) (a b d : Output) (c : ClusterView) (status : ℕ) → IsValid list
+    → IsValidScript list script → HasWrittenAll list script a b c
+    → Says ttpbench (keep_ending list script) b d (alone status)
+    → Shows ttpbench (trace_ending list script) a d (answer status (kept_after status c))
+trace_shown list script a b d c status valid valid_script w (inl showed) =
     let last = test_lines list script in
     let wrote : WroteLines b d last = subst (WroteLines b d) showed.text.among showed.text.wrote in
-    inl (inl (record {
-      status = zero;
+    subst (λ n. Shows ttpbench (trace_ending list script) a d (answer n (kept_after n c))) (sym showed.status)
+    (inl (inl (record {
+      status = refl;
       text = record {
         lines = trace_lines list script w.numbers;
         among = is_trace list script valid valid_script w.numbers w.legal;
         wrote = Wrote-join a b d (run_lines list script w.numbers) last w.lines wrote;
       };
       kept = run_named list script w.numbers c valid valid_script w.legal w.run;
-    }))
-trace_said list script a b d c status valid valid_script w (inr stopped) zero =
-    absurd (omega (arith, zero, stopped.status))
-
--- or they were not, and none is kept
-pub trace_stopped : (list : Medl) (script : Script) (a b d : Output) (c : ClusterView) (status : ℕ) → IsValid list
-    → IsValidScript list script → HasWrittenAll list script a b c → Says ttpbench (keep_ending list script) b d (alone status)
-    → status ≢ 0 → Shows ttpbench (trace_ending list script) a d (alone status)
-trace_stopped list script a b d c status valid valid_script w (inl showed) other = absurd (other showed.status)
-trace_stopped list script a b d c status valid valid_script w (inr stopped) other =
+    })))
+trace_shown list script a b d c status valid valid_script w (inr stopped) =
     let last = test_lines list script in
     let cut : CutShort b d last = subst (CutShort b d) stopped.text.among stopped.text.cut in
-    inl (inr (record {
-      status = stopped.status;
+    subst (λ n. Shows ttpbench (trace_ending list script) a d (answer n (kept_after n c))) (sym stopped.status)
+    (inl (inr (record {
+      status = refl;
       text = record {
         lines = trace_lines list script w.numbers;
         among = is_trace list script valid valid_script w.numbers w.legal;
         cut = CutShort-after a b d (run_lines list script w.numbers) last w.lines cut;
       };
       none = refl;
-    }))
-
--- a run was not written whole
-pub trace_left : (list : Medl) (script : Script) (a b : Output) → Leaves fault.Memory list script a b
-    → Shows ttpbench (trace_ending list script) a b (alone 7)
-trace_left list script a b left = inr (record { status = refl; text = left; none = refl })
-
-pub trace_cut : (list : Medl) (script : Script) (a b : Output) → Leaves fault.Failed list script a b
-    → Shows ttpbench (trace_ending list script) a b (alone 6)
-trace_cut list script a b cut = inl (inr (record { status = refl; text = cut; none = refl }))
+    })))

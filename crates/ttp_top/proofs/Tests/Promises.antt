@@ -1,7 +1,7 @@
 -- The promises of `keeps` and of `precision`, from the promise of every form.
-use Rattle.std.proofs.Common.{◌≡◌, ◌≤ℤ◌, ℕ, ◌≤◌, List, [], ◌∷◌, Option, Some, false, refl, ap, sym, subst, ◌∙◌}
+use Rattle.std.proofs.Common.{◌≡◌, ◌⊎◌, ℕ, List, [], ◌∷◌, Option, Some, false, refl, ap, sym, subst, ◌∙◌}
 use Rattle.std.proofs.Common.{inl, inr, arith}
-use Rattle.ttp_base.specs.Outside.{HasRisen, Output}
+use Rattle.ttp_base.specs.Outside.{HasRisen, Wrote}
 use Rattle.ttp_base.specs.Text.{Lines}
 use Rattle.ttp_world.specs.declared.medl.Medl.{Medl}
 use Rattle.ttp_world.specs.declared.script.Script.{Script}
@@ -16,14 +16,14 @@ use Rattle.two_faced.specs.Seen.{seen_of}
 use Rattle.two_faced.proofs.Rules.{rules-hold}
 use Rattle.two_faced.proofs.SeenWithin.{runs-seen}
 use Rattle.theorems.proofs.Runs.{some-run, faced-run}
-use Rattle.commands.proofs.Both.{both_came, both_told, both_ask, due_told}
-use Rattle.commands.proofs.Plans.{AllAsk, end_comes, all_asked}
+use Rattle.commands.proofs.Both.{both_came, both_told, both_ask}
+use Rattle.commands.proofs.Plans.{AllAsk, end_comes}
+use Rattle.commands.proofs.Told.{Quiet, told_shows, told_cut}
 use Rattle.commands.specs.Files.{both_plan}
 use Rattle.commands.specs.Outcome.{Showed}
 use Rattle.commands.specs.Plan.{Outside, ends, Comes, told_ending}
-use Rattle.commands.specs.Promise.{NoneAskedRose}
 use Rattle.commands.specs.Right.{AreRight, AreTold}
-use Rattle.commands.specs.Texts.{IsAmong, CutAmong}
+use Rattle.commands.specs.Texts.{IsAmong}
 use Rattle.ttp_top.specs.Calls.Answer.{Answer, Ending, Plan, ttpbench}
 use Rattle.ttp_top.specs.Calls.Forms.{keep_ending, precision_ending, plan_of}
 use Rattle.ttp_top.specs.Calls.Precision.{answer_line}
@@ -65,7 +65,7 @@ module _ (such : Medl → Script → Lines → Type 0) (ending_of : Medl → Scr
   wrote_for none =
       let held = before.files.held in
       let final = p.ended (omega (arith, none)) in
-      let came = both_came held list script from_script final.0 (omega (arith, none, final.2.status)) p.loads
+      let came = both_came held final.0 (omega (arith, none, final.2.status)) list script from_script p.loads
       (subst (λ (plan : Plan). Comes held plan p.loads (ends final.0)) is final.1.comes) in
       let end = end_comes held came.loads (ending_of came.medl came.right) final.0 came.comes in
       record {
@@ -86,39 +86,36 @@ module _ (such : Medl → Script → Lines → Type 0) (ending_of : Medl → Scr
     both_end =
         ap (told_ending before.files.held) is ∙ both_told list script from_script before now medl right files
 
-    none_rose : NoneAskedRose before now p.loads
-    none_rose =
-        let Q : List ℕ → Type 0 = λ name. ¬ HasRisen (before.files.faults name) (now.files.faults name) in
-        all_asked Q before.files.held (plan_of form) p.loads
-        (subst (AllAsk Q) (sym is)
-        (both_ask Q list script from_script files.list_quiet files.script_quiet (λ medl right. tt))) p.in_order
+    quiet : AllAsk (Quiet before now) (plan_of form)
+    quiet =
+        subst (AllAsk (Quiet before now)) (sym is)
+        (both_ask (Quiet before now) list script from_script files.list_quiet files.script_quiet (λ medl right. tt))
 
     cut_such : answer.status ≡ 6 → CutSuch (such medl right) before.output now.output
     cut_such six =
-        let stopped = p.stopped six in
-        let due = due_told (plan_of form) before now p.loads stopped.0 (ending_of medl right) both_end none_rose
-        stopped.1 in
-        let cut = subst (λ (e : Ending). CutAmong ttpbench e.texts before.output now.output) due stopped.2 in
+        let cut = told_cut ttpbench (plan_of form) before now answer (ending_of medl right) p.call both_end quiet six
+        in
         record {
           lines = cut.lines;
           is = lines_such files.bytes files.script_bytes medl right files.are cut.lines cut.among;
           cut = cut.cut;
         }
 
-  pub test_promise : TestPromise such list script before now answer
-  test_promise = record {
-    said = wrote_for;
-    complete = λ medl right files sink.
-        elim (p.told (ending_of medl right) (both_end medl right files) (none_rose medl right files) sink) [
+    completed : ¬ HasRisen before.output.faults now.output.faults
+        → ((answer.status ≡ 0) × WroteSuch (such medl right) before.output now.output)
+        ⊎ ((answer.status ≡ 7) × Wrote before.output now.output [])
+    completed sink =
+        elim (told_shows ttpbench (plan_of form) before now answer (ending_of medl right) p.call both_end quiet sink) [
           | inl showed ↦
               inl (
                 showed.status ∙ zero medl right,
                 wrote_such files.bytes files.script_bytes medl right files.are showed,
               )
           | inr seven ↦ inr (seven, p.empty seven other)
-        ];
-    cut = cut_such;
-  }
+        ]
+
+  pub test_promise : TestPromise such list script before now answer
+  test_promise = record { said = wrote_for; complete = completed; cut = cut_such }
 
 pub keeps_promise : (list script : List ℕ) (before now : Outside) (answer : Answer)
     → Promise (Some (keeps list script)) before now answer → KeepsPromise list script before now answer

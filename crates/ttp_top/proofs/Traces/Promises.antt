@@ -22,12 +22,12 @@ use Rattle.trace_check.proofs.OwnNumbers.{is_trace-numbers}
 use Rattle.theorems.specs.ModeText.{ShowsOneMode}
 use Rattle.theorems.proofs.ModeTexts.{mode-text}
 use Rattle.trace_size.proofs.TraceLength.{trace-short}
-use Rattle.commands.proofs.Both.{both_came, both_told, both_ask, due_told}
-use Rattle.commands.proofs.Plans.{end_comes, AllAsk, all_asked}
+use Rattle.commands.proofs.Both.{both_came, both_told, both_ask}
+use Rattle.commands.proofs.Plans.{end_comes, AllAsk}
+use Rattle.commands.proofs.Told.{Quiet, told_shows, told_cut}
 use Rattle.commands.specs.Files.{both_plan, trace_plan}
 use Rattle.commands.specs.Outcome.{Showed}
 use Rattle.commands.specs.Plan.{Outside, whole_ending, ends, Comes, told_ending}
-use Rattle.commands.specs.Promise.{NoneAskedRose}
 use Rattle.commands.specs.Read.{trace_limit}
 use Rattle.commands.specs.Right.{MayBe, AreRight}
 use Rattle.commands.specs.Texts.{one, those, IsAmong, CutAmong}
@@ -158,7 +158,7 @@ module _ (said : OfTrace) (form : Option Form) (list script trace : List ℕ)
   judged few =
       let held = before.files.held in
       let final = p.ended (omega (arith, few)) in
-      let both = both_came held list script (from_script said trace) final.0 (omega (arith, few, final.2.status))
+      let both = both_came held final.0 (omega (arith, few, final.2.status)) list script (from_script said trace)
       p.loads (subst (λ (plan : Plan). Comes held plan p.loads (ends final.0)) is final.1.comes) in
       let loaded = text_came said held trace both.medl both.right both.loads final.0 both.comes in
       let whole = loaded_from (held trace) trace_limit loaded.given loaded.gives in
@@ -195,19 +195,18 @@ module _ (said : OfTrace) (form : Option Form) (list script trace : List ℕ)
         ∙ both_told list script (from_script said trace) before now medl right files.files
         ∙ last
 
-    none_rose : NoneAskedRose before now p.loads
-    none_rose =
-        let Q : List ℕ → Type 0 = λ name. ¬ HasRisen (before.files.faults name) (now.files.faults name) in
-        all_asked Q before.files.held (plan_of form) p.loads
-        (subst (AllAsk Q) (sym is)
-        (both_ask Q list script (from_script said trace) files.files.list_quiet files.files.script_quiet
-        (λ m s. (files.trace_quiet, λ bytes. tt)))) p.in_order
+    quiet : AllAsk (Quiet before now) (plan_of form)
+    quiet =
+        subst (AllAsk (Quiet before now)) (sym is)
+        (both_ask (Quiet before now) list script (from_script said trace) files.files.list_quiet files.files.script_quiet
+        (λ m s. (files.trace_quiet, λ bytes. tt)))
 
     complete : is_run form ≡ false → ¬ HasRisen before.output.faults now.output.faults
         → HasJudged said medl right text before.output now.output answer.status
         ⊎ ((answer.status ≡ 7) × Wrote before.output now.output [])
     complete other sink =
-        elim (p.told (ending_of said medl right (take (trace_limit + 1) text)) text_told none_rose sink) [
+        elim (told_shows ttpbench (plan_of form) before now answer
+        (ending_of said medl right (take (trace_limit + 1) text)) p.call text_told quiet sink) [
           | inl showed ↦
               inl (showed-judged said medl right trace_limit most_told text before.output now.output answer showed)
           | inr seven ↦ inr (seven, p.empty seven other)
@@ -215,11 +214,9 @@ module _ (said : OfTrace) (form : Option Form) (list script trace : List ℕ)
 
     cut : answer.status ≡ 6 → CutVerdict said medl right text before.output now.output
     cut six =
-        let stopped = p.stopped six in
-        let due = due_told (plan_of form) before now p.loads stopped.0
-        (ending_of said medl right (take (trace_limit + 1) text)) text_told none_rose stopped.1 in
         cut-verdict said medl right trace_limit most_told text before.output now.output
-        (subst (λ (e : Ending). CutAmong ttpbench e.texts before.output now.output) due stopped.2)
+        (told_cut ttpbench (plan_of form) before now answer (ending_of said medl right (take (trace_limit + 1) text))
+        p.call text_told quiet six)
 
   text_promise : is_run form ≡ false → TextPromise said list script trace before now answer
   text_promise other = record {

@@ -1,5 +1,5 @@
 -- What is this program's own in the promise of a call: its sets of texts, and the cluster that it keeps beside some.
-use Rattle.std.specs.Prelude.{◌≡◌, Option, None, IsSomeAnd}
+use Rattle.std.specs.Prelude.{◌≡◌, ◌==◌, ℕ, Option, Some, None, IsSomeAnd, if◌then◌else◌}
 use Rattle.ttp_base.specs.Outside.{Output}
 use Rattle.ttp_base.specs.Text.{Lines}
 use Rattle.ttp_world.specs.declared.medl.Medl.{Medl}
@@ -25,6 +25,10 @@ pub record HasRunLegally (list : Medl) (script : Script) (c : ClusterView) : Typ
   pub numbers : Numbers
   pub legal : IsLegalRun list script numbers
   pub run : HasRun list script numbers c
+
+-- what is kept of a cluster after a status
+abbrev pub kept_after : ℕ → ClusterView → Option ClusterView
+kept_after status c = if status == 0 then Some c else None
 
 -- What is kept beside a text of a set that is written whole: beside a trace the cluster that ran, which stands for the
 -- message numbers that the trace names; beside the lines on a generated run the cluster that ran, which stands for legal

@@ -16,7 +16,7 @@ returns-clause-ok g c =
     let list = c.args.list.now in
     let script = c.args.script.now in
     let totals = c.args.totals.now in
-    let asked = asked_line script.slots c.args.number in
+    let asked = asked_line c.args.slots c.args.number in
     let sent = sent_line list totals in
     let hosts = hosts_line totals in
     let two = Wrote-join a b d (asked ∷ []) (sent ∷ []) c.in_ok-put_asked.ensures.ok c.in_ok-put_sent.ensures.ok in
@@ -35,7 +35,7 @@ returns-clause-failed g c =
     let list = c.args.list.now in
     let script = c.args.script.now in
     let totals = c.args.totals.now in
-    let asked = asked_line script.slots c.args.number in
+    let asked = asked_line c.args.slots c.args.number in
     let sent = sent_line list totals in
     let hosts = hosts_line totals in
     let two = Wrote-join a b d (asked ∷ []) (sent ∷ []) c.in_ok-put_asked.ensures.ok c.in_ok-put_sent.ensures.ok in
@@ -53,7 +53,7 @@ returns-in_err-put_asked-clause-failed g c =
     let script = c.args.script.now in
     let totals = c.args.totals.now in
     rw failed.1
-    (CutShort-more a b (asked_line script.slots c.args.number ∷ [])
+    (CutShort-more a b (asked_line c.args.slots c.args.number ∷ [])
     (sent_line list totals ∷ hosts_line totals ∷ keep_line (keeps list script) ∷ [])
     c.in_err-put_asked.ensures.failed)
 
@@ -67,7 +67,7 @@ returns-in_err-put_sent-clause-failed g c =
     let list = c.args.list.now in
     let script = c.args.script.now in
     let totals = c.args.totals.now in
-    let asked = asked_line script.slots c.args.number in
+    let asked = asked_line c.args.slots c.args.number in
     let sent = sent_line list totals in
     rw failed.1
     (CutShort-more a d (asked ∷ sent ∷ []) (hosts_line totals ∷ keep_line (keeps list script) ∷ [])
@@ -84,7 +84,7 @@ returns-in_err-put_hosts-clause-failed g c =
     let list = c.args.list.now in
     let script = c.args.script.now in
     let totals = c.args.totals.now in
-    let asked = asked_line script.slots c.args.number in
+    let asked = asked_line c.args.slots c.args.number in
     let sent = sent_line list totals in
     let hosts = hosts_line totals in
     let two = Wrote-join a b d (asked ∷ []) (sent ∷ []) c.in_ok-put_asked.ensures.ok c.in_ok-put_sent.ensures.ok in
