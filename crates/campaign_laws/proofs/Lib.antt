@@ -1,3 +1,4 @@
 pub mod Alike
 pub mod Calm
 pub mod Yes
+pub mod Kept

@@ -1,13 +1,15 @@
 //! The laws of the lines of a campaign. The functions do nothing; their contracts are the laws.
-ghost use Rattle.std.specs.Prelude.{◌≡◌, [], ◌∷◌, None, filter, map, IsTrue, List, count_by, is_some, All};
-ghost use Rattle.ttp_world.specs.declared.script.Event.{Event};
-ghost use Rattle.ttp_world.specs.Legal.{IsLegal, IsLegalRun};
+ghost use Rattle.std.specs.Prelude.{◌≡◌, ℕ, ◌<◌, [], None, map, length, IsTrue};
+ghost use Rattle.ttp_world.specs.declared.script.TheConstants.{EVENT_LIMIT};
+ghost use Rattle.ttp_world.specs.Diary.{History};
+ghost use Rattle.ttp_world.specs.Legal.{IsLegalRun};
 ghost use Rattle.ttp_world.specs.Medl.{IsValid};
 ghost use Rattle.ttp_world.specs.Script.{IsValidScript};
 ghost use Rattle.ttp_world.specs.World.{Numbers, world};
-ghost use Rattle.campaign.specs.Cost.{says_yes, hurt_nodes, split_span};
-ghost use Rattle.campaign.specs.Lines.{summary, summary_of};
-ghost use Rattle.campaign.specs.ZerosWorld.{zeros_world};
+ghost use Rattle.campaign.specs.declared.cost.Cost.{Cost};
+ghost use Rattle.campaign.specs.Cost.{says_yes};
+ghost use Rattle.campaign.specs.Lines.{summary, summary_of, summary_with, kept_counts};
+ghost use Rattle.campaign.specs.Tried.{faults_from};
 
 use ttp_world::{Medl, Script};
 
@@ -33,4 +35,21 @@ pub fn yes_is_safe(list: &Medl, script: &Script)
     requires yes { IsTrue (says_yes list.now script.now) }
     ensures hurt { (summary list.now script.now).cost.hurt ≡ [] }
     ensures split { (summary list.now script.now).cost.split ≡ None }
+{}
+
+/// So the line of counts of the runs whose test says yes counts none in which a node is hurt (`hurt`), and
+/// none in which memberships are split (`split`), whatever range is asked for. The script is to have room
+/// for one event more.
+///
+/// It does nothing, and takes no memory.
+pub fn kept_is_safe(list: &Medl, script: &Script)
+    requires valid { IsValid list.now }
+    requires script { IsValidScript list.now script.now }
+    requires room { length script.now.events < EVENT_LIMIT }
+    ensures hurt { (own : Cost) (history : History) (first last : ℕ)
+        → (kept_counts list.now own (map (summary_with list.now script.now)
+        (faults_from list.now script.now history first last))).hurt ≡ 0 }
+    ensures split { (own : Cost) (history : History) (first last : ℕ)
+        → (kept_counts list.now own (map (summary_with list.now script.now)
+        (faults_from list.now script.now history first last))).split ≡ 0 }
 {}

@@ -1,8 +1,10 @@
 //! What is owed of a script with one fault more. The functions do nothing; their contracts are the laws.
-ghost use Rattle.std.specs.Prelude.{◌<◌, length, All};
+ghost use Rattle.std.specs.Prelude.{ℕ, ◌<◌, length, All};
 ghost use Rattle.ttp_world.specs.declared.script.TheConstants.{EVENT_LIMIT};
+ghost use Rattle.ttp_world.specs.Diary.{History};
+ghost use Rattle.ttp_world.specs.Medl.{IsValid};
 ghost use Rattle.ttp_world.specs.Script.{IsValidScript, IsBounded};
-ghost use Rattle.campaign.specs.Tried.{with_fault};
+ghost use Rattle.campaign.specs.Tried.{with_fault, faults_from};
 ghost use Rattle.single_faults.specs.Tried.{MayStand};
 
 use ttp_world::{Event, Medl, Script};
@@ -16,4 +18,11 @@ pub fn more_is_valid(list: &Medl, script: &Script, fault: &Event)
     ensures valid { IsValidScript list.now (with_fault script.now fault.now) }
     ensures events { All IsBounded script.now.events }
     ensures fault { IsBounded fault.now }
+{}
+
+/// Each fault that is tried in a range of slots may stand in the script, whatever its run was.
+pub fn faults_may_stand(list: &Medl, script: &Script)
+    requires { IsValid list.now }
+    ensures { (history : History) (first last : ℕ)
+        → All (MayStand list.now script.now) (faults_from list.now script.now history first last) }
 {}
