@@ -26,7 +26,7 @@ class Asked:
 
     def __init__(self, status, counts, calls):
         self.status = status
-        self.allocations, self.threads, self.bytes = counts
+        self.allocations, self.threads, self.bytes, _, self.most_held = counts
         # Names of the files in the order in which they were opened, and for each its reads: bytes asked for and got.
         self.opened, self.reads, self.writes = [], {}, []
         names = {}
@@ -44,7 +44,7 @@ class Asked:
 def asked(built, command, out, place=None):
     """Runs a command behind the library, with its output to an open file, and tells what it asked for."""
     with tempfile.TemporaryFile() as counted, tempfile.TemporaryFile() as calls:
-        counted.truncate(24)
+        counted.truncate(40)
         surroundings = {
             **os.environ, "LD_PRELOAD": built, "COUNTED": str(counted.fileno()), "COUNTED_CALLS": str(calls.fileno()),
         }
@@ -54,4 +54,4 @@ def asked(built, command, out, place=None):
         )
         counted.seek(0)
         calls.seek(0)
-        return Asked(ran.returncode, struct.unpack("lll", counted.read(24)), calls.read().decode("latin-1"))
+        return Asked(ran.returncode, struct.unpack("5l", counted.read(40)), calls.read().decode("latin-1"))

@@ -4,8 +4,8 @@
 // counted from 1, and REFUSE_ALL is set where all later ones are refused too. REFUSE_TOLD is the number of an open file, to
 // which one byte is written when a call is refused for the first time.
 //
-// COUNTED is the number of an open file of 24 bytes or more, in which three numbers of 8 bytes count all along: allocations,
-// starts of threads, and the bytes that were asked for. COUNTED_CALLS is that of an open file to which a line is written for each file that is opened, and for
+// COUNTED is the number of an open file of 40 bytes or more, in which five numbers of 8 bytes count all along: allocations,
+// starts of threads, the bytes that were asked for, those that are held, and the most that were. COUNTED_CALLS is that of an open file to which a line is written for each file that is opened, and for
 // each read and each write, as `open 3 PATH`, `read 3 ASKED GOT` and `write 1 ASKED TAKEN`; -1 says that it failed.
 //
 // It stands before the allocations that go to the GNU C library, the program's and the library's own, and before the
@@ -15,6 +15,7 @@
 #include <dlfcn.h>
 #include <errno.h>
 #include <fcntl.h>
+#include <malloc.h>
 #include <pthread.h>
 #include <stdarg.h>
 #include <stdatomic.h>
@@ -30,14 +31,15 @@ void *__libc_malloc(size_t);
 void *__libc_calloc(size_t, size_t);
 void *__libc_realloc(void *, size_t);
 void *__libc_memalign(size_t, size_t);
+void __libc_free(void *);
 
 static int of_threads;
 static long first, told = -1, listed = -1;
 static int all;
 static atomic_long calls;
-// Allocations, starts of threads, and bytes. The program ends without the C library's last steps, so the counts stand in a
-// file that another process reads.
-static atomic_long unseen[3], *counts = unseen;
+// The program ends without the C library's last steps, so the counts stand in a file that another process reads.
+enum { ALLOCATIONS, THREADS, BYTES, HELD, MOST_HELD, COUNTS };
+static atomic_long unseen[COUNTS], *counts = unseen;
 
 __attribute__((constructor)) static void begin(void) {
     const char *what = getenv("REFUSE"), *number = getenv("REFUSE_FIRST"), *file = getenv("REFUSE_TOLD");
@@ -57,8 +59,8 @@ __attribute__((constructor)) static void begin(void) {
 
 // Whether this call, for so many bytes, is refused.
 static int is_refused(int is_thread, size_t size) {
-    atomic_fetch_add(&counts[is_thread], 1);
-    atomic_fetch_add(&counts[2], (long)size);
+    atomic_fetch_add(&counts[is_thread ? THREADS : ALLOCATIONS], 1);
+    atomic_fetch_add(&counts[BYTES], (long)size);
     if (first == 0 || is_thread != of_threads)
         return 0;
     long number = atomic_fetch_add(&calls, 1) + 1;
@@ -72,24 +74,51 @@ static void *refused(void) {
     return NULL;
 }
 
+// Counts what is held from now on.
+static void *held(void *place) {
+    if (!place)
+        return NULL;
+    long size = (long)malloc_usable_size(place), now = atomic_fetch_add(&counts[HELD], size) + size;
+    long most = atomic_load(&counts[MOST_HELD]);
+    while (now > most && !atomic_compare_exchange_weak(&counts[MOST_HELD], &most, now)) {
+    }
+    return place;
+}
+
+static void let_go(void *place) {
+    if (place)
+        atomic_fetch_sub(&counts[HELD], (long)malloc_usable_size(place));
+}
+
+void free(void *place) {
+    let_go(place);
+    __libc_free(place);
+}
+
 void *malloc(size_t size) {
-    return is_refused(0, size) ? refused() : __libc_malloc(size);
+    return is_refused(0, size) ? refused() : held(__libc_malloc(size));
 }
 
 void *calloc(size_t count, size_t size) {
-    return is_refused(0, count * size) ? refused() : __libc_calloc(count, size);
+    return is_refused(0, count * size) ? refused() : held(__libc_calloc(count, size));
 }
 
 void *realloc(void *old, size_t size) {
-    return is_refused(0, size) ? refused() : __libc_realloc(old, size);
+    if (is_refused(0, size))
+        return refused();
+    long before = old ? (long)malloc_usable_size(old) : 0;
+    void *place = __libc_realloc(old, size);
+    if (place || size == 0)
+        atomic_fetch_sub(&counts[HELD], before);
+    return held(place);
 }
 
 void *memalign(size_t align, size_t size) {
-    return is_refused(0, size) ? refused() : __libc_memalign(align, size);
+    return is_refused(0, size) ? refused() : held(__libc_memalign(align, size));
 }
 
 void *aligned_alloc(size_t align, size_t size) {
-    return is_refused(0, size) ? refused() : __libc_memalign(align, size);
+    return is_refused(0, size) ? refused() : held(__libc_memalign(align, size));
 }
 
 int posix_memalign(void **out, size_t align, size_t size) {
@@ -98,7 +127,7 @@ int posix_memalign(void **out, size_t align, size_t size) {
     void *place = __libc_memalign(align, size);
     if (!place)
         return ENOMEM;
-    *out = place;
+    *out = held(place);
     return 0;
 }
 
