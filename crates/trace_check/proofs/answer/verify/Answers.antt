@@ -49,7 +49,7 @@ wrong_behind c =
     ]
 
 -- the same where the answer is given
-answered : (c : goal.After-drop-follower-10)
+answered : (c : goal.After-drop-follower-8)
     → IsWrongBehind c.args.list.now c.args.script.now c.args.text.now c.match-follow.left.now
 answered c =
     let list = c.args.list.now in
@@ -70,7 +70,7 @@ pub line_behind-requires : goal.line_behind-requires
 line_behind-requires c =
     let wrong = wrong_behind c in subst (λ n. n + 1 < 2 ^ 32) (sym wrong.counted) wrong.few
 
-first_wrong : (c : goal.After-drop-follower-10)
+first_wrong : (c : goal.After-drop-follower-8)
     → IsFirstWrong c.args.list.now c.args.script.now c.args.text.now c.line_behind.result
 first_wrong c =
     let wrong = answered c in
