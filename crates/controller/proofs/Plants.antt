@@ -1,5 +1,6 @@
--- What a slot leaves for the hosts of a plant's nodes.
-use Rattle.std.proofs.Common.{◌≡◌, ℕ, zero, suc, ◌<◌, List, [], ◌∷◌, length, get_or, Some, refl, sym, ap, subst, arith}
+-- What a slot makes of a plant, and leaves for the hosts of its nodes.
+use Rattle.std.proofs.Common.{◌≡◌, ℕ, zero, suc, ◌+◌, ◌<◌, List, [], ◌∷◌, length, get_or, Some, refl, sym, ap, ◌∙◌}
+use Rattle.std.proofs.Common.{subst, add-one, arith}
 use Rattle.std.specs.Prelude.{slice_get}
 use Rattle.std.proofs.lemmas.Option.{none-some, same_Some}
 use Rattle.ttp_world.specs.declared.medl.Medl.{Medl}
@@ -8,8 +9,9 @@ use Rattle.ttp_world.specs.declared.script.Script.{Script}
 use Rattle.ttp_world.specs.Diary.{History}
 use Rattle.controller.specs.declared.controller.Outcome.{Outcome}
 use Rattle.controller.specs.declared.seat.Seat.{Seat}
-use Rattle.controller.specs.Passes.{AreLeft, IsLeft}
-use Rattle.controller.specs.PlantStands.{no_outcome, outcomes_of}
+use Rattle.controller.specs.Passes.{AreLeft, HaveEnded, IsLeft}
+use Rattle.controller.specs.PlantStands.{IsStep, PlantStandsFor, no_outcome, outcomes_of, plant_of}
+use Rattle.controller.specs.PlantWithin.{AreSeats, IsEnded, most_ahead}
 use Rattle.controller.proofs.Parts.{each-of}
 
 -- each place of a list has something
@@ -31,3 +33,13 @@ pub left_at : {list : Medl} {script : Script} {history : History} {chosen : List
 left_at {list = list} {script = script} {history = history} {chosen = chosen} {seats = seats} left k less =
     let found = some_at seats k less in
     subst (IsLeft list script history chosen k) (sym (outcome_there seats k found.0 found.1)) (each-of left k found.1)
+
+-- So the three passes step a plant: each node stands for what the world's slot makes of the history.
+pub is-step : {list : Medl} {script : Script} {slot : ℕ} {history : History} {chosen : List Chosen} {old new : List Seat}
+    → PlantStandsFor (plant_of list slot old) script history → length new ≡ length list.slots
+    → AreSeats list IsEnded (most_ahead (slot + 1)) 0 new → HaveEnded list script history chosen 0 new
+    → IsStep (plant_of list (slot + 1) new) script history chosen
+is-step {slot = slot} stands count are ended = record {
+  stands = record { slot = add-one slot ∙ ap suc stands.slot; count = count; are = are; seats = ended.stand };
+  left = λ k node. left_at ended.left k (omega (arith, node, count));
+}

@@ -1,16 +1,18 @@
 -- What a node hears, by what comes to it, and what it makes of it.
 use Rattle.std.specs.Prelude.{◌≡◌, ℕ, ◌+◌, ◌<◌, ◌≤◌, ℤ, ◌+ℤ◌, ◌-ℤ◌, Bool, true, false, length, IfSome, unsigned_abs}
-use Rattle.ttp_frame.specs.Shape.{HaveRoom}
+use Rattle.ttp_frame.specs.declared.judging.Expect.{Expect}
+use Rattle.ttp_frame.specs.Shape.{HaveRoom, IsShape}
 use Rattle.ttp_world.specs.declared.medl.Medl.{Medl}
 use Rattle.ttp_world.specs.declared.node.Ack.{Ack}
 use Rattle.ttp_world.specs.declared.node.Ack.TheVariants as ack
 use Rattle.ttp_world.specs.Act.{coming_place}
+use Rattle.ttp_world.specs.Diary.{Place}
 use Rattle.ttp_world.specs.Medium.{Signal}
 use Rattle.ttp_world.specs.Medl.{is_wide}
 use Rattle.ttp_world.specs.Membership.{AreNodes}
 use Rattle.ttp_world.specs.Past.{NodePast}
 use Rattle.ttp_world.specs.Reception.{Hearing, candidates, verdict_of, view_of, heard_deviation, entry_deviation}
-use Rattle.ttp_world.specs.Reception.{is_first_view, is_taken_from_a}
+use Rattle.ttp_world.specs.Reception.{is_first_view, is_taken_from_a, expected_header, expected_length}
 use Rattle.ttp_world.specs.Reception.{Expected as Awaited}
 use Rattle.medium.specs.declared.arrival.Arrival.{Arrival}
 use Rattle.medium.specs.declared.arrival.Arrival.TheVariants as arrival
@@ -55,10 +57,18 @@ ReadingFits own came error = unsigned_abs own + unsigned_abs (offset_of_arrival 
 
 -- What a receiver judges by.
 
+-- this is the form of the frame that the list gives for a place
+pub record IsFormOf (list : Medl) (place : Place) (form : Expect) : Type 0 where
+  pub wide : form.wide ≡ is_wide list
+  pub header : form.header ≡ expected_header list place
+  pub payload : form.payload ≡ expected_length list place
+  pub shape : IsShape form.header form.payload
+
 -- it is a node of the list, and so are its members and the one that it doubts; its clock goes by the list
 pub record IsReceiver (list : Medl) (receiver : Receiver) : Type 0 where
   pub number : receiver.number < length list.slots
   pub coming : StandsFor receiver.coming list receiver.coming.place
+  pub form : IsFormOf list receiver.coming.place receiver.form
   pub doubt : (x : ℕ) → receiver.ack ≡ ack.Doubt x → x < length list.slots
   pub members : AreNodes list receiver.members
 
@@ -84,6 +94,7 @@ awaited_meant expected = record {
 -- the list has the place, and its frames have room for the members of the candidates
 pub record IsExpected (list : Medl) (expected : Expected) : Type 0 where
   pub place : StandsFor expected.place list expected.place.place
+  pub form : IsFormOf list expected.place.place expected.form
   pub first : HaveRoom (is_wide list) expected.first
   pub second : IfSome expected.second (HaveRoom (is_wide list))
 

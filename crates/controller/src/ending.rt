@@ -32,7 +32,7 @@ fn judged(
 {
     let receiver = receiver_of(list, k, node);
     let judgement = judging(list, &receiver, reading, a, b);
-    deliver(list, &receiver.coming, &judgement, a, b, delivered);
+    deliver(list, &receiver, &judgement, a, b, delivered);
     judged_entry(receiver.coming.sender(), &judgement)
 }
 

@@ -13,7 +13,9 @@ ghost use Rattle.ttp_world.specs.Reception.{is_expected_form, is_first_view, is_
 ghost use Rattle.ttp_world.specs.Reception.{view_of_bits, view_of_frame};
 ghost use Rattle.slot_clock.specs.StandsFor.{StandsFor};
 ghost use Rattle.controller.specs.Hearing.{ForSignals, ForHearings, ReadingFits, IsReceiver, Receives, awaited_by};
-ghost use Rattle.controller.specs.Hearing.{awaited_meant, IsExpected, IsSeen, IsJudgement};
+ghost use Rattle.controller.specs.Hearing.{awaited_meant, IsExpected, IsFormOf, IsSeen, IsJudgement};
+ghost use Rattle.ttp_world.specs.declared.medl.Medl.{Medl};
+ghost use Rattle.ttp_world.specs.Diary.{Place};
 ghost use Rattle.controller.specs.Limits.{most_clock};
 ghost use Rattle.controller.specs.Within.{IsWithin};
 
@@ -40,8 +42,9 @@ pub(crate) struct Reading {
 pub(crate) struct Receiver {
     /// The node's own number.
     pub(crate) number: u8,
-    /// The place of the slot that it judges.
+    /// The place of the slot that it judges, and the form of the frame there.
     pub(crate) coming: SlotClock,
+    pub(crate) form: Expect,
     pub(crate) ack: AckState,
     pub(crate) members: NodeSet,
 }
@@ -60,6 +63,7 @@ pub(crate) struct Judgement {
 #[derive(Clone, Copy, Debug)]
 struct Expected {
     place: SlotClock,
+    form: Expect,
     first: NodeSet,
     second: Option<NodeSet>,
 }
@@ -135,9 +139,11 @@ pub(crate) fn receiver_of(list: &Medl, k: u8, node: &Node) -> Receiver
     ensures receives { Receives list.now node.now result }
     ensures receiver { IsReceiver list.now result }
 {
+    let coming = node.coming(list);
     Receiver {
         number: k,
-        coming: node.coming(list),
+        coming,
+        form: form_of(list, &coming),
         ack: node.acknowledgement(),
         members: node.members(),
     }
@@ -156,6 +162,7 @@ fn expected_of(list: &Medl, receiver: &Receiver) -> Expected
         .candidates(receiver.number, receiver.members, sender);
     Expected {
         place: receiver.coming,
+        form: receiver.form,
         first,
         second,
     }
@@ -165,14 +172,19 @@ fn expected_of(list: &Medl, receiver: &Receiver) -> Expected
 fn match_with(list: &Medl, expected: &Expected, members: NodeSet, bytes: &[u8]) -> FrameMatch
     requires valid { IsValid list.now }
     requires place { StandsFor expected.now.place list.now expected.now.place.place }
+    requires form { IsFormOf list.now expected.now.place.place expected.now.form }
     requires members { HaveRoom (is_wide list.now) members }
     ensures fits { (result ≡ FrameMatch.Match)
         ↔ IsTrue (fits_members list.now (awaited_meant expected.now) bytes.now members) }
     ensures formed { (result ≡ FrameMatch.Invalid)
         ↔ IsTrue (not (is_expected_form list.now (awaited_meant expected.now) bytes.now)) }
 {
-    let form = form_of(list, &expected.place);
-    judge(bytes, list.schedule, &form, &expected.place.cstate(members))
+    judge(
+        bytes,
+        list.schedule,
+        &expected.form,
+        &expected.place.cstate(members),
+    )
 }
 
 // Whether bytes are the expected frame with the members of the second candidate.
@@ -349,7 +361,8 @@ pub(crate) fn judged_entry(sender: u8, judgement: &Judgement) -> Entry
 
 // The bytes that stand in the payload's place in a frame of this form.
 fn payload_in<'a>(form: &Expect, bytes: &'a [u8]) -> &'a [u8]
-    ensures { result.now ≡ payload_in (member_bytes form.now.wide) form.now.header form.now.payload bytes.now }
+    ensures value { result.now ≡ payload_in (member_bytes form.now.wide) form.now.header form.now.payload bytes.now }
+    ensures bound { length result.now ≤ form.now.payload }
 {
     let carried = match (form.header, form.wide) {
         (0, _) => 0,
@@ -360,16 +373,15 @@ fn payload_in<'a>(form: &Expect, bytes: &'a [u8]) -> &'a [u8]
     &behind[..behind.len().min(form.payload as usize)]
 }
 
-// The payload that came on a channel, in a frame of this place.
-fn payload_heard(list: &Medl, place: &SlotClock, came: &Arrival) -> Payload
-    requires valid { IsValid list.now }
-    requires place { StandsFor place.now list.now place.now.place }
-    ensures { (own error : ℤ) → ForSignals came.now own error (λ sent deviation.
-        result ≡ payload_heard list.now place.now.place sent) }
+// The payload that came on a channel, in a frame of this form, as it lies there.
+fn payload_heard<'a>(form: &Expect, came: &Arrival<'a>) -> &'a [u8]
+    ensures value { (list : Medl) (place : Place) (own error : ℤ) → IsFormOf list place form.now
+        → ForSignals came.now own error (λ sent deviation. result.now ≡ payload_heard list place sent) }
+    ensures bound { length result.now ≤ form.now.payload }
 {
     match came {
-        Arrival::Silence | Arrival::Noise => Payload::of(&[]),
-        Arrival::Bits { bytes, .. } => Payload::of(payload_in(&form_of(list, place), bytes)),
+        Arrival::Silence | Arrival::Noise => &[],
+        Arrival::Bits { bytes, .. } => payload_in(form, bytes),
     }
 }
 
@@ -387,31 +399,31 @@ pub(crate) fn take_away(delivered: &mut Option<Delivered>)
 /// channel A where A's frame was of the first candidate, and else from B. It is written in place.
 pub(crate) fn deliver(
     list: &Medl,
-    coming: &SlotClock,
+    receiver: &Receiver,
     judgement: &Judgement,
     a: &Arrival,
     b: &Arrival,
     delivered: &mut Option<Delivered>,
 )
-    requires valid { IsValid list.now }
-    requires coming { StandsFor coming.now list.now coming.now.place }
-    ensures { (k : ℕ) (past : NodePast) (own error : ℤ) → StandsFor coming.now list.now (coming_place list.now past)
+    requires { IsReceiver list.now receiver.now }
+    ensures { (k : ℕ) (past : NodePast) (own error : ℤ)
+        → StandsFor receiver.now.coming list.now (coming_place list.now past)
         → ForHearings a.now b.now own error (λ h.
         IsJudgement judgement.now list.now (expected_of list.now k past) past.ack h
         → delivered.new ≡ delivery list.now k past h (judging_entry list.now k past h)) }
 {
-    if judgement.verdict != Verdict::Correct || form_of(list, coming).payload == 0 {
+    if judgement.verdict != Verdict::Correct || receiver.form.payload == 0 {
         take_away(delivered);
         return;
     }
     let payload = if judgement.from_a {
-        payload_heard(list, coming, a)
+        payload_heard(&receiver.form, a)
     } else {
-        payload_heard(list, coming, b)
+        payload_heard(&receiver.form, b)
     };
     *delivered = Some(Delivered {
-        sender: coming.sender(),
-        payload,
+        sender: receiver.coming.sender(),
+        payload: Payload::of(payload),
     });
 }
 

@@ -1,14 +1,14 @@
 //! A plant: all nodes of a cluster and the medium between them, slot by slot.
 //!
 //! A slot is the three passes over all its seats.
-ghost use Rattle.std.specs.Prelude.{◌≡◌, ◌<◌, ◌≤◌, ◌+◌, [], length, unsigned_abs, IfOk};
+ghost use Rattle.std.specs.Prelude.{◌≡◌, ◌<◌, ◌≤◌, ◌+◌, [], length, slice_get, unsigned_abs, IfOk};
 ghost use Rattle.std.specs.Option.{option_copied};
 ghost use Rattle.ttp_world.specs.declared.script.Script.{Script};
 ghost use Rattle.ttp_world.specs.Medl.{IsValid};
 ghost use Rattle.ttp_world.specs.Script.{IsValidScript};
 ghost use Rattle.controller.specs.PlantStands.{PlantStandsFor, plant_of, MayStep, Steps};
 ghost use Rattle.controller.specs.PlantStands.{ShowsNode, outcome_at, outcomes_of, no_outcomes};
-ghost use Rattle.controller.specs.PlantWithin.{IsEnded, AreSeats, most_ahead};
+ghost use Rattle.controller.specs.PlantWithin.{IsEnded, IsControllerOf, AreSeats, most_ahead};
 
 #[cfg(test)]
 mod tests;
@@ -127,6 +127,14 @@ impl Plant {
         self.slot = other.slot;
     }
 
+    fn seat(&self, k: u8) -> &Seat
+        requires { k < length self.now.list.slots }
+        ensures there { slice_get self.now.seats k ≡ Some result.now }
+        ensures is { IsControllerOf self.now.list IsEnded (most_ahead self.now.slot) k result.now.controller }
+    {
+        &self.seats[k as usize]
+    }
+
     /// What is shown of a node after the newest slot. Its clock is no further from 0 than the slots so
     /// far can have taken it.
     pub fn node(&self, k: u8) -> NodeState
@@ -134,7 +142,7 @@ impl Plant {
         ensures shows { ShowsNode self.now k result }
         ensures near { unsigned_abs result.offset ≤ most_ahead self.now.slot }
     {
-        self.seats[k as usize].controller.state()
+        self.seat(k).controller.state()
     }
 
     /// What a node delivered in the newest slot, if it delivered.
@@ -142,7 +150,7 @@ impl Plant {
         requires { k < length self.now.list.slots }
         ensures { option_copied result ≡ (outcome_at self.now k).delivered }
     {
-        self.seats[k as usize].outcome.delivered.as_ref()
+        self.seat(k).outcome.delivered.as_ref()
     }
 
     /// The status of a node after the newest slot, zeros before the first.
@@ -150,6 +158,6 @@ impl Plant {
         requires { k < length self.now.list.slots }
         ensures { result ≡ (outcome_at self.now k).status }
     {
-        self.seats[k as usize].outcome.status
+        self.seat(k).outcome.status
     }
 }

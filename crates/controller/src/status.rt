@@ -8,11 +8,12 @@ ghost use Rattle.ttp_world.specs.Frame.{cstate_bytes};
 ghost use Rattle.ttp_world.specs.Medium.{is_sending};
 ghost use Rattle.ttp_world.specs.Medl.{IsValid, member_limit, member_width};
 ghost use Rattle.ttp_world.specs.Messages.{flag, flags_of, is_left_phase, is_listening_phase, status_words};
+ghost use Rattle.ttp_world.specs.Past.{state_of};
 ghost use Rattle.controller.specs.Within.{IsWithin};
 
 use crate::node::Node;
 use bitflags::{Flag, Flags, bitflag_items};
-use ttp_world::{Ack, CState, Entry, Medl, Phase, StatusWords};
+use ttp_world::{Ack, CState, Entry, Medl, NodeState, Phase, StatusWords};
 
 /// The flags of a status: what a node is after a slot, and what it did in it.
 #[derive(Clone, Copy, PartialEq, Eq, Debug)]
@@ -95,12 +96,12 @@ fn is_doubt(ack: Ack) -> bool
     matches!(ack, Ack::Doubt(_))
 }
 
-// The flags after a slot, in which the node delivered a payload or not.
-fn flags_of(list: &Medl, node: &Node, delivers: bool) -> StatusFlags
-    requires { IsValid list.now }
+// The flags after a slot, in which the node delivered a payload or not, by what is shown of it.
+fn flags_of(list: &Medl, node: &Node, state: &NodeState, delivers: bool) -> StatusFlags
+    requires valid { IsValid list.now }
+    requires state { state.now ≡ state_of node.now }
     ensures { result.0 ≡ flags_of list.now node.now delivers }
 {
-    let state = node.state();
     StatusFlags(
         bit(StatusFlags::ACTIVE, is_active(state.phase))
             + bit(StatusFlags::LISTENING, is_listening(state.phase))
@@ -149,6 +150,11 @@ pub(crate) fn status_words(
     };
     let counts = 256 * u64::from(state.accepted) + u64::from(state.rejected);
     StatusWords {
-        words: [slot, flags_of(list, node, delivers).0, cstate, counts],
+        words: [
+            slot,
+            flags_of(list, node, &state, delivers).0,
+            cstate,
+            counts,
+        ],
     }
 }

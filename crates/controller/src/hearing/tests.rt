@@ -6,6 +6,7 @@ ghost use Rattle.controller.specs.Hearing.{ReadingFits, IsReceiver};
 ghost use Rattle.slot_clock.specs.StandsFor.{StandsFor};
 
 use super::{Judgement, Reading, Receiver, deliver, judged_entry, judging, listening_entry};
+use crate::form::form_of;
 use ack_check::AckState;
 use medium::{Arrival, Outgoing};
 use slot_clock::SlotClock;
@@ -147,9 +148,11 @@ fn receiver_of(list: &Medl, answered: bool) -> Receiver
     requires four { length list.now.slots ≡ 4 }
     ensures { IsReceiver list.now result }
 {
+    let coming = SlotClock::at(list, &coming());
     Receiver {
         number: 3,
-        coming: SlotClock::at(list, &coming()),
+        coming,
+        form: form_of(list, &coming),
         ack: ack_of(answered),
         members: three_members(),
     }
@@ -211,7 +214,7 @@ fn better_channel_decides(rt: HostRuntime) -> Result<(), Fail> {
         assert!(rt; judgement.verdict == verdict, "{on_a:?} {on_b:?}");
         assert!(rt; judgement.deviation == deviation, "{on_a:?} {on_b:?}");
         let mut handed = None;
-        deliver(&list, &receiver.coming, &judgement, &a, &b, &mut handed);
+        deliver(&list, &receiver, &judgement, &a, &b, &mut handed);
         assert!(rt; first_byte(handed) == byte, "{on_a:?} {on_b:?}");
     }
     Ok(())

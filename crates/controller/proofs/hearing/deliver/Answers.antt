@@ -1,5 +1,6 @@
 -- A correct frame delivers the payload of the channel that the judgement names.
-use Rattle.std.proofs.Common.{◌≡◌, sym, ◌∙◌, rules}
+use Rattle.std.proofs.Common.{◌≡◌, ℕ, List, ap, sym, ◌∙◌, rules}
+use Rattle.std.specs.Borrow.{Bor}
 use Rattle.ttp_world.specs.declared.node.Verdict.TheVariants.{Correct}
 use Rattle.ttp_world.specs.Act.{coming_place}
 use Rattle.ttp_world.specs.Conduct.{payload_taken}
@@ -14,24 +15,28 @@ returns c k past own error coming sent_a sent_b clock shows_a shows_b is =
     let list = c.args.list.now in
     let h = hearing_of sent_a sent_b clock own error in
     let correct : c.args.judgement.now.verdict ≡ Correct = search rules in
-    let taken : c.if-judgement.payload ≡ payload_taken list (expected_of list k past) h =
+    let place = c.args.receiver.now.coming.place in
+    let form = c.requires.form in
+    let taken : c.if-judgement.payload.now ≡ payload_taken list (expected_of list k past) h =
     elim c.if-judgement.branch [
       | then-judgement w ↦ search (
         rules,
         sym is.from_a ∙ w.if-judgement.true,
         coming.place,
-        w.payload-is ∙ w.payload_heard-payload.ensures own error sent_a clock shows_a,
+        ap (λ (p : Bor (List ℕ)). p.now) w.payload-is
+            ∙ w.payload_heard-payload.ensures.value list place own error form sent_a clock shows_a,
       )
       | else-judgement w ↦ search (
         rules,
         sym is.from_a ∙ w.if-judgement.false,
         coming.place,
-        w.payload-is ∙ w.payload_heard-payload-else-judgement.ensures own error sent_b clock shows_b,
+        ap (λ (p : Bor (List ℕ)). p.now) w.payload-is
+            ∙ w.payload_heard-payload-else-judgement.ensures.value list place own error form sent_b clock shows_b,
       )
     ] in
     let view_a = view_of list (expected_of list k past) h.deviation h.a in
     let view_b = view_of list (expected_of list k past) h.deviation h.b in
     let verdict : verdict_of view_a view_b past.ack ≡ Correct = sym is.verdict ∙ correct in
-    let carries = sym (carries_some list c.args.coming.now.place (coming_place list past) c.form_of.result.payload
-    c.if-form_of-eq0.false c.form_of.ensures.payload coming.place) in
+    let carries = sym (carries_some list place (coming_place list past) c.args.receiver.now.form.payload
+    c.if-receiver-eq0.false form.payload coming.place) in
     search (rules, verdict, carries, taken, coming.place)

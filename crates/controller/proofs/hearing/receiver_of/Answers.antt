@@ -8,7 +8,8 @@ returns-clause-receiver c =
     let slot = c.args.node.now.place.slot in
     record {
       number = c.requires.number;
-      coming = record { place = refl; rounds = c.coming.ensures.rounds; slots = c.coming.ensures.slots };
+      coming = record { place = refl; rounds = c.coming-coming.ensures.rounds; slots = c.coming-coming.ensures.slots };
+      form = c.form_of.ensures;
       doubt = λ x doubts. (subst (IsAckWithin c.args.list.now c.args.k slot)
           (sym c.acknowledgement.ensures ∙ doubts) c.requires.within.ack).0;
       members = search rules;

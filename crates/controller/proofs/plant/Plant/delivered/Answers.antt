@@ -1,17 +1,7 @@
-use Rattle.std.proofs.Common.{◌≡◌, length, ap, ◌∙◌, refl, sym, subst, arith}
-use Rattle.std.specs.Option.{option_copied}
-use Rattle.std.proofs.lemmas.Option.{slice_get_read}
+use Rattle.std.proofs.Common.{ap, ◌∙◌, sym}
 use Rattle.controller.specs.declared.controller.Outcome.{Outcome}
-use Rattle.controller.specs.PlantStands.{outcome_at}
 use Rattle.controller.proofs.Plants.{outcome_there}
 use Rattle.controller.proofs.plant.Plant.delivered.Goals as goal
 
 pub returns : goal.returns
-returns c =
-    let seats = c.self.inside.seats.items in
-    let count = ap (λ p. length p.list.slots) c.self.view_is in
-    let there = slice_get_read seats _ c.args.k c.index.result.now refl
-    (omega (arith, c.requires, count, c.self.invariant.count)) c.index.ensures in
-    subst (λ p. option_copied c.as_ref.result ≡ (outcome_at p c.args.k).delivered) c.self.view_is
-    (c.as_ref.ensures.value
-    ∙ ap (λ (o : Outcome). o.delivered) (sym (outcome_there seats c.args.k c.index.result.now there)))
+returns c = c.as_ref.ensures.value ∙ ap (λ (o : Outcome). o.delivered) (sym (outcome_there c.args.self.now.seats c.args.k c.seat.result.now c.seat.ensures.there))
