@@ -1,0 +1,165 @@
+-- The cells and marks of a picture: what stands in each of them, and the element that shows it.
+use Rattle.std.specs.Prelude.{ℕ, ◌+◌, ◌-◌, ◌*◌, ◌==◌, nat_le, Bool, true, false, ◌&&◌, not, List, [], ◌∷◌, ◌++◌, map}
+use Rattle.std.specs.Prelude.{length, filter, flat_map, Option, Some, None, is_some, codes, decimal, if◌then◌else◌}
+use Rattle.ttp_base.specs.NodeSet.{below, set_bits}
+use Rattle.ttp_base.specs.Text.{hex, newline}
+use Rattle.ttp_world.specs.declared.script.Source.TheVariants as source
+use Rattle.line_reader.specs.declared.trace_line.Word.{Word}
+use Rattle.line_reader.specs.TraceLines.{word_text}
+use Rattle.whole_trace.specs.declared.shown.Head.{Head}
+use Rattle.whole_trace.specs.declared.shown.HostLine.{HostLine}
+use Rattle.whole_trace.specs.declared.shown.HostLine.TheVariants as line
+use Rattle.whole_trace.specs.declared.shown.NodeShown.{NodeShown}
+use Rattle.whole_trace.specs.Whole.{SlotLines}
+use Rattle.shown_slot.specs.declared.node.ClockRange.{ClockRange}
+use Rattle.shown_slot.specs.Nodes.{is_holder, is_doubt, clock_range, spread_in}
+use Rattle.shown_slot.specs.Trace.{node_at, node_text, host_text}
+use Rattle.picture_text.specs.Tables.{letter}
+
+-- Elements.
+
+abbrev pub attribute : List ℕ → List ℕ → List ℕ
+attribute name value = codes " " ++ name ++ codes "=\"" ++ value ++ codes "\""
+
+abbrev pub place : ℕ → ℕ → List ℕ
+place x y = attribute (codes "x") (decimal x) ++ attribute (codes "y") (decimal y)
+
+abbrev pub title_element : List ℕ → List ℕ
+title_element title = codes "<title>" ++ title ++ codes "</title>"
+
+-- a cell of this class, whose title a browser shows when the mouse is over it
+abbrev pub cell : List ℕ → ℕ → ℕ → List ℕ → List ℕ → List ℕ
+cell class x y title shown =
+    codes "<g" ++ attribute (codes "class") class ++ codes ">" ++ title_element title
+    ++ codes "<rect" ++ place x y ++ codes " width=\"17\" height=\"17\"/>"
+    ++ codes "<text" ++ place (x + 8) (y + 13) ++ codes ">" ++ shown ++ codes "</text></g>" ++ newline
+
+-- a mark of this class and shape
+abbrev pub mark : List ℕ → List ℕ → ℕ → ℕ → List ℕ → List ℕ
+mark class shape x y title =
+    codes "<path" ++ attribute (codes "class") class
+    ++ attribute (codes "d") (codes "M" ++ decimal x ++ codes " " ++ decimal y ++ shape)
+    ++ codes ">" ++ title_element title ++ codes "</path>" ++ newline
+
+abbrev pub write_shape : List ℕ
+write_shape = codes "h6l-3-5z"
+
+abbrev pub read_shape : List ℕ
+read_shape = codes "h6l-3 5z"
+
+abbrev pub status_shape : List ℕ
+status_shape = codes "h5v5h-5z"
+
+-- Members.
+
+-- each of these numbers once, where it comes first
+abbrev pub distinct : List ℕ → List ℕ
+distinct [] = []
+distinct (x ∷ xs) = x ∷ filter (λ y. not (y == x)) (distinct xs)
+
+-- the memberships that holders hold, that of the lowest one first
+abbrev pub memberships : List NodeShown → List ℕ
+memberships nodes = distinct (map (λ node. set_bits node.members) (filter is_holder nodes))
+
+-- the node holds these members, and they count
+abbrev pub holds : ℕ → NodeShown → Bool
+holds members node = is_holder node && (set_bits node.members == members)
+
+-- the nodes of a slot that do
+abbrev pub holders_of : ℕ → SlotLines → List ℕ
+holders_of members slot = filter (λ k. holds members (node_at slot k)) (below (length slot.nodes))
+
+-- of two memberships the one that more nodes hold, or else the first
+abbrev pub more_held : SlotLines → ℕ → Option ℕ → ℕ
+more_held slot members None = members
+more_held slot members (Some other) =
+    if nat_le (length (holders_of other slot)) (length (holders_of members slot)) then members else other
+
+abbrev pub most_held : SlotLines → List ℕ → Option ℕ
+most_held slot [] = None
+most_held slot (members ∷ others) = Some (more_held slot members (most_held slot others))
+
+-- the members that most holders of a slot hold
+abbrev pub held_by_most : SlotLines → Option ℕ
+held_by_most slot = most_held slot (memberships slot.nodes)
+
+-- Nodes.
+
+abbrev pub doubt_class : NodeShown → List ℕ
+doubt_class node = if is_doubt node.ack then codes " doubt" else []
+
+-- a holder of other members than most
+abbrev pub other_class : NodeShown → Option ℕ → List ℕ
+other_class node None = []
+other_class node (Some members) = if is_holder node && not (set_bits node.members == members) then codes " other" else []
+
+abbrev pub data_class : NodeShown → List ℕ
+data_class node = if is_some node.message then codes " data" else []
+
+abbrev pub node_class : NodeShown → Option ℕ → List ℕ
+node_class node most = word_text node.word ++ doubt_class node ++ other_class node most ++ data_class node
+
+-- the cell of node k, where most holders hold these members
+abbrev pub node_cell : Head → ℕ → ℕ → NodeShown → Option ℕ → ℕ → ℕ → List ℕ
+node_cell head t k node most x y = cell (node_class node most) x y (node_text head t k node) (letter node.word)
+
+-- What all nodes hold.
+
+abbrev pub member_digits : Head → ℕ
+member_digits head = if head.version == 2 then 6 else 4
+
+abbrev pub each_node : List ℕ → List ℕ
+each_node nodes = flat_map (λ k. codes " " ++ decimal k) nodes
+
+abbrev pub membership_text : Head → SlotLines → ℕ → List ℕ
+membership_text head slot members =
+    codes " " ++ hex (member_digits head) members ++ codes " of" ++ each_node (holders_of members slot)
+
+abbrev pub members_title : Head → ℕ → SlotLines → List ℕ
+members_title head t slot =
+    codes "slot " ++ decimal t ++ codes " members" ++ flat_map (membership_text head slot) (memberships slot.nodes)
+
+-- how many nodes a number of members stands for
+abbrev pub count_of : List NodeShown → List ℕ
+count_of [] = codes "0"
+count_of (node ∷ nodes) = if is_holder node then decimal (length node.members) else count_of nodes
+
+abbrev pub members_cell_of : List ℕ → List NodeShown → ℕ → ℕ → ℕ → List ℕ → List ℕ
+members_cell_of [] nodes t x y title = cell (codes "none") x y (codes "slot " ++ decimal t ++ codes " members -") (codes "-")
+members_cell_of (one ∷ []) nodes t x y title = cell (codes "agree") x y title (count_of nodes)
+members_cell_of (one ∷ other ∷ more) nodes t x y title = cell (codes "differ") x y title (codes "!")
+
+abbrev pub members_cell : Head → ℕ → SlotLines → ℕ → ℕ → List ℕ
+members_cell head t slot x y =
+    members_cell_of (memberships slot.nodes) slot.nodes t x y (members_title head t slot)
+
+-- Clocks.
+
+abbrev pub apart_text : Option ClockRange → List ℕ
+apart_text None = codes "-"
+apart_text (Some range) = decimal (spread_in range)
+
+abbrev pub apart_shown : Option ClockRange → List ℕ
+apart_shown None = codes "-"
+apart_shown (Some range) = if nat_le 1000 (spread_in range) then codes "*" else decimal (spread_in range)
+
+abbrev pub clocks_cell : ℕ → SlotLines → ℕ → ℕ → List ℕ
+clocks_cell t slot x y =
+    let range = clock_range slot.nodes in
+    cell (codes "none") x y (codes "slot " ++ decimal t ++ codes " clocks apart " ++ apart_text range) (apart_shown range)
+
+-- Hosts.
+
+-- whose line it is
+abbrev pub host_of : HostLine → ℕ
+host_of (line.Write host number) = host
+host_of (line.Read host source number payload) = host
+
+-- the mark of a host's line beside the cell of its node
+abbrev pub host_mark : ℕ → HostLine → ℕ → ℕ → List ℕ
+host_mark t (line.Write host number) x y =
+    mark (codes "write") write_shape x (y + 17) (host_text t (line.Write host number))
+host_mark t (line.Read host source.Status number payload) x y =
+    mark (codes "status") status_shape (x + 12) y (host_text t (line.Read host source.Status number payload))
+host_mark t (line.Read host (source.Node p) number payload) x y =
+    mark (codes "read") read_shape (x + 11) (y + 12) (host_text t (line.Read host (source.Node p) number payload))

@@ -1,0 +1,4 @@
+pub mod Window
+pub mod Tables
+pub mod Cells
+pub mod Picture

@@ -1,0 +1,18 @@
+//! What a trace shows of a slot, as both views of a trace speak of it.
+//!
+//! `specs/Nodes.antt` has what is said of nodes: which are active and which left, whether those whose members
+//! count agree, who sent, and how far clocks are apart. `specs/Ports.antt` has what hosts did: the newest
+//! message of each in a slot, and the most bytes of such a message in a whole trace. Each function of the
+//! crate is one of these words.
+//!
+//! The crate reads no text and writes none, and takes no memory.
+#![tactic(auto)]
+
+mod host;
+mod node;
+
+pub use host::{Message, Port, What};
+pub use node::{
+    ClockRange, Sender, active_bits, agreement, clock_range, has_left, is_active, left_bits,
+    sender_among, sends,
+};

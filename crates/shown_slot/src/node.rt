@@ -1,0 +1,188 @@
+//! What a trace shows of nodes after a slot.
+ghost use Rattle.std.specs.Prelude.{◌≡◌, ◌+◌, ◌^◌, ◌<◌, ◌≤◌, length};
+ghost use Rattle.shown_slot.specs.Nodes.{is_active, has_left, sends, is_holder, hold_members, agreement, spread_in};
+ghost use Rattle.shown_slot.specs.Nodes.{sender_among, bits_where, widened, clock_range};
+
+use line_reader::Word;
+use ttp_world::Ack;
+use whole_trace::NodeShown;
+
+/// Who sent in a slot.
+#[derive(Clone, Copy, Debug, PartialEq, Eq)]
+pub enum Sender {
+    Nobody,
+    Node(u8),
+    /// Two nodes or more.
+    Several,
+}
+
+/// The clock that is furthest behind and the one that is furthest ahead, in microticks.
+#[derive(Clone, Copy, Debug, PartialEq, Eq)]
+pub struct ClockRange {
+    pub low: i64,
+    pub high: i64,
+}
+
+/// Whether a node whose line has this word takes part in the cluster.
+pub fn is_active(word: Word) -> bool
+    ensures { result ≡ is_active word }
+{
+    match word {
+        Word::Start
+        | Word::Join
+        | Word::Send
+        | Word::Correct
+        | Word::Tentative
+        | Word::Incorrect
+        | Word::Invalid
+        | Word::Null => true,
+        _ => false,
+    }
+}
+
+/// Whether it left the cluster in this slot.
+pub fn has_left(word: Word) -> bool
+    ensures { result ≡ has_left word }
+{
+    match word {
+        Word::Denied | Word::Unacknowledged | Word::Clique => true,
+        _ => false,
+    }
+}
+
+/// Whether it sent a frame in this slot.
+pub fn sends(word: Word) -> bool
+    ensures { result ≡ sends word }
+{
+    match word {
+        Word::Start | Word::Send => true,
+        _ => false,
+    }
+}
+
+// Whether its members count.
+fn is_holder(node: &NodeShown) -> bool
+    ensures { result ≡ is_holder node.now }
+{
+    let is_doubt = match node.ack {
+        Ack::Doubt(_) => true,
+        _ => false,
+    };
+    is_active(node.word) && !is_doubt
+}
+
+// Whether all holders among nodes hold these members.
+fn hold_members(members: u32, nodes: &[NodeShown]) -> bool
+    ensures { result ≡ hold_members members nodes.now }
+{
+    nodes
+        .iter()
+        .all(|node| !is_holder(node) || node.members.bits() == members)
+}
+
+/// Whether all holders hold the same members: active nodes that are in no doubt about their own frames.
+/// `None` where there is no holder.
+pub fn agreement(nodes: &[NodeShown]) -> Option<bool>
+    ensures { result ≡ agreement nodes.now }
+{
+    match nodes {
+        [] => None,
+        [node, rest @ ..] => {
+            if is_holder(node) {
+                Some(hold_members(node.members.bits(), rest))
+            } else {
+                agreement(rest)
+            }
+        }
+    }
+}
+
+/// Who sent. The first of the nodes is node `first`, and all numbers are below 256.
+pub fn sender_among(first: u8, nodes: &[NodeShown]) -> Sender
+    requires { first + length nodes.now < 256 }
+    ensures { result ≡ sender_among first nodes.now }
+{
+    match nodes {
+        [] => Sender::Nobody,
+        [node, rest @ ..] => {
+            let others = sender_among(first + 1, rest);
+            if !sends(node.word) {
+                return others;
+            }
+            match others {
+                Sender::Nobody => Sender::Node(first),
+                _ => Sender::Several,
+            }
+        }
+    }
+}
+
+/// The active nodes, at most 32, as a word in which bit k, the least significant first, stands for node k.
+pub fn active_bits(nodes: &[NodeShown]) -> u32
+    requires { length nodes.now ≤ 32 }
+    ensures value { result ≡ bits_where is_active nodes.now }
+    ensures few { result < 2 ^ length nodes.now }
+{
+    match nodes {
+        [] => 0,
+        [node, rest @ ..] => u32::from(is_active(node.word)) + 2 * active_bits(rest),
+    }
+}
+
+/// The nodes that left, likewise.
+pub fn left_bits(nodes: &[NodeShown]) -> u32
+    requires { length nodes.now ≤ 32 }
+    ensures value { result ≡ bits_where has_left nodes.now }
+    ensures few { result < 2 ^ length nodes.now }
+{
+    match nodes {
+        [] => 0,
+        [node, rest @ ..] => u32::from(has_left(node.word)) + 2 * left_bits(rest),
+    }
+}
+
+// A range of clocks with one clock more.
+fn widened(clock: i64, range: Option<ClockRange>) -> ClockRange
+    ensures { result ≡ widened clock range }
+{
+    match range {
+        None => ClockRange {
+            low: clock,
+            high: clock,
+        },
+        Some(range) => ClockRange {
+            low: if clock <= range.low { clock } else { range.low },
+            high: if clock <= range.high {
+                range.high
+            } else {
+                clock
+            },
+        },
+    }
+}
+
+/// The range of the clocks of the active nodes, where there is one.
+pub fn clock_range(nodes: &[NodeShown]) -> Option<ClockRange>
+    ensures { result ≡ clock_range nodes.now }
+{
+    match nodes {
+        [] => None,
+        [node, rest @ ..] => {
+            let others = clock_range(rest);
+            if is_active(node.word) {
+                Some(widened(node.offset, others))
+            } else {
+                others
+            }
+        }
+    }
+}
+
+impl ClockRange {
+    /// How far the clocks are apart, in microticks.
+    pub fn spread(&self) -> u64
+        ensures { result ≡ spread_in self.now }
+    {
+        self.high.abs_diff(self.low)
+    }
+}

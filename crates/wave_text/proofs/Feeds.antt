@@ -1,0 +1,208 @@
+-- No value, code, name or type of a variable has a line feed.
+use Rattle.std.proofs.Common.{◌≡◌, ℕ, zero, suc, ◌+◌, ◌*◌, ◌-◌, ◌/◌, ◌%◌, ◌<◌, Bool, true, false, List, [], ◌∷◌, ◌++◌, refl}
+use Rattle.std.proofs.Common.{Option, Some, None, arith, codes, decimal, nat_lt}
+use Rattle.std.specs.Prelude.{◌==◌, if◌then◌else◌}
+use Rattle.std.specs.Fmt.{signed_decimal}
+use Rattle.std.specs.List.{flat_map}
+use Rattle.ttp_base.proofs.Numerals.{has, has-append, has-decimal, has-signed}
+use Rattle.ttp_world.specs.declared.script.Source.{Source}
+use Rattle.ttp_world.specs.declared.script.Source.TheVariants as source
+use Rattle.ttp_world.specs.Trace.{ack_word, source_word}
+use Rattle.ttp_world.proofs.TraceWords.{has-ack_word}
+use Rattle.line_reader.specs.declared.trace_line.Word.{Word}
+use Rattle.line_reader.specs.declared.trace_line.Word.TheVariants as word
+use Rattle.line_reader.specs.TraceLines.{word_text}
+use Rattle.whole_trace.specs.declared.shown.NodeShown.{NodeShown}
+use Rattle.shown_slot.specs.declared.host.Message.{Message}
+use Rattle.shown_slot.specs.declared.host.Port.{Port}
+use Rattle.shown_slot.specs.declared.host.What.{What}
+use Rattle.shown_slot.specs.declared.host.What.TheVariants as what
+use Rattle.shown_slot.specs.declared.node.ClockRange.{ClockRange}
+use Rattle.shown_slot.specs.declared.node.Sender.{Sender}
+use Rattle.shown_slot.specs.declared.node.Sender.TheVariants as sent_by
+use Rattle.shown_slot.specs.Nodes.{is_active, has_left, sends, agreement, sender_among, bits_where, clock_range}
+use Rattle.shown_slot.specs.Nodes.{spread_in}
+use Rattle.ttp_base.specs.NodeSet.{set_bits}
+use Rattle.wave_text.specs.declared.variable.ClusterVariable.{ClusterVariable}
+use Rattle.wave_text.specs.declared.variable.ClusterVariable.TheVariants as of_cluster
+use Rattle.wave_text.specs.declared.variable.NodeVariable.{NodeVariable}
+use Rattle.wave_text.specs.declared.variable.NodeVariable.TheVariants as of_node
+use Rattle.wave_text.specs.declared.variable.PortVariable.{PortVariable}
+use Rattle.wave_text.specs.declared.variable.PortVariable.TheVariants as of_port
+use Rattle.wave_text.specs.Values.{binary, binary_number, most_digits, number_text, wires_text, number_or_nothing, bit_text}
+use Rattle.wave_text.specs.Values.{agreement_text, sender_text, spread_text, cluster_value, phase_text, unless_off}
+use Rattle.wave_text.specs.Values.{held_text, node_ack_text, clock_text, node_value, message_number, bytes_text}
+use Rattle.wave_text.specs.Values.{message_bytes, port_value}
+
+-- a text without a line feed
+abbrev pub HasNone : List ℕ → Type 0
+HasNone text = has 10 text ≡ false
+
+feed_is_low : 10 < 45
+feed_is_low = omega arith
+
+pub none-append : (x y : List ℕ) → HasNone x → HasNone y → HasNone (x ++ y)
+none-append x y p q = has-append 10 x y p q
+
+pub none-decimal : (n : ℕ) → HasNone (decimal n)
+none-decimal n = has-decimal 10 n feed_is_low
+
+-- a digit, and a letter
+pub none-byte : (n : ℕ) → 10 < n → HasNone (n ∷ [])
+none-byte n high =
+    let differs : (n == 10) ≡ false = grind arith in
+    rw differs refl
+
+-- Values.
+
+none-binary : (digits v : ℕ) → HasNone (binary digits v)
+unfolding binary
+none-binary zero v = refl
+none-binary (suc digits) v =
+    none-append (binary digits (v / 2)) ((48 + v % 2) ∷ []) (none-binary digits (v / 2)) (none-byte (48 + v % 2) (omega arith))
+
+none-binary_number : (more v : ℕ) → HasNone (binary_number more v)
+unfolding binary_number
+none-binary_number zero v = refl
+none-binary_number (suc more) v = go (nat_lt v 2) (none-binary_number more (v / 2))
+  where
+    go : (small : Bool) → HasNone (binary_number more (v / 2))
+        → HasNone (if small then (48 + v) ∷ [] else (binary_number more (v / 2) ++ (48 + v % 2) ∷ []))
+    go true none = none-byte (48 + v) (omega arith)
+    go false none =
+        none-append (binary_number more (v / 2)) ((48 + v % 2) ∷ []) none (none-byte (48 + v % 2) (omega arith))
+
+none-number : (v : ℕ) → HasNone (number_text v)
+none-number v = none-append (codes "b") (binary_number most_digits v) refl (none-binary_number most_digits v)
+
+none-wires : (width v : ℕ) → HasNone (wires_text width v)
+none-wires width v = none-append (codes "b") (binary width v) refl (none-binary width v)
+
+none-bit : (b : Bool) → HasNone (bit_text b)
+none-bit true = refl
+none-bit false = refl
+
+none-number_or_nothing : (number : Option ℕ) → HasNone (number_or_nothing number)
+none-number_or_nothing None = refl
+none-number_or_nothing (Some v) = none-number v
+
+none-agreement : (same : Option Bool) → HasNone (agreement_text same)
+none-agreement None = refl
+none-agreement (Some b) = none-bit b
+
+none-sender : (s : Sender) → HasNone (sender_text s)
+none-sender sent_by.Nobody = refl
+none-sender (sent_by.Node k) = none-number k
+none-sender sent_by.Several = refl
+
+none-spread : (range : Option ClockRange) → HasNone (spread_text range)
+none-spread None = refl
+none-spread (Some range) = none-number (spread_in range)
+
+pub none-cluster_value : (width : ℕ) (v : ClusterVariable) (nodes : List NodeShown) → HasNone (cluster_value width v nodes)
+none-cluster_value width of_cluster.Agree nodes = none-agreement (agreement nodes)
+none-cluster_value width of_cluster.Sender nodes = none-sender (sender_among 0 nodes)
+none-cluster_value width of_cluster.Active nodes = none-wires width (bits_where is_active nodes)
+none-cluster_value width of_cluster.Leaving nodes = none-wires width (bits_where has_left nodes)
+none-cluster_value width of_cluster.Spread nodes = none-spread (clock_range nodes)
+
+none-phase : (w : Word) → HasNone (codes "s" ++ phase_text w)
+none-phase word.Off = refl
+none-phase word.Wait = refl
+none-phase word.Retry = refl
+none-phase word.Gone = refl
+none-phase word.Start = refl
+none-phase word.Join = refl
+none-phase word.Send = refl
+none-phase word.Correct = refl
+none-phase word.Tentative = refl
+none-phase word.Incorrect = refl
+none-phase word.Invalid = refl
+none-phase word.Null = refl
+none-phase word.Denied = refl
+none-phase word.Unacknowledged = refl
+none-phase word.Clique = refl
+
+none-word : (w : Word) → HasNone (codes "s" ++ word_text w)
+none-word word.Off = refl
+none-word word.Wait = refl
+none-word word.Retry = refl
+none-word word.Gone = refl
+none-word word.Start = refl
+none-word word.Join = refl
+none-word word.Send = refl
+none-word word.Correct = refl
+none-word word.Tentative = refl
+none-word word.Incorrect = refl
+none-word word.Invalid = refl
+none-word word.Null = refl
+none-word word.Denied = refl
+none-word word.Unacknowledged = refl
+none-word word.Clique = refl
+
+none-unless_off : (w : Word) (text : List ℕ) → HasNone text → HasNone (unless_off w text)
+none-unless_off word.Off text none = refl
+none-unless_off word.Wait text none = none
+none-unless_off word.Retry text none = none
+none-unless_off word.Gone text none = none
+none-unless_off word.Start text none = none
+none-unless_off word.Join text none = none
+none-unless_off word.Send text none = none
+none-unless_off word.Correct text none = none
+none-unless_off word.Tentative text none = none
+none-unless_off word.Incorrect text none = none
+none-unless_off word.Invalid text none = none
+none-unless_off word.Null text none = none
+none-unless_off word.Denied text none = none
+none-unless_off word.Unacknowledged text none = none
+none-unless_off word.Clique text none = none
+
+none-held : (w : Word) (text : List ℕ) → HasNone text → HasNone (held_text w text)
+none-held word.Off text none = refl
+none-held word.Wait text none = refl
+none-held word.Retry text none = refl
+none-held word.Gone text none = refl
+none-held word.Start text none = none
+none-held word.Join text none = none
+none-held word.Send text none = none
+none-held word.Correct text none = none
+none-held word.Tentative text none = none
+none-held word.Incorrect text none = none
+none-held word.Invalid text none = none
+none-held word.Null text none = none
+none-held word.Denied text none = refl
+none-held word.Unacknowledged text none = refl
+none-held word.Clique text none = refl
+
+pub none-node_value : (width : ℕ) (v : NodeVariable) (node : NodeShown) → HasNone (node_value width v node)
+none-node_value width of_node.Sends node = none-bit (sends node.word)
+none-node_value width of_node.Phase node = none-phase node.word
+none-node_value width of_node.Word node = none-word node.word
+none-node_value width of_node.Peer node =
+    none-unless_off node.word (number_or_nothing node.peer) (none-number_or_nothing node.peer)
+none-node_value width of_node.Message node =
+    none-unless_off node.word (number_or_nothing node.message) (none-number_or_nothing node.message)
+none-node_value width of_node.Members node =
+    none-held node.word (wires_text width (set_bits node.members)) (none-wires width (set_bits node.members))
+none-node_value width of_node.Accepted node = none-held node.word (number_text node.accepted) (none-number node.accepted)
+none-node_value width of_node.Rejected node = none-held node.word (number_text node.rejected) (none-number node.rejected)
+none-node_value width of_node.Ack node =
+    none-append (codes "s") (ack_word node.ack) refl (has-ack_word 10 node.ack feed_is_low)
+none-node_value width of_node.Clock node =
+    none-append (codes "r") (signed_decimal node.offset) refl (has-signed 10 node.offset feed_is_low)
+
+none-each_byte : (bytes : List ℕ) → HasNone (flat_map (binary 8) bytes)
+none-each_byte [] = refl
+none-each_byte (byte ∷ bytes) =
+    none-append (binary 8 byte) (flat_map (binary 8) bytes) (none-binary 8 byte) (none-each_byte bytes)
+
+pub none-port_value : (v : PortVariable) (message : Option Message) → HasNone (port_value v message)
+none-port_value of_port.Number None = refl
+none-port_value of_port.Number (Some message) = none-number message.number
+none-port_value of_port.Data None = refl
+none-port_value of_port.Data (Some message) =
+    none-append (codes "b") (flat_map (binary 8) message.payload) refl (none-each_byte message.payload)
+
+pub none-source : (from : Source) → HasNone (source_word from)
+none-source source.Status = refl
+none-source (source.Node p) = none-decimal p

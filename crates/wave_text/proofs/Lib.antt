@@ -1,0 +1,4 @@
+pub mod Feeds
+pub mod WaveLines
+pub mod DeclaredLines
+pub mod Telling

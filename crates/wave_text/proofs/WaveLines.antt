@@ -1,0 +1,172 @@
+-- Each line of a waveform is one line: its one line feed is its last byte.
+use Rattle.std.proofs.Common.{◌≡◌, ℕ, ◌+◌, ◌-◌, ◌*◌, ◌<◌, Bool, true, false, List, [], ◌∷◌, ◌++◌, length, map, refl}
+use Rattle.std.proofs.Common.{Option, Some, None, arith, codes, decimal, nat_lt}
+use Rattle.std.specs.Prelude.{option_map, if◌then◌else◌}
+use Rattle.std.specs.List.{AllByRecursion, flat_map}
+use Rattle.std.specs.Str.{bytes_eq}
+use Rattle.ttp_base.specs.NodeSet.{below}
+use Rattle.ttp_base.specs.Text.{Lines, newline, is_line, lines_below}
+use Rattle.ttp_base.proofs.Lines.{is_line-append}
+use Rattle.ttp_world.specs.declared.script.Source.TheVariants as source
+use Rattle.ttp_world.specs.Trace.{source_word}
+use Rattle.ttp_world.proofs.LineLists.{each-append}
+use Rattle.ttp_world.proofs.TraceLines.{IsLine}
+use Rattle.whole_trace.specs.declared.shown.NodeShown.{NodeShown}
+use Rattle.whole_trace.specs.Whole.{SlotLines, WholeTrace}
+use Rattle.shown_slot.specs.declared.host.Message.{Message}
+use Rattle.shown_slot.specs.declared.host.Port.{Port}
+use Rattle.shown_slot.specs.declared.host.What.{What}
+use Rattle.shown_slot.specs.declared.host.What.TheVariants as what
+use Rattle.shown_slot.specs.Trace.{node_at, trace_ports, first_text, keeps_text, returns_text, member_room}
+use Rattle.wave_text.specs.declared.variable.ClusterVariable.{ClusterVariable}
+use Rattle.wave_text.specs.declared.variable.ClusterVariable.TheVariants as of_cluster
+use Rattle.wave_text.specs.declared.variable.NodeVariable.{NodeVariable}
+use Rattle.wave_text.specs.declared.variable.NodeVariable.TheVariants as of_node
+use Rattle.wave_text.specs.declared.variable.PortVariable.{PortVariable}
+use Rattle.wave_text.specs.declared.variable.PortVariable.TheVariants as of_port
+use Rattle.wave_text.specs.Values.{cluster_value, node_value, port_value}
+use Rattle.wave_text.specs.Variables.{cluster_variables, node_variables, port_variables, cluster_letter, node_letter}
+use Rattle.wave_text.specs.Variables.{port_letter, letter_of, source_letter, node_code, port_code, ports_at}
+use Rattle.wave_text.specs.Wave.{change_line, change_lines, changes_by, cluster_changes, node_changes, port_changes}
+use Rattle.wave_text.specs.Wave.{message_at, scope_changes, slot_changes, time_line, first_slot_lines, slot_lines}
+use Rattle.wave_text.specs.Wave.{later_lines, all_slots_lines}
+use Rattle.wave_text.proofs.Feeds.{HasNone, none-append, none-byte, none-decimal, none-cluster_value, none-node_value}
+use Rattle.wave_text.proofs.Feeds.{none-port_value}
+
+abbrev pub AreLines : Lines → Type 0
+AreLines lines = AllByRecursion IsLine lines
+
+-- a text without a line feed, and then one
+ends : (text : List ℕ) → HasNone text → IsLine (text ++ newline)
+ends text none = is_line-append text newline none refl
+
+pub each-flat_map : {X : Type 0} (f : X → Lines) (xs : List X) → ((x : X) → AreLines (f x)) → AreLines (flat_map f xs)
+each-flat_map f [] are = tt
+each-flat_map f (x ∷ xs) are = each-append IsLine (f x) (flat_map f xs) (are x) (each-flat_map f xs are)
+
+-- Codes.
+
+none-letter_of : (k : ℕ) → HasNone (letter_of k)
+none-letter_of k = none-byte (65 + k) (omega arith)
+
+pub none-cluster_letter : (v : ClusterVariable) → HasNone (cluster_letter v)
+none-cluster_letter of_cluster.Agree = refl
+none-cluster_letter of_cluster.Sender = refl
+none-cluster_letter of_cluster.Active = refl
+none-cluster_letter of_cluster.Leaving = refl
+none-cluster_letter of_cluster.Spread = refl
+
+none-node_letter : (v : NodeVariable) → HasNone (node_letter v)
+none-node_letter of_node.Sends = refl
+none-node_letter of_node.Phase = refl
+none-node_letter of_node.Word = refl
+none-node_letter of_node.Peer = refl
+none-node_letter of_node.Message = refl
+none-node_letter of_node.Members = refl
+none-node_letter of_node.Accepted = refl
+none-node_letter of_node.Rejected = refl
+none-node_letter of_node.Ack = refl
+none-node_letter of_node.Clock = refl
+
+pub none-node_code : (v : NodeVariable) (k : ℕ) → HasNone (node_code v k)
+none-node_code v k = none-append (node_letter v) (letter_of k) (none-node_letter v) (none-letter_of k)
+
+none-port_letter : (does : What) (v : PortVariable) → HasNone (port_letter does v)
+none-port_letter what.Write v = refl
+none-port_letter (what.Read from) of_port.Number = refl
+none-port_letter (what.Read from) of_port.Data = refl
+
+none-source_letter : (does : What) → HasNone (source_letter does)
+none-source_letter what.Write = refl
+none-source_letter (what.Read source.Status) = refl
+none-source_letter (what.Read (source.Node p)) = none-letter_of p
+
+pub none-port_code : (port : Port) (v : PortVariable) → HasNone (port_code port v)
+none-port_code port v =
+    none-append (port_letter port.what v ++ letter_of port.host) (source_letter port.what)
+    (none-append (port_letter port.what v) (letter_of port.host) (none-port_letter port.what v) (none-letter_of port.host))
+    (none-source_letter port.what)
+
+-- Changes.
+
+spaced : (value : List ℕ) (long : Bool) → HasNone value → HasNone (value ++ (if long then codes " " else []))
+spaced value true none = none-append value (codes " ") none refl
+spaced value false none = none-append value [] none refl
+
+change-IsLine : (value code : List ℕ) → HasNone value → HasNone code → IsLine (change_line value code)
+change-IsLine value code p q =
+    ends ((value ++ (if nat_lt 1 (length value) then codes " " else [])) ++ code)
+    (none-append (value ++ (if nat_lt 1 (length value) then codes " " else [])) code
+    (spaced value (nat_lt 1 (length value)) p) q)
+
+unless_same : (same : Bool) (line : List ℕ) → IsLine line → AreLines (if same then [] else line ∷ [])
+unless_same true line is = tt
+unless_same false line is = (is, tt)
+
+change-each : (code : List ℕ) (before : Option (List ℕ)) (value : List ℕ) → HasNone value → HasNone code
+    → AreLines (change_lines code before value)
+change-each code None value p q = (change-IsLine value code p q, tt)
+change-each code (Some before) value p q =
+    unless_same (bytes_eq before value) (change_line value code) (change-IsLine value code p q)
+
+changes-each : {X : Type 0} (value : X → List ℕ) (code : List ℕ) (before : Option X) (now : X)
+    → ((x : X) → HasNone (value x)) → HasNone code → AreLines (changes_by value code before now)
+changes-each value code before now p q = change-each code (option_map value before) (value now) (p now) q
+
+cluster-each : (width : ℕ) (before : Option (List NodeShown)) (now : List NodeShown)
+    → AreLines (cluster_changes width before now)
+cluster-each width before now =
+    each-flat_map (λ v. changes_by (cluster_value width v) (cluster_letter v) before now) cluster_variables
+    (λ v. changes-each (cluster_value width v) (cluster_letter v) before now (none-cluster_value width v)
+    (none-cluster_letter v))
+
+node-each : (width k : ℕ) (before : Option NodeShown) (now : NodeShown) → AreLines (node_changes width k before now)
+node-each width k before now =
+    each-flat_map (λ v. changes_by (node_value width v) (node_code v k) before now) node_variables
+    (λ v. changes-each (node_value width v) (node_code v k) before now (none-node_value width v) (none-node_code v k))
+
+port-each : (port : Port) (before : Option (Option Message)) (now : Option Message)
+    → AreLines (port_changes port before now)
+port-each port before now =
+    each-flat_map (λ v. changes_by (port_value v) (port_code port v) before now) (port_variables port.what)
+    (λ v. changes-each (port_value v) (port_code port v) before now (none-port_value v) (none-port_code port v))
+
+scope-each : (width : ℕ) (ports : List Port) (before : Option SlotLines) (now : SlotLines) (k : ℕ)
+    → AreLines (scope_changes width ports before now k)
+scope-each width ports before now k =
+    let earlier = option_map (λ (slot : SlotLines). node_at slot k) before in
+    each-append IsLine (node_changes width k earlier (node_at now k))
+    (flat_map (λ port. port_changes port (option_map (message_at port) before) (message_at port now)) (ports_at ports k))
+    (node-each width k earlier (node_at now k))
+    (each-flat_map (λ port. port_changes port (option_map (message_at port) before) (message_at port now)) (ports_at ports k)
+    (λ port. port-each port (option_map (message_at port) before) (message_at port now)))
+
+pub slot-each : (width n : ℕ) (ports : List Port) (before : Option SlotLines) (now : SlotLines)
+    → AreLines (slot_changes width n ports before now)
+slot-each width n ports before now =
+    let earlier = option_map (λ (slot : SlotLines). slot.nodes) before in
+    each-append IsLine (cluster_changes width earlier now.nodes) (lines_below (scope_changes width ports before now) n)
+    (cluster-each width earlier now.nodes)
+    (each-flat_map (scope_changes width ports before now) (below n) (scope-each width ports before now))
+
+-- Slots.
+
+time-IsLine : (t : ℕ) → IsLine (time_line t)
+time-IsLine t = ends (codes "#" ++ decimal t) (none-append (codes "#") (decimal t) refl (none-decimal t))
+
+later-each : (width n : ℕ) (ports : List Port) (t : ℕ) (before : SlotLines) (slots : List SlotLines)
+    → AreLines (later_lines width n ports t before slots)
+later-each width n ports t before [] = (time-IsLine t, tt)
+later-each width n ports t before (now ∷ slots) =
+    each-append IsLine (slot_lines width n ports t before now) (later_lines width n ports (t + 1) now slots)
+    (time-IsLine t, slot-each width n ports (Some before) now)
+    (later-each width n ports (t + 1) now slots)
+
+pub all_slots-each : (width n : ℕ) (ports : List Port) (slots : List SlotLines)
+    → AreLines (all_slots_lines width n ports slots)
+all_slots-each width n ports [] = (time-IsLine 0, tt)
+all_slots-each width n ports (now ∷ slots) =
+    each-append IsLine (first_slot_lines width n ports now) (later_lines width n ports 1 now slots)
+    (each-append IsLine (time_line 0 ∷ (codes "$dumpvars" ++ newline) ∷ slot_changes width n ports None now)
+    ((codes "$end" ++ newline) ∷ []) (time-IsLine 0, (refl, slot-each width n ports None now)) (refl, tt))
+    (later-each width n ports 1 now slots)

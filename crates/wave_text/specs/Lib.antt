@@ -1,0 +1,4 @@
+pub mod Telling
+pub mod Values
+pub mod Variables
+pub mod Wave
