@@ -1,3 +1,4 @@
+pub mod Heads
 pub mod Judging
 pub mod NodeSteps
 pub mod Texts

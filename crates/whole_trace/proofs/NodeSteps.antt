@@ -24,7 +24,7 @@ use Rattle.whole_trace.specs.Whole.{SlotLines, SlotsFrom, value_of, slots_from}
 
 -- Any line.
 
-judged-step : (at : Due) (text : List ℕ) (v : TraceLine) (then : Due) (rest : List ℕ) → IsStep at text v then rest
+pub judged-step : (at : Due) (text : List ℕ) (v : TraceLine) (then : Due) (rest : List ℕ) → IsStep at text v then rest
     → judged at (lines_of text) ≡ one_line_later (judged then (lines_of rest))
 judged-step at text v then rest s =
     let is : due_behind at s.line ≡ Some then = ap (option_and_then (due_after at)) s.value ∙ s.next in

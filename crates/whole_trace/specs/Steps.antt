@@ -10,7 +10,7 @@ use Rattle.whole_trace.specs.declared.due.Due.TheVariants as due
 use Rattle.whole_trace.specs.declared.due.Outline.{Outline}
 use Rattle.whole_trace.specs.declared.shown.Head.{Head}
 use Rattle.whole_trace.specs.declared.shown.NodeShown.{NodeShown}
-use Rattle.whole_trace.specs.Due.{due_after, next_node}
+use Rattle.whole_trace.specs.Due.{is_head, due_after, next_node}
 use Rattle.whole_trace.specs.Whole.{value_of, judged, with_node_line, slots_from}
 
 -- a text begins with a line of this value, which is due, and behind it these are due and left
@@ -20,6 +20,14 @@ pub record IsStep (due : Due) (text : List ℕ) (v : TraceLine) (then : Due) (re
   pub value : value_of line ≡ Some v
   pub next : due_after due v ≡ Some then
   pub shorter : length rest < length text
+
+-- the first line's numbers are within the limits, if it came
+abbrev pub has_head : Due → Bool
+has_head due.First = true
+has_head (due.Node head slot k) = is_head head
+has_head (due.Host head slot has_read) = is_head head
+has_head (due.Back head k) = is_head head
+has_head (due.Nothing head k b) = is_head head
 
 abbrev pub is_taken : Result Outline ℕ → Bool
 is_taken (Ok outline) = true

@@ -1,5 +1,5 @@
 //! The slots of a trace, one after another.
-ghost use Rattle.std.specs.Prelude.{◌≡◌, ◌∷◌, [], IfSome, IsNone, IsTrue};
+ghost use Rattle.std.specs.Prelude.{◌≡◌, ◌∷◌, ◌≤◌, [], length, IfSome, IsNone, IsTrue};
 ghost use Rattle.ttp_base.specs.Text.{lines_of};
 ghost use Rattle.whole_trace.specs.Steps.{GoesOn, is_node, IsHostStep, IsInSlot, IsNodeStep, IsSlotPlace};
 ghost use Rattle.whole_trace.specs.Whole.{slots_from, with_node};
@@ -93,7 +93,8 @@ impl<'a> Model for SlotShown<'a> {
 impl<'a> SlotShown<'a> {
     /// What the lines of the nodes say, the first one of node 0.
     pub fn nodes(&self) -> &[NodeShown]
-        ensures { result.now ≡ self.now.nodes }
+        ensures value { result.now ≡ self.now.nodes }
+        ensures few { length result.now ≤ 24 }
     {
         &self.nodes[..self.count]
     }

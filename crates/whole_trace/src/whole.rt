@@ -1,5 +1,5 @@
 //! A trace as a whole.
-ghost use Rattle.std.specs.Prelude.{◌≡◌};
+ghost use Rattle.std.specs.Prelude.{◌≡◌, ◌≤◌};
 ghost use Rattle.whole_trace.specs.Whole.{whole_in};
 
 use crate::due::{Due, Outline, ending};
@@ -19,22 +19,25 @@ pub struct Whole<'a> {
 }
 
 impl<'a> Model for Whole<'a> {
-    ghost use Rattle.std.specs.Prelude.{◌≡◌, Ok};
+    ghost use Rattle.std.specs.Prelude.{◌≡◌, Ok, IsTrue};
     ghost use Rattle.ttp_base.specs.Text.{lines_of};
     ghost use Rattle.whole_trace.specs.declared.due.Due.TheVariants as due;
+    ghost use Rattle.whole_trace.specs.Due.{is_head};
     ghost use Rattle.whole_trace.specs.Whole.{WholeTrace, judged, with_slots};
 
     ghost Value = { WholeTrace };
 
     ghost view = { λ w. with_slots (lines_of w.text.now) w.outline };
 
-    ghost invariant = { λ w. judged due.First (lines_of w.text.now) ≡ Ok w.outline };
+    ghost invariant = { λ w. (judged due.First (lines_of w.text.now) ≡ Ok w.outline) × IsTrue (is_head w.outline.head) };
 }
 
 impl<'a> Whole<'a> {
     /// What the first line says.
+    #[tactic(auto, using(crate::proofs::Heads::few_nodes))]
     pub fn head(&self) -> Head
-        ensures { result ≡ self.now.head }
+        ensures value { result ≡ self.now.head }
+        ensures nodes { (4 ≤ result.nodes) × (result.nodes ≤ 24) }
     {
         self.outline.head
     }

@@ -1,7 +1,7 @@
-use Rattle.std.proofs.Common.{◌≡◌, ◌≤◌, ◌++◌, length, take}
+use Rattle.std.proofs.Common.{◌≡◌, ◌++◌, length, take}
 use Rattle.ttp_base.specs.Text.{lines_of}
 use Rattle.whole_trace.specs.Steps.{IsInSlot}
-use Rattle.whole_trace.specs.Whole.{SlotLines, with_node, slots_from}
+use Rattle.whole_trace.specs.Whole.{with_node, slots_from}
 use Rattle.whole_trace.proofs.slots.shown_from.Given as goal
 
 -- the nodes so far and those that are left make up the slot

@@ -1,6 +1,8 @@
 use Rattle.std.proofs.Common.{◌≡◌, ◌+◌, ◌≤◌, length}
+use Rattle.std.specs.Prelude.{IsTrue}
 use Rattle.ttp_base.specs.Text.{lines_of}
 use Rattle.whole_trace.specs.declared.due.Due.TheVariants as due
+use Rattle.whole_trace.specs.Steps.{has_head}
 use Rattle.whole_trace.specs.Whole.{judged}
 use Rattle.whole_trace.proofs.Judging.{behind_lines}
 use Rattle.whole_trace.proofs.whole.read_whole.Given as goal
@@ -9,6 +11,7 @@ use Rattle.whole_trace.proofs.whole.read_whole.Given as goal
 abbrev pub invariant-loop-at : goal.invariant-loop-at
 invariant-loop-at l = record {
   judged : judged due.First (lines_of l.text) ≡ behind_lines l.passed (judged l.at.due (lines_of l.at.rest.now));
+  head : IsTrue (has_head l.at.due);
   few : l.passed + length l.at.rest.now ≤ length l.text;
 }
 

@@ -1,0 +1,35 @@
+use Rattle.std.proofs.Common.{rules, ℕ, sym, ap, ◌∙◌, arith}
+use Rattle.std.specs.Prelude.{Result}
+use Rattle.ttp_base.specs.Text.{lines_of}
+use Rattle.whole_trace.specs.declared.due.Outline.{Outline}
+use Rattle.whole_trace.specs.Whole.{judged}
+use Rattle.whole_trace.proofs.Heads.{ending_head, head_kept}
+use Rattle.whole_trace.proofs.Judging.{all-judged, behind_lines, behind-one}
+use Rattle.whole_trace.proofs.NodeSteps.{judged-step}
+use Rattle.whole_trace.proofs.whole.read_whole.Goals as goal
+
+pub loop-at-preserved : goal.loop-at-preserved
+loop-at-preserved c =
+    let known = c.loop-at.invariant in
+    let at = c.loop-at.at in
+    let step = c.in-Some.step in
+    let is = c.in-Some.ensures.some in
+    let others = judged step.behind.due (lines_of step.behind.rest.now) in
+    record {
+      judged =
+          known.judged
+          ∙ ap (λ (r : Result Outline ℕ). behind_lines c.loop-at.passed r)
+          (judged-step at.due at.rest.now step.line step.behind.due step.behind.rest.now is)
+          ∙ behind-one c.loop-at.passed others;
+      head = head_kept at.due step.behind.due step.line known.head is.next;
+      few = omega (arith, is.shorter, known.few);
+    }
+
+pub invariant_of-result : goal.invariant_of-result
+invariant_of-result c =
+    let at = c.loop-at.at in
+    let known = c.loop-at.invariant in
+    let end = sym c.ending.ensures ∙ c.in-Some-ending.is in (
+      all-judged at.due at.rest.now c.loop-at.passed c.in-Some-ending.outline _ known.judged (search rules) end,
+      ending_head at.due c.in-Some-ending.outline known.head end,
+    )
