@@ -53,10 +53,19 @@ class Compared:
             raise Differs(self.at, self.found(), ["no line"])
 
 
-def compare(medl, script, text):
-    """Returns where the text is a trace of the script for some legal message numbers, and raises `Differs` elsewhere."""
+def compare(medl, script, text, on_line=lambda line, legal: None):
+    """Returns where the text is a trace of the script for some legal message numbers, and raises `Differs` elsewhere.
+
+    `on_line` is called with each line and those that are legal in its place, the one with the oldest message first.
+    """
     compared = Compared(text)
-    rules.lines_of(medl, script, compared.take)
+
+    def take(legal):
+        line = compared.take(legal)
+        on_line(line, legal)
+        return line
+
+    rules.lines_of(medl, script, take)
     compared.end()
 
 
@@ -122,13 +131,13 @@ def answer(program, words, files):
     return subprocess.run(command, capture_output=True, encoding="latin-1", check=False)
 
 
-def fault_of_run(program, files):
-    """What is wrong with the run of a script for a list, if something is; and what the program wrote."""
+def fault_of_run(program, files, on_line=lambda line, legal: None):
+    """What is wrong with the run of a script for a list, if something is; and what the program wrote. See `compare`."""
     run = answer(program, ["run"], files)
     if run.returncode != 0:
         return f"status {run.returncode}: {run.stdout[-200:]}{run.stderr[-200:]}", run.stdout
     try:
-        compare(list_in(files[0]), script_in(files[1]), run.stdout)
+        compare(list_in(files[0]), script_in(files[1]), run.stdout, on_line)
     except Differs as differs:
         line, found, legal = differs.args
         return f"line {line}: found {found}, legal {', '.join(legal)}", run.stdout
