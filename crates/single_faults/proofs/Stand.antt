@@ -51,9 +51,13 @@ module _ (list : Medl) (script : Script) where
   between kind from to stands =
       all-each (MayStand list script) (losses_between kind from to) (
         stands both_channels fault.Silence,
-        (stands both_channels fault.Noise,
-        (stands only_a fault.Silence,
-        (stands only_a fault.Noise, (stands only_b fault.Silence, (stands only_b fault.Noise, tt))))),
+        (
+          stands both_channels fault.Noise,
+          (
+            stands only_a fault.Silence,
+            (stands only_a fault.Noise, (stands only_b fault.Silence, (stands only_b fault.Noise, tt))),
+          ),
+        ),
       )
 
   sent-stand : (slot k : ℕ) → k < length list.slots → slot < script.slots
@@ -108,9 +112,13 @@ module _ (list : Medl) (script : Script) where
       all-if (MayStand list script) (is_timed (entry_of row k)) (map (λ z. event.Jump k z slot) (jump_sizes list)) []
       (all-each (MayStand list script) (map (λ z. event.Jump k z slot) (jump_sizes list)) (
         jump-stands (sized (four_windows list)) slot k node inside (within-sized (four_windows list) far),
-        (jump-stands (neg_ℤ (sized (four_windows list))) slot k node inside (within-negated (four_windows list) far),
-        (jump-stands (sized list.window) slot k node inside (within-sized list.window near),
-        (jump-stands (neg_ℤ (sized list.window)) slot k node inside (within-negated list.window near), tt))),
+        (
+          jump-stands (neg_ℤ (sized (four_windows list))) slot k node inside (within-negated (four_windows list) far),
+          (
+            jump-stands (sized list.window) slot k node inside (within-sized list.window near),
+            (jump-stands (neg_ℤ (sized list.window)) slot k node inside (within-negated list.window near), tt),
+          ),
+        ),
       ))
       (All-nil (MayStand list script))
 
