@@ -5,3 +5,4 @@ pub mod FaultySlots
 pub mod SlotIncidents
 pub mod SoleStart
 pub mod Errors
+pub mod FaultyRuns

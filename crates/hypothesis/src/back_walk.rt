@@ -14,25 +14,27 @@ ghost use Rattle.hypothesis.specs.Walks.{back_course, AreFaultsOf, HasWalked};
 use crate::arms::{breaks_arm_in, four_rounds};
 use crate::forgiven::{faulty_then, stayed_in};
 use crate::incidents::{LastLookUps, no_look_ups};
+use crate::losses::Jumps;
 use crate::newest::{FaultySlot, NewestSlots, add_slot, no_slots};
 use crate::start::Start;
 use crate::walk::{SlotFaults, Walk, faults_in, first_walk, walk_with};
 use ttp_base::NodeSet;
 use ttp_world::{Back, Medl, SLOT_LIMIT, Script};
 
-// What the next slot makes of the nodes that are faulty before it, once some of them have come back. The
-// slot is kept.
-fn back_faults_in(
+/// What the next slot makes of the nodes that are faulty before it, once some of them have come back. The
+/// slot is kept.
+pub(crate) fn back_faults_in(
     list: &Medl,
     script: &Script,
     start: Start,
+    jumps: Jumps,
     newest: &mut NewestSlots,
     faulty: NodeSet,
     last: &mut LastLookUps,
 ) -> SlotFaults
     requires valid { IsValid list.now }
     requires script { IsValidScript list.now script.now }
-    requires inside { disturbance_broken list.now script.now ≡ None }
+    requires inside { jumps ≡ Jumps.Far → disturbance_broken list.now script.now ≡ None }
     requires bound { newest.old.end < SLOT_LIMIT + 3 * most_nodes }
     requires newest { AreNewest list.now script.now (told_start start) newest.old }
     requires faulty { HaveSameNodes faulty
@@ -45,7 +47,7 @@ fn back_faults_in(
     let rounds = four_rounds(list);
     let then = faulty_then(newest, rounds);
     let stayed = stayed_in(script, then, slot.saturating_sub(rounds), faulty);
-    let faults = faults_in(list, script, start, slot, stayed, last);
+    let faults = faults_in(list, script, start, jumps, slot, stayed, last);
     add_slot(
         newest,
         FaultySlot {
@@ -81,7 +83,7 @@ fn back_over(
         (back_course list.now script.now (told_start start)) (newest.old.end + 1) walk) }
 {
     let slot = newest.end;
-    let faults = back_faults_in(list, script, start, newest, walk.faulty, last);
+    let faults = back_faults_in(list, script, start, Jumps::Far, newest, walk.faulty, last);
     walk_with(list, script, start, slot, walk, faults)
 }
 
@@ -125,7 +127,16 @@ fn arms_broken(list: &Medl, script: &Script, start: Start) -> Option<u32>
     let mut last = no_look_ups();
     let mut arms = no_look_ups();
     for slot in 0..script.slots {
-        faulty = back_faults_in(list, script, start, &mut newest, faulty, &mut last).faulty;
+        faulty = back_faults_in(
+            list,
+            script,
+            start,
+            Jumps::Far,
+            &mut newest,
+            faulty,
+            &mut last,
+        )
+        .faulty;
         let has_come = slot + 1 >= rounds;
         if has_come && breaks_arm_in(list, script, start, &newest, slot + 1 - rounds, &mut arms) {
             return Some(slot + 1 - rounds);

@@ -14,6 +14,9 @@
 //! Beside it stand the questions that other tests of scripts ask as well: the start, the sender that is
 //! due, drifts and reading errors within their bounds, and nodes to measure clocks by.
 //!
+//! [`KeptFaulty`] and [`BackFaulty`] go over a run slot by slot and tell who is faulty after each, by the one
+//! test and by the other, also where a rule is broken.
+//!
 //! It stands on ttp_world, which has the list, the script and, in `specs/Hypothesis.antt`, the rules,
 //! and on precision, which says how wide a window has to be.
 //! It promises the answer that `keeps` defines there, for each valid list and script. It runs no
@@ -31,6 +34,7 @@ mod arms;
 mod back_walk;
 mod clocks;
 mod distances;
+mod faulty;
 mod forgiven;
 mod incidents;
 mod losses;
@@ -45,6 +49,7 @@ pub use crate::armed::has_arm;
 use crate::back_walk::started_back;
 pub use crate::clocks::{drifts_hold, errors_hold_within};
 use crate::clocks::{back_window_broken, clocks_broken, window_broken};
+pub use crate::faulty::{BackFaulty, KeptFaulty};
 pub use crate::losses::expected_sender;
 pub use crate::nodes::lesser;
 use crate::outside::{disturbance_broken, outside_broken};

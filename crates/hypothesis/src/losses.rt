@@ -1,11 +1,12 @@
 //! What a slot makes of the faulty nodes: clocks that jump, and frames that are lost.
-ghost use Rattle.std.specs.Prelude.{◌≡◌, ℕ, ◌<◌, ◌≤◌, ◌++◌, nat_lt, if◌then◌else◌, length, filter, All, None};
+ghost use Rattle.std.specs.Prelude.{◌≡◌, ℕ, ◌<◌, ◌≤◌, ◌++◌, nat_lt, if◌then◌else◌, length, filter, All, None, is_some};
+ghost use Rattle.std.specs.List.{list_any};
 ghost use Rattle.ttp_base.specs.NodeSet.{most_nodes};
 ghost use Rattle.ttp_world.specs.Hypothesis.{Harmless, nodes_made, is_breaking, is_other, others_in, jumps_now, loses};
 ghost use Rattle.ttp_world.specs.Hypothesis.{loss_among, sender_loss, expected_sender, jumpers_in};
 ghost use Rattle.ttp_world.specs.Medl.{IsValid};
 ghost use Rattle.ttp_world.specs.Returning.{disturbance_broken};
-ghost use Rattle.ttp_world.specs.Script.{incidents_of, has_jump, IsValidScript};
+ghost use Rattle.ttp_world.specs.Script.{incidents_of, has_jump, jump_in, IsValidScript};
 ghost use Rattle.ttp_world.specs.declared.medl.Medl.{Medl};
 ghost use Rattle.ttp_world.specs.declared.script.Script.{Script};
 ghost use Rattle.hypothesis.specs.SlotIncidents.{AreIncidentsIn};
@@ -14,7 +15,7 @@ ghost use Rattle.hypothesis.specs.Standing.{told_start, told_loss, IsOfNodes, Ha
 use crate::incidents::SlotIncidents;
 use crate::start::{Start, is_ever_on};
 use ttp_base::NodeSet;
-use ttp_world::{Incidents, Medl, Script};
+use ttp_world::{Event, Incidents, Medl, Script};
 
 /// What it means that some of those that are due to hear a frame lost it.
 #[derive(Clone, Copy)]
@@ -126,42 +127,97 @@ fn sender_loss(
     loss_among(sender, hearers.others, hearers.lost)
 }
 
-// Whether the clock of a node to which this happens jumps. Each jump goes far, so that the sum of a
-// slot's is not 0.
-fn has_jump(incidents: Incidents) -> bool
+/// Which jumps a script may have.
+#[derive(Clone, Copy, PartialEq, Eq)]
+pub(crate) enum Jumps {
+    /// Far ones alone, each its node's first.
+    Far,
+    Any,
+}
+
+// Whether the clock of a node to which this happens jumps, where each jump goes far: so the sum of a slot's
+// is not 0.
+fn has_far_jump(incidents: Incidents) -> bool
     ensures { (list : Medl) (script : Script) (k slot : ℕ) → IsValid list → disturbance_broken list script ≡ None
         → incidents ≡ incidents_of script k slot → result ≡ has_jump script k slot }
 {
     incidents.jump != 0
 }
 
+// Whether an event is a jump of a node's clock in a slot.
+fn is_jump(event: &Event, node: u8, slot: u32) -> bool
+    ensures { result ≡ is_some (jump_in node slot event.now) }
+{
+    match event {
+        Event::Jump {
+            node: k,
+            slot: at,
+            ..
+        } => *k == node && *at == slot,
+        _ => false,
+    }
+}
+
+// Whether one of these events is.
+fn has_jump_among(events: &[Event], node: u8, slot: u32) -> bool
+    ensures { result ≡ list_any (λ e. is_some (jump_in node slot e)) events.now }
+{
+    for event in events {
+        if is_jump(event, node, slot) {
+            return true;
+        }
+    }
+    false
+}
+
+// Whether the clock of a node to which this happens in a slot jumps. Where any jumps may stand, all events
+// are gone over.
+fn has_jump(script: &Script, jumps: Jumps, incidents: Incidents, slot: u32, node: u8) -> bool
+    ensures { (list : Medl) → IsValid list → (jumps ≡ Jumps.Far → disturbance_broken list script.now ≡ None)
+        → incidents ≡ incidents_of script.now node slot → result ≡ has_jump script.now node slot }
+{
+    match jumps {
+        Jumps::Far => has_far_jump(incidents),
+        Jumps::Any => has_jump_among(script.events.as_slice(), node, slot),
+    }
+}
+
 // Whether a node becomes faulty in a slot since its clock jumps, where these are faulty before it.
-fn jumps_now(script: &Script, incidents: Incidents, faulty: NodeSet, slot: u32, node: u8) -> bool
+fn jumps_now(
+    script: &Script,
+    jumps: Jumps,
+    incidents: Incidents,
+    faulty: NodeSet,
+    slot: u32,
+    node: u8,
+) -> bool
     requires on { node < length script.now.on }
     requires node { node < most_nodes }
-    ensures { (list : Medl) → IsValid list → disturbance_broken list script.now ≡ None
+    ensures { (list : Medl) → IsValid list → (jumps ≡ Jumps.Far → disturbance_broken list script.now ≡ None)
         → incidents ≡ incidents_of script.now node slot → result ≡ jumps_now script.now faulty slot node }
 {
-    script.is_on(node, slot) && !faulty.has(node) && has_jump(incidents)
+    script.is_on(node, slot) && !faulty.has(node) && has_jump(script, jumps, incidents, slot, node)
 }
 
 /// The nodes that become faulty in a slot since their clocks jump, where these are faulty before it.
 pub(crate) fn jumpers_in(
     list: &Medl,
     script: &Script,
+    jumps: Jumps,
     incidents: &SlotIncidents,
     faulty: NodeSet,
     slot: u32,
 ) -> NodeSet
     requires valid { IsValid list.now }
     requires script { IsValidScript list.now script.now }
-    requires inside { disturbance_broken list.now script.now ≡ None }
+    requires inside { jumps ≡ Jumps.Far → disturbance_broken list.now script.now ≡ None }
     requires incidents { AreIncidentsIn list.now script.now slot incidents.now }
     ensures { result ≡ jumpers_in list.now script.now faulty slot }
 {
     let mut jumpers = NodeSet::empty();
     for node in 0..list.nodes() {
-        if jumps_now(script, incidents.nodes[node as usize], faulty, slot, node) {
+        let happens = incidents.nodes[node as usize];
+        if jumps_now(script, jumps, happens, faulty, slot, node) {
             jumpers = jumpers.with(node);
         }
     }

@@ -12,7 +12,7 @@ ghost use Rattle.hypothesis.specs.Walks.{Course, keep_course, AreFaultsIn, AreFa
 
 use crate::distances::{earliest_with, early_with};
 use crate::incidents::{LastLookUps, incidents_in, no_look_ups};
-use crate::losses::{is_breaking, jumpers_in, loss_in, nodes_made, united};
+use crate::losses::{Jumps, is_breaking, jumpers_in, loss_in, nodes_made, united};
 use crate::start::Start;
 use crate::steady::unsteady_with;
 use ttp_base::NodeSet;
@@ -48,18 +48,19 @@ pub(crate) fn faults_in(
     list: &Medl,
     script: &Script,
     start: Start,
+    jumps: Jumps,
     slot: u32,
     faulty: NodeSet,
     last: &mut LastLookUps,
 ) -> SlotFaults
     requires valid { IsValid list.now }
     requires script { IsValidScript list.now script.now }
-    requires inside { disturbance_broken list.now script.now ≡ None }
+    requires inside { jumps ≡ Jumps.Far → disturbance_broken list.now script.now ≡ None }
     ensures { (before : List FaultyNode) → HaveSameNodes faulty (numbers_of before)
         → AreFaultsIn list.now script.now (told_start start) slot before result }
 {
     let incidents = incidents_in(list, script, slot, last);
-    let jumpers = jumpers_in(list, script, &incidents, faulty, slot);
+    let jumpers = jumpers_in(list, script, jumps, &incidents, faulty, slot);
     let fallen = united(jumpers, faulty);
     let loss = loss_in(list, script, start, &incidents, fallen, slot);
     let made = nodes_made(loss);
@@ -136,7 +137,7 @@ fn walk_over(
         (λ walk. HasWalked list.now script.now (told_start start)
         (keep_course list.now script.now (told_start start)) (slot + 1) walk) }
 {
-    let faults = faults_in(list, script, start, slot, walk.faulty, last);
+    let faults = faults_in(list, script, start, Jumps::Far, slot, walk.faulty, last);
     walk_with(list, script, start, slot, walk, faults)
 }
 

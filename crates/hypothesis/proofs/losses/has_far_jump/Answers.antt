@@ -5,7 +5,7 @@ use Rattle.std.proofs.lemmas.Bool.{ne_eqb}
 use Rattle.ttp_world.specs.Script.{has_jump, jump_of}
 use Rattle.ttp_world.proofs.Jumps.{no_jump-sum}
 use Rattle.hypothesis.proofs.FarJumps.{far_jump-sum}
-use Rattle.hypothesis.proofs.losses.has_jump.Goals as goal
+use Rattle.hypothesis.proofs.losses.has_far_jump.Goals as goal
 
 tells : (jump : ℤ) (has : Bool) → to_z w64 (of_z w64 jump) ≡ jump → (has ≡ false → jump ≡ pos 0)
     → (has ≡ true → jump ≡ pos 0 → ⊥)

@@ -1,0 +1,33 @@
+use Rattle.std.proofs.Common.{ℕ, ◌+◌, Option, ap, sym, subst, ◌∙◌, add-one}
+use Rattle.ttp_base.specs.NodeSet.{has_node}
+use Rattle.ttp_world.specs.Hypothesis.{ClusterStart, numbers_of, faulty_nodes_before, started_faulty_nodes}
+use Rattle.hypothesis.specs.Standing.{told_start, HaveSameNodes}
+use Rattle.hypothesis.proofs.faulty.KeptFaulty.step.Goals as goal
+
+pub returns-clause-at : goal.returns-clause-at
+returns-clause-at c =
+    let list = c.args.list.now in
+    let script = c.args.script.now in
+    let start = told_start c.args.self.now.start in
+    let slot = c.args.slot in
+    let made = c.faults_in-faults.ensures (faulty_nodes_before list script start slot) c.requires.at.faulty in
+    record {
+      start = c.requires.at.start;
+      jumps = c.requires.at.jumps;
+      faulty =
+          subst
+          (λ (n : ℕ). HaveSameNodes c.faults_in-faults.result.faulty
+          (numbers_of (faulty_nodes_before list script start n)))
+          (sym (add-one slot)) made.faulty;
+    }
+
+pub returns-clause-faulty : goal.returns-clause-faulty
+returns-clause-faulty c = λ k small.
+    let list = c.args.list.now in
+    let script = c.args.script.now in
+    let start = told_start c.args.self.now.start in
+    let slot = c.args.slot in
+    let made = c.faults_in-faults.ensures (faulty_nodes_before list script start slot) c.requires.at.faulty in
+    made.faulty k small
+    ∙ ap (λ (o : Option ClusterStart). has_node (numbers_of (started_faulty_nodes list script slot o)) k)
+    (sym c.requires.at.start)

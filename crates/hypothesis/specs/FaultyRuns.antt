@@ -1,0 +1,26 @@
+-- How far a walk that tells the faulty nodes of a run has gone.
+use Rattle.std.specs.Prelude.{◌≡◌, ℕ, Some, None}
+use Rattle.ttp_world.specs.declared.medl.Medl.{Medl}
+use Rattle.ttp_world.specs.declared.script.Script.{Script}
+use Rattle.ttp_world.specs.Hypothesis.{start_of, numbers_of, faulty_nodes_before}
+use Rattle.ttp_world.specs.Returning.{disturbance_broken, slots_before, faulty_since}
+use Rattle.hypothesis.specs.declared.faulty.BackFaulty.{BackFaulty}
+use Rattle.hypothesis.specs.declared.faulty.KeptFaulty.{KeptFaulty}
+use Rattle.hypothesis.specs.declared.losses.Jumps.{Jumps}
+use Rattle.hypothesis.specs.declared.losses.Jumps.TheVariants as jumps
+use Rattle.hypothesis.specs.FaultySlots.{AreNewest}
+use Rattle.hypothesis.specs.Standing.{told_start, HaveSameNodes}
+
+-- it knows the start and which jumps there are, and has gone over so many slots
+pub record IsKeptAt (list : Medl) (script : Script) (slot : ℕ) (walk : KeptFaulty) : Type 0 where
+  pub start : start_of list script ≡ Some (told_start walk.start)
+  pub jumps : walk.jumps ≡ jumps.Far → disturbance_broken list script ≡ None
+  pub faulty : HaveSameNodes walk.faulty (numbers_of (faulty_nodes_before list script (told_start walk.start) slot))
+
+pub record IsBackAt (list : Medl) (script : Script) (slot : ℕ) (walk : BackFaulty) : Type 0 where
+  pub start : start_of list script ≡ Some (told_start walk.start)
+  pub jumps : walk.jumps ≡ jumps.Far → disturbance_broken list script ≡ None
+  pub end : walk.newest.end ≡ slot
+  pub newest : AreNewest list script (told_start walk.start) walk.newest
+  pub faulty : HaveSameNodes walk.faulty
+      (numbers_of (faulty_since (slots_before list script (told_start walk.start) slot)))

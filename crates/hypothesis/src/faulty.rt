@@ -1,0 +1,132 @@
+//! The faulty nodes of a run, slot by slot, whichever rules its script breaks.
+ghost use Rattle.std.specs.Prelude.{◌≡◌, ◌+◌, ◌<◌, Some, None};
+ghost use Rattle.ttp_world.specs.Hypothesis.{start_of, faulty_after, numbers_of};
+ghost use Rattle.ttp_world.specs.Medl.{IsValid};
+ghost use Rattle.ttp_world.specs.Returning.{disturbance_broken, back_faulty_after};
+ghost use Rattle.ttp_world.specs.Script.{IsValidScript};
+ghost use Rattle.hypothesis.specs.FaultyRuns.{IsKeptAt, IsBackAt};
+ghost use Rattle.hypothesis.specs.Standing.{told_start, HaveSameNodes};
+
+use crate::back_walk::back_faults_in;
+use crate::incidents::{LastLookUps, no_look_ups};
+use crate::losses::Jumps;
+use crate::newest::{NewestSlots, no_slots};
+use crate::outside::disturbance_broken;
+use crate::start::Start;
+use crate::walk::faults_in;
+use ttp_base::NodeSet;
+use ttp_world::{Medl, Script};
+
+/// A walk over the slots of a run, by the single-fault hypothesis: a node that is faulty stays so. A slot
+/// whose losses break the rule on them makes nobody faulty by these.
+///
+/// It takes no memory. A slot costs two look-ups for each node, and where the script has jumps that no rule
+/// allows, all of its events for each node.
+#[derive(Clone, Copy)]
+pub struct KeptFaulty {
+    start: Start,
+    jumps: Jumps,
+    faulty: NodeSet,
+    last: LastLookUps,
+}
+
+/// The same by the test on armed nodes: four rounds after it was armed a node that was faulty is so no
+/// longer.
+#[derive(Clone, Copy)]
+pub struct BackFaulty {
+    start: Start,
+    jumps: Jumps,
+    newest: NewestSlots,
+    faulty: NodeSet,
+    last: LastLookUps,
+}
+
+// Which jumps a script has.
+fn jumps_of(list: &Medl, script: &Script) -> Jumps
+    requires valid { IsValid list.now }
+    requires script { IsValidScript list.now script.now }
+    ensures { result ≡ Jumps.Far → disturbance_broken list.now script.now ≡ None }
+{
+    match disturbance_broken(list, script) {
+        None => Jumps::Far,
+        Some(_) => Jumps::Any,
+    }
+}
+
+impl KeptFaulty {
+    /// Before the first slot, where the cluster of a script starts so.
+    pub fn new(list: &Medl, script: &Script, start: Start) -> KeptFaulty
+        requires valid { IsValid list.now }
+        requires script { IsValidScript list.now script.now }
+        requires start { start_of list.now script.now ≡ Some (told_start start) }
+        ensures { IsKeptAt list.now script.now 0 result }
+    {
+        KeptFaulty {
+            start,
+            jumps: jumps_of(list, script),
+            faulty: NodeSet::empty(),
+            last: no_look_ups(),
+        }
+    }
+
+    /// Goes over the next slot, and tells who is faulty after it.
+    pub fn step(&mut self, list: &Medl, script: &Script, slot: u32) -> NodeSet
+        requires valid { IsValid list.now }
+        requires script { IsValidScript list.now script.now }
+        requires at { IsKeptAt list.now script.now slot self.old }
+        ensures at { IsKeptAt list.now script.now (slot + 1) self.new }
+        ensures faulty { HaveSameNodes result (faulty_after list.now script.now slot) }
+    {
+        let faults = faults_in(
+            list,
+            script,
+            self.start,
+            self.jumps,
+            slot,
+            self.faulty,
+            &mut self.last,
+        );
+        self.faulty = faults.faulty;
+        faults.faulty
+    }
+}
+
+impl BackFaulty {
+    /// Before the first slot, where the cluster of a script starts so.
+    pub fn new(list: &Medl, script: &Script, start: Start) -> BackFaulty
+        requires valid { IsValid list.now }
+        requires script { IsValidScript list.now script.now }
+        requires start { start_of list.now script.now ≡ Some (told_start start) }
+        ensures { IsBackAt list.now script.now 0 result }
+    {
+        BackFaulty {
+            start,
+            jumps: jumps_of(list, script),
+            newest: no_slots(),
+            faulty: NodeSet::empty(),
+            last: no_look_ups(),
+        }
+    }
+
+    /// Goes over the next slot of the run, and tells who is faulty after it.
+    pub fn step(&mut self, list: &Medl, script: &Script, slot: u32) -> NodeSet
+        requires valid { IsValid list.now }
+        requires script { IsValidScript list.now script.now }
+        requires slot { slot < script.now.slots }
+        requires at { IsBackAt list.now script.now slot self.old }
+        ensures at { IsBackAt list.now script.now (slot + 1) self.new }
+        ensures faulty { HaveSameNodes result (numbers_of (back_faulty_after list.now script.now slot)) }
+    {
+        let faults = back_faults_in(
+            list,
+            script,
+            self.start,
+            self.jumps,
+            &mut self.newest,
+            self.faulty,
+            &mut self.last,
+        );
+        self.faulty = faults.faulty;
+        faults.faulty
+    }
+}
