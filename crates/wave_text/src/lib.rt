@@ -22,3 +22,6 @@ mod value;
 mod variable;
 
 pub use variable::{ClusterVariable, NodeVariable, PortVariable};
+
+#[cfg(test)]
+mod tests;
