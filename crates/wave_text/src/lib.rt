@@ -5,12 +5,23 @@
 //! and `specs/Values.antt` says what value each has after a slot, by the lines of that slot alone. A change
 //! stands where a value differs from the one in the slot before.
 //!
-//! [`laws::lines_of_waveforms`] says that each of its lines is one line. The crate has no code yet but the
-//! names of the variables. It reads no text: the trace is a value of
-//! whole_trace.
+//! The declarations and the changes of a slot are written line by line, each as one piece, exactly as the
+//! definition has them. [`laws::lines_of_waveforms`] says that each line of a waveform is one line, and
+//! [`laws::values_tell_lines`] that the values of a node tell its line again.
+//!
+//! The crate reads no text: a slot is a value of whole_trace. What goes over a whole trace is not here yet.
 #![tactic(auto)]
 
+mod change;
+mod declaration;
+mod declare;
+mod draft;
 pub mod laws;
+mod port;
+mod value;
 mod variable;
 
 pub use variable::{ClusterVariable, NodeVariable, PortVariable};
+
+#[cfg(test)]
+mod tests;

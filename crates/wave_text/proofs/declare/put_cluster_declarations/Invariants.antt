@@ -1,0 +1,11 @@
+use Rattle.wave_text.specs.Variables.{cluster_declaration, cluster_variables}
+use Rattle.std.proofs.Common.{take, [], ◌∷◌}
+use Rattle.std.specs.List.{flat_map}
+use Rattle.ttp_base.specs.Outside.{WroteLines}
+use Rattle.wave_text.proofs.declare.put_cluster_declarations.Given as goal
+
+-- the lines so far were written
+abbrev pub invariant-loop-variable : goal.invariant-loop-variable
+invariant-loop-variable g l =
+    WroteLines (g.K.Sink.output l.fn.out) (g.K.Sink.output l.out)
+    (flat_map (λ v. cluster_declaration l.width v ∷ []) (take l.variable-index cluster_variables))

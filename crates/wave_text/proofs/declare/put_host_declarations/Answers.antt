@@ -1,0 +1,32 @@
+use Rattle.shown_slot.specs.declared.host.What.TheVariants as what
+use Rattle.shown_slot.specs.declared.host.Port.{Port}
+use Rattle.wave_text.specs.Variables.{port_declarations, ports_at}
+use Rattle.std.specs.Prelude.{◌==◌, if◌then◌else◌}
+use Rattle.std.specs.List.{flat_map}
+use Rattle.std.proofs.Common.{◌≡◌, List, ℕ, [], ◌∷◌, ◌∙◌, ap, subst, sym, take, arith, map}
+use Rattle.std.proofs.lemmas.List.{take_all}
+use Rattle.std.proofs.lemmas.Result.{err_from_is_err_and}
+use Rattle.ttp_base.specs.Outside.{WroteLines, CutShort}
+use Rattle.wave_text.proofs.Puts.{WroteLines-at, CutShort-at, flat_map-filter, line_each}
+use Rattle.wave_text.proofs.declare.put_host_declarations.Goals as goal
+
+pub returns-in_err-put_port_of-clause-failed : goal.returns-in_err-put_port_of-clause-failed
+returns-in_err-put_port_of-clause-failed g c =
+    let failed = err_from_is_err_and c.from_residual.result c.from_residual.ensures.1 in
+    rw failed.1 (subst (CutShort (g.K.Sink.output c.args.out.now) (g.K.Sink.output c.put_port_of.new.out)) (sym (flat_map-filter port_declarations (λ (port : Port). port.host == c.args.host) c.args.ports.now))
+    (CutShort-at (g.K.Sink.output c.args.out.now) (g.K.Sink.output c.loop-port.out) (g.K.Sink.output c.put_port_of.new.out) (λ port. if port.host == c.args.host then port_declarations port else []) c.args.ports.now c.loop-port.port-index (record { host = 0; what = what.Write; size = 0 }) (omega (arith, c.loop-port-test.true)) c.loop-port.invariant
+    c.in_err-put_port_of.ensures.failed))
+
+pub loop-port-preserved : goal.loop-port-preserved
+loop-port-preserved g c =
+    WroteLines-at (g.K.Sink.output c.args.out.now) (g.K.Sink.output c.loop-port.out) (g.K.Sink.output c.put_port_of.new.out) (λ port. if port.host == c.args.host then port_declarations port else []) c.args.ports.now c.loop-port.port-index (record { host = 0; what = what.Write; size = 0 }) (omega (arith, c.loop-port-test.true)) c.loop-port.invariant
+    c.in_ok-put_port_of.ensures.ok
+
+pub returns-clause-ok : goal.returns-clause-ok
+returns-clause-ok g c =
+    let ports = c.args.ports.now in
+    let lines : Port → List (List ℕ) = (λ port. if port.host == c.args.host then port_declarations port else []) in
+    let all : take c.loop-port.port-index ports ≡ ports = take_all c.loop-port.port-index ports (omega (arith, c.loop-port-test.false)) in
+    subst (WroteLines (g.K.Sink.output c.args.out.now) (g.K.Sink.output c.loop-port.out))
+    (ap (flat_map lines) all ∙ sym (flat_map-filter port_declarations (λ (port : Port). port.host == c.args.host) ports))
+    c.loop-port.invariant
