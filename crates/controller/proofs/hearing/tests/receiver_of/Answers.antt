@@ -12,7 +12,8 @@ no_doubt n _ none x is = cc
 pub returns : goal.returns
 returns c = record {
   number = omega arith;
-  coming = record { place = refl; rounds = c.at.ensures.rounds; slots = c.at.ensures.slots };
+  coming = record { place = refl; rounds = c.at-coming.ensures.rounds; slots = c.at-coming.ensures.slots };
+  form = c.form_of.ensures;
   doubt = no_doubt (length c.args.list.now.slots) c.ack_of.result c.ack_of.ensures;
   members = rw (c.three_members.ensures, c.requires.four) refl;
 }

@@ -8,8 +8,7 @@ returns-clause-end c history chosen planned carries =
     let front = c.take_all-2.ensures.end history chosen (each-front _ cut.value planned) carries in
     let back = c.take_all.ensures.end history chosen
     (each-back c.split_at_mut-front.result.0.now cut.value (omega (arith, cut.front_len)) planned) carries in
-    let next = omega (arith, c.take_all-2.ensures.count, cut.front_len) in
     record {
-      stand = each-joined next front.stand back.stand;
-      left = each-joined next front.left back.left;
+      stand = each-joined (omega (arith, c.take_all-2.ensures.count, cut.front_len)) front.stand back.stand;
+      left = each-joined (omega (arith, c.take_all-2.ensures.count, cut.front_len)) front.left back.left;
     }
