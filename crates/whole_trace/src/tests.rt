@@ -62,7 +62,11 @@ fn a_trace(rt: HostRuntime) -> Result<(), Fail> {
     );
     assert!(rt; hosts.next_line().is_none());
     let second = slots.next_slot().expect(&rt, "a second slot");
-    assert!(rt; second.nodes()[0].word == Word::Start);
+    let node = second
+        .nodes()
+        .first()
+        .expect(&rt, "a node of the second slot");
+    assert!(rt; node.word == Word::Start);
     assert!(rt; second.hosts().next_line().is_none());
     assert!(rt; slots.next_slot().is_none());
     Ok(())
