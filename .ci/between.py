@@ -41,12 +41,16 @@ class Asked:
                 self.writes.append((int(file), *map(int, rest.split())))
 
 
-def asked(built, command, out, place=None):
-    """Runs a command behind the library, with its output to an open file, and tells what it asked for."""
+def asked(built, command, out, place=None, **more):
+    """Runs a command behind the library, with its output to an open file, and tells what it asked for.
+
+    `more` are further words of the library's, as INTERRUPTED.
+    """
     with tempfile.TemporaryFile() as counted, tempfile.TemporaryFile() as calls:
         counted.truncate(40)
         surroundings = {
             **os.environ, "LD_PRELOAD": built, "COUNTED": str(counted.fileno()), "COUNTED_CALLS": str(calls.fileno()),
+            **more,
         }
         ran = subprocess.run(
             command, env=surroundings, pass_fds=[counted.fileno(), calls.fileno()], stdin=subprocess.DEVNULL, stdout=out,

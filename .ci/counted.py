@@ -1,7 +1,7 @@
 """Checks that are counted, for the scripts of this folder: each compares what was found with what is right.
 
-`TTPBENCH_UNPROVED` names a program that was built with no proof, which stands for the proved one. It is many times slower
-and does its own bookkeeping of memory, so some checks are left out with it, and counted as left.
+`TTPBENCH_UNPROVED` and `TTPLAB_UNPROVED` name programs that were built with no proof, which stand for the proved ones. They are
+many times slower and do their own bookkeeping of memory, so some checks are left out with them, and counted as left.
 """
 
 import concurrent.futures
@@ -14,19 +14,19 @@ TOP = os.path.dirname(os.path.dirname(os.path.realpath(__file__)))
 UNPROVED = os.environ.get("TTPBENCH_UNPROVED")
 
 
-def program():
-    """The program that is checked."""
-    built = UNPROVED or os.path.join(TOP, "crates", "ttpbench", "out", "ttpbench")
+def program(name="ttpbench"):
+    """The program of this name that is checked."""
+    built = os.environ.get(f"{name.upper()}_UNPROVED") or os.path.join(TOP, "crates", name, "out", name)
     if not os.path.exists(built):
         sys.exit(f"{built} is not there: ./prove builds it")
     return built
 
 
-def answer(words, *, out=subprocess.PIPE, seconds=120, **how):
+def answer(words, *, name="ttpbench", out=subprocess.PIPE, seconds=120, **how):
     """The status, the output as text, and what was said on standard error, of the program with these words."""
     try:
         ran = subprocess.run(
-            [program(), *words], stdout=out, stderr=subprocess.PIPE, stdin=subprocess.DEVNULL, timeout=seconds, check=False, **how
+            [program(name), *words], stdout=out, stderr=subprocess.PIPE, stdin=subprocess.DEVNULL, timeout=seconds, check=False, **how
         )
     except subprocess.TimeoutExpired:
         return "no end", "", ""

@@ -1,8 +1,11 @@
 // A library to be loaded before a program (LD_PRELOAD), that refuses it memory, or threads, and counts what it asks for.
 //
 // The environment says what: REFUSE is `memory` or `threads`, REFUSE_FIRST the number of the first call that is refused,
-// counted from 1, and REFUSE_ALL is set where all later ones are refused too. REFUSE_TOLD is the number of an open file, to
+// counted from 1, and REFUSE_ALL is set where all later ones are refused too. Where REFUSE_LEAST is set, allocations of fewer
+// bytes are neither counted for that nor refused. REFUSE_TOLD is the number of an open file, to
 // which one byte is written when a call is refused for the first time.
+//
+// INTERRUPTED is how often each read and each write fails first, as one does that a signal interrupts.
 //
 // COUNTED is the number of an open file of 40 bytes or more, in which five numbers of 8 bytes count all along: allocations,
 // starts of threads, the bytes that were asked for, those that are held, and the most that were. COUNTED_CALLS is that of an open file to which a line is written for each file that is opened, and for
@@ -34,9 +37,11 @@ void *__libc_memalign(size_t, size_t);
 void __libc_free(void *);
 
 static int of_threads;
-static long first, told = -1, listed = -1;
+static long first, least, told = -1, listed = -1;
 static int all;
 static atomic_long calls;
+static long interrupted;
+static atomic_long left;
 // The program ends without the C library's last steps, so the counts stand in a file that another process reads.
 enum { ALLOCATIONS, THREADS, BYTES, HELD, MOST_HELD, COUNTS };
 static atomic_long unseen[COUNTS], *counts = unseen;
@@ -46,9 +51,14 @@ __attribute__((constructor)) static void begin(void) {
     of_threads = what && strcmp(what, "threads") == 0;
     told = file ? atol(file) : -1;
     all = getenv("REFUSE_ALL") != NULL;
+    const char *large = getenv("REFUSE_LEAST");
+    least = large ? atol(large) : 0;
     atomic_store(&calls, 0);
     const char *counted = getenv("COUNTED"), *calls_to = getenv("COUNTED_CALLS");
     listed = calls_to ? atol(calls_to) : -1;
+    const char *often = getenv("INTERRUPTED");
+    interrupted = often ? atol(often) : 0;
+    atomic_store(&left, interrupted);
     if (counted) {
         void *at = (void *)syscall(SYS_mmap, 0, sizeof unseen, PROT_READ | PROT_WRITE, MAP_SHARED, atoi(counted), 0);
         if (at != MAP_FAILED)
@@ -61,7 +71,7 @@ __attribute__((constructor)) static void begin(void) {
 static int is_refused(int is_thread, size_t size) {
     atomic_fetch_add(&counts[is_thread ? THREADS : ALLOCATIONS], 1);
     atomic_fetch_add(&counts[BYTES], (long)size);
-    if (first == 0 || is_thread != of_threads)
+    if (first == 0 || is_thread != of_threads || (long)size < least)
         return 0;
     long number = atomic_fetch_add(&calls, 1) + 1;
     if (number == first && told >= 0)
@@ -162,6 +172,18 @@ static void list(const char *form, ...) {
     errno = error;
 }
 
+// Whether this read or write fails, and is to be made again.
+static int is_interrupted(void) {
+    if (interrupted == 0)
+        return 0;
+    if (atomic_fetch_sub(&left, 1) > 0) {
+        errno = EINTR;
+        return 1;
+    }
+    atomic_store(&left, interrupted);
+    return 0;
+}
+
 static int opened(int place, const char *path, int flags, mode_t mode) {
     int file = (int)syscall(SYS_openat, place, path, flags, mode);
     list("open %d %s\n", file, path);
@@ -198,24 +220,32 @@ int openat64(int place, const char *path, int flags, ...) {
 }
 
 ssize_t read(int file, void *to, size_t size) {
+    if (is_interrupted())
+        return -1;
     ssize_t got = syscall(SYS_read, file, to, size);
     list("read %d %zu %zd\n", file, size, got);
     return got;
 }
 
 ssize_t pread(int file, void *to, size_t size, off_t from) {
+    if (is_interrupted())
+        return -1;
     ssize_t got = syscall(SYS_pread64, file, to, size, from);
     list("read %d %zu %zd\n", file, size, got);
     return got;
 }
 
 ssize_t write(int file, const void *from, size_t size) {
+    if (is_interrupted())
+        return -1;
     ssize_t taken = syscall(SYS_write, file, from, size);
     list("write %d %zu %zd\n", file, size, taken);
     return taken;
 }
 
 ssize_t writev(int file, const struct iovec *parts, int count) {
+    if (is_interrupted())
+        return -1;
     size_t size = 0;
     for (int i = 0; i < count; i++)
         size += parts[i].iov_len;

@@ -16,7 +16,7 @@ def program():
     unproved = os.environ.get("TTPBENCH_UNPROVED")
     if unproved:
         return unproved
-    if subprocess.run([os.path.join(HERE, "is_proved")], check=False).returncode == 0:
+    if subprocess.run([os.path.join(HERE, "is_proved"), "ttpbench"], check=False).returncode == 0:
         return os.path.join(top, "crates", "ttpbench", "out", "ttpbench")
     return os.path.join(top, "ttpbench")
 

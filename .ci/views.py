@@ -1,5 +1,6 @@
 #!/usr/bin/env python3
 """views.py wave|picture TRACE [FIRST LAST]: the views of a trace, by a second reading of docs/VIEWS.md.
+views.py line TRACE: the number of the first line that is not due, or nothing where the text is a trace.
 views.py check TRACE VCD SVG [FIRST LAST]: whether a waveform tells each node line of the trace back, and whether a
 picture is well-formed XML in which each line whose slot is shown is the title of exactly one element.
 
@@ -73,6 +74,61 @@ SHAPES = {"write": "h6l-3-5z", "read": "h6l-3 5z", "status": "h5v5h-5z"}
 NODE = re.compile(r"slot (\d+) node (\d+) (\w+) peer (\S+) msg (\S+) mem (\w+) acc (\d+) rej (\d+) ack (\S+) clock (\S+)$")
 WRITE = re.compile(r"slot (\d+) host (\d+) write (\d+)$")
 READ = re.compile(r"slot (\d+) host (\d+) read (\w+) (\d+) (\w+)$")
+
+
+# What is taken for a trace.
+
+BYTE, SLOT, MESSAGE = r"(?:0|[1-9]\d{0,2})", r"(?:0|[1-9]\d{0,4})", r"(?:0|[1-9]\d{0,5})"
+FIRST_DUE = re.compile(rf"ttpbench trace ({BYTE}) nodes ({BYTE}) rounds ({BYTE}) slots ({SLOT}) schedule [0-9a-f]{{6}}")
+NODE_DUE = re.compile(rf"slot ({SLOT}) node ({BYTE}) (\w+) peer (-|{BYTE}) msg (-|{MESSAGE}) mem ([0-9a-f]+) acc ({BYTE}) rej ({BYTE})"
+                      rf" ack (?:none|first|doubt:({BYTE})) clock (?:0|-?[1-9]\d{{0,17}})", re.ASCII)
+WRITE_DUE = re.compile(rf"slot ({SLOT}) host ({BYTE}) write {MESSAGE}")
+READ_DUE = re.compile(rf"slot ({SLOT}) host ({BYTE}) read (status|{BYTE}) {MESSAGE} ((?:[0-9a-f][0-9a-f]){{1,240}})")
+KEEPS_DUE = re.compile(rf"keeps (?:yes start|no H[1-7]) {SLOT}")
+RETURNS_DUE = re.compile(rf"returns (?:yes start|no Q[1-8]) {SLOT}")
+
+
+def is_node_due(line, version, n, t, k):
+    found = NODE_DUE.fullmatch(line)
+    if not found or found[3] not in WORDS:
+        return False
+    slot, node, word, peer, message, members, accepted, rejected, doubted = found.groups()
+    return (
+        (int(slot), int(node)) == (t, k) and (peer == "-") == (word in ("off", "wait", "retry", "gone"))
+        and (message == "-" or word in ("send", "correct")) and len(members) == (6 if version == 2 else 4)
+        and int(members, 16) < 2 ** n and max(int(accepted), int(rejected)) < 256
+        and all(x in ("-", None) or int(x) < n for x in (peer, doubted))
+    )
+
+
+def is_host_due(line, kind, n, t):
+    found = (WRITE_DUE if kind == "write" else READ_DUE).fullmatch(line)
+    if not found or (int(found[1]), int(found[2]) < n) != (t, True):
+        return False
+    return kind == "write" or (len(found[4]) == 64 if found[3] == "status" else int(found[3]) < n)
+
+
+def first_not_due(text):
+    """The number of the first line of a text that is not due, is missing or has no line feed, or None."""
+    *lines, rest = text.split("\n")
+    lines.append(None)
+    found = FIRST_DUE.fullmatch(lines[0] or "")
+    version, n, rounds, slots = map(int, found.groups()) if found else (0, 0, 0, 0)
+    if not 4 <= n <= {1: 16, 2: 24}.get(version, 0) or not 1 <= rounds <= 64 or not 1 <= slots <= 20000:
+        return 1
+    at = 1
+    for t in range(slots):
+        for k in range(n):
+            if not is_node_due(lines[at] or "", version, n, t, k):
+                return at + 1
+            at += 1
+        for kind in ("write", "read"):
+            while is_host_due(lines[at] or "", kind, n, t):
+                at += 1
+    if not KEEPS_DUE.fullmatch(lines[at] or ""):
+        return at + 1
+    at += 2 if RETURNS_DUE.fullmatch(lines[at + 1] or "") else 1
+    return None if lines[at] is None and not rest else at + 1
 
 
 class Node:
@@ -468,8 +524,12 @@ def picture_faults(trace, text):
 
 
 def main(words):
-    with open(words[1], encoding="ascii", newline="") as file:
-        trace = Trace(file.read())
+    with open(words[1], encoding="latin-1", newline="") as file:
+        text = file.read()
+    if words[0] == "line":
+        print(*[number for number in [first_not_due(text)] if number])
+        return 0
+    trace = Trace(text)
     if words[0] == "wave":
         print(*wave(trace), sep="\n")
     elif words[0] == "picture":

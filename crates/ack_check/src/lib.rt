@@ -25,6 +25,3 @@ mod state;
 
 pub use moves::AckMove;
 pub use state::AckState;
-
-#[cfg(test)]
-mod tests;

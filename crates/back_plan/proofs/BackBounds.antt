@@ -20,10 +20,9 @@ use Rattle.ttp_world.specs.Hypothesis.{is_within_bound, has_jumped_before, is_ju
 use Rattle.ttp_world.specs.Medl.{IsValid}
 use Rattle.ttp_world.specs.Returning.{needed_back, back_window_broken, disturbed_slot, disturbance_broken}
 use Rattle.ttp_world.specs.Script.{flipped_bit, jump_in, jump_of, has_jump, drift_of, reading_error, flipped_bits}
-use Rattle.ttp_world.proofs.Jumps.{each-none, no_jump-sum}
+use Rattle.ttp_world.proofs.Jumps.{each-none, undisturbed-jump}
 use Rattle.fault_plan.specs.Kept.{IsWithinBounds}
-use Rattle.fault_plan.proofs.Bounds.{both-hold, wide, le_of_test}
-use Rattle.fault_plan.proofs.Sieves.{none-found}
+use Rattle.fault_plan.proofs.Bounds.{bounds-of, wide, le_of_test}
 
 -- Events.
 
@@ -44,36 +43,6 @@ pub back-flipped : (list : Medl) (script : Script) (k slot : ℕ) (c : Channel) 
     → flipped_bits script k c slot ≡ []
 back-flipped list script k slot c outside =
     no_flips list script k slot c script.events (each-none (disturbed_slot list script) script.events outside)
-
-allowed : (list : Medl) (script : Script) (k slot : ℕ) (e : Event) → disturbed_slot list script e ≡ None
-    → is_some (jump_in k slot e) ≡ true
-    → is_allowed_jump list script k slot ≡ true
-allowed list script k slot e none here = grind arith
-
-all_allowed : (list : Medl) (script : Script) (k slot : ℕ) (events : List Event)
-    → AllByRecursion (λ e. disturbed_slot list script e ≡ None) events
-    → list_any (λ e. is_some (jump_in k slot e)) events ≡ true → is_allowed_jump list script k slot ≡ true
-all_allowed list script k slot [] inside has = absurd (both_ways false refl has)
-all_allowed list script k slot (e ∷ events) inside has =
-    elim (or_cases (is_some (jump_in k slot e)) (list_any (λ e. is_some (jump_in k slot e)) events) has) [
-      | inl here ↦ allowed list script k slot e inside.0 here
-      | inr later ↦ all_allowed list script k slot events inside.1 later
-    ]
-
--- a jump is one before each later slot
-before : (k slot later : ℕ) (e : Event) → slot < later → is_some (jump_in k slot e) ≡ true
-    → is_jump_before k later e ≡ true
-before k slot later e less here = grind arith
-
-has_before : (k slot later : ℕ) (events : List Event) → slot < later
-    → list_any (λ e. is_some (jump_in k slot e)) events ≡ true
-    → list_any (is_jump_before k later) events ≡ true
-has_before k slot later [] less has = absurd (both_ways false refl has)
-has_before k slot later (e ∷ events) less has =
-    elim (or_cases (is_some (jump_in k slot e)) (list_any (λ e. is_some (jump_in k slot e)) events) has) [
-      | inl here ↦ or_left _ _ (before k slot later e less here)
-      | inr there ↦ or_right _ _ (has_before k slot later events less there)
-    ]
 
 -- The window is wide enough for those that did not come back, too.
 
@@ -104,29 +73,5 @@ pub back-bounds : (list : Medl) (script : Script) → IsValid list → clocks_br
     → back_window_broken list ≡ None → disturbance_broken list script ≡ None
     → IsWithinBounds list script
 back-bounds list script valid clocks window outside =
-    let held =
-    both-hold (drifts_hold list script)
-    (find (λ slot. not (errors_hold_in list script slot)) (below script.slots)) clocks in
-    let inside = each-none (disturbed_slot list script) script.events outside in
-    let allowed : (k slot : ℕ) → has_jump script k slot ≡ true → is_allowed_jump list script k slot ≡ true =
-    λ k slot has. all_allowed list script k slot script.events inside has in
-    record {
-      clocks = clocks;
-      drifts = λ k less.
-          each-below (λ k. is_within_bound list.drift (drift_of script k)) (length list.slots) k held.0 less;
-      errors = λ k slot less within.
-          each-below (λ k. is_within_bound list.error (reading_error script k slot)) (length list.slots) k
-          (not-false _ (none-found (λ slot. not (errors_hold_in list script slot)) 0 script.slots slot held.1
-          (omega arith) (omega arith))) less;
-      window = window-needed list valid (back-window list window);
-      jumps = λ k slot has.
-          (and_parts (is_far_jump list (jump_of script k slot)) (not (has_jumped_before script k slot))
-          (allowed k slot has)).0;
-      still = λ k slot none. no_jump-sum script k slot none;
-      once = λ k slot later less has. false_from_ne_true (has_jump script k later) (λ again.
-          let first =
-          (and_parts (is_far_jump list (jump_of script k later)) (not (has_jumped_before script k later))
-          (allowed k later again)).1 in
-          both_ways (has_jumped_before script k later) (not-true _ first)
-          (has_before k slot later script.events less has));
-    }
+    bounds-of list script clocks (window-needed list valid (back-window list window))
+    (λ k slot has. undisturbed-jump list script k slot outside has)

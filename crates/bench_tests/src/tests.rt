@@ -6,6 +6,7 @@ mod faced;
 mod hosts;
 mod keeps;
 mod modes;
+mod race;
 mod refusals;
 mod rows;
 mod runs;

@@ -1,5 +1,5 @@
 -- Controllers fetch where no host writes: what each got is chosen, as it is beside writes.
-use Rattle.std.proofs.Common.{◌≡◌, ◌≢◌, ℕ, suc, ◌+◌, ◌<◌, ◌≤◌, Bool, List, [], length, map, set, get_or}
+use Rattle.std.proofs.Common.{◌≡◌, ◌≢◌, ℕ, suc, ◌+◌, ◌<◌, ◌≤◌, Bool, List, [], length, set, get_or}
 use Rattle.std.proofs.Common.{Some, None, All, refl, sym, ap, subst, ◌∙◌, arith, add-one, below_more}
 use Rattle.std.proofs.lemmas.List.{append-nil, length-set, get_or-set_same, get_or-set_other}
 use Rattle.ttp_world.specs.declared.medl.Medl.{Medl}
@@ -12,24 +12,20 @@ use Rattle.ttp_world.specs.World.{BegunSlot, Numbers, is_loaded, world}
 use Rattle.line_text.specs.HostLines.{AreBytes}
 use Rattle.controller.specs.Passes.{HaveBegun}
 use Rattle.controller.specs.declared.seat.Seat.{Seat}
-use Rattle.host_port.specs.Rings.{HostState, PortState}
+use Rattle.host_port.specs.Rings.{HostState}
 use Rattle.cluster_run.specs.Choosing.{AreBytesBefore, HaveBegunFor, HaveChosen, next_slot}
-use Rattle.cluster_run.specs.Ports.{host_at, ring_of}
+use Rattle.cluster_run.specs.Ends.{host_at}
 use Rattle.cluster_run.specs.Rings.{pairs_sent, words_written}
 use Rattle.cluster_run.specs.Sending.{FetchesAlone, MayFetchAlone, SettlesFetch, after_writes}
 use Rattle.cluster_run.proofs.Choices.{node_choice}
 use Rattle.cluster_run.proofs.Deliverable.{loaded-payload}
-use Rattle.cluster_run.proofs.PortLists.{at_any, read_alike, same-count}
-use Rattle.cluster_run.proofs.Sends.{fetched_may, has_ring, may_lend, own_end}
-use Rattle.cluster_run.proofs.Settling.{settled_ring}
-use Rattle.std.proofs.lemmas.Option.{slice_get_within}
+use Rattle.cluster_run.proofs.Places.{at_any}
+use Rattle.cluster_run.proofs.Sends.{fetched_may, has_ring, may_lend}
 
 -- The first controllers have fetched, so many, and what is of the others is as it was.
-pub record HaveFetched (list : Medl) (ports : List PortState) (seats : List Seat) (k : ℕ)
-    (old_ends ends : List HostState) (old_chosen chosen : List Chosen) : Type 0 where
+pub record HaveFetched (list : Medl) (seats : List Seat) (k : ℕ) (old_ends ends : List HostState) (old_chosen chosen : List Chosen) : Type 0 where
   pub ends_count : length ends ≡ length old_ends
   pub chosen_count : length chosen ≡ length old_chosen
-  pub own : map ring_of ends ≡ map (λ (p : PortState). p.outgoing) ports
   pub done : (s : BegunSlot) → HaveBegun s 0 seats → (j : ℕ) → j < k
       → FetchesAlone (plan_at list j).payload (is_loaded s j) (host_at old_ends j) (host_at ends j)
       (get_or old_chosen j nothing_chosen) (get_or chosen j nothing_chosen)
@@ -37,14 +33,14 @@ pub record HaveFetched (list : Medl) (ports : List PortState) (seats : List Seat
   pub chosen_rest : (j : ℕ) → k ≤ j → get_or chosen j nothing_chosen ≡ get_or old_chosen j nothing_chosen
 
 -- and one more
-pub fetched_more : {list : Medl} {ports : List PortState} {seats : List Seat} {k : ℕ} {old_ends ends : List HostState}
+pub fetched_more : {list : Medl} {seats : List Seat} {k : ℕ} {old_ends ends : List HostState}
     {old_chosen chosen : List Chosen} (loaded : Bool) (len : ℕ) (end new_end : HostState) (choice new_choice : Chosen)
-    → HaveFetched list ports seats k old_ends ends old_chosen chosen → k < length ends → k < length chosen
+    → HaveFetched list seats k old_ends ends old_chosen chosen → k < length ends → k < length chosen
     → end ≡ get_or ends k end → choice ≡ get_or chosen k choice → (plan_at list k).payload ≡ len
     → ((s : BegunSlot) → HaveBegun s 0 seats → loaded ≡ is_loaded s k)
     → FetchesAlone len loaded end new_end choice new_choice
-    → HaveFetched list ports seats (k + 1) old_ends (set ends k new_end) old_chosen (set chosen k new_choice)
-fetched_more {list} {ports} {seats} {k} {old_ends} {ends} {old_chosen} {chosen} loaded len end new_end choice new_choice
+    → HaveFetched list seats (k + 1) old_ends (set ends k new_end) old_chosen (set chosen k new_choice)
+fetched_more {list} {seats} {k} {old_ends} {ends} {old_chosen} {chosen} loaded len end new_end choice new_choice
     so near near' is_end is_choice plan loads by =
     let end_was : end ≡ host_at old_ends k = is_end ∙ at_any ends k end None near ∙ so.ends_rest k (omega arith) in
     let choice_was : choice ≡ get_or old_chosen k nothing_chosen =
@@ -52,10 +48,6 @@ fetched_more {list} {ports} {seats} {k} {old_ends} {ends} {old_chosen} {chosen} 
     record {
       ends_count = length-set ends k new_end ∙ so.ends_count;
       chosen_count = length-set chosen k new_choice ∙ so.chosen_count;
-      own =
-          read_alike ring_of ends k end new_end is_end
-          (ap ring_of by.settles.settled_is ∙ settled_ring end by.tried)
-          ∙ so.own;
       done = λ s begun.
           below_more
           (λ j. FetchesAlone (plan_at list j).payload (is_loaded s j) (host_at old_ends j)
@@ -80,20 +72,17 @@ fetched_more {list} {ports} {seats} {k} {old_ends} {ends} {old_chosen} {chosen} 
 
 -- Controllers may fetch.
 pub may_fetch_alone : {list : Medl} {script : Script} {slot : ℕ} {numbers : Numbers} {seats : List Seat}
-    {ends : List HostState} (ports : List PortState) → length ports ≡ length list.slots
-    → map ring_of ends ≡ map (λ (p : PortState). p.outgoing) ports
-    → HaveBegunFor list script slot numbers seats ends → MayFetchAlone list ports seats ends
-may_fetch_alone {list = list} {script = script} {numbers = numbers} {ends = ends} ports count own begun =
-    let s = next_slot list script numbers in
-    record {
-      lend = may_lend (same-count ring_of (λ (p : PortState). p.outgoing) ends ports own ∙ count) begun;
-      settle = λ k port here tried fetches f is.
-          let node : k < length list.slots = omega (arith, slice_get_within ports k port here, count) in
-          fetched_may list k port (is_loaded s k) (host_at ends k) (words_written list script k (length numbers))
+    {ends : List HostState} → length ends ≡ length list.slots → HaveBegunFor list script slot numbers seats ends
+    → MayFetchAlone list seats ends
+may_fetch_alone {list = list} {script = script} {numbers = numbers} {ends = ends} count begun =
+    let s = next_slot list script numbers in record {
+      lend = may_lend count begun;
+      settle = λ k near tried fetches f is.
+          let node : k < length list.slots = omega (arith, near, count) in
+          fetched_may list k (is_loaded s k) (host_at ends k) (words_written list script k (length numbers))
           (pairs_sent list script numbers k) tried f
           (λ loaded. has_ring list k _ _ (host_at ends k)
-          (loaded-payload list script (world list script numbers) k node loaded) (begun.written k node))
-          fetches is (own_end ends ports k port own here);
+          (loaded-payload list script (world list script numbers) k node loaded) (begun.written k node)) fetches is;
     }
 
 -- No write leaves an end as it was.

@@ -28,7 +28,7 @@ use Rattle.line_text.proofs.PayloadWords.{words_tell}
 use Rattle.host_port.specs.Fetching.{HasSeen, IsWhole}
 use Rattle.host_port.specs.Reading.{Attempts, is_intact, settled}
 use Rattle.host_port.specs.Rings.{HostState, message_shape, shape_of}
-use Rattle.cluster_run.specs.Rings.{GotEach, IsRing, IsRingOf, pair_of, pair_sent, words_written}
+use Rattle.cluster_run.specs.Rings.{GotEach, SawAtMost, IsRing, IsRingOf, pair_of, pair_sent, words_written}
 use Rattle.cluster_run.specs.Sending.{Fetches, SettlesFetch, after_writes, choice_by, fetcher_lent}
 use Rattle.cluster_run.specs.Sending.{with_messages}
 use Rattle.ttp_world.proofs.HostMessages.{message_sizes, some_message}
@@ -52,6 +52,7 @@ ring_more_some shape before new pairs (Some w) ring = record {
   messages_are =
       ap (λ ms. ms ++ map words_of_payload new) ring.messages_are ∙ sym (map-append words_of_payload before new);
   pairs_are = ring.pairs_are;
+  seen = λ j s within. omega (arith, ring.seen j s within, length-append w.messages (map words_of_payload new));
   once = ring.once;
 }
 
@@ -133,16 +134,17 @@ module _ (before new : List (List ℕ)) (w : WriterState) (f : ReaderState)
 -- The ring once it is settled.
 pub settled_ring : (shape : Shape) (before new : List (List ℕ)) (pairs : List Message) (w : WriterState)
     (f : ReaderState) (k : ℕ) → IsRing shape (map words_of_payload (before ++ new)) pairs w
-    → (got : GotOne before new f.got) → f.tries ≡ 1
+    → (got : GotOne before new f.got) → f.tries ≡ 1 → HasSeen w f
     → IsRing shape (map words_of_payload (before ++ new))
     (pairs ++ pair_of (source.Node k) (before ++ new) got.number ∷ []) (with_joined w f)
-settled_ring shape before new pairs w f k ring got tries = record {
+settled_ring shape before new pairs w f k ring got tries seen = record {
   shape_is = ring.shape_is;
   messages_are = ring.messages_are;
   pairs_are =
       flat_map-append (λ (s : Settlement). s.pairs) w.joined (settlement_of f ∷ [])
       ∙ (λ i. ring.pairs_are i ++ append-nil f.got i)
       ∙ ap (λ ms. pairs ++ ms) got.one;
+  seen = All-push (SawAtMost w.messages) w.joined (settlement_of f) ring.seen seen;
   once = λ more. All-push GotEach w.joined (settlement_of f) (ring.once more) (tries ∙ sym (ap length got.one));
 }
 
@@ -193,7 +195,8 @@ module _ (list : Medl) (script : Script) (slot k : ℕ) (valid : IsValidScript l
       ∙ (λ t. record { number = i; payload = told t }) in
       let number : c1.number ≡ i = ap (λ (c : Chosen). c.number) choice in
       let whole = ring_more_some shape before more pairs (Some w) ring in
-      let end = settled_ring shape before more pairs (with_messages w more) f k whole got tries in
+      let end = settled_ring shape before more pairs (with_messages w more) f k whole got tries
+      settles.whole.1 in
       record {
         message = λ _. choice ∙ ap (λ n. message_chosen list script slot k (Some n)) (sym number);
         legal =

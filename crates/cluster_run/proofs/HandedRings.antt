@@ -1,6 +1,7 @@
 -- What a slot hands on is in the rings of the world after it.
 use Rattle.std.proofs.Common.{◌≡◌, ◌≢◌, ℕ, List, [], ◌∷◌, ◌++◌, length, map, set}
 use Rattle.std.proofs.Common.{Option, Some, None, IsSomeAnd, cond, is_some, refl, sym, ap, subst, ◌∙◌, inl, inr, arith}
+use Rattle.std.proofs.Common.{length-append}
 use Rattle.std.proofs.lemmas.Bool.{cases_eq, cases_lt, eq-eqb, ne_eqb}
 use Rattle.std.proofs.lemmas.List.{append-nil, map-append, get_or-set_same, get_or-set_other, get_or_past, length-set}
 use Rattle.nbw_ring.specs.declared.view.Message.{Message}
@@ -51,6 +52,7 @@ one_more_some shape messages pairs (Some w) words ring = record {
   shape_is = ring.shape_is;
   messages_are = ap (λ ms. ms ++ words ∷ []) ring.messages_are;
   pairs_are = ring.pairs_are;
+  seen = λ j s within. omega (arith, ring.seen j s within, length-append w.messages (words ∷ []));
   once = ring.once;
 }
 

@@ -1,9 +1,8 @@
 pub mod NewNodes
 pub mod NewRings
 pub mod NewClusters
-pub mod PortLists
+pub mod Places
 pub mod Writes
-pub mod LegalSlots
 pub mod Settling
 pub mod HandingOn
 pub mod Choices
@@ -31,4 +30,5 @@ pub mod NextClusters
 pub mod ReportTexts
 pub mod QuietReads
 pub mod Alone
-pub mod QuietScripts
+pub mod OwnReaders
+pub mod LentBuffers

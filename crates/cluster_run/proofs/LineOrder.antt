@@ -2,11 +2,11 @@
 use Rattle.std.proofs.Common.{◌≡◌, ◌≢◌, ℕ, ◌<◌, Bool, true, false, cond, List, [], ◌∷◌, ◌++◌, length, map, set}
 use Rattle.std.proofs.Common.{get_or, Option, Some, None, IfSome, inl, inr, refl, sym, ap, ◌∙◌}
 use Rattle.std.proofs.Common.{arith, append_assoc}
-use Rattle.std.specs.Prelude.{◌==◌, filter, reverse}
+use Rattle.std.specs.Prelude.{◌==◌, ◌↔◌, filter, IsSome, IfNone}
 use Rattle.std.specs.Option.{option_to_list}
-use Rattle.std.proofs.lemmas.Bool.{cases_eq, eq-eqb, eqb-true, false_from_ne_true}
+use Rattle.std.proofs.lemmas.Bool.{false≢true, cases_eq, cases_lt, eq-eqb, eqb-true, false_from_ne_true}
 use Rattle.std.proofs.lemmas.List.{get_or-map, get_or-set_same, get_or-set_other, map-append, map-set, length-map}
-use Rattle.std.proofs.lemmas.List.{append_cancel_left, reverse-append, append-nil}
+use Rattle.std.proofs.lemmas.List.{append_cancel_left, append-nil}
 use Rattle.std.proofs.lemmas.List.Elements.{filter-append}
 use Rattle.ttp_world.specs.declared.host_lines.HostRead.{HostRead}
 use Rattle.host_port.specs.declared.report.ReadLine.{ReadLine}
@@ -31,9 +31,23 @@ queue_kept items qs k other q apart =
     ∙ get_or-set_other (map items qs) k other (items q) [] apart
 
 pub if_first : {X : Type 0} (first : Option X) (old before new after : List X) → old ≡ before → new ≡ after
-    → before ≡ after ++ option_to_list first → IfSome first (λ x. old ≡ new ++ x ∷ [])
-if_first None old before new after was is popped = tt
-if_first (Some x) old before new after was is popped = was ∙ (popped ∙ ap (λ l. l ++ x ∷ []) (sym is))
+    → before ≡ option_to_list first ++ after → IfSome first (λ x. old ≡ x ∷ new)
+if_first None old before new after was is taken = tt
+if_first (Some x) old before new after was is taken = was ∙ (taken ∙ ap (λ l. x ∷ l) (sym is))
+
+nothing_left : {X : Type 0} (xs : List X) → length xs ≡ 0 → xs ≡ []
+nothing_left [] none = refl
+nothing_left (x ∷ xs) none = absurd (omega (arith, none))
+
+-- where nothing is first there is nothing
+pub if_none : {X : Type 0} (first : Option X) (old before : List X) (n : ℕ) → old ≡ before → n ≡ length before
+    → (IsSome first ↔ (0 < n)) → IfNone first (old ≡ [])
+if_none None old before n was long some =
+    elim (cases_lt 0 n) [
+      | inl near ↦ absurd (false≢true (some.1 near))
+      | inr past ↦ was ∙ nothing_left before (omega (arith, long, past))
+    ]
+if_none (Some x) old before n was long some = tt
 
 -- Lines of one host.
 
@@ -66,31 +80,31 @@ lines_by-other k lines line other =
 pub record AreInOrder (reads done : List HostRead) (whole now : List (List ReadLine)) (lines : List ReadLine) : Type 0
   where
     pub told : AreDue reads whole → map read_of lines ≡ done
-    pub kept : AreDue reads whole → (k : ℕ) → lines_by k lines ++ reverse (queue_of now k) ≡ reverse (queue_of whole k)
+    pub kept : AreDue reads whole → (k : ℕ) → lines_by k lines ++ queue_of now k ≡ queue_of whole k
 
 pub in_order_none : (reads : List HostRead) (queues : List (List ReadLine)) (lines : List ReadLine) → lines ≡ []
     → AreInOrder reads [] queues queues lines
 in_order_none reads queues lines none = record {
   told = λ due. ap (map read_of) none;
-  kept = λ due k. ap (λ ls. lines_by k ls ++ reverse (queue_of queues k)) none;
+  kept = λ due k. ap (λ ls. lines_by k ls ++ queue_of queues k) none;
 }
 
 -- what is left for a host are its reads that are left
 left_due : (reads done rest : List HostRead) (whole now : List (List ReadLine)) (lines : List ReadLine) (k : ℕ)
     → reads ≡ done ++ rest → AreInOrder reads done whole now lines → AreDue reads whole
-    → map read_of (reverse (queue_of now k)) ≡ filter (is_host k) rest
+    → map read_of (queue_of now k) ≡ filter (is_host k) rest
 left_due reads done rest whole now lines k split so due =
     let told : map read_of (lines_by k lines) ≡ filter (is_host k) done =
     sym (filter-map (is_host k) read_of lines) ∙ ap (filter (is_host k)) (so.told due) in
-    let all : map read_of (lines_by k lines) ++ map read_of (reverse (queue_of now k))
+    let all : map read_of (lines_by k lines) ++ map read_of (queue_of now k)
     ≡ map read_of (lines_by k lines) ++ filter (is_host k) rest =
-    sym (map-append read_of (lines_by k lines) (reverse (queue_of now k)))
+    sym (map-append read_of (lines_by k lines) (queue_of now k))
     ∙ ap (map read_of) (so.kept due k)
     ∙ due k
     ∙ ap (filter (is_host k)) split
     ∙ filter-append (is_host k) done rest
     ∙ ap (λ xs. xs ++ filter (is_host k) rest) (sym told) in
-    append_cancel_left (map read_of (lines_by k lines)) (map read_of (reverse (queue_of now k)))
+    append_cancel_left (map read_of (lines_by k lines)) (map read_of (queue_of now k))
     (filter (is_host k) rest) all
 
 due_next : (r : HostRead) (rest : List HostRead) → filter (is_host r.host) (r ∷ rest) ≡ r ∷ filter (is_host r.host) rest
@@ -106,15 +120,13 @@ none_some x xs same = cc
 -- A line that is taken is that of the next read.
 in_order_more : (reads done rest : List HostRead) (r : HostRead) (whole before after : List (List ReadLine))
     (lines : List ReadLine) (line : ReadLine) → reads ≡ done ++ r ∷ rest → AreInOrder reads done whole before lines
-    → queue_of before r.host ≡ queue_of after r.host ++ line ∷ []
+    → queue_of before r.host ≡ line ∷ queue_of after r.host
     → ((other : ℕ) → other ≢ r.host → queue_of after other ≡ queue_of before other) → AreDue reads whole
     → AreInOrder reads (done ++ r ∷ []) whole after (lines ++ line ∷ [])
 in_order_more reads done rest r whole before after lines line split so first others due =
-    let turned : reverse (queue_of before r.host) ≡ line ∷ reverse (queue_of after r.host) =
-    ap reverse first ∙ reverse-append (queue_of after r.host) (line ∷ []) in
     let is : read_of line ≡ r =
-    head_same (read_of line) r (map read_of (reverse (queue_of after r.host))) (filter (is_host r.host) rest)
-    (ap (map read_of) (sym turned) ∙ left_due reads done (r ∷ rest) whole before lines r.host split so due
+    head_same (read_of line) r (map read_of (queue_of after r.host)) (filter (is_host r.host) rest)
+    (ap (map read_of) (sym first) ∙ left_due reads done (r ∷ rest) whole before lines r.host split so due
     ∙ due_next r rest) in
     let own : line.host ≡ r.host = ap (λ (x : HostRead). x.host) is in
     record {
@@ -122,16 +134,16 @@ in_order_more reads done rest r whole before after lines line split so first oth
       kept = λ _ k.
           elim (cases_eq r.host k) [
             | inl here ↦
-                ap (λ ls. ls ++ reverse (queue_of after k)) (lines_by-own k lines line (own ∙ here))
-                ∙ append_assoc (lines_by k lines) (line ∷ []) (reverse (queue_of after k))
-                ∙ ap (λ j. lines_by k lines ++ line ∷ reverse (queue_of after j)) (sym here)
-                ∙ ap (λ q. lines_by k lines ++ q) (sym turned)
-                ∙ ap (λ j. lines_by k lines ++ reverse (queue_of before j)) here
+                ap (λ ls. ls ++ queue_of after k) (lines_by-own k lines line (own ∙ here))
+                ∙ append_assoc (lines_by k lines) (line ∷ []) (queue_of after k)
+                ∙ ap (λ j. lines_by k lines ++ line ∷ queue_of after j) (sym here)
+                ∙ ap (λ q. lines_by k lines ++ q) (sym first)
+                ∙ ap (λ j. lines_by k lines ++ queue_of before j) here
                 ∙ so.kept due k
             | inr apart ↦
-                ap (λ ls. ls ++ reverse (queue_of after k))
+                ap (λ ls. ls ++ queue_of after k)
                 (lines_by-other k lines line (λ same. apart (sym own ∙ same)))
-                ∙ ap (λ q. lines_by k lines ++ reverse q) (others k (λ same. apart (sym same)))
+                ∙ ap (λ q. lines_by k lines ++ q) (others k (λ same. apart (sym same)))
                 ∙ so.kept due k
           ];
     }
@@ -139,7 +151,7 @@ in_order_more reads done rest r whole before after lines line split so first oth
 -- the same where it is not known yet whether the lines are due
 pub line_taken : (reads done rest : List HostRead) (r : HostRead) (whole before after : List (List ReadLine))
     (lines : List ReadLine) (line : ReadLine) → reads ≡ done ++ r ∷ rest → AreInOrder reads done whole before lines
-    → queue_of before r.host ≡ queue_of after r.host ++ line ∷ []
+    → queue_of before r.host ≡ line ∷ queue_of after r.host
     → ((other : ℕ) → other ≢ r.host → queue_of after other ≡ queue_of before other)
     → AreInOrder reads (done ++ r ∷ []) whole after (lines ++ line ∷ [])
 line_taken reads done rest r whole before after lines line split so first others = record {
@@ -154,7 +166,7 @@ pub line_missing : (reads done rest : List HostRead) (r : HostRead) (whole befor
 line_missing reads done rest r whole before after lines split so none =
     let never : AreDue reads whole → ⊥ = λ due.
     none_some r (filter (is_host r.host) rest)
-    (ap (λ q. map read_of (reverse q)) (sym none)
+    (ap (map read_of) (sym none)
     ∙ left_due reads done (r ∷ rest) whole before lines r.host split so due
     ∙ due_next r rest) in
     record { told = λ due. absurd (never due); kept = λ due. absurd (never due) }
@@ -167,10 +179,10 @@ map_nothing f (x ∷ xs) same = absurd (none_some (f x) (map f xs) (sym same))
 
 pub all_in_order : (reads : List HostRead) (whole now : List (List ReadLine)) (lines : List ReadLine)
     → AreInOrder reads reads whole now lines → AreDue reads whole → (k : ℕ)
-    → lines_by k lines ≡ reverse (queue_of whole k)
+    → lines_by k lines ≡ queue_of whole k
 all_in_order reads whole now lines so due k =
-    let none : reverse (queue_of now k) ≡ [] =
-    map_nothing read_of (reverse (queue_of now k))
+    let none : queue_of now k ≡ [] =
+    map_nothing read_of (queue_of now k)
     (left_due reads reads [] whole now lines k (sym (append-nil reads)) so due) in
     sym (append-nil (lines_by k lines))
     ∙ ap (λ q. lines_by k lines ++ q) (sym none)

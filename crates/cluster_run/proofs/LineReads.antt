@@ -22,7 +22,7 @@ use Rattle.host_port.specs.Rings.{place_of}
 use Rattle.cluster_run.specs.Reading.{read_of, lines_by}
 use Rattle.cluster_run.specs.Report.{read_shown}
 use Rattle.cluster_run.specs.Rings.{is_read_of, pair_read, pairs_read_in}
-use Rattle.cluster_run.proofs.LegalSlots.{reverse-all}
+use Rattle.ttp_world.proofs.LegalReads.{reverse-all}
 use Rattle.cluster_run.proofs.LineOrder.{map-kept}
 use Rattle.cluster_run.proofs.Readers.{Rises}
 

@@ -1,16 +1,17 @@
 -- The readers of a slot have room for all reads of it.
 use Rattle.std.proofs.Common.{◌≡◌, ℕ, ◌+◌, ◌<◌, ◌≤◌, Bool, true, false, cond, ◌||◌, List, [], ◌∷◌, length}
-use Rattle.std.proofs.Common.{Option, Some, None, IsSomeAnd, All, inl, inr, refl, sym, ap, ◌∙◌, subst, arith}
+use Rattle.std.proofs.Common.{Option, Some, None, option_map, IsSomeAnd, All, inl, inr, refl, sym, ap, ◌∙◌, subst}
+use Rattle.std.proofs.Common.{arith}
 use Rattle.std.specs.Prelude.{◌==◌, ◌⊎◌, is_some}
 use Rattle.std.specs.List.{AllByRecursion}
 use Rattle.std.specs.Option.{ForSome}
-use Rattle.std.proofs.lemmas.Bool.{cases_lt, eqb-true, false_from_ne_true, and_parts, false≢true}
+use Rattle.std.proofs.lemmas.Bool.{cases_lt, eqb-true, false_from_ne_true, and_parts, ne_eqb, false≢true}
 use Rattle.std.proofs.lemmas.List.{get_or_past}
 use Rattle.std.proofs.lemmas.List.Elements.{All-from_recursion}
 use Rattle.std.proofs.lemmas.List.Sums.{sum_by-cons}
 use Rattle.nbw_ring.specs.declared.view.Message.{Message}
 use Rattle.nbw_ring.specs.declared.view.Shape.{Shape}
-use Rattle.nbw_ring.specs.States.{WriterState, ReaderState}
+use Rattle.nbw_ring.specs.States.{WriterState, ReaderState, new_reader}
 use Rattle.ttp_world.specs.declared.host_lines.HostRead.{HostRead}
 use Rattle.ttp_world.specs.declared.medl.Medl.{Medl}
 use Rattle.ttp_world.specs.declared.script.Script.{Script}
@@ -22,7 +23,7 @@ use Rattle.ttp_world.specs.Words.{word_count}
 use Rattle.host_port.specs.Reading.{ReadersState, is_read_at, reads_from, lent}
 use Rattle.host_port.specs.Rings.{ControllerState, place_of, at_source, shape_of, incoming_shape, message_shape}
 use Rattle.ttp_world.proofs.HostPayloads.{IsReadOf, reads_of_valid}
-use Rattle.cluster_run.specs.Ports.{end_at}
+use Rattle.cluster_run.specs.Ends.{end_at}
 use Rattle.cluster_run.specs.Reading.{readers_at, reader_in, reader_at, calls_in, has_reads, AreLentTo}
 use Rattle.cluster_run.specs.Reading.{AreReadersLent, MayReadAll}
 use Rattle.cluster_run.specs.Rings.{IsRingOf}
@@ -116,9 +117,11 @@ source_ring list k (source.Node p) is =
     )
 
 lent_room : (shape : Shape) (messages : List (List ℕ)) (pairs : List Message) (w : Option WriterState) (n : ℕ)
-    → IsRingOf (Some shape) messages pairs w → IsSomeAnd (lent w n) (λ (r : ReaderState). n ≤ r.spare)
-lent_room shape messages pairs None n is = absurd is
-lent_room shape messages pairs (Some w) n is = omega arith
+    (unread : Bool) → unread ≡ false → IsRingOf (Some shape) messages pairs w
+    → IsSomeAnd (cond unread None (option_map (λ v. new_reader v n) w)) (λ (r : ReaderState). n ≤ r.spare)
+lent_room shape messages pairs w n true read is = absurd (false≢true (sym read))
+lent_room shape messages pairs None n false read is = absurd is
+lent_room shape messages pairs (Some w) n false read is = omega arith
 
 some_there : (o : Option ReadersState) → is_some o ≡ true → (x : ReadersState) × (o ≡ Some x)
 some_there None is = absurd (false≢true is)
@@ -147,7 +150,7 @@ room_lent list script slot ends readers messages pairs valid count lent_are ring
     let reader : reader_at readers k from ≡ lent w n =
     ap (λ (o : Option ReadersState). reader_in o from) there.1 ∙ (lent_are.each k near there.0 there.1).readers from in
     subst (λ (o : Option ReaderState). IsSomeAnd o (λ (r : ReaderState). n ≤ r.spare)) (sym reader)
-    (lent_room ring.0 (messages k from) (pairs k from) w n
+    (lent_room ring.0 (messages k from) (pairs k from) w n (n == 0) (ne_eqb n 0 (λ none. omega (arith, none, some)))
     (subst (λ (s : Option Shape). IsRingOf s (messages k from) (pairs k from) w) ring.1 (rings k is.0 from)))
 
 -- Readers that were lent for the reads of a valid script's slot, by ends whose rings are there, may make them all.

@@ -9,7 +9,7 @@ use Rattle.line_text.specs.HostLines.{AreBytes}
 use Rattle.cluster_run.specs.declared.nodes.Nodes.{Nodes}
 use Rattle.cluster_run.specs.Choosing.{AreBytesBefore}
 use Rattle.cluster_run.specs.Nodes.{AreNewNodes}
-use Rattle.cluster_run.specs.Ports.{end_at, host_at}
+use Rattle.cluster_run.specs.Ends.{desk_ends, end_at, host_at}
 use Rattle.cluster_run.specs.Slots.{StandsForSome}
 use Rattle.cluster_run.specs.Standing.{desks_of, DesksStandFor}
 use Rattle.cluster_run.proofs.NewRings.{new_written, new_read}
@@ -22,7 +22,7 @@ new_desks list script nodes new = record {
   written = λ k near.
       new_written list script k (host_at nodes.host_ends.items k) (new.rings.outgoing k near);
   read = λ k near from.
-      new_read list script k from (at_source (end_at nodes.controller_ends.items k) from)
+      new_read list script k from (at_source (end_at (desk_ends nodes.desks.items) k) from)
       (new.rings.incoming k near from);
 }
 

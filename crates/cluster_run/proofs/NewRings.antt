@@ -17,7 +17,7 @@ use Rattle.ttp_world.specs.Medl.{plan_at}
 use Rattle.ttp_world.specs.Outgoing.{zeros_of}
 use Rattle.ttp_world.specs.Words.{word_count, payload_word, words_of_payload}
 use Rattle.host_port.specs.Rings.{shape_of, message_shape, incoming_shape, IsNew}
-use Rattle.cluster_run.specs.Rings.{GotEach, joined_pairs, IsRingOf, words_written, words_read}
+use Rattle.cluster_run.specs.Rings.{GotEach, SawAtMost, joined_pairs, IsRingOf, words_written, words_read}
 
 -- The words of zeros are zeros.
 
@@ -54,6 +54,8 @@ new_ring shape messages (Some w) zeros new = record {
       ∙ ap (λ (s : Shape). replicate s.width 0 ∷ []) new.0
       ∙ sym zeros;
   pairs_are = ap joined_pairs new.1;
+  seen = subst (All (SawAtMost w.messages)) (sym (ap (λ (v : WriterState). v.joined) new.1))
+      (λ k x near. absurd (omega (arith, near)));
   once = λ more. subst (All GotEach) (sym (ap (λ (v : WriterState). v.joined) new.1)) (λ k x near. absurd (omega
       (arith, near)));
 }

@@ -11,7 +11,7 @@ use Rattle.host_port.specs.Rings.{ControllerState, HostState, at_source}
 use Rattle.cluster_run.specs.declared.nodes.Nodes.{Nodes}
 use Rattle.controller.specs.PlantStands.{outcomes_of}
 use Rattle.cluster_run.specs.Ending.{HaveHandedOn}
-use Rattle.cluster_run.specs.Ports.{end_at}
+use Rattle.cluster_run.specs.Ends.{end_at, desk_ends, desk_numbers}
 use Rattle.cluster_run.specs.Reading.{ReadsMany, SettlesReadsOf, calls_in, has_reads, reader_at, reader_in}
 use Rattle.cluster_run.specs.Reading.{readers_at, sources_of}
 use Rattle.cluster_run.specs.Slots.{TellsReads}
@@ -49,11 +49,12 @@ none_settled e = record {
 }
 
 pub none_read : (list : Medl) (script : Script) (slot : ℕ) (old new : Nodes) → reads_in script slot ≡ []
-    → HaveHandedOn (outcomes_of new.seats.items) old.controller_ends.items new.controller_ends.items new.delivered.items
+    → HaveHandedOn (outcomes_of new.seats.items) (desk_ends old.desks.items) (desk_ends new.desks.items)
+    (desk_numbers new.desks.items)
     → TellsReads list script slot old new []
 none_read list script slot old new quiet handed =
     let n = length list.slots in
-    let ends = new.controller_ends.items in
+    let ends = desk_ends new.desks.items in
     record {
       handed = ends;
       first = nobody n;

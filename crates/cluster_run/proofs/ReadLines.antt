@@ -1,7 +1,7 @@
 -- The lines of all hosts, from the queues that their readers leave.
 use Rattle.std.proofs.Common.{◌≡◌, ℕ, ◌≤◌, Bool, true, false, cond, List, [], ◌∷◌, length, map, Option, None}
 use Rattle.std.proofs.Common.{inl, inr, refl, sym, ap, ◌∙◌, arith}
-use Rattle.std.specs.Prelude.{◌==◌, filter, reverse}
+use Rattle.std.specs.Prelude.{◌==◌, filter}
 use Rattle.std.proofs.lemmas.Bool.{cases_lt, eqb-true}
 use Rattle.std.proofs.lemmas.List.{get_or_past}
 use Rattle.ttp_world.specs.declared.host_lines.HostRead.{HostRead}
@@ -42,14 +42,14 @@ are_due reads readers queues count are got = λ k.
           ∙ ap (map (λ (from : Source). record { host = k; source = from })) (got k)
           ∙ by_sources k reads
       | inr past ↦
-          ap (λ q. map read_of (reverse q)) (get_or_past queues k [] (omega arith))
+          ap (map read_of) (get_or_past queues k [] (omega arith))
           ∙ due_past reads readers k past got
     ]
 
 pub lines_of_all : (reads : List HostRead) (readers : List (Option ReadersState)) (queues : List (List ReadLine))
     (lines : List ReadLine) → length queues ≡ length readers → AreQueuesOf readers queues
     → (AreDue reads queues → map read_of lines ≡ reads)
-    → (AreDue reads queues → (k : ℕ) → lines_by k lines ≡ reverse (queue_of queues k))
+    → (AreDue reads queues → (k : ℕ) → lines_by k lines ≡ queue_of queues k)
     → AllGot reads readers → AreLinesOf reads readers lines
 lines_of_all reads readers queues lines count are told own got =
     let due = are_due reads readers queues count are got in record {
@@ -58,7 +58,7 @@ lines_of_all reads readers queues lines count are told own got =
           elim (cases_lt k (length readers)) [
             | inl near ↦ ap (pairs_from from) (own due k) ∙ (are k near).pairs from
             | inr past ↦
-                ap (pairs_from from) (own due k ∙ ap reverse (get_or_past queues k [] (omega arith)))
+                ap (pairs_from from) (own due k ∙ get_or_past queues k [] (omega arith))
                 ∙ ap (λ (o : Option ReadersState). got_of (reader_in o from)) (sym (get_or_past readers k None past))
           ];
     }

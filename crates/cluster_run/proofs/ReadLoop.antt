@@ -1,23 +1,22 @@
 -- The loop over the reads of a slot: what the first of them make of the readers of all hosts.
 use Rattle.std.proofs.Common.{◌≡◌, ℕ, zero, suc, ◌+◌, ◌<◌, ◌≤◌, Bool, true, false, List, [], ◌∷◌, ◌++◌, length, set}
-use Rattle.std.proofs.Common.{take, get_or, count_by, cond, Option, Some, None, IsSomeAnd, All, inl, inr, refl, sym}
-use Rattle.std.proofs.Common.{ap, ◌∙◌}
-use Rattle.std.proofs.Common.{subst, arith}
-use Rattle.std.specs.Prelude.{slice_get}
+use Rattle.std.proofs.Common.{take, get_or, count_by, cond, Option, Some, None, IsSomeAnd, inl, inr, refl, sym}
+use Rattle.std.proofs.Common.{ap, ◌∙◌, subst, arith}
+use Rattle.std.specs.Prelude.{option_map}
 use Rattle.std.specs.Option.{ForSome}
 use Rattle.std.proofs.lemmas.Bool.{cases_eq}
 use Rattle.std.proofs.lemmas.List.{get_or-set_same, get_or-set_other, length-set, take_more}
-use Rattle.std.proofs.lemmas.List.Elements.{All-get_or}
 use Rattle.std.proofs.lemmas.List.Sums.{sum_by-cons}
-use Rattle.std.proofs.lemmas.Option.{slice_get_within, slice_get_read, get_or_from_slice_get}
-use Rattle.nbw_ring.specs.States.{ReaderState}
+use Rattle.std.proofs.lemmas.Option.{none-some, same_Some}
+use Rattle.nbw_ring.specs.States.{RingState, ReaderState}
 use Rattle.ttp_world.specs.declared.host_lines.HostRead.{HostRead}
 use Rattle.ttp_world.specs.declared.script.Source.{Source}
-use Rattle.host_port.specs.Reading.{ReadersState, AreReadersOf, Attempts, Reads, reads_from, is_read_at, is_intact}
-use Rattle.host_port.specs.Reading.{IsLeft}
-use Rattle.host_port.specs.Rings.{PortState, place_of}
-use Rattle.cluster_run.specs.Reading.{readers_at, reader_in, reader_at, AreReadersOfAll, HaveRead, MayReadAll}
-use Rattle.cluster_run.proofs.PortLists.{at_any}
+use Rattle.host_port.specs.Reading.{ReadersState, Attempts, Reads, buffers_of, reads_from, is_read_at, is_intact}
+use Rattle.host_port.specs.Reading.{IsLeft, rings_read}
+use Rattle.host_port.specs.Rings.{place_of}
+use Rattle.cluster_run.specs.Reading.{readers_at, reader_in, reader_at, rings_in, ReadTheSame, ReadBuffers, HaveRead}
+use Rattle.cluster_run.specs.Reading.{MayReadAll}
+use Rattle.cluster_run.proofs.Places.{at_any}
 use Rattle.cluster_run.proofs.ReadAll.{same_place, reads_more-own, reads_more-other, IsRead, IsReadAt, have_more}
 
 -- There is room for the reads that are left.
@@ -43,11 +42,9 @@ room_more buffers all done (Some old) None room reads = absurd reads
 room_more buffers all done (Some old) (Some new) room reads = omega (arith, room, read_spare buffers old new reads)
 
 -- After the first reads: `done` of them were made, of all the reads of the slot.
-pub record AreRead (ports : List PortState) (reads done : List HostRead) (start now : List (Option ReadersState))
-    : Type 0 where
-  pub own : AreReadersOfAll ports now
-  pub have : (buffers : ℕ) → All (λ (port : PortState). port.buffers ≡ buffers) ports
-      → HaveRead buffers done start now
+pub record AreRead (reads done : List HostRead) (start now : List (Option ReadersState)) : Type 0 where
+  pub rings : ReadTheSame start now
+  pub have : (buffers : ℕ) → ReadBuffers buffers start → HaveRead buffers done start now
   pub left : (k : ℕ) (from : Source) → 1 ≤ reads_from reads k from
       → HasRoomFor (reads_from reads k from) (reads_from done k from) (reader_at now k from)
 
@@ -56,13 +53,41 @@ room_first : (all : ℕ) (reader : Option ReaderState) → IsSomeAnd reader (λ 
 room_first all None room = room
 room_first all (Some r) room = omega (arith, room)
 
-pub read_none : (ports : List PortState) (reads : List HostRead) (start : List (Option ReadersState))
-    → AreReadersOfAll ports start → MayReadAll reads start → AreRead ports reads [] start start
-read_none ports reads start own may = record {
-  own = own;
+pub read_none : (reads : List HostRead) (start : List (Option ReadersState)) → MayReadAll reads start
+    → AreRead reads [] start start
+read_none reads start may = record {
+  rings = record { count = refl; each = λ k. refl };
   have = λ buffers all. record { each = λ k from. refl; calls = λ k clear. may.calls k };
   left = λ k from some. room_first (reads_from reads k from) (reader_at start k from) (may.room k from some);
 }
+
+-- The reader of a source that is read has as many buffers as it had when it was lent.
+
+ring_read_at : (rs : List (Option ReaderState)) (i : ℕ) → option_map (λ (r : ReaderState). r.ring) (get_or rs i None)
+    ≡ get_or (rings_read rs) i None
+ring_read_at [] i = refl
+ring_read_at (r ∷ rs) zero = refl
+ring_read_at (r ∷ rs) (suc i) = ring_read_at rs i
+
+same_ring : (a b : Option ReadersState) (from : Source) → rings_in a ≡ rings_in b
+    → option_map (λ (r : ReaderState). r.ring) (reader_in a from)
+    ≡ option_map (λ (r : ReaderState). r.ring) (reader_in b from)
+same_ring None None from same = refl
+same_ring None (Some b) from same = absurd (none-some (rings_read b.readers) same)
+same_ring (Some a) None from same = absurd (none-some (rings_read a.readers) (sym same))
+same_ring (Some a) (Some b) from same =
+    ring_read_at a.readers (place_of from)
+    ∙ ap (λ xs. get_or xs (place_of from) None) (same_Some (rings_read a.readers) (rings_read b.readers) same)
+    ∙ sym (ring_read_at b.readers (place_of from))
+
+sized : (buffers : ℕ) (first now : Option ReaderState) → (option_map (λ (r : ReaderState). r.ring) now
+    ≡ option_map (λ (r : ReaderState). r.ring) first)
+    → ForSome first (λ (x : ReaderState). x.ring.shape.buffers ≡ buffers) → IsLeft now → buffers_of now ≡ buffers
+sized buffers None None same are left = absurd left
+sized buffers None (Some now) same are left = absurd (none-some now.ring (sym same))
+sized buffers (Some first) None same are left = absurd left
+sized buffers (Some first) (Some now) same are left =
+    ap (λ (r : RingState). r.shape.buffers) (same_Some now.ring first.ring same) ∙ are first refl
 
 -- A read.
 
@@ -78,30 +103,11 @@ is_read_at-set buffers r now old new within here is =
       others = λ k other. get_or-set_other now r.host k new None (λ same. other (sym same));
     }
 
-own_more : (ports : List PortState) (now : List (Option ReadersState)) (h : ℕ) (new : Option ReadersState)
-    (port : PortState) → AreReadersOfAll ports now → h < length now → slice_get ports h ≡ Some port
-    → ForSome new (AreReadersOf port) → AreReadersOfAll ports (set now h new)
-own_more ports now h new port own within here is = record {
-  count = length-set now h new ∙ own.count;
-  own = λ k p there.
-      elim (cases_eq h k) [
-        | inl same ↦
-            let same_port : Some port ≡ Some p = sym here ∙ (ap (slice_get ports) same ∙ there) in
-            λ x has.
-            let has' : new ≡ Some x =
-            sym (get_or-set_same now h new None within) ∙ (ap (readers_at (set now h new)) same ∙ has) in
-            subst (λ (o : Option PortState). IsSomeAnd o (λ q. AreReadersOf q x)) same_port (is x has')
-        | inr apart ↦
-            λ x has.
-            own.own k p there x (sym (get_or-set_other now h k new None (λ same. apart (sym same))) ∙ has)
-      ];
-}
-
-left_more : (ports : List PortState) (reads done : List HostRead) (r : HostRead)
+left_more : (reads done : List HostRead) (r : HostRead)
     (start old new : List (Option ReadersState)) (buffers : ℕ) (k : ℕ) (from : Source)
-    → AreRead ports reads done start old → IsReadAt buffers r old new → 1 ≤ reads_from reads k from
+    → AreRead reads done start old → IsReadAt buffers r old new → 1 ≤ reads_from reads k from
     → HasRoomFor (reads_from reads k from) (reads_from (done ++ r ∷ []) k from) (reader_at new k from)
-left_more ports reads done r start old new buffers k from so is some =
+left_more reads done r start old new buffers k from so is some =
     let all = reads_from reads k from in
     let room = so.left k from some in
     elim (cases_eq r.host k) [
@@ -128,26 +134,6 @@ left_more ports reads done r start old new buffers k from so is some =
           (sym (reads_more-other done r k from (λ own _. other own)))
           (subst (λ (x : Option ReaderState). HasRoomFor all (reads_from done k from) x) (sym same) room)
     ]
-
-all_at : (ports : List PortState) (h : ℕ) (port : PortState) → slice_get ports h ≡ Some port
-    → {buffers : ℕ} → All (λ (p : PortState). p.buffers ≡ buffers) ports → port.buffers ≡ buffers
-all_at ports h port there {buffers} all =
-    subst (λ (p : PortState). p.buffers ≡ buffers) (get_or_from_slice_get ports h port port there)
-    (All-get_or (λ (p : PortState). p.buffers ≡ buffers) ports h port (slice_get_within ports h port there) all)
-
-pub read_more : (ports : List PortState) (reads done : List HostRead) (r : HostRead)
-    (start now : List (Option ReadersState)) (port : PortState) (old new : Option ReadersState)
-    → AreRead ports reads done start now → r.host < length now → old ≡ get_or now r.host old
-    → slice_get ports r.host ≡ Some port → ForSome new (AreReadersOf port) → IsRead port.buffers r old new
-    → AreRead ports reads (done ++ r ∷ []) start (set now r.host new)
-read_more ports reads done r start now port old new so within here there own is =
-    let at = is_read_at-set port.buffers r now old new within here is in record {
-      own = own_more ports now r.host new port so.own within there own;
-      have = λ buffers all.
-          have_more buffers done r start now (set now r.host new) (so.have buffers all)
-          (subst (λ (b : ℕ). IsReadAt b r now (set now r.host new)) (all_at ports r.host port there all) at);
-      left = λ k from some. left_more ports reads done r start now (set now r.host new) port.buffers k from so at some;
-    }
 
 -- What the next read asks.
 
@@ -180,10 +166,10 @@ left_now : (all done : ℕ) (reader : Option ReaderState) → HasRoomFor all don
 left_now all done None room less = room
 left_now all done (Some r) room less = omega (arith, room)
 
-pub next_left : (ports : List PortState) (reads : List HostRead) (i : ℕ) (r : HostRead)
-    (start now : List (Option ReadersState)) → AreRead ports reads (take i reads) start now → i < length reads
-    → r ≡ get_or reads i r → IsLeft (reader_at now r.host r.source)
-next_left ports reads i r start now so within here =
+pub next_left : (reads : List HostRead) (i : ℕ) (r : HostRead) (start now : List (Option ReadersState))
+    → AreRead reads (take i reads) start now → i < length reads → r ≡ get_or reads i r
+    → IsLeft (reader_at now r.host r.source)
+next_left reads i r start now so within here =
     let less = next_counted reads i r within here in
     left_now (reads_from reads r.host r.source) (reads_from (take i reads) r.host r.source)
     (reader_at now r.host r.source) (so.left r.host r.source (omega arith)) less
@@ -202,44 +188,71 @@ pub next_within : (now : List (Option ReadersState)) (h : ℕ) (from : Source) �
 next_within now h from left =
     let there = left_there (readers_at now h) from left in some_within now h there.0 there.1
 
+-- One read more: of the readers of its host, which were read so often already.
+
+pub read_more : (reads done : List HostRead) (r : HostRead) (start now : List (Option ReadersState))
+    (old new : Option ReadersState) → AreRead reads done start now → IsLeft (reader_at now r.host r.source)
+    → r.host < length now → old ≡ get_or now r.host old → rings_in new ≡ rings_in old
+    → IsRead (buffers_of (reader_in old r.source)) r old new
+    → AreRead reads (done ++ r ∷ []) start (set now r.host new)
+read_more reads done r start now old new so left within here rings is =
+    let b = buffers_of (reader_in old r.source) in
+    let at = is_read_at-set b r now old new within here is in
+    let was : old ≡ readers_at now r.host = here ∙ at_any now r.host old None within in
+    record {
+      rings = record {
+        count = length-set now r.host new ∙ so.rings.count;
+        each = λ k.
+            elim (cases_eq r.host k) [
+              | inl own ↦
+                  ap (λ j. rings_in (readers_at (set now r.host new) j)) (sym own)
+                  ∙ ap rings_in (get_or-set_same now r.host new None within)
+                  ∙ rings
+                  ∙ ap rings_in was
+                  ∙ ap (λ j. rings_in (readers_at now j)) own
+                  ∙ so.rings.each k
+              | inr apart ↦
+                  ap rings_in (get_or-set_other now r.host k new None (λ same. apart (sym same))) ∙ so.rings.each k
+            ];
+      };
+      have = λ buffers all.
+          have_more buffers done r start now (set now r.host new) (so.have buffers all)
+          (subst (λ (n : ℕ). IsReadAt n r now (set now r.host new))
+          (ap (λ (o : Option ReadersState). buffers_of (reader_in o r.source)) was
+          ∙ sized buffers (reader_at start r.host r.source) (reader_at now r.host r.source)
+          (same_ring (readers_at now r.host) (readers_at start r.host) r.source (so.rings.each r.host))
+          (all r.host r.source) left) at);
+      left = λ k from some. left_more reads done r start now (set now r.host new) b k from so at some;
+    }
+
 -- The same at a place in the slot's reads, whose host is a number that is handed on.
 
-pub left_at : (ports : List PortState) (reads : List HostRead) (i : ℕ) (d : HostRead)
-    (start now : List (Option ReadersState)) (h : ℕ) → i < length reads → h ≡ (get_or reads i d).host
-    → AreRead ports reads (take i reads) start now → IsLeft (reader_at now h (get_or reads i d).source)
-left_at ports reads i d start now h near is so =
+pub left_at : (reads : List HostRead) (i : ℕ) (d : HostRead) (start now : List (Option ReadersState)) (h : ℕ)
+    → i < length reads → h ≡ (get_or reads i d).host → AreRead reads (take i reads) start now
+    → IsLeft (reader_at now h (get_or reads i d).source)
+left_at reads i d start now h near is so =
     let r = get_or reads i d in
     subst (λ (j : ℕ). IsLeft (reader_at now j r.source)) (sym is)
-    (next_left ports reads i r start now so near (at_any reads i d r near))
+    (next_left reads i r start now so near (at_any reads i d r near))
 
-pub within_at : (ports : List PortState) (reads : List HostRead) (i : ℕ) (d : HostRead)
-    (start now : List (Option ReadersState)) (h : ℕ) → i < length reads → h ≡ (get_or reads i d).host
-    → AreRead ports reads (take i reads) start now → h < length now
-within_at ports reads i d start now h near is so =
-    next_within now h (get_or reads i d).source (left_at ports reads i d start now h near is so)
+pub within_at : (reads : List HostRead) (i : ℕ) (d : HostRead) (start now : List (Option ReadersState)) (h : ℕ)
+    → i < length reads → h ≡ (get_or reads i d).host → AreRead reads (take i reads) start now → h < length now
+within_at reads i d start now h near is so =
+    next_within now h (get_or reads i d).source (left_at reads i d start now h near is so)
 
-read_at : (ports : List PortState) (reads done : List HostRead) (r : HostRead)
-    (start now : List (Option ReadersState)) (h : ℕ) (port : PortState) (old new : Option ReadersState)
-    → r.host ≡ h → AreRead ports reads done start now → h < length now → old ≡ get_or now h old
-    → slice_get ports h ≡ Some port → ForSome new (AreReadersOf port) → IsRead port.buffers r old new
-    → AreRead ports reads (done ++ r ∷ []) start (set now h new)
-read_at ports reads done r start now h port old new is so within here there own reads_it =
-    subst (λ (j : ℕ). AreRead ports reads (done ++ r ∷ []) start (set now j new)) is
-    (read_more ports reads done r start now port old new so (subst (λ (j : ℕ). j < length now) (sym is) within)
-    (subst (λ (j : ℕ). old ≡ get_or now j old) (sym is) here)
-    (subst (λ (j : ℕ). slice_get ports j ≡ Some port) (sym is) there) own reads_it)
-
-pub read_next : (ports : List PortState) (reads : List HostRead) (i : ℕ) (d : HostRead)
-    (start now : List (Option ReadersState)) (h : ℕ) (port : PortState) (old new : Option ReadersState)
-    → i < length reads → h ≡ (get_or reads i d).host → AreRead ports reads (take i reads) start now
-    → port ≡ get_or ports h port → ForSome new (AreReadersOf port)
-    → IsRead port.buffers (get_or reads i d) (get_or now h old) new
-    → AreRead ports reads (take (i + 1) reads) start (set now h new)
-read_next ports reads i d start now h port old new near is so here own reads_it =
+pub read_next : (reads : List HostRead) (i : ℕ) (d : HostRead) (start now : List (Option ReadersState)) (h : ℕ)
+    (old new : Option ReadersState) → i < length reads → h ≡ (get_or reads i d).host
+    → AreRead reads (take i reads) start now → rings_in new ≡ rings_in (get_or now h old)
+    → IsRead (buffers_of (reader_in (get_or now h old) (get_or reads i d).source)) (get_or reads i d)
+    (get_or now h old) new
+    → AreRead reads (take (i + 1) reads) start (set now h new)
+read_next reads i d start now h old new near is so rings reads_it =
     let r = get_or reads i d in
-    let within = within_at ports reads i d start now h near is so in
-    let count = so.own.count in
-    subst (λ (xs : List HostRead). AreRead ports reads xs start (set now h new)) (sym (take_more reads i d near))
-    (read_at ports reads (take i reads) r start now h port (get_or now h old) new (sym is) so within
-    (at_any now h old (get_or now h old) within)
-    (slice_get_read ports (length ports) h port refl (omega (arith, within, count)) here) own reads_it)
+    let within = within_at reads i d start now h near is so in
+    let left = next_left reads i r start now so near (at_any reads i d r near) in
+    let was = get_or now h old in
+    subst (λ (xs : List HostRead). AreRead reads xs start (set now h new)) (sym (take_more reads i d near))
+    (subst (λ (j : ℕ). AreRead reads (take i reads ++ r ∷ []) start (set now j new)) (sym is)
+    (read_more reads (take i reads) r start now was new so left
+    (subst (λ (j : ℕ). j < length now) is within)
+    (subst (λ (j : ℕ). was ≡ get_or now j was) is (at_any now h old was within)) rings reads_it))

@@ -10,9 +10,10 @@ use Rattle.nbw_ring.specs.declared.view.Message.{Message}
 use Rattle.nbw_ring.specs.declared.view.Shape.{Shape}
 use Rattle.nbw_ring.specs.Numbers.{newest_number, IsMessageOf}
 use Rattle.nbw_ring.specs.States.{WriterState, ReaderState, new_reader, settlement_of, with_joined}
+use Rattle.host_port.specs.Fetching.{HasSeen}
 use Rattle.host_port.specs.Reading.{IsSettled, settled, got_of}
 use Rattle.cluster_run.specs.Reading.{ReadsMany, IsClear}
-use Rattle.cluster_run.specs.Rings.{joined_pairs, GotEach, IsRing, IsRingOf}
+use Rattle.cluster_run.specs.Rings.{joined_pairs, GotEach, SawAtMost, IsRing, IsRingOf}
 use Rattle.cluster_run.proofs.Readers.{Rises, GotEvery, many_keep, got_every}
 
 -- a reader, if there is one, is a new one of this writer's
@@ -90,11 +91,12 @@ joined_more v r =
 
 settled_ring : (buffers n : ℕ) (shape : Shape) (after : List (List ℕ)) (ps : List Message) (v : WriterState)
     (old new : ReaderState) → shape.buffers ≡ buffers → IsRing shape after ps v → GotEvery buffers n old new
-    → IsRing shape after (ps ++ new.got) (with_joined v new)
-settled_ring buffers n shape after ps v old new sized be got = record {
+    → HasSeen v new → IsRing shape after (ps ++ new.got) (with_joined v new)
+settled_ring buffers n shape after ps v old new sized be got seen = record {
   shape_is = be.shape_is;
   messages_are = be.messages_are;
   pairs_are = joined_more v new ∙ ap (λ ms. ms ++ new.got) be.pairs_are;
+  seen = All-push (SawAtMost v.messages) v.joined (settlement_of new) be.seen seen;
   once = λ more.
       All-push GotEach v.joined (settlement_of new) (be.once more)
       (got.once (λ one. more (sized ∙ one)) ∙ sym got.count);
@@ -127,7 +129,7 @@ read_ring : (buffers n : ℕ) (shape : Shape) (before after : List (List ℕ)) (
 read_ring buffers n shape before after ps w v old None sized is be lent got settles = absurd got
 read_ring buffers n shape before after ps w v old (Some new) sized is be lent got settles = record {
   got = got_ring buffers n shape before after ps w v old new is be lent got settles;
-  ring = settled_ring buffers n shape after ps v old new sized be got;
+  ring = settled_ring buffers n shape after ps v old new sized be got settles.1;
 }
 
 pub ring_read : (buffers n : ℕ) (shape : Option Shape) (before after : List (List ℕ)) (ps : List Message)

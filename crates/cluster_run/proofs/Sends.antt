@@ -1,12 +1,13 @@
 -- What the sending of a slot asks and gives, node by node.
 use Rattle.std.proofs.Common.{◌≡◌, ℕ, suc, ◌+◌, ◌<◌, ◌≤◌, Bool, true, false, List, [], ◌∷◌}
-use Rattle.std.proofs.Common.{length, map, get_or, Option, Some, None, IfSome, IsSomeAnd, All, refl, sym, ap, subst}
+use Rattle.std.proofs.Common.{length, get_or, Option, Some, None, IfSome, IsSomeAnd, All, refl, sym, ap, subst}
 use Rattle.std.proofs.Common.{◌∙◌, arith, add-one, inl, inr}
 use Rattle.std.specs.Prelude.{◌==◌, IsSome, slice_get, count_by, unwrap_or, ◌/◌}
-use Rattle.std.proofs.lemmas.Bool.{cases_Bool, cond_both}
-use Rattle.std.proofs.lemmas.List.{length-map}
+use Rattle.std.specs.Option.{ForSome}
+use Rattle.std.proofs.lemmas.Bool.{cases_Bool, cases_lt, cond_both}
+use Rattle.std.proofs.lemmas.List.{get_or_past, length-map}
 use Rattle.std.proofs.lemmas.List.Elements.{All-append, All-head, All-nil, All-tail, All-push}
-use Rattle.std.proofs.lemmas.Option.{get_or_from_slice_get, none-some, same_Some, slice_get_within}
+use Rattle.std.proofs.lemmas.Option.{none-some, same_Some}
 use Rattle.nbw_ring.specs.declared.view.Message.{Message}
 use Rattle.nbw_ring.specs.declared.view.Shape.{Shape}
 use Rattle.nbw_ring.specs.States.{WriterState, ReaderState, new_reader}
@@ -24,10 +25,10 @@ use Rattle.ttp_world.specs.World.{BegunSlot, Numbers, is_loaded, world}
 use Rattle.line_text.specs.HostLines.{AreBytes}
 use Rattle.controller.specs.declared.seat.Seat.{Seat}
 use Rattle.host_port.specs.Reading.{Attempts, is_intact}
-use Rattle.host_port.specs.Rings.{HostState, PortState, message_shape, shape_of}
+use Rattle.host_port.specs.Rings.{HostState, message_shape, shape_of}
 use Rattle.host_port.specs.Writing.{Takes}
 use Rattle.cluster_run.specs.Choosing.{AreBytesBefore, HaveBegunFor, HaveChosen, next_slot}
-use Rattle.cluster_run.specs.Ports.{host_at, ring_of}
+use Rattle.cluster_run.specs.Ends.{host_at}
 use Rattle.cluster_run.specs.Report.{writes_shown}
 use Rattle.cluster_run.specs.Rings.{IsRing, IsRingOf, pairs_sent, words_written}
 use Rattle.cluster_run.specs.Sending.{AreLent, FetchAll, Fetches, MayFetchAll, MaySettle, MayLend, MayWriteAll}
@@ -37,7 +38,6 @@ use Rattle.cluster_run.specs.Standing.{HoldsWritten}
 use Rattle.cluster_run.proofs.Choices.{node_choice, shape_there}
 use Rattle.cluster_run.proofs.Deliverable.{loaded-payload}
 use Rattle.ttp_world.proofs.HostMessages.{IsValidWrite, few_messages, filter_map-each, valid_write_at, valid_writes}
-use Rattle.cluster_run.proofs.PortLists.{at_any, same-count, same_at}
 use Rattle.cluster_run.proofs.Settling.{payload_few, plan_there}
 use Rattle.cluster_run.proofs.Writes.{filter_map-few}
 
@@ -168,42 +168,18 @@ more_bytes list script slot bytes written k =
 
 -- Controllers may fetch.
 
--- a port's own end
-pub own_end : (ends : List HostState) (ports : List PortState) (k : ℕ) (port : PortState)
-    → map ring_of ends ≡ map (λ (p : PortState). p.outgoing) ports → slice_get ports k ≡ Some port
-    → ring_of (host_at ends k) ≡ port.outgoing
-own_end ends ports k port own here =
-    let outgoing = λ (p : PortState). p.outgoing in
-    let near : k < length ends =
-    omega (arith, same-count ring_of outgoing ends ports own, slice_get_within ports k port here) in
-    same_at ring_of outgoing ends ports k (host_at ends k) port own near (at_any ends k None (host_at ends k) near)
-    (sym (get_or_from_slice_get ports k port port here))
-
-pub record MayTry (end : HostState) (f : ReaderState) : Type 0 where
-  pub ring : Some f.ring ≡ ring_of end
-  pub room : 1 ≤ f.spare
-
-pub lent_may : (loaded : Bool) (end : HostState) (f : ReaderState) → fetcher_lent loaded end ≡ Some f → MayTry end f
+pub lent_may : (loaded : Bool) (end : HostState) (f : ReaderState) → fetcher_lent loaded end ≡ Some f → 1 ≤ f.spare
 lent_may false end f is = absurd (none-some f is)
 lent_may true None f is = absurd (none-some f is)
-lent_may true (Some w) f is =
-    let same = same_Some (new_reader w 1) f is in record {
-      ring = ap (λ (r : ReaderState). Some r.ring) (sym same);
-      room = omega (arith, ap (λ (r : ReaderState). r.spare) same);
-    }
+lent_may true (Some w) f is = omega (arith, ap (λ (r : ReaderState). r.spare) (same_Some (new_reader w 1) f is))
 
 pub may_fetch_all : {s : BegunSlot} {ends : List HostState} {fetchers : List (Option ReaderState)}
-    (ports : List PortState) → map ring_of ends ≡ map (λ (p : PortState). p.outgoing) ports
-    → AreLent s ends fetchers → MayFetchAll ports fetchers
-may_fetch_all {s = s} {ends = ends} ports own lent k port here f is =
-    let near : k < length ends =
-    omega (
-      arith,
-      same-count ring_of (λ (p : PortState). p.outgoing) ends ports own,
-      slice_get_within ports k port here,
-    ) in
-    let may = lent_may (is_loaded s k) (host_at ends k) f (sym (lent.each k near) ∙ is) in
-    (may.ring ∙ own_end ends ports k port own here, may.room)
+    → AreLent s ends fetchers → MayFetchAll fetchers
+may_fetch_all {s = s} {ends = ends} {fetchers = fetchers} lent k f is =
+    elim (cases_lt k (length ends)) [
+      | inl near ↦ lent_may (is_loaded s k) (host_at ends k) f (sym (lent.each k near) ∙ is)
+      | inr past ↦ absurd (none-some f (sym (get_or_past fetchers k None (omega (arith, past, lent.count))) ∙ is))
+    ]
 
 -- Fetchers may be settled.
 
@@ -220,41 +196,42 @@ settled_words width w f attempt wide =
       | inr late ↦ subst (All P) (sym (attempt.nothing late).got) (All-nil P)
     ]
 
-pub fetched_may : (list : Medl) (k : ℕ) (port : PortState) (loaded : Bool) (end : HostState)
-    (messages : List (List ℕ)) (pairs : List Message) (f1 : Option ReaderState) (f : ReaderState)
+pub fetched_may : (list : Medl) (k : ℕ) (loaded : Bool) (end : HostState) (messages : List (List ℕ))
+    (pairs : List Message) (f1 : Option ReaderState) (f : ReaderState)
     → (loaded ≡ true → HasRing list k messages pairs end) → Fetches (fetcher_lent loaded end) f1 → f1 ≡ Some f
-    → ring_of end ≡ port.outgoing → MaySettle port (plan_at list k).payload f
-fetched_may list k port loaded end messages pairs None f ring fetches is own = absurd (none-some f is)
-fetched_may list k port false end messages pairs (Some f1) f ring fetches is own = absurd fetches
-fetched_may list k port true None messages pairs (Some f1) f ring fetches is own = absurd fetches
-fetched_may list k port true (Some w) messages pairs (Some f1) f ring fetches is own =
-    subst (MaySettle port (plan_at list k).payload) (same_Some f1 f is) (record {
-      own = ap Some fetches.ring ∙ own;
+    → MaySettle end (plan_at list k).payload f
+fetched_may list k loaded end messages pairs None f ring fetches is = absurd (none-some f is)
+fetched_may list k false end messages pairs (Some f1) f ring fetches is = absurd fetches
+fetched_may list k true None messages pairs (Some f1) f ring fetches is = absurd fetches
+fetched_may list k true (Some w) messages pairs (Some f1) f ring fetches is =
+    subst (MaySettle (Some w) (plan_at list k).payload) (same_Some f1 f is) (record {
+      own = fetches.ring;
       words = settled_words (word_count (plan_at list k).payload) w f1 fetches
           (ap (λ (s : Shape). s.width) (ring refl).there.shape_is);
     })
 
+-- and still after writes
+after_own : (writes : List HostWrite) (k len : ℕ) (end : HostState) (f : ReaderState) → MaySettle end len f
+    → MaySettle (after_writes writes k end) len f
+after_own writes k len None f may = absurd may.own
+after_own writes k len (Some w) f may = record { own = may.own; words = may.words }
+
 pub may_settle : {list : Medl} {script : Script} {slot : ℕ} {numbers : Numbers} {seats : List Seat}
-    {ends : List HostState} {fetchers : List (Option ReaderState)} (ports : List PortState)
-    (tried : List (Option ReaderState)) → length ports ≡ length list.slots
-    → map ring_of ends ≡ map (λ (p : PortState). p.outgoing) ports
-    → HaveBegunFor list script slot numbers seats ends
-    → AreLent (next_slot list script numbers) ends fetchers → FetchAll fetchers tried → (k : ℕ) (port : PortState)
-    → slice_get ports k ≡ Some port → (f : ReaderState) → get_or tried k None ≡ Some f
-    → MaySettle port (plan_at list k).payload f
-may_settle {list = list} {script = script} {numbers = numbers} {ends = ends} ports tried
-    count own begun lent tries k port here f is =
+    {ends : List HostState} {fetchers : List (Option ReaderState)} (tried : List (Option ReaderState))
+    (writes : List HostWrite) → length ends ≡ length list.slots → HaveBegunFor list script slot numbers seats ends
+    → AreLent (next_slot list script numbers) ends fetchers → FetchAll fetchers tried → (k : ℕ) → k < length ends
+    → ForSome (get_or tried k None) (MaySettle (after_writes writes k (host_at ends k)) (plan_at list k).payload)
+may_settle {list = list} {script = script} {numbers = numbers} {ends = ends} tried writes count begun lent tries k near
+    f is =
     let s = next_slot list script numbers in
-    let within = slice_get_within ports k port here in
-    let near : k < length ends =
-    omega (arith, same-count ring_of (λ (p : PortState). p.outgoing) ends ports own, within) in
-    let node : k < length list.slots = omega (arith, within, count) in
-    fetched_may list k port (is_loaded s k) (host_at ends k) (words_written list script k (length numbers))
+    let node : k < length list.slots = omega (arith, near, count) in
+    after_own writes k (plan_at list k).payload (host_at ends k) f
+    (fetched_may list k (is_loaded s k) (host_at ends k) (words_written list script k (length numbers))
     (pairs_sent list script numbers k) (get_or tried k None) f
     (λ loaded. has_ring list k _ _ (host_at ends k)
     (loaded-payload list script (world list script numbers) k node loaded) (begun.written k node))
     (subst (λ (o : Option ReaderState). Fetches o (get_or tried k None)) (lent.each k near)
-    (tries k (omega (arith, near, lent.count)))) is (own_end ends ports k port own here)
+    (tries k (omega (arith, near, lent.count)))) is)
 
 -- So the messages in frames are chosen.
 

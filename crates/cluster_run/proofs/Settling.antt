@@ -1,7 +1,7 @@
 -- Fetchers are settled one after another.
-use Rattle.std.proofs.Common.{◌≡◌, ◌≢◌, ℕ, zero, suc, ◌+◌, ◌<◌, ◌≤◌, List, [], ◌∷◌, length, map, set, get_or}
+use Rattle.std.proofs.Common.{◌≡◌, ◌≢◌, ℕ, zero, suc, ◌+◌, ◌<◌, ◌≤◌, List, [], ◌∷◌, length, set, get_or}
 use Rattle.std.proofs.Common.{Option, Some}
-use Rattle.std.proofs.Common.{None, refl, ap, ◌∙◌, subst, below_more, arith}
+use Rattle.std.proofs.Common.{None, ap, ◌∙◌, subst, below_more, arith}
 use Rattle.std.specs.Prelude.{slice_get, unwrap_or}
 use Rattle.std.specs.List.{AllByRecursion}
 use Rattle.std.proofs.lemmas.List.{length-set, get_or-set_same, get_or-set_other}
@@ -12,11 +12,10 @@ use Rattle.ttp_world.specs.declared.medl.SlotPlan.{SlotPlan}
 use Rattle.ttp_world.specs.declared.node.Chosen.{Chosen}
 use Rattle.ttp_world.specs.Medl.{plan_at, no_plan, IsValid, IsValidSlot}
 use Rattle.ttp_world.specs.Outgoing.{nothing_chosen}
-use Rattle.host_port.specs.Reading.{settled}
-use Rattle.host_port.specs.Rings.{PortState, HostState}
-use Rattle.cluster_run.specs.Ports.{ring_of, host_at}
+use Rattle.host_port.specs.Rings.{HostState}
+use Rattle.cluster_run.specs.Ends.{host_at}
 use Rattle.cluster_run.specs.Sending.{SettlesFetch}
-use Rattle.cluster_run.proofs.PortLists.{at_any, read_alike}
+use Rattle.cluster_run.proofs.Places.{at_any}
 
 -- the slot of a list's node
 pub plan_there : (list : Medl) (k : ℕ) (plan : SlotPlan) → slice_get list.slots k ≡ Some plan → plan_at list k ≡ plan
@@ -34,34 +33,28 @@ payload_few list k plan valid here =
     (all_there (IsValidSlot list.rounds list.modes) list.slots k plan valid.slots here).payload
 
 -- The first fetchers are settled, so many, and the others are as they were.
-pub record AreSettled (list : Medl) (ports : List PortState) (k : ℕ) (old_fetchers fetchers : List (Option ReaderState))
+pub record AreSettled (list : Medl) (k : ℕ) (old_fetchers fetchers : List (Option ReaderState))
     (old_ends ends : List HostState) (old_chosen chosen : List Chosen) : Type 0 where
   pub fetchers_count : length fetchers ≡ length old_fetchers
   pub ends_count : length ends ≡ length old_ends
   pub chosen_count : length chosen ≡ length old_chosen
-  pub own : map ring_of ends ≡ map (λ (p : PortState). p.outgoing) ports
   pub done : (j : ℕ) → j < k → SettlesFetch (plan_at list j).payload (get_or old_fetchers j None) (host_at old_ends j)
       (host_at ends j) (get_or old_chosen j nothing_chosen) (get_or chosen j nothing_chosen)
   pub ends_rest : (j : ℕ) → k ≤ j → host_at ends j ≡ host_at old_ends j
   pub chosen_rest : (j : ℕ) → k ≤ j → get_or chosen j nothing_chosen ≡ get_or old_chosen j nothing_chosen
   pub fetchers_rest : (j : ℕ) → k ≤ j → get_or fetchers j None ≡ get_or old_fetchers j None
 
-pub settled_ring : (w : HostState) (r : Option ReaderState) → ring_of (settled w r) ≡ ring_of w
-settled_ring (Some w) (Some r) = refl
-settled_ring (Some w) None = refl
-settled_ring None r = refl
-
 -- and one more
-pub settled_more : {list : Medl} {ports : List PortState} {k : ℕ} {old_fetchers fetchers : List (Option ReaderState)}
+pub settled_more : {list : Medl} {k : ℕ} {old_fetchers fetchers : List (Option ReaderState)}
     {old_ends ends : List HostState} {old_chosen chosen : List Chosen} (left fetcher : Option ReaderState)
     (end new_end : HostState) (choice new_choice : Chosen)
-    → AreSettled list ports k old_fetchers fetchers old_ends ends old_chosen chosen
+    → AreSettled list k old_fetchers fetchers old_ends ends old_chosen chosen
     → k < length fetchers → k < length ends → k < length chosen
     → fetcher ≡ get_or fetchers k None → end ≡ get_or ends k end → choice ≡ get_or chosen k choice
     → SettlesFetch (plan_at list k).payload fetcher end new_end choice new_choice
-    → AreSettled list ports (k + 1) old_fetchers (set fetchers k left) old_ends (set ends k new_end) old_chosen
+    → AreSettled list (k + 1) old_fetchers (set fetchers k left) old_ends (set ends k new_end) old_chosen
     (set chosen k new_choice)
-settled_more {list} {ports} {k} {old_fetchers} {fetchers} {old_ends} {ends} {old_chosen} {chosen} left fetcher end
+settled_more {list} {k} {old_fetchers} {fetchers} {old_ends} {ends} {old_chosen} {chosen} left fetcher end
     new_end choice new_choice so near near' near'' is_fetcher is_end is_choice by =
     let fetcher_was : fetcher ≡ get_or old_fetchers k None = is_fetcher ∙ so.fetchers_rest k (omega arith) in
     let end_was : end ≡ host_at old_ends k = is_end ∙ at_any ends k end None near' ∙ so.ends_rest k (omega arith) in
@@ -81,8 +74,6 @@ settled_more {list} {ports} {k} {old_fetchers} {fetchers} {old_ends} {ends} {old
       fetchers_count = length-set fetchers k left ∙ so.fetchers_count;
       ends_count = length-set ends k new_end ∙ so.ends_count;
       chosen_count = length-set chosen k new_choice ∙ so.chosen_count;
-      own =
-          read_alike ring_of ends k end new_end is_end (ap ring_of by.settled_is ∙ settled_ring end fetcher) ∙ so.own;
       done =
           below_more
           (λ j. SettlesFetch (plan_at list j).payload (get_or old_fetchers j None) (host_at old_ends j)

@@ -10,27 +10,25 @@ use Rattle.std.proofs.lemmas.Bool.{cases_lt, eq-eqb}
 use Rattle.std.proofs.lemmas.List.{length-map, get_or_past}
 use Rattle.std.proofs.lemmas.Option.{none-some, same_Some, slice_get-map, slice_get_within, get_or_from_slice_get}
 use Rattle.nbw_ring.specs.declared.view.Message.{Message}
-use Rattle.nbw_ring.specs.declared.view.Shape.{Shape}
 use Rattle.nbw_ring.specs.Numbers.{newest_number as newest_in, IsMessageOf}
-use Rattle.nbw_ring.specs.States.{WriterState, ReaderState}
+use Rattle.nbw_ring.specs.States.{WriterState, ReaderState, new_reader}
 use Rattle.ttp_world.specs.declared.host_lines.HostRead.{HostRead}
 use Rattle.ttp_world.specs.declared.medl.Medl.{Medl}
-use Rattle.ttp_world.specs.declared.node.Delivered.{Delivered}
 use Rattle.ttp_world.specs.declared.node.Entry.{Entry}
 use Rattle.ttp_world.specs.declared.script.Script.{Script}
 use Rattle.ttp_world.specs.declared.script.Source.{Source}
 use Rattle.ttp_world.specs.declared.script.Source.TheVariants as source
 use Rattle.ttp_world.specs.Diary.{History}
 use Rattle.ttp_world.specs.Legal.{read_messages, is_legal_read, are_legal_reads, never_fall}
-use Rattle.ttp_world.specs.Medl.{IsValid, plan_at}
+use Rattle.ttp_world.specs.Medl.{IsValid}
 use Rattle.ttp_world.specs.Messages.{delivered_of, new_messages, ring_messages, status_words, newest_number}
 use Rattle.ttp_world.specs.Script.{reads_in}
-use Rattle.ttp_world.specs.Words.{word_count}
 use Rattle.ttp_world.specs.World.{node_past}
+use Rattle.ttp_world.proofs.LegalNumbers.{new_messages-few}
 use Rattle.host_port.specs.declared.report.ReadLine.{ReadLine}
 use Rattle.host_port.specs.Reading.{ReadersState, reads_from, lent, settled, got_of}
-use Rattle.host_port.specs.Rings.{ControllerState, at_source, shape_of, incoming_shape, message_shape}
-use Rattle.cluster_run.specs.Ports.{end_at}
+use Rattle.host_port.specs.Rings.{ControllerState, at_source, incoming_shape}
+use Rattle.cluster_run.specs.Ends.{end_at}
 use Rattle.cluster_run.specs.Reading.{readers_at, reader_in, reader_at, AreLentTo, AreReadersLent, HaveRead}
 use Rattle.cluster_run.specs.Reading.{SettlesReads}
 use Rattle.cluster_run.specs.Reading.{IsClear, AllGot, AreLinesOf, read_of}
@@ -38,7 +36,8 @@ use Rattle.cluster_run.specs.Report.{read_shown}
 use Rattle.cluster_run.specs.Rings.{ring_words, words_read, pair_of, pairs_read_in, IsRingOf}
 use Rattle.cluster_run.proofs.LineReads.{message_told, messages_told, pairs_of, each_line, never_fall-lines, TellsRing}
 use Rattle.cluster_run.proofs.LineReads.{reads_shown, pairs_told, IsLegalLine, legal_lines}
-use Rattle.cluster_run.proofs.RingReads.{IsLentBy, AreGotOf, nothing_got, HasBuffers, clear_of, IsRingRead, ring_read}
+use Rattle.cluster_run.proofs.LentBuffers.{sized_ring}
+use Rattle.cluster_run.proofs.RingReads.{IsLentBy, AreGotOf, nothing_got, clear_of, IsRingRead, ring_read}
 
 -- Messages of rings: there is one at first, and a slot brings one more at most.
 
@@ -60,14 +59,6 @@ ring_messages-some list script (row ∷ history) k (source.Node p) =
       length-append (ring_messages list script history k (source.Node p))
           (new_messages p (delivered_of list script history row k)),
     )
-
-one_at_most : (own : Bool) (message : List ℕ) → length (cond own (message ∷ []) []) ≤ 1
-one_at_most true message = omega arith
-one_at_most false message = omega arith
-
-new_messages-few : (p : ℕ) (delivered : Option Delivered) → length (new_messages p delivered) ≤ 1
-new_messages-few p None = omega arith
-new_messages-few p (Some d) = one_at_most (d.sender == p) d.payload
 
 ring_messages-few : (list : Medl) (script : Script) (row : List Entry) (history : History) (k : ℕ) (from : Source)
     → length (ring_messages list script (row ∷ history) k from)
@@ -92,22 +83,6 @@ length-words : (list : Medl) (script : Script) (history : History) (k : ℕ) (fr
 length-words list script history k from = length-map (ring_messages list script history k from) (ring_words from)
 
 -- Rings of a list have its buffers.
-
-sized_if : (buffers : ℕ) (b : Bool) (shape : Option Shape) → HasBuffers buffers shape
-    → HasBuffers buffers (cond b None shape)
-sized_if buffers true shape sized = λ s none. absurd (none-some s none)
-sized_if buffers false shape sized = sized
-
-sized_shape : (list : Medl) (width : ℕ) → HasBuffers list.buffers (Some (shape_of list width))
-sized_shape list width = λ s is. ap (λ (x : Shape). x.buffers) (same_Some s (shape_of list width) (sym is))
-
-sized_ring : (list : Medl) (k : ℕ) (from : Source) → HasBuffers list.buffers (incoming_shape list k from)
-sized_ring list k source.Status = sized_shape list 4
-sized_ring list k (source.Node p) =
-    sized_if list.buffers (p == k) (message_shape list p)
-    (sized_if list.buffers ((plan_at list p).payload == 0)
-    (Some (shape_of list (word_count (plan_at list p).payload)))
-    (sized_shape list (word_count (plan_at list p).payload)))
 
 -- What is known of the reads of a slot, where each ring of a node has these pairs joined before it: the readers were
 -- lent, the slot's messages came beside the reads, and the readers are settled.
@@ -136,9 +111,14 @@ lent_nothing : (w : Option WriterState) → IsLentBy w None
 lent_nothing None = tt
 lent_nothing (Some w) = tt
 
+lent_if : (w : Option WriterState) (n : ℕ) (unread : Bool)
+    → IsLentBy w (cond unread None (option_map (λ v. new_reader v n) w))
+lent_if w n true = lent_nothing w
+lent_if None n false = tt
+lent_if (Some w) n false = (n, refl)
+
 lent_self : (w : Option WriterState) (n : ℕ) → IsLentBy w (lent w n)
-lent_self None n = tt
-lent_self (Some w) n = (n, refl)
+lent_self w n = lent_if w n (n == 0)
 
 lent_by : (reads : List HostRead) (k : ℕ) (end : ControllerState) (o : Option ReadersState)
     → ForSome o (AreLentTo reads k end) → (from : Source) → IsLentBy (at_source end from) (reader_in o from)

@@ -38,7 +38,7 @@ use Rattle.host_port.specs.Reading.{ReadersState}
 use Rattle.host_port.specs.Rings.{ControllerState, at_source, incoming_shape}
 use Rattle.cluster_run.specs.Choosing.{HaveChosen, HoldsSent, next_slot, number_sent}
 use Rattle.cluster_run.specs.Ending.{HaveHandedOn, outcome_of}
-use Rattle.cluster_run.specs.Ports.{end_at}
+use Rattle.cluster_run.specs.Ends.{end_at}
 use Rattle.cluster_run.specs.Reading.{AllGot, AreLinesOf, AreReadersLent, HaveRead, SettlesReads}
 use Rattle.cluster_run.specs.Report.{node_shown, number_told, numbers_in, read_shown, writes_shown}
 use Rattle.cluster_run.specs.Rings.{IsRingOf, pairs_read, pairs_read_in, words_read}
@@ -47,7 +47,7 @@ use Rattle.cluster_run.specs.Standing.{Desks, DesksStandFor}
 use Rattle.cluster_run.proofs.Deliverable.{IsDeliverable, delivered-deliverable}
 use Rattle.cluster_run.proofs.HandedRings.{IsHandedOf, handed_ring}
 use Rattle.cluster_run.proofs.HandsOn.{HoldsCame, number_is_told}
-use Rattle.cluster_run.proofs.LegalSlots.{legal-after}
+use Rattle.ttp_world.proofs.LegalSlots.{legal-after}
 use Rattle.cluster_run.proofs.SlotReads.{AreReadsShown, AreSlotReads, reads_of_slot}
 
 -- The numbers that a slot's node lines tell are those of its row.

@@ -6,25 +6,23 @@ use Rattle.std.proofs.Common.{◌∙◌, append_assoc, arith, length-append}
 use Rattle.std.specs.Prelude.{◌==◌, IsSome}
 use Rattle.std.specs.List.{filter_map, cons_option}
 use Rattle.std.proofs.lemmas.Bool.{false≢true, cases_eq, eq-eqb, eqb-true, false_from_ne_true}
-use Rattle.std.proofs.lemmas.List.{append-nil, map-append, length-map, length-take, take_more}
+use Rattle.std.proofs.lemmas.List.{append-nil, map-append, length-map, length-set, length-take, take_more}
 use Rattle.std.proofs.lemmas.List.{take-append-drop, get_or-set_same, get_or-set_other}
 use Rattle.std.proofs.lemmas.List.Elements.{filter_map-append}
 use Rattle.std.proofs.lemmas.List.Sums.{sum_by-cons, count_by-le-length}
 use Rattle.ttp_world.specs.Script.{HostWrite, payload_of_host}
 use Rattle.ttp_world.specs.Words.{words_of_payload}
-use Rattle.host_port.proofs.ReaderLists.{written_ring}
 use Rattle.host_port.specs.declared.report.WriteLine.{WriteLine}
 use Rattle.host_port.specs.Rings.{HostState}
 use Rattle.host_port.specs.Writing.{written, Takes, HasRoom}
 use Rattle.nbw_ring.specs.Numbers.{most_number}
-use Rattle.cluster_run.specs.Ports.{ring_of, host_at}
+use Rattle.cluster_run.specs.Ends.{host_at}
 use Rattle.cluster_run.specs.Sending.{messages_by, with_messages, after_writes, message_count, write_line, write_lines}
-use Rattle.cluster_run.proofs.PortLists.{at_any, read_alike}
 
 -- the ends and the lines once these writes were made
 pub record AreWritten (old : List HostState) (writes : List HostWrite) (ends : List HostState) (lines : List WriteLine)
     : Type 0 where
-  pub rings : map ring_of ends ≡ map ring_of old
+  pub count : length ends ≡ length old
   pub each : (k : ℕ) → host_at ends k ≡ after_writes writes k (host_at old k)
   pub lines_are : lines ≡ write_lines old [] writes
 
@@ -35,7 +33,7 @@ after_none k None = refl
 after_none k (Some w) = λ i. Some (record w { messages = sym (append-nil w.messages) i })
 
 pub written_none : (old : List HostState) → AreWritten old [] old []
-written_none old = record { rings = refl; each = λ k. after_none k (host_at old k); lines_are = refl }
+written_none old = record { count = refl; each = λ k. after_none k (host_at old k); lines_are = refl }
 
 -- Of one more: its host's ring has one message more.
 
@@ -120,10 +118,7 @@ written_more old ends writes lines w so within some =
     omega (arith, ap message_count (so.each h), count_after h writes (host_at old h) there) in
     let line : write_line ends h 0 ≡ write_line old h (0 + earlier) = λ i. record { host = h; number = count i } in
     record {
-      rings =
-          read_alike ring_of ends h (host_at ends h) new (at_any ends h None (host_at ends h) within)
-          (written_ring (host_at ends h) (words_of_payload w.payload))
-          ∙ so.rings;
+      count = length-set ends h new ∙ so.count;
       each = λ k. elim (cases_eq h k) as (λ _. host_at (set ends h new) k ≡ after_writes (writes ++ w ∷ []) k
           (host_at old k)) [
             | inl own ↦

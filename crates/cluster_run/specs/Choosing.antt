@@ -11,7 +11,7 @@ use Rattle.line_text.specs.HostLines.{AreBytes}
 use Rattle.controller.specs.Passes.{HaveBegun}
 use Rattle.controller.specs.declared.seat.Seat.{Seat}
 use Rattle.host_port.specs.Rings.{HostState, message_shape}
-use Rattle.cluster_run.specs.Ports.{host_at}
+use Rattle.cluster_run.specs.Ends.{host_at}
 use Rattle.cluster_run.specs.Rings.{IsRingOf, words_written, pairs_sent, pair_sent}
 use Rattle.cluster_run.specs.Standing.{HoldsWritten}
 

@@ -1,5 +1,6 @@
 -- What a controller hands on to its host at the end of a slot.
 use Rattle.std.specs.Prelude.{◌≡◌, ℕ, ◌+◌, ◌<◌, ◌≤◌, List, length, map, get_or, All, Option, Some, None, option_map}
+use Rattle.std.specs.Borrow.{MutBor}
 use Rattle.std.specs.Option.{ForSome}
 use Rattle.medium.specs.Carried.{Carried}
 use Rattle.ttp_world.specs.declared.medl.Medl.{Medl}
@@ -19,9 +20,12 @@ use Rattle.controller.specs.Passes.{HavePlanned, Carries, HaveEnded, delivered_a
 use Rattle.controller.specs.PlantWithin.{most_ahead, most_ahead_in, IsEnded, AreSeats, AreIncidents, IsFromWithin}
 use Rattle.controller.specs.PlantStands.{no_outcome, outcomes_of}
 use Rattle.controller.specs.declared.seat.Seat.{Seat}
-use Rattle.host_port.specs.Rings.{PortState, ControllerState, at_source}
+use Rattle.host_port.specs.Rings.{ControllerState, at_source}
 use Rattle.host_port.specs.Writing.{written_at, HasRoom, Takes}
-use Rattle.cluster_run.specs.Ports.{rings_of, end_at}
+use Rattle.cluster_run.specs.declared.ending.Common.{Common}
+use Rattle.cluster_run.specs.declared.ending.Part.{Part}
+use Rattle.cluster_run.specs.declared.nodes.Desk.{Desk}
+use Rattle.cluster_run.specs.Ends.{rings_of, end_at, desk_ends, desk_numbers}
 use Rattle.cluster_run.specs.Sending.{message_count}
 
 -- an end once this was delivered, if anything was
@@ -65,31 +69,37 @@ pub record HaveHandedOn (outcomes : List Outcome) (old new : List ControllerStat
     pub numbers_are : (j : ℕ) → j < length old
         → get_or numbers j None ≡ number_handed (end_at old j) (outcome_of outcomes j).delivered
 
--- A part of the nodes, those from a first one on, before the end of a slot: each list has a place for each of them,
--- their controllers have planned, and what each hands on has room. `ss` are the seats, `es` the controllers' ends of the
--- ports `ps`, and `ns` the numbers of what was delivered.
-pub record IsPartReady (l : Medl) (sc : Script) (carried : Carried) (first : ℕ) (ss : List Seat)
-    (es : List ControllerState) (ns : List (Option ℕ)) (ps : List PortState) : Type 0 where
+-- A part of the nodes, those from a first one on, before the end of a slot: there is a desk for each of them, their
+-- controllers have planned, and what each hands on has room.
+pub record IsPartReady (l : Medl) (sc : Script) (carried : Carried) (first : ℕ) (seats : List Seat) (desks : List Desk)
+    : Type 0 where
   pub list : IsValid l
-  pub nodes : first + length ss ≤ length l.slots
+  pub nodes : first + length seats ≤ length l.slots
   pub drifts : length sc.drift ≡ length l.slots
   pub drift : All (IsWithinSpan DRIFT_LIMIT) sc.drift
   pub slot : carried.slot < SLOT_LIMIT
   pub medium : IsFromWithin carried sc (most_ahead_in carried.slot)
-  pub incidents : AreIncidents sc carried.slot first ss
-  pub seats : AreSeats l IsPlanned (most_ahead_in carried.slot) first ss
-  pub ports_count : length ps ≡ length ss
-  pub ports : map rings_of es ≡ map (λ port. port.incoming) ps
-  pub numbers : length ns ≡ length ss
-  pub may : MayEnd l sc carried first ss es
+  pub incidents : AreIncidents sc carried.slot first seats
+  pub seats_are : AreSeats l IsPlanned (most_ahead_in carried.slot) first seats
+  pub count : length desks ≡ length seats
+  pub may : MayEnd l sc carried first seats (desk_ends desks)
 
 -- and after it: the controllers have ended the slot, and have handed on what it left
-pub record HasPartEnded (l : Medl) (sc : Script) (carried : Carried) (first : ℕ) (ss ss' : List Seat)
-    (es es' : List ControllerState) (ns' : List (Option ℕ)) (ps : List PortState) : Type 0 where
-  pub count : length ss' ≡ length ss
-  pub seats : AreSeats l IsEnded (most_ahead (carried.slot + 1)) first ss'
-  pub end : (history : History) (chosen : List Chosen) → HavePlanned (slot_after l sc history) chosen first ss
+pub record HasPartEnded (l : Medl) (sc : Script) (carried : Carried) (first : ℕ) (seats seats' : List Seat)
+    (desks desks' : List Desk) : Type 0 where
+  pub count : length seats' ≡ length seats
+  pub seats_are : AreSeats l IsEnded (most_ahead (carried.slot + 1)) first seats'
+  pub end : (history : History) (chosen : List Chosen) → HavePlanned (slot_after l sc history) chosen first seats
       → Carries (slot_after l sc history) (frames_in (slot_after l sc history) chosen) carried
-      → HaveEnded l sc history chosen first ss'
-  pub ports : map rings_of es' ≡ map (λ port. port.incoming) ps
-  pub handed : HaveHandedOn (outcomes_of ss') es es' ns'
+      → HaveEnded l sc history chosen first seats'
+  pub rings : map rings_of (desk_ends desks') ≡ map rings_of (desk_ends desks)
+  pub handed : HaveHandedOn (outcomes_of seats') (desk_ends desks) (desk_ends desks') (desk_numbers desks')
+
+-- what a call leaves of a part that it was given: the number of its first node, its seats and its desks
+abbrev pub LeftOfPart : Type 0
+LeftOfPart = ℕ × (MutBor (List Seat) × (MutBor (List Desk) × Unit {0}))
+
+abbrev pub EndsPart : Common → Part → LeftOfPart → Type 0
+EndsPart common part left =
+    HasPartEnded common.list.now common.script.now common.medium.now part.first part.seats.now left.1.0.now
+    part.desks.now left.1.1.0.now

@@ -1,5 +1,5 @@
 pub mod Nodes
-pub mod Ports
+pub mod Ends
 pub mod Rings
 pub mod NextSlots
 pub mod Standing

@@ -1,17 +1,17 @@
 -- What hosts read of what came to their nodes, and the lines of it.
 use Rattle.std.specs.Prelude.{◌≡◌, ◌≢◌, ℕ, zero, suc, ◌<◌, ◌≤◌, ◌==◌, Bool, List, [], map, filter, length}
-use Rattle.std.specs.Prelude.{reverse, get_or, slice_get, Option, Some, None, IsSomeAnd, is_some}
+use Rattle.std.specs.Prelude.{get_or, Option, Some, None, IsSomeAnd, is_some, option_map}
 use Rattle.std.specs.List.{list_any}
 use Rattle.std.specs.Option.{ForSome}
 use Rattle.nbw_ring.specs.Numbers.{limit}
-use Rattle.nbw_ring.specs.States.{ReaderState}
+use Rattle.nbw_ring.specs.States.{RingState, ReaderState}
 use Rattle.ttp_world.specs.declared.host_lines.HostRead.{HostRead}
 use Rattle.ttp_world.specs.declared.script.Source.{Source}
 use Rattle.host_port.specs.declared.report.ReadLine.{ReadLine}
-use Rattle.host_port.specs.Reading.{ReadersState, AreReadersOf, Reads, reads_from, lent, IsSettled, settled, got_of}
-use Rattle.host_port.specs.Reading.{pairs_from}
-use Rattle.host_port.specs.Rings.{PortState, ControllerState, at_source}
-use Rattle.cluster_run.specs.Ports.{end_at}
+use Rattle.host_port.specs.Reading.{ReadersState, AreReadersOfEnd, rings_read, Reads, reads_from, lent, IsSettled}
+use Rattle.host_port.specs.Reading.{settled, got_of, pairs_from}
+use Rattle.host_port.specs.Rings.{ControllerState, at_source}
+use Rattle.cluster_run.specs.Ends.{end_at}
 
 -- Readers.
 
@@ -32,11 +32,23 @@ abbrev pub calls_in : Option ReadersState → List Source
 calls_in None = []
 calls_in (Some r) = r.calls
 
--- there is a place for each port, and what is there reads the rings of that port
-pub record AreReadersOfAll (ports : List PortState) (readers : List (Option ReadersState)) : Type 0 where
-  pub count : length readers ≡ length ports
-  pub own : (k : ℕ) (port : PortState) → slice_get ports k ≡ Some port
-      → ForSome (readers_at readers k) (AreReadersOf port)
+-- there is a place for each end, and what is there reads the rings of that end
+pub record AreReadersOfAll (ends : List ControllerState) (readers : List (Option ReadersState)) : Type 0 where
+  pub count : length readers ≡ length ends
+  pub own : (k : ℕ) → k < length ends → ForSome (readers_at readers k) (AreReadersOfEnd (end_at ends k))
+
+-- they read the same rings
+abbrev pub rings_in : Option ReadersState → Option (List (Option RingState))
+rings_in = option_map (λ r. rings_read r.readers)
+
+pub record ReadTheSame (old new : List (Option ReadersState)) : Type 0 where
+  pub count : length new ≡ length old
+  pub each : (k : ℕ) → rings_in (readers_at new k) ≡ rings_in (readers_at old k)
+
+-- the rings that they read have so many buffers
+abbrev pub ReadBuffers : ℕ → List (Option ReadersState) → Type 0
+ReadBuffers buffers readers =
+    (k : ℕ) (from : Source) → ForSome (reader_at readers k from) (λ r. r.ring.shape.buffers ≡ buffers)
 
 -- Readers are lent.
 
@@ -125,7 +137,7 @@ pub record AreLinesOf (reads : List HostRead) (readers : List (Option ReadersSta
     pub reads_are : map read_of lines ≡ reads
     pub pairs : (k : ℕ) (from : Source) → pairs_from from (lines_by k lines) ≡ got_of (reader_at readers k from)
 
--- The lines of hosts wait in queues, the last one of each first.
+-- The lines of hosts wait in queues.
 
 abbrev pub queue_of : List (List ReadLine) → ℕ → List ReadLine
 queue_of queues k = get_or queues k []
@@ -133,8 +145,8 @@ queue_of queues k = get_or queues k []
 -- those that readers leave
 abbrev pub AreQueuesOf : List (Option ReadersState) → List (List ReadLine) → Type 0
 AreQueuesOf readers queues =
-    (k : ℕ) → k < length readers → AreLinesBy k (readers_at readers k) (reverse (queue_of queues k))
+    (k : ℕ) → k < length readers → AreLinesBy k (readers_at readers k) (queue_of queues k)
 
 -- there is a line for each of these reads
 abbrev pub AreDue : List HostRead → List (List ReadLine) → Type 0
-AreDue reads queues = (k : ℕ) → map read_of (reverse (queue_of queues k)) ≡ filter (is_host k) reads
+AreDue reads queues = (k : ℕ) → map read_of (queue_of queues k) ≡ filter (is_host k) reads

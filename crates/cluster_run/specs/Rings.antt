@@ -1,10 +1,11 @@
 -- What the rings of a cluster hold: the messages of the world, and the pairs that its numbers name.
-use Rattle.std.specs.Prelude.{◌≡◌, ◌≢◌, ℕ, ◌==◌, ◌&&◌, Bool, List, [], ◌∷◌, ◌++◌, map, filter, length, get_or}
+use Rattle.std.specs.Prelude.{◌≡◌, ◌≢◌, ℕ, ◌*◌, ◌≤◌, ◌==◌, ◌&&◌, Bool, List, [], ◌∷◌, ◌++◌, map, filter, length, get_or}
 use Rattle.std.specs.Prelude.{flat_map, All}
 use Rattle.std.specs.Prelude.{Option, Some, None, IsSomeAnd}
 use Rattle.nbw_ring.specs.declared.view.Message.{Message}
 use Rattle.nbw_ring.specs.declared.view.Settlement.{Settlement}
 use Rattle.nbw_ring.specs.declared.view.Shape.{Shape}
+use Rattle.nbw_ring.specs.Numbers.{newest_number}
 use Rattle.nbw_ring.specs.States.{WriterState}
 use Rattle.ttp_world.specs.declared.medl.Medl.{Medl}
 use Rattle.ttp_world.specs.declared.script.Script.{Script}
@@ -82,12 +83,18 @@ joined_pairs w = flat_map (λ s. s.pairs) w.joined
 abbrev pub GotEach : Settlement → Type 0
 GotEach s = s.tries ≡ length s.pairs
 
--- the writer of a ring of this shape, which wrote these messages, and in which these pairs are joined. With two buffers
--- or more each was got at the first attempt
+-- a reader that loaded no counter above twice the number of the newest of these messages
+abbrev pub SawAtMost : List (List ℕ) → Settlement → Type 0
+SawAtMost messages s = s.seen ≤ 2 * newest_number messages
+
+-- the writer of a ring of this shape, which wrote these messages, and in which these pairs are joined. None of the readers
+-- that were settled loaded a counter above twice the writer's number, and with two buffers or more each got its messages
+-- at the first attempt
 pub record IsRing (shape : Shape) (messages : List (List ℕ)) (pairs : List Message) (w : WriterState) : Type 0 where
   pub shape_is : w.ring.shape ≡ shape
   pub messages_are : w.messages ≡ messages
   pub pairs_are : joined_pairs w ≡ pairs
+  pub seen : All (SawAtMost w.messages) w.joined
   pub once : shape.buffers ≢ 1 → All GotEach w.joined
 
 -- so it is where a ring is due

@@ -1,7 +1,7 @@
 -- What hosts write, beside what their controllers fetch of it.
 use Rattle.std.specs.Prelude.{◌≡◌, ℕ, ◌+◌, ◌<◌, ◌≤◌, ◌==◌, Bool, true, List, [], ◌∷◌, ◌++◌, length, map}
 use Rattle.std.specs.Prelude.{get_or, count_by}
-use Rattle.std.specs.Prelude.{slice_get, All, Option, Some, None, option_map, IsSome, if◌then◌else◌}
+use Rattle.std.specs.Prelude.{slice_get, All, Option, Some, None, option_map, IsSome, IsSomeAnd, if◌then◌else◌}
 use Rattle.std.specs.List.{filter_map}
 use Rattle.std.specs.Option.{ForSome}
 use Rattle.nbw_ring.specs.declared.view.Message.{Message}
@@ -16,13 +16,12 @@ use Rattle.ttp_world.specs.World.{BegunSlot, is_loaded}
 use Rattle.controller.specs.Passes.{HaveBegun}
 use Rattle.controller.specs.declared.seat.Seat.{Seat}
 use Rattle.host_port.specs.declared.report.WriteLine.{WriteLine}
-use Rattle.host_port.specs.Rings.{PortState, HostState}
-use Rattle.host_port.specs.Fetching.{IsFetcherOf}
+use Rattle.host_port.specs.Rings.{HostState}
 use Rattle.host_port.specs.Reading.{lent, Attempts, IsSettled, settled}
 use Rattle.line_text.specs.HostLines.{AreBytes, bytes_in}
 use Rattle.ttp_world.specs.declared.node.Chosen.{Chosen}
 use Rattle.host_port.specs.Writing.{Takes}
-use Rattle.cluster_run.specs.Ports.{host_at}
+use Rattle.cluster_run.specs.Ends.{host_at}
 
 -- Fetchers are lent.
 
@@ -90,23 +89,21 @@ Fetches None (Some new) = ⊥
 Fetches (Some old) None = ⊥
 Fetches (Some old) (Some new) = Attempts old new
 
--- a fetcher of this port, if there is one, which has not got a message yet
-abbrev pub MayFetch : PortState → Option ReaderState → Type 0
-MayFetch port fetcher = ForSome fetcher (λ f. (Some f.ring ≡ port.outgoing) × (1 ≤ f.spare))
+-- a fetcher, if there is one, has not got a message yet
+abbrev pub MayFetch : Option ReaderState → Type 0
+MayFetch fetcher = ForSome fetcher (λ f. 1 ≤ f.spare)
 
--- those of all ports
-abbrev pub MayFetchAll : List PortState → List (Option ReaderState) → Type 0
-MayFetchAll ports fetchers =
-    (k : ℕ) (port : PortState) → slice_get ports k ≡ Some port → MayFetch port (get_or fetchers k None)
+abbrev pub MayFetchAll : List (Option ReaderState) → Type 0
+MayFetchAll fetchers = (k : ℕ) → MayFetch (get_or fetchers k None)
 
 abbrev pub FetchAll : List (Option ReaderState) → List (Option ReaderState) → Type 0
 FetchAll old new = (k : ℕ) → k < length old → Fetches (get_or old k None) (get_or new k None)
 
 -- Fetchers are settled.
 
--- a fetcher of this port; where it got a message, that has the words of a payload of so many bytes
-pub record MaySettle (port : PortState) (len : ℕ) (fetcher : ReaderState) : Type 0 where
-  pub own : IsFetcherOf port fetcher
+-- a fetcher of this end's ring; where it got a message, that has the words of a payload of so many bytes
+pub record MaySettle (end : HostState) (len : ℕ) (fetcher : ReaderState) : Type 0 where
+  pub own : IsSomeAnd end (λ w. fetcher.ring ≡ w.ring)
   pub words : All (λ (pair : Message). length pair.words ≡ word_count len) fetcher.got
 
 -- the message that is chosen by a pair: its number, and the payload of so many bytes
@@ -128,9 +125,9 @@ pub record SettlesFetch (len : ℕ) (fetcher : Option ReaderState) (old new : Ho
 -- A controller fetches where no host writes.
 
 -- whatever its attempt leaves of the fetcher that is lent may be settled
-abbrev pub MaySettleAfter : PortState → ℕ → Bool → HostState → Type 0
-MaySettleAfter port len loaded end =
-    (tried : Option ReaderState) → Fetches (fetcher_lent loaded end) tried → ForSome tried (MaySettle port len)
+abbrev pub MaySettleAfter : ℕ → Bool → HostState → Type 0
+MaySettleAfter len loaded end =
+    (tried : Option ReaderState) → Fetches (fetcher_lent loaded end) tried → ForSome tried (MaySettle end len)
 
 -- there is one attempt, if the node's frame carries a message, and what it got is chosen
 pub record FetchesAlone (len : ℕ) (loaded : Bool) (old new : HostState) (before after : Chosen) : Type 0 where
@@ -139,8 +136,7 @@ pub record FetchesAlone (len : ℕ) (loaded : Bool) (old new : HostState) (befor
   pub settles : SettlesFetch len tried old new before after
 
 -- the controllers have begun some slot, and each may fetch what its node's frame carries there
-pub record MayFetchAlone (list : Medl) (ports : List PortState) (seats : List Seat) (ends : List HostState) : Type 0
-  where
-    pub lend : MayLend seats ends
-    pub settle : (k : ℕ) (port : PortState) → slice_get ports k ≡ Some port
-        → MaySettleAfter port (plan_at list k).payload (is_loaded lend.slot k) (host_at ends k)
+pub record MayFetchAlone (list : Medl) (seats : List Seat) (ends : List HostState) : Type 0 where
+  pub lend : MayLend seats ends
+  pub settle : (k : ℕ) → k < length ends
+      → MaySettleAfter (plan_at list k).payload (is_loaded lend.slot k) (host_at ends k)

@@ -17,7 +17,7 @@ use Rattle.host_port.specs.Rings.{ControllerState}
 use Rattle.cluster_run.specs.declared.nodes.Nodes.{Nodes}
 use Rattle.cluster_run.specs.Choosing.{HaveChosen, next_slot}
 use Rattle.cluster_run.specs.Ending.{HaveHandedOn}
-use Rattle.cluster_run.specs.Ports.{ArePortsOf}
+use Rattle.cluster_run.specs.Ends.{desk_ends, desk_numbers}
 use Rattle.cluster_run.specs.Reading.{AllGot, AreLinesOf, AreReadersLent, HaveRead, SettlesReads}
 use Rattle.cluster_run.specs.Report.{numbers_in, ShowsNext}
 use Rattle.cluster_run.specs.Standing.{ClusterView, ClusterStandsFor, Desks, DesksStandFor, HoldsRead}
@@ -42,10 +42,9 @@ pub record ArePlannedNodes (list : Medl) (script : Script) (slot : ℕ) (nodes :
   pub seats_count : length nodes.seats.items ≡ length list.slots
   pub seats : AreSeats list IsPlanned (most_ahead_in slot) 0 nodes.seats.items
   pub incidents : AreIncidents script slot 0 nodes.seats.items
+  pub desks : length nodes.desks.items ≡ length list.slots
+  pub host_ends : length nodes.host_ends.items ≡ length list.slots
   pub chosen : length nodes.chosen.items ≡ length list.slots
-  pub delivered : length nodes.delivered.items ≡ length list.slots
-  pub ports_count : length nodes.ports.items ≡ length list.slots
-  pub ports : ArePortsOf list nodes.ports.items nodes.controller_ends.items nodes.host_ends.items
   pub slot_is : nodes.medium.slot ≡ slot
   pub medium : IsFromWithin nodes.medium script (most_ahead_in slot)
 
@@ -62,7 +61,7 @@ pub record MayEndSlot (list : Medl) (script : Script) (slot : ℕ) (nodes : Node
   pub count : length numbers ≡ slot
   pub planned : HavePlannedSlot list script numbers nodes
   pub read : (k : ℕ) → k < length list.slots → (from : Source)
-      → HoldsRead list script numbers nodes.controller_ends.items k from
+      → HoldsRead list script numbers (desk_ends nodes.desks.items) k from
 
 -- Once it has ended.
 
@@ -80,10 +79,11 @@ pub record TellsReads (list : Medl) (script : Script) (slot : ℕ) (old new : No
     pub last : List (Option ReadersState)
     pub first_count : length first ≡ length list.slots
     pub last_count : length last ≡ length list.slots
-    pub handed_are : HaveHandedOn (outcomes_of new.seats.items) old.controller_ends.items handed new.delivered.items
-    pub lent : AreReadersLent (reads_in script slot) old.controller_ends.items first
+    pub handed_are : HaveHandedOn (outcomes_of new.seats.items) (desk_ends old.desks.items) handed
+        (desk_numbers new.desks.items)
+    pub lent : AreReadersLent (reads_in script slot) (desk_ends old.desks.items) first
     pub read : HaveRead list.buffers (reads_in script slot) first last
-    pub settles : SettlesReads handed last new.controller_ends.items
+    pub settles : SettlesReads handed last (desk_ends new.desks.items)
     pub told : AllGot (reads_in script slot) last → AreLinesOf (reads_in script slot) last lines
 
 -- The desks stand for these numbers and those in the report, which shows the world's slot for them, and where the older

@@ -9,10 +9,10 @@ use Rattle.controller.specs.declared.seat.Seat.{Seat}
 use Rattle.host_port.specs.declared.report.SlotReport.{SlotReport}
 use Rattle.host_port.specs.Rings.{at_source, ControllerState, HostState, message_shape, incoming_shape}
 use Rattle.cluster_run.specs.declared.nodes.Nodes.{Nodes}
-use Rattle.cluster_run.specs.Ports.{end_at, host_at}
+use Rattle.cluster_run.specs.Ends.{end_at, host_at, desk_ends}
 use Rattle.cluster_run.specs.Rings.{IsRingOf, words_written, words_read, pairs_sent, pairs_read}
 
--- the controllers of all nodes, and both ends of their ports
+-- the controllers of all nodes, and both ends of their rings
 pub record Desks : Type 0 where
   pub seats : List Seat
   pub controller_ends : List ControllerState
@@ -31,7 +31,7 @@ pub record ClusterView : Type 0 where
 abbrev pub desks_of : Nodes → Desks
 desks_of nodes = record {
   seats = nodes.seats.items;
-  controller_ends = nodes.controller_ends.items;
+  controller_ends = desk_ends nodes.desks.items;
   host_ends = nodes.host_ends.items;
 }
 

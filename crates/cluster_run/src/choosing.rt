@@ -1,17 +1,16 @@
 //! Which messages the frames of a slot carry.
-ghost use Rattle.std.specs.Prelude.{◌≡◌, ◌+◌, ◌<◌, [], length, map, IfOk, OnOk};
+ghost use Rattle.std.specs.Prelude.{◌≡◌, ◌+◌, ◌<◌, [], length, IfOk, OnOk};
 ghost use Rattle.ttp_world.specs.Medl.{IsValid};
 ghost use Rattle.std.specs.List.{filter_map};
 ghost use Rattle.ttp_world.specs.Script.{IsValidScript, write_at, writes_in};
 ghost use Rattle.ttp_world.specs.World.{Numbers};
 ghost use Rattle.cluster_run.specs.Choosing.{AreBytesBefore, HaveBegunFor, MayChoose, HaveChosen};
-ghost use Rattle.cluster_run.specs.Ports.{ring_of};
 ghost use Rattle.cluster_run.specs.Report.{writes_shown};
 
 use crate::fetching::fetch_each;
 use crate::sending::{lend_fetchers, settle_fetchers, write_and_fetch};
 use controller::Seat;
-use host_port::{HostEnd, Port, WriteLine};
+use host_port::{HostEnd, WriteLine};
 use std::alloc::Global;
 use std::mem;
 use std::thread::Threads;
@@ -27,7 +26,6 @@ fn write_and_choose<R: Threads + Sync, G: Gate>(
     script: &Script,
     slot: u32,
     places: &[usize],
-    ports: &[Port],
     mut ends: Vec<HostEnd>,
     seats: &[Seat],
     chosen: &mut [Chosen],
@@ -37,14 +35,13 @@ fn write_and_choose<R: Threads + Sync, G: Gate>(
     requires script { IsValidScript list.now script.now }
     requires slot { slot < script.now.slots }
     requires places { filter_map (write_at script.now) places.now ≡ writes_in script.now slot }
-    requires count { length ports.now ≡ length list.now.slots }
-    requires ports { map ring_of ends.items ≡ map (λ port. port.outgoing) ports.now }
-    requires seats { length seats.now ≡ length ports.now }
-    requires chosen_count { length chosen.old ≡ length ports.now }
+    requires count { length ends.items ≡ length list.now.slots }
+    requires seats { length seats.now ≡ length list.now.slots }
+    requires chosen_count { length chosen.old ≡ length list.now.slots }
     requires bytes { AreBytesBefore list.now script.now slot }
     requires may { MayChoose list.now script.now slot seats.now ends.items }
     ensures chosen_count { length chosen.new ≡ length chosen.old }
-    ensures ports { IfOk result (λ r. map ring_of r.0.items ≡ map (λ port. port.outgoing) ports.now) }
+    ensures count { IfOk result (λ r. length r.0.items ≡ length ends.items) }
     ensures bytes { OnOk result (AreBytesBefore list.now script.now (slot + 1)) }
     ensures lines { IfOk result (λ r. r.1.items
         ≡ writes_shown list.now script.now slot [] (writes_in script.now slot)) }
@@ -52,12 +49,12 @@ fn write_and_choose<R: Threads + Sync, G: Gate>(
         → HaveBegunFor list.now script.now slot numbers seats.now ends.items
         → HaveChosen list.now script.now numbers chosen.new r.0.items) }
 {
-    let fetchers = lend_fetchers(alloc, ports, ends.as_mut_slice(), seats)?;
+    let fetchers = lend_fetchers(alloc, ends.as_mut_slice(), seats)?;
     let lines = Vec::with_capacity(alloc, places.len())?;
     let (mut ends, lines, fetchers) = write_and_fetch(
-        rt, ports, ends, fetchers, script, places, lines, gate,
+        rt, ends, fetchers, script, places, lines, gate,
     );
-    settle_fetchers(list, ports, ends.as_mut_slice(), fetchers, chosen)?;
+    settle_fetchers(list, ends.as_mut_slice(), fetchers, chosen);
     Ok((ends, lines))
 }
 
@@ -67,7 +64,6 @@ fn fetch_and_choose<G: Gate>(
     list: &Medl,
     script: &Script,
     slot: u32,
-    ports: &[Port],
     ends: &mut [HostEnd],
     seats: &[Seat],
     chosen: &mut [Chosen],
@@ -77,14 +73,13 @@ fn fetch_and_choose<G: Gate>(
     requires script { IsValidScript list.now script.now }
     requires slot { slot < script.now.slots }
     requires quiet { writes_in script.now slot ≡ [] }
-    requires count { length ports.now ≡ length list.now.slots }
-    requires ports { map ring_of ends.old ≡ map (λ port. port.outgoing) ports.now }
-    requires seats { length seats.now ≡ length ports.now }
-    requires chosen_count { length chosen.old ≡ length ports.now }
+    requires count { length ends.old ≡ length list.now.slots }
+    requires seats { length seats.now ≡ length list.now.slots }
+    requires chosen_count { length chosen.old ≡ length list.now.slots }
     requires bytes { AreBytesBefore list.now script.now slot }
     requires may { MayChoose list.now script.now slot seats.now ends.old }
     ensures chosen_count { length chosen.new ≡ length chosen.old }
-    ensures ports { OnOk result (map ring_of ends.new ≡ map (λ port. port.outgoing) ports.now) }
+    ensures count { length ends.new ≡ length ends.old }
     ensures bytes { OnOk result (AreBytesBefore list.now script.now (slot + 1)) }
     ensures lines { IfOk result (λ lines. lines.items
         ≡ writes_shown list.now script.now slot [] (writes_in script.now slot)) }
@@ -92,7 +87,7 @@ fn fetch_and_choose<G: Gate>(
         → HaveBegunFor list.now script.now slot numbers seats.now ends.old
         → HaveChosen list.now script.now numbers chosen.new ends.new) }
 {
-    fetch_each(list, ports, ends, seats, chosen, gate)?;
+    fetch_each(list, ends, seats, chosen, gate)?;
     Ok(Vec::new(alloc))
 }
 
@@ -104,7 +99,6 @@ pub(crate) fn choose<R: Threads + Sync, G: Gate>(
     list: &Medl,
     script: &Script,
     slot: u32,
-    ports: &[Port],
     ends: &mut Vec<HostEnd>,
     seats: &[Seat],
     chosen: &mut [Chosen],
@@ -113,14 +107,13 @@ pub(crate) fn choose<R: Threads + Sync, G: Gate>(
     requires list { IsValid list.now }
     requires script { IsValidScript list.now script.now }
     requires slot { slot < script.now.slots }
-    requires count { length ports.now ≡ length list.now.slots }
-    requires ports { map ring_of ends.old.items ≡ map (λ port. port.outgoing) ports.now }
-    requires seats { length seats.now ≡ length ports.now }
-    requires chosen_count { length chosen.old ≡ length ports.now }
+    requires count { length ends.old.items ≡ length list.now.slots }
+    requires seats { length seats.now ≡ length list.now.slots }
+    requires chosen_count { length chosen.old ≡ length list.now.slots }
     requires bytes { AreBytesBefore list.now script.now slot }
     requires may { MayChoose list.now script.now slot seats.now ends.old.items }
     ensures chosen_count { length chosen.new ≡ length chosen.old }
-    ensures ports { OnOk result (map ring_of ends.new.items ≡ map (λ port. port.outgoing) ports.now) }
+    ensures count { OnOk result (length ends.new.items ≡ length ends.old.items) }
     ensures bytes { OnOk result (AreBytesBefore list.now script.now (slot + 1)) }
     ensures lines { IfOk result (λ lines. lines.items
         ≡ writes_shown list.now script.now slot [] (writes_in script.now slot)) }
@@ -135,7 +128,6 @@ pub(crate) fn choose<R: Threads + Sync, G: Gate>(
             list,
             script,
             slot,
-            ports,
             ends.as_mut_slice(),
             seats,
             chosen,
@@ -146,7 +138,7 @@ pub(crate) fn choose<R: Threads + Sync, G: Gate>(
     // A thread has the ends by value.
     let given = mem::replace(ends, Vec::new(alloc));
     let (given, lines) = write_and_choose(
-        rt, alloc, list, script, slot, places, ports, given, seats, chosen, gate,
+        rt, alloc, list, script, slot, places, given, seats, chosen, gate,
     )?;
     *ends = given;
     Ok(lines)

@@ -1,69 +1,63 @@
 //! What controllers fetch in a slot in which no host writes.
-ghost use Rattle.std.specs.Prelude.{◌≡◌, ℕ, ◌<◌, ◌≤◌, length, map, get_or, OnOk, IsSome, true};
+ghost use Rattle.std.specs.Prelude.{◌≡◌, ℕ, ◌<◌, ◌≤◌, length, get_or, OnOk, IsSome, true};
 ghost use Rattle.ttp_world.specs.Medl.{IsValid, plan_at};
 ghost use Rattle.ttp_world.specs.Outgoing.{nothing_chosen};
 ghost use Rattle.ttp_world.specs.World.{BegunSlot, is_loaded};
 ghost use Rattle.controller.specs.Passes.{HaveBegun};
-ghost use Rattle.host_port.specs.Rings.{IsHostEndOf};
-ghost use Rattle.cluster_run.specs.Ports.{ring_of, host_at};
+ghost use Rattle.cluster_run.specs.Ends.{host_at};
 ghost use Rattle.cluster_run.specs.Sending.{MayFetchAlone, MaySettleAfter, FetchesAlone};
 
 use crate::sending::{fetch_one, lend_one, settle_one};
 use controller::{Seat, is_loaded};
-use host_port::{HostEnd, Port};
+use host_port::HostEnd;
 use ttp_base::{Gate, Memory};
 use ttp_world::{Chosen, Medl, PAYLOAD_LIMIT};
 
 // A node's controller fetches, if its frame carries a message, and chooses what it got.
 fn fetch_for<G: Gate>(
-    port: &Port,
     end: &mut HostEnd,
     loaded: bool,
     len: u8,
     chosen: &mut Chosen,
     gate: &G,
 ) -> Result<(), Memory>
-    requires own { IsHostEndOf port.now end.old }
     requires ring { loaded ≡ true → IsSome end.old }
     requires limit { len ≤ PAYLOAD_LIMIT }
-    requires may { MaySettleAfter port.now len loaded end.old }
-    ensures own { IsHostEndOf port.now end.new }
+    requires may { MaySettleAfter len loaded end.old }
     ensures fetches { OnOk result (FetchesAlone len loaded end.old end.new chosen.old chosen.new) }
 {
     if !loaded {
         return Ok(());
     }
-    let mut fetcher = lend_one(port, end, loaded)?;
-    fetch_one(port, &mut fetcher, gate);
-    settle_one(port, end, fetcher, len, chosen)?;
+    let mut fetcher = lend_one(end, loaded)?;
+    fetch_one(&mut fetcher, gate);
+    settle_one(end, fetcher, len, chosen);
     Ok(())
 }
 
 /// Each controller whose node's frame carries a message fetches it, one after another.
 pub(crate) fn fetch_each<G: Gate>(
     list: &Medl,
-    ports: &[Port],
     ends: &mut [HostEnd],
     seats: &[Seat],
     chosen: &mut [Chosen],
     gate: &G,
 ) -> Result<(), Memory>
     requires list { IsValid list.now }
-    requires count { length ports.now ≡ length list.now.slots }
-    requires ports { map ring_of ends.old ≡ map (λ port. port.outgoing) ports.now }
-    requires seats { length seats.now ≡ length ports.now }
-    requires chosen_count { length chosen.old ≡ length ports.now }
-    requires may { MayFetchAlone list.now ports.now seats.now ends.old }
-    ensures ports { OnOk result (map ring_of ends.new ≡ map (λ port. port.outgoing) ports.now) }
+    requires count { length ends.old ≡ length list.now.slots }
+    requires seats { length seats.now ≡ length ends.old }
+    requires chosen_count { length chosen.old ≡ length ends.old }
+    requires may { MayFetchAlone list.now seats.now ends.old }
+    ensures ends_count { length ends.new ≡ length ends.old }
     ensures chosen_count { length chosen.new ≡ length chosen.old }
-    ensures fetches { OnOk result ((s : BegunSlot) → HaveBegun s 0 seats.now → (k : ℕ) → k < length ports.now
+    ensures fetches { OnOk result ((s : BegunSlot) → HaveBegun s 0 seats.now → (k : ℕ) → k < length ends.old
         → FetchesAlone (plan_at list.now k).payload (is_loaded s k) (host_at ends.old k) (host_at ends.new k)
         (get_or chosen.old k nothing_chosen) (get_or chosen.new k nothing_chosen)) }
 {
-    for k in 0..ports.len() {
+    for k in 0..ends.len() {
         let loaded = is_loaded(&seats[k].controller);
         let len = list.slots.get(k).payload;
-        fetch_for(&ports[k], &mut ends[k], loaded, len, &mut chosen[k], gate)?;
+        fetch_for(&mut ends[k], loaded, len, &mut chosen[k], gate)?;
     }
     Ok(())
 }

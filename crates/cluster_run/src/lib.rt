@@ -26,6 +26,3 @@ mod sending;
 mod slot;
 
 pub use cluster::Cluster;
-
-#[cfg(test)]
-mod tests;

@@ -4,8 +4,10 @@ ghost use Rattle.ttp_base.specs.NodeSet.{below};
 ghost use Rattle.ttp_world.specs.declared.medl.Medl.{Medl};
 ghost use Rattle.ttp_world.specs.declared.script.Script.{Script};
 ghost use Rattle.ttp_world.specs.Diary.{History};
+ghost use Rattle.cluster_run.specs.Ends.{desk_numbers};
 ghost use Rattle.cluster_run.specs.Report.{message_named, node_shown, HaveEndedSlot};
 
+use crate::nodes::Desk;
 use controller::Seat;
 use host_port::NodeLine;
 use std::alloc::Global;
@@ -35,17 +37,17 @@ fn emptied(alloc: Global, mut lines: Vec<NodeLine>, room: usize) -> Result<Vec<N
     Ok(lines)
 }
 
-/// The lines of all nodes after a slot, by the numbers of what they delivered in it. They are written over
+/// The lines of all nodes after a slot, by the numbers of what they delivered in it, which their desks keep. They are written over
 /// `spare`, lines that are told no more, where these have room.
 pub(crate) fn node_lines(
     alloc: Global,
     spare: Vec<NodeLine>,
     seats: &[Seat],
-    delivered: &[Option<u64>],
+    desks: &[Desk],
 ) -> Result<List<NodeLine>, Memory>
-    requires { length delivered.now ≡ length seats.now }
+    requires { length desks.now ≡ length seats.now }
     ensures { IfOk result (λ lines. (list : Medl) (script : Script) (row : Items Entry) (before : History)
-        → HaveEndedSlot list script row before seats.now delivered.now
+        → HaveEndedSlot list script row before seats.now (desk_numbers desks.now)
         → lines ≡ map (node_shown list script row before) (below (length seats.now))) }
 {
     let mut lines = emptied(alloc, spare, seats.len())?;
@@ -53,7 +55,7 @@ pub(crate) fn node_lines(
         let state = seats[k].controller.state();
         // Its entry is asked for anew: where one state serves both, it is put together piece by piece, and
         // takes twice as long.
-        let message = message_shown(&seats[k].controller.state().entry, delivered[k]);
+        let message = message_shown(&seats[k].controller.state().entry, desks[k].delivered);
         lines.push_reserved(NodeLine { state, message });
     }
     Ok(List::from_vec(lines))

@@ -1,45 +1,39 @@
 //! What hosts write, beside what their controllers fetch.
-ghost use Rattle.std.specs.Prelude.{◌≡◌, ℕ, ◌+◌, ◌<◌, ◌≤◌, [], length, map, get_or, slice_set};
+ghost use Rattle.std.specs.Prelude.{◌≡◌, ℕ, ◌+◌, ◌<◌, ◌≤◌, [], length, get_or, slice_set};
 ghost use Rattle.std.specs.Prelude.{vec_capacity};
-ghost use Rattle.std.specs.Prelude.{Some, None, IsSome, IfOk, OnOk, slice_get, true, All};
+ghost use Rattle.std.specs.Prelude.{None, IsSome, IfOk, true, All};
 ghost use Rattle.std.specs.List.{filter_map};
 ghost use Rattle.std.specs.Option.{ForSome};
 ghost use Rattle.ttp_world.specs.Script.{host_write, write_at};
 ghost use Rattle.ttp_world.specs.Words.{words_of_payload, word_count};
 ghost use Rattle.ttp_world.specs.World.{BegunSlot};
 ghost use Rattle.controller.specs.Passes.{HaveBegun};
-ghost use Rattle.host_port.specs.Rings.{PortState, IsHostEndOf};
 ghost use Rattle.host_port.specs.Reading.{IsSettled, settled};
 ghost use Rattle.line_text.specs.HostLines.{AreBytes, bytes_in};
 ghost use Rattle.ttp_world.specs.Medl.{IsValid, plan_at};
 ghost use Rattle.ttp_world.specs.Outgoing.{nothing_chosen};
 ghost use Rattle.host_port.specs.Writing.{written, Takes, HasRoom};
-ghost use Rattle.cluster_run.specs.Ports.{ring_of, host_at};
+ghost use Rattle.cluster_run.specs.Ends.{host_at};
 ghost use Rattle.cluster_run.specs.Sending.{fetcher_lent, AreLent, MayLend, after_writes, write_line};
 ghost use Rattle.cluster_run.specs.Sending.{write_lines, MayWriteAll, WritesBytes};
 ghost use Rattle.cluster_run.specs.Sending.{Fetches, MayFetch, MayFetchAll, FetchAll, MaySettle, choice_of};
 ghost use Rattle.cluster_run.specs.Sending.{SettlesFetch};
 
 use controller::{Seat, is_loaded};
-use host_port::{Fetcher, HostEnd, Port, WriteLine};
+use host_port::{Fetcher, HostEnd, WriteLine};
 use std::alloc::Global;
 use std::thread::{Threads, join};
 use ttp_base::{Gate, Memory};
 use ttp_world::{Chosen, Medl, PAYLOAD_LIMIT, Payload, Script, Written};
 
 /// A fetcher for a node whose frame carries a message.
-pub(crate) fn lend_one(
-    port: &Port,
-    end: &mut HostEnd,
-    loaded: bool,
-) -> Result<Option<Fetcher>, Memory>
-    requires own { IsHostEndOf port.now end.old }
+pub(crate) fn lend_one(end: &mut HostEnd, loaded: bool) -> Result<Option<Fetcher>, Memory>
     requires ring { loaded ≡ true → IsSome end.old }
     ensures fetcher { IfOk result (λ fetcher. fetcher ≡ fetcher_lent loaded end.old) }
     ensures end { end.new ≡ end.old }
 {
     if loaded {
-        return Ok(Some(port.lend_fetch(end)?));
+        return Ok(Some(end.lend_fetch()?));
     }
     Ok(None)
 }
@@ -47,21 +41,19 @@ pub(crate) fn lend_one(
 /// A fetcher for each node whose frame carries a message in the slot that has begun.
 pub(crate) fn lend_fetchers(
     alloc: Global,
-    ports: &[Port],
     ends: &mut [HostEnd],
     seats: &[Seat],
 ) -> Result<Vec<Option<Fetcher>>, Memory>
-    requires ports { map ring_of ends.old ≡ map (λ port. port.outgoing) ports.now }
-    requires seats { length seats.now ≡ length ports.now }
+    requires seats { length seats.now ≡ length ends.old }
     requires rings { MayLend seats.now ends.old }
     ensures fetchers { IfOk result (λ fetchers. (s : BegunSlot) → HaveBegun s 0 seats.now
         → AreLent s ends.old fetchers.items) }
     ensures ends { ends.new ≡ ends.old }
 {
-    let mut fetchers = Vec::with_capacity(alloc, ports.len())?;
-    for k in 0..ports.len() {
+    let mut fetchers = Vec::with_capacity(alloc, ends.len())?;
+    for k in 0..ends.len() {
         let loaded = is_loaded(&seats[k].controller);
-        fetchers.push_reserved(lend_one(&ports[k], &mut ends[k], loaded)?);
+        fetchers.push_reserved(lend_one(&mut ends[k], loaded)?);
     }
     Ok(fetchers)
 }
@@ -73,13 +65,7 @@ fn tell_bytes(_bytes: &[u8])
 {}
 
 // A host writes a message.
-fn write_one<G: Gate>(
-    ports: &[Port],
-    ends: &mut [HostEnd],
-    write: &Written<'_>,
-    gate: &G,
-) -> WriteLine
-    requires ports { map ring_of ends.old ≡ map (λ port. port.outgoing) ports.now }
+fn write_one<G: Gate>(ends: &mut [HostEnd], write: &Written<'_>, gate: &G) -> WriteLine
     requires takes { Takes (host_at ends.old write.now.host) (length write.now.payload.now) }
     requires room { HasRoom (host_at ends.old write.now.host) }
     ensures ends { ends.new ≡ slice_set ends.old write.now.host
@@ -90,7 +76,7 @@ fn write_one<G: Gate>(
     let k = usize::from(write.host);
     let payload = write.payload.bytes();
     tell_bytes(payload);
-    let number = ports[k].host_write(&mut ends[k], payload, gate);
+    let number = ends[k].write(payload, gate);
     WriteLine {
         host: write.host,
         number,
@@ -99,18 +85,16 @@ fn write_one<G: Gate>(
 
 /// All that hosts write at these places of the script, one after another, each with its line.
 pub(crate) fn write_all<G: Gate>(
-    ports: &[Port],
     mut ends: Vec<HostEnd>,
     script: &Script,
     places: &[usize],
     mut lines: Vec<WriteLine>,
     gate: &G,
 ) -> (Vec<HostEnd>, Vec<WriteLine>)
-    requires ports { map ring_of ends.items ≡ map (λ port. port.outgoing) ports.now }
     requires writes { MayWriteAll script.now (length (filter_map (write_at script.now) places.now)) ends.items }
     requires empty { lines.items ≡ [] }
     requires room { length places.now ≤ vec_capacity lines }
-    ensures rings { map ring_of result.0.items ≡ map ring_of ends.items }
+    ensures count { length result.0.items ≡ length ends.items }
     ensures ends { (k : ℕ) → host_at result.0.items k
         ≡ after_writes (filter_map (write_at script.now) places.now) k (host_at ends.items k) }
     ensures lines { result.1.items ≡ write_lines ends.items [] (filter_map (write_at script.now) places.now) }
@@ -118,35 +102,33 @@ pub(crate) fn write_all<G: Gate>(
 {
     for place in places {
         if let Some(write) = script.write(*place) {
-            lines.push_reserved(write_one(ports, ends.as_mut_slice(), &write, gate));
+            lines.push_reserved(write_one(ends.as_mut_slice(), &write, gate));
         }
     }
     (ends, lines)
 }
 
 /// One attempt to fetch, if there is a fetcher.
-pub(crate) fn fetch_one<G: Gate>(port: &Port, fetcher: &mut Option<Fetcher>, gate: &G)
-    requires fetcher { MayFetch port.now fetcher.old }
+pub(crate) fn fetch_one<G: Gate>(fetcher: &mut Option<Fetcher>, gate: &G)
+    requires fetcher { MayFetch fetcher.old }
     ensures fetches { Fetches fetcher.old fetcher.new }
 {
     if let Some(fetcher) = fetcher {
-        port.fetch(fetcher, gate);
+        fetcher.fetch(gate);
     }
 }
 
 /// One attempt by each fetcher.
 pub(crate) fn fetch_all<G: Gate>(
-    ports: &[Port],
     mut fetchers: Vec<Option<Fetcher>>,
     gate: &G,
 ) -> Vec<Option<Fetcher>>
-    requires count { length fetchers.items ≡ length ports.now }
-    requires fetchers { MayFetchAll ports.now fetchers.items }
+    requires fetchers { MayFetchAll fetchers.items }
     ensures count { length result.items ≡ length fetchers.items }
     ensures fetches { FetchAll fetchers.items result.items }
 {
-    for k in 0..ports.len() {
-        fetch_one(&ports[k], &mut fetchers[k], gate);
+    for k in 0..fetchers.len() {
+        fetch_one(&mut fetchers[k], gate);
     }
     fetchers
 }
@@ -159,7 +141,6 @@ fn has_any(fetchers: &[Option<Fetcher>]) -> bool {
 /// Hosts write beside the fetches. A thread is started only where there are both.
 pub(crate) fn write_and_fetch<R: Threads + Sync, G: Gate>(
     rt: &R,
-    ports: &[Port],
     ends: Vec<HostEnd>,
     fetchers: Vec<Option<Fetcher>>,
     script: &Script,
@@ -167,13 +148,11 @@ pub(crate) fn write_and_fetch<R: Threads + Sync, G: Gate>(
     lines: Vec<WriteLine>,
     gate: &G,
 ) -> (Vec<HostEnd>, Vec<WriteLine>, Vec<Option<Fetcher>>)
-    requires ports { map ring_of ends.items ≡ map (λ port. port.outgoing) ports.now }
     requires writes { MayWriteAll script.now (length (filter_map (write_at script.now) places.now)) ends.items }
     requires empty { lines.items ≡ [] }
     requires room { length places.now ≤ vec_capacity lines }
-    requires fetchers_count { length fetchers.items ≡ length ports.now }
-    requires fetchers { MayFetchAll ports.now fetchers.items }
-    ensures rings { map ring_of result.0.items ≡ map ring_of ends.items }
+    requires fetchers { MayFetchAll fetchers.items }
+    ensures count { length result.0.items ≡ length ends.items }
     ensures ends { (k : ℕ) → host_at result.0.items k
         ≡ after_writes (filter_map (write_at script.now) places.now) k (host_at ends.items k) }
     ensures lines { result.1.items ≡ write_lines ends.items [] (filter_map (write_at script.now) places.now) }
@@ -182,19 +161,18 @@ pub(crate) fn write_and_fetch<R: Threads + Sync, G: Gate>(
     ensures fetches { FetchAll fetchers.items result.2.items }
 {
     if places.is_empty() || !has_any(fetchers.as_slice()) {
-        let (ends, lines) = write_all(ports, ends, script, places, lines, gate);
-        return (ends, lines, fetch_all(ports, fetchers, gate));
+        let (ends, lines) = write_all(ends, script, places, lines, gate);
+        return (ends, lines, fetch_all(fetchers, gate));
     }
     let ((ends, lines), fetchers) = join(
         rt,
         || -> (Vec<HostEnd>, Vec<WriteLine>)
-            requires { (map ring_of ends.items ≡ map (λ port. port.outgoing) ports.now)
-                × MayWriteAll script.now (length (filter_map (write_at script.now) places.now)) ends.items
+            requires { MayWriteAll script.now (length (filter_map (write_at script.now) places.now)) ends.items
                 × (lines.items ≡ []) × (length places.now ≤ vec_capacity lines) }
-        { write_all(ports, ends, script, places, lines, gate) },
+        { write_all(ends, script, places, lines, gate) },
         || -> Vec<Option<Fetcher>>
-            requires { (length fetchers.items ≡ length ports.now) × MayFetchAll ports.now fetchers.items }
-        { fetch_all(ports, fetchers, gate) },
+            requires { MayFetchAll fetchers.items }
+        { fetch_all(fetchers, gate) },
     );
     (ends, lines, fetchers)
 }
@@ -213,55 +191,43 @@ fn payload_of(words: &[u64], len: u8) -> Payload
 }
 
 /// Takes a node's fetcher back, and chooses the message that it got.
-pub(crate) fn settle_one(
-    port: &Port,
-    end: &mut HostEnd,
-    fetcher: Option<Fetcher>,
-    len: u8,
-    chosen: &mut Chosen,
-) -> Result<(), Memory>
-    requires end { IsHostEndOf port.now end.old }
+pub(crate) fn settle_one(end: &mut HostEnd, fetcher: Option<Fetcher>, len: u8, chosen: &mut Chosen)
     requires limit { len ≤ PAYLOAD_LIMIT }
-    requires fetcher { ForSome fetcher (MaySettle port.now len) }
-    ensures own { IsHostEndOf port.now end.new }
-    ensures chosen { OnOk result (chosen.new ≡ choice_of fetcher len chosen.old) }
-    ensures whole { OnOk result (IsSettled end.old fetcher) }
-    ensures settled { OnOk result (end.new ≡ settled end.old fetcher) }
+    requires fetcher { ForSome fetcher (MaySettle end.old len) }
+    ensures chosen { chosen.new ≡ choice_of fetcher len chosen.old }
+    ensures whole { IsSettled end.old fetcher }
+    ensures settled { end.new ≡ settled end.old fetcher }
 {
     if let Some(fetcher) = fetcher {
-        if let Some(pair) = port.settle_fetch(end, fetcher)? {
+        if let Some(pair) = end.settle_fetch(fetcher) {
             chosen.number = pair.number();
             chosen.payload = payload_of(pair.words(), len);
         }
     }
-    Ok(())
 }
 
 /// Takes all fetchers back, and chooses for each node the message that its fetcher got.
 pub(crate) fn settle_fetchers(
     list: &Medl,
-    ports: &[Port],
     ends: &mut [HostEnd],
     mut fetchers: Vec<Option<Fetcher>>,
     chosen: &mut [Chosen],
-) -> Result<(), Memory>
+)
     requires list { IsValid list.now }
-    requires count { length ports.now ≡ length list.now.slots }
-    requires ports { map ring_of ends.old ≡ map (λ port. port.outgoing) ports.now }
-    requires chosen_count { length chosen.old ≡ length ports.now }
-    requires fetchers_count { length fetchers.items ≡ length ports.now }
-    requires fetchers { (k : ℕ) (port : PortState) → slice_get ports.now k ≡ Some port
-        → ForSome (get_or fetchers.items k None) (MaySettle port (plan_at list.now k).payload) }
-    ensures ports { OnOk result (map ring_of ends.new ≡ map (λ port. port.outgoing) ports.now) }
+    requires count { length ends.old ≡ length list.now.slots }
+    requires chosen_count { length chosen.old ≡ length ends.old }
+    requires fetchers_count { length fetchers.items ≡ length ends.old }
+    requires fetchers { (k : ℕ) → k < length ends.old
+        → ForSome (get_or fetchers.items k None) (MaySettle (host_at ends.old k) (plan_at list.now k).payload) }
+    ensures ends_count { length ends.new ≡ length ends.old }
     ensures chosen_count { length chosen.new ≡ length chosen.old }
-    ensures settles { OnOk result ((k : ℕ) → k < length ports.now → SettlesFetch (plan_at list.now k).payload
+    ensures settles { (k : ℕ) → k < length ends.old → SettlesFetch (plan_at list.now k).payload
         (get_or fetchers.items k None) (host_at ends.old k) (host_at ends.new k)
-        (get_or chosen.old k nothing_chosen) (get_or chosen.new k nothing_chosen)) }
+        (get_or chosen.old k nothing_chosen) (get_or chosen.new k nothing_chosen) }
 {
-    for k in 0..ports.len() {
+    for k in 0..ends.len() {
         let len = list.slots.get(k).payload;
         let fetcher = fetchers[k].take();
-        settle_one(&ports[k], &mut ends[k], fetcher, len, &mut chosen[k])?;
+        settle_one(&mut ends[k], fetcher, len, &mut chosen[k]);
     }
-    Ok(())
 }

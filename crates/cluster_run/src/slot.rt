@@ -1,109 +1,62 @@
 //! A slot of all nodes.
-ghost use Rattle.std.specs.Prelude.{◌≡◌, ◌+◌, ◌<◌, ℕ, [], All, IfOk, OnOk};
+ghost use Rattle.std.specs.Prelude.{◌≡◌, ◌+◌, ◌<◌, ℕ, [], IfOk, OnOk};
 ghost use Rattle.ttp_world.specs.Medl.{IsValid};
 ghost use Rattle.ttp_world.specs.Script.{IsValidScript, reads_in, writes_in};
 ghost use Rattle.ttp_world.specs.World.{Numbers};
 ghost use Rattle.controller.specs.PlantStands.{outcomes_of};
 ghost use Rattle.cluster_run.specs.Choosing.{AreBytesBefore};
 ghost use Rattle.cluster_run.specs.Ending.{IsPartReady, HasPartEnded, HaveHandedOn};
+ghost use Rattle.cluster_run.specs.Ends.{desk_ends, desk_numbers};
 ghost use Rattle.cluster_run.specs.Nodes.{AreNodesOf};
 ghost use Rattle.cluster_run.specs.Reading.{AreReadersOfAll, AreReadersLent, MayReadAll, HaveRead};
+ghost use Rattle.cluster_run.specs.Reading.{ReadTheSame, ReadBuffers};
 ghost use Rattle.cluster_run.specs.Report.{writes_shown};
 ghost use Rattle.cluster_run.specs.Slots.{StandsAt, StandsForSome, ArePlannedNodes, HavePlannedSlot, MayEndSlot};
 ghost use Rattle.cluster_run.specs.Slots.{HaveEndedFor, TellsReads, IsNextOf};
 ghost use Rattle.cluster_run.specs.Standing.{desks_of};
 
 use crate::choosing::choose;
-use crate::ending::{end_both, end_half};
-use crate::nodes::Nodes;
+use crate::ending::{Common, end_all, end_halves};
+use crate::nodes::{Desk, Nodes};
 use crate::reading::{lend_readers, read_all, read_lines};
 use crate::reporting::node_lines;
 use controller::{Seat, begin_all, plan_all};
-use host_port::{ControllerEnd, HostReaders, NodeLine, Port, ReadLine, SlotReport, WriteLine};
-use medium::Medium;
+use host_port::{HostReaders, NodeLine, ReadLine, SlotReport, WriteLine};
 use std::alloc::Global;
 use std::sync::Wait;
 use std::thread::{Threads, join_mut};
 use ttp_base::{Gate, List, Memory};
 use ttp_world::{HostRead, Medl, Script};
 
-// The two halves of the controllers end the slot, each in a thread.
-fn end_halves<R: Threads + Sync, G: Gate>(
-    rt: &R,
-    seats: &mut [Seat],
-    ends: &mut [ControllerEnd],
-    delivered: &mut [Option<u64>],
-    ports: &[Port],
-    medium: &Medium,
-    list: &Medl,
-    script: &Script,
-    gate: &G,
-)
-    requires { IsPartReady list.now script.now medium.now 0 seats.old ends.old delivered.old ports.now }
-    ensures { HasPartEnded list.now script.now medium.now 0 seats.old seats.new ends.old ends.new delivered.new
-        ports.now }
-{
-    let half = seats.len() / 2;
-    let (front, back) = seats.split_at_mut(half);
-    let (front_ends, back_ends) = ends.split_at_mut(half);
-    let (front_delivered, back_delivered) = delivered.split_at_mut(half);
-    let (front_ports, back_ports) = ports.split_at(half);
-    end_both(
-        rt,
-        front,
-        front_ends,
-        front_delivered,
-        front_ports,
-        back,
-        back_ends,
-        back_delivered,
-        back_ports,
-        medium,
-        list,
-        script,
-        half as u8,
-        gate,
-    );
-}
-
 // The controllers end the slot beside the reads of hosts, in threads.
 fn end_and_read<R: Threads + Wait + Sync, G: Gate>(
     rt: &R,
     seats: &mut [Seat],
-    ends: &mut [ControllerEnd],
-    delivered: &mut [Option<u64>],
+    desks: &mut [Desk],
     readers: &mut [Option<HostReaders>],
-    ports: &[Port],
-    medium: &Medium,
-    list: &Medl,
-    script: &Script,
+    common: &Common,
     reads: &[HostRead],
     gate: &G,
 )
-    requires ready { IsPartReady list.now script.now medium.now 0 seats.old ends.old delivered.old ports.now }
-    requires own { AreReadersOfAll ports.now readers.old }
+    requires ready { IsPartReady common.now.list.now common.now.script.now common.now.medium.now 0 seats.old desks.old }
     requires left { MayReadAll reads.now readers.old }
-    ensures ended { HasPartEnded list.now script.now medium.now 0 seats.old seats.new ends.old ends.new
-        delivered.new ports.now }
-    ensures own { AreReadersOfAll ports.now readers.new }
-    ensures reads { (buffers : ℕ) → All (λ port. port.buffers ≡ buffers) ports.now
+    ensures ended { HasPartEnded common.now.list.now common.now.script.now common.now.medium.now 0 seats.old seats.new
+        desks.old desks.new }
+    ensures rings { ReadTheSame readers.old readers.new }
+    ensures reads { (buffers : ℕ) → ReadBuffers buffers readers.old
         → HaveRead buffers reads.now readers.old readers.new }
 {
     let mut end = ||
-        requires { IsPartReady list.now script.now medium.now 0 seats.now ends.now delivered.now ports.now }
-        ensures { HasPartEnded list.entry.now script.entry.now medium.entry.now 0 seats.entry.now seats.exit.now
-            ends.entry.now ends.exit.now delivered.exit.now ports.entry.now }
-    {
-        end_halves(
-            rt, seats, ends, delivered, ports, medium, list, script, gate,
-        )
-    };
+        requires { IsPartReady common.now.list.now common.now.script.now common.now.medium.now 0 seats.now desks.now }
+        ensures { HasPartEnded common.entry.now.list.now common.entry.now.script.now common.entry.now.medium.now 0
+            seats.entry.now seats.exit.now desks.entry.now desks.exit.now }
+    { end_halves(rt, seats, desks, common, gate) };
     let mut read = ||
-        requires { AreReadersOfAll ports.now readers.now × MayReadAll reads.now readers.now }
-        ensures { AreReadersOfAll ports.entry.now readers.exit.now
-            × ((buffers : ℕ) → All (λ port. port.buffers ≡ buffers) ports.entry.now
+        requires { MayReadAll reads.now readers.now }
+        ensures { ReadTheSame readers.entry.now readers.exit.now
+            × ((buffers : ℕ) → ReadBuffers buffers readers.entry.now
             → HaveRead buffers reads.entry.now readers.entry.now readers.exit.now) }
-    { read_all(rt, ports, readers, reads, gate) };
+    { read_all(rt, readers, reads, gate) };
     join_mut(rt, &mut end, &mut read);
 }
 
@@ -125,7 +78,7 @@ fn plan<R: Threads + Sync, G: Gate>(
     requires bytes { AreBytesBefore list.now script.now slot }
     requires stands { StandsForSome list.now script.now slot (desks_of nodes.old) }
     ensures nodes { OnOk result (ArePlannedNodes list.now script.now slot nodes.new) }
-    ensures ends { nodes.new.controller_ends ≡ nodes.old.controller_ends }
+    ensures desks { nodes.new.desks ≡ nodes.old.desks }
     ensures bytes { OnOk result (AreBytesBefore list.now script.now (slot + 1)) }
     ensures writes { IfOk result (λ lines. lines.items
         ≡ writes_shown list.now script.now slot [] (writes_in script.now slot)) }
@@ -139,7 +92,6 @@ fn plan<R: Threads + Sync, G: Gate>(
         list,
         script,
         slot,
-        &nodes.ports,
         &mut nodes.host_ends,
         &nodes.seats,
         &mut nodes.chosen,
@@ -164,36 +116,38 @@ fn end<R: Threads + Wait + Sync, G: Gate>(
     slot: u32,
     nodes: &mut Nodes,
     readers: &mut [Option<HostReaders>],
+    reads: &[HostRead],
     gate: &G,
 )
     requires list { IsValid list.now }
     requires script { IsValidScript list.now script.now }
     requires slot { slot < script.now.slots }
     requires nodes { ArePlannedNodes list.now script.now slot nodes.old }
-    requires own { AreReadersOfAll nodes.old.ports.items readers.old }
-    requires lent { AreReadersLent (reads_in script.now slot) nodes.old.controller_ends.items readers.old }
+    requires own { AreReadersOfAll (desk_ends nodes.old.desks.items) readers.old }
+    requires lent { AreReadersLent (reads_in script.now slot) (desk_ends nodes.old.desks.items) readers.old }
     requires may { MayEndSlot list.now script.now slot nodes.old }
+    requires reads { reads.now ≡ reads_in script.now slot }
     ensures nodes { AreNodesOf list.now (slot + 1) nodes.new }
-    ensures ports { nodes.new.ports ≡ nodes.old.ports }
     ensures host_ends { nodes.new.host_ends ≡ nodes.old.host_ends }
-    ensures own { AreReadersOfAll nodes.new.ports.items readers.new }
+    ensures own { AreReadersOfAll (desk_ends nodes.new.desks.items) readers.new }
     ensures reads { HaveRead list.now.buffers (reads_in script.now slot) readers.old readers.new }
-    ensures handed { HaveHandedOn (outcomes_of nodes.new.seats.items) nodes.old.controller_ends.items
-        nodes.new.controller_ends.items nodes.new.delivered.items }
+    ensures handed { HaveHandedOn (outcomes_of nodes.new.seats.items) (desk_ends nodes.old.desks.items)
+        (desk_ends nodes.new.desks.items) (desk_numbers nodes.new.desks.items) }
     ensures ends { (numbers : Numbers) → HavePlannedSlot list.now script.now numbers nodes.old
         → HaveEndedFor list.now script.now numbers nodes.old nodes.new }
 {
+    let common = Common {
+        list,
+        script,
+        medium: &nodes.medium,
+    };
     end_and_read(
         rt,
         &mut nodes.seats,
-        &mut nodes.controller_ends,
-        &mut nodes.delivered,
+        &mut nodes.desks,
         readers,
-        &nodes.ports,
-        &nodes.medium,
-        list,
-        script,
-        script.reads(slot),
+        &common,
+        reads,
         gate,
     );
 }
@@ -207,22 +161,17 @@ fn end_unread<G: Gate>(list: &Medl, script: &Script, slot: u32, nodes: &mut Node
     requires may { MayEndSlot list.now script.now slot nodes.old }
     ensures nodes { AreNodesOf list.now (slot + 1) nodes.new }
     ensures host_ends { nodes.new.host_ends ≡ nodes.old.host_ends }
-    ensures handed { HaveHandedOn (outcomes_of nodes.new.seats.items) nodes.old.controller_ends.items
-        nodes.new.controller_ends.items nodes.new.delivered.items }
+    ensures handed { HaveHandedOn (outcomes_of nodes.new.seats.items) (desk_ends nodes.old.desks.items)
+        (desk_ends nodes.new.desks.items) (desk_numbers nodes.new.desks.items) }
     ensures ends { (numbers : Numbers) → HavePlannedSlot list.now script.now numbers nodes.old
         → HaveEndedFor list.now script.now numbers nodes.old nodes.new }
 {
-    end_half(
-        &mut nodes.seats,
-        &mut nodes.controller_ends,
-        &mut nodes.delivered,
-        &nodes.ports,
-        &nodes.medium,
+    let common = Common {
         list,
         script,
-        0,
-        gate,
-    );
+        medium: &nodes.medium,
+    };
+    end_all(&mut nodes.seats, &mut nodes.desks, &common, gate);
 }
 
 // Controllers end the slot, and hosts read in it. The lines of the reads are the answer.
@@ -233,6 +182,7 @@ fn end_read<R: Threads + Wait + Sync, G: Gate>(
     script: &Script,
     slot: u32,
     nodes: &mut Nodes,
+    reads: &[HostRead],
     gate: &G,
 ) -> Result<List<ReadLine>, Memory>
     requires list { IsValid list.now }
@@ -240,27 +190,25 @@ fn end_read<R: Threads + Wait + Sync, G: Gate>(
     requires slot { slot < script.now.slots }
     requires nodes { ArePlannedNodes list.now script.now slot nodes.old }
     requires may { MayEndSlot list.now script.now slot nodes.old }
+    requires reads { reads.now ≡ reads_in script.now slot }
     ensures nodes { OnOk result (AreNodesOf list.now (slot + 1) nodes.new) }
     ensures host_ends { nodes.new.host_ends ≡ nodes.old.host_ends }
     ensures ends { OnOk result ((numbers : Numbers) → HavePlannedSlot list.now script.now numbers nodes.old
         → HaveEndedFor list.now script.now numbers nodes.old nodes.new) }
     ensures tells { IfOk result (TellsReads list.now script.now slot nodes.old nodes.new) }
 {
-    let mut readers = lend_readers(
-        alloc,
-        &nodes.ports,
-        &mut nodes.controller_ends,
+    let mut readers = lend_readers(alloc, &mut nodes.desks, reads)?;
+    end(
+        rt,
+        list,
         script,
         slot,
-    )?;
-    end(rt, list, script, slot, nodes, readers.as_mut_slice(), gate);
-    let lines = read_lines(
-        alloc,
-        &nodes.ports,
-        &mut nodes.controller_ends,
-        readers,
-        script.reads(slot),
-    )?;
+        nodes,
+        readers.as_mut_slice(),
+        reads,
+        gate,
+    );
+    let lines = read_lines(alloc, &mut nodes.desks, readers, reads)?;
     Ok(lines)
 }
 
@@ -285,11 +233,12 @@ fn end_slot<R: Threads + Wait + Sync, G: Gate>(
         → HaveEndedFor list.now script.now numbers nodes.old nodes.new) }
     ensures tells { IfOk result (TellsReads list.now script.now slot nodes.old nodes.new) }
 {
-    if script.reads(slot).is_empty() {
+    let reads = script.reads(slot);
+    if reads.is_empty() {
         end_unread(list, script, slot, nodes, gate);
         return Ok(List::new(alloc));
     }
-    end_read(rt, alloc, list, script, slot, nodes, gate)
+    end_read(rt, alloc, list, script, slot, nodes, reads, gate)
 }
 
 /// Takes all nodes through a slot, and answers its report, whose lines of nodes are written over `spare`.
@@ -317,7 +266,7 @@ pub(crate) fn slot_of<R: Threads + Wait + Sync, G: Gate>(
 {
     let writes = plan(rt, alloc, list, script, slot, nodes, gate)?;
     let reads = end_slot(rt, alloc, list, script, slot, nodes, gate)?;
-    let lines = node_lines(alloc, spare, &nodes.seats, &nodes.delivered)?;
+    let lines = node_lines(alloc, spare, &nodes.seats, &nodes.desks)?;
     Ok(SlotReport {
         slot,
         nodes: lines,

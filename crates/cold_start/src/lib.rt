@@ -26,6 +26,3 @@ mod listener;
 
 pub use heard::{Heard, ListenMove};
 pub use listener::Listener;
-
-#[cfg(test)]
-mod tests;

@@ -426,6 +426,3 @@ pub(crate) fn deliver(
         payload: Payload::of(payload),
     });
 }
-
-#[cfg(test)]
-mod tests;

@@ -15,8 +15,6 @@ ghost use Rattle.controller.specs.Within.{IsWithin, IsEntryWithin, AreChangesWit
 
 mod acting;
 mod stint;
-#[cfg(test)]
-pub(crate) mod tests;
 
 use ack_check::AckState;
 use cold_start::{Heard, Listener};

@@ -10,9 +10,6 @@ ghost use Rattle.controller.specs.PlantStands.{PlantStandsFor, plant_of, MayStep
 ghost use Rattle.controller.specs.PlantStands.{ShowsNode, outcome_at, outcomes_of, no_outcomes};
 ghost use Rattle.controller.specs.PlantWithin.{IsEnded, IsControllerOf, AreSeats, most_ahead};
 
-#[cfg(test)]
-mod tests;
-
 use crate::passes::{begin_all, plan_all, take_all};
 use crate::seat::{Seat, copy_seats, seats_of};
 use medium::Medium;

@@ -21,5 +21,3 @@
 pub mod ends;
 pub mod note;
 pub mod rule;
-#[cfg(test)]
-mod tests;

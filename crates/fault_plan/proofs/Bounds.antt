@@ -93,16 +93,14 @@ pub none-flipped : (list : Medl) (script : Script) (k slot : ℕ) (c : Channel) 
 none-flipped list script k slot c outside =
     no_flips list script k slot c script.events (each-none (outside_slot list script) script.events outside)
 
-pub within-bounds : (list : Medl) (script : Script) → clocks_broken list script ≡ None → window_broken list ≡ None
-    → outside_broken list script ≡ None
+-- where drifts, reading errors and jumps keep the rules, and the window is wide enough
+pub bounds-of : (list : Medl) (script : Script) → clocks_broken list script ≡ None → needed list ≤ℤ list.window
+    → ((k slot : ℕ) → has_jump script k slot ≡ true → is_allowed_jump list script k slot ≡ true)
     → IsWithinBounds list script
-within-bounds list script clocks window outside =
+bounds-of list script clocks window allowed =
     let held =
     both-hold (drifts_hold list script)
     (find (λ slot. not (errors_hold_in list script slot)) (below script.slots)) clocks in
-    let inside = each-none (outside_slot list script) script.events outside in
-    let allowed : (k slot : ℕ) → has_jump script k slot ≡ true → is_allowed_jump list script k slot ≡ true =
-    λ k slot has. allowed-jump list script k slot outside has in
     record {
       clocks = clocks;
       drifts = λ k less.
@@ -111,7 +109,7 @@ within-bounds list script clocks window outside =
           each-below (λ k. is_within_bound list.error (reading_error script k slot)) (length list.slots) k
           (not-false _ (none-found (λ slot. not (errors_hold_in list script slot)) 0 script.slots slot held.1
           (omega arith) (omega arith))) less;
-      window = le_of_test (needed list) list.window (wide (int_le (needed list) list.window) window);
+      window = window;
       jumps = λ k slot has.
           (and_parts (is_far_jump list (jump_of script k slot)) (not (has_jumped_before script k slot))
           (allowed k slot has)).0;
@@ -123,3 +121,10 @@ within-bounds list script clocks window outside =
           both_ways (has_jumped_before script k later) (not-true _ first)
           (has_before k slot later script.events less has));
     }
+
+pub within-bounds : (list : Medl) (script : Script) → clocks_broken list script ≡ None → window_broken list ≡ None
+    → outside_broken list script ≡ None
+    → IsWithinBounds list script
+within-bounds list script clocks window outside =
+    bounds-of list script clocks (le_of_test (needed list) list.window (wide (int_le (needed list) list.window) window))
+    (λ k slot has. allowed-jump list script k slot outside has)

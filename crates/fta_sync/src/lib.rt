@@ -30,7 +30,4 @@ mod middle;
 
 pub use measures::Measures;
 
-#[cfg(test)]
-mod tests;
-#[cfg(test)]
 mod worked_pull;

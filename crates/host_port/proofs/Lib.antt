@@ -3,4 +3,3 @@ pub mod RingLists
 pub mod ReaderLists
 pub mod SettledRings
 pub mod LineQueues
-pub mod NewPorts

@@ -1,14 +1,14 @@
 -- Pairs that wait in queues, one queue for each place, and become lines in the order of the reads.
 use Rattle.std.proofs.Common.{◌≡◌, ◌≢◌, ℕ, zero, suc, ◌+◌, ◌<◌, ◌==◌, true, false, List, [], ◌∷◌, ◌++◌, length}
 use Rattle.std.proofs.Common.{map, take, drop}
-use Rattle.std.proofs.Common.{set, get_or, reverse, filter, Option, Some, None, All, refl, sym, ap, ◌∙◌, arith, cond}
+use Rattle.std.proofs.Common.{set, get_or, filter, Option, Some, None, All, refl, sym, ap, ◌∙◌, arith, cond}
 use Rattle.std.proofs.Common.{inl, inr, zero-add}
 use Rattle.std.specs.Prelude.{IfSome, option_to_list}
 use Rattle.std.proofs.lemmas.Bool.{cases_eq}
 use Rattle.std.proofs.lemmas.Bool.Decides.{nat_tests}
 use Rattle.std.proofs.lemmas.List.{map-append, map-set, get_or-map, get_or-set_same, get_or-set_other, length-set}
-use Rattle.std.proofs.lemmas.List.{append-nil, length-append}
-use Rattle.std.proofs.lemmas.List.{append_assoc, reverse-append, drop_more, take_more}
+use Rattle.std.proofs.lemmas.List.{append-nil}
+use Rattle.std.proofs.lemmas.List.{append_assoc, drop_more, take_more}
 use Rattle.std.proofs.lemmas.List.Elements.{filter-append, All-push}
 use Rattle.std.proofs.lemmas.List.Sums.{sum_by-cons}
 use Rattle.std.proofs.Math.ListN.{get_or-map as get_or-map_default}
@@ -45,15 +45,15 @@ queue_other pairs qs place other q apart =
     ap (λ ps. queue_at ps other) (map-set pairs qs place q)
     ∙ get_or-set_other (map pairs qs) place other (pairs q) [] apart
 
-pub if_popped : {A : Type 0} (last : Option A) (old before new after : List A) → old ≡ before → new ≡ after
-    → before ≡ after ++ option_to_list last → IfSome last (λ x. old ≡ new ++ x ∷ [])
-if_popped None old before new after was is popped = tt
-if_popped (Some x) old before new after was is popped = was ∙ (popped ∙ ap (λ l. l ++ x ∷ []) (sym is))
+pub if_taken : {A : Type 0} (first : Option A) (old before new after : List A) → old ≡ before → new ≡ after
+    → before ≡ option_to_list first ++ after → IfSome first (λ x. old ≡ x ∷ new)
+if_taken None old before new after was is taken = tt
+if_taken (Some x) old before new after was is taken = was ∙ (taken ∙ ap (λ l. x ∷ l) (sym is))
 
 -- the queue of a place, of those that the readers leave
 pub queue_of : (readers : List (Option ReaderState)) (place : ℕ)
-    → queue_at (map (λ r. reverse (got_of r)) readers) place ≡ reverse (got_of (get_or readers place None))
-queue_of readers place = get_or-map_default (λ r. reverse (got_of r)) readers place None
+    → queue_at (map got_of readers) place ≡ got_of (get_or readers place None)
+queue_of readers place = get_or-map_default got_of readers place None
 
 -- Lines are made.
 
@@ -62,7 +62,7 @@ pub record AreLined (calls : List Source) (whole : List (List Message)) (host i 
     (queues : List (List Message)) : Type 0 where
   pub sources : map (λ line. line.source) lines ≡ take i calls
   pub hosts : All (λ line. line.host ≡ host) lines
-  pub pairs : (place : ℕ) → pairs_at place lines ++ reverse (queue_at queues place) ≡ reverse (queue_at whole place)
+  pub pairs : (place : ℕ) → pairs_at place lines ++ queue_at queues place ≡ queue_at whole place
   pub queued : AreQueued (drop i calls) queues
 
 calls_at-here : (place : ℕ) (from : Source) (calls : List Source) → place_of from ≡ place
@@ -112,7 +112,7 @@ pairs_at-other place lines line apart =
 pub lined_more : (calls : List Source) (whole before after : List (List Message)) (host i : ℕ) (lines : List ReadLine)
     (line : ReadLine) → AreLined calls whole host i lines before → i < length calls
     → line.source ≡ get_or calls i line.source → line.host ≡ host
-    → queue_at before (place_of line.source) ≡ queue_at after (place_of line.source) ++ line.pair ∷ []
+    → queue_at before (place_of line.source) ≡ line.pair ∷ queue_at after (place_of line.source)
     → ((other : ℕ) → other ≢ place_of line.source → queue_at after other ≡ queue_at before other)
     → AreLined calls whole host (i + 1) (lines ++ line ∷ []) after
 lined_more calls whole before after host i lines line so within from hosted first others =
@@ -125,26 +125,24 @@ lined_more calls whole before after host i lines line so within from hosted firs
       hosts = All-push (λ l. l.host ≡ host) lines line so.hosts hosted;
       pairs = λ place. elim (cases_eq (place_of line.source) place) [
         | inl here ↦
-            let at : queue_at before place ≡ queue_at after place ++ line.pair ∷ [] =
+            let at : queue_at before place ≡ line.pair ∷ queue_at after place =
             rw (← here) first in
-            ap (λ l. l ++ reverse (queue_at after place)) (pairs_at-here place lines line here)
-            ∙ (append_assoc (pairs_at place lines) (line.pair ∷ []) (reverse (queue_at after place))
-            ∙ (ap (λ l. pairs_at place lines ++ l)
-            (sym (ap reverse at ∙ reverse-append (queue_at after place) (line.pair ∷ []))) ∙ so.pairs place))
+            ap (λ l. l ++ queue_at after place) (pairs_at-here place lines line here)
+            ∙ (append_assoc (pairs_at place lines) (line.pair ∷ []) (queue_at after place)
+            ∙ (ap (λ l. pairs_at place lines ++ l) (sym at) ∙ so.pairs place))
         | inr apart ↦
-            ap (λ l. l ++ reverse (queue_at after place)) (pairs_at-other place lines line apart)
-            ∙ (ap (λ q. pairs_at place lines ++ reverse q) (others place (λ same. apart (sym same))) ∙ so.pairs place)
+            ap (λ l. l ++ queue_at after place) (pairs_at-other place lines line apart)
+            ∙ (ap (λ q. pairs_at place lines ++ q) (others place (λ same. apart (sym same))) ∙ so.pairs place)
       ];
       queued = λ place. elim (cases_eq (place_of line.source) place) [
         | inl here ↦
-            let at : queue_at before place ≡ queue_at after place ++ line.pair ∷ [] = rw (← here) first in
+            let at : queue_at before place ≡ line.pair ∷ queue_at after place = rw (← here) first in
             omega (
               arith,
               so.queued place,
               ap (calls_at place) next,
               calls_at-here place line.source (drop (i + 1) calls) here,
               ap length at,
-              length-append (queue_at after place) (line.pair ∷ []),
             )
         | inr apart ↦
             sym (calls_at-other place line.source (drop (i + 1) calls) apart)

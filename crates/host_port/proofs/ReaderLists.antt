@@ -1,14 +1,15 @@
 -- Lists of readers: one for each place, as they are lent and read.
-use Rattle.std.proofs.Common.{◌≡◌, ℕ, zero, suc, ◌+◌, ◌<◌, List, [], ◌∷◌, ◌++◌, length, map, take, set, get_or}
-use Rattle.std.proofs.Common.{Option, Some, None, option_map, inl, inr, refl, sym, ap, ◌∙◌, arith, add-one, zero-add}
+use Rattle.std.proofs.Common.{◌≡◌, ℕ, zero, suc, ◌+◌, ◌<◌, ◌==◌, Bool, true, false, cond, List, [], ◌∷◌, ◌++◌, length, map, take, set, get_or}
+use Rattle.std.proofs.Common.{Option, Some, None, option_map, inl, inr, refl, sym, ap, ◌∙◌, arith, add-one, zero-add, subst}
 use Rattle.std.proofs.lemmas.Bool.{cases_eq}
-use Rattle.std.proofs.lemmas.List.{map-set, set-get_or, get_or-set_same, get_or_read}
-use Rattle.nbw_ring.specs.States.{RingState, WriterState, ReaderState}
+use Rattle.std.proofs.lemmas.List.{map-set, set-get_or, get_or-set_same, get_or_read, get_or-map, length-map}
+use Rattle.std.specs.Prelude.{IfSome}
+use Rattle.nbw_ring.specs.States.{RingState, WriterState, ReaderState, new_reader}
 use Rattle.ttp_world.specs.declared.host_lines.HostRead.{HostRead}
 use Rattle.ttp_world.specs.declared.script.Source.{Source}
-use Rattle.host_port.specs.Rings.{PortState, ControllerState, place_of, at_source}
+use Rattle.host_port.specs.Rings.{ControllerState, place_of, at_source, HaveBuffers}
 use Rattle.host_port.specs.Writing.{written}
-use Rattle.host_port.specs.Reading.{reads_at, lent, IsLeft, Reads, got_of, settled, all_settled}
+use Rattle.host_port.specs.Reading.{rings_read, IsItsRing, AreTheirRings, reads_at, lent, IsLeft, Reads, buffers_of, got_of, settled, all_settled}
 use Rattle.host_port.specs.Queues.{all_lent}
 
 -- what is written back where it was leaves a list as it was
@@ -49,6 +50,12 @@ settled_rings [] readers = refl
 settled_rings (w ∷ ws) [] = refl
 settled_rings (w ∷ ws) (r ∷ rs) = λ k. settled_ring w r k ∷ settled_rings ws rs k
 
+pub written_rings : (end : ControllerState) (place : ℕ) (words : List ℕ)
+    → map ring_written (set end place (written (get_or end place None) words)) ≡ map ring_written end
+written_rings [] place words = refl
+written_rings (w ∷ ws) zero words = λ k. written_ring w words k ∷ map ring_written ws
+written_rings (w ∷ ws) (suc place) words = λ k. ring_written w ∷ written_rings ws place words k
+
 -- Readers are lent.
 
 pub all_lent-more : (reads : List HostRead) (node first : ℕ) (ws : List (Option WriterState)) (i place : ℕ)
@@ -67,36 +74,58 @@ pub all_lent-next : (reads : List HostRead) (node : ℕ) (ws : List (Option Writ
     ≡ all_lent reads node 0 (take i ws) ++ lent (get_or ws i None) (reads_at reads node i) ∷ []
 all_lent-next reads node ws i within = rw add-one (all_lent-more reads node 0 ws i i within (zero-add i))
 
+none_lent : (reads : ℕ) (none : Bool) (w : Option WriterState) → w ≡ None
+    → cond none None (option_map (λ v. new_reader v reads) w) ≡ None
+none_lent reads true w is = refl
+none_lent reads false w is = ap (option_map (λ v. new_reader v reads)) is
+
 pub all_lent-at : (reads : List HostRead) (node first : ℕ) (ws : List (Option WriterState)) (i place : ℕ)
     → first + i ≡ place
     → get_or (all_lent reads node first ws) i None ≡ lent (get_or ws i None) (reads_at reads node place)
-all_lent-at reads node first [] i place sum = refl
+all_lent-at reads node first [] i place sum =
+    sym (none_lent (reads_at reads node place) (reads_at reads node place == 0) None refl)
 all_lent-at reads node first (w ∷ ws) zero place sum =
     let same : first ≡ place = omega arith in ap (λ p. lent w (reads_at reads node p)) same
 all_lent-at reads node first (w ∷ ws) (suc i) place sum =
     all_lent-at reads node (first + 1) ws i place (omega arith)
 
 -- each reads the ring of its writer
-lent-ring : (w : Option WriterState) (reads : ℕ) → ring_read (lent w reads) ≡ ring_written w
-lent-ring (Some w) reads = refl
-lent-ring None reads = refl
+lent-ring : (w : Option WriterState) (reads : ℕ) (none : Bool)
+    → IsItsRing (ring_written w) (ring_read (cond none None (option_map (λ v. new_reader v reads) w)))
+lent-ring w reads true = tt
+lent-ring (Some w) reads false = refl
+lent-ring None reads false = tt
+
+pub length-all_lent : (reads : List HostRead) (node first : ℕ) (ws : List (Option WriterState))
+    → length (all_lent reads node first ws) ≡ length ws
+length-all_lent reads node first [] = refl
+length-all_lent reads node first (w ∷ ws) = ap suc (length-all_lent reads node (first + 1) ws)
 
 pub all_lent-rings : (reads : List HostRead) (node first : ℕ) (ws : List (Option WriterState))
-    → map ring_read (all_lent reads node first ws) ≡ map ring_written ws
-all_lent-rings reads node first [] = refl
+    → AreTheirRings (map ring_written ws) (rings_read (all_lent reads node first ws))
+all_lent-rings reads node first [] = record { count = refl; each = λ place. tt }
 all_lent-rings reads node first (w ∷ ws) =
-    λ k. lent-ring w (reads_at reads node first) k ∷ all_lent-rings reads node (first + 1) ws k
+    let rest = all_lent-rings reads node (first + 1) ws in record {
+      count = ap suc rest.count;
+      each = λ place. elim place as (λ p. IsItsRing (get_or (map ring_written (w ∷ ws)) p None) (get_or (rings_read
+          (all_lent reads node first (w ∷ ws))) p None)) [
+            | zero ↦ lent-ring w (reads_at reads node first) (reads_at reads node first == 0)
+            | suc p ↦ rest.each p
+          ];
+    }
 
 -- and got nothing yet
-lent-got : (w : Option WriterState) (reads : ℕ) → got_of (lent w reads) ≡ []
-lent-got (Some w) reads = refl
-lent-got None reads = refl
+lent-got : (w : Option WriterState) (reads : ℕ) (none : Bool)
+    → got_of (cond none None (option_map (λ v. new_reader v reads) w)) ≡ []
+lent-got w reads true = refl
+lent-got (Some w) reads false = refl
+lent-got None reads false = refl
 
 pub all_lent-got : (reads : List HostRead) (node : ℕ) (ws : List (Option WriterState)) (place : ℕ)
     → got_of (get_or (all_lent reads node 0 ws) place None) ≡ []
 all_lent-got reads node ws place =
     ap got_of (all_lent-at reads node 0 ws place place (zero-add place))
-    ∙ lent-got (get_or ws place None) (reads_at reads node place)
+    ∙ lent-got (get_or ws place None) (reads_at reads node place) (reads_at reads node place == 0)
 
 -- A host reads.
 
@@ -117,21 +146,38 @@ read_ring buffers (Some old) (Some new) reads =
       | inr more ↦ ap (λ ring. Some ring) (reads.1 more).ring
     ]
 
--- so the readers stay those of the port
-pub still_of : (port : PortState) (shown readers : List (Option ReaderState)) (buffers place : ℕ)
-    (old new : Option ReaderState) → readers ≡ shown → old ≡ get_or readers place old → Reads buffers old new
-    → map ring_read shown ≡ port.incoming → map ring_read (set readers place new) ≡ port.incoming
-still_of port shown readers buffers place old new same here reads own =
-    rings_kept ring_read readers place old new here (read_ring buffers old new reads) ∙ (ap (map ring_read) same ∙ own)
+pub still_rings : (readers : List (Option ReaderState)) (buffers place : ℕ) (old new : Option ReaderState)
+    → old ≡ get_or readers place old → Reads buffers old new
+    → map ring_read (set readers place new) ≡ map ring_read readers
+still_rings readers buffers place old new here reads =
+    rings_kept ring_read readers place old new here (read_ring buffers old new reads)
 
 -- and the one that read is found where it was
-pub reads_there : (shown readers : List (Option ReaderState)) (from : Source) (buffers place : ℕ)
+pub reads_there : (shown readers : List (Option ReaderState)) (from : Source) (place : ℕ)
     (old new : Option ReaderState) → readers ≡ shown → place ≡ place_of from → old ≡ get_or readers place old
-    → IsLeft (at_source shown from) → Reads buffers old new
-    → Reads buffers (at_source shown from) (at_source (set readers place new) from)
-reads_there shown readers from buffers place old new same placed here left reads =
+    → IsLeft (at_source shown from) → Reads (buffers_of old) old new
+    → Reads (buffers_of (at_source shown from)) (at_source shown from) (at_source (set readers place new) from)
+reads_there shown readers from place old new same placed here left reads =
     let within : place < length readers = rw (same, placed) (within_list shown (place_of from) left) in
     let after : get_or (set readers place new) place None ≡ new = get_or-set_same readers place new None within in
     let before : old ≡ at_source shown from =
     get_or_read readers place old within here None ∙ (λ k. get_or (same k) (placed k) None) in
     rw (← before, ← placed, after) reads
+
+-- the ring of a port has the port's number of buffers
+ring_buffers : (buffers : ℕ) (ring : Option RingState) (r : Option ReaderState)
+    → IfSome ring (λ s. s.shape.buffers ≡ buffers) → IsItsRing ring (ring_read r) → IsLeft r → buffers_of r ≡ buffers
+ring_buffers buffers ring None of_port own left = absurd left
+ring_buffers buffers None (Some r) of_port own left = absurd own
+ring_buffers buffers (Some ring) (Some r) of_port own left = ap (λ s. s.shape.buffers) own ∙ of_port
+
+pub buffers_there : (buffers : ℕ) (rings : List (Option RingState)) (readers : List (Option ReaderState)) (place : ℕ)
+    → AreTheirRings rings (rings_read readers) → HaveBuffers buffers rings → IsLeft (get_or readers place None)
+    → buffers_of (get_or readers place None) ≡ buffers
+buffers_there buffers rings readers place own have left =
+    let within : place < length readers = within_list readers place left in
+    let count = own.count in
+    let far : place < length rings = omega (arith, length-map readers ring_read) in
+    ring_buffers buffers (get_or rings place None) (get_or readers place None) (have place None far)
+    (subst (IsItsRing (get_or rings place None)) (get_or-map ring_read readers place None None within) (own.each place))
+    left

@@ -12,7 +12,11 @@ use Rattle.ttp_world.specs.declared.script.Source.{Source}
 use Rattle.ttp_world.specs.declared.script.Source.TheVariants as source
 use Rattle.ttp_world.specs.Medl.{no_plan}
 use Rattle.ttp_world.specs.Words.{word_count}
-use Rattle.host_port.specs.Rings.{at_source, shape_of, message_shape, incoming_shape, IsNew, HasStatus}
+use Rattle.std.specs.Prelude.{IfSome}
+use Rattle.std.proofs.lemmas.List.Elements.{All-push}
+use Rattle.nbw_ring.specs.declared.view.Shape.{Shape}
+use Rattle.ttp_world.specs.Medl.{plan_at}
+use Rattle.host_port.specs.Rings.{at_source, shape_of, message_shape, incoming_shape, IsNew, HasStatus, HaveBuffers}
 use Rattle.host_port.proofs.ReaderLists.{ring_written}
 
 -- the writers of the status ring and of the rings of the first k nodes
@@ -20,8 +24,29 @@ pub record AreNew (list : Medl) (node k : ℕ) (rings : List (Option RingState))
     : Type 0 where
   pub count : length writers ≡ k + 1
   pub own : map ring_written writers ≡ rings
+  pub buffers : HaveBuffers list.buffers rings
   pub status : IsNew (incoming_shape list node source.Status) (get_or writers 0 None)
   pub nodes : (j : ℕ) → j < k → IsNew (incoming_shape list node (source.Node j)) (get_or writers (j + 1) None)
+
+-- a new ring has the list's number of buffers
+pub new_buffers : (list : Medl) (shape : Option Shape) (ring : Option RingState) (writer : Option WriterState)
+    → IfSome shape (λ s. s.buffers ≡ list.buffers) → ring_written writer ≡ ring → IsNew shape writer
+    → IfSome ring (λ r. r.shape.buffers ≡ list.buffers)
+new_buffers list None ring writer of_list own new = rw (← own, new) tt
+new_buffers list (Some shape) ring None of_list own new = absurd new
+new_buffers list (Some shape) ring (Some w) of_list own new = rw (← own) (ap (λ s. s.buffers) new.0 ∙ of_list)
+
+of_list-either : (list : Medl) (b : Bool) (shape : Option Shape) → IfSome shape (λ s. s.buffers ≡ list.buffers)
+    → IfSome (cond b None shape) (λ s. s.buffers ≡ list.buffers)
+of_list-either list true shape of_list = tt
+of_list-either list false shape of_list = of_list
+
+shape_of_list : (list : Medl) (node k : ℕ)
+    → IfSome (incoming_shape list node (source.Node k)) (λ s. s.buffers ≡ list.buffers)
+shape_of_list list node k =
+    of_list-either list (k == node) (message_shape list k)
+    (of_list-either list ((plan_at list k).payload == 0)
+    (Some (shape_of list (word_count (plan_at list k).payload))) refl)
 
 -- and of one node more
 pub new_more : (list : Medl) (node k : ℕ) (rings : List (Option RingState)) (writers : List (Option WriterState))
@@ -32,6 +57,9 @@ new_more list node k rings writers ring writer so own new =
     let many = so.count in record {
       count = omega (arith, length-append writers (writer ∷ []));
       own = map-append ring_written writers (writer ∷ []) ∙ (λ i. so.own i ++ own i ∷ []);
+      buffers =
+          All-push (λ r. IfSome r (λ s. s.shape.buffers ≡ list.buffers)) rings ring so.buffers
+          (new_buffers list _ ring writer (shape_of_list list node k) own new);
       status = rw (get_or_append_left writers (writer ∷ []) None 0 (omega arith)) so.status;
       nodes =
           below_more _ _
@@ -74,11 +102,10 @@ new_all list node k rings writers so all (source.Node j) =
 
 -- the first ring is the status ring
 first_status : (list : Medl) (w : Option WriterState) → IsNew (Some (shape_of list 4)) w
-    → IsSomeAnd (ring_written w) (λ ring. ring.shape.width ≡ 4)
+    → IsSomeAnd w (λ w. w.ring.shape.width ≡ 4)
 first_status list None new = new
 first_status list (Some w) new = ap (λ s. s.width) new.0
 
 pub status_first : (list : Medl) (node k : ℕ) (rings : List (Option RingState)) (writers : List (Option WriterState))
-    → AreNew list node k rings writers → HasStatus rings
-status_first list node k rings [] so = let many = so.count in absurd (omega arith)
-status_first list node k rings (w ∷ ws) so = rw (← so.own) (first_status list w so.status)
+    → AreNew list node k rings writers → HasStatus writers
+status_first list node k rings writers so = first_status list (get_or writers 0 None) so.status

@@ -3,8 +3,8 @@ use Rattle.std.proofs.Common.{◌≡◌, ℕ, zero, suc, ◌+◌, ◌<◌, ◌�
 use Rattle.std.proofs.Common.{Result, Ok, Err, OnErr}
 use Rattle.std.proofs.Common.{None, refl, sym, ap, ◌∙◌, arith, add-one, below_more}
 use Rattle.std.proofs.lemmas.List.{get_or_read, get_or-map, length-map}
-use Rattle.nbw_ring.specs.States.{RingState, WriterState, ReaderState}
-use Rattle.host_port.specs.Reading.{settled, all_settled, IsSettled}
+use Rattle.nbw_ring.specs.States.{WriterState, ReaderState}
+use Rattle.host_port.specs.Reading.{rings_read, IsItsRing, AreTheirRings, settled, all_settled, IsSettled}
 use Rattle.host_port.proofs.ReaderLists.{ring_written, ring_read}
 
 -- a fact holds at an error, whether it is one or not
@@ -50,15 +50,17 @@ pub record IsNext (ws now : List (Option WriterState)) (rs : List (Option Reader
   pub reader_is : reader ≡ get_or rs i None
 
 -- the next one, where the readers that are left are as they were
-pub is_next : (ws now : List (Option WriterState)) (rs left : List (Option ReaderState))
-    (rings : List (Option RingState)) (i : ℕ) (writer : Option WriterState) (reader : Option ReaderState)
-    → i < length rings → map ring_written ws ≡ rings → map ring_read rs ≡ rings → now ≡ all_settled ws (take i rs)
+pub is_next : (ws now : List (Option WriterState)) (rs left : List (Option ReaderState)) (i : ℕ)
+    (writer : Option WriterState) (reader : Option ReaderState) → i < length ws
+    → AreTheirRings (map ring_written ws) (rings_read rs) → now ≡ all_settled ws (take i rs)
     → length left ≡ length rs → ((j : ℕ) → i ≤ j → get_or left j None ≡ get_or rs j None) → writer ≡ get_or now i writer
     → reader ≡ get_or left i reader → IsNext ws now rs i writer reader
-is_next ws now rs left rings i writer reader within wrote read settled_so same later here there =
-    let readers : i < length rs = omega (arith, length-map rs ring_read, ap length read) in record {
+is_next ws now rs left i writer reader within own settled_so same later here there =
+    let count = own.count in
+    let readers : i < length rs = omega (arith, length-map ws ring_written, length-map rs ring_read) in
+    record {
       settled_so = settled_so;
-      writers = omega (arith, length-map ws ring_written, ap length wrote);
+      writers = within;
       readers = readers;
       writer_is = here;
       reader_is =
@@ -96,9 +98,11 @@ pub settled_next : (ws : List (Option WriterState)) (rs : List (Option ReaderSta
 settled_next ws rs i writer reader here there settled_one below =
     below_more _ _ below (rw (← here, ← there) settled_one)
 
--- The rings of a list of writers or readers, one of them.
-pub ring_at : {A : Type 0} (ring : Option A → Option RingState) (xs : List (Option A))
-    (rings : List (Option RingState)) (i : ℕ) (r : Option RingState) → map ring xs ≡ rings → i < length xs
-    → r ≡ get_or rings i r → ring (get_or xs i None) ≡ r
-ring_at ring xs rings i r own within here =
-    sym (get_or-map ring xs i None r within) ∙ (ap (λ l. get_or l i r) own ∙ sym here)
+-- one of the readers reads the ring of its writer
+pub same_ring : {ws now : List (Option WriterState)} {rs : List (Option ReaderState)} {i : ℕ}
+    {writer : Option WriterState} {reader : Option ReaderState} → IsNext ws now rs i writer reader
+    → AreTheirRings (map ring_written ws) (rings_read rs) → IsItsRing (ring_written writer) (ring_read reader)
+same_ring {ws} {now} {rs} {i} next own =
+    let writer = get_or-map ring_written ws i None None next.writers ∙ ap ring_written (sym (next_writer next)) in
+    let reader = get_or-map ring_read rs i None None next.readers ∙ ap ring_read (sym next.reader_is) in
+    rw (← writer, ← reader) (own.each i)

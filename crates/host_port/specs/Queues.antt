@@ -36,7 +36,7 @@ pub record AreCounted (r : Inside) : Type 0 where
 abbrev pub pairs_at : ℕ → List ReadLine → List Message
 pairs_at place lines = map (λ line. line.pair) (filter (λ line. place_of line.source == place) lines)
 
--- the pairs that wait for the lines of the source at a place, the last one first
+-- the pairs that wait for the lines of the source at a place
 abbrev pub queue_at : List (List Message) → ℕ → List Message
 queue_at queues place = get_or queues place []
 

@@ -1,25 +1,44 @@
--- How a host reads: by readers of all the rings of a port, each with room for the reads of a slot.
+-- How a host reads: by a reader of each ring that it reads in a slot, with room for its reads.
 use Rattle.std.specs.Prelude.{◌≡◌, ◌≢◌, ℕ, ◌+◌, ◌/◌, ◌<◌, ◌≤◌, ◌==◌, ◌&&◌, Bool, true, false, List, [], ◌∷◌, ◌++◌}
-use Rattle.std.specs.Prelude.{map, filter, count_by, Option, Some, None, option_map, nat_lt, IsSomeAnd}
+use Rattle.std.specs.Prelude.{map, filter, count_by, length, get_or, Option, Some, None, option_map, nat_lt, IsSomeAnd}
 use Rattle.std.specs.Prelude.{if◌then◌else◌}
 use Rattle.nbw_ring.specs.declared.view.Message.{Message}
 use Rattle.nbw_ring.specs.Attempts.{Gets, GetsNothing}
 use Rattle.nbw_ring.specs.Numbers.{limit}
-use Rattle.nbw_ring.specs.States.{WriterState, ReaderState, new_reader, with_joined}
+use Rattle.nbw_ring.specs.States.{RingState, WriterState, ReaderState, new_reader, with_joined}
 use Rattle.ttp_world.specs.declared.host_lines.HostRead.{HostRead}
 use Rattle.ttp_world.specs.declared.script.Source.{Source}
 use Rattle.host_port.specs.declared.report.ReadLine.{ReadLine}
 use Rattle.host_port.specs.Rings.{PortState, ControllerState, place_of}
 use Rattle.host_port.specs.Fetching.{IsWhole, HasSeen}
 
--- a reader of each ring, at the place of its source, and the sources of the reads that got a message, in the order of
--- these reads
+-- a reader of each ring that is read, at the place of its source, and the sources of the reads that got a message, in
+-- the order of these reads
 pub record ReadersState : Type 0 where
   pub readers : List (Option ReaderState)
   pub calls : List Source
 
+-- the rings that they read
+abbrev pub rings_read : List (Option ReaderState) → List (Option RingState)
+rings_read = map (option_map (λ reader. reader.ring))
+
+-- what is read of a ring, if it is read, is that ring
+abbrev pub IsItsRing : Option RingState → Option RingState → Type 0
+IsItsRing ring None = Unit {0}
+IsItsRing None (Some read) = ⊥
+IsItsRing (Some ring) (Some read) = read ≡ ring
+
+-- there is a place for each ring, and what is read there is that ring
+pub record AreTheirRings (rings read : List (Option RingState)) : Type 0 where
+  pub count : length read ≡ length rings
+  pub each : (place : ℕ) → IsItsRing (get_or rings place None) (get_or read place None)
+
+-- they read the rings of the port, or those that the end writes
 abbrev pub AreReadersOf : PortState → ReadersState → Type 0
-AreReadersOf port r = map (option_map (λ reader. reader.ring)) r.readers ≡ port.incoming
+AreReadersOf port r = AreTheirRings port.incoming (rings_read r.readers)
+
+abbrev pub AreReadersOfEnd : ControllerState → ReadersState → Type 0
+AreReadersOfEnd end r = AreTheirRings (map (option_map (λ w. w.ring)) end) (rings_read r.readers)
 
 -- Readers are lent.
 
@@ -33,9 +52,9 @@ reads_at reads node place = count_by (is_read_at node place) reads
 abbrev pub reads_from : List HostRead → ℕ → Source → ℕ
 reads_from reads node from = reads_at reads node (place_of from)
 
--- a ring's new reader with room for so many messages, if there is a ring
+-- a ring's new reader with room for so many messages, if there is a ring, and any is read
 abbrev pub lent : Option WriterState → ℕ → Option ReaderState
-lent writer reads = option_map (λ w. new_reader w reads) writer
+lent writer reads = if reads == 0 then None else option_map (λ w. new_reader w reads) writer
 
 -- A host reads.
 
@@ -71,6 +90,11 @@ pub record Repeats (old new : ReaderState) : Type 0 where
 abbrev pub Reads : ℕ → Option ReaderState → Option ReaderState → Type 0
 Reads buffers (Some old) (Some new) = (buffers ≡ 1 → Repeats old new) × (buffers ≢ 1 → Attempts old new)
 Reads buffers _ _ = ⊥
+
+-- how many buffers the ring of a reader has
+abbrev pub buffers_of : Option ReaderState → ℕ
+buffers_of (Some r) = r.ring.shape.buffers
+buffers_of None = 0
 
 abbrev pub got_one : Option ReaderState → Bool
 got_one (Some r) = is_intact r

@@ -1,6 +1,6 @@
 -- What contracts see of a port and of its two ends: which rings there are, and what was written to them.
 use Rattle.std.specs.Prelude.{◌≡◌, ℕ, ◌+◌, ◌==◌, List, map, get_or, Option, Some, None}
-use Rattle.std.specs.Prelude.{option_map, IsSomeAnd, if◌then◌else◌}
+use Rattle.std.specs.Prelude.{option_map, IfSome, IsSomeAnd, if◌then◌else◌, All}
 use Rattle.nbw_ring.specs.declared.view.Shape.{Shape}
 use Rattle.nbw_ring.specs.States.{RingState, WriterState, new_writer}
 use Rattle.ttp_world.specs.declared.medl.Medl.{Medl}
@@ -31,13 +31,17 @@ abbrev pub port_of : ℕ → ℕ → List (Option RingState) → Option RingStat
 port_of node buffers incoming outgoing =
     record { node = node; buffers = buffers; incoming = incoming; outgoing = outgoing }
 
--- the status ring is there, and its messages have four words
-abbrev pub HasStatus : List (Option RingState) → Type 0
-HasStatus incoming = IsSomeAnd (at_source incoming source.Status) (λ ring. ring.shape.width ≡ 4)
+-- each ring has so many buffers
+abbrev pub HaveBuffers : ℕ → List (Option RingState) → Type 0
+HaveBuffers buffers rings = All (λ ring. IfSome ring (λ r. r.shape.buffers ≡ buffers)) rings
 
 -- The controller's end has the writers of the rings that the host reads, each at the place of its source.
 abbrev pub ControllerState : Type 0
 ControllerState = List (Option WriterState)
+
+-- the status ring is there, and its messages have four words
+abbrev pub HasStatus : ControllerState → Type 0
+HasStatus end = IsSomeAnd (at_source end source.Status) (λ w. w.ring.shape.width ≡ 4)
 
 -- The host's end has the writer of the outgoing ring.
 abbrev pub HostState : Type 0

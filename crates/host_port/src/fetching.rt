@@ -1,5 +1,5 @@
 //! How a controller takes its host's newest message.
-ghost use Rattle.std.specs.Prelude.{◌≡◌, ◌+◌, ◌/◌, ◌≤◌, length, slice_get, IsSome, IsSomeAnd, IfOk, OnOk, OnErr};
+ghost use Rattle.std.specs.Prelude.{◌≡◌, ◌+◌, ◌/◌, ◌≤◌, length, slice_get, IsSome, IsSomeAnd, IfOk, IsOk, OnOk, OnErr};
 ghost use Rattle.nbw_ring.specs.Attempts.{number_of, OnGot, OnOverrun};
 ghost use Rattle.nbw_ring.specs.States.{new_reader};
 ghost use Rattle.host_port.specs.Rings.{IsHostEndOf};
@@ -30,6 +30,53 @@ impl Model for Fetcher {
     ghost invariant = { λ f. length f.reader.got + f.reader.spare ≡ 1 };
 }
 
+impl HostEnd {
+    /// A fetcher that gets no message older than the newest.
+    pub fn lend_fetch(&mut self) -> Result<Fetcher, Memory>
+        requires ring { IsSome self.old }
+        ensures fetcher { IfOk result (λ f. IsSomeAnd self.old (λ w. f ≡ new_reader w 1)) }
+        ensures end { self.new ≡ self.old }
+    {
+        let Some(writer) = &mut self.writer else {
+            unreachable!()
+        };
+        let reader = writer.lend(1)?;
+        Ok(Fetcher { reader })
+    }
+
+    /// Takes a fetcher of the ring back, and hands out the pair that it got, if it got one.
+    pub fn settle_fetch(&mut self, f: Fetcher) -> Option<Pair>
+        requires own { IsSomeAnd self.old (λ w. f.ring ≡ w.ring) }
+        ensures pair { result ≡ slice_get f.got 0 }
+        ensures whole { IsSomeAnd self.old (λ w. IsWhole w f) }
+        ensures seen { IsSomeAnd self.old (λ w. HasSeen w f) }
+        ensures joined { self.new ≡ joined self.old f }
+    {
+        let Fetcher { reader } = f;
+        let Some(writer) = &mut self.writer else {
+            unreachable!()
+        };
+        writer.settle_one(reader)
+    }
+}
+
+impl Fetcher {
+    /// One attempt to read the newest message. A fetcher that got one has no room for another.
+    pub fn fetch<G: Gate>(&mut self, gate: &G) -> Try
+        requires room { 1 ≤ self.old.spare }
+        ensures ring { self.new.ring ≡ self.old.ring }
+        ensures tries { self.new.tries ≡ self.old.tries + 1 }
+        ensures later { self.old.seen ≤ self.new.first }
+        ensures forward { self.new.first ≤ self.new.seen }
+        ensures number { number_of result ≡ self.new.first / 2 }
+        ensures floor { self.old.floor ≤ number_of result }
+        ensures got { OnGot self.old self.new result }
+        ensures overrun { OnOverrun self.old self.new result }
+    {
+        self.reader.try_read(gate)
+    }
+}
+
 impl Port {
     /// A fetcher that gets no message older than the host's newest.
     pub fn lend_fetch(&self, end: &mut HostEnd) -> Result<Fetcher, Memory>
@@ -39,13 +86,7 @@ impl Port {
         ensures fetcher { IfOk result (λ f. IsSomeAnd end.old (λ w. f ≡ new_reader w 1)) }
         ensures end { end.new ≡ end.old }
     {
-        if let Some(ring) = &self.outgoing {
-            if let Some(writer) = &mut end.writer {
-                let reader = ring.lend(writer, 1)?;
-                return Ok(Fetcher { reader });
-            }
-        }
-        Err(Memory)
+        end.lend_fetch()
     }
 
     /// One attempt to read the newest message. A fetcher that got one has no room for another.
@@ -62,29 +103,21 @@ impl Port {
         ensures got { OnGot f.old f.new result }
         ensures overrun { OnOverrun f.old f.new result }
     {
-        match &self.outgoing {
-            Some(ring) => ring.try_read(&mut f.reader, gate),
-            None => Try::Got { number: 0 },
-        }
+        f.fetch(gate)
     }
 
-    /// Takes a fetcher back, and hands out the pair that it got, if it got one.
+    /// Takes a fetcher back, and hands out the pair that it got, if it got one. It never wants memory.
     pub fn settle_fetch(&self, end: &mut HostEnd, f: Fetcher) -> Result<Option<Pair>, Memory>
         requires end { IsHostEndOf self.now end.old }
         requires fetcher { IsFetcherOf self.now f }
         ensures own { IsHostEndOf self.now end.new }
+        ensures never { IsOk result }
         ensures pair { IfOk result (λ pair. pair ≡ slice_get f.got 0) }
         ensures whole { OnOk result (IsSomeAnd end.old (λ w. IsWhole w f)) }
         ensures seen { OnOk result (IsSomeAnd end.old (λ w. HasSeen w f)) }
         ensures joined { OnOk result (end.new ≡ joined end.old f) }
         ensures err { OnErr result (end.new ≡ end.old) }
     {
-        let Fetcher { reader } = f;
-        if let Some(ring) = &self.outgoing {
-            if let Some(writer) = &mut end.writer {
-                return Ok(ring.settle_one(writer, reader));
-            }
-        }
-        Err(Memory)
+        Ok(end.settle_fetch(f))
     }
 }

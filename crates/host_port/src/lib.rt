@@ -8,20 +8,21 @@
 //!
 //! An end stands for the messages of its rings and for what was settled in them, in the words of
 //! `nbw_ring`. Each call does to the one ring that its arguments name what that ring's call does, and
-//! leaves every other ring as it was. In every call the end, the fetcher and the readers are of the
-//! port: they are those of its rings.
+//! leaves every other ring as it was. An end holds its rings, so that its own calls ask nothing of whose
+//! it is; what comes back to be settled is of its rings. The calls of a [`Port`] are the same ones, with
+//! the condition that the end, the fetcher and the readers are those of its rings.
 //!
-//! A controller's turn in a slot is [`Port::deliver`] and [`Port::publish`], and its host's is
-//! [`Port::host_read`] for each read line, one beside the other:
+//! A controller's turn in a slot is [`ControllerEnd::deliver`] and [`ControllerEnd::publish`], and its
+//! host's is [`HostReaders::read`] for each read line, one beside the other:
 //!
 //! ```text
-//! let readers = port.lend_reads(&mut end, script, slot)?;
-//! let (mut end, readers) = join(rt, || turn(port, end), || reads(rt, port, readers));
-//! let lines = port.settle_reads(&mut end, readers)?;
+//! let readers = end.lend_reads(script.reads(slot), node)?;
+//! let (mut end, readers) = join(rt, || turn(end), || reads(rt, readers));
+//! let lines = end.settle_reads(node, readers)?;
 //! ```
 //!
 //! The types of a slot's report stand here too. The crate starts no thread, takes no lock, and waits in
-//! [`Port::host_read`] alone, where a list has one buffer. It doesn't know which slot it is, nor what a
+//! [`HostReaders::read`] alone, where a list has one buffer. It doesn't know which slot it is, nor what a
 //! status says.
 #![tactic(auto)]
 
@@ -41,6 +42,3 @@ pub use nbw_ring::{Pair, Try};
 pub use port::Port;
 pub use reading::HostReaders;
 pub use report::{NodeLine, ReadLine, SlotReport, WriteLine};
-
-#[cfg(test)]
-mod tests;

@@ -3,7 +3,7 @@ ghost use Rattle.std.specs.Prelude.{◌≡◌, ◌<◌, length, map, option_map,
 ghost use Rattle.ttp_world.specs.declared.script.Source.{Source};
 ghost use Rattle.ttp_world.specs.declared.script.Source.TheVariants as source;
 ghost use Rattle.ttp_world.specs.Medl.{IsValid};
-ghost use Rattle.host_port.specs.Rings.{at_source, HasStatus, IsControllerEndOf, IsHostEndOf};
+ghost use Rattle.host_port.specs.Rings.{at_source, HasStatus, HaveBuffers, IsControllerEndOf, IsHostEndOf};
 ghost use Rattle.host_port.specs.Rings.{IsNew, message_shape, incoming_shape};
 
 use crate::ends::{ControllerEnd, HostEnd};
@@ -25,7 +25,6 @@ pub struct Port {
     pub(crate) buffers: u8,
     pub(crate) incoming: Vec<Option<Ring>>,
     pub(crate) outgoing: Option<Ring>,
-    pub(crate) alloc: Global,
 }
 
 impl Model for Port {
@@ -33,11 +32,11 @@ impl Model for Port {
 
     ghost Value = { PortState };
 
-    ghost use Rattle.host_port.specs.Rings.{port_of, HasStatus};
+    ghost use Rattle.host_port.specs.Rings.{port_of, HaveBuffers};
 
     ghost view = { λ p. port_of p.node p.buffers p.incoming.items p.outgoing };
 
-    ghost invariant = { λ p. HasStatus p.incoming.items };
+    ghost invariant = { λ p. HaveBuffers p.buffers p.incoming.items };
 }
 
 // The ring of a node's messages with its writer, if the node sends payload.
@@ -81,7 +80,8 @@ fn incoming_rings(
 ) -> Result<(Vec<Option<Ring>>, Vec<Option<Writer>>), Memory>
     requires valid { IsValid list.now }
     ensures own { IfOk result (λ r. map (option_map (λ w. w.ring)) r.1.items ≡ r.0.items) }
-    ensures status { IfOk result (λ r. HasStatus r.0.items) }
+    ensures status { IfOk result (λ r. HasStatus r.1.items) }
+    ensures buffers { IfOk result (λ r. HaveBuffers list.now.buffers r.0.items) }
     ensures writers { IfOk result (λ r. (from : Source)
         → IsNew (incoming_shape list.now node from) (at_source r.1.items from)) }
 {
@@ -125,9 +125,8 @@ impl Port {
                 buffers: list.buffers,
                 incoming,
                 outgoing,
-                alloc,
             },
-            ControllerEnd { writers },
+            ControllerEnd { writers, alloc },
             HostEnd { writer },
         ))
     }

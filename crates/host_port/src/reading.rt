@@ -5,14 +5,14 @@ ghost use Rattle.std.specs.Prelude.{vec_len, vec_capacity, option_map, All, IfOk
 ghost use Rattle.ttp_world.specs.declared.script.Source.{Source};
 ghost use Rattle.ttp_world.specs.Script.{reads_in};
 ghost use Rattle.host_port.specs.Rings.{at_source, place_of, IsControllerEndOf};
-ghost use Rattle.host_port.specs.Reading.{AreReadersOf, reads_at, reads_from, lent, IsLeft, Reads, got_one};
+ghost use Rattle.host_port.specs.Reading.{AreReadersOf, AreReadersOfEnd, buffers_of, rings_read, reads_at, reads_from, lent, IsLeft, Reads, got_one};
 ghost use Rattle.host_port.specs.Reading.{calls_after};
 ghost use Rattle.host_port.specs.Queues.{all_lent, spare_of};
 
 use crate::ends::ControllerEnd;
 use crate::port::Port;
 use crate::source::place_of;
-use nbw_ring::{Reader, Ring, Try, Writer};
+use nbw_ring::{Reader, Try, Writer};
 use std::alloc::Global;
 use std::marker::Model;
 use std::sync::Wait;
@@ -21,8 +21,8 @@ use ttp_world::{HostRead, Script, Source};
 
 /// The rights of a node's host to read in a slot. They may go to another thread.
 ///
-/// Contracts see a reader of each ring, at the place of its source, and the sources of the reads that
-/// got a message, in the order of these reads.
+/// Contracts see a reader of each ring that is read, at the place of its source, and the sources of the
+/// reads that got a message, in the order of these reads.
 #[derive(Drop)]
 pub struct HostReaders {
     pub(crate) readers: Vec<Option<Reader>>,
@@ -51,40 +51,34 @@ fn reads_at(reads: &[HostRead], node: u8, place: usize) -> usize
         .count()
 }
 
-// A reader of a ring, if there is one.
-fn lend_one(
-    ring: &Option<Ring>,
-    writer: &mut Option<Writer>,
-    reads: usize,
-) -> Result<Option<Reader>, Memory>
-    requires { option_map (λ w. w.ring) writer.old ≡ ring.now }
+// A reader of a ring, if there is one, and if it is read.
+fn lend_one(writer: &mut Option<Writer>, reads: usize) -> Result<Option<Reader>, Memory>
     ensures reader { IfOk result (λ reader. reader ≡ lent writer.old reads) }
     ensures writer { writer.new ≡ writer.old }
 {
-    if let Some(ring) = ring {
-        if let Some(writer) = writer {
-            return Ok(Some(ring.lend(writer, reads)?));
-        }
+    if reads == 0 {
+        return Ok(None);
     }
-    Ok(None)
+    let Some(writer) = writer else {
+        return Ok(None);
+    };
+    Ok(Some(writer.lend(reads)?))
 }
 
-// A reader of each ring, with room for the reads of its source.
+// A reader of each ring that is read, with room for the reads of its source.
 fn lend_all(
     alloc: Global,
-    rings: &[Option<Ring>],
     writers: &mut [Option<Writer>],
     reads: &[HostRead],
     node: u8,
 ) -> Result<Vec<Option<Reader>>, Memory>
-    requires { map (option_map (λ w. w.ring)) writers.old ≡ rings.now }
     ensures readers { IfOk result (λ readers. readers.items ≡ all_lent reads.now node 0 writers.old) }
     ensures writers { writers.new ≡ writers.old }
 {
-    let mut readers = Vec::with_capacity(alloc, rings.len())?;
-    for place in 0..rings.len() {
+    let mut readers = Vec::with_capacity(alloc, writers.len())?;
+    for place in 0..writers.len() {
         let count = reads_at(reads, node, place);
-        readers.push_reserved(lend_one(&rings[place], &mut writers[place], count)?);
+        readers.push_reserved(lend_one(&mut writers[place], count)?);
     }
     Ok(readers)
 }
@@ -103,33 +97,64 @@ fn room_of(readers: &[Option<Reader>]) -> Option<usize>
 }
 
 // A read of a ring, and whether it got a message.
-fn read_one<R: Wait, G: Gate>(
-    rt: &R,
-    ring: &Option<Ring>,
-    reader: &mut Option<Reader>,
-    buffers: u8,
-    gate: &G,
-) -> bool
-    requires own { option_map (λ r. r.ring) reader.old ≡ ring.now }
+fn read_one<R: Wait, G: Gate>(rt: &R, reader: &mut Option<Reader>, gate: &G) -> bool
     requires left { IsLeft reader.old }
-    ensures reads { Reads buffers reader.old reader.new }
+    ensures reads { Reads (buffers_of reader.old) reader.old reader.new }
     ensures got { result ≡ got_one reader.new }
 {
-    if let Some(ring) = ring {
-        if let Some(reader) = reader {
-            if buffers == 1 {
-                ring.read(rt, reader, gate);
-                return true;
-            }
-            return matches!(ring.try_read(reader, gate), Try::Got { .. });
+    let Some(reader) = reader else {
+        return false;
+    };
+    if reader.buffers() == 1 {
+        reader.read(rt, gate);
+        return true;
+    }
+    matches!(reader.try_read(gate), Try::Got { .. })
+}
+
+impl ControllerEnd {
+    /// Readers of the rings that a node's host reads among these reads of a slot, each with room for the
+    /// reads of its source. None gets a message older than its ring's newest.
+    ///
+    /// It costs a walk over the slot's reads for each ring.
+    pub fn lend_reads(&mut self, reads: &[HostRead], node: u8) -> Result<HostReaders, Memory>
+        ensures readers { IfOk result (λ r. (source : Source) → at_source r.readers source
+            ≡ lent (at_source self.old source) (reads_from reads.now node source)) }
+        ensures own { IfOk result (λ r. AreReadersOfEnd self.old r) }
+        ensures calls { IfOk result (λ r. r.calls ≡ []) }
+        ensures end { self.new ≡ self.old }
+    {
+        let readers = lend_all(self.alloc, self.writers.as_mut_slice(), reads, node)?;
+        let Some(room) = room_of(readers.as_slice()) else {
+            return Err(Memory);
+        };
+        let calls = Vec::with_capacity(self.alloc, room)?;
+        Ok(HostReaders { readers, calls })
+    }
+}
+
+impl HostReaders {
+    /// A read of a source, which is one attempt. With one buffer attempts are repeated until one gets a
+    /// message, so that it may wait for a write that is open.
+    pub fn read<R: Wait, G: Gate>(&mut self, rt: &R, source: Source, gate: &G)
+        requires left { IsLeft (at_source self.old.readers source) }
+        ensures rings { rings_read self.new.readers ≡ rings_read self.old.readers }
+        ensures reads { let old = at_source self.old.readers source in
+            Reads (buffers_of old) old (at_source self.new.readers source) }
+        ensures others { (other : Source) → place_of other ≢ place_of source
+            → at_source self.new.readers other ≡ at_source self.old.readers other }
+        ensures calls { self.new.calls ≡ calls_after self.old.calls source (at_source self.new.readers source) }
+    {
+        let place = place_of(source);
+        if read_one(rt, &mut self.readers[place], gate) {
+            self.calls.push_reserved(source);
         }
     }
-    false
 }
 
 impl Port {
-    /// Readers of the rings that the node's host reads, each with room for the reads of its source
-    /// that the script has for the slot. None gets a message older than its ring's newest.
+    /// Readers of the rings that the node's host reads in the slot, each with room for the reads of its
+    /// source that the script has for it. None gets a message older than its ring's newest.
     ///
     /// It costs a look-up in the script, and a walk over the slot's reads for each ring.
     pub fn lend_reads(
@@ -145,19 +170,7 @@ impl Port {
         ensures calls { IfOk result (λ r. r.calls ≡ []) }
         ensures end { end.new ≡ end.old }
     {
-        let reads = script.reads(slot);
-        let readers = lend_all(
-            self.alloc,
-            self.incoming.as_slice(),
-            end.writers.as_mut_slice(),
-            reads,
-            self.node,
-        )?;
-        let Some(room) = room_of(readers.as_slice()) else {
-            return Err(Memory);
-        };
-        let calls = Vec::with_capacity(self.alloc, room)?;
-        Ok(HostReaders { readers, calls })
+        end.lend_reads(script.reads(slot), self.node)
     }
 
     /// A read of a source, which is one attempt. With one buffer attempts are repeated until one gets a
@@ -171,10 +184,7 @@ impl Port {
             → at_source r.new.readers other ≡ at_source r.old.readers other }
         ensures calls { r.new.calls ≡ calls_after r.old.calls source (at_source r.new.readers source) }
     {
-        let place = place_of(source);
-        let reader = &mut r.readers[place];
-        if read_one(rt, &self.incoming[place], reader, self.buffers, gate) {
-            r.calls.push_reserved(source);
-        }
+        let _ = &self.buffers;
+        r.read(rt, source, gate);
     }
 }

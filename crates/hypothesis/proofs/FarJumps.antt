@@ -12,30 +12,13 @@ use Rattle.ttp_world.specs.declared.script.Script.{Script}
 use Rattle.ttp_world.specs.Hypothesis.{least_of, outside_slot, outside_broken, is_allowed_jump}
 use Rattle.ttp_world.specs.Returning.{disturbed_slot, disturbance_broken}
 use Rattle.ttp_world.specs.Script.{jump_in, jump_of, has_jump}
-use Rattle.ttp_world.proofs.Jumps.{each-none}
-
-allowed : (list : Medl) (script : Script) (k slot : ℕ) (e : Event) → disturbed_slot list script e ≡ None
-    → is_some (jump_in k slot e) ≡ true
-    → is_allowed_jump list script k slot ≡ true
-allowed list script k slot e none here = grind arith
-
-all_allowed : (list : Medl) (script : Script) (k slot : ℕ) (events : List Event)
-    → AllByRecursion (λ e. disturbed_slot list script e ≡ None) events
-    → list_any (λ e. is_some (jump_in k slot e)) events ≡ true → is_allowed_jump list script k slot ≡ true
-all_allowed list script k slot [] none has = absurd (both_ways false refl has)
-all_allowed list script k slot (e ∷ events) none has =
-    elim (or_cases (is_some (jump_in k slot e)) (list_any (λ e. is_some (jump_in k slot e)) events) has) [
-      | inl here ↦ allowed list script k slot e none.0 here
-      | inr later ↦ all_allowed list script k slot events none.1 later
-    ]
+use Rattle.ttp_world.proofs.Jumps.{each-none, undisturbed-jump}
 
 pub far_jump-sum : (list : Medl) (script : Script) (k slot : ℕ) → pos 1 ≤ℤ list.window
     → disturbance_broken list script ≡ None → has_jump script k slot ≡ true
     → jump_of script k slot ≢ pos 0
 far_jump-sum list script k slot wide undisturbed has nothing =
-    let far : is_allowed_jump list script k slot ≡ true =
-    all_allowed list script k slot script.events
-    (each-none (disturbed_slot list script) script.events undisturbed) has in
+    let far : is_allowed_jump list script k slot ≡ true = undisturbed-jump list script k slot undisturbed has in
     grind arith
 
 -- Where nothing stands outside the hypothesis, nothing does beside arm lines.

@@ -19,6 +19,3 @@ mod trace_line;
 
 pub use read::read_line;
 pub use trace_line::{TraceLine, Word};
-
-#[cfg(test)]
-mod tests;

@@ -15,17 +15,16 @@
 //! The crate knows no report and no ring, runs nothing, and reads no line as a value.
 #![tactic(auto)]
 
-mod back_line;
 mod behind;
 mod cut;
 mod head_line;
 mod host_line;
-mod keep_line;
 mod labels;
 pub mod laws;
 mod node_line;
 mod numerals;
 mod put;
+mod test_lines;
 mod words;
 
 pub use behind::{
@@ -38,6 +37,4 @@ pub use labels::after_label;
 pub use node_line::NodeLines;
 pub use numerals::{message_in, numeral_in};
 pub use put::{put_back, put_header, put_keep, put_node_line, put_read_line, put_write_line};
-
-#[cfg(test)]
-mod tests;
+pub use test_lines::{back_line, keep_line};

@@ -31,6 +31,3 @@ mod outgoing;
 pub use arrival::Arrival;
 pub use medium::Medium;
 pub use outgoing::Outgoing;
-
-#[cfg(test)]
-mod tests;

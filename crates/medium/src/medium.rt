@@ -20,7 +20,7 @@ use ttp_world::{Channel, FlippedBit, Incidents, Medl, Script};
 /// which it seldom moves, and so the medium takes no memory at all.
 #[derive(Debug, Drop)]
 pub struct Medium {
-    pub(crate) slot: u32,
+    slot: u32,
     a: ChannelState,
     b: ChannelState,
 }
@@ -68,6 +68,13 @@ impl Medium {
         self.slot = slot;
         self.a.clear();
         self.b.clear();
+    }
+
+    /// The slot that was begun last.
+    pub fn slot(&self) -> u32
+        ensures { result ≡ self.now.slot }
+    {
+        self.slot
     }
 
     /// Puts the frame that a node sends in this slot on both channels, as the script's faults and

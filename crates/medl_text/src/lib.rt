@@ -16,6 +16,3 @@ mod table;
 pub use error::{Field, FieldName, MedlError};
 pub use read::read_medl;
 pub use schedule::put_schedule;
-
-#[cfg(test)]
-mod tests;

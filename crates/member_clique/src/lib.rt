@@ -25,6 +25,3 @@ mod membership;
 
 pub use clique::Clique;
 pub use membership::Membership;
-
-#[cfg(test)]
-mod tests;

@@ -32,6 +32,3 @@ pub use reader::{Reader, Try};
 pub use receipts::{Pair, Receipts};
 pub use ring::Ring;
 pub use writer::Writer;
-
-#[cfg(test)]
-mod tests;

@@ -1,10 +1,10 @@
 -- The cells and marks of a picture: what stands in each of them, and the element that shows it.
-use Rattle.std.specs.Prelude.{ℕ, ◌+◌, ◌-◌, ◌*◌, ◌==◌, nat_le, Bool, true, false, ◌&&◌, not, List, [], ◌∷◌, ◌++◌, map}
+use Rattle.std.specs.Prelude.{ℕ, ◌+◌, ◌==◌, nat_le, Bool, ◌&&◌, not, List, [], ◌∷◌, ◌++◌, map}
 use Rattle.std.specs.Prelude.{length, filter, flat_map, Option, Some, None, is_some, codes, decimal, if◌then◌else◌}
+use Rattle.std.specs.List.{list_any}
 use Rattle.ttp_base.specs.NodeSet.{below, set_bits}
 use Rattle.ttp_base.specs.Text.{hex, newline}
 use Rattle.ttp_world.specs.declared.script.Source.TheVariants as source
-use Rattle.line_reader.specs.declared.trace_line.Word.{Word}
 use Rattle.line_reader.specs.TraceLines.{word_text}
 use Rattle.whole_trace.specs.declared.shown.Head.{Head}
 use Rattle.whole_trace.specs.declared.shown.HostLine.{HostLine}
@@ -57,6 +57,10 @@ abbrev pub distinct : List ℕ → List ℕ
 distinct [] = []
 distinct (x ∷ xs) = x ∷ filter (λ y. not (y == x)) (distinct xs)
 
+-- with one more, unless it is there
+abbrev pub noted : List ℕ → ℕ → List ℕ
+noted words members = if list_any (λ word. word == members) words then words else words ++ members ∷ []
+
 -- the memberships that holders hold, that of the lowest one first
 abbrev pub memberships : List NodeShown → List ℕ
 memberships nodes = distinct (map (λ node. set_bits node.members) (filter is_holder nodes))
@@ -91,7 +95,8 @@ doubt_class node = if is_doubt node.ack then codes " doubt" else []
 -- a holder of other members than most
 abbrev pub other_class : NodeShown → Option ℕ → List ℕ
 other_class node None = []
-other_class node (Some members) = if is_holder node && not (set_bits node.members == members) then codes " other" else []
+other_class node (Some members) =
+    if is_holder node && not (set_bits node.members == members) then codes " other" else []
 
 abbrev pub data_class : NodeShown → List ℕ
 data_class node = if is_some node.message then codes " data" else []
@@ -125,7 +130,8 @@ count_of [] = codes "0"
 count_of (node ∷ nodes) = if is_holder node then decimal (length node.members) else count_of nodes
 
 abbrev pub members_cell_of : List ℕ → List NodeShown → ℕ → ℕ → ℕ → List ℕ → List ℕ
-members_cell_of [] nodes t x y title = cell (codes "none") x y (codes "slot " ++ decimal t ++ codes " members -") (codes "-")
+members_cell_of [] nodes t x y title =
+    cell (codes "none") x y (codes "slot " ++ decimal t ++ codes " members -") (codes "-")
 members_cell_of (one ∷ []) nodes t x y title = cell (codes "agree") x y title (count_of nodes)
 members_cell_of (one ∷ other ∷ more) nodes t x y title = cell (codes "differ") x y title (codes "!")
 
@@ -146,7 +152,8 @@ apart_shown (Some range) = if nat_le 1000 (spread_in range) then codes "*" else 
 abbrev pub clocks_cell : ℕ → SlotLines → ℕ → ℕ → List ℕ
 clocks_cell t slot x y =
     let range = clock_range slot.nodes in
-    cell (codes "none") x y (codes "slot " ++ decimal t ++ codes " clocks apart " ++ apart_text range) (apart_shown range)
+    cell (codes "none") x y (codes "slot " ++ decimal t ++ codes " clocks apart " ++ apart_text range)
+    (apart_shown range)
 
 -- Hosts.
 

@@ -1,4 +1,5 @@
 pub mod Window
 pub mod Tables
 pub mod Cells
+pub mod Sheet
 pub mod Picture

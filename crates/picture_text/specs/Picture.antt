@@ -1,5 +1,5 @@
 -- The picture of a trace, line by line.
-use Rattle.std.specs.Prelude.{ℕ, zero, suc, ◌+◌, ◌-◌, ◌*◌, ◌/◌, ◌%◌, ◌==◌, nat_le, Bool, ◌&&◌, List, [], ◌∷◌, ◌++◌, map}
+use Rattle.std.specs.Prelude.{ℕ, ◌+◌, ◌-◌, ◌*◌, ◌/◌, ◌%◌, ◌==◌, nat_le, Bool, ◌&&◌, List, [], ◌∷◌, ◌++◌, map}
 use Rattle.std.specs.Prelude.{length, get_or, flat_map, Option, Some, None, codes, decimal, if◌then◌else◌}
 use Rattle.std.specs.List.{range_with_len}
 use Rattle.ttp_base.specs.NodeSet.{below}
@@ -9,8 +9,6 @@ use Rattle.ttp_world.specs.declared.keep.Keep.{Keep}
 use Rattle.line_reader.specs.declared.trace_line.Word.{Word}
 use Rattle.line_reader.specs.TraceLines.{word_text, keep_text, back_text}
 use Rattle.whole_trace.specs.declared.shown.Head.{Head}
-use Rattle.whole_trace.specs.declared.shown.HostLine.{HostLine}
-use Rattle.whole_trace.specs.declared.shown.NodeShown.{NodeShown}
 use Rattle.whole_trace.specs.Whole.{SlotLines, WholeTrace}
 use Rattle.shown_slot.specs.Nodes.{has_left}
 use Rattle.shown_slot.specs.Trace.{node_at, first_text}
@@ -114,16 +112,20 @@ cell_lines head span t slot =
 
 -- What stands beside the cells of a slot: why a node left, and what hosts did.
 
+abbrev pub why_box : Word → ℕ → ℕ → List ℕ
+why_box w x y =
+    ended (codes "<rect" ++ class_of (codes "why") ++ place x y
+    ++ attribute (codes "width") (decimal (7 * length (word_text w) + 6)) ++ codes " height=\"17\"/>")
+
+abbrev pub why_word : Word → ℕ → ℕ → List ℕ
+why_word w x y = text_line (class_of (codes "why")) x y (word_text w)
+
 abbrev pub why_lines : ℕ → Span → ℕ → SlotLines → ℕ → Lines
 why_lines n span t slot k =
     let w = (node_at slot k).word in
     let x = column_x n span t in
     let y = row_y n span t k in
-    if has_left w
-    then ended (codes "<rect" ++ class_of (codes "why") ++ place (x + 18) y
-    ++ attribute (codes "width") (decimal (7 * length (word_text w) + 6)) ++ codes " height=\"17\"/>")
-    ∷ text_line (class_of (codes "why")) (x + 21) (y + 13) (word_text w) ∷ []
-    else []
+    if has_left w then why_box w (x + 18) y ∷ why_word w (x + 21) (y + 13) ∷ [] else []
 
 abbrev pub beside_lines : ℕ → Span → ℕ → SlotLines → Lines
 beside_lines n span t slot =
@@ -135,13 +137,16 @@ beside_lines n span t slot =
 abbrev pub is_shown : Span → ℕ → Bool
 is_shown span t = nat_le span.first t && nat_le t span.last
 
+abbrev pub flag_pole : ℕ → Span → ℕ → List ℕ
+flag_pole n span t =
+    ended (codes "<path" ++ class_of (codes "flag") ++ attribute (codes "d") (codes "M"
+    ++ decimal (column_x n span t - 1) ++ codes " " ++ decimal (row_y n span t 0 - 26) ++ codes "v"
+    ++ decimal (18 * n + 26)) ++ codes "/>")
+
 abbrev pub flag_lines : ℕ → Span → ℕ → List ℕ → ℕ → List ℕ → Lines
 flag_lines n span t class x name =
     if is_shown span t
-    then ended (codes "<path" ++ class_of (codes "flag") ++ attribute (codes "d") (codes "M"
-    ++ decimal (column_x n span t - 1) ++ codes " " ++ decimal (row_y n span t 0 - 26) ++ codes "v"
-    ++ decimal (18 * n + 26)) ++ codes "/>")
-    ∷ text_line (class_of class) x (row_y n span t 0 - 17) name ∷ []
+    then flag_pole n span t ∷ text_line (class_of class) x (row_y n span t 0 - 17) name ∷ []
     else []
 
 abbrev pub keep_flag : ℕ → Span → Keep → Lines
@@ -163,12 +168,15 @@ legend_y top i = top + 22 * (i / 3)
 abbrev pub legend_text : ℕ → ℕ → List ℕ → List ℕ
 legend_text x y meaning = text_line [] (x + 23) (y + 13) meaning
 
+-- entry i, of a word
+abbrev pub word_entry : ℕ → ℕ → Word → Lines
+word_entry top i w =
+    cell (word_text w) (legend_x i) (legend_y top i) (word_text w) (letter w)
+    ∷ legend_text (legend_x i) (legend_y top i) (word_text w ++ codes ": " ++ word_meaning w) ∷ []
+
 abbrev pub word_entries : ℕ → ℕ → List Word → Lines
 word_entries top i [] = []
-word_entries top i (w ∷ ws) =
-    cell (word_text w) (legend_x i) (legend_y top i) (word_text w) (letter w)
-    ∷ legend_text (legend_x i) (legend_y top i) (word_text w ++ codes ": " ++ word_meaning w)
-    ∷ word_entries top (i + 1) ws
+word_entries top i (w ∷ ws) = word_entry top i w ++ word_entries top (i + 1) ws
 
 -- entry i, a cell of a class
 abbrev pub cell_entry : ℕ → ℕ → List ℕ → List ℕ → List ℕ → Lines

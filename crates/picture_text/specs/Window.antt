@@ -7,6 +7,8 @@ use Rattle.line_reader.specs.declared.trace_line.Word.TheVariants as word
 use Rattle.whole_trace.specs.declared.shown.NodeShown.{NodeShown}
 use Rattle.whole_trace.specs.Whole.{SlotLines}
 use Rattle.shown_slot.specs.Nodes.{agreement}
+use Rattle.picture_text.specs.declared.window.Sought.{Sought}
+use Rattle.picture_text.specs.declared.window.Sought.TheVariants as sought
 use Rattle.picture_text.specs.declared.window.Span.{Span}
 
 -- Strange slots.
@@ -34,6 +36,11 @@ is_start_word _ = false
 
 abbrev pub has_start : SlotLines → Bool
 has_start slot = list_any (λ node. is_start_word node.word) slot.nodes
+
+-- the slot is one that is sought
+abbrev pub is_sought : Sought → SlotLines → Bool
+is_sought sought.Strange slot = is_strange slot
+is_sought sought.Start slot = has_start slot
 
 -- the first strange slot, or else the slot of the first start, or else 0
 abbrev pub slot_of_interest : List SlotLines → ℕ

@@ -38,10 +38,6 @@
 #![tactic(auto)]
 
 mod bounds;
+mod worked_run;
 
 pub use bounds::{needed, needed_rejoining, spread, spread_rejoining};
-
-#[cfg(test)]
-mod tests;
-#[cfg(test)]
-mod worked_run;

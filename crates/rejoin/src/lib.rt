@@ -17,8 +17,6 @@ ghost use Rattle.ttp_world.specs.Script.{IsValidScript};
 ghost use Rattle.ttp_world.specs.World.{Numbers, world};
 
 pub mod laws;
-#[cfg(test)]
-mod tests;
 
 use ttp_world::{Medl, Script};
 

@@ -25,8 +25,6 @@ ghost use Rattle.safety_steps.specs.Gone.{FaultyLeave};
 ghost use Rattle.safety.specs.SameFrames.{AcceptsAlikeSince, StandsAlikeSince};
 
 pub mod laws;
-#[cfg(test)]
-mod tests;
 mod worked_runs;
 
 use ttp_world::{Medl, Script};

@@ -21,7 +21,4 @@
 #![tactic(auto)]
 
 pub mod laws;
-#[cfg(test)]
-mod tests;
-#[cfg(test)]
 mod worked_slots;

@@ -22,6 +22,3 @@ mod script;
 mod worked_cases;
 
 pub use script::generate;
-
-#[cfg(test)]
-mod tests;

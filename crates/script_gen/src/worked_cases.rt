@@ -15,9 +15,14 @@ ghost use Rattle.script_gen.specs.WorkedCases.{four_nodes, six_nodes, poll};
 
 /// The first draws of some numbers.
 fn first_draws()
-    ensures of_0 { map (drawn 0) (0 ∷ 1 ∷ 2 ∷ []) ≡ 167951807 ∷ 218396424 ∷ 1299921937 ∷ [] }
-    ensures of_7 { map (drawn 7) (0 ∷ 1 ∷ 2 ∷ []) ≡ 1059165278 ∷ 2052263231 ∷ 1946856753 ∷ [] }
-    ensures of_the_last { map (drawn (2 ^ 64 - 1)) (0 ∷ 1 ∷ 2 ∷ []) ≡ 1574552488 ∷ 1490332343 ∷ 1207502677 ∷ [] }
+    ensures of_0 { map (drawn 0) (0 ∷ 1 ∷ 2 ∷ 3 ∷ [])
+        ≡ 167951807 ∷ 218396424 ∷ 1299921937 ∷ 861605236 ∷ [] }
+    ensures of_1 { map (drawn 1) (0 ∷ 1 ∷ 2 ∷ 3 ∷ [])
+        ≡ 908834774 ∷ 1093944153 ∷ 1392341196 ∷ 822192870 ∷ [] }
+    ensures of_7 { map (drawn 7) (0 ∷ 1 ∷ 2 ∷ 3 ∷ [])
+        ≡ 1059165278 ∷ 2052263231 ∷ 1946856753 ∷ 585718673 ∷ [] }
+    ensures of_the_last { map (drawn (2 ^ 64 - 1)) (0 ∷ 1 ∷ 2 ∷ 3 ∷ [])
+        ≡ 1574552488 ∷ 1490332343 ∷ 1207502677 ∷ 901017602 ∷ [] }
 {}
 
 /// Four nodes spare none for a fault, and their hosts only poll their status.

@@ -32,8 +32,3 @@ mod writes;
 
 pub use error::{LineFault, ScriptError};
 pub use read::read_script;
-
-#[cfg(test)]
-mod host_tests;
-#[cfg(test)]
-mod tests;

@@ -1,5 +1,5 @@
 -- What both views say of a whole trace.
-use Rattle.std.specs.Prelude.{ℕ, pos, List, [], get_or, flat_map, Bool, Option, None, option_map, if◌then◌else◌, ◌==◌}
+use Rattle.std.specs.Prelude.{ℕ, pos, List, [], get_or, flat_map, Option, None, option_map, if◌then◌else◌, ◌==◌}
 use Rattle.ttp_world.specs.declared.node.Ack.TheVariants as ack
 use Rattle.line_reader.specs.declared.trace_line.TraceLine.TheVariants as line
 use Rattle.line_reader.specs.declared.trace_line.Word.TheVariants as word

@@ -10,9 +10,13 @@
 
 mod host;
 mod node;
+mod text;
+mod word;
 
-pub use host::{Message, Port, What};
+pub use host::{Message, Port, What, message_of};
 pub use node::{
-    ClockRange, Sender, active_bits, agreement, clock_range, has_left, is_active, left_bits,
-    sender_among, sends,
+    ClockRange, Sender, active_bits, agreement, clock_range, has_left, is_active, is_holder,
+    left_bits, sender_among, sends,
 };
+pub use text::{back_text, head_text, keep_text};
+pub use word::word_text;

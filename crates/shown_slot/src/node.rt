@@ -60,8 +60,8 @@ pub fn sends(word: Word) -> bool
     }
 }
 
-// Whether its members count.
-fn is_holder(node: &NodeShown) -> bool
+/// Whether its members count: it is active, and in no doubt about its own frame.
+pub fn is_holder(node: &NodeShown) -> bool
     ensures { result ≡ is_holder node.now }
 {
     let is_doubt = match node.ack {

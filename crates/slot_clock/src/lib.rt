@@ -21,6 +21,3 @@
 mod clock;
 
 pub use clock::SlotClock;
-
-#[cfg(test)]
-mod tests;

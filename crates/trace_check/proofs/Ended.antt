@@ -109,37 +109,3 @@ delivered-number list script row history k d p is own =
       length-append (in_messages list script history k p) (d.payload ∷ []),
       in_messages-some list script history k p,
     )
-
--- There are no more messages than slots, and the zeros.
-
-pub one_more : (p : ℕ) (o : Option Delivered) → length (new_messages p o) ≤ 1
-one_more p None = omega arith
-one_more p (Some d) = few (d.sender == p)
-  where
-    few : (b : Bool) → length (cond b (d.payload ∷ []) []) ≤ 1
-    few true = omega arith
-    few false = omega arith
-
-pub in_messages-few : (list : Medl) (script : Script) (history : History) (k p : ℕ)
-    → length (in_messages list script history k p) ≤ 1 + length history
-in_messages-few list script [] k p = omega arith
-in_messages-few list script (row ∷ history) k p =
-    omega (
-      arith,
-      in_messages-few list script history k p,
-      length-append (in_messages list script history k p)
-          (new_messages p (delivered_of list script history row k)),
-      one_more p (delivered_of list script history row k),
-    )
-
-pub length-status : (list : Medl) (script : Script) (history : History) (k : ℕ)
-    → length (status_messages list script history k) ≡ 1 + length history
-length-status list script [] k = refl
-length-status list script (row ∷ history) k =
-    omega (
-      arith,
-      length-status list script history k,
-      length-append (status_messages list script history k)
-          (status_words list (length history) (node_past list script (row ∷ history) k)
-          (is_some (delivered_of list script history row k)) ∷ []),
-    )

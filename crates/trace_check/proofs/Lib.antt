@@ -20,7 +20,6 @@ pub mod OneRead
 pub mod SlotReads
 pub mod Settled
 pub mod SettledLoop
-pub mod LegalAfter
 pub mod SlotChosen
 pub mod NodesDepart
 pub mod ReadsDepart

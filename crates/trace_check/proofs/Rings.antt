@@ -25,13 +25,13 @@ use Rattle.line_text.specs.HostLines.{message_line}
 use Rattle.trace_check.specs.declared.incoming.Incoming.{Incoming}
 use Rattle.trace_check.specs.Following.{HasEnded, behind_new_read, behind_read, line_of_read, row_after}
 use Rattle.trace_check.specs.Incoming.{IsNewest, IsRing, TellsRings, newest_before, newest_message}
-use Rattle.trace_check.proofs.Ended.{delivered-number, delivered-own, ended-status, in_messages-few, length-status}
-use Rattle.trace_check.proofs.Ended.{one_more}
+use Rattle.trace_check.proofs.Ended.{delivered-number, delivered-own, ended-status}
+use Rattle.ttp_world.proofs.LegalNumbers.{in_messages-few, new_messages-few, status_messages-count}
 
 pub newest-status : (list : Medl) (script : Script) (history : History) (read : HostRead) (slot : ℕ)
     → read.source ≡ source.Status → slot ≡ length history → slot ≡ newest_before list script history read
 newest-status list script history read slot is count =
-    count ∙ omega (arith, length-status list script history read.host)
+    count ∙ omega (arith, status_messages-count list script history read.host)
     ∙ ap (λ (from : Source). newest_number (ring_messages list script history read.host from)) (sym is)
 
 pub newest-told : (incoming : Incoming) (list : Medl) (script : Script) (history : History) (read : HostRead) (p : ℕ)
@@ -66,7 +66,7 @@ pub older-message : (list : Medl) (script : Script) (row : List Entry) (history 
     → get_or (ring_messages list script (row ∷ history) k from) (newest_number (ring_messages list script history k from)) []
     ≡ newest_message (ring_messages list script history k from)
 older-message list script row history k source.Status =
-    older_at (status_messages list script history k) _ (omega (arith, length-status list script history k))
+    older_at (status_messages list script history k) _ (omega (arith, status_messages-count list script history k))
 older-message list script row history k (source.Node p) =
     older_at (in_messages list script history k p) _ (in_messages-some list script history k p)
 
@@ -144,8 +144,8 @@ module _ (list : Medl) (script : Script) (history : History) (chosen : List Chos
       ap (λ (f : Source). newest_number (ring_messages list script (row ∷ history) read.host f)) is
       ∙ omega (
         arith,
-        length-status list script history read.host,
-        length-status list script (row ∷ history) read.host,
+        status_messages-count list script history read.host,
+        status_messages-count list script (row ∷ history) read.host,
       )
       ∙ ap (λ (f : Source). newest_number (ring_messages list script history read.host f) + 1) (sym is)
 
@@ -158,7 +158,7 @@ module _ (list : Medl) (script : Script) (history : History) (chosen : List Chos
       let node = subst (IsRing list read.host) is ring in
       ended-status plant incoming list script history chosen ended read.host node
       ∙ sym (newer_at (status_messages list script history read.host) _
-      (omega (arith, length-status list script history read.host)))
+      (omega (arith, status_messages-count list script history read.host)))
       ∙ ap (λ (f : Source). get_or
       (ring_messages list script (row_after list script history chosen ∷ history) read.host source.Status)
       (newest_number (ring_messages list script history read.host f) + 1) []) (sym is)
@@ -215,15 +215,15 @@ after-few list script row history read = by read.source
     by source.Status =
         omega (
           arith,
-          length-status list script history read.host,
-          length-status list script (row ∷ history) read.host,
+          status_messages-count list script history read.host,
+          status_messages-count list script (row ∷ history) read.host,
         )
     by (source.Node p) =
         omega (
           arith,
           length-append (in_messages list script history read.host p)
               (new_messages p (delivered_of list script history row read.host)),
-          one_more p (delivered_of list script history row read.host),
+          new_messages-few p (delivered_of list script history row read.host),
         )
 
 pub newest-few : (list : Medl) (script : Script) (history : History) (read : HostRead)
@@ -231,5 +231,5 @@ pub newest-few : (list : Medl) (script : Script) (history : History) (read : Hos
 newest-few list script history read = by read.source
   where
     by : (from : Source) → newest_number (ring_messages list script history read.host from) ≤ length history
-    by source.Status = omega (arith, length-status list script history read.host)
+    by source.Status = omega (arith, status_messages-count list script history read.host)
     by (source.Node p) = omega (arith, in_messages-few list script history read.host p)

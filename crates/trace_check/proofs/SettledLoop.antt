@@ -16,7 +16,8 @@ use Rattle.controller.specs.PlantView.{PlantView}
 use Rattle.trace_check.specs.declared.incoming.Incoming.{Incoming}
 use Rattle.trace_check.specs.Following.{HasEnded, IsPast, row_after}
 use Rattle.trace_check.specs.Incoming.{HasPlaces}
-use Rattle.trace_check.proofs.Ended.{ended-delivered, ended-status, in_messages-few}
+use Rattle.trace_check.proofs.Ended.{ended-delivered, ended-status}
+use Rattle.ttp_world.proofs.LegalNumbers.{in_messages-few}
 use Rattle.trace_check.proofs.Settled.{TellsPayloads, TellsStatuses, settled-none, settled-some, settled-status}
 use Rattle.trace_check.proofs.Settled.{unsettled-number}
 use Rattle.trace_check.proofs.Shown.{place_within}

@@ -21,7 +21,8 @@ use Rattle.trace_check.specs.declared.incoming.Incoming.{Incoming}
 use Rattle.trace_check.specs.Following.{Begins, Departs, HasEnded, IsPast, node_lines, row_after}
 use Rattle.trace_check.specs.Incoming.{HasPlaces}
 use Rattle.trace_check.proofs.Begun.{begins-behind, departs-behind, next-below, split-below}
-use Rattle.trace_check.proofs.Ended.{delivered-number, ended-delivered, ended-slot, ended-state, in_messages-few}
+use Rattle.trace_check.proofs.Ended.{delivered-number, ended-delivered, ended-slot, ended-state}
+use Rattle.ttp_world.proofs.LegalNumbers.{in_messages-few}
 
 pub place_within : (incoming : Incoming) (list : Medl) (k p : ℕ) → HasPlaces incoming list → k < length list.slots
     → p < length list.slots → k * incoming.nodes + p < length incoming.payloads.items

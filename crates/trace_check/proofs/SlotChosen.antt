@@ -39,7 +39,7 @@ use Rattle.trace_check.specs.declared.incoming.Incoming.{Incoming}
 use Rattle.trace_check.specs.Following.{Begins, DepartsAfter, HasEnded, MayReadAll, ReadsOn, lines_of_slot, node_lines, row_after}
 use Rattle.trace_check.specs.Incoming.{TellsRings}
 use Rattle.trace_check.specs.Outgoing.{number_taken, oldest_number}
-use Rattle.trace_check.proofs.LegalAfter.{legal-after}
+use Rattle.ttp_world.proofs.LegalSlots.{legal-after}
 
 pub begins-append : (text one rest : List ℕ) (lines more : Lines) → Begins text lines one → Begins one more rest
     → Begins text (lines ++ more) rest

@@ -31,6 +31,3 @@ mod text;
 
 pub use answer::{Outcome, verify};
 pub use outgoing::Outgoing;
-
-#[cfg(test)]
-mod tests;

@@ -22,7 +22,7 @@ use Rattle.ttp_world.specs.Trace.{source_word, message_hex, more_write_lines, re
 use Rattle.ttp_world.proofs.HostPayloads.{IsReadOf}
 use Rattle.ttp_world.proofs.Lists.{nodes-most}
 use Rattle.trace_size.proofs.MessageSizes.{message-short}
-use Rattle.trace_size.proofs.RingCounts.{ring_messages-few}
+use Rattle.ttp_world.proofs.LegalNumbers.{ring_messages-few}
 use Rattle.trace_size.proofs.WordLengths.{decimal-any, decimal-byte, decimal-five}
 
 -- Writes. The numbers in their lines may be any.

@@ -2,7 +2,6 @@ pub mod HostEvents
 pub mod HostLineLength
 pub mod MessageSizes
 pub mod NodeLineLength
-pub mod RingCounts
 pub mod Small
 pub mod SmallEntries
 pub mod SmallPasts

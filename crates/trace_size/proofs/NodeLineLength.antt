@@ -30,7 +30,7 @@ use Rattle.ttp_world.proofs.HostMessages.{few_messages}
 use Rattle.ttp_world.proofs.LegalShapes.{legal-message}
 use Rattle.ttp_world.proofs.Lists.{nodes-most}
 use Rattle.ttp_world.proofs.Worlds.{row_of_world, length-world}
-use Rattle.trace_size.proofs.RingCounts.{in_messages-few}
+use Rattle.ttp_world.proofs.LegalNumbers.{in_messages-few}
 use Rattle.trace_size.proofs.Small.{IsSmall}
 use Rattle.trace_size.proofs.SmallStates.{small_states}
 use Rattle.trace_size.proofs.WordLengths.{decimal-byte, decimal-five, signed-small, dash-byte, dash-six}

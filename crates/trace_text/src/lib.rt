@@ -17,6 +17,3 @@ pub use line_text::{
     put_keep, put_node_line, put_read_line, put_write_line,
 };
 pub use slot::put_slot;
-
-#[cfg(test)]
-mod tests;

@@ -35,7 +35,4 @@ pub use memory_library::MemoryLibrary;
 pub use memory_sink::MemorySink;
 pub use node_set::NodeSet;
 pub use sink::Sink;
-pub use system::{FileLibrary, StreamSink};
-
-#[cfg(test)]
-mod tests;
+pub use system::{FileLibrary, StreamSink, front_of};

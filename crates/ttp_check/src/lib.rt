@@ -26,6 +26,3 @@ pub mod laws;
 mod table;
 
 pub use check::Check;
-
-#[cfg(test)]
-mod tests;

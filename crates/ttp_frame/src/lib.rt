@@ -33,6 +33,3 @@ mod pieces;
 pub use frame::{FrameIn, encode};
 pub use joining::{is_joinable_state, read_explicit};
 pub use judging::{Expect, FrameMatch, judge};
-
-#[cfg(test)]
-mod tests;

@@ -10,6 +10,7 @@ use Rattle.ttp_world.specs.declared.medl.Medl.{Medl}
 use Rattle.ttp_world.specs.declared.script.Event.{Event}
 use Rattle.ttp_world.specs.declared.script.Script.{Script}
 use Rattle.ttp_world.specs.Hypothesis.{lesser, least_of, outside_slot, outside_broken, is_allowed_jump}
+use Rattle.ttp_world.specs.Returning.{disturbed_slot, disturbance_broken}
 use Rattle.ttp_world.specs.Script.{sum_ℤ, jump_in, jump_of, has_jump}
 
 lesser-some : (n : ℕ) (m : Option ℕ) → lesser n m ≡ None → ⊥
@@ -30,26 +31,41 @@ each-none f (x ∷ xs) none =
     let parts = least-none f x xs (f x) refl none in
     (parts.0, each-none f xs parts.1)
 
-allowed : (list : Medl) (script : Script) (k slot : ℕ) (e : Event) → outside_slot list script e ≡ None
+all_allowed : (list : Medl) (script : Script) (k slot : ℕ) (f : Event → Option ℕ)
+    → ((e : Event) → f e ≡ None → is_some (jump_in k slot e) ≡ true → is_allowed_jump list script k slot ≡ true)
+    → (events : List Event) → AllByRecursion (λ e. f e ≡ None) events
+    → list_any (λ e. is_some (jump_in k slot e)) events ≡ true → is_allowed_jump list script k slot ≡ true
+all_allowed list script k slot f one [] inside has = absurd (both_ways false refl has)
+all_allowed list script k slot f one (e ∷ events) inside has =
+    elim (or_cases (is_some (jump_in k slot e)) (list_any (λ e. is_some (jump_in k slot e)) events) has) [
+      | inl here ↦ one e inside.0 here
+      | inr later ↦ all_allowed list script k slot f one events inside.1 later
+    ]
+
+inside-allowed : (list : Medl) (script : Script) (k slot : ℕ) (e : Event) → outside_slot list script e ≡ None
     → is_some (jump_in k slot e) ≡ true
     → is_allowed_jump list script k slot ≡ true
-allowed list script k slot e none here = grind arith
-
-all_allowed : (list : Medl) (script : Script) (k slot : ℕ) (events : List Event)
-    → AllByRecursion (λ e. outside_slot list script e ≡ None) events
-    → list_any (λ e. is_some (jump_in k slot e)) events ≡ true → is_allowed_jump list script k slot ≡ true
-all_allowed list script k slot [] inside has = absurd (both_ways false refl has)
-all_allowed list script k slot (e ∷ events) inside has =
-    elim (or_cases (is_some (jump_in k slot e)) (list_any (λ e. is_some (jump_in k slot e)) events) has) [
-      | inl here ↦ allowed list script k slot e inside.0 here
-      | inr later ↦ all_allowed list script k slot events inside.1 later
-    ]
+inside-allowed list script k slot e none here = grind arith
 
 pub allowed-jump : (list : Medl) (script : Script) (k slot : ℕ) → outside_broken list script ≡ None
     → has_jump script k slot ≡ true
     → is_allowed_jump list script k slot ≡ true
 allowed-jump list script k slot outside has =
-    all_allowed list script k slot script.events (each-none (outside_slot list script) script.events outside) has
+    all_allowed list script k slot (outside_slot list script) (inside-allowed list script k slot) script.events
+    (each-none (outside_slot list script) script.events outside) has
+
+undisturbed-allowed : (list : Medl) (script : Script) (k slot : ℕ) (e : Event) → disturbed_slot list script e ≡ None
+    → is_some (jump_in k slot e) ≡ true
+    → is_allowed_jump list script k slot ≡ true
+undisturbed-allowed list script k slot e none here = grind arith
+
+-- the same where nodes may be armed
+pub undisturbed-jump : (list : Medl) (script : Script) (k slot : ℕ) → disturbance_broken list script ≡ None
+    → has_jump script k slot ≡ true
+    → is_allowed_jump list script k slot ≡ true
+undisturbed-jump list script k slot outside has =
+    all_allowed list script k slot (disturbed_slot list script) (undisturbed-allowed list script k slot) script.events
+    (each-none (disturbed_slot list script) script.events outside) has
 
 no_jumps-step : (k slot : ℕ) (e : Event) (events : List Event) (found : Option ℤ) → jump_in k slot e ≡ found
     → (list_any (λ e. is_some (jump_in k slot e)) events ≡ false → sum_ℤ (filter_map (jump_in k slot) events) ≡ pos 0)

@@ -35,7 +35,7 @@ messages_before-few list script valid valid_script k (suc slot) =
       valid.buffers.1,
     )
 
-new_messages-few : (p : ℕ) (delivered : Option Delivered) → length (new_messages p delivered) ≤ 1
+pub new_messages-few : (p : ℕ) (delivered : Option Delivered) → length (new_messages p delivered) ≤ 1
 new_messages-few p None = omega arith
 new_messages-few p (Some delivered) = by_sender (delivered.sender == p)
   where
@@ -43,7 +43,7 @@ new_messages-few p (Some delivered) = by_sender (delivered.sender == p)
     by_sender true = omega arith
     by_sender false = omega arith
 
-in_messages-few : (list : Medl) (script : Script) (history : History) (k p : ℕ)
+pub in_messages-few : (list : Medl) (script : Script) (history : History) (k p : ℕ)
     → length (in_messages list script history k p) ≤ 1 + length history
 in_messages-few list script [] k p = omega arith
 in_messages-few list script (row ∷ history) k p =
@@ -55,7 +55,7 @@ in_messages-few list script (row ∷ history) k p =
       new_messages-few p (delivered_of list script history row k),
     )
 
-status_messages-count : (list : Medl) (script : Script) (history : History) (k : ℕ)
+pub status_messages-count : (list : Medl) (script : Script) (history : History) (k : ℕ)
     → length (status_messages list script history k) ≡ 1 + length history
 status_messages-count list script [] k = omega arith
 status_messages-count list script (row ∷ history) k =
@@ -67,7 +67,7 @@ status_messages-count list script (row ∷ history) k =
       status_messages-count list script history k,
     )
 
-ring_messages-few : (list : Medl) (script : Script) (history : History) (k : ℕ) (from : Source)
+pub ring_messages-few : (list : Medl) (script : Script) (history : History) (k : ℕ) (from : Source)
     → length (ring_messages list script history k from) ≤ 1 + length history
 ring_messages-few list script history k source.Status = omega (arith, status_messages-count list script history k)
 ring_messages-few list script history k (source.Node p) = in_messages-few list script history k p

@@ -1,11 +1,10 @@
 -- Any legal beginning of a run can be continued legally: each frame carries its host's newest message, and each read
 -- gets the newest of its ring.
-use Rattle.std.proofs.Common.{◌≡◌, ℕ, zero, suc, ◌+◌, ◌<◌, ◌≤◌, Bool, true, false, ◌&&◌, ◌||◌, not, List, [], ◌∷◌}
+use Rattle.std.proofs.Common.{◌≡◌, ℕ, zero, suc, ◌+◌, ◌<◌, ◌≤◌, Bool, true, false, ◌&&◌, List, [], ◌∷◌}
 use Rattle.std.proofs.Common.{◌++◌, length, drop, Option, Some, None, if◌then◌else◌, refl, ap, sym, ◌∙◌, subst, arith}
-use Rattle.std.specs.Prelude.{◌==◌, map, nat_le, reverse}
+use Rattle.std.specs.Prelude.{map, reverse}
 use Rattle.std.specs.List.{AllByRecursion, list_all}
-use Rattle.std.proofs.lemmas.Bool.{and_parts, eq-eqb, eqb-true, false≢true, le-leb, leb-true}
-use Rattle.std.proofs.lemmas.Grind.{reverse_onto}
+use Rattle.std.proofs.lemmas.Bool.{eq-eqb, le-leb}
 use Rattle.std.proofs.lemmas.List.{length-map}
 use Rattle.std.proofs.lemmas.List.FromFn.{get_or-map-range_with_len}
 use Rattle.ttp_base.specs.NodeSet.{below}
@@ -14,19 +13,19 @@ use Rattle.ttp_world.specs.declared.medl.Medl.{Medl}
 use Rattle.ttp_world.specs.declared.node.Chosen.{Chosen}
 use Rattle.ttp_world.specs.declared.node.Entry.{Entry}
 use Rattle.ttp_world.specs.declared.script.Script.{Script}
-use Rattle.ttp_world.specs.declared.script.Source.{Source}
-use Rattle.ttp_world.specs.declared.script.Source.TheVariants as source
 use Rattle.ttp_world.specs.Diary.{History, entry_of}
 use Rattle.ttp_world.specs.Legal.{is_between, is_legal_message, are_same_numbers, are_legal_messages, ReadMessage}
-use Rattle.ttp_world.specs.Legal.{read_messages, is_legal_read, are_legal_reads, is_legal_slot, are_legal_slots}
-use Rattle.ttp_world.specs.Legal.{is_same_source, is_same_ring, all_reads, is_not_older, never_fall, IsLegal}
-use Rattle.ttp_world.specs.Messages.{message_of, ring_messages, newest_number}
+use Rattle.ttp_world.specs.Legal.{read_messages, is_legal_read, are_legal_reads, is_legal_slot}
+use Rattle.ttp_world.specs.Legal.{is_same_ring, all_reads, is_not_older, never_fall, IsLegal}
+use Rattle.ttp_world.specs.Messages.{message_of, newest_number}
 use Rattle.ttp_world.specs.Outgoing.{messages_before, out_messages, nothing_chosen, message_chosen}
 use Rattle.ttp_world.specs.Script.{HostRead, reads_in}
 use Rattle.ttp_world.specs.World.{BegunSlot, SlotNumbers, Numbers, slot_after, is_loaded, chosen_of}
 use Rattle.ttp_world.specs.World.{row_in, world}
 use Rattle.ttp_world.proofs.Carried.{message_of-row_in, AreOfHosts}
-use Rattle.ttp_world.proofs.LegalShapes.{are_legal_slots-parts, slots-legal, reads-never_fall}
+use Rattle.ttp_world.proofs.LegalReads.{newest_of, AreUpTo, up_to-next, reads-up_to, reverse-all, same_read, not_older_if}
+use Rattle.ttp_world.proofs.LegalShapes.{slots-legal, reads-never_fall}
+use Rattle.ttp_world.proofs.LineLists.{each-append}
 use Rattle.ttp_world.proofs.Rings.{newest_written, newest_read}
 use Rattle.ttp_world.proofs.Slots.{length-row_in}
 use Rattle.ttp_world.proofs.Worlds.{row_of_world, length-world, row_of_world-told}
@@ -93,14 +92,6 @@ messages-legal s chosen newest =
 
 -- Reads.
 
--- the number of the newest message of a ring in a history
-abbrev pub newest_of : Medl → Script → History → HostRead → ℕ
-newest_of list script history read = newest_number (ring_messages list script history read.host read.source)
-
--- reads that got no newer message
-abbrev AreUpTo : (HostRead → ℕ) → List ReadMessage → Type 0
-AreUpTo most rs = AllByRecursion (λ r. r.number ≤ most r.read) rs
-
 -- reads that got the newest one
 abbrev AreAt : (HostRead → ℕ) → List ReadMessage → Type 0
 AreAt most rs = AllByRecursion (λ r. r.number ≡ most r.read) rs
@@ -108,15 +99,6 @@ AreAt most rs = AllByRecursion (λ r. r.number ≡ most r.read) rs
 at-up_to : (most : HostRead → ℕ) (rs : List ReadMessage) → AreAt most rs → AreUpTo most rs
 at-up_to most [] at = tt
 at-up_to most (r ∷ rs) at = (omega (arith, at.0), at-up_to most rs at.1)
-
--- nor are they newer than the newest one a slot later
-up_to-next : (list : Medl) (script : Script) (row : List Entry) (history : History) (rs : List ReadMessage)
-    → AreUpTo (newest_of list script history) rs → AreUpTo (newest_of list script (row ∷ history)) rs
-up_to-next list script row history [] up = tt
-up_to-next list script row history (r ∷ rs) up = (
-  omega (arith, up.0, newest_read list script row history r.read.host r.read.source),
-  up_to-next list script row history rs up.1,
-)
 
 read_messages-at : (most : HostRead → ℕ) (reads : List HostRead) → AreAt most (read_messages reads (map most reads))
 read_messages-at most [] = tt
@@ -143,33 +125,6 @@ reads-legal list script row history reads =
 
 -- Reads never fall.
 
-AllByRecursion-append : {X : Type 0} (P : X → Type 0) (xs ys : List X) → AllByRecursion P xs → AllByRecursion P ys
-    → AllByRecursion P (xs ++ ys)
-AllByRecursion-append P [] ys p q = q
-AllByRecursion-append P (x ∷ xs) ys p q = (p.0, AllByRecursion-append P xs ys p.1 q)
-
-AllByRecursion-reverse : {X : Type 0} (P : X → Type 0) (xs : List X) → AllByRecursion P xs
-    → AllByRecursion P (reverse xs)
-AllByRecursion-reverse P [] p = tt
-AllByRecursion-reverse P (x ∷ xs) p =
-    subst (AllByRecursion P) (sym (reverse_onto xs x []))
-    (AllByRecursion-append P (reverse xs) (x ∷ []) (AllByRecursion-reverse P xs p.1) (p.0, tt))
-
-same_source : (a b : Source) → is_same_source a b ≡ true → a ≡ b
-same_source source.Status source.Status is = refl
-same_source source.Status (source.Node k) is = absurd (false≢true is)
-same_source (source.Node j) source.Status is = absurd (false≢true is)
-same_source (source.Node j) (source.Node k) is = ap source.Node (eqb-true j k is)
-
-same_read : (a b : HostRead) → is_same_ring a b ≡ true → a ≡ b
-same_read a b is =
-    let parts = and_parts (a.host == b.host) (is_same_source a.source b.source) is in
-    λ i. record { host = eqb-true a.host b.host parts.0 i; source = same_source a.source b.source parts.1 i }
-
-not_older_if : (same : Bool) (old new : ℕ) → (same ≡ true → old ≤ new) → (not same || nat_le old new) ≡ true
-not_older_if true old new up = le-leb old new (up refl)
-not_older_if false old new up = refl
-
 -- a read of the newest message is not older than one that got no newer
 is_not_older-newest : (most : HostRead → ℕ) (r earlier : ReadMessage) → r.number ≡ most r.read
     → earlier.number ≤ most earlier.read → is_not_older r earlier ≡ true
@@ -181,41 +136,10 @@ never_fall-newest : (most : HostRead → ℕ) (rs earlier : List ReadMessage) �
     → never_fall earlier ≡ true → never_fall (rs ++ earlier) ≡ true
 never_fall-newest most [] earlier at up falls = falls
 never_fall-newest most (r ∷ rs) earlier at up falls =
-    let others = AllByRecursion-append (λ e. e.number ≤ most e.read) rs earlier (at-up_to most rs at.1) up in
+    let others = each-append (λ e. e.number ≤ most e.read) rs earlier (at-up_to most rs at.1) up in
     let here = list_all-each (is_not_older r) (λ e. e.number ≤ most e.read) (rs ++ earlier)
     (λ e late. is_not_older-newest most r e at.0 late) others in
     λ i. here i && never_fall-newest most rs earlier at.1 up falls i
-
--- no read of a legal run got a message that is newer than the ring's newest
-legal_reads-up_to : (list : Medl) (script : Script) (before after : History) (rs : List ReadMessage)
-    → list_all (is_legal_read list script before after) rs ≡ true → AreUpTo (newest_of list script after) rs
-legal_reads-up_to list script before after [] legal = tt
-legal_reads-up_to list script before after (r ∷ rs) legal =
-    let parts = and_parts (is_legal_read list script before after r) _ legal in
-    let high = (and_parts (nat_le (newest_of list script before r.read) r.number)
-    (nat_le r.number (newest_of list script after r.read)) parts.0).1 in (
-      leb-true r.number (newest_of list script after r.read) high,
-      legal_reads-up_to list script before after rs parts.1,
-    )
-
-reads-up_to : (list : Medl) (script : Script) (numbers : Numbers)
-    → are_legal_slots list script (world list script numbers) numbers ≡ true
-    → AreUpTo (newest_of list script (world list script numbers)) (all_reads script numbers)
-reads-up_to list script [] legal = tt
-reads-up_to list script (new ∷ numbers) legal =
-    let before = world list script numbers in
-    let after = world list script (new ∷ numbers) in
-    let parts = are_legal_slots-parts list script new numbers legal in
-    let new_reads = λ (slot : ℕ). read_messages (reads_in script slot) new.read in
-    let here = legal_reads-up_to list script before after (new_reads (length before))
-    (and_parts (length (reads_in script (length before)) == length new.read)
-    (list_all (is_legal_read list script before after) (new_reads (length before))) parts.reads).1 in
-    AllByRecursion-append (λ r. r.number ≤ newest_of list script after r.read) (reverse (new_reads (length numbers)))
-    (all_reads script numbers)
-    (AllByRecursion-reverse (λ r. r.number ≤ newest_of list script after r.read) (new_reads (length numbers))
-    (subst (λ slot. AreUpTo (newest_of list script after) (new_reads slot)) (length-world list script numbers) here))
-    (up_to-next list script (row_of_world list script new numbers) before (all_reads script numbers)
-    (reads-up_to list script numbers parts.older))
 
 -- The slot after legal numbers.
 
@@ -249,7 +173,7 @@ legal-next list script numbers chosen legal newest =
     let up = up_to-next list script row history (all_reads script numbers)
     (reads-up_to list script numbers (slots-legal list script numbers legal)) in
     let falls = never_fall-newest most (reverse (reads (length numbers))) (all_reads script numbers)
-    (AllByRecursion-reverse (λ r. r.number ≡ most r.read) (reads (length numbers)) at) up
+    (reverse-all (λ r. r.number ≡ most r.read) (reads (length numbers)) at) up
     (reads-never_fall list script numbers legal) in
     λ i. (slot i && slots-legal list script numbers legal i) && falls i
 

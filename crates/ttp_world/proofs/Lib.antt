@@ -15,8 +15,10 @@ pub mod HostLists
 pub mod HostMessages
 pub mod HostPayloads
 pub mod LegalNumbers
+pub mod LegalReads
 pub mod LegalRuns
 pub mod LegalShapes
+pub mod LegalSlots
 pub mod LineLists
 pub mod LineNumbers
 pub mod LineWords

@@ -19,7 +19,8 @@ use Rattle.ttp_world.specs.Outgoing.{zeros_of, messages_before, message_chosen, 
 use Rattle.ttp_world.specs.Script.{is_host_event, write_in, read_in, writes_in, reads_in, payload_of_host}
 use Rattle.ttp_world.specs.World.{Numbers, slot_after, chosen_of, row_in, world}
 use Rattle.ttp_world.proofs.Carried.{AreOfHosts}
-use Rattle.ttp_world.proofs.LegalRuns.{newest_of, AreNewest, legal-next}
+use Rattle.ttp_world.proofs.LegalReads.{newest_of}
+use Rattle.ttp_world.proofs.LegalRuns.{AreNewest, legal-next}
 use Rattle.ttp_world.proofs.Rings.{out_messages-first}
 
 -- Message 0 is chosen for each node.

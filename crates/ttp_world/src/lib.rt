@@ -39,6 +39,3 @@ pub use script::{
     HOST_EVENT_LIMIT, JUMP_LIMIT, LAST_FLIPPED_BIT, PAYLOAD_LIMIT, Payload, SLOT_LIMIT, Script,
     Source,
 };
-
-#[cfg(test)]
-mod tests;

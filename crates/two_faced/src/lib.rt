@@ -31,9 +31,6 @@ mod faults;
 mod law;
 mod run;
 mod seen;
-#[cfg(test)]
-mod tests;
-#[cfg(test)]
 mod worked_cases;
 
 pub use crate::bounds::bound;

@@ -5,3 +5,10 @@ pub mod Telling
 pub mod Puts
 pub mod Binary
 pub mod Hosts
+pub mod HostLines
+pub mod Tables
+pub mod Noting
+pub mod PortLists
+pub mod Going
+pub mod LaterSlots
+pub mod WaveParts

@@ -1,3 +1,5 @@
+pub mod Moment
+pub mod Places
 pub mod Telling
 pub mod Values
 pub mod Variables

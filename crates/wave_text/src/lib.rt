@@ -9,19 +9,24 @@
 //! definition has them. [`laws::lines_of_waveforms`] says that each line of a waveform is one line, and
 //! [`laws::values_tell_lines`] that the values of a node tell its line again.
 //!
-//! The crate reads no text: a slot is a value of whole_trace. What goes over a whole trace is not here yet.
+//! [`put_wave`] writes the waveform of a trace. The crate reads no text: a trace is a value of whole_trace, and
+//! its slots are gone over one after another, with nothing carried from slot to slot but the one before.
 #![tactic(auto)]
 
 mod change;
 mod declaration;
 mod declare;
 mod draft;
+mod head;
 pub mod laws;
+mod newest;
+mod place;
 mod port;
+mod ports;
+mod slot;
 mod value;
 mod variable;
+mod wave;
 
 pub use variable::{ClusterVariable, NodeVariable, PortVariable};
-
-#[cfg(test)]
-mod tests;
+pub use wave::{WaveFault, put_wave};

@@ -1,6 +1,5 @@
 //! The values of variables.
 ghost use Rattle.std.specs.Prelude.{◌≡◌, ◌+◌, ◌≤◌, [], ◌++◌, length, codes};
-ghost use Rattle.line_reader.specs.TraceLines.{word_text};
 ghost use Rattle.shown_slot.specs.Nodes.{agreement, sender_among, clock_range};
 ghost use Rattle.ttp_base.specs.NodeSet.{set_bits};
 ghost use Rattle.wave_text.specs.Values.{bit_text, number_or_nothing, agreement_text, sender_text, spread_text};
@@ -11,7 +10,8 @@ use crate::draft::{Draft, put_binary, put_number, put_wires};
 use crate::variable::{ClusterVariable, NodeVariable, PortVariable};
 use line_reader::Word;
 use shown_slot::{
-    Message, Sender, active_bits, agreement, clock_range, is_active, left_bits, sender_among, sends,
+    Message, Sender, active_bits, agreement, clock_range, is_active, left_bits, sender_among,
+    sends, word_text,
 };
 use ttp_world::{Ack, Payload};
 use whole_trace::NodeShown;
@@ -110,29 +110,6 @@ fn phase_text(word: Word) -> &'static str
         | Word::Incorrect
         | Word::Invalid
         | Word::Null => "active",
-    }
-}
-
-fn word_text(word: Word) -> &'static str
-    ensures text { result.now ≡ word_text word }
-    ensures short { length result.now ≤ 14 }
-{
-    match word {
-        Word::Off => "off",
-        Word::Wait => "wait",
-        Word::Retry => "retry",
-        Word::Gone => "gone",
-        Word::Start => "start",
-        Word::Join => "join",
-        Word::Send => "send",
-        Word::Correct => "correct",
-        Word::Tentative => "tentative",
-        Word::Incorrect => "incorrect",
-        Word::Invalid => "invalid",
-        Word::Null => "null",
-        Word::Denied => "denied",
-        Word::Unacknowledged => "unacknowledged",
-        Word::Clique => "clique",
     }
 }
 

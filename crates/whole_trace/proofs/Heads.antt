@@ -31,6 +31,11 @@ few_nodes h is =
       | inr wide ↦ within 4 24 h.nodes (and_parts (h.version == 2) (is_within 4 24 h.nodes) wide).1
     ]
 
+pub few_slots : (h : Head) → IsTrue (is_head h) → (1 ≤ h.slots) × (h.slots ≤ 20000)
+few_slots h is =
+    let nodes = ((h.version == 1) && is_within 4 16 h.nodes) || ((h.version == 2) && is_within 4 24 h.nodes) in
+    within 1 20000 h.slots (and_parts (nodes && is_within 1 64 h.rounds) (is_within 1 20000 h.slots) is).1
+
 -- Going on.
 
 next-head : (head : Head) (slot k : ℕ) → IsTrue (is_head head) → IsTrue (has_head (next_node head slot k))

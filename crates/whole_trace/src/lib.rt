@@ -18,6 +18,3 @@ mod whole;
 pub use shown::{Head, HostLine, NodeShown};
 pub use slots::{Hosts, SlotShown, Slots};
 pub use whole::{Whole, read_whole};
-
-#[cfg(test)]
-mod tests;

@@ -214,6 +214,13 @@ impl<'a> Model for Slots<'a> {
 }
 
 impl<'a> Slots<'a> {
+    /// The same slots once more, for a second walk from here on.
+    pub fn again(&self) -> Slots<'a>
+        ensures { result ≡ self.now }
+    {
+        Slots { at: self.at }
+    }
+
     /// The slots from a place on.
     pub(crate) fn starting(at: Place<'a>) -> Slots<'a>
         requires { IsSlotPlace at.due (lines_of at.rest.now) }

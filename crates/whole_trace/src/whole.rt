@@ -1,5 +1,5 @@
 //! A trace as a whole.
-ghost use Rattle.std.specs.Prelude.{◌≡◌, ◌≤◌};
+ghost use Rattle.std.specs.Prelude.{◌≡◌, ◌≤◌, length};
 ghost use Rattle.whole_trace.specs.Whole.{whole_in};
 
 use crate::due::{Due, Outline, ending};
@@ -34,9 +34,11 @@ impl<'a> Model for Whole<'a> {
 
 impl<'a> Whole<'a> {
     /// What the first line says.
-    #[tactic(auto, using(crate::proofs::Heads::few_nodes))]
+    #[tactic(auto, using(crate::proofs::Heads::few_nodes, crate::proofs::Heads::few_slots))]
     pub fn head(&self) -> Head
         ensures value { result ≡ self.now.head }
+        ensures slots { length self.now.slots ≡ result.slots }
+        ensures some { (1 ≤ result.slots) × (result.slots ≤ 20000) }
         ensures nodes { (4 ≤ result.nodes) × (result.nodes ≤ 24) }
     {
         self.outline.head

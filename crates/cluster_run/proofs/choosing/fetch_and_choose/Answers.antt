@@ -1,18 +1,14 @@
-use Rattle.std.proofs.Common.{◌≡◌, [], length, All, sym, ap, subst, ◌∙◌, arith}
+use Rattle.std.proofs.Common.{[], All, sym, ap, subst, ◌∙◌}
 use Rattle.std.proofs.lemmas.List.Elements.{All-nil}
-use Rattle.host_port.specs.Rings.{PortState}
 use Rattle.cluster_run.specs.Choosing.{next_slot}
-use Rattle.cluster_run.specs.Ports.{ring_of}
 use Rattle.cluster_run.specs.Report.{writes_shown}
 use Rattle.cluster_run.specs.Sending.{WritesBytes}
 use Rattle.cluster_run.proofs.Alone.{have_chosen_alone, may_fetch_alone}
-use Rattle.cluster_run.proofs.PortLists.{same-count}
 use Rattle.cluster_run.proofs.Sends.{more_bytes}
 use Rattle.cluster_run.proofs.choosing.fetch_and_choose.Goals as goal
 
 pub fetch_each-requires-clause-may : goal.fetch_each-requires-clause-may
-fetch_each-requires-clause-may g c κs within =
-    may_fetch_alone c.args.ports.now c.requires.count c.requires.ports c.requires.may.begun
+fetch_each-requires-clause-may g c κs within = may_fetch_alone c.requires.count c.requires.may.begun
 
 pub returns-clause-bytes : goal.returns-clause-bytes
 returns-clause-bytes g c =
@@ -28,12 +24,9 @@ pub returns-clause-chooses : goal.returns-clause-chooses
 returns-clause-chooses g c = λ numbers begun.
     let list = c.args.list.now in
     let script = c.args.script.now in
-    let ports = c.args.ports.now in
     let ends = c.args.ends.now in
-    let count : length ends ≡ length list.slots =
-    same-count ring_of (λ (p : PortState). p.outgoing) ends ports c.requires.ports ∙ c.requires.count in
     let bytes = more_bytes list script c.args.slot c.requires.bytes
     (subst (All WritesBytes) (sym c.requires.quiet) (All-nil WritesBytes)) in
-    have_chosen_alone ends c.args.chosen.now c.requires.script bytes count begun c.requires.quiet
+    have_chosen_alone ends c.args.chosen.now c.requires.script bytes c.requires.count begun c.requires.quiet
     (λ k node. c.in_ok-fetch_each.ensures.fetches (next_slot list script numbers) begun.begun k
-    (omega (arith, node, c.requires.count)))
+    (rw c.requires.count node))

@@ -1,24 +1,23 @@
-use Rattle.std.proofs.Common.{◌≡◌, ◌+◌, ◌≤◌, [], length, All}
+use Rattle.std.proofs.Common.{◌≡◌, ◌+◌, ◌<◌, ◌≤◌, [], length, All, get_or, None}
 use Rattle.std.proofs.Common.{sym, ap, subst, ◌∙◌, arith}
 use Rattle.std.specs.List.{filter_map}
+use Rattle.std.specs.Option.{ForSome}
 use Rattle.std.proofs.lemmas.List.{with_items_is}
 use Rattle.ttp_world.specs.declared.script.TheConstants.{EVENT_LIMIT}
-use Rattle.ttp_world.specs.Script.{write_at}
-use Rattle.host_port.specs.Rings.{PortState}
+use Rattle.ttp_world.specs.Medl.{plan_at}
+use Rattle.ttp_world.specs.Script.{write_at, writes_in}
+use Rattle.host_port.specs.Rings.{HostState}
 use Rattle.cluster_run.specs.Choosing.{AreBytesBefore, HaveChosen, next_slot}
-use Rattle.cluster_run.specs.Ports.{host_at, ring_of}
-use Rattle.cluster_run.specs.Sending.{AreLent, MayLend, MayWriteAll, WritesBytes, after_writes, write_lines}
-use Rattle.cluster_run.proofs.PortLists.{same-count}
+use Rattle.cluster_run.specs.Ends.{host_at}
+use Rattle.cluster_run.specs.Sending.{AreLent, MayLend, MaySettle, MayWriteAll, WritesBytes, after_writes, write_lines}
 use Rattle.cluster_run.proofs.Sends.{few_writes, have_chosen, lines_shown, may_fetch_all, may_lend, may_settle}
 use Rattle.cluster_run.proofs.Sends.{may_write_all, more_bytes}
 use Rattle.cluster_run.proofs.choosing.write_and_choose.Goals as goal
 
 pub lend_fetchers-requires-clause-rings : goal.lend_fetchers-requires-clause-rings
 lend_fetchers-requires-clause-rings g c =
-    let ends = c.args.ends.items in
-    let count : length ends ≡ length c.args.list.now.slots =
-    same-count ring_of (λ (p : PortState). p.outgoing) ends c.args.ports.now c.requires.ports ∙ c.requires.count in
-    subst (MayLend c.args.seats.now) (sym c.as_mut_slice.ensures.value) (may_lend count c.requires.may.begun)
+    subst (MayLend c.args.seats.now) (sym c.as_mut_slice.ensures.value)
+    (may_lend c.requires.count c.requires.may.begun)
 
 pub write_and_fetch-ends-requires-clause-writes : goal.write_and_fetch-ends-requires-clause-writes
 write_and_fetch-ends-requires-clause-writes g c κs within =
@@ -38,32 +37,53 @@ pub write_and_fetch-ends-requires-clause-fetchers : goal.write_and_fetch-ends-re
 write_and_fetch-ends-requires-clause-fetchers g c κs within =
     let begun = c.requires.may.begun in
     let s = next_slot c.args.list.now c.args.script.now c.requires.may.numbers in
-    let lent = subst (λ es. AreLent s es c.in_ok-fetchers.fetchers.items) c.as_mut_slice.ensures.value
-    (c.in_ok-fetchers.ensures.fetchers s begun.begun) in
-    may_fetch_all c.args.ports.now c.requires.ports lent
+    may_fetch_all (c.in_ok-fetchers.ensures.fetchers s begun.begun)
 
 pub settle_fetchers-requires-clause-fetchers_count : goal.settle_fetchers-requires-clause-fetchers_count
 settle_fetchers-requires-clause-fetchers_count g c =
     let begun = c.requires.may.begun in
     let s = next_slot c.args.list.now c.args.script.now c.requires.may.numbers in
     let lent = c.in_ok-fetchers.ensures.fetchers s begun.begun in
-    let ends = c.args.ends.items in
+    let lent_ends = with_items_is c.args.ends c.lend_fetchers.new.ends
+    (omega (arith, ap length c.lend_fetchers.ensures.ends, c.as_mut_slice.ensures.len))
+    ∙ c.lend_fetchers.ensures.ends ∙ c.as_mut_slice.ensures.value in
     omega (
       arith,
       lent.count,
       ap length c.as_mut_slice.ensures.value,
-      same-count ring_of (λ (p : PortState). p.outgoing) ends c.args.ports.now c.requires.ports,
+      ap length c.as_mut_slice-2.ensures.value,
+      ap length lent_ends,
+      c.write_and_fetch-ends.ensures.count,
       c.write_and_fetch-ends.ensures.fetchers_count,
     )
 
 pub settle_fetchers-requires-clause-fetchers : goal.settle_fetchers-requires-clause-fetchers
-settle_fetchers-requires-clause-fetchers g c = λ k port here f is.
+settle_fetchers-requires-clause-fetchers g c = λ k near.
+    let list = c.args.list.now in
+    let script = c.args.script.now in
     let begun = c.requires.may.begun in
-    let s = next_slot c.args.list.now c.args.script.now c.requires.may.numbers in
+    let s = next_slot list script c.requires.may.numbers in
+    let ends = c.args.ends.items in
+    let lent_ends = with_items_is c.args.ends c.lend_fetchers.new.ends
+    (omega (arith, ap length c.lend_fetchers.ensures.ends, c.as_mut_slice.ensures.len))
+    ∙ c.lend_fetchers.ensures.ends ∙ c.as_mut_slice.ensures.value in
     let lent = subst (λ es. AreLent s es c.in_ok-fetchers.fetchers.items) c.as_mut_slice.ensures.value
     (c.in_ok-fetchers.ensures.fetchers s begun.begun) in
-    may_settle c.args.ports.now c.write_and_fetch-ends.result.2.items c.requires.count c.requires.ports
-    begun lent c.write_and_fetch-ends.ensures.fetches k port here f is
+    let end : host_at c.as_mut_slice-2.result.now k ≡ after_writes (writes_in script c.args.slot) k (host_at ends k) =
+    ap (λ xs. host_at xs k) c.as_mut_slice-2.ensures.value ∙ c.write_and_fetch-ends.ensures.ends k
+    ∙ (λ i. after_writes (c.requires.places i) k (host_at (lent_ends i) k)) in
+    let there : k < length ends =
+    omega (
+      arith,
+      near,
+      ap length c.as_mut_slice-2.ensures.value,
+      ap length lent_ends,
+      c.write_and_fetch-ends.ensures.count,
+    ) in
+    subst (λ (e : HostState). ForSome (get_or c.write_and_fetch-ends.result.2.items k None)
+    (MaySettle e (plan_at list k).payload)) (sym end)
+    (may_settle c.write_and_fetch-ends.result.2.items (writes_in script c.args.slot) c.requires.count begun lent
+    c.write_and_fetch-ends.ensures.fetches k there)
 
 pub returns-clause-bytes : goal.returns-clause-bytes
 returns-clause-bytes g c =
@@ -82,16 +102,32 @@ returns-clause-lines g c =
     c.requires.script
     begun.count begun.written
 
+pub returns-clause-count : goal.returns-clause-count
+returns-clause-count g c =
+    let lent_ends = with_items_is c.args.ends c.lend_fetchers.new.ends
+    (omega (arith, ap length c.lend_fetchers.ensures.ends, c.as_mut_slice.ensures.len))
+    ∙ c.lend_fetchers.ensures.ends ∙ c.as_mut_slice.ensures.value in
+    let after = with_items_is c.write_and_fetch-ends.result.0 c.settle_fetchers.new.ends
+    (omega (
+      arith,
+      c.settle_fetchers.ensures.ends_count,
+      c.as_mut_slice-2.ensures.len,
+      ap length c.as_mut_slice-2.ensures.value,
+    )) in
+    omega (
+      arith,
+      ap length after,
+      c.settle_fetchers.ensures.ends_count,
+      ap length c.as_mut_slice-2.ensures.value,
+      c.write_and_fetch-ends.ensures.count,
+      ap length lent_ends,
+    )
+
 pub returns-clause-chooses : goal.returns-clause-chooses
 returns-clause-chooses g c = λ numbers begun.
     let list = c.args.list.now in
     let script = c.args.script.now in
-    let ports = c.args.ports.now in
-    let outgoing = λ (p : PortState). p.outgoing in
-    let ends = c.args.ends.items in
     let s = next_slot list script numbers in
-    let count : length ends ≡ length list.slots =
-    same-count ring_of outgoing ends ports c.requires.ports ∙ c.requires.count in
     let lent_ends = with_items_is c.args.ends c.lend_fetchers.new.ends
     (omega (arith, ap length c.lend_fetchers.ensures.ends, c.as_mut_slice.ensures.len))
     ∙ c.lend_fetchers.ensures.ends ∙ c.as_mut_slice.ensures.value in
@@ -103,16 +139,21 @@ returns-clause-chooses g c = λ numbers begun.
     let after = with_items_is c.write_and_fetch-ends.result.0 c.settle_fetchers.new.ends
     (omega (
       arith,
-      same-count ring_of outgoing c.settle_fetchers.new.ends ports c.in_ok-settle_fetchers.ensures.ports,
+      c.settle_fetchers.ensures.ends_count,
       c.as_mut_slice-2.ensures.len,
       ap length c.as_mut_slice-2.ensures.value,
-      same-count ring_of ring_of c.write_and_fetch-ends.result.0.items _ c.write_and_fetch-ends.ensures.rings,
-      ap length lent_ends,
-      same-count ring_of outgoing ends ports c.requires.ports,
     )) in
     subst (HaveChosen list script numbers c.settle_fetchers.new.chosen) (sym after)
     (have_chosen c.as_mut_slice-2.result.now c.write_and_fetch-ends.result.2.items c.args.chosen.now
-    c.requires.script bytes count begun lent c.write_and_fetch-ends.ensures.fetches
+    c.requires.script bytes c.requires.count begun lent c.write_and_fetch-ends.ensures.fetches
     (λ k. ap (λ xs. host_at xs k) c.as_mut_slice-2.ensures.value ∙ c.write_and_fetch-ends.ensures.ends k
     ∙ (λ i. after_writes (c.requires.places i) k (host_at (lent_ends i) k)))
-    (λ k node. c.in_ok-settle_fetchers.ensures.settles k (omega (arith, node, c.requires.count))))
+    (λ k node. c.settle_fetchers.ensures.settles k
+    (omega (
+      arith,
+      node,
+      c.requires.count,
+      ap length c.as_mut_slice-2.ensures.value,
+      ap length lent_ends,
+      c.write_and_fetch-ends.ensures.count,
+    ))))

@@ -3,4 +3,4 @@ use Rattle.cluster_run.proofs.HandingOn.{AreHandedOn}
 use Rattle.cluster_run.proofs.ending.end_part.Given as goal
 
 abbrev pub invariant-loop-j : goal.invariant-loop-j
-invariant-loop-j g l = AreHandedOn l.ports (outcomes_of l.seats) l.j l.fn.ends l.ends l.delivered
+invariant-loop-j g l = AreHandedOn (outcomes_of l.seats) l.j l.initial.desks l.desks

@@ -3,6 +3,7 @@ use Rattle.std.specs.Prelude.{vec_len, vec_capacity}
 use Rattle.std.proofs.lemmas.List.{take_more, take_all, drop_more, take-append-drop}
 use Rattle.ttp_world.specs.declared.host_lines.HostRead.{HostRead}
 use Rattle.ttp_world.specs.declared.script.Source.TheVariants as source
+use Rattle.std.specs.Vec.Iter.{into_iter_items}
 use Rattle.cluster_run.proofs.LineOrder.{AreInOrder, line_taken, line_missing, all_in_order}
 use Rattle.cluster_run.proofs.reading.in_order.Goals as goal
 use Rattle.cluster_run.proofs.reading.in_order.Goals.{in-Some, in_default}
@@ -15,9 +16,9 @@ loop-read-preserved c =
     let r = get_or reads i d in
     let done = take i reads in
     let rest = drop (i + 1) reads in
-    let whole = map (λ q. q.items) c.args.queues.now in
-    let before = map (λ q. q.items) c.loop-read.queues in
-    let after = map (λ q. q.items) c.next_line.new.queues in
+    let whole = map into_iter_items c.args.queues.now in
+    let before = map into_iter_items c.loop-read.queues in
+    let after = map into_iter_items c.next_line.new.queues in
     let lines = c.loop-read.lines.items in
     let so = c.loop-read.invariant.ordered in
     let next = sym (take_more reads i d c.loop-read-test.true) in
@@ -49,8 +50,8 @@ loop-read-preserved c =
 pub returns-clause-lines : goal.returns-clause-lines
 returns-clause-lines c = λ due k.
     let reads = c.args.reads.now in
-    let whole = map (λ q. q.items) c.args.queues.now in
-    let now = map (λ q. q.items) c.loop-read.queues in
+    let whole = map into_iter_items c.args.queues.now in
+    let now = map into_iter_items c.loop-read.queues in
     let lines = c.loop-read.lines.items in
     all_in_order reads whole now lines
     (subst (λ xs. AreInOrder reads xs whole now lines)

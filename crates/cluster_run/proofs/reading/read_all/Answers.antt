@@ -1,39 +1,16 @@
-use Rattle.std.proofs.Common.{None, length, get_or, refl, ◌∙◌, subst, arith}
-use Rattle.std.proofs.lemmas.Option.{slice_get_read}
+use Rattle.std.proofs.Common.{None, get_or, subst}
 use Rattle.ttp_world.specs.declared.host_lines.HostRead.{HostRead}
 use Rattle.ttp_world.specs.declared.script.Source.TheVariants as source
 use Rattle.host_port.specs.Reading.{IsLeft}
 use Rattle.cluster_run.specs.Reading.{reader_in}
-use Rattle.cluster_run.proofs.PortLists.{at_any}
+use Rattle.cluster_run.proofs.Places.{at_any}
 use Rattle.cluster_run.proofs.ReadLoop.{left_at, within_at, read_next}
 use Rattle.cluster_run.proofs.reading.read_all.Goals as goal
 
-pub bounds-ports-k : goal.bounds-ports-k
-bounds-ports-k g c =
-    let so = c.loop-read.invariant in
-    omega (
-      arith,
-      within_at c.args.ports.now c.args.reads.now c.loop-read.read-index (record { host = 0; source = source.Status })
-          c.args.readers.now c.loop-read.readers c.from-k.result c.loop-read-test.true c.from-k.ensures so,
-      so.own.count,
-    )
-
 pub bounds-readers-k : goal.bounds-readers-k
 bounds-readers-k g c =
-    within_at c.args.ports.now c.args.reads.now c.loop-read.read-index (record { host = 0; source = source.Status })
+    within_at c.args.reads.now c.loop-read.read-index (record { host = 0; source = source.Status })
     c.args.readers.now c.loop-read.readers c.from-k.result c.loop-read-test.true c.from-k.ensures c.loop-read.invariant
-
-pub read_one-requires-clause-own : goal.read_one-requires-clause-own
-read_one-requires-clause-own g c κs within = λ x is.
-    let so = c.loop-read.invariant in
-    let ports = c.args.ports.now in
-    let near = within_at ports c.args.reads.now c.loop-read.read-index (record { host = 0; source = source.Status })
-    c.args.readers.now c.loop-read.readers c.from-k.result c.loop-read-test.true c.from-k.ensures so in
-    let count = so.own.count in
-    let port = slice_get_read ports (length ports) c.from-k.result c.index-ports-k.result refl
-    (omega (arith, near, count)) c.index-ports-k.is in
-    so.own.own c.from-k.result c.index-ports-k.result port x
-    (at_any c.loop-read.readers c.from-k.result None c.index-readers-k.result near ∙ is)
 
 pub read_one-requires-clause-left : goal.read_one-requires-clause-left
 read_one-requires-clause-left g c κs within =
@@ -41,19 +18,19 @@ read_one-requires-clause-left g c κs within =
     let reads = c.args.reads.now in
     let i = c.loop-read.read-index in
     let d : HostRead = record { host = 0; source = source.Status } in
-    let near = within_at c.args.ports.now reads i d c.args.readers.now c.loop-read.readers c.from-k.result
+    let near = within_at reads i d c.args.readers.now c.loop-read.readers c.from-k.result
     c.loop-read-test.true c.from-k.ensures so in
     subst (λ o. IsLeft (reader_in o (get_or reads i d).source))
     (at_any c.loop-read.readers c.from-k.result None c.index-readers-k.result near)
-    (left_at c.args.ports.now reads i d c.args.readers.now c.loop-read.readers c.from-k.result c.loop-read-test.true
+    (left_at reads i d c.args.readers.now c.loop-read.readers c.from-k.result c.loop-read-test.true
     c.from-k.ensures so)
 
 pub loop-read-preserved : goal.loop-read-preserved
 loop-read-preserved g c =
-    read_next c.args.ports.now c.args.reads.now c.loop-read.read-index (record { host = 0; source = source.Status })
-    c.args.readers.now c.loop-read.readers c.from-k.result c.index-ports-k.result c.index-readers-k.result
-    c.read_one.new.readers c.loop-read-test.true c.from-k.ensures c.loop-read.invariant c.index-ports-k.is
-    c.read_one.ensures.own (record {
+    read_next c.args.reads.now c.loop-read.read-index (record { host = 0; source = source.Status })
+    c.args.readers.now c.loop-read.readers c.from-k.result c.index-readers-k.result
+    c.read_one.new.readers c.loop-read-test.true c.from-k.ensures c.loop-read.invariant c.read_one.ensures.rings
+    (record {
       reads = c.read_one.ensures.reads;
       others = c.read_one.ensures.others;
       calls = c.read_one.ensures.calls;

@@ -1,5 +1,7 @@
-use Rattle.std.proofs.Common.{map, reverse, ap, ◌∙◌, arith}
+use Rattle.std.proofs.Common.{map, ap, ◌∙◌, arith}
 use Rattle.std.proofs.lemmas.List.{length-map}
+use Rattle.std.specs.Vec.Iter.{into_iter_items}
+use Rattle.cluster_run.specs.declared.nodes.Desk.{Desk}
 use Rattle.cluster_run.specs.Reading.{read_of, lines_by, queue_of}
 use Rattle.cluster_run.proofs.ReadLines.{lines_of_all}
 use Rattle.cluster_run.proofs.reading.read_lines.Goals as goal
@@ -7,13 +9,19 @@ use Rattle.cluster_run.proofs.reading.read_lines.Goals as goal
 pub returns-clause-lines : goal.returns-clause-lines
 returns-clause-lines c =
     let vecs = c.in_ok-queues.queues.items in
-    let queues = map (λ q. q.items) vecs in
-    let same = ap (map (λ q. q.items)) c.as_mut_slice.ensures.value in
+    let queues = map into_iter_items vecs in
+    let same = ap (map into_iter_items) c.as_mut_slice.ensures.value in
     lines_of_all c.args.reads.now c.args.readers.items queues c.from_vec.result
-    (omega (arith, length-map vecs (λ q. q.items), c.in_ok-queues.ensures.count, c.requires.own.count))
+    (omega (
+      arith,
+      length-map vecs into_iter_items,
+      c.in_ok-queues.ensures.queues_count,
+      length-map c.args.desks.now (λ (d : Desk). d.end),
+      c.requires.own.count,
+    ))
     c.in_ok-queues.ensures.queues
     (λ due. ap (map read_of) c.from_vec.ensures ∙ c.in_order.ensures.reads (rw same due))
     (λ due k.
     ap (lines_by k) c.from_vec.ensures
     ∙ c.in_order.ensures.lines (rw same due) k
-    ∙ ap (λ qs. reverse (queue_of qs k)) same)
+    ∙ ap (λ qs. queue_of qs k) same)

@@ -1,10 +1,11 @@
 use Rattle.std.proofs.Common.{◌≡◌, map, length, vec_capacity}
+use Rattle.std.specs.Vec.Iter.{into_iter_items}
 use Rattle.cluster_run.proofs.SettledReaders.{AreReadersSettled}
 use Rattle.cluster_run.proofs.reading.settle_readers.Given as goal
 
 abbrev pub invariant-loop-k : goal.invariant-loop-k
 invariant-loop-k l = record {
-  settled : AreReadersSettled l.ports l.k l.fn.readers.items l.readers.items l.fn.ends l.ends
-      (map (λ q. q.items) l.queues.items);
-  room : vec_capacity l.queues ≡ length l.ports;
+  settled : AreReadersSettled l.k l.fn.readers.items l.readers.items l.fn.desks l.desks
+      (map into_iter_items l.queues.items);
+  room : vec_capacity l.queues ≡ length l.fn.desks;
 }

@@ -4,6 +4,7 @@ use Rattle.ttp_world.specs.declared.medl.Medl.{Medl}
 use Rattle.ttp_world.specs.declared.node.Entry.{Entry}
 use Rattle.ttp_world.specs.declared.script.Script.{Script}
 use Rattle.ttp_world.specs.Diary.{History}
+use Rattle.cluster_run.specs.Ends.{desk_numbers}
 use Rattle.cluster_run.specs.Report.{node_shown, HaveEndedSlot}
 use Rattle.cluster_run.proofs.reporting.node_lines.Given as goal
 
@@ -12,6 +13,6 @@ invariant-loop-k l = record {
   count : vec_len l.lines ≡ l.k;
   room : length l.seats ≤ vec_capacity l.lines;
   shown : (list : Medl) (script : Script) (row : List Entry) (before : History)
-      → HaveEndedSlot list script row before l.seats l.delivered
+      → HaveEndedSlot list script row before l.seats (desk_numbers l.desks)
       → l.lines.items ≡ map (node_shown list script row before) (below l.k);
 }

@@ -1,41 +1,30 @@
-use Rattle.std.proofs.Common.{◌≡◌, ◌<◌, ◌∷◌, [], None, length, map, get_or, refl, sym, ap, ◌∙◌, subst}
+use Rattle.std.proofs.Common.{◌≡◌, ◌<◌, ◌∷◌, [], None, length, get_or, sym, ap, ◌∙◌, subst}
 use Rattle.std.proofs.Common.{below_more, arith}
 use Rattle.std.specs.Prelude.{IsSome}
 use Rattle.std.proofs.lemmas.List.{get_or_append_left, get_or_push}
 use Rattle.std.proofs.lemmas.Option.{slice_get-get_or}
 use Rattle.ttp_world.specs.World.{is_loaded}
 use Rattle.host_port.proofs.ReaderLists.{set_back}
-use Rattle.host_port.specs.Rings.{PortState}
 use Rattle.controller.proofs.Parts.{each-of}
-use Rattle.cluster_run.specs.Ports.{ring_of, host_at}
+use Rattle.cluster_run.specs.Ends.{host_at}
 use Rattle.cluster_run.specs.Sending.{fetcher_lent}
-use Rattle.cluster_run.proofs.PortLists.{same-count, same_at, at_any}
+use Rattle.cluster_run.proofs.Places.{at_any}
 use Rattle.cluster_run.proofs.sending.lend_fetchers.Goals as goal
 
-pub lend_one-requires-clause-own : goal.lend_one-requires-clause-own
-lend_one-requires-clause-own c =
-    let outgoing = λ (p : PortState). p.outgoing in
-    let own = ap (λ xs. map ring_of xs) c.loop-k.invariant.ends ∙ c.requires.ports in
-    let count = same-count ring_of outgoing c.loop-k.ends c.args.ports.now own in
-    ap ring_of (sym c.index-ends-k.is)
-    ∙ same_at ring_of outgoing c.loop-k.ends c.args.ports.now c.loop-k.k c.index-ends-k.result
-    c.index-ports-k.result own
-    (omega (arith, count, c.loop-k-test.true)) c.index-ends-k.is c.index-ports-k.is
-
-pub lend_one-requires-clause-ring : goal.lend_one-requires-clause-ring
-lend_one-requires-clause-ring c = λ loaded.
-    let k = c.loop-k.k in
-    let ends = c.args.ends.now in
-    let count = same-count ring_of (λ (p : PortState). p.outgoing) ends c.args.ports.now c.requires.ports in
-    let within : k < length ends = omega (arith, count, c.loop-k-test.true) in
-    let seat = slice_get-get_or c.args.seats.now k c.index-seats-k.result
-    (omega (arith, c.requires.seats, c.loop-k-test.true)) in
-    let is = sym (c.is_loaded-loaded.ensures c.requires.rings.slot k (each-of c.requires.rings.begun k seat))
-    ∙ loaded in
-    subst IsSome
-    (at_any ends k None c.index-ends-k.result within
-    ∙ ap (λ xs. get_or xs k c.index-ends-k.result) (sym c.loop-k.invariant.ends))
-    (c.requires.rings.rings k within is)
+pub lend_one-requires : goal.lend_one-requires
+lend_one-requires c = record {
+  ring = λ loaded.
+      let k = c.loop-k.k in
+      let ends = c.args.ends.now in
+      let within : k < length ends = omega (arith, ap length c.loop-k.invariant.ends, c.loop-k-test.true) in
+      let seat = slice_get-get_or c.args.seats.now k c.index-seats-k.result (omega (arith, c.requires.seats, within)) in
+      let is = sym (c.is_loaded-loaded.ensures c.requires.rings.slot k (each-of c.requires.rings.begun k seat))
+      ∙ loaded in
+      subst IsSome
+      (at_any ends k None c.index-ends-k.result within
+      ∙ ap (λ xs. get_or xs k c.index-ends-k.result) (sym c.loop-k.invariant.ends))
+      (c.requires.rings.rings k within is);
+}
 
 pub loop-k-preserved : goal.loop-k-preserved
 loop-k-preserved c =
@@ -43,10 +32,8 @@ loop-k-preserved c =
     let ends = c.args.ends.now in
     let old = c.loop-k.fetchers.items in
     let new = c.in_ok-lend_one.field-0 in
-    let count = same-count ring_of (λ (p : PortState). p.outgoing) ends c.args.ports.now c.requires.ports in
-    let within : k < length ends = omega (arith, count, c.loop-k-test.true) in
-    let seat = slice_get-get_or c.args.seats.now k c.index-seats-k.result
-    (omega (arith, c.requires.seats, c.loop-k-test.true)) in
+    let within : k < length ends = omega (arith, ap length c.loop-k.invariant.ends, c.loop-k-test.true) in
+    let seat = slice_get-get_or c.args.seats.now k c.index-seats-k.result (omega (arith, c.requires.seats, within)) in
     let end = ap (λ xs. get_or xs k c.index-ends-k.result) c.loop-k.invariant.ends
     ∙ at_any ends k c.index-ends-k.result None within in
     record {
@@ -70,9 +57,9 @@ loop-k-preserved c =
     }
 
 pub returns-clause-fetchers : goal.returns-clause-fetchers
-returns-clause-fetchers c = λ s begun.
-    let count = same-count ring_of (λ (p : PortState). p.outgoing) c.args.ends.now c.args.ports.now c.requires.ports in
-    record {
-      count = omega (arith, count, c.loop-k.invariant.count, c.loop-k-test.false);
-      each = λ k near. c.loop-k.invariant.lent s begun k (omega (arith, near, count, c.loop-k-test.false));
-    }
+returns-clause-fetchers c = λ s begun. record {
+  count = omega (arith, ap length c.loop-k.invariant.ends, c.loop-k.invariant.count, c.loop-k-test.false);
+  each = λ k near.
+      c.loop-k.invariant.lent s begun k
+      (omega (arith, near, ap length c.loop-k.invariant.ends, c.loop-k-test.false));
+}

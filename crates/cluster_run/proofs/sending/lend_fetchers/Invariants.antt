@@ -1,7 +1,7 @@
 use Rattle.std.proofs.Common.{◌≡◌, ℕ, ◌<◌, length, get_or, None, vec_len, vec_capacity}
 use Rattle.ttp_world.specs.World.{BegunSlot, is_loaded}
 use Rattle.controller.specs.Passes.{HaveBegun}
-use Rattle.cluster_run.specs.Ports.{host_at}
+use Rattle.cluster_run.specs.Ends.{host_at}
 use Rattle.cluster_run.specs.Sending.{fetcher_lent}
 use Rattle.cluster_run.proofs.sending.lend_fetchers.Given as goal
 
@@ -9,7 +9,7 @@ abbrev pub invariant-loop-k : goal.invariant-loop-k
 invariant-loop-k l = record {
   ends : l.ends ≡ l.fn.ends;
   count : vec_len l.fetchers ≡ l.k;
-  room : vec_capacity l.fetchers ≡ length l.ports;
+  room : vec_capacity l.fetchers ≡ length l.fn.ends;
   lent : (s : BegunSlot) → HaveBegun s 0 l.seats → (j : ℕ) → j < l.k
       → get_or l.fetchers.items j None ≡ fetcher_lent (is_loaded s j) (host_at l.fn.ends j);
 }

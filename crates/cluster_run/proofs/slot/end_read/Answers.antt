@@ -1,55 +1,53 @@
-use Rattle.std.proofs.Common.{◌<◌, length, map, All, sym, ap, subst, ◌∙◌, arith}
-use Rattle.std.proofs.lemmas.List.{with_items_is}
+use Rattle.std.proofs.Common.{◌<◌, length, All, sym, ap, subst, ◌∙◌, arith}
+use Rattle.std.proofs.lemmas.List.{length-map, with_items_is}
 use Rattle.ttp_world.specs.declared.host_lines.HostRead.{HostRead}
 use Rattle.ttp_world.specs.Script.{reads_in}
 use Rattle.controller.specs.PlantStands.{outcomes_of}
-use Rattle.host_port.specs.Rings.{PortState}
+use Rattle.cluster_run.specs.declared.nodes.Desk.{Desk}
 use Rattle.cluster_run.specs.Ending.{HaveHandedOn}
-use Rattle.cluster_run.specs.Ports.{rings_of}
+use Rattle.cluster_run.specs.Ends.{desk_ends, desk_numbers}
 use Rattle.cluster_run.specs.Reading.{AllGot, AreLinesOf, AreReadersLent, AreReadersOfAll, HaveRead, SettlesReads}
 use Rattle.cluster_run.specs.Standing.{HoldsRead}
 use Rattle.cluster_run.proofs.MayRead.{hosts_within}
-use Rattle.cluster_run.proofs.PortLists.{same-count}
 use Rattle.cluster_run.proofs.slot.end_read.Goals as goal
 
 pub end-requires-clause-nodes : goal.end-requires-clause-nodes
 end-requires-clause-nodes g c κs within =
     let nodes = c.args.nodes.now in
     let are = c.requires.nodes in
-    let lent = with_items_is nodes.controller_ends c.lend_readers.new.ends
-    (omega (arith, ap length c.lend_readers.ensures.ends, c.deref_mut.ensures.len))
-    ∙ c.lend_readers.ensures.ends ∙ c.deref_mut.ensures.value in
+    let lent = with_items_is nodes.desks c.lend_readers.new.desks
+    (omega (arith, ap length c.lend_readers.ensures.desks, c.deref_mut.ensures.len))
+    ∙ c.lend_readers.ensures.desks ∙ c.deref_mut.ensures.value in
     record {
       seats_count = are.seats_count;
       seats = are.seats;
       incidents = are.incidents;
       chosen = are.chosen;
-      delivered = are.delivered;
-      ports_count = are.ports_count;
-      ports = record {
-        nodes = are.ports.nodes;
-        buffers = are.ports.buffers;
-        controllers = ap (map rings_of) lent ∙ are.ports.controllers;
-        hosts = are.ports.hosts;
-      };
+      desks = ap length lent ∙ are.desks;
+      host_ends = are.host_ends;
       slot_is = are.slot_is;
       medium = are.medium;
     }
 
 pub end-requires-clause-own : goal.end-requires-clause-own
 end-requires-clause-own g c κs within =
+    let nodes = c.args.nodes.now in
+    let lent = with_items_is nodes.desks c.lend_readers.new.desks
+    (omega (arith, ap length c.lend_readers.ensures.desks, c.deref_mut.ensures.len))
+    ∙ c.lend_readers.ensures.desks in
     rw c.as_mut_slice.ensures.value
-    (subst (λ ps. AreReadersOfAll ps c.in_ok-readers.readers.items) c.deref.ensures.value c.in_ok-readers.ensures.own)
+    (subst (λ ds. AreReadersOfAll (desk_ends ds) c.in_ok-readers.readers.items) (sym lent) c.in_ok-readers.ensures.own)
 
 pub end-requires-clause-lent : goal.end-requires-clause-lent
 end-requires-clause-lent g c κs within =
     let nodes = c.args.nodes.now in
-    let reads = reads_in c.args.script.now c.args.slot in
-    let lent = with_items_is nodes.controller_ends c.lend_readers.new.ends
-    (omega (arith, ap length c.lend_readers.ensures.ends, c.deref_mut.ensures.len))
-    ∙ c.lend_readers.ensures.ends in
-    rw c.as_mut_slice.ensures.value
-    (subst (λ es. AreReadersLent reads es c.in_ok-readers.readers.items) (sym lent) c.in_ok-readers.ensures.lent)
+    let reads = c.args.reads.now in
+    let lent = with_items_is nodes.desks c.lend_readers.new.desks
+    (omega (arith, ap length c.lend_readers.ensures.desks, c.deref_mut.ensures.len))
+    ∙ c.lend_readers.ensures.desks in
+    rw (c.as_mut_slice.ensures.value, ← c.requires.reads)
+    (subst (λ ds. AreReadersLent reads (desk_ends ds) c.in_ok-readers.readers.items) (sym lent)
+    c.in_ok-readers.ensures.lent)
 
 pub end-requires-clause-may : goal.end-requires-clause-may
 end-requires-clause-may g c κs within =
@@ -57,24 +55,49 @@ end-requires-clause-may g c κs within =
     let script = c.args.script.now in
     let nodes = c.args.nodes.now in
     let may = c.requires.may in
-    let lent = with_items_is nodes.controller_ends c.lend_readers.new.ends
-    (omega (arith, ap length c.lend_readers.ensures.ends, c.deref_mut.ensures.len))
-    ∙ c.lend_readers.ensures.ends ∙ c.deref_mut.ensures.value in
+    let lent = with_items_is nodes.desks c.lend_readers.new.desks
+    (omega (arith, ap length c.lend_readers.ensures.desks, c.deref_mut.ensures.len))
+    ∙ c.lend_readers.ensures.desks ∙ c.deref_mut.ensures.value in
     record {
       numbers = may.numbers;
       count = may.count;
       planned = record { chosen = may.planned.chosen; planned = may.planned.planned; carries = may.planned.carries };
       read = λ k near from.
-          subst (λ es. HoldsRead list script may.numbers es k from) (sym lent) (may.read k near from);
+          subst (λ ds. HoldsRead list script may.numbers (desk_ends ds) k from) (sym lent) (may.read k near from);
     }
+
+pub read_lines-requires-clause-own : goal.read_lines-requires-clause-own
+read_lines-requires-clause-own g c =
+    let readers = with_items_is c.in_ok-readers.readers c.end.new.readers
+    (omega (arith, c.end.auto.readers, c.as_mut_slice.ensures.len)) in
+    rw (c.deref_mut-2.ensures.value, readers) c.end.ensures.own
 
 pub read_lines-requires-clause-hosts : goal.read_lines-requires-clause-hosts
 read_lines-requires-clause-hosts g c =
     let list = c.args.list.now in
-    let count = ap length c.deref-2.ensures.value ∙ c.end.ensures.nodes.ports_count in
-    subst (λ n. All (λ (read : HostRead). read.host < n) c.reads.result.now) (sym count)
-    (subst (All (λ (read : HostRead). read.host < length list.slots)) (sym c.reads.ensures)
+    let count = ap length c.deref_mut-2.ensures.value ∙ c.end.ensures.nodes.desks in
+    subst (λ n. All (λ (read : HostRead). read.host < n) c.args.reads.now) (sym count)
+    (subst (All (λ (read : HostRead). read.host < length list.slots)) (sym c.requires.reads)
     (hosts_within list c.args.script.now c.args.slot c.requires.script))
+
+pub returns-clause-nodes : goal.returns-clause-nodes
+returns-clause-nodes g c =
+    let are = c.end.ensures.nodes in
+    let settled = with_items_is c.end.new.nodes.desks c.read_lines.new.desks
+    (omega (arith, c.read_lines.ensures.count, c.deref_mut-2.ensures.len)) in
+    record {
+      seats_count = are.seats_count;
+      seats = are.seats;
+      desks = omega (
+        arith,
+        ap length settled,
+        c.read_lines.ensures.count,
+        ap length c.deref_mut-2.ensures.value,
+        are.desks,
+      );
+      host_ends = are.host_ends;
+      chosen = are.chosen;
+    }
 
 pub returns-clause-ends : goal.returns-clause-ends
 returns-clause-ends g c = λ numbers planned.
@@ -89,42 +112,40 @@ returns-clause-tells g c =
     let reads = reads_in script c.args.slot in
     let done = c.end.new.nodes in
     let last = c.end.new.readers in
-    let lent = with_items_is nodes.controller_ends c.lend_readers.new.ends
-    (omega (arith, ap length c.lend_readers.ensures.ends, c.deref_mut.ensures.len))
-    ∙ c.lend_readers.ensures.ends ∙ c.deref_mut.ensures.value in
+    let lent = with_items_is nodes.desks c.lend_readers.new.desks
+    (omega (arith, ap length c.lend_readers.ensures.desks, c.deref_mut.ensures.len))
+    ∙ c.lend_readers.ensures.desks ∙ c.deref_mut.ensures.value in
     let readers = with_items_is c.in_ok-readers.readers last
     (omega (arith, c.end.auto.readers, c.as_mut_slice.ensures.len)) in
-    let handed = done.controller_ends.items in
-    let settled_ends = with_items_is done.controller_ends c.read_lines.new.ends
-    (omega (
-      arith,
-      same-count rings_of (λ (p : PortState). p.incoming) c.read_lines.new.ends c.deref-2.result.now
-          c.in_ok-lines.ensures.ports,
-      ap length c.deref-2.ensures.value,
-      same-count rings_of (λ (p : PortState). p.incoming) handed done.ports.items c.end.ensures.nodes.ports.controllers,
-      c.deref_mut-2.ensures.len,
-      ap length c.deref_mut-2.ensures.value,
-    )) in
+    let handed = desk_ends done.desks.items in
+    let settled = with_items_is done.desks c.read_lines.new.desks
+    (omega (arith, c.read_lines.ensures.count, c.deref_mut-2.ensures.len)) in
+    let many = length-map nodes.desks.items (λ (d : Desk). d.end) in
+    let done_many = length-map done.desks.items (λ (d : Desk). d.end) in
     record {
       handed = handed;
       first = c.in_ok-readers.readers.items;
       last = last;
-      first_count = c.in_ok-readers.ensures.own.count ∙ ap length c.deref.ensures.value ∙ c.requires.nodes.ports_count;
-      last_count = c.end.ensures.own.count ∙ c.end.ensures.nodes.ports_count;
+      first_count = c.in_ok-readers.ensures.own.count ∙ ap (λ ds. length (desk_ends ds)) c.deref_mut.ensures.value
+          ∙ many ∙ c.requires.nodes.desks;
+      last_count = c.end.ensures.own.count ∙ done_many ∙ c.end.ensures.nodes.desks;
       handed_are =
-          subst (λ es. HaveHandedOn (outcomes_of done.seats.items) es handed done.delivered.items) lent c.end.ensures.handed;
+          rw (settled, c.read_lines.ensures.numbers, c.deref_mut-2.ensures.value)
+          (subst (λ ds. HaveHandedOn (outcomes_of done.seats.items) (desk_ends ds) handed (desk_numbers done.desks.items))
+          lent c.end.ensures.handed);
       lent =
-          subst (λ es. AreReadersLent reads es c.in_ok-readers.readers.items) c.deref_mut.ensures.value
-          c.in_ok-readers.ensures.lent;
+          subst (λ ds. AreReadersLent reads (desk_ends ds) c.in_ok-readers.readers.items) c.deref_mut.ensures.value
+          (subst (λ rs. AreReadersLent rs (desk_ends c.deref_mut.result.now) c.in_ok-readers.readers.items)
+          c.requires.reads c.in_ok-readers.ensures.lent);
       read =
           subst (λ rs. HaveRead list.buffers reads rs last) c.as_mut_slice.ensures.value c.end.ensures.reads;
       settles =
-          subst (SettlesReads handed last) (sym settled_ends)
-          (subst (λ es. SettlesReads es last c.read_lines.new.ends) c.deref_mut-2.ensures.value
-          (subst (λ rs. SettlesReads c.deref_mut-2.result.now rs c.read_lines.new.ends) readers
+          subst (λ ds. SettlesReads handed last (desk_ends ds)) (sym settled)
+          (subst (λ ds. SettlesReads (desk_ends ds) last (desk_ends c.read_lines.new.desks)) c.deref_mut-2.ensures.value
+          (subst (λ rs. SettlesReads (desk_ends c.deref_mut-2.result.now) rs (desk_ends c.read_lines.new.desks)) readers
           c.in_ok-lines.ensures.settles));
       told =
-          subst (λ rs. AllGot rs last → AreLinesOf rs last c.in_ok-lines.lines) c.reads.ensures
-          (subst (λ rs. AllGot c.reads.result.now rs → AreLinesOf c.reads.result.now rs c.in_ok-lines.lines) readers
+          subst (λ rs. AllGot rs last → AreLinesOf rs last c.in_ok-lines.lines) c.requires.reads
+          (subst (λ rs. AllGot c.args.reads.now rs → AreLinesOf c.args.reads.now rs c.in_ok-lines.lines) readers
           c.in_ok-lines.ensures.lines);
     }

@@ -1,4 +1,4 @@
-use Rattle.std.proofs.Common.{length, map, sym, ap, subst, ◌∙◌, arith}
+use Rattle.std.proofs.Common.{length, sym, ap, subst, ◌∙◌, arith}
 use Rattle.std.specs.Vec.{with_items}
 use Rattle.std.proofs.lemmas.List.{with_items_is}
 use Rattle.ttp_world.specs.World.{frames_in, world}
@@ -7,7 +7,6 @@ use Rattle.controller.specs.Limits.{IsBegun, IsPlanned}
 use Rattle.controller.specs.Passes.{AreChosen, Carries, HaveBegun, HavePlanned, StandAfter}
 use Rattle.controller.specs.PlantWithin.{AreIncidents, AreSeats, most_ahead_in}
 use Rattle.controller.proofs.Payloads.{payloads-chosen}
-use Rattle.host_port.specs.Rings.{PortState}
 use Rattle.cluster_run.specs.Choosing.{HaveBegunFor, HaveChosen, next_slot}
 use Rattle.cluster_run.proofs.ChosenSizes.{chosen_sizes}
 use Rattle.cluster_run.proofs.slot.plan.Goals as goal
@@ -30,7 +29,7 @@ choose-requires-clause-may g c κs within =
       numbers = numbers;
       begun = record {
         count = at.count;
-        begun = subst (HaveBegun s 0) (sym (c.deref-2.ensures.value ∙ begun)) has_begun;
+        begun = subst (HaveBegun s 0) (sym (c.deref.ensures.value ∙ begun)) has_begun;
         written = at.stands.written;
       };
     }
@@ -63,14 +62,14 @@ plan_all-requires-clause-chosen g c =
     at.stands.seats in
     let slots = length-world list script numbers ∙ at.count in
     let has_begun = c.begin_all.ensures.begin (world list script numbers) slots stand in
-    let begun_for : HaveBegunFor list script c.args.slot numbers c.deref-2.result.now nodes.host_ends.items = record {
+    let begun_for : HaveBegunFor list script c.args.slot numbers c.deref.result.now nodes.host_ends.items = record {
       count = at.count;
-      begun = subst (HaveBegun s 0) (sym (c.deref-2.ensures.value ∙ begun)) has_begun;
+      begun = subst (HaveBegun s 0) (sym (c.deref.ensures.value ∙ begun)) has_begun;
       written = at.stands.written;
     } in
     let told = with_items_is nodes.chosen c.choose.new.chosen
     (omega (arith, c.in_ok-writes.ensures.chosen_count, c.deref_mut-2.ensures.len)) in
-    payloads-chosen c.deref-3.result.now
+    payloads-chosen c.deref-2.result.now
     (omega (
       arith,
       ap length (c.deref_mut-3.ensures.value ∙ begun),
@@ -79,7 +78,7 @@ plan_all-requires-clause-chosen g c =
       c.requires.nodes.seats_count,
     ))
     (subst (HaveBegun s 0) (sym (c.deref_mut-3.ensures.value ∙ begun)) has_begun)
-    (subst (AreChosen s) (sym (c.deref-3.ensures.value ∙ told))
+    (subst (AreChosen s) (sym (c.deref-2.ensures.value ∙ told))
     (chosen_sizes list script numbers c.choose.new.chosen c.choose.new.ends.items c.requires.script
     (c.in_ok-writes.ensures.chooses numbers begun_for)))
 
@@ -112,16 +111,8 @@ returns-clause-nodes g c =
         ap length c.deref_mut-2.ensures.value,
         c.requires.nodes.chosen,
       );
-      delivered = c.requires.nodes.delivered;
-      ports_count = c.requires.nodes.ports_count;
-      ports = record {
-        nodes = c.requires.nodes.ports.nodes;
-        buffers = c.requires.nodes.ports.buffers;
-        controllers = c.requires.nodes.ports.controllers;
-        hosts =
-            c.in_ok-writes.ensures.ports
-            ∙ ap (map (λ (p : PortState). p.outgoing)) c.deref.ensures.value;
-      };
+      desks = c.requires.nodes.desks;
+      host_ends = c.in_ok-writes.ensures.count ∙ c.requires.nodes.host_ends;
       slot_is = c.plan_all.ensures.slot;
       medium = c.plan_all.ensures.medium;
     }
@@ -138,9 +129,9 @@ returns-clause-plans g c = λ numbers at.
     at.stands.seats in
     let slots = length-world list script numbers ∙ at.count in
     let has_begun = c.begin_all.ensures.begin (world list script numbers) slots stand in
-    let begun_for : HaveBegunFor list script c.args.slot numbers c.deref-2.result.now nodes.host_ends.items = record {
+    let begun_for : HaveBegunFor list script c.args.slot numbers c.deref.result.now nodes.host_ends.items = record {
       count = at.count;
-      begun = subst (HaveBegun s 0) (sym (c.deref-2.ensures.value ∙ begun)) has_begun;
+      begun = subst (HaveBegun s 0) (sym (c.deref.ensures.value ∙ begun)) has_begun;
       written = at.stands.written;
     } in
     let told = with_items_is nodes.chosen c.choose.new.chosen
@@ -154,9 +145,9 @@ returns-clause-plans g c = λ numbers at.
           (c.in_ok-writes.ensures.chooses numbers begun_for);
       planned =
           subst (HavePlanned s (with_items nodes.chosen c.choose.new.chosen).items 0) (sym planned)
-          (subst (λ xs. HavePlanned s xs 0 c.plan_all.new.seats) c.deref-3.ensures.value
+          (subst (λ xs. HavePlanned s xs 0 c.plan_all.new.seats) c.deref-2.ensures.value
           (c.plan_all.ensures.plan (world list script numbers) begun_now));
       carries =
-          subst (λ xs. Carries s (frames_in s xs) c.plan_all.new.medium) c.deref-3.ensures.value
+          subst (λ xs. Carries s (frames_in s xs) c.plan_all.new.medium) c.deref-2.ensures.value
           (c.plan_all.ensures.carries (world list script numbers) slots begun_now);
     }

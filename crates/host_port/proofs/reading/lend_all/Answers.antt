@@ -1,5 +1,4 @@
 use Rattle.std.proofs.Common.{◌≡◌, ◌<◌, ◌++◌, ◌∷◌, [], None, length, get_or, sym, ap, ◌∙◌, arith}
-use Rattle.std.proofs.lemmas.Grind.{common_steps}
 use Rattle.std.proofs.lemmas.List.{get_or_read}
 use Rattle.host_port.specs.Reading.{reads_at, lent}
 use Rattle.host_port.proofs.ReaderLists.{set_back, all_lent-next}
@@ -12,7 +11,6 @@ loop-place-preserved c =
     let before = c.args.writers.now in
     let writers = c.loop-place.writers in
     let place = c.loop-place.place in
-    let own : length before ≡ length c.args.rings.now = grind (arith, common_steps) in
     let within : place < length before = omega arith in
     let within' : place < length writers = omega (arith, ap length c.loop-place.invariant.writers) in
     let writer = c.index-writers-place.is in

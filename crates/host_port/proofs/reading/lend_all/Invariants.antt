@@ -7,5 +7,5 @@ invariant-loop-place l = record {
   writers : l.writers ≡ l.fn.writers;
   readers : l.readers.items ≡ all_lent l.reads l.node 0 (take l.place l.fn.writers);
   count : vec_len l.readers ≡ l.place;
-  room : vec_capacity l.readers ≡ length l.rings;
+  room : vec_capacity l.readers ≡ length l.fn.writers;
 }

@@ -3,6 +3,7 @@ use Rattle.std.proofs.lemmas.Bool.{false≢true}
 use Rattle.std.proofs.lemmas.List.{get_or_default}
 use Rattle.ttp_world.specs.declared.script.Source.TheVariants.{Status}
 use Rattle.host_port.specs.declared.report.ReadLine.{ReadLine}
+use Rattle.std.specs.Vec.Iter.{into_iter_items}
 use Rattle.host_port.proofs.LineQueues.{next_some, lined_more}
 use Rattle.host_port.proofs.settling.lines_of.Goals as goal
 use Rattle.host_port.proofs.settling.lines_of.Goals.{in-Some, in_default}
@@ -12,7 +13,7 @@ next_pair-requires c =
     let calls = c.args.calls.now in
     let i = c.loop-source.source-index in
     let from = get_or calls i Status in
-    let queues = map (λ q. q.items) c.loop-source.queues.items in
+    let queues = map into_iter_items c.loop-source.queues.items in
     let here = get_or_default calls i Status from c.loop-source-test.true in
     rw c.place_of.ensures
     (next_some calls i from queues c.loop-source-test.true here c.loop-source.invariant.lined.queued)
@@ -22,9 +23,9 @@ loop-source-preserved c =
     let calls = c.args.calls.now in
     let i = c.loop-source.source-index in
     let from = get_or calls i Status in
-    let whole = map (λ q. q.items) c.args.queues.items in
-    let before = map (λ q. q.items) c.loop-source.queues.items in
-    let after = map (λ q. q.items) c.next_pair.new.queues.items in
+    let whole = map into_iter_items c.args.queues.items in
+    let before = map into_iter_items c.loop-source.queues.items in
+    let after = map into_iter_items c.next_pair.new.queues.items in
     let here = get_or_default calls i Status from c.loop-source-test.true in
     elim c.match-next_pair.branch [
       | in-Some w ↦

@@ -1,9 +1,10 @@
-use Rattle.std.proofs.Common.{◌++◌, ◌∷◌, [], None, map, reverse, take, refl, sym, ap, ◌∙◌, arith}
+use Rattle.std.proofs.Common.{◌++◌, ◌∷◌, [], None, map, take, refl, sym, ap, ◌∙◌, arith}
 use Rattle.std.proofs.lemmas.List.{map-append, map_more, get_or-set_other, length-set}
+use Rattle.std.specs.Vec.Iter.{into_iter_items}
 use Rattle.host_port.specs.Reading.{settled, got_of}
-use Rattle.host_port.proofs.ReaderLists.{ring_written, ring_read, rings_kept, settled_rings}
-use Rattle.host_port.proofs.SettledRings.{all_settled-none, is_next, next_writer, next_settled, settled_next, ring_at}
-use Rattle.host_port.proofs.SettledRings.{settled_along, on_err}
+use Rattle.host_port.proofs.ReaderLists.{ring_written, rings_kept, settled_rings}
+use Rattle.host_port.proofs.SettledRings.{all_settled-none, is_next, next_writer, next_settled, settled_next}
+use Rattle.host_port.proofs.SettledRings.{same_ring, settled_along, on_err}
 use Rattle.host_port.proofs.settling.settle_all.Goals as goal
 
 pub returns-in_err-queues-clause-err : goal.returns-in_err-queues-clause-err
@@ -12,7 +13,7 @@ returns-in_err-queues-clause-err c = on_err c.from_residual.result (0, sym (all_
 pub loop-place-init : goal.loop-place-init
 loop-place-init c = record {
   settled_so = sym (all_settled-none c.args.writers.now);
-  pairs = ap (map (λ q. q.items)) c.in_ok-queues.ensures.items;
+  pairs = ap (map into_iter_items) c.in_ok-queues.ensures.items;
   whole = λ i near. absurd (omega arith);
   readers = λ i far. refl;
   lengths = refl;
@@ -20,49 +21,35 @@ loop-place-init c = record {
   room = c.in_ok-queues.ensures.exact;
 }
 
-pub settle_one-requires-clause-writer : goal.settle_one-requires-clause-writer
-settle_one-requires-clause-writer c =
+pub settle_one-requires : goal.settle_one-requires
+settle_one-requires c =
     let next =
-    is_next c.args.writers.now c.loop-place.writers c.args.readers.items c.loop-place.readers.items c.args.rings.now
-    c.loop-place.place c.index-writers-place.result c.index_mut.result.now c.loop-place-test.true c.requires.writers
-    c.requires.readers c.loop-place.invariant.settled_so c.loop-place.invariant.lengths c.loop-place.invariant.readers
+    is_next c.args.writers.now c.loop-place.writers c.args.readers.items c.loop-place.readers.items c.loop-place.place
+    c.index-writers-place.result c.index_mut.result.now c.loop-place-test.true c.requires
+    c.loop-place.invariant.settled_so c.loop-place.invariant.lengths c.loop-place.invariant.readers
     c.index-writers-place.is c.index_mut.ensures.value in
-    ap ring_written (sym c.index-writers-place.is ∙ next_writer next)
-    ∙ ring_at ring_written c.args.writers.now c.args.rings.now c.loop-place.place c.index-rings-place.result
-    c.requires.writers next.writers c.index-rings-place.is
-
-pub settle_one-requires-clause-reader : goal.settle_one-requires-clause-reader
-settle_one-requires-clause-reader c =
-    let next =
-    is_next c.args.writers.now c.loop-place.writers c.args.readers.items c.loop-place.readers.items c.args.rings.now
-    c.loop-place.place c.index-writers-place.result c.index_mut.result.now c.loop-place-test.true c.requires.writers
-    c.requires.readers c.loop-place.invariant.settled_so c.loop-place.invariant.lengths c.loop-place.invariant.readers
-    c.index-writers-place.is c.index_mut.ensures.value in
-    ap ring_read (c.take-reader.ensures.value ∙ next.reader_is)
-    ∙ ring_at ring_read c.args.readers.items c.args.rings.now c.loop-place.place c.index-rings-place.result
-    c.requires.readers next.readers c.index-rings-place.is
+    rw (c.take-reader.ensures.value, ← c.index-writers-place.is) (same_ring next c.requires)
 
 pub loop-place-preserved : goal.loop-place-preserved
 loop-place-preserved c =
     let next =
-    is_next c.args.writers.now c.loop-place.writers c.args.readers.items c.loop-place.readers.items c.args.rings.now
-    c.loop-place.place c.index-writers-place.result c.index_mut.result.now c.loop-place-test.true c.requires.writers
-    c.requires.readers c.loop-place.invariant.settled_so c.loop-place.invariant.lengths c.loop-place.invariant.readers
+    is_next c.args.writers.now c.loop-place.writers c.args.readers.items c.loop-place.readers.items c.loop-place.place
+    c.index-writers-place.result c.index_mut.result.now c.loop-place-test.true c.requires
+    c.loop-place.invariant.settled_so c.loop-place.invariant.lengths c.loop-place.invariant.readers
     c.index-writers-place.is c.index_mut.ensures.value in
     let rs = c.args.readers.items in
     let place = c.loop-place.place in
     let writer = sym c.index-writers-place.is in
     let reader = c.take-reader.ensures.value in
-    let queue = c.in_ok-settle_one.ensures.pairs ∙ ap (λ r. reverse (got_of r)) (reader ∙ next.reader_is) in
+    let queue = c.in_ok-settle_one.ensures.pairs ∙ ap got_of (reader ∙ next.reader_is) in
     record {
       settled_so =
           next_settled next c.settle_one.new.writer
           (c.in_ok-settle_one.ensures.settled ∙ (λ k. settled (writer k) (reader k)));
       pairs =
-          ap (map (λ q. q.items)) c.push_reserved.ensures.items
-          ∙ (map-append (λ q. q.items) c.loop-place.queues.items (c.in_ok-settle_one.field-0 ∷ [])
-          ∙ ((λ k. c.loop-place.invariant.pairs k ++ queue k ∷ [])
-          ∙ sym (map_more (λ r. reverse (got_of r)) rs place None next.readers)));
+          ap (map into_iter_items) c.push_reserved.ensures.items
+          ∙ (map-append into_iter_items c.loop-place.queues.items (c.in_ok-settle_one.field-0 ∷ [])
+          ∙ ((λ k. c.loop-place.invariant.pairs k ++ queue k ∷ []) ∙ sym (map_more got_of rs place None next.readers)));
       whole =
           settled_next c.args.writers.now rs place c.index-writers-place.result c.index_mut.result.now
           (next_writer next) next.reader_is (settled_along writer reader c.in_ok-settle_one.ensures.whole)
@@ -78,7 +65,7 @@ loop-place-preserved c =
 pub returns-clause-own : goal.returns-clause-own
 returns-clause-own c =
     ap (map ring_written) c.loop-place.invariant.settled_so
-    ∙ (settled_rings c.args.writers.now (take c.loop-place.place c.args.readers.items) ∙ c.requires.writers)
+    ∙ settled_rings c.args.writers.now (take c.loop-place.place c.args.readers.items)
 
 pub returns-in_err-settle_one-clause-own : goal.returns-in_err-settle_one-clause-own
 returns-in_err-settle_one-clause-own c =
@@ -86,4 +73,4 @@ returns-in_err-settle_one-clause-own c =
     rings_kept ring_written c.loop-place.writers c.loop-place.place slot.result c.settle_one.new.writer slot.is
     (ap ring_written (c.in_err-settle_one.ensures.err ∙ sym slot.is))
     ∙ (ap (map ring_written) c.loop-place.invariant.settled_so
-    ∙ (settled_rings c.args.writers.now (take c.loop-place.place c.args.readers.items) ∙ c.requires.writers))
+    ∙ settled_rings c.args.writers.now (take c.loop-place.place c.args.readers.items))

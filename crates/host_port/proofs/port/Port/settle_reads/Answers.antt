@@ -1,32 +1,8 @@
-use Rattle.std.proofs.Common.{None, length, get_or, reverse, sym, ap, ◌∙◌}
-use Rattle.std.proofs.lemmas.List.{length-reverse, reverse-reverse}
-use Rattle.host_port.specs.Reading.{ReadersState, got_of, pairs_from}
-use Rattle.host_port.specs.Rings.{place_of}
-use Rattle.host_port.specs.Queues.{calls_at, queue_at}
-use Rattle.host_port.proofs.LineQueues.{queue_of}
-use Rattle.host_port.proofs.SettledRings.{all_settled-none, on_err}
+use Rattle.std.proofs.Common.{sym, subst}
+use Rattle.host_port.specs.Reading.{AreTheirRings, rings_read}
 use Rattle.host_port.proofs.port.Port.settle_reads.Goals as goal
 
-pub returns-in_err-lines-clause-err : goal.returns-in_err-lines-clause-err
-returns-in_err-lines-clause-err c = on_err c.from_residual.result (0, sym (all_settled-none c.args.end.now))
-
-pub lines_of-lines-requires-clause-queued : goal.lines_of-lines-requires-clause-queued
-lines_of-lines-requires-clause-queued c =
-    let readers = c.r.inside.readers.items in
-    λ place.
-    let got = got_of (get_or readers place None) in
-    ap (calls_at place) c.as_slice-2.ensures.value
-    ∙ (c.r.invariant.counts place
-    ∙ (sym (length-reverse got)
-    ∙ sym (ap length (ap (λ qs. queue_at qs place) c.in_ok-queues.ensures.pairs ∙ queue_of readers place))))
-
-pub returns-clause-pairs : goal.returns-clause-pairs
-returns-clause-pairs c =
-    let readers = c.r.inside.readers.items in
-    λ source.
-    let place = place_of source in
-    let got = got_of (get_or readers place None) in
-    ap (pairs_from source) c.from_vec.ensures
-    ∙ (c.lines_of-lines.ensures.pairs place
-    ∙ (ap reverse (ap (λ qs. queue_at qs place) c.in_ok-queues.ensures.pairs ∙ queue_of readers place)
-    ∙ (reverse-reverse got ∙ ap (λ (r : ReadersState). got_of (get_or r.readers place None)) c.r.view_is)))
+pub settle_reads-requires : goal.settle_reads-requires
+settle_reads-requires c = record {
+  own = subst (λ rings. AreTheirRings rings (rings_read c.args.r.readers)) (sym c.requires.end) c.requires.readers;
+}

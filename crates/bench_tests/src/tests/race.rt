@@ -1,0 +1,237 @@
+//! Threads that are held until others have come so far. A host writes in the slot of its node's frame, beside the
+//! fetch of its controller: a cluster that makes all writes before the fetches, or behind them, in one thread holds
+//! one of them to the end, and both messages come in a frame. And controllers end a slot in two halves of as many
+//! nodes.
+
+use super::texts::{list_of, script_of};
+use super::{Call, HEAD, answer_at, call_of, has_each};
+use std::hint::spin_loop;
+use std::process::Abort;
+use std::sync::Wait;
+use std::sync::atomic::AtomicU64;
+use std::sync::atomic::Ordering::SeqCst;
+use std::test::Fail;
+use std::thread::Threads;
+use ttp_base::Gate;
+
+// A hold lasts no longer.
+const TURNS: u64 = 10_000_000;
+
+// A thread that passes a place and was passed there so often before is held, until another place was
+// passed so often.
+#[derive(Clone, Copy)]
+struct Hold {
+    place: u32,
+    before: u64,
+    other: u32,
+    until: u64,
+}
+
+// Counts the passes of places 1 to 6, and holds threads at two of them.
+#[derive(Drop)]
+struct Beside {
+    begins: AtomicU64,
+    words: AtomicU64,
+    ends: AtomicU64,
+    loads: AtomicU64,
+    words_loaded: AtomicU64,
+    loads_ended: AtomicU64,
+    holds: [Hold; 2],
+    // How many were held, and how many of these to the end.
+    held: AtomicU64,
+    in_vain: AtomicU64,
+}
+
+impl Beside {
+    fn new(holds: [Hold; 2]) -> Beside {
+        Beside {
+            begins: AtomicU64::new(0),
+            words: AtomicU64::new(0),
+            ends: AtomicU64::new(0),
+            loads: AtomicU64::new(0),
+            words_loaded: AtomicU64::new(0),
+            loads_ended: AtomicU64::new(0),
+            holds,
+            held: AtomicU64::new(0),
+            in_vain: AtomicU64::new(0),
+        }
+    }
+
+    fn at(&self, place: u32) -> &AtomicU64 {
+        match place {
+            1 => &self.begins,
+            2 => &self.words,
+            3 => &self.ends,
+            4 => &self.loads,
+            5 => &self.words_loaded,
+            _ => &self.loads_ended,
+        }
+    }
+
+    // How often each place was passed, the first one first.
+    fn passes(&self) -> [u64; 6] {
+        [
+            self.begins.load(SeqCst),
+            self.words.load(SeqCst),
+            self.ends.load(SeqCst),
+            self.loads.load(SeqCst),
+            self.words_loaded.load(SeqCst),
+            self.loads_ended.load(SeqCst),
+        ]
+    }
+
+    fn hold(&self, hold: &Hold) {
+        self.held.fetch_add(1, SeqCst);
+        for _ in 0..TURNS {
+            if self.at(hold.other).load(SeqCst) >= hold.until {
+                return;
+            }
+            spin_loop();
+        }
+        self.in_vain.fetch_add(1, SeqCst);
+    }
+}
+
+impl Gate for Beside {
+    fn pass(&self, place: u32) {
+        let before = self.at(place).fetch_add(1, SeqCst);
+        for hold in &self.holds {
+            if hold.place == place && hold.before == before {
+                self.hold(hold);
+            }
+        }
+    }
+}
+
+// A run: the top of its list and letters for the slots, the first line of its script, how many nodes are on, and
+// its other lines; who is held, lines that it has, and how often each place is passed.
+#[derive(Clone, Copy)]
+struct Case<'a> {
+    list: (&'a str, &'a str),
+    slots: &'a str,
+    on: usize,
+    hosts: &'a str,
+    holds: [Hold; 2],
+    lines: &'a [&'a str],
+    passes: [u64; 6],
+}
+
+// The run has these lines, both threads are held, none of them to the end, and each place is passed once for
+// each step.
+fn runs_beside<R: Threads + Wait + Sync + AllocGlobal + Abort>(
+    rt: &R,
+    case: &Case<'_>,
+) -> Result<(), Fail> {
+    let list = list_of(rt, case.list.0, case.list.1)?;
+    let script = script_of(rt, case.slots, case.on, case.hosts)?;
+    let words = ["run", "cluster.toml", "five.script"];
+    let call = Call {
+        script: Some(script.as_bytes()),
+        ..call_of(&words, list.as_bytes())
+    };
+    let gate = Beside::new(case.holds);
+    let (status, written) = answer_at(rt, &call, &gate, &mut None)?;
+    assert_eq!(rt; status, 0);
+    assert_eq!(rt; (gate.held.load(SeqCst), gate.in_vain.load(SeqCst)), (2, 0));
+    has_each(rt, &written, case.lines)?;
+    assert_eq!(rt; gate.passes(), case.passes);
+    Ok(())
+}
+
+// Before slot 17 five nodes publish 85 statuses of four words, and four deliver the message of slot 12, of
+// one word. That message was fetched.
+const MESSAGES: u64 = 89;
+
+const WORDS: u64 = 344;
+
+const FETCHES: u64 = 1;
+
+// In 20 slots there are 100 statuses, eight messages are delivered and two fetched, and the host writes.
+#[test]
+fn hosts_write_beside_fetches(rt: HostRuntime) -> Result<(), Fail> {
+    let late = Case {
+        list: (HEAD, "FSNSS"),
+        slots: "slots 20\n",
+        on: 5,
+        hosts: "write 2 17 0102030405060708\n",
+        // The write waits at its word until the fetch has begun, and the fetch at its word until that one was put.
+        holds: [
+            Hold {
+                place: 2,
+                before: WORDS,
+                other: 5,
+                until: FETCHES + 1,
+            },
+            Hold {
+                place: 5,
+                before: FETCHES,
+                other: 3,
+                until: MESSAGES + 1,
+            },
+        ],
+        lines: &[
+            "slot 17 node 2 send peer 2 msg 0 mem 001f acc 1 rej 0 ack first clock 0\n",
+            "slot 17 host 2 write 1\n",
+        ],
+        passes: [109, 409, 109, 2, 2, 2],
+    };
+    runs_beside(&rt, &late)?;
+    let early = Case {
+        list: (
+            "version = 1\nrounds = 1\nschedule = 0\nbuffers = 3\ndrift = 0\nerror = 0\nwindow = 1\n",
+            "FSNSS",
+        ),
+        hosts: "write 2 17 0102030405060708\nwrite 2 17 1112131415161718\n",
+        // The fetch waits until a second write begins, and this one until the fetch has all words of the first.
+        holds: [
+            Hold {
+                place: 1,
+                before: MESSAGES + 1,
+                other: 6,
+                until: FETCHES + 1,
+            },
+            Hold {
+                place: 4,
+                before: FETCHES,
+                other: 1,
+                until: MESSAGES + 2,
+            },
+        ],
+        lines: &[
+            "slot 17 node 2 send peer 2 msg 1 mem 001f acc 1 rej 0 ack first clock 0\n",
+            "slot 17 host 2 write 1\nslot 17 host 2 write 2\n",
+        ],
+        passes: [110, 410, 110, 2, 2, 2],
+        ..late
+    };
+    runs_beside(&rt, &early)
+}
+
+// Four nodes publish 44 statuses before slot 11. In it the first one who comes waits until two more have, which are
+// those of the other half; the last of these waits until the first half has its second one.
+#[test]
+fn two_halves_have_as_many_nodes(rt: HostRuntime) -> Result<(), Fail> {
+    let case = Case {
+        list: (HEAD, "FSSS"),
+        slots: "slots 15\n",
+        on: 4,
+        hosts: "read 1 11 status\n",
+        holds: [
+            Hold {
+                place: 1,
+                before: 44,
+                other: 1,
+                until: 47,
+            },
+            Hold {
+                place: 1,
+                before: 46,
+                other: 1,
+                until: 48,
+            },
+        ],
+        lines: &["\nslot 11 host 1 read status "],
+        passes: [60, 240, 60, 1, 4, 1],
+    };
+    runs_beside(&rt, &case)
+}

@@ -1,0 +1,78 @@
+-- How many buffers the rings have that are lent in a slot.
+use Rattle.std.proofs.Common.{◌≡◌, ℕ, ◌<◌, Bool, true, false, cond, List, length, Option, Some, None, option_map}
+use Rattle.std.proofs.Common.{inl, inr, refl, sym, ap, ◌∙◌, arith}
+use Rattle.std.specs.Prelude.{◌==◌}
+use Rattle.std.proofs.lemmas.Bool.{cases_lt}
+use Rattle.std.proofs.lemmas.List.{get_or_past}
+use Rattle.std.proofs.lemmas.Option.{none-some, same_Some}
+use Rattle.nbw_ring.specs.declared.view.Message.{Message}
+use Rattle.nbw_ring.specs.declared.view.Shape.{Shape}
+use Rattle.nbw_ring.specs.States.{WriterState, ReaderState, new_reader}
+use Rattle.ttp_world.specs.declared.host_lines.HostRead.{HostRead}
+use Rattle.ttp_world.specs.declared.medl.Medl.{Medl}
+use Rattle.ttp_world.specs.declared.script.Source.{Source}
+use Rattle.ttp_world.specs.declared.script.Source.TheVariants as source
+use Rattle.ttp_world.specs.Medl.{plan_at}
+use Rattle.ttp_world.specs.Words.{word_count}
+use Rattle.host_port.specs.Reading.{ReadersState, reads_from, lent}
+use Rattle.host_port.specs.Rings.{ControllerState, at_source, shape_of, incoming_shape, message_shape}
+use Rattle.cluster_run.specs.Ends.{end_at}
+use Rattle.cluster_run.specs.Reading.{readers_at, reader_in, AreReadersLent, ReadBuffers}
+use Rattle.cluster_run.specs.Rings.{IsRingOf}
+use Rattle.cluster_run.proofs.RingReads.{HasBuffers}
+
+sized_if : (buffers : ℕ) (b : Bool) (shape : Option Shape) → HasBuffers buffers shape
+    → HasBuffers buffers (cond b None shape)
+sized_if buffers true shape sized = λ s none. absurd (none-some s none)
+sized_if buffers false shape sized = sized
+
+sized_shape : (list : Medl) (width : ℕ) → HasBuffers list.buffers (Some (shape_of list width))
+sized_shape list width = λ s is. ap (λ (x : Shape). x.buffers) (same_Some s (shape_of list width) (sym is))
+
+pub sized_ring : (list : Medl) (k : ℕ) (from : Source) → HasBuffers list.buffers (incoming_shape list k from)
+sized_ring list k source.Status = sized_shape list 4
+sized_ring list k (source.Node p) =
+    sized_if list.buffers (p == k) (message_shape list p)
+    (sized_if list.buffers ((plan_at list p).payload == 0)
+    (Some (shape_of list (word_count (plan_at list p).payload)))
+    (sized_shape list (word_count (plan_at list p).payload)))
+
+-- A reader that is lent has its ring's number.
+lent_sized : (buffers n : ℕ) (shape : Option Shape) (messages : List (List ℕ)) (pairs : List Message)
+    (w : Option WriterState) (unread : Bool) (r : ReaderState) → HasBuffers buffers shape
+    → IsRingOf shape messages pairs w → cond unread None (option_map (λ (v : WriterState). new_reader v n) w) ≡ Some r
+    → r.ring.shape.buffers ≡ buffers
+lent_sized buffers n shape messages pairs w true r sized ring is = absurd (none-some r is)
+lent_sized buffers n shape messages pairs None false r sized ring is = absurd (none-some r is)
+lent_sized buffers n None messages pairs (Some w) false r sized ring is = absurd (none-some w (sym ring))
+lent_sized buffers n (Some shape) messages pairs (Some w) false r sized ring is =
+    ap (λ (x : ReaderState). x.ring.shape.buffers) (sym (same_Some (new_reader w n) r is))
+    ∙ ap (λ (s : Shape). s.buffers) ring.shape_is
+    ∙ sized shape refl
+
+reader_there : (o : Option ReadersState) (from : Source) (r : ReaderState) → reader_in o from ≡ Some r
+    → (x : ReadersState) × (o ≡ Some x)
+reader_there None from r is = absurd (none-some r is)
+reader_there (Some x) from r is = (x, refl)
+
+-- So all have the list's.
+pub lent_buffers : (list : Medl) (reads : List HostRead) (ends : List ControllerState)
+    (readers : List (Option ReadersState)) (messages : ℕ → Source → List (List ℕ)) (pairs : ℕ → Source → List Message)
+    → length ends ≡ length list.slots → length readers ≡ length list.slots → AreReadersLent reads ends readers
+    → ((k : ℕ) → k < length list.slots → (from : Source)
+    → IsRingOf (incoming_shape list k from) (messages k from) (pairs k from) (at_source (end_at ends k) from))
+    → ReadBuffers list.buffers readers
+lent_buffers list reads ends readers messages pairs ends_count count are rings = λ k from r is.
+    let there = reader_there (readers_at readers k) from r is in
+    elim (cases_lt k (length list.slots)) [
+      | inl near ↦
+          let n = reads_from reads k from in
+          let w = at_source (end_at ends k) from in
+          let lent_is : lent w n ≡ Some r =
+          sym ((are.each k (omega (arith, near, ends_count)) there.0 there.1).readers from)
+          ∙ ap (λ (o : Option ReadersState). reader_in o from) (sym there.1) ∙ is in
+          lent_sized list.buffers n (incoming_shape list k from) (messages k from) (pairs k from) w (n == 0) r
+          (sized_ring list k from) (rings k near from) lent_is
+      | inr past ↦
+          absurd (none-some there.0 (sym (get_or_past readers k None (omega (arith, past, count))) ∙ there.1))
+    ]

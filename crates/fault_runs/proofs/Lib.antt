@@ -1,0 +1,6 @@
+pub mod Counts
+pub mod Ranges
+pub mod Orders
+pub mod Endings
+pub mod Results
+pub mod Wholes

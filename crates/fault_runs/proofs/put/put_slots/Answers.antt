@@ -1,0 +1,62 @@
+use Rattle.std.proofs.Common.{◌≡◌, ◌+◌, ◌++◌, List, ap, sym, subst, ◌∙◌}
+use Rattle.std.proofs.Common.{append_assoc}
+use Rattle.std.proofs.lemmas.List.{map-append}
+use Rattle.ttp_base.specs.Outside.{WroteLines}
+use Rattle.ttp_base.specs.Text.{Lines}
+use Rattle.ttp_base.proofs.Below.{flat_map-next, flat_map-split}
+use Rattle.fault_runs.specs.Ends.{LeftBy}
+use Rattle.fault_runs.proofs.Endings.{leaves-after, leaves-more}
+use Rattle.ttp_base.proofs.Outputs.{Wrote-none, Wrote-join}
+use Rattle.ttp_world.specs.declared.script.Event.{Event}
+use Rattle.campaign.specs.Lines.{run_line}
+use Rattle.fault_runs.specs.Runs.{fault_lines, tried_in, tried_before, IsTallyOf}
+use Rattle.fault_runs.proofs.put.put_slots.Goals as goal
+
+pub loop-slot-init : goal.loop-slot-init
+loop-slot-init g c = (c.requires.run, c.requires.told, c.requires.few, Wrote-none _)
+
+pub loop-slot-preserved : goal.loop-slot-preserved
+loop-slot-preserved g c =
+    let list = c.args.list.now in
+    let script = c.args.script.now in
+    let slot = c.loop-slot.slot in
+    let now = tried_in list script c.args.first c.args.last slot in
+    let before = tried_before list script c.args.first c.args.last slot in
+    let more : before ++ now ≡ tried_before list script c.args.first c.args.last (slot + 1) =
+    sym (flat_map-next (tried_in list script c.args.first c.args.last) slot) in (
+      c.in_default.ensures.run,
+      subst (λ (fs : List Event). IsTallyOf list script fs c.put_slot.new.tally) more
+          (c.in_default.ensures.told before c.loop-slot.invariant.1),
+      c.in_default.ensures.few,
+      subst (λ (lines : Lines). WroteLines (g.K.Sink.output c.args.out.now) (g.K.Sink.output c.put_slot.new.out) lines)
+          (sym (map-append (run_line list script) before now) ∙ ap (fault_lines list script) more)
+          (Wrote-join _ _ _ (fault_lines list script before) (fault_lines list script now) c.loop-slot.invariant.3
+          c.in_default.ensures.ok),
+    )
+
+pub returns-in-Err-clause-err : goal.returns-in-Err-clause-err
+returns-in-Err-clause-err g c =
+    let list = c.args.list.now in
+    let script = c.args.script.now in
+    let slot = c.loop-slot.slot in
+    let why = c.in-Err.why in
+    let a = g.K.Sink.output c.args.out.now in
+    let b = g.K.Sink.output c.loop-slot.out in
+    let d = g.K.Sink.output c.put_slot.new.out in
+    let line = run_line list script in
+    let tried = tried_in list script c.args.first c.args.last in
+    let before = tried_before list script c.args.first c.args.last slot in
+    let split = flat_map-split tried slot script.slots c.loop-slot-test.true in
+    let all : (fault_lines list script before ++ fault_lines list script (tried slot))
+    ++ fault_lines list script split.0
+    ≡ fault_lines list script (tried_before list script c.args.first c.args.last script.slots) =
+    append_assoc (fault_lines list script before) (fault_lines list script (tried slot))
+    (fault_lines list script split.0)
+    ∙ ap (λ (lines : Lines). fault_lines list script before ++ lines) (sym (map-append line (tried slot) split.0))
+    ∙ sym (map-append line before (tried slot ++ split.0))
+    ∙ ap (fault_lines list script) (sym split.1) in
+    subst (λ (lines : Lines). LeftBy why a d lines) all
+    (leaves-more why a d (fault_lines list script before ++ fault_lines list script (tried slot))
+    (fault_lines list script split.0)
+    (leaves-after why a b d (fault_lines list script before) (fault_lines list script (tried slot))
+    c.loop-slot.invariant.3 c.in-Err.ensures.err))

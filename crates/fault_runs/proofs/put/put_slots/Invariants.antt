@@ -1,0 +1,14 @@
+use Rattle.std.proofs.Common.{◌*◌}
+use Rattle.ttp_base.specs.Outside.{WroteLines}
+use Rattle.run_costs.specs.Standing.{IsRunAfter}
+use Rattle.fault_runs.specs.Runs.{fault_lines, tried_before, most_tried, HasAtMost, IsTallyOf}
+use Rattle.fault_runs.proofs.put.put_slots.Given as goal
+
+-- the runs of the faults of the slots so far were told and counted
+abbrev pub invariant-loop-slot : goal.invariant-loop-slot
+invariant-loop-slot g l =
+    IsRunAfter l.own l.list l.script l.slot
+    × IsTallyOf l.list l.script (tried_before l.list l.script l.first l.last l.slot) l.tally
+    × HasAtMost (most_tried * l.slot) l.tally
+    × WroteLines (g.K.Sink.output l.initial.out) (g.K.Sink.output l.out)
+    (fault_lines l.list l.script (tried_before l.list l.script l.first l.last l.slot))

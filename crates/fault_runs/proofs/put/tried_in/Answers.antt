@@ -1,0 +1,34 @@
+use Rattle.std.proofs.Common.{◌≡◌, Bool, cond, List, [], ap, sym, subst, ◌∙◌}
+use Rattle.std.specs.Prelude.{IfOk}
+use Rattle.ttp_world.specs.declared.node.Entry.{Entry}
+use Rattle.ttp_world.specs.declared.script.Event.{Event}
+use Rattle.campaign.specs.Tried.{faults_in, row_of}
+use Rattle.campaign.specs.ZerosWorld.{zeros_world}
+use Rattle.fault_runs.specs.Runs.{tried_in}
+use Rattle.fault_runs.proofs.Ranges.{shown-row}
+use Rattle.fault_runs.proofs.put.tried_in.Goals as goal
+
+pub returns-then-is_in_range : goal.returns-then-is_in_range
+returns-then-is_in_range c =
+    let list = c.args.list.now in
+    let script = c.args.script.now in
+    let first = c.args.first in
+    let last = c.args.last in
+    let slot = c.args.slot in
+    let row = row_of (zeros_world list script script.slots) slot in
+    let told : faults_in list script c.as_slice.result.now slot ≡ tried_in list script first last slot =
+    ap (λ (entries : List Entry). faults_in list script entries slot)
+    (c.as_slice.ensures ∙ c.in_ok-row.ensures
+    ∙ shown-row list script slot c.args.states.now c.requires.slot c.requires.shown)
+    ∙ ap (λ (b : Bool). cond b (faults_in list script row slot) [])
+    (sym c.if-is_in_range.true ∙ c.is_in_range.ensures) in
+    subst (λ (fs : List Event). IfOk c.faults_in.result (λ (faults : List Event). faults ≡ fs)) told c.faults_in.ensures
+
+pub returns : goal.returns
+returns c =
+    let list = c.args.list.now in
+    let script = c.args.script.now in
+    let slot = c.args.slot in
+    c.new.ensures
+    ∙ ap (λ (b : Bool). cond b (faults_in list script (row_of (zeros_world list script script.slots) slot) slot) [])
+    (sym c.if-is_in_range.false ∙ c.is_in_range.ensures)

@@ -1,0 +1,252 @@
+//! What a third node hears of two others by the faults of each kind, worked out by hand.
+ghost use Rattle.std.specs.Prelude.{◌≡◌, ◌≤◌, All, IfOk, length};
+ghost use Rattle.ttp_world.specs.Events.{IsBounded};
+
+use medium::{Arrival, Medium, Outgoing};
+use std::alloc::Global;
+use std::test::Fail;
+use ttp_base::{List, Memory};
+use ttp_world::{Channel, Channels, Event, Events, Fault, Medl, Script};
+
+const A: Channels = Channels { a: true, b: false };
+
+const B: Channels = Channels { a: false, b: true };
+
+const BOTH: Channels = Channels { a: true, b: true };
+
+// A line of a script that speaks of slot 3: faults by the node whose they are.
+#[derive(Clone, Copy)]
+enum Line {
+    None,
+    SendSilence(u8, Channels),
+    SendNoise(u8, Channels),
+    ReceiveSilence(u8, Channels),
+    ReceiveNoise(u8, Channels),
+    Flip(u8, Channels, u16),
+}
+
+// What is heard on a channel: bits by their bytes, and by the offset of the node that sent them.
+#[derive(Clone, Copy, Debug)]
+enum Heard {
+    Silence,
+    Noise,
+    Bits([u8; 3], i64),
+}
+
+// Whether nodes 0 and 1 send.
+const NEITHER: [bool; 2] = [false, false];
+
+const FIRST: [bool; 2] = [true, false];
+
+const SECOND: [bool; 2] = [false, true];
+
+const EACH: [bool; 2] = [true, true];
+
+// What they send, and how far their clocks are ahead.
+const SENT: [([u8; 3], i64); 2] = [([0x10, 0xa5, 0xff], -7), ([0x11, 0x00, 0x3c], 40)];
+// The same as it is heard without faults.
+const ZERO: Heard = Heard::Bits([0x10, 0xa5, 0xff], -7);
+
+const ONE: Heard = Heard::Bits([0x11, 0x00, 0x3c], 40);
+
+fn sending(node: u8, channels: Channels, fault: Fault) -> Event
+    ensures { IsBounded result }
+{
+    Event::Send {
+        node,
+        channels,
+        fault,
+        from: 3,
+        to: 3,
+    }
+}
+
+fn receiving(node: u8, channels: Channels, fault: Fault) -> Event
+    ensures { IsBounded result }
+{
+    Event::Receive {
+        node,
+        channels,
+        fault,
+        from: 2,
+        to: 4,
+    }
+}
+
+fn event(line: Line) -> Event
+    ensures { IsBounded result }
+{
+    match line {
+        Line::None => Event::Arm { node: 9, slot: 3 },
+        Line::SendSilence(node, channels) => sending(node, channels, Fault::Silence),
+        Line::SendNoise(node, channels) => sending(node, channels, Fault::Noise),
+        Line::ReceiveSilence(node, channels) => receiving(node, channels, Fault::Silence),
+        Line::ReceiveNoise(node, channels) => receiving(node, channels, Fault::Noise),
+        Line::Flip(node, channels, bit) => Event::Flip {
+            node,
+            channels,
+            bit,
+            slot: 3,
+        },
+    }
+}
+
+fn script(alloc: Global, lines: [Line; 2]) -> Result<Script, Memory> {
+    let mut events = List::new(alloc);
+    events.push(event(lines[0]))?;
+    events.push(event(lines[1]))?;
+    Ok(Script {
+        slots: 6,
+        on: List::new(alloc),
+        drift: List::new(alloc),
+        events: Events::index(alloc, events)?,
+    })
+}
+
+fn is_heard(arrival: Arrival, heard: Heard) -> bool {
+    match (arrival, heard) {
+        (Arrival::Silence, Heard::Silence) | (Arrival::Noise, Heard::Noise) => true,
+        (Arrival::Bits { bytes, offset }, Heard::Bits(wanted, ahead)) => {
+            bytes == wanted.as_slice() && offset == ahead
+        }
+        _ => false,
+    }
+}
+
+// A list whose only use is to be there.
+fn empty_list(alloc: Global) -> Medl {
+    Medl {
+        version: 1,
+        rounds: 1,
+        schedule: 0,
+        buffers: 2,
+        drift: 0,
+        error: 0,
+        window: 1,
+        modes: 1,
+        slots: List::new(alloc),
+    }
+}
+
+fn outgoing(bytes: [u8; 3]) -> Outgoing {
+    let mut frame = Outgoing {
+        len: 3,
+        bytes: [0xee; 256],
+    };
+    frame.bytes[0] = bytes[0];
+    frame.bytes[1] = bytes[1];
+    frame.bytes[2] = bytes[2];
+    frame
+}
+
+// Puts a node's frame on the medium, in its slot.
+fn put_in_slot(medium: &mut Medium, script: &Script, node: u8, frame: &Outgoing, offset: i64) {
+    let incidents = script.incidents(node, medium.slot());
+    medium.put(script, &incidents, node, frame, offset);
+}
+
+#[test]
+fn a_third_node_hears_what_is_left(rt: HostRuntime) -> Result<(), Fail> {
+    use Heard::{Bits, Noise, Silence};
+    use Line::{Flip, None, ReceiveNoise, ReceiveSilence, SendNoise, SendSilence};
+    // Two lines of the script, who sends, and what node 2 hears on channels A and B.
+    let rows: [([Line; 2], [bool; 2], Heard, Heard); 27] = [
+        ([None, None], NEITHER, Silence, Silence),
+        ([None, None], FIRST, ZERO, ZERO),
+        ([None, None], SECOND, ONE, ONE),
+        // Two frames, a frame and noise, a frame beside a silenced one, and silence over noise.
+        ([None, None], EACH, Noise, Noise),
+        ([SendNoise(0, BOTH), None], EACH, Noise, Noise),
+        ([SendNoise(1, BOTH), None], EACH, Noise, Noise),
+        ([SendSilence(0, BOTH), None], EACH, ONE, ONE),
+        ([SendSilence(1, BOTH), None], EACH, ZERO, ZERO),
+        ([SendSilence(0, A), None], EACH, ONE, Noise),
+        ([SendSilence(0, A), SendSilence(1, B)], EACH, ONE, ZERO),
+        ([SendNoise(0, B), None], FIRST, ZERO, Noise),
+        ([SendNoise(0, A), SendSilence(0, A)], FIRST, Silence, ZERO),
+        ([SendNoise(0, A), SendSilence(0, A)], EACH, ONE, Noise),
+        ([SendNoise(2, BOTH), None], FIRST, ZERO, ZERO),
+        // Flips inside, past the end, of one bit twice, of two bits, and of another node.
+        (
+            [Flip(0, A, 8), None],
+            FIRST,
+            Bits([0x10, 0x25, 0xff], -7),
+            ZERO,
+        ),
+        (
+            [Flip(0, B, 23), None],
+            FIRST,
+            ZERO,
+            Bits([0x10, 0xa5, 0xfe], -7),
+        ),
+        ([Flip(0, BOTH, 24), None], FIRST, ZERO, ZERO),
+        (
+            [Flip(0, A, 12), Flip(0, BOTH, 12)],
+            FIRST,
+            ZERO,
+            Bits([0x10, 0xad, 0xff], -7),
+        ),
+        (
+            [Flip(1, A, 8), Flip(1, A, 16)],
+            SECOND,
+            Bits([0x11, 0x80, 0xbc], 40),
+            ONE,
+        ),
+        ([Flip(1, BOTH, 8), None], FIRST, ZERO, ZERO),
+        // The receiver's own faults over a frame, noise and silence, and another receiver's.
+        ([ReceiveSilence(2, A), None], FIRST, Silence, ZERO),
+        ([ReceiveNoise(2, B), None], FIRST, ZERO, Noise),
+        (
+            [ReceiveSilence(2, A), ReceiveNoise(2, B)],
+            EACH,
+            Silence,
+            Noise,
+        ),
+        (
+            [ReceiveSilence(2, A), ReceiveNoise(2, B)],
+            NEITHER,
+            Silence,
+            Silence,
+        ),
+        (
+            [ReceiveNoise(2, A), ReceiveSilence(2, A)],
+            FIRST,
+            Silence,
+            ZERO,
+        ),
+        (
+            [ReceiveNoise(2, A), SendSilence(0, A)],
+            FIRST,
+            Silence,
+            ZERO,
+        ),
+        (
+            [ReceiveNoise(0, BOTH), ReceiveSilence(1, BOTH)],
+            FIRST,
+            ZERO,
+            ZERO,
+        ),
+    ];
+    let mut medium = Medium::new(rt.alloc(), &empty_list(rt.alloc()))?;
+    for (i, (lines, sends, a, b)) in rows.iter().enumerate() {
+        let script = script(rt.alloc(), *lines)?;
+        medium.begin(3);
+        for node in 0..2u8 {
+            if sends[node as usize] {
+                let (bytes, offset) = SENT[node as usize];
+                put_in_slot(&mut medium, &script, node, &outgoing(bytes), offset);
+            }
+        }
+        let incidents = script.incidents(2, 3);
+        let on_a = medium.heard(&incidents, Channel::A);
+        assert!(rt; is_heard(on_a, *a), "channel A of row {i}");
+        let on_b = medium.heard(&incidents, Channel::B);
+        assert!(rt; is_heard(on_b, *b), "channel B of row {i}");
+    }
+    Ok(())
+}
+
+#[test]
+fn frames_have_their_bytes(rt: HostRuntime) {
+    assert!(rt; outgoing([1, 2, 3]).as_slice() == [1, 2, 3].as_slice());
+}

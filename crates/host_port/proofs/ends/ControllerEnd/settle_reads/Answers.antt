@@ -1,0 +1,28 @@
+use Rattle.std.proofs.Common.{None, length, get_or, sym, ap, ◌∙◌}
+use Rattle.host_port.specs.Reading.{ReadersState, got_of, pairs_from}
+use Rattle.host_port.specs.Rings.{place_of}
+use Rattle.host_port.specs.Queues.{calls_at, queue_at}
+use Rattle.host_port.proofs.LineQueues.{queue_of}
+use Rattle.host_port.proofs.SettledRings.{all_settled-none, on_err}
+use Rattle.host_port.proofs.ends.ControllerEnd.settle_reads.Goals as goal
+
+pub returns-in_err-lines-clause-err : goal.returns-in_err-lines-clause-err
+returns-in_err-lines-clause-err c = on_err c.from_residual.result (0, sym (all_settled-none c.args.self.now))
+
+pub lines_of-lines-requires-clause-queued : goal.lines_of-lines-requires-clause-queued
+lines_of-lines-requires-clause-queued c =
+    let readers = c.r.inside.readers.items in
+    λ place.
+    ap (calls_at place) c.as_slice.ensures.value
+    ∙ (c.r.invariant.counts place
+    ∙ sym (ap length (ap (λ qs. queue_at qs place) c.in_ok-queues.ensures.pairs ∙ queue_of readers place)))
+
+pub returns-clause-pairs : goal.returns-clause-pairs
+returns-clause-pairs c =
+    let readers = c.r.inside.readers.items in
+    λ source.
+    let place = place_of source in
+    ap (pairs_from source) c.from_vec.ensures
+    ∙ (c.lines_of-lines.ensures.pairs place
+    ∙ (ap (λ qs. queue_at qs place) c.in_ok-queues.ensures.pairs
+    ∙ (queue_of readers place ∙ ap (λ (r : ReadersState). got_of (get_or r.readers place None)) c.r.view_is)))

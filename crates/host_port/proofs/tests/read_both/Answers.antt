@@ -1,6 +1,0 @@
-use Rattle.ttp_world.specs.declared.script.Source.TheVariants.{Status}
-use Rattle.host_port.proofs.tests.read_both.Goals as goal
-
-pub host_read-requires-2-clause-left : goal.host_read-requires-2-clause-left
-host_read-requires-2-clause-left g c =
-    rw (c.host_read.ensures.others Status (λ same. cc)) (λ κs lives. c.requires.status)

@@ -1,0 +1,2 @@
+mod NewPorts
+mod QuietScripts

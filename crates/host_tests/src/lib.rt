@@ -1,0 +1,8 @@
+//! Tests of hosts beside their controllers: rings, errands, ports and whole clusters, in one thread and in several.
+//!
+//! They stand in a crate of their own, above the calls, so that no crate is proved a second time with them. The
+//! crate has nothing but tests, and nothing stands on it.
+#![tactic(auto)]
+
+#[cfg(test)]
+mod tests;

@@ -1,0 +1,153 @@
+//! Clusters of five nodes with hosts.
+ghost use Rattle.std.specs.Prelude.{◌≡◌, ◌≤◌, [], ◌∷◌, length, replicate, pos, All, Some, true, false, IfOk};
+ghost use Rattle.ttp_world.specs.declared.medl.Kind.TheVariants as kind;
+ghost use Rattle.ttp_world.specs.declared.script.Event.TheVariants as event;
+ghost use Rattle.ttp_world.specs.declared.script.Source.TheVariants as source;
+ghost use Rattle.ttp_world.specs.declared.script.TheConstants.{EVENT_LIMIT};
+ghost use Rattle.ttp_world.specs.Medl.{IsValid, plan_at};
+ghost use Rattle.ttp_world.specs.Script.{IsBounded, IsValidScript};
+
+use cluster_run::Cluster;
+use std::alloc::Global;
+use std::sync::Wait;
+use std::test::Fail;
+use std::thread::Threads;
+use ttp_base::{Gate, List, Memory, OpenGate};
+use ttp_world::{Event, Events, Kind, Medl, Script, SlotPlan, Source};
+
+// A slot of frames of this kind.
+fn slot_plan(alloc: Global, kind: Kind, payload: u8, start: bool) -> Result<SlotPlan, Memory>
+    ensures { IfOk result (λ plan. plan ≡ record {
+      kinds = kind ∷ [];
+      payload = payload;
+      sync = true;
+      start = start;
+      requests = false;
+      live = 1;
+    }) }
+{
+    let mut kinds = List::new(alloc);
+    kinds.push(kind)?;
+    Ok(SlotPlan {
+        kinds,
+        payload,
+        sync: true,
+        start,
+        requests: false,
+        live: 1,
+    })
+}
+
+// Five nodes, of which node 0 may start, and node 2 sends 8 bytes.
+fn five_nodes(alloc: Global, buffers: u8) -> Result<Medl, Memory>
+    requires { (1 ≤ buffers) × (buffers ≤ 16) }
+    ensures valid { IfOk result IsValid }
+    ensures slots { IfOk result (λ list. length list.slots ≡ 5) }
+    ensures sender { IfOk result (λ list. (plan_at list 2).payload ≡ 8) }
+    ensures buffers { IfOk result (λ list. list.buffers ≡ buffers) }
+{
+    let mut slots = List::new(alloc);
+    slots.push(slot_plan(alloc, Kind::I, 0, true)?)?;
+    slots.push(slot_plan(alloc, Kind::I, 0, false)?)?;
+    slots.push(slot_plan(alloc, Kind::N, 8, false)?)?;
+    slots.push(slot_plan(alloc, Kind::I, 0, false)?)?;
+    slots.push(slot_plan(alloc, Kind::I, 0, false)?)?;
+    Ok(Medl {
+        version: 1,
+        rounds: 1,
+        schedule: 0,
+        buffers,
+        drift: 0,
+        error: 0,
+        window: 1,
+        modes: 1,
+        slots,
+    })
+}
+
+// A script of 20 slots, in which all five nodes are on from the first slot on.
+fn script_of(alloc: Global, events: List<Event>) -> Result<Script, Memory>
+    requires count { length events ≤ EVENT_LIMIT }
+    requires values { All IsBounded events }
+    ensures slots { IfOk result (λ script. script.slots ≡ 20) }
+    ensures on { IfOk result (λ script. script.on ≡ replicate 5 (Some 0)) }
+    ensures drift { IfOk result (λ script. script.drift ≡ replicate 5 (pos 0)) }
+    ensures events { IfOk result (λ script. script.events ≡ events) }
+{
+    let Ok(on) = vec![in alloc; Some(0u32); 5] else {
+        return Err(Memory);
+    };
+    let Ok(drift) = vec![in alloc; 0i64; 5] else {
+        return Err(Memory);
+    };
+    Ok(Script {
+        slots: 20,
+        on: List::from_vec(on),
+        drift: List::from_vec(drift),
+        events: Events::index(alloc, events)?,
+    })
+}
+
+// The host of node 1 reads its status in slot 11.
+fn poll_events(alloc: Global) -> Result<List<Event>, Memory>
+    ensures { IfOk result (λ events. events ≡ event.Read 1 11 source.Status ∷ []) }
+{
+    let mut events = List::new(alloc);
+    events.push(Event::Read {
+        node: 1,
+        slot: 11,
+        source: Source::Status,
+    })?;
+    Ok(events)
+}
+
+fn poll(alloc: Global, list: &Medl) -> Result<Script, Memory>
+    requires slots { length list.now.slots ≡ 5 }
+    requires buffers { 1 ≤ list.now.buffers }
+    ensures slots { IfOk result (λ script. script.slots ≡ 20) }
+    ensures valid { IfOk result (IsValidScript list.now) }
+{
+    let events = poll_events(alloc)?;
+    let script = script_of(alloc, events)?;
+    Ok(script)
+}
+
+// The cluster after so many slots.
+fn after<R: Threads + Wait + Sync, G: Gate>(
+    rt: &R,
+    alloc: Global,
+    list: Medl,
+    script: Script,
+    slots: u32,
+    gate: &G,
+) -> Result<Cluster, Memory>
+    requires list { IsValid list }
+    requires script { IsValidScript list script }
+    requires slots { slots ≤ script.slots }
+{
+    let mut cluster = Cluster::make(alloc, list, script)?;
+    for _ in 0..slots {
+        cluster.slot(rt, gate)?;
+    }
+    Ok(cluster)
+}
+
+#[test]
+fn a_host_polls_a_status(rt: HostRuntime) -> Result<(), Fail> {
+    for buffers in 1..5u8 {
+        let list = five_nodes(rt.alloc(), buffers)?;
+        let script = poll(rt.alloc(), &list)?;
+        let cluster = after(&rt, rt.alloc(), list, script, 12, &OpenGate::new())?;
+        let report = cluster.report();
+        assert!(rt; report.reads.len() == 1);
+        let read = report.reads.get(0);
+        assert!(rt; read.host == 1 && read.source == Source::Status);
+        if read.pair.number() == 11 {
+            assert!(rt; read.pair.words() == [10u64, 1, 0x0000_0000_0001, 256].as_slice());
+        } else {
+            assert!(rt; read.pair.number() == 12);
+            assert!(rt; read.pair.words() == [11u64, 41, 0x0001_0001_0003, 256].as_slice());
+        }
+    }
+    Ok(())
+}

@@ -1,0 +1,120 @@
+//! Two numbers counted up in rounds, one of them by a worker that stays.
+ghost use Rattle.std.specs.Prelude.{◌≡◌, ◌+◌, ◌<◌, ◌≤◌, IfOk};
+
+use errand::ends::{Giver, Worker, hire, open};
+use errand::rule::Errand;
+use std::alloc::{AllocError, Global};
+use std::sync::Wait;
+use std::thread::{Threads, join_mut};
+
+// A number that is counted up.
+#[derive(Drop)]
+struct Tally {
+    count: u64,
+}
+
+struct CountUp;
+
+impl Errand<Tally> for CountUp {
+    ghost needs = { λ j. j.count < 1000 };
+
+    ghost does = { λ j k. k.count ≡ j.count + 1 };
+
+    fn run(&self, job: Tally) -> Tally
+        requires { job.count < 1000 }
+        ensures { result.count ≡ job.count + 1 }
+    {
+        Tally {
+            count: job.count + 1,
+        }
+    }
+}
+
+// Counts both up once, the second by the worker where it serves.
+fn count_both<'a, R: Wait>(
+    rt: &R,
+    giver: &mut Option<Giver<'a, Tally, CountUp>>,
+    front: Tally,
+    back: Tally,
+) -> (Tally, Tally)
+    requires { (front.count < 1000) × (back.count < 1000) }
+    ensures { (result.0.count ≡ front.count + 1) × (result.1.count ≡ back.count + 1) }
+{
+    let Some(hired) = giver.take() else {
+        return (CountUp.run(front), CountUp.run(back));
+    };
+    if !hired.is_served() {
+        *giver = Some(hired);
+        return (CountUp.run(front), CountUp.run(back));
+    }
+    let waiting = hired.ask(back);
+    let front = CountUp.run(front);
+    let (hired, back) = waiting.take(rt);
+    *giver = Some(hired);
+    (front, back)
+}
+
+// Counts both up in rounds, and lets the worker go.
+fn count_up<'a, R: Wait>(
+    rt: &R,
+    giver: &mut Option<Giver<'a, Tally, CountUp>>,
+    rounds: u64,
+) -> (u64, u64)
+    requires { rounds ≤ 1000 }
+    ensures { (result.0 ≡ rounds) × (result.1 ≡ rounds) }
+{
+    let mut front = Tally { count: 0 };
+    let mut back = Tally { count: 0 };
+    for i in 0..rounds {
+        (front, back) = count_both(rt, giver, front, back);
+    }
+    *giver = None;
+    (front.count, back.count)
+}
+
+fn serve<'a, R: Wait>(rt: &R, worker: &mut Option<Worker<'a, Tally, CountUp>>) {
+    if let Some(worker) = worker.take() {
+        worker.serve(rt, &CountUp);
+    }
+}
+
+// Counts in two threads, where a second one is to be had.
+fn count_in_threads<R: Threads + Wait + Sync>(
+    rt: &R,
+    alloc: Global,
+    rounds: u64,
+) -> Result<(u64, u64), AllocError>
+    requires { rounds ≤ 1000 }
+    ensures { IfOk result (λ r. (r.0 ≡ rounds) × (r.1 ≡ rounds)) }
+{
+    let (table, seat) = open::<Tally, CountUp>(alloc)?;
+    let (giver, worker) = hire(&table.shared, seat);
+    let (mut giver, mut worker) = (Some(giver), Some(worker));
+    let mut serves = || serve(rt, &mut worker);
+    let mut counts = || -> (u64, u64)
+        requires { rounds ≤ 1000 }
+        ensures { (result.0 ≡ rounds) × (result.1 ≡ rounds) }
+    { count_up(rt, &mut giver, rounds) };
+    let (_, counted) = join_mut(rt, &mut serves, &mut counts);
+    Ok(counted)
+}
+
+#[test]
+fn all_rounds_are_counted(rt: HostRuntime) -> Result<(), AllocError> {
+    for rounds in [0u64, 1, 2, 1000] {
+        let counts = count_in_threads(&rt, rt.alloc(), rounds)?;
+        assert_eq!(rt; counts, (rounds, rounds));
+    }
+    Ok(())
+}
+
+// A worker that never comes is no hang: nothing is asked of it.
+#[test]
+fn nobody_is_asked_who_does_not_serve(rt: HostRuntime) -> Result<(), AllocError> {
+    let (table, seat) = open::<Tally, CountUp>(rt.alloc())?;
+    let (giver, worker) = hire(&table.shared, seat);
+    assert_eq!(rt; count_up(&rt, &mut Some(giver), 10), (10, 10));
+    // Its giver is gone, so it has nothing to do.
+    worker.serve(&rt, &CountUp);
+    Ok(())
+}

@@ -1,0 +1,376 @@
+//! The calls in one thread, each answer of an attempt with threads that are held at a place, and many
+//! steps of a writer and three readers at once.
+
+mod scenes;
+
+ghost use Rattle.std.specs.Prelude.{◌≡◌, ◌<◌, ◌≤◌, IfOk, OnOk};
+
+use nbw_ring::{Reader, Ring, Try, Writer};
+use std::alloc::Global;
+use std::hint::spin_loop;
+use std::sync::atomic::Ordering::SeqCst;
+use std::sync::atomic::{AtomicBool, AtomicU64};
+use std::test::Fail;
+use std::thread::{Threads, join};
+use ttp_base::{Gate, Memory, OpenGate};
+
+// A hold lasts no longer.
+const TURNS: u32 = 10_000_000;
+
+// No message of a test has a greater number.
+const MOST: u64 = 1 << 40;
+
+// The steps of each thread of a stress test.
+const STEPS: usize = 100_000;
+
+// Waits until the flag is up, for a while.
+fn hold(flag: &AtomicBool) {
+    for _ in 0..TURNS {
+        if flag.load(SeqCst) {
+            return;
+        }
+        spin_loop();
+    }
+}
+
+// Holds the reader at a place until the writer is where it is to be, and the writer at a place until
+// the reader is done. Place 0 is none.
+#[derive(Drop)]
+struct Scene {
+    reader_place: u32,
+    writer_place: u32,
+    reader_there: AtomicBool,
+    writer_there: AtomicBool,
+    reader_done: AtomicBool,
+    word_loads: AtomicU64,
+}
+
+impl Gate for Scene {
+    fn pass(&self, place: u32) {
+        if place == 5 {
+            self.word_loads.fetch_add(1, SeqCst);
+        }
+        if place == self.reader_place {
+            self.reader_there.store(true, SeqCst);
+            hold(&self.writer_there);
+        }
+        if place == self.writer_place {
+            self.writer_there.store(true, SeqCst);
+            hold(&self.reader_done);
+        }
+    }
+}
+
+// Word k of a message.
+fn word_of(number: u64, k: usize) -> u64 {
+    if number == 0 {
+        0
+    } else {
+        number.wrapping_mul(64).wrapping_add(k as u64)
+    }
+}
+
+// Writes the next message.
+fn write_next<G: Gate>(ring: &Ring, writer: &mut Writer, width: usize, gate: &G)
+    requires { (writer.old.ring ≡ ring.now) × (width ≡ ring.now.shape.width) }
+    ensures { writer.new.ring ≡ ring.now }
+{
+    let number = writer.number();
+    let mut words = [0u64; 32];
+    for k in 0..32 {
+        words[k] = word_of(number.wrapping_add(1), k);
+    }
+    if number < MOST && width <= 32 {
+        ring.write(writer, &words[..width], gate);
+    }
+}
+
+// Writes so many messages.
+fn write_many(ring: &Ring, mut writer: Writer, width: usize, count: usize) -> Writer
+    requires { (writer.ring ≡ ring.now) × (width ≡ ring.now.shape.width) }
+    ensures { result.ring ≡ ring.now }
+{
+    for _ in 0..count {
+        write_next(ring, &mut writer, width, &OpenGate::new());
+    }
+    writer
+}
+
+// Makes so many attempts, as far as there is room.
+fn attempt_many(ring: &Ring, mut reader: Reader, count: usize) -> Reader
+    requires { reader.ring ≡ ring.now }
+    ensures { result.ring ≡ ring.now }
+{
+    for _ in 0..count {
+        if reader.spare() == 0 {
+            break;
+        }
+        ring.try_read(&mut reader, &OpenGate::new());
+    }
+    reader
+}
+
+// Settles a reader, and says whether its numbers don't fall and its pairs are what was written.
+fn is_right(ring: &Ring, writer: &mut Writer, reader: Reader, width: usize) -> Result<bool, Memory>
+    requires { (writer.old.ring ≡ ring.now) × (reader.ring ≡ ring.now) }
+    ensures { OnOk result (writer.new.ring ≡ ring.now) }
+{
+    let pairs = ring.settle(writer, reader)?.into_pairs();
+    let mut right = true;
+    let mut floor = 0;
+    for pair in pairs.as_slice() {
+        right = right && floor <= pair.number() && pair.words().len() == width;
+        floor = pair.number();
+        for (k, word) in pair.words().iter().enumerate() {
+            right = right && *word == word_of(floor, k);
+        }
+    }
+    Ok(right)
+}
+
+// A ring whose writer wrote so many messages.
+fn written(
+    alloc: Global,
+    width: usize,
+    buffers: usize,
+    count: usize,
+) -> Result<(Ring, Writer), Memory>
+    requires width { (0 < width) × (width ≤ 32) }
+    requires buffers { (0 < buffers) × (buffers ≤ 16) }
+    ensures own { IfOk result (λ r. r.1.ring ≡ r.0) }
+    ensures width { IfOk result (λ r. r.0.shape.width ≡ width) }
+{
+    let (ring, writer) = Ring::new(alloc, width, buffers)?;
+    let writer = write_many(&ring, writer, width, count);
+    Ok((ring, writer))
+}
+
+#[test]
+fn a_message_is_written_and_read(rt: HostRuntime) -> Result<(), Fail> {
+    let (ring, mut writer) = written(rt.alloc(), 2, 2, 2)?;
+    let gate = OpenGate::new();
+    let mut reader = ring.lend(&mut writer, 3)?;
+    assert!(rt; writer.number() == 2 && reader.spare() == 3);
+    assert!(rt; ring.read(&rt, &mut reader, &gate) == 2);
+    write_next(&ring, &mut writer, 2, &gate);
+    assert!(rt; ring.try_read(&mut reader, &gate) == Try::Got { number: 3 });
+    assert!(rt; reader.spare() == 1 && reader.words() == [192, 193].as_slice());
+    let pairs = ring.settle(&mut writer, reader)?.into_pairs();
+    assert!(rt; pairs.len() == 2);
+    assert!(rt; pairs.get(0).number() == 2 && pairs.get(0).words() == [128, 129].as_slice());
+    assert!(rt; pairs.get(1).number() == 3 && pairs.get(1).words() == [192, 193].as_slice());
+    Ok(())
+}
+
+// Keeps the places that were passed, as decimal digits, the first one first.
+#[derive(Drop)]
+struct Places {
+    digits: AtomicU64,
+}
+
+impl Gate for Places {
+    fn pass(&self, place: u32) {
+        let before = self.digits.load(SeqCst);
+        let digits = before.wrapping_mul(10).wrapping_add(place as u64);
+        self.digits.store(digits, SeqCst);
+    }
+}
+
+impl Places {
+    // Those since the last call.
+    fn told(&self) -> u64 {
+        self.digits.swap(0, SeqCst)
+    }
+}
+
+#[test]
+fn each_step_on_a_word_passes_the_gate(rt: HostRuntime) -> Result<(), Fail> {
+    let places = Places {
+        digits: AtomicU64::new(0),
+    };
+    let (ring, mut writer) = written(rt.alloc(), 3, 2, 4)?;
+    let mut reader = ring.lend(&mut writer, 2)?;
+    write_next(&ring, &mut writer, 3, &places);
+    assert_eq!(rt; places.told(), 12223);
+    assert!(rt; ring.try_read(&mut reader, &places) == Try::Got { number: 5 });
+    assert_eq!(rt; places.told(), 45556);
+    assert_eq!(rt; ring.read(&rt, &mut reader, &places), 5);
+    assert_eq!(rt; places.told(), 45556);
+    Ok(())
+}
+
+// The reader's part of a scene.
+fn attempt(ring: &Ring, mut reader: Reader, scene: &Scene) -> (Try, Reader)
+    requires { (reader.ring ≡ ring.now) × (1 ≤ reader.spare) }
+    ensures { result.1.ring ≡ ring.now }
+{
+    if scene.reader_place == 0 {
+        hold(&scene.writer_there);
+    }
+    let answer = ring.try_read(&mut reader, scene);
+    scene.reader_done.store(true, SeqCst);
+    (answer, reader)
+}
+
+// The writer's part: once the reader is held, a message, and then one in which the writer is held.
+fn write_beside(ring: &Ring, mut writer: Writer, scene: &Scene) -> Writer
+    requires { (writer.ring ≡ ring.now) × (4 ≡ ring.now.shape.width) }
+    ensures { result.ring ≡ ring.now }
+{
+    if scene.reader_place != 0 {
+        hold(&scene.reader_there);
+        write_next(ring, &mut writer, 4, &OpenGate::new());
+    }
+    if scene.writer_place != 0 {
+        write_next(ring, &mut writer, 4, scene);
+    }
+    scene.writer_there.store(true, SeqCst);
+    writer
+}
+
+// What an attempt answers in a scene of a ring with number 3, how many words it loads, and whether
+// the pairs that were got are right.
+fn played<R: Threads + Sync>(
+    rt: &R,
+    alloc: Global,
+    buffers: usize,
+    reader_place: u32,
+    writer_place: u32,
+) -> Result<(Try, u64, bool), Memory>
+    requires { (0 < buffers) × (buffers ≤ 16) }
+{
+    let (ring, mut writer) = written(alloc, 4, buffers, 3)?;
+    let reader = ring.lend(&mut writer, 1)?;
+    let scene = Scene {
+        reader_place,
+        writer_place,
+        reader_there: AtomicBool::new(false),
+        writer_there: AtomicBool::new(false),
+        reader_done: AtomicBool::new(false),
+        word_loads: AtomicU64::new(0),
+    };
+    let ((answer, reader), mut writer) = join(
+        rt,
+        || attempt(&ring, reader, &scene),
+        || write_beside(&ring, writer, &scene),
+    );
+    let right = is_right(&ring, &mut writer, reader, 4)?;
+    Ok((answer, scene.word_loads.load(SeqCst), right))
+}
+
+#[test]
+fn the_last_load_decides(rt: HostRuntime) -> Result<(), Fail> {
+    // One message more leaves the buffer of message 3 as it is, and the next one begins to take it.
+    let (answer, _, right) = played(&rt, rt.alloc(), 2, 6, 0)?;
+    assert!(rt; answer == Try::Got { number: 3 } && right);
+    let (answer, _, right) = played(&rt, rt.alloc(), 2, 6, 2)?;
+    assert!(rt;
+        answer
+            == Try::Overrun {
+                number: 3,
+                begin: 6,
+                end: 9
+            }
+            && right
+    );
+    // A ring of one buffer is not read while it is written.
+    let (answer, loads, right) = played(&rt, rt.alloc(), 1, 0, 2)?;
+    assert!(rt;
+        answer
+            == Try::Overrun {
+                number: 3,
+                begin: 7,
+                end: 7
+            }
+            && right
+    );
+    assert!(rt; loads == 0);
+    Ok(())
+}
+
+// Two readers at once.
+fn read_both<R: Threads + Sync>(
+    rt: &R,
+    ring: &Ring,
+    one: Reader,
+    two: Reader,
+    count: usize,
+) -> (Reader, Reader)
+    requires { (one.ring ≡ ring.now) × (two.ring ≡ ring.now) }
+    ensures { (result.0.ring ≡ ring.now) × (result.1.ring ≡ ring.now) }
+{
+    join(
+        rt,
+        || attempt_many(ring, one, count),
+        || attempt_many(ring, two, count),
+    )
+}
+
+// A writer and a reader at once.
+fn write_and_read<R: Threads + Sync>(
+    rt: &R,
+    ring: &Ring,
+    writer: Writer,
+    reader: Reader,
+    width: usize,
+    count: usize,
+) -> (Writer, Reader)
+    requires { (writer.ring ≡ ring.now) × (reader.ring ≡ ring.now) × (width ≡ ring.now.shape.width) }
+    ensures { (result.0.ring ≡ ring.now) × (result.1.ring ≡ ring.now) }
+{
+    join(
+        rt,
+        || write_many(ring, writer, width, count),
+        || attempt_many(ring, reader, count),
+    )
+}
+
+// Whether a writer and three readers in threads get what was written, and a last reader the newest.
+fn is_stable<R: Threads + Sync>(
+    rt: &R,
+    alloc: Global,
+    width: usize,
+    buffers: usize,
+) -> Result<bool, Memory>
+    requires width { (0 < width) × (width ≤ 32) }
+    requires buffers { (0 < buffers) × (buffers ≤ 16) }
+{
+    let count = STEPS / (width + 2);
+    let (ring, mut writer) = written(alloc, width, buffers, 0)?;
+    let one = ring.lend(&mut writer, count)?;
+    let two = ring.lend(&mut writer, count)?;
+    let three = ring.lend(&mut writer, count)?;
+    let ((one, two), (mut writer, three)) = join(
+        rt,
+        || -> (Reader, Reader)
+            requires { (one.ring ≡ ring) × (two.ring ≡ ring) }
+            ensures { (result.0.ring ≡ ring) × (result.1.ring ≡ ring) }
+        { read_both(rt, &ring, one, two, count) },
+        || -> (Writer, Reader)
+            requires { (writer.ring ≡ ring) × (three.ring ≡ ring) × (width ≡ ring.shape.width) }
+            ensures { (result.0.ring ≡ ring) × (result.1.ring ≡ ring) }
+        { write_and_read(rt, &ring, writer, three, width, count) },
+    );
+    let mut last = ring.lend(&mut writer, 1)?;
+    let newest = Try::Got {
+        number: writer.number(),
+    };
+    let got = ring.try_read(&mut last, &OpenGate::new()) == newest;
+    let right = [
+        is_right(&ring, &mut writer, one, width)?,
+        is_right(&ring, &mut writer, two, width)?,
+        is_right(&ring, &mut writer, three, width)?,
+        is_right(&ring, &mut writer, last, width)?,
+    ];
+    Ok(got && right == [true; 4])
+}
+
+#[test]
+fn readers_get_what_was_written(rt: HostRuntime) -> Result<(), Fail> {
+    for buffers in [1, 2, 4, 16] {
+        for width in [1, 4, 32] {
+            assert!(rt; is_stable(&rt, rt.alloc(), width, buffers)?);
+        }
+    }
+    Ok(())
+}

@@ -1,0 +1,4 @@
+pub mod Refusals
+pub mod Forms
+pub mod Promises
+pub mod Views

@@ -1,0 +1,26 @@
+use Rattle.std.proofs.Common.{Some}
+use Rattle.commands.specs.Texts.{alone}
+use Rattle.lab_top.specs.Views.{wave_view, picture_view}
+use Rattle.lab_top.specs.Words.{wave, picture}
+use Rattle.lab_top.proofs.Promises.{lab_promise}
+use Rattle.lab_top.proofs.Views.{view_promise}
+use Rattle.lab_top.proofs.call.lab.Goals as goal
+
+pub returns-clause-promise : goal.returns-clause-promise
+returns-clause-promise g c =
+    lab_promise _ _ _ (alone c.obey.result) (rw c.command_of.ensures at c.obey.ensures.follows)
+    (rw c.command_of.ensures at c.obey.ensures.no_form)
+
+pub returns-clause-wave : goal.returns-clause-wave
+returns-clause-wave g c = λ trace form.
+    let p = lab_promise (Some (wave trace)) _ _ (alone c.obey.result)
+    (rw (c.command_of.ensures, form) at c.obey.ensures.follows)
+    (rw (c.command_of.ensures, form) at c.obey.ensures.no_form) in
+    view_promise wave_view trace _ _ (alone c.obey.result) p.call p.empty
+
+pub returns-clause-picture : goal.returns-clause-picture
+returns-clause-picture g c = λ trace asked form.
+    let p = lab_promise (Some (picture trace asked)) _ _ (alone c.obey.result)
+    (rw (c.command_of.ensures, form) at c.obey.ensures.follows)
+    (rw (c.command_of.ensures, form) at c.obey.ensures.no_form) in
+    view_promise (picture_view asked) trace _ _ (alone c.obey.result) p.call p.empty

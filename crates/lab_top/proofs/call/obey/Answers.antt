@@ -1,0 +1,11 @@
+use Rattle.std.proofs.Common.{inl, refl}
+use Rattle.commands.specs.Lines.{notice}
+use Rattle.commands.proofs.Loads.{said}
+use Rattle.lab_top.specs.Forms.{lab_usage_line}
+use Rattle.lab_top.specs.Texts.{ttplab}
+use Rattle.lab_top.proofs.call.obey.Goals as goal
+
+pub returns-in-NoForm-clause-follows : goal.returns-in-NoForm-clause-follows
+returns-in-NoForm-clause-follows g c =
+    let told = rw c.as_bytes.ensures.value at c.say.ensures in
+    rw c.in-NoForm.is (refl, inl (said ttplab (notice 2 lab_usage_line) _ _ c.say.result told))

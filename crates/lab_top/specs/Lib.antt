@@ -1,0 +1,7 @@
+pub mod Words
+pub mod Refusals
+pub mod Views
+pub mod Texts
+pub mod Forms
+pub mod Promise
+pub mod ViewPromise

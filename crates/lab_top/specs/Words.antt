@@ -1,0 +1,42 @@
+-- The forms of the words of `ttplab`.
+use Rattle.std.specs.Prelude.{List, [], ◌∷◌, ℕ, codes, Option, Some, None, if◌then◌else◌}
+use Rattle.std.specs.Str.{bytes_eq}
+use Rattle.commands.specs.Words.{numeral_named}
+use Rattle.picture_text.specs.declared.window.Span.{Span}
+use Rattle.lab_top.specs.declared.words.Command.{Command}
+use Rattle.lab_top.specs.declared.words.Command.TheVariants as command
+
+-- what a call of `ttplab` is asked for
+pub data LabForm : Type 0 where
+  -- the waveform of the trace of this name
+  wave : (trace : List ℕ) → LabForm
+  -- the picture of the trace of this name, of the slots that are asked for, or else of those that are chosen
+  picture : (trace : List ℕ) (asked : Option Span) → LabForm
+
+-- the most digits of a slot
+abbrev pub slot_digits : ℕ
+slot_digits = 5
+
+-- the slot that a word names: 1 to 5 decimal digits
+abbrev pub slot_named : List ℕ → Option ℕ
+slot_named word = numeral_named slot_digits word
+
+-- the picture of the slots that two words name, if both name one
+abbrev pub picture_of_slots : List ℕ → Option ℕ → Option ℕ → Option LabForm
+picture_of_slots trace (Some first) (Some last) = Some (picture trace (Some (record { first = first; last = last })))
+picture_of_slots trace _ _ = None
+
+-- the form that words have, if they have one
+abbrev pub lab_form_of : List (List ℕ) → Option LabForm
+lab_form_of (verb ∷ trace ∷ []) =
+    if bytes_eq verb (codes "wave") then Some (wave trace)
+    else (if bytes_eq verb (codes "picture") then Some (picture trace None) else None)
+lab_form_of (verb ∷ trace ∷ first ∷ last ∷ []) =
+    if bytes_eq verb (codes "picture") then picture_of_slots trace (slot_named first) (slot_named last) else None
+lab_form_of _ = None
+
+-- the form that a command of the code stands for
+abbrev pub lab_form_asked : Command → Option LabForm
+lab_form_asked (command.Wave trace) = Some (wave trace.now)
+lab_form_asked (command.Picture trace asked) = Some (picture trace.now asked)
+lab_form_asked command.NoForm = None

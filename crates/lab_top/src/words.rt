@@ -1,0 +1,76 @@
+//! The forms of a call's words.
+ghost use Rattle.std.specs.Prelude.{◌≡◌, [], ◌∷◌};
+ghost use Rattle.commands.specs.Words.{texts_of};
+ghost use Rattle.lab_top.specs.Words.{slot_named, picture_of_slots, lab_form_of, lab_form_asked};
+
+use commands::numeral_named;
+use picture_text::Span;
+
+/// What a call is asked for.
+#[derive(Clone, Copy)]
+pub(crate) enum Command<'a> {
+    /// The waveform of the trace of this name.
+    Wave { trace: &'a str },
+    /// The picture of the trace of this name, of these slots, or of those that are chosen.
+    Picture { trace: &'a str, asked: Option<Span> },
+    /// Nothing: the words have no form.
+    NoForm,
+}
+
+// The most digits of a slot.
+const SLOT_DIGITS: usize = 5;
+
+// The slot that a word names.
+fn slot_named(word: &[u8]) -> Option<u32>
+    ensures { result ≡ slot_named word.now }
+{
+    let slot = numeral_named(word, SLOT_DIGITS)?;
+    Some(slot as u32)
+}
+
+// The picture that is asked for by words for its first and its last slot.
+fn picture_of_slots<'a>(trace: &'a str, first: &str, last: &str) -> Command<'a>
+    ensures { lab_form_asked result ≡ picture_of_slots trace.now (slot_named first.now) (slot_named last.now) }
+{
+    match (slot_named(first.as_bytes()), slot_named(last.as_bytes())) {
+        (Some(first), Some(last)) => Command::Picture {
+            trace,
+            asked: Some(Span { first, last }),
+        },
+        _ => Command::NoForm,
+    }
+}
+
+// The command of two words.
+fn trace_command<'a>(verb: &str, trace: &'a str) -> Command<'a>
+    ensures { lab_form_asked result ≡ lab_form_of (verb.now ∷ trace.now ∷ []) }
+{
+    match verb {
+        "wave" => Command::Wave { trace },
+        "picture" => Command::Picture { trace, asked: None },
+        _ => Command::NoForm,
+    }
+}
+
+// The command of four words.
+fn slots_command<'a>(verb: &str, trace: &'a str, first: &str, last: &str) -> Command<'a>
+    ensures { lab_form_asked result ≡ lab_form_of (verb.now ∷ trace.now ∷ first.now ∷ last.now ∷ []) }
+{
+    match verb {
+        "picture" => picture_of_slots(trace, first, last),
+        _ => Command::NoForm,
+    }
+}
+
+/// The command that words spell.
+pub(crate) fn command_of(words: &[String]) -> Command<'_>
+    ensures { lab_form_asked result ≡ lab_form_of (texts_of words.now) }
+{
+    match words {
+        [verb, trace] => trace_command(verb.as_str(), trace.as_str()),
+        [verb, trace, first, last] => {
+            slots_command(verb.as_str(), trace.as_str(), first.as_str(), last.as_str())
+        }
+        _ => Command::NoForm,
+    }
+}

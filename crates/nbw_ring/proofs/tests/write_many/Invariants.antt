@@ -1,5 +1,0 @@
-use Rattle.std.proofs.Common.{◌≡◌}
-use Rattle.nbw_ring.proofs.tests.write_many.Given as goal
-
-abbrev pub invariant-loop : goal.invariant-loop
-invariant-loop l = l.writer.ring ≡ l.ring

@@ -1,0 +1,9 @@
+use Rattle.ttp_world.specs.Diary.{History}
+use Rattle.controller.specs.PlantStands.{PlantStandsFor, plant_of}
+use Rattle.node_tests.proofs.tests.parts.after_in_parts.Given as goal
+
+abbrev pub invariant-loop-slot : goal.invariant-loop-slot
+invariant-loop-slot l = record {
+  history : History;
+  stands : PlantStandsFor (plant_of l.list l.slot l.seats.items) l.script history;
+}

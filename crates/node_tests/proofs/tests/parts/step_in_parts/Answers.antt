@@ -1,0 +1,18 @@
+use Rattle.std.proofs.Common.{sym, arith}
+use Rattle.controller.proofs.Plants.{is-step}
+use Rattle.node_tests.proofs.tests.parts.step_in_parts.Goals as goal
+
+pub returns-clause-steps : goal.returns-clause-steps
+returns-clause-steps c history stands =
+    let begun = c.begin_in_parts.ensures.begin history (sym stands.slot) stands.seats in
+    is-step stands
+    (omega (
+      arith,
+      c.take_in_parts.ensures.count,
+      c.plan_all.ensures.count,
+      c.begin_in_parts.ensures.count,
+      c.requires.nodes,
+    ))
+    (rw (c.plan_all.ensures.slot) at c.take_in_parts.ensures.seats)
+    (c.take_in_parts.ensures.end history c.args.chosen.now (c.plan_all.ensures.plan history begun)
+    (c.plan_all.ensures.carries history (sym stands.slot) begun))

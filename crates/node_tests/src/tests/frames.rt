@@ -1,0 +1,322 @@
+//! What a node makes of right, wrong, late and missing frames, worked out by hand.
+ghost use Rattle.std.specs.Prelude.{◌≡◌, ◌≤◌, true, false, [], ◌∷◌, unsigned_abs, IfOk};
+ghost use Rattle.ttp_world.specs.Medl.{IsValid};
+ghost use Rattle.controller.specs.PlantWithin.{IsEnded};
+ghost use Rattle.controller.specs.Limits.{offset_of_arrival};
+
+use super::slots::{no_outcome, through_slot};
+use controller::{Controller, Outcome};
+use medium::{Arrival, Outgoing};
+use std::alloc::Global;
+use std::process::Abort;
+use std::test::Fail;
+use ttp_base::{List, Memory, NodeSet};
+use ttp_frame::{FrameIn, encode};
+use ttp_world::{CState, Delivered, Entry, Kind, Medl, Reason, SlotPlan, Verdict};
+
+fn slot_of(alloc: Global, kind: Kind, payload: u8, start: bool) -> Result<SlotPlan, Memory>
+    ensures { IfOk result (λ plan. plan ≡ record {
+      kinds = kind ∷ [];
+      payload = payload;
+      sync = true;
+      start = start;
+      requests = false;
+      live = 1;
+    }) }
+{
+    let mut kinds = List::new(alloc);
+    kinds.push(kind)?;
+    Ok(SlotPlan {
+        kinds,
+        payload,
+        sync: true,
+        start,
+        requests: false,
+        live: 1,
+    })
+}
+
+// Four nodes, of which node 1 sends its C-state and two bytes of payload.
+fn four_nodes(alloc: Global) -> Result<Medl, Memory>
+    ensures { IfOk result IsValid }
+{
+    let mut slots = List::new(alloc);
+    slots.push(slot_of(alloc, Kind::I, 0, true)?)?;
+    slots.push(slot_of(alloc, Kind::X, 2, false)?)?;
+    slots.push(slot_of(alloc, Kind::N, 2, false)?)?;
+    slots.push(slot_of(alloc, Kind::I, 0, false)?)?;
+    Ok(Medl {
+        version: 1,
+        rounds: 1,
+        schedule: 7,
+        buffers: 2,
+        drift: 0,
+        error: 1,
+        window: 100,
+        modes: 1,
+        slots,
+    })
+}
+
+// Nodes 0, 1 and 3.
+fn three_members() -> NodeSet {
+    NodeSet::empty().with(0).with(1).with(3)
+}
+
+// The place of a node's slot in the first round that counts here.
+fn place_of(slot: u8, time: u16, members: NodeSet) -> CState {
+    CState {
+        time,
+        round: 0,
+        slot,
+        members,
+    }
+}
+
+// What came on a channel: the frame that a node expects, the same with the node itself taken out, or the
+// first of them so late that it is outside the window.
+#[derive(Clone, Copy, Debug)]
+enum Came {
+    Silence,
+    Noise,
+    Right,
+    Wrong,
+    Late,
+}
+
+// A frame with this header, C-state and payload.
+fn frame_of(rt: &impl Abort, header: u8, cstate: CState, payload: &[u8]) -> Outgoing {
+    assert!(rt; header <= 2 && payload.len() <= 2 && cstate.members.bits() < 0x1_0000);
+    assert!(rt; header != 1 || payload.len() == 0);
+    let mut bytes = [0u8; 256];
+    let frame = FrameIn {
+        wide: false,
+        header,
+        cstate,
+        payload,
+    };
+    let len = encode(&frame, 7, &mut bytes) as u16;
+    Outgoing { len, bytes }
+}
+
+// Node 1's frame with these members, and a payload that begins with this byte.
+fn frame_of_1(rt: &impl Abort, members: NodeSet, first: u8) -> Outgoing {
+    frame_of(rt, 2, place_of(1, 5, members), &[first, 9])
+}
+
+// As it comes to a node whose clock is 4 ahead and that reads 1 too much: 7 late, or 997.
+fn arrival_of<'a>(came: Came, right: &'a [u8], wrong: &'a [u8]) -> Arrival<'a>
+    ensures { unsigned_abs (offset_of_arrival result) ≤ 1000 }
+{
+    match came {
+        Came::Silence => Arrival::Silence,
+        Came::Noise => Arrival::Noise,
+        Came::Right => Arrival::Bits {
+            bytes: right,
+            offset: 10,
+        },
+        Came::Wrong => Arrival::Bits {
+            bytes: wrong,
+            offset: 10,
+        },
+        Came::Late => Arrival::Bits {
+            bytes: right,
+            offset: 1000,
+        },
+    }
+}
+
+// A node before node 1's slot that holds nodes 0, 1 and 3 for members, and whose clock is 4 ahead. Node 3 has
+// joined on node 0's frame, and owes no answer. Node 0 has joined on node 3's frame and then sent one that is
+// not answered.
+fn receiver(
+    rt: &impl Abort,
+    alloc: Global,
+    list: &Medl,
+    answered: bool,
+) -> Result<Controller, Memory>
+    requires { IsValid list.now }
+    ensures list { IfOk result (λ c. list.now ≡ c.list) }
+    ensures turn { IfOk result (λ c. IsEnded c.turn) }
+{
+    let (number, sender, time) = if answered { (3, 0, 4) } else { (0, 3, 3) };
+    let joined = frame_of(rt, 1, place_of(sender, time, three_members()), &[]);
+    let came = Arrival::Bits {
+        bytes: joined.as_slice(),
+        offset: 4,
+    };
+    let mut outcome = no_outcome();
+    let mut node = Controller::new(alloc, list, number)?;
+    assert!(rt;
+        !through_slot(
+            rt,
+            &mut node,
+            list,
+            true,
+            0,
+            (&came, &came),
+            0,
+            0,
+            &mut outcome
+        )
+    );
+    if !answered {
+        let silence = Arrival::Silence;
+        assert!(rt;
+            through_slot(
+                rt,
+                &mut node,
+                list,
+                true,
+                0,
+                (&silence, &silence),
+                0,
+                0,
+                &mut outcome
+            )
+        );
+    }
+    let state = node.state();
+    assert!(rt; state.offset == 4 && state.members == three_members());
+    Ok(node)
+}
+
+// The first byte of what is delivered.
+fn first_byte(outcome: &Outcome) -> Option<u8> {
+    match &outcome.delivered {
+        Some(Delivered { payload, .. }) if payload.len == 2 => Some(payload.bytes[0]),
+        _ => None,
+    }
+}
+
+#[test]
+fn better_channel_decides(rt: HostRuntime) -> Result<(), Fail> {
+    let list = four_nodes(rt.alloc())?;
+    let right_a = frame_of_1(&rt, three_members(), 7);
+    let right_b = frame_of_1(&rt, three_members(), 8);
+    for (answered, on_a, on_b, verdict, deviation, byte) in [
+        (true, Came::Right, Came::Wrong, Verdict::Correct, 7, Some(7)),
+        (true, Came::Right, Came::Late, Verdict::Correct, 7, Some(7)),
+        (true, Came::Noise, Came::Right, Verdict::Correct, 7, Some(8)),
+        (true, Came::Late, Came::Right, Verdict::Correct, 7, Some(8)),
+        (true, Came::Wrong, Came::Right, Verdict::Correct, 7, Some(8)),
+        (
+            true,
+            Came::Wrong,
+            Came::Silence,
+            Verdict::Incorrect,
+            7,
+            None,
+        ),
+        (true, Came::Late, Came::Wrong, Verdict::Incorrect, 7, None),
+        (
+            false,
+            Came::Right,
+            Came::Wrong,
+            Verdict::Correct,
+            7,
+            Some(7),
+        ),
+        (
+            false,
+            Came::Silence,
+            Came::Wrong,
+            Verdict::Tentative,
+            7,
+            None,
+        ),
+        (true, Came::Late, Came::Late, Verdict::Invalid, 997, None),
+        (true, Came::Noise, Came::Silence, Verdict::Invalid, 0, None),
+        (true, Came::Silence, Came::Silence, Verdict::Null, 0, None),
+    ] {
+        let others = three_members().without(if answered { 3 } else { 0 });
+        let (wrong_a, wrong_b) = (frame_of_1(&rt, others, 7), frame_of_1(&rt, others, 8));
+        let a = arrival_of(on_a, right_a.as_slice(), wrong_a.as_slice());
+        let b = arrival_of(on_b, right_b.as_slice(), wrong_b.as_slice());
+        let mut outcome = no_outcome();
+        let mut node = receiver(&rt, rt.alloc(), &list, answered)?;
+        assert!(rt; !through_slot(&rt, &mut node, &list, true, 0, (&a, &b), 1, 0, &mut outcome));
+        let entry = Entry::Judged {
+            sender: 1,
+            verdict,
+            deviation,
+        };
+        assert!(rt; node.state().entry == entry, "{on_a:?} {on_b:?}");
+        assert!(rt; first_byte(&outcome) == byte, "{on_a:?} {on_b:?}");
+    }
+    Ok(())
+}
+
+#[test]
+fn nodes_join_on_either_channel(rt: HostRuntime) -> Result<(), Fail> {
+    let list = four_nodes(rt.alloc())?;
+    let right = frame_of_1(&rt, three_members(), 7);
+    let joined = |deviation| Entry::Joined {
+        sender: 1,
+        cstate: place_of(1, 5, three_members()),
+        deviation,
+    };
+    for (on_a, on_b, entry) in [
+        (Came::Right, Came::Late, joined(7)),
+        (Came::Late, Came::Right, joined(997)),
+        (Came::Noise, Came::Right, joined(7)),
+        (Came::Silence, Came::Right, joined(7)),
+        (Came::Wrong, Came::Right, joined(7)),
+        (Came::Noise, Came::Wrong, Entry::Waited),
+        (Came::Silence, Came::Silence, Entry::Waited),
+    ] {
+        let a = arrival_of(on_a, right.as_slice(), b"\x02");
+        let b = arrival_of(on_b, right.as_slice(), b"\x02");
+        let mut outcome = no_outcome();
+        let mut node = Controller::new(rt.alloc(), &list, 3)?;
+        // Its clock jumps to 4.
+        assert!(rt; !through_slot(&rt, &mut node, &list, true, 4, (&a, &b), 1, 0, &mut outcome));
+        assert!(rt; node.state().entry == entry, "{on_a:?} {on_b:?}");
+    }
+    Ok(())
+}
+
+#[test]
+fn denied_node_leaves(rt: HostRuntime) -> Result<(), Fail> {
+    let list = four_nodes(rt.alloc())?;
+    let mut node = receiver(&rt, rt.alloc(), &list, false)?;
+    let mut outcome = no_outcome();
+    // Neither node 1 nor node 2 holds node 0 for a member.
+    let first = frame_of_1(&rt, NodeSet::empty().with(1).with(3), 7);
+    let second = frame_of(
+        &rt,
+        0,
+        place_of(2, 6, NodeSet::empty().with(1).with(2).with(3)),
+        &[7, 9],
+    );
+    let tentative = Entry::Judged {
+        sender: 1,
+        verdict: Verdict::Tentative,
+        deviation: -3,
+    };
+    let left = Entry::Left {
+        reason: Reason::Denied,
+        peer: 2,
+    };
+    for (frame, entry) in [(&first, tentative), (&second, left)] {
+        let came = Arrival::Bits {
+            bytes: frame.as_slice(),
+            offset: 0,
+        };
+        assert!(rt;
+            !through_slot(
+                &rt,
+                &mut node,
+                &list,
+                true,
+                0,
+                (&came, &came),
+                1,
+                0,
+                &mut outcome
+            )
+        );
+        assert!(rt; node.state().entry == entry);
+    }
+    Ok(())
+}

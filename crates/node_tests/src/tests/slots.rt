@@ -1,0 +1,48 @@
+//! A slot of one controller, by what comes to it.
+ghost use Rattle.std.specs.Prelude.{◌≡◌, ◌≤◌, unsigned_abs};
+ghost use Rattle.controller.specs.PlantWithin.{IsEnded};
+ghost use Rattle.controller.specs.Limits.{offset_of_arrival};
+
+use controller::{Controller, Intent, Outcome};
+use medium::Arrival;
+use std::process::Abort;
+use ttp_world::{Medl, StatusWords};
+
+/// What is left before the first slot.
+pub(super) fn no_outcome() -> Outcome {
+    Outcome {
+        delivered: None,
+        status: StatusWords { words: [0; 4] },
+    }
+}
+
+/// Takes a controller through a slot in which it is to be on or not, and which is not one in which its frame would
+/// carry payload, and tells whether it sends.
+pub(super) fn through_slot(
+    rt: &impl Abort,
+    controller: &mut Controller,
+    list: &Medl,
+    on: bool,
+    jump: i64,
+    came: (&Arrival, &Arrival),
+    error: i64,
+    drift: i64,
+    outcome: &mut Outcome,
+) -> bool
+    requires list { list.now ≡ controller.old.list }
+    requires turn { IsEnded controller.old.turn }
+    requires on_a { unsigned_abs (offset_of_arrival came.0.now) ≤ 1000 }
+    requires on_b { unsigned_abs (offset_of_arrival came.1.now) ≤ 1000 }
+    ensures list { list.now ≡ controller.new.list }
+    ensures turn { IsEnded controller.new.turn }
+{
+    let offset = controller.state().offset;
+    assert!(rt; offset.unsigned_abs() <= 1000 && jump.unsigned_abs() <= 1000);
+    assert!(rt; error.unsigned_abs() <= 1000 && drift.unsigned_abs() <= 1000);
+    assert!(rt; list.window.unsigned_abs() <= 1000);
+    controller.begin(list, on, false, jump);
+    assert!(rt; controller.intent() != Intent::Loaded);
+    let sent = controller.plan(list, 0, &[]).is_some();
+    controller.take(list, came.0, came.1, error, drift, outcome);
+    sent
+}

@@ -1,0 +1,43 @@
+-- Of the numbers below one more number those that pass a test.
+use Rattle.std.proofs.Common.{◌≡◌, ℕ, ◌+◌, Bool, true, false, cond, List, [], ◌∷◌, ◌++◌, length, sym, ap, ◌∙◌}
+use Rattle.std.proofs.Common.{◌<◌, length-append, decimal, codes, get_or}
+use Rattle.std.specs.Prelude.{filter}
+use Rattle.std.proofs.lemmas.List.{append-nil, get_or_default}
+use Rattle.std.proofs.lemmas.List.Concat.{flat_map-append}
+use Rattle.std.proofs.lemmas.List.Elements.{filter-append}
+use Rattle.ttp_base.specs.NodeSet.{below}
+use Rattle.ttp_base.proofs.Below.{below-next}
+use Rattle.whole_trace.specs.declared.shown.NodeShown.{NodeShown}
+use Rattle.whole_trace.specs.Whole.{SlotLines}
+use Rattle.shown_slot.specs.Trace.{no_node, node_at}
+use Rattle.picture_text.specs.Cells.{each_node}
+
+filter-next : (p : ℕ → Bool) (n : ℕ) → filter p (below (n + 1)) ≡ filter p (below n) ++ cond (p n) (n ∷ []) []
+filter-next p n = ap (filter p) (below-next n) ∙ filter-append p (below n) (n ∷ [])
+
+-- it passes
+pub passes : (p : ℕ → Bool) (n : ℕ) → p n ≡ true → filter p (below (n + 1)) ≡ filter p (below n) ++ n ∷ []
+passes p n good = filter-next p n ∙ ap (λ (b : Bool). filter p (below n) ++ cond b (n ∷ []) []) good
+
+-- it does not
+pub fails : (p : ℕ → Bool) (n : ℕ) → p n ≡ false → filter p (below (n + 1)) ≡ filter p (below n)
+fails p n bad =
+    filter-next p n ∙ ap (λ (b : Bool). filter p (below n) ++ cond b (n ∷ []) []) bad ∙ append-nil (filter p (below n))
+
+-- how many they are
+pub count-passes : (p : ℕ → Bool) (n : ℕ) → p n ≡ true
+    → length (filter p (below (n + 1))) ≡ length (filter p (below n)) + 1
+count-passes p n good = ap length (passes p n good) ∙ length-append (filter p (below n)) (n ∷ [])
+
+-- their numbers as a text
+pub text-passes : (p : ℕ → Bool) (n : ℕ) → p n ≡ true
+    → each_node (filter p (below (n + 1))) ≡ each_node (filter p (below n)) ++ (codes " " ++ decimal n)
+text-passes p n good =
+    ap each_node (passes p n good) ∙ flat_map-append (λ k. codes " " ++ decimal k) (filter p (below n)) (n ∷ [])
+    ∙ ap (λ (ys : List ℕ). each_node (filter p (below n)) ++ ys) (append-nil (codes " " ++ decimal n))
+
+-- a node that was read is that of the slot
+pub read_node : (slot : SlotLines) (nodes : List NodeShown) (k : ℕ) (node : NodeShown) → nodes ≡ slot.nodes
+    → node ≡ get_or nodes k node → k < length nodes → node_at slot k ≡ node
+read_node slot nodes k node same at inside =
+    ap (λ (ns : List NodeShown). get_or ns k no_node) (sym same) ∙ get_or_default nodes k no_node node inside ∙ sym at

@@ -1,0 +1,14 @@
+pub mod PictureLines
+pub mod Ending
+pub mod LongCell
+pub mod Whole
+pub mod Holders
+pub mod Rows
+pub mod Puts
+pub mod Places
+pub mod Digits
+pub mod Distinct
+pub mod Sought
+pub mod Joined
+pub mod Pairs
+pub mod NodeLine

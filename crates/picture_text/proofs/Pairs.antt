@@ -1,0 +1,22 @@
+-- One line that is put, and two.
+use Rattle.std.proofs.Common.{◌≡◌, ℕ, List, [], ◌∷◌, ◌++◌, Bool, subst}
+use Rattle.ttp_base.specs.Outside.{Output}
+use Rattle.ttp_base.specs.Text.{Lines}
+use Rattle.picture_text.specs.Sheet.{Puts}
+use Rattle.picture_text.proofs.Puts.{puts_then}
+
+pub puts_one : {f g : Bool} {a b : Output} {x y : List ℕ} → x ≡ y → Puts f a g b (x ∷ []) → Puts f a g b (y ∷ [])
+puts_one {f} {g} {a} {b} e p = subst (λ (line : List ℕ). Puts f a g b (line ∷ [])) e p
+
+-- lines behind one
+pub puts_first : {f g h : Bool} {a b c : Output} {x y : List ℕ} {ys : Lines} → x ≡ y → Puts f a g b (x ∷ [])
+    → Puts g b h c ys → Puts f a h c (y ∷ ys)
+puts_first {f} {g} {h} {a} {b} {c} {x} {y} {ys} e p q = puts_then f g h a b c (y ∷ []) ys (puts_one e p) q
+
+pub puts_two : {f g h : Bool} {a b c : Output} {x y v w : List ℕ} → x ≡ v → y ≡ w → Puts f a g b (x ∷ [])
+    → Puts g b h c (y ∷ []) → Puts f a h c (v ∷ w ∷ [])
+puts_two e d p q = puts_first e p (puts_one d q)
+
+-- lines in two parts
+pub puts_both : {f g h : Bool} {a b c : Output} {x y : Lines} → Puts f a g b x → Puts g b h c y → Puts f a h c (x ++ y)
+puts_both {f} {g} {h} {a} {b} {c} {x} {y} p q = puts_then f g h a b c x y p q

@@ -1,0 +1,69 @@
+-- Lines that are put one after another.
+use Rattle.std.proofs.Common.{◌≡◌, refl, ap, ◌∙◌, ℕ, ◌+◌, map, List, [], ◌∷◌, ◌++◌, subst, sym, Bool, true, false}
+use Rattle.std.proofs.Common.{append_assoc}
+use Rattle.std.proofs.lemmas.List.{append-nil, map-id}
+use Rattle.std.proofs.lemmas.List.Concat.{flat_map-append}
+use Rattle.std.proofs.lemmas.List.FromFn.{map-range_with_len_more}
+use Rattle.std.specs.List.{flat_map, range_with_len}
+use Rattle.ttp_base.specs.NodeSet.{below}
+use Rattle.ttp_base.specs.Outside.{Output, WroteLines, CutShort}
+use Rattle.ttp_base.specs.Text.{Lines, lines_below}
+use Rattle.ttp_base.proofs.Below.{flat_map-next, map-next}
+use Rattle.ttp_base.proofs.Outputs.{Wrote-join, Wrote-none, CutShort-after, CutShort-more}
+use Rattle.picture_text.specs.Sheet.{Puts, HasPut}
+
+-- no lines, and lines in two parts
+pub puts_none : (f : Bool) (a : Output) → Puts f a f a []
+puts_none f a = record { puts = λ start before put. subst (HasPut f start a) (sym (append-nil before)) put }
+
+pub puts_then : (f g h : Bool) (a b c : Output) (x y : Lines) → Puts f a g b x → Puts g b h c y → Puts f a h c (x ++ y)
+puts_then f g h a b c x y p q = record {
+  puts = λ start before put.
+      subst (HasPut h start c) (append_assoc before x y) (q.puts start (before ++ x) (p.puts start before put));
+}
+
+-- what one call of the sink does
+pub puts_wrote : (a b : Output) (x : Lines) → WroteLines a b x → Puts false a false b x
+puts_wrote a b x wrote = record { puts = λ start before put. Wrote-join start a b before x put wrote }
+
+pub puts_cut : (a b : Output) (x : Lines) → CutShort a b x → Puts false a true b x
+puts_cut a b x cut = record { puts = λ start before put. CutShort-after start a b before x put cut }
+
+pub puts_nothing : (a : Output) (x : Lines) → Puts true a true a x
+puts_nothing a x = record { puts = λ start before put. CutShort-more start a before x put }
+
+-- one number more
+pub puts_next : (f g h : Bool) (a b c : Output) (line : ℕ → List ℕ) (k : ℕ) → Puts f a g b (map line (below k))
+    → Puts g b h c (line k ∷ []) → Puts f a h c (map line (below (k + 1)))
+puts_next f g h a b c line k p q = rw (map-next line k) (puts_then f g h a b c (map line (below k)) (line k ∷ []) p q)
+
+pub puts_below : (f g h : Bool) (a b c : Output) (lines : ℕ → Lines) (k : ℕ) → Puts f a g b (lines_below lines k)
+    → Puts g b h c (lines k) → Puts f a h c (lines_below lines (k + 1))
+puts_below f g h a b c lines k p q =
+    rw (flat_map-next lines k) (puts_then f g h a b c (lines_below lines k) (lines k) p q)
+
+range-next : (f : ℕ → Lines) (a n : ℕ)
+    → flat_map f (range_with_len a (n + 1)) ≡ flat_map f (range_with_len a n) ++ f (a + n)
+range-next f a n =
+    ap (flat_map f)
+    (sym (map-id (range_with_len a (n + 1))) ∙ map-range_with_len_more (λ k. k) a n (a + n) refl
+    ∙ ap (λ (ks : List ℕ). ks ++ (a + n) ∷ []) (map-id (range_with_len a n)))
+    ∙ flat_map-append f (range_with_len a n) ((a + n) ∷ [])
+    ∙ ap (λ (ys : Lines). flat_map f (range_with_len a n) ++ ys) (append-nil (f (a + n)))
+
+pub puts_range : (f g h : Bool) (a b c : Output) (lines : ℕ → Lines) (first k : ℕ)
+    → Puts f a g b (flat_map lines (range_with_len first k)) → Puts g b h c (lines (first + k))
+    → Puts f a h c (flat_map lines (range_with_len first (k + 1)))
+puts_range f g h a b c lines first k p q =
+    rw (range-next lines first k)
+    (puts_then f g h a b c (flat_map lines (range_with_len first k)) (lines (first + k)) p q)
+
+-- all of them
+pub all_wrote : (a b : Output) (x : Lines) → Puts false a false b x → WroteLines a b x
+all_wrote a b x p = p.puts a [] (Wrote-none a)
+
+pub all_cut : (a b : Output) (x : Lines) → Puts false a true b x → CutShort a b x
+all_cut a b x p = p.puts a [] (Wrote-none a)
+
+pub ruleset puts =
+    (puts_then, puts_none, puts_wrote, puts_cut, puts_nothing, puts_next, puts_below, all_wrote, all_cut)

@@ -1,0 +1,10 @@
+use Rattle.ttp_base.specs.Text.{lines_below}
+use Rattle.picture_text.specs.Picture.{band_lines}
+use Rattle.picture_text.specs.Sheet.{Puts}
+use Rattle.picture_text.proofs.band.put_bands.Given as goal
+
+-- the bands so far were put
+abbrev pub invariant-loop-band : goal.invariant-loop-band
+invariant-loop-band g l =
+    Puts l.fn.sheet.failed (g.K.Sink.output l.fn.out) l.sheet.failed (g.K.Sink.output l.out)
+    (lines_below (band_lines l.frame.head.nodes l.frame.span) l.band)

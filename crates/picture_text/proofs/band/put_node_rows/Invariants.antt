@@ -1,0 +1,13 @@
+use Rattle.std.proofs.Common.{◌+◌, ◌++◌, map, codes, decimal}
+use Rattle.ttp_base.specs.NodeSet.{below}
+use Rattle.picture_text.specs.Picture.{row_line}
+use Rattle.picture_text.specs.Window.{row_y}
+use Rattle.picture_text.specs.Sheet.{Puts}
+use Rattle.picture_text.proofs.band.put_node_rows.Given as goal
+
+-- the names so far were put
+abbrev pub invariant-loop-number : goal.invariant-loop-number
+invariant-loop-number g l =
+    Puts l.fn.sheet.failed (g.K.Sink.output l.fn.out) l.sheet.failed (g.K.Sink.output l.out)
+    (map (λ k. row_line (row_y l.frame.head.nodes l.frame.span l.slot k + 13) (codes "node " ++ decimal k))
+    (below l.number))

@@ -1,0 +1,20 @@
+use Rattle.std.proofs.Common.{◌+◌, ◌*◌, length, codes, decimal}
+use Rattle.ttp_base.specs.Text.{newline}
+use Rattle.line_reader.specs.TraceLines.{word_text}
+use Rattle.picture_text.specs.Cells.{place}
+use Rattle.picture_text.proofs.Joined.{element_parts}
+use Rattle.picture_text.proofs.beside.make_why_box.Goals as goal
+
+pub returns : goal.returns
+returns c =
+    rw (
+      c.put_text-3.ensures,
+      c.put_number.ensures,
+      c.why_width-width.ensures.value,
+      c.put_text-2.ensures,
+      c.put_place.ensures.text,
+      c.put_text.ensures,
+      c.clear.ensures,
+    )
+    (element_parts (codes "<rect class=\"why\"") (place c.args.x c.args.y) (codes " width=\"")
+    (decimal (7 * length (word_text c.args.word) + 6)) (codes "\"") (codes " height=\"17\"/>") newline)

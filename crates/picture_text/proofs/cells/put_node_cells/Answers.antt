@@ -1,0 +1,13 @@
+use Rattle.shown_slot.specs.Trace.{node_at}
+use Rattle.picture_text.specs.Cells.{node_cell}
+use Rattle.picture_text.specs.Window.{column_x, row_y}
+use Rattle.picture_text.proofs.Rows.{one_more}
+use Rattle.picture_text.proofs.cells.put_node_cells.Goals as goal
+
+pub loop-number-preserved : goal.loop-number-preserved
+loop-number-preserved g c =
+    one_more _ _ _ _ _ _
+    (λ k. node_cell c.args.frame.head c.args.slot k (node_at c.args.shown.now k) c.args.most
+    (column_x c.args.frame.head.nodes c.args.frame.span c.args.slot)
+    (row_y c.args.frame.head.nodes c.args.frame.span c.args.slot k))
+    c.loop-number.number c.make_placed_cell.new.line c.loop-number.invariant c.write.ensures c.make_placed_cell.ensures

@@ -1,0 +1,18 @@
+use Rattle.std.proofs.Common.{◌+◌}
+use Rattle.picture_text.specs.Cells.{place}
+use Rattle.picture_text.proofs.Joined.{cell_parts}
+use Rattle.picture_text.proofs.element.make_cell.Goals as goal
+
+pub returns : goal.returns
+returns c =
+    rw (
+      c.close_cell.ensures,
+      c.put_text-3.ensures,
+      c.close_title.ensures.text,
+      c.put_text-2.ensures,
+      c.open_title.ensures.text,
+      c.put_text.ensures,
+      c.open_cell.ensures,
+    )
+    (cell_parts c.args.class.now c.args.title.now (place c.args.at.x c.args.at.y)
+    (place (c.args.at.x + 8) (c.args.at.y + 13)) c.args.shown.now)

@@ -1,0 +1,7 @@
+use Rattle.std.proofs.Common.{codes, decimal, append_assoc}
+use Rattle.picture_text.proofs.head.put_more.Goals as goal
+
+pub returns-in-Some-clause-text : goal.returns-in-Some-clause-text
+returns-in-Some-clause-text c =
+    rw (c.in-Some.is, c.put_number.ensures, c.from.ensures, c.put_text.ensures)
+    (append_assoc c.args.line.now (codes "; more happens in slot ") (decimal c.in-Some.slot))

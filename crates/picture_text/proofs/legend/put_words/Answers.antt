@@ -1,0 +1,11 @@
+use Rattle.std.proofs.Common.{ℕ, get_or}
+use Rattle.line_reader.specs.declared.trace_line.Word.TheVariants as word
+use Rattle.picture_text.specs.Picture.{word_entry}
+use Rattle.picture_text.specs.Tables.{words}
+use Rattle.picture_text.proofs.Puts.{puts_below}
+use Rattle.picture_text.proofs.legend.put_words.Goals as goal
+
+pub loop-number-preserved : goal.loop-number-preserved
+loop-number-preserved g c =
+    puts_below _ _ _ _ _ _ (λ (k : ℕ). word_entry c.args.top k (get_or words k word.Off)) c.loop-number.number
+    c.loop-number.invariant c.put_word_entry.ensures

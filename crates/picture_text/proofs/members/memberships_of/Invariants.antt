@@ -1,0 +1,10 @@
+use Rattle.std.proofs.Common.{◌≡◌, ◌≤◌, length, take}
+use Rattle.picture_text.specs.Cells.{memberships}
+use Rattle.picture_text.proofs.members.memberships_of.Given as goal
+
+-- the memberships of the nodes so far
+abbrev pub invariant-loop-node : goal.invariant-loop-node
+invariant-loop-node l = record {
+  found : l.found ≡ memberships (take l.node-index l.nodes);
+  few : length l.found ≤ l.node-index;
+}

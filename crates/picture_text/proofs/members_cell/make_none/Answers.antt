@@ -1,0 +1,21 @@
+use Rattle.std.proofs.Common.{◌+◌, ◌++◌, codes, decimal}
+use Rattle.picture_text.specs.Cells.{place}
+use Rattle.picture_text.proofs.Joined.{cell_parts}
+use Rattle.picture_text.proofs.members_cell.make_none.Goals as goal
+
+pub returns : goal.returns
+returns c =
+    rw (
+      c.close_cell.ensures,
+      c.put_text-4.ensures,
+      c.close_title.ensures.text,
+      c.put_text-3.ensures,
+      c.put_number.ensures,
+      c.from.ensures,
+      c.put_text-2.ensures,
+      c.open_title.ensures.text,
+      c.put_text.ensures,
+      c.open_cell.ensures,
+    )
+    (cell_parts (codes "none") (codes "slot " ++ decimal c.args.slot ++ codes " members -")
+    (place c.args.at.x c.args.at.y) (place (c.args.at.x + 8) (c.args.at.y + 13)) (codes "-"))

@@ -1,0 +1,20 @@
+use Rattle.std.proofs.Common.{subst, ℕ, ◌+◌, [], ◌∷◌, ◌++◌, codes}
+use Rattle.picture_text.specs.Picture.{ended, keep_flag, back_flag, word_entries, class_entries}
+use Rattle.picture_text.specs.Sheet.{Puts}
+use Rattle.picture_text.specs.Tables.{words}
+use Rattle.picture_text.proofs.Rows.{five_parts}
+use Rattle.picture_text.proofs.picture.put_rest.Goals as goal
+
+pub returns : goal.returns
+returns g c =
+    let n = c.args.frame.head.nodes in
+    let span = c.args.frame.span in
+    subst (λ (top : ℕ). Puts c.args.sheet.now.failed (g.K.Sink.output c.args.out.now) c.put.new.self.failed
+    (g.K.Sink.output c.put.new.out)
+    (keep_flag n span c.args.keep ++ back_flag n span c.args.back ++ word_entries top 0 words
+    ++ class_entries (top + 118) ++ ended (codes "</svg>") ∷ []))
+    c.legend_top-top.ensures.value
+    (five_parts _ _ _ _ _ _ _ _ _ _ _ _ (keep_flag n span c.args.keep) (back_flag n span c.args.back)
+    (word_entries c.legend_top-top.result 0 words) (class_entries (c.legend_top-top.result + 118))
+    (ended (codes "</svg>") ∷ [])
+    c.put_keep_flag.ensures c.put_back_flag.ensures c.put_words.ensures c.put_classes.ensures c.put.ensures)

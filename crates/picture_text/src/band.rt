@@ -1,0 +1,77 @@
+//! The names of the rows of each band.
+#![tactic(auto, using(ttp_base::proofs::Room::room))]
+
+ghost use Rattle.std.specs.Prelude.{◌≡◌, ◌+◌, ◌*◌, ◌^◌, ◌<◌, ◌≤◌, [], ◌∷◌, ◌++◌, length, map, codes, decimal};
+ghost use Rattle.ttp_base.specs.NodeSet.{below};
+ghost use Rattle.ttp_base.specs.Text.{lines_below};
+ghost use Rattle.picture_text.specs.Picture.{row_line, band_lines};
+ghost use Rattle.picture_text.specs.Sheet.{Puts};
+ghost use Rattle.picture_text.specs.Window.{columns, bands, row_y};
+
+use crate::element::{close_text, open_text_of};
+use crate::frame::Frame;
+use crate::grid::{bands, columns, row_y};
+use crate::sheet::Sheet;
+use ttp_base::{Line, Sink};
+
+fn make_row(line: &mut Line, y: u64, name: &str)
+    requires { length name.now ≤ 10 }
+    ensures { line.new ≡ row_line y name.now }
+{
+    open_text_of(line, "row", 64, y);
+    line.put_text(name);
+    close_text(line);
+}
+
+fn make_node_row(line: &mut Line, y: u64, number: u8)
+    ensures { line.new ≡ row_line y (codes "node " ++ decimal number) }
+{
+    open_text_of(line, "row", 64, y);
+    line.put_text("node ");
+    line.put_number(u64::from(number));
+    close_text(line);
+}
+
+// Writes the names of the nodes beside the band that begins with this slot.
+#[tactic(auto, using(crate::proofs::Puts::puts))]
+fn put_node_rows<K: Sink>(frame: Frame, slot: u32, sheet: &mut Sheet, out: &mut K)
+    ensures { Puts sheet.old.failed (K.output out.old) sheet.new.failed (K.output out.new)
+        (map (λ k. row_line (row_y frame.head.nodes frame.span slot k + 13) (codes "node " ++ decimal k))
+        (below frame.head.nodes)) }
+{
+    for number in 0..frame.head.nodes {
+        make_node_row(&mut sheet.line, row_y(frame, slot, number) + 13, number);
+        sheet.write(out);
+    }
+}
+
+// Writes the names of the rows of a band.
+#[tactic(auto, using(crate::proofs::Puts::puts))]
+fn put_band<K: Sink>(frame: Frame, band: u32, sheet: &mut Sheet, out: &mut K)
+    requires { band < bands frame.head.nodes frame.span }
+    ensures { Puts sheet.old.failed (K.output out.old) sheet.new.failed (K.output out.new)
+        (band_lines frame.head.nodes frame.span band) }
+{
+    let nodes = frame.head.nodes;
+    let slot = frame.span.first + columns(nodes) * band;
+    put_node_rows(frame, slot, sheet, out);
+    make_row(&mut sheet.line, row_y(frame, slot, nodes) + 17, "members");
+    sheet.write(out);
+    make_row(
+        &mut sheet.line,
+        row_y(frame, slot, nodes + 1) + 17,
+        "clocks",
+    );
+    sheet.write(out);
+}
+
+/// Writes the names of the rows of all bands.
+#[tactic(auto, using(crate::proofs::Puts::puts))]
+pub(crate) fn put_bands<K: Sink>(frame: Frame, sheet: &mut Sheet, out: &mut K)
+    ensures { Puts sheet.old.failed (K.output out.old) sheet.new.failed (K.output out.new)
+        (lines_below (band_lines frame.head.nodes frame.span) (bands frame.head.nodes frame.span)) }
+{
+    for band in 0..bands(frame) {
+        put_band(frame, band, sheet, out);
+    }
+}

@@ -1,0 +1,205 @@
+//! What stands beside the cells of a slot: why nodes left, and what hosts did.
+#![tactic(auto, using(ttp_base::proofs::Room::room))]
+
+ghost use Rattle.std.specs.Prelude.{◌≡◌, ◌+◌, ◌*◌, ◌^◌, ◌<◌, ◌≤◌, [], ◌∷◌, ◌++◌, length, map, codes, decimal};
+ghost use Rattle.ttp_base.specs.Text.{lines_below};
+ghost use Rattle.line_reader.specs.TraceLines.{word_text};
+ghost use Rattle.picture_text.specs.Cells.{host_of, mark, host_mark};
+ghost use Rattle.shown_slot.specs.Trace.{host_text};
+ghost use Rattle.picture_text.specs.Picture.{why_box, why_word, why_lines, beside_lines};
+ghost use Rattle.picture_text.specs.Sheet.{Puts};
+ghost use Rattle.picture_text.specs.Window.{row_y, column_x};
+
+use crate::cells::node_at;
+use crate::element::{close_mark, close_text, open_mark, open_text_of, put_place};
+use crate::frame::{Corner, Frame};
+use crate::grid::{beside, corner};
+use crate::sheet::Sheet;
+use crate::titles::put_host_text;
+use line_reader::Word;
+use shown_slot::{has_left, word_text};
+use ttp_base::{Line, Sink};
+use ttp_world::Source;
+use whole_trace::{HostLine, SlotShown};
+
+// How wide the box behind a word is.
+fn why_width(word: Word) -> u64
+    ensures value { result ≡ 7 * length (word_text word) + 6 }
+    ensures short { result ≤ 104 }
+{
+    7 * word_text(word).len() as u64 + 6
+}
+
+// Makes the box behind the word of a node that left.
+fn make_why_box(line: &mut Line, word: Word, x: u64, y: u64)
+    ensures { line.new ≡ why_box word x y }
+{
+    let width = why_width(word);
+    line.clear();
+    line.put_text("<rect class=\"why\"");
+    put_place(line, x, y);
+    line.put_text(" width=\"");
+    line.put_number(width);
+    line.put_text("\" height=\"17\"/>\n");
+}
+
+// Makes that word.
+fn make_why_word(line: &mut Line, word: Word, x: u64, y: u64)
+    ensures { line.new ≡ why_word word x y }
+{
+    open_text_of(line, "why", x, y);
+    line.put_text(word_text(word));
+    close_text(line);
+}
+
+// Writes why a node left, in its row.
+#[tactic(auto, using(crate::proofs::Puts::puts))]
+fn put_why_parts<K: Sink>(
+    frame: Frame,
+    slot: u32,
+    number: u8,
+    word: Word,
+    sheet: &mut Sheet,
+    out: &mut K,
+)
+    ensures { Puts sheet.old.failed (K.output out.old) sheet.new.failed (K.output out.new)
+        (why_box word (column_x frame.head.nodes frame.span slot + 18) (row_y frame.head.nodes frame.span slot number)
+        ∷ why_word word (column_x frame.head.nodes frame.span slot + 21)
+        (row_y frame.head.nodes frame.span slot number + 13) ∷ []) }
+{
+    let at = corner(frame, slot, number);
+    make_why_box(&mut sheet.line, word, at.x + 18, at.y);
+    sheet.write(out);
+    make_why_word(&mut sheet.line, word, at.x + 21, at.y + 13);
+    sheet.write(out);
+}
+
+// Writes why a node left, if it did.
+#[tactic(auto, using(crate::proofs::Puts::puts))]
+fn put_why<K: Sink>(
+    frame: Frame,
+    slot: u32,
+    shown: &SlotShown<'_>,
+    number: u8,
+    sheet: &mut Sheet,
+    out: &mut K,
+)
+    ensures { Puts sheet.old.failed (K.output out.old) sheet.new.failed (K.output out.new)
+        (why_lines frame.head.nodes frame.span slot shown.now number) }
+{
+    let word = node_at(shown, number).word;
+    if has_left(word) {
+        put_why_parts(frame, slot, number, word, sheet, out);
+    }
+}
+
+// Writes why nodes left.
+#[tactic(auto, using(crate::proofs::Puts::puts))]
+fn put_whys<K: Sink>(frame: Frame, slot: u32, shown: &SlotShown<'_>, sheet: &mut Sheet, out: &mut K)
+    ensures { Puts sheet.old.failed (K.output out.old) sheet.new.failed (K.output out.new)
+        (lines_below (why_lines frame.head.nodes frame.span slot shown.now) frame.head.nodes) }
+{
+    for number in 0..frame.head.nodes {
+        put_why(frame, slot, shown, number, sheet, out);
+    }
+}
+
+// Whose line it is.
+fn host_of(host_line: &HostLine) -> u8
+    ensures { result ≡ host_of host_line.now }
+{
+    match host_line {
+        HostLine::Write { host, .. } => *host,
+        HostLine::Read { host, .. } => *host,
+    }
+}
+
+// Makes a mark whose title is the line of a host.
+fn make_mark_of(
+    line: &mut Line,
+    class: &str,
+    shape: &str,
+    at: Corner,
+    slot: u32,
+    host_line: &HostLine,
+)
+    requires { (length class.now ≤ 6) × (length shape.now ≤ 8) }
+    ensures { line.new ≡ mark class.now shape.now at.x at.y (host_text slot host_line.now) }
+{
+    open_mark(line, class, shape, at);
+    put_host_text(line, slot, host_line);
+    close_mark(line);
+}
+
+// Makes the mark of a host's line, beside the cell at this place.
+fn make_host_mark(line: &mut Line, slot: u32, host_line: &HostLine, cell: Corner)
+    requires { (cell.x ≤ 2 ^ 44) × (cell.y ≤ 2 ^ 44) }
+    ensures { line.new ≡ host_mark slot host_line.now cell.x cell.y }
+{
+    match host_line {
+        HostLine::Write { .. } => {
+            let at = beside(cell, 0, 17);
+            make_mark_of(line, "write", "h6l-3-5z", at, slot, host_line);
+        }
+        HostLine::Read { source, .. } => match source {
+            Source::Status => {
+                let at = beside(cell, 12, 0);
+                make_mark_of(line, "status", "h5v5h-5z", at, slot, host_line);
+            }
+            Source::Node(_) => {
+                let at = beside(cell, 11, 12);
+                make_mark_of(line, "read", "h6l-3 5z", at, slot, host_line);
+            }
+        },
+    }
+}
+
+// Makes it where it stands.
+fn make_placed_mark(line: &mut Line, frame: Frame, slot: u32, host_line: &HostLine)
+    ensures { line.new ≡ host_mark slot host_line.now (column_x frame.head.nodes frame.span slot)
+        (row_y frame.head.nodes frame.span slot (host_of host_line.now)) }
+{
+    make_host_mark(
+        line,
+        slot,
+        host_line,
+        corner(frame, slot, host_of(host_line)),
+    );
+}
+
+// Writes the marks of the lines of hosts.
+#[tactic(auto, using(crate::proofs::Puts::puts))]
+fn put_marks<K: Sink>(
+    frame: Frame,
+    slot: u32,
+    shown: &SlotShown<'_>,
+    sheet: &mut Sheet,
+    out: &mut K,
+)
+    ensures { Puts sheet.old.failed (K.output out.old) sheet.new.failed (K.output out.new)
+        (map (λ line. host_mark slot line (column_x frame.head.nodes frame.span slot)
+        (row_y frame.head.nodes frame.span slot (host_of line)))
+        shown.now.hosts) }
+{
+    let mut hosts = shown.hosts();
+    while let Some(host_line) = hosts.next_line() {
+        make_placed_mark(&mut sheet.line, frame, slot, &host_line);
+        sheet.write(out);
+    }
+}
+
+/// Writes what stands beside the cells of a slot.
+#[tactic(auto, using(crate::proofs::Puts::puts))]
+pub(crate) fn put_beside<K: Sink>(
+    frame: Frame,
+    slot: u32,
+    shown: &SlotShown<'_>,
+    sheet: &mut Sheet,
+    out: &mut K,
+)
+    ensures { Puts sheet.old.failed (K.output out.old) sheet.new.failed (K.output out.new)
+        (beside_lines frame.head.nodes frame.span slot shown.now) }
+{
+    put_whys(frame, slot, shown, sheet, out);
+    put_marks(frame, slot, shown, sheet, out);
+}

@@ -1,0 +1,144 @@
+//! The elements of a picture, formed in a line: cells, marks and texts.
+#![tactic(auto, using(ttp_base::proofs::Room::room))]
+
+ghost use Rattle.std.specs.Prelude.{◌≡◌, ◌+◌, ◌≤◌, [], ◌∷◌, ◌++◌, length, codes, decimal};
+ghost use Rattle.ttp_base.specs.Text.{newline};
+ghost use Rattle.picture_text.specs.Cells.{attribute, place, title_element, cell};
+ghost use Rattle.picture_text.specs.Picture.{class_of};
+
+use crate::frame::Corner;
+use ttp_base::Line;
+
+/// Adds a place.
+pub(crate) fn put_place(line: &mut Line, x: u64, y: u64)
+    requires { length line.old ≤ 590 }
+    ensures text { line.new ≡ line.old ++ place x y }
+    ensures short { length line.new ≤ length line.old + 50 }
+{
+    line.put_text(" x=\"");
+    line.put_number(x);
+    line.put_text("\" y=\"");
+    line.put_number(y);
+    line.put_text("\"");
+}
+
+/// Begins a cell, before its class.
+pub(crate) fn open_cell(line: &mut Line)
+    ensures { line.new ≡ codes "<g class=\"" }
+{
+    line.clear();
+    line.put_text("<g class=\"");
+}
+
+/// What stands between the class of a cell or a mark and its title.
+pub(crate) fn open_title(line: &mut Line)
+    requires { length line.old ≤ 600 }
+    ensures text { line.new ≡ line.old ++ codes "\"><title>" }
+    ensures size { length line.new ≡ length line.old + 9 }
+{
+    line.put_text("\"><title>");
+}
+
+/// What stands between the title of a cell and what is shown.
+pub(crate) fn close_title(line: &mut Line, at: Corner)
+    requires { length line.old ≤ 450 }
+    ensures text { line.new ≡ line.old ++ (codes "</title><rect" ++ place at.x at.y
+        ++ codes " width=\"17\" height=\"17\"/>" ++ codes "<text" ++ place (at.x + 8) (at.y + 13) ++ codes ">") }
+    ensures short { length line.new ≤ length line.old + 150 }
+{
+    line.put_text("</title><rect");
+    put_place(line, at.x, at.y);
+    line.put_text(" width=\"17\" height=\"17\"/><text");
+    put_place(line, at.x + 8, at.y + 13);
+    line.put_text(">");
+}
+
+/// Ends a cell.
+pub(crate) fn close_cell(line: &mut Line)
+    requires { length line.old ≤ 620 }
+    ensures { line.new ≡ line.old ++ (codes "</text></g>" ++ newline) }
+{
+    line.put_text("</text></g>\n");
+}
+
+/// Makes a cell of texts.
+pub(crate) fn make_cell(line: &mut Line, class: &str, at: Corner, title: &str, shown: &str)
+    requires { (length class.now ≤ 20) × (length title.now ≤ 100) × (length shown.now ≤ 20) }
+    ensures { line.new ≡ cell class.now at.x at.y title.now shown.now }
+{
+    open_cell(line);
+    line.put_text(class);
+    open_title(line);
+    line.put_text(title);
+    close_title(line, at);
+    line.put_text(shown);
+    close_cell(line);
+}
+
+// Adds the point at which a mark begins.
+fn put_point(line: &mut Line, at: Corner)
+    requires { length line.old ≤ 500 }
+    ensures text { line.new ≡ line.old ++ (decimal at.x ++ codes " " ++ decimal at.y) }
+    ensures short { length line.new ≤ length line.old + 41 }
+{
+    line.put_number(at.x);
+    line.put_text(" ");
+    line.put_number(at.y);
+}
+
+/// Begins a mark, up to its title.
+pub(crate) fn open_mark(line: &mut Line, class: &str, shape: &str, at: Corner)
+    requires { (length class.now ≤ 6) × (length shape.now ≤ 8) }
+    ensures text { line.new ≡ codes "<path class=\"" ++ class.now ++ codes "\" d=\"M"
+        ++ (decimal at.x ++ codes " " ++ decimal at.y) ++ shape.now ++ codes "\"><title>" }
+    ensures short { length line.new ≤ 83 }
+{
+    line.clear();
+    line.put_text("<path class=\"");
+    line.put_text(class);
+    line.put_text("\" d=\"M");
+    put_point(line, at);
+    line.put_text(shape);
+    line.put_text("\"><title>");
+}
+
+/// Ends a mark.
+pub(crate) fn close_mark(line: &mut Line)
+    requires { length line.old ≤ 624 }
+    ensures { line.new ≡ line.old ++ (codes "</title></path>" ++ newline) }
+{
+    line.put_text("</title></path>\n");
+}
+
+/// Begins a text without a class, before what it shows.
+pub(crate) fn open_text(line: &mut Line, x: u64, y: u64)
+    ensures text { line.new ≡ codes "<text" ++ place x y ++ codes ">" }
+    ensures short { length line.new ≤ 56 }
+{
+    line.clear();
+    line.put_text("<text");
+    put_place(line, x, y);
+    line.put_text(">");
+}
+
+/// Begins a text of a class.
+pub(crate) fn open_text_of(line: &mut Line, class: &str, x: u64, y: u64)
+    requires { length class.now ≤ 10 }
+    ensures text { line.new ≡ codes "<text" ++ class_of class.now ++ place x y ++ codes ">" }
+    ensures short { length line.new ≤ 85 }
+{
+    line.clear();
+    line.put_text("<text class=\"");
+    line.put_text(class);
+    line.put_text("\"");
+    put_place(line, x, y);
+    line.put_text(">");
+}
+
+/// Ends a text.
+pub(crate) fn close_text(line: &mut Line)
+    requires { length line.old ≤ 630 }
+    ensures { line.new ≡ line.old ++ (codes "</text>" ++ newline) }
+{
+    line.put_text("</text>\n");
+}

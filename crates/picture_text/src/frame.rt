@@ -1,0 +1,22 @@
+//! The frame of a picture, and places in it.
+ghost use Rattle.std.specs.Prelude.{◌^◌, ◌<◌, ◌≤◌};
+
+use crate::window::Span;
+use whole_trace::Head;
+
+/// The first line of the trace and the slots that are shown.
+#[derive(Clone, Copy)]
+pub(crate) struct Frame {
+    pub(crate) head: Head,
+    pub(crate) span: Span,
+    ghost few: { (1 ≤ head.nodes) × (head.nodes ≤ 24) },
+    ghost shown: { (span.first ≤ span.last) × (span.last < 2 ^ 31) },
+}
+
+/// The upper left corner of a cell.
+#[derive(Clone, Copy)]
+pub(crate) struct Corner {
+    pub(crate) x: u64,
+    pub(crate) y: u64,
+    ghost near: { (x ≤ 2 ^ 60) × (y ≤ 2 ^ 60) },
+}

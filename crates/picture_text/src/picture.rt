@@ -1,0 +1,140 @@
+//! The picture of a trace.
+#![tactic(auto, using(crate::proofs::Puts::puts))]
+
+ghost use Rattle.std.specs.Prelude.{◌≡◌, ◌+◌, ◌<◌, ◌≤◌, [], ◌∷◌, ◌++◌, codes, length, flat_map, drop, IfSome, OnOk};
+ghost use Rattle.std.specs.Prelude.{OnErr};
+ghost use Rattle.ttp_base.specs.Outside.{WroteLines, CutShort};
+ghost use Rattle.ttp_base.specs.Text.{lines_below};
+ghost use Rattle.picture_text.specs.Picture.{ended, band_lines, cell_lines, beside_lines, slot_at, slots_in, keep_flag};
+ghost use Rattle.picture_text.specs.Picture.{back_flag, word_entries, class_entries, picture_of, picture_lines};
+ghost use Rattle.picture_text.specs.Sheet.{Puts};
+ghost use Rattle.picture_text.specs.Tables.{words};
+ghost use Rattle.picture_text.specs.Window.{bands, legend_top};
+
+use crate::band::put_bands;
+use crate::beside::put_beside;
+use crate::cells::put_cells;
+use crate::flag::{put_back_flag, put_keep_flag};
+use crate::frame::Frame;
+use crate::grid::legend_top;
+use crate::head::put_head;
+use crate::legend::{put_classes, put_words};
+use crate::sheet::Sheet;
+use crate::walk::{skipped, span_shown, strange_past};
+use crate::window::Span;
+use ttp_base::{Failed, Sink};
+use ttp_world::{Back, Keep};
+use whole_trace::{Slots, Whole};
+
+// Writes the cells of the slots shown, which begin with these.
+fn put_all_cells<K: Sink>(
+    trace: &Whole<'_>,
+    frame: Frame,
+    first: &Slots<'_>,
+    sheet: &mut Sheet,
+    out: &mut K,
+)
+    requires shown { frame.span.last < length trace.now.slots }
+    requires first { first.now ≡ drop frame.span.first trace.now.slots }
+    ensures { Puts sheet.old.failed (K.output out.old) sheet.new.failed (K.output out.new)
+        (flat_map (λ t. cell_lines frame.head frame.span t (slot_at trace.now t)) (slots_in frame.span)) }
+{
+    let mut left = first.again();
+    for passed in 0..frame.span.last + 1 - frame.span.first {
+        match left.next_slot() {
+            Some(shown) => put_cells(frame, frame.span.first + passed, &shown, sheet, out),
+            None => unreachable!(),
+        }
+    }
+}
+
+// Writes what stands beside them.
+fn put_all_beside<K: Sink>(
+    trace: &Whole<'_>,
+    frame: Frame,
+    first: &Slots<'_>,
+    sheet: &mut Sheet,
+    out: &mut K,
+)
+    requires shown { frame.span.last < length trace.now.slots }
+    requires first { first.now ≡ drop frame.span.first trace.now.slots }
+    ensures { Puts sheet.old.failed (K.output out.old) sheet.new.failed (K.output out.new)
+        (flat_map (λ t. beside_lines frame.head.nodes frame.span t (slot_at trace.now t)) (slots_in frame.span)) }
+{
+    let mut left = first.again();
+    for passed in 0..frame.span.last + 1 - frame.span.first {
+        match left.next_slot() {
+            Some(shown) => put_beside(frame, frame.span.first + passed, &shown, sheet, out),
+            None => unreachable!(),
+        }
+    }
+}
+
+// Writes the rows of the picture: their names, their cells and what stands beside them.
+fn put_rows<K: Sink>(
+    trace: &Whole<'_>,
+    frame: Frame,
+    first: &Slots<'_>,
+    sheet: &mut Sheet,
+    out: &mut K,
+)
+    requires shown { frame.span.last < length trace.now.slots }
+    requires first { first.now ≡ drop frame.span.first trace.now.slots }
+    ensures { Puts sheet.old.failed (K.output out.old) sheet.new.failed (K.output out.new)
+        (lines_below (band_lines frame.head.nodes frame.span) (bands frame.head.nodes frame.span)
+        ++ flat_map (λ t. cell_lines frame.head frame.span t (slot_at trace.now t)) (slots_in frame.span)
+        ++ flat_map (λ t. beside_lines frame.head.nodes frame.span t (slot_at trace.now t)) (slots_in frame.span)) }
+{
+    put_bands(frame, sheet, out);
+    put_all_cells(trace, frame, first, sheet, out);
+    put_all_beside(trace, frame, first, sheet, out);
+}
+
+// Writes what stands behind the rows.
+fn put_rest<K: Sink>(frame: Frame, keep: Keep, back: Option<Back>, sheet: &mut Sheet, out: &mut K)
+    ensures { Puts sheet.old.failed (K.output out.old) sheet.new.failed (K.output out.new)
+        (keep_flag frame.head.nodes frame.span keep ++ back_flag frame.head.nodes frame.span back
+        ++ word_entries (legend_top frame.head.nodes frame.span) 0 words
+        ++ class_entries (legend_top frame.head.nodes frame.span + 118) ++ ended (codes "</svg>") ∷ []) }
+{
+    let top = legend_top(frame);
+    put_keep_flag(frame, keep, sheet, out);
+    put_back_flag(frame, back, sheet, out);
+    put_words(top, sheet, out);
+    put_classes(top + 118, sheet, out);
+    sheet.put(b"</svg>\n", out);
+}
+
+// Writes the picture of these slots.
+fn put_span<K: Sink>(trace: &Whole<'_>, span: Span, sheet: &mut Sheet, out: &mut K)
+    requires { (span.first ≤ span.last) × (span.last < length trace.now.slots) }
+    ensures { Puts sheet.old.failed (K.output out.old) sheet.new.failed (K.output out.new) (picture_of trace.now span) }
+{
+    let head = trace.head();
+    let frame = Frame { head, span };
+    let first = skipped(trace.slots(), span.first);
+    let strange = strange_past(trace, span.last, first.again(), span.first);
+    put_head(frame, strange, trace.keep(), trace.back(), sheet, out);
+    put_rows(trace, frame, &first, sheet, out);
+    put_rest(frame, trace.keep(), trace.back(), sheet, out);
+}
+
+/// Writes the picture of a trace: of the slots that were asked for, as far as there are any, or of those that are
+/// chosen where none are. The first one has to be a slot of the trace, and none after the last.
+///
+/// Each line is one piece. `Failed` is the sink's: some first lines were written, or none, and some first bytes of
+/// the next one. The trace is gone over at most a few times, and no memory is taken.
+pub fn put_picture<K: Sink>(
+    trace: &Whole<'_>,
+    asked: Option<Span>,
+    out: &mut K,
+) -> Result<(), Failed>
+    requires { IfSome asked (λ span. (span.first ≤ span.last) × (span.first < length trace.now.slots)) }
+    ensures ok { OnOk result (WroteLines (K.output out.old) (K.output out.new) (picture_lines trace.now asked)) }
+    ensures failed { OnErr result (CutShort (K.output out.old) (K.output out.new) (picture_lines trace.now asked)) }
+{
+    let span = span_shown(trace, asked);
+    let mut sheet = Sheet::new();
+    put_span(trace, span, &mut sheet, out);
+    sheet.end()
+}

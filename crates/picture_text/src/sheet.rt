@@ -1,0 +1,78 @@
+//! Where the lines of a picture are formed and written.
+ghost use Rattle.std.specs.Prelude.{◌≡◌, ◌↔◌, IsOk, [], ◌∷◌, false};
+ghost use Rattle.picture_text.specs.Sheet.{Puts};
+
+use crate::long_line::LongLine;
+use ttp_base::{Failed, Line, Sink};
+
+/// A line that is formed, and whether the sink failed.
+///
+/// After a failure nothing more is written, so that what writes several lines goes on as if it had written
+/// them, and one place at the end tells of it.
+#[derive(Drop)]
+pub(crate) struct Sheet {
+    pub(crate) line: Line,
+    pub(crate) long: LongLine,
+    pub(crate) failed: bool,
+}
+
+impl Sheet {
+    pub(crate) fn new() -> Sheet
+        ensures { result.failed ≡ false }
+    {
+        Sheet {
+            line: Line::new(),
+            long: LongLine::new(),
+            failed: false,
+        }
+    }
+
+    /// Writes the line.
+    #[tactic(auto, using(crate::proofs::Puts::puts))]
+    pub(crate) fn write<K: Sink>(&mut self, out: &mut K)
+        ensures { Puts self.old.failed (K.output out.old) self.new.failed (K.output out.new) (self.old.line ∷ []) }
+    {
+        if self.failed {
+            return;
+        }
+        match out.write(self.line.bytes()) {
+            Ok(()) => {}
+            Err(Failed) => self.failed = true,
+        }
+    }
+
+    /// Writes the long line.
+    #[tactic(auto, using(crate::proofs::Puts::puts))]
+    pub(crate) fn write_long<K: Sink>(&mut self, out: &mut K)
+        ensures { Puts self.old.failed (K.output out.old) self.new.failed (K.output out.new) (self.old.long ∷ []) }
+    {
+        if self.failed {
+            return;
+        }
+        match out.write(self.long.bytes()) {
+            Ok(()) => {}
+            Err(Failed) => self.failed = true,
+        }
+    }
+
+    /// Writes a line that never changes.
+    #[tactic(auto, using(crate::proofs::Puts::puts))]
+    pub(crate) fn put<K: Sink>(&mut self, line: &[u8], out: &mut K)
+        ensures { Puts self.old.failed (K.output out.old) self.new.failed (K.output out.new) (line.now ∷ []) }
+    {
+        if self.failed {
+            return;
+        }
+        match out.write(line) {
+            Ok(()) => {}
+            Err(Failed) => self.failed = true,
+        }
+    }
+
+    /// Whether all was written.
+    pub(crate) fn end(self) -> Result<(), Failed>
+        ensures { IsOk result ↔ (self.failed ≡ false) }
+    {
+        if self.failed { Err(Failed) } else { Ok(()) }
+    }
+}

@@ -1,0 +1,11 @@
+use Rattle.std.proofs.Common.{refl, arith}
+use Rattle.run_costs.proofs.run.Run.new.Goals as goal
+
+pub returns : goal.returns
+returns c = λ script. record {
+  same = c.in_ok-new.ensures.list;
+  plant = c.in_ok-new.ensures.stands script;
+  zeros = c.in_ok-all_zeros.ensures;
+  room = refl;
+  states = λ some. absurd (omega (arith, some));
+}

@@ -1,0 +1,84 @@
+//! A run of a cluster, slot by slot, in which every frame with payload carries zeros.
+ghost use Rattle.std.specs.Prelude.{◌≡◌, ◌+◌, ◌<◌, ◌≤◌, ℕ, length, IfOk};
+ghost use Rattle.ttp_world.specs.declared.medl.Medl.{Medl};
+ghost use Rattle.ttp_world.specs.declared.script.Script.{Script};
+ghost use Rattle.ttp_world.specs.Medl.{IsValid};
+ghost use Rattle.ttp_world.specs.Script.{IsValidScript};
+ghost use Rattle.campaign.specs.ZerosWorld.{zeros_world};
+ghost use Rattle.seen_costs.specs.States.{AreShown};
+ghost use Rattle.run_costs.specs.Standing.{AreOfPlant, IsRunAfter};
+
+use crate::zeros::all_zeros;
+use controller::Plant;
+use std::alloc::Global;
+use ttp_base::{List, Memory, NodeSet};
+use ttp_world::{Ack, Chosen, Entry, Medl, NodeState, Phase, Script};
+
+/// A run between two slots.
+#[derive(Drop)]
+pub struct Run {
+    plant: Plant,
+    // Message 0 of each node.
+    zeros: List<Chosen>,
+    // What is shown of each node after the newest slot.
+    states: [NodeState; 24],
+}
+
+// What is shown of a node that is off.
+fn off() -> NodeState {
+    NodeState {
+        phase: Phase::Off,
+        entry: Entry::Off,
+        members: NodeSet::empty(),
+        accepted: 0,
+        rejected: 0,
+        ack: Ack::Closed,
+        offset: 0,
+    }
+}
+
+// Takes down what is shown of each node of a plant.
+fn note_states(plant: &Plant, nodes: u8, states: &mut [NodeState; 24])
+    requires nodes { nodes ≡ length plant.now.list.slots }
+    requires few { nodes ≤ 24 }
+    ensures { AreOfPlant plant.now nodes states.new }
+{
+    for node in 0..nodes {
+        states[usize::from(node)] = plant.node(node);
+    }
+}
+
+impl Run {
+    /// The run of a list before its first slot. Only this call takes memory.
+    pub fn new(alloc: Global, list: &Medl) -> Result<Run, Memory>
+        requires { IsValid list.now }
+        ensures { (script : Script) → IfOk result (λ run. IsRunAfter run list.now script 0) }
+    {
+        Ok(Run {
+            plant: Plant::new(alloc, list)?,
+            zeros: all_zeros(alloc, list)?,
+            states: [off(); 24],
+        })
+    }
+
+    /// One slot, the first that the run has not done yet.
+    pub fn step(&mut self, list: &Medl, script: &Script, slot: u32)
+        requires list { IsValid list.now }
+        requires script { IsValidScript list.now script.now }
+        requires slot { slot < script.now.slots }
+        requires stands { IsRunAfter self.old list.now script.now slot }
+        ensures { IsRunAfter self.new list.now script.now (slot + 1) }
+    {
+        self.plant.slot(list, script, self.zeros.as_slice());
+        note_states(&self.plant, list.nodes(), &mut self.states);
+    }
+
+    /// What is shown of each node after the newest slot, in the order of the nodes.
+    pub fn states(&self, list: &Medl) -> &[NodeState]
+        requires valid { IsValid list.now }
+        ensures { (script : Script) (slots : ℕ) → IsRunAfter self.now list.now script slots → 0 < slots
+            → AreShown list.now script (zeros_world list.now script slots) result.now }
+    {
+        &self.states[..usize::from(list.nodes())]
+    }
+}

@@ -1,0 +1,3 @@
+pub mod States
+pub mod FaultyAt
+pub mod Told

@@ -1,0 +1,10 @@
+//! Values from outside, and cases that were worked out by hand; each file says of what.
+
+mod faced_nodes;
+mod generated;
+mod host_lines;
+mod lines;
+mod lists;
+mod reports;
+mod scripts;
+mod traces;

@@ -1,0 +1,8 @@
+//! Tests of the views of a trace and of what they stand on: the reading of a line and of a whole trace.
+//!
+//! They stand in a crate of their own, so that no crate is proved a second time with them. The crate has nothing
+//! but tests, and nothing stands on it.
+#![tactic(auto)]
+
+#[cfg(test)]
+mod tests;

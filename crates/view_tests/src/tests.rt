@@ -1,0 +1,6 @@
+//! What a line, a trace and its views are: public calls alone.
+
+mod lines;
+mod small;
+mod traces;
+mod waves;

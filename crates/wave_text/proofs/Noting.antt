@@ -1,0 +1,145 @@
+-- Loops over lines of hosts, which take them into a table.
+use Rattle.std.proofs.Common.{◌≡◌, ℕ, ◌+◌, ◌<◌, ◌≤◌, List, [], ◌∷◌, ◌++◌, Option, Some, None, length, get_or, set}
+use Rattle.std.proofs.Common.{refl, sym, ap, subst, ◌∙◌, arith, inl, inr, append_assoc, length-set}
+use Rattle.std.specs.Prelude.{slice_get, All}
+use Rattle.std.specs.List.{flat_map}
+use Rattle.std.proofs.lemmas.Bool.Decides.{eqb_tells}
+use Rattle.std.proofs.lemmas.List.{append-nil}
+use Rattle.std.proofs.lemmas.List.Concat.{flat_map-append}
+use Rattle.std.proofs.lemmas.Option.{slice_get-get_or}
+use Rattle.whole_trace.specs.declared.shown.HostLine.{HostLine}
+use Rattle.whole_trace.specs.Whole.{SlotLines}
+use Rattle.shown_slot.specs.declared.host.Message.{Message}
+use Rattle.shown_slot.specs.declared.host.Port.{Port}
+use Rattle.shown_slot.specs.declared.host.What.{What}
+use Rattle.wave_text.specs.Places.{HasMost, HasNewest, HasPlace, table_place}
+use Rattle.wave_text.specs.Variables.{HasLetters}
+use Rattle.wave_text.proofs.Tables.{place-lt, set_elsewhere, set_there}
+
+-- Messages.
+
+-- of the lines of hosts these are left, and those before them are in the table
+pub record AreNoted (ports : List Port) (messages : List (Option Message)) (all left : List HostLine) : Type 0 where
+  pub done : List HostLine
+  pub whole : done ++ left ≡ all
+  pub size : length messages ≡ 624
+  pub newest : All (λ port. HasNewest messages done port.host port.what) ports
+
+-- in the table stands no message of so many ports
+pub record AreCleared (ports : List Port) (messages : List (Option Message)) (count : ℕ) : Type 0 where
+  pub size : length messages ≡ 624
+  pub none : (i : ℕ) (d : Port) → i < count → i < length ports
+      → HasNewest messages [] (get_or ports i d).host (get_or ports i d).what
+
+pub noted-more : (ports : List Port) (before after : List (Option Message)) (all left : List HostLine) (shown : HostLine)
+    → AreNoted ports before all (shown ∷ left) → All HasLetters ports → length after ≡ 624
+    → ((k : ℕ) (does : What) (lines : List HostLine) → HasPlace k does → HasNewest before lines k does
+    → HasNewest after (lines ++ shown ∷ []) k does)
+    → AreNoted ports after all left
+noted-more ports before after all left shown known letters size step = record {
+  done = known.done ++ shown ∷ [];
+  whole = append_assoc known.done (shown ∷ []) left ∙ known.whole;
+  size = size;
+  newest = λ i d less.
+      step (get_or ports i d).host (get_or ports i d).what known.done (letters i d less) (known.newest i d less);
+}
+
+pub all-noted : (ports : List Port) (messages : List (Option Message)) (all : List HostLine)
+    → AreNoted ports messages all [] → All (λ port. HasNewest messages all port.host port.what) ports
+all-noted ports messages all known =
+    subst (λ (lines : List HostLine). All (λ port. HasNewest messages lines port.host port.what) ports)
+    (sym (append-nil known.done) ∙ known.whole) known.newest
+
+same_item : {X : Type 0} (xs : List X) (i : ℕ) (d e : X) → i < length xs → get_or xs i d ≡ get_or xs i e
+same_item xs i d e less = some_is (get_or xs i d) (get_or xs i e)
+    (sym (slice_get-get_or xs i d less) ∙ slice_get-get_or xs i e less)
+  where
+    some_is : {X : Type 0} (x y : X) → Some x ≡ Some y → x ≡ y
+    some_is x y e = cc
+
+pub cleared-more : (ports : List Port) (messages : List (Option Message)) (i : ℕ) (e : Port) → i < length ports
+    → HasLetters (get_or ports i e) → AreCleared ports messages i
+    → AreCleared ports (set messages (table_place (get_or ports i e).host (get_or ports i e).what) None) (i + 1)
+cleared-more ports messages i e less has known =
+    let port = get_or ports i e in
+    let at = table_place port.host port.what in record {
+      size = omega (arith, length-set messages at None, known.size);
+      none = λ j d below within.
+          (let there = get_or ports j d in
+          elim (eqb_tells (table_place there.host there.what) at) [
+            | inl same ↦
+                (ap (λ (k : ℕ). slice_get (set messages at None) k) same.1
+                ∙ set_there messages at None (omega (arith, known.size, place-lt port.host port.what has)))
+            | inr other ↦
+                (elim (eqb_tells j i) [
+                  | inl last ↦
+                      (let same : there ≡ port =
+                      ap (λ (k : ℕ). get_or ports k d) last.1 ∙ same_item ports i d e less in
+                      absurd (other.1 (ap (λ (p : Port). table_place p.host p.what) same)))
+                  | inr earlier ↦
+                      set_elsewhere messages at (table_place there.host there.what) None None other.1
+                      (known.none j d (omega (arith, earlier.1, below)) within)
+                ])
+          ]);
+    }
+
+-- Sizes.
+
+-- of the lines of hosts these are left, and those before them are in the table beside what was there
+pub record AreTaken (before sizes : List (Option ℕ)) (all left : List HostLine) : Type 0 where
+  pub done : List HostLine
+  pub whole : done ++ left ≡ all
+  pub size : length sizes ≡ 624
+  pub most : (k : ℕ) (does : What) (lines : List HostLine) → HasPlace k does → HasMost before lines k does
+      → HasMost sizes (lines ++ done) k does
+
+-- of the slots of a trace these are left, and what hosts did in those before them is in the table
+pub record AreSlotsTaken (sizes : List (Option ℕ)) (all left : List SlotLines) : Type 0 where
+  pub done : List SlotLines
+  pub whole : done ++ left ≡ all
+  pub size : length sizes ≡ 624
+  pub most : (k : ℕ) (does : What) → HasPlace k does → HasMost sizes (flat_map (λ slot. slot.hosts) done) k does
+
+pub taken-more : (before sizes after : List (Option ℕ)) (all left : List HostLine) (shown : HostLine)
+    → AreTaken before sizes all (shown ∷ left) → length after ≡ 624
+    → ((k : ℕ) (does : What) (lines : List HostLine) → HasPlace k does → HasMost sizes lines k does
+    → HasMost after (lines ++ shown ∷ []) k does)
+    → AreTaken before after all left
+taken-more before sizes after all left shown known size step = record {
+  done = known.done ++ shown ∷ [];
+  whole = append_assoc known.done (shown ∷ []) left ∙ known.whole;
+  size = size;
+  most = λ k does lines has is.
+      subst (λ (ls : List HostLine). HasMost after ls k does) (append_assoc lines known.done (shown ∷ []))
+      (step k does (lines ++ known.done) has (known.most k does lines has is));
+}
+
+pub all-taken : (before sizes : List (Option ℕ)) (all : List HostLine) → AreTaken before sizes all []
+    → (k : ℕ) (does : What) (lines : List HostLine) → HasPlace k does → HasMost before lines k does
+    → HasMost sizes (lines ++ all) k does
+all-taken before sizes all known k does lines has is =
+    subst (λ (ls : List HostLine). HasMost sizes (lines ++ ls) k does) (sym (append-nil known.done) ∙ known.whole)
+    (known.most k does lines has is)
+
+pub slots-taken-more : (sizes after : List (Option ℕ)) (all left : List SlotLines) (slot : SlotLines)
+    → AreSlotsTaken sizes all (slot ∷ left) → length after ≡ 624
+    → ((k : ℕ) (does : What) (lines : List HostLine) → HasPlace k does → HasMost sizes lines k does
+    → HasMost after (lines ++ slot.hosts) k does)
+    → AreSlotsTaken after all left
+slots-taken-more sizes after all left slot known size step =
+    let hosts : SlotLines → List HostLine = (λ (s : SlotLines). s.hosts) in record {
+      done = known.done ++ slot ∷ [];
+      whole = append_assoc known.done (slot ∷ []) left ∙ known.whole;
+      size = size;
+      most = λ k does has.
+          subst (λ (ls : List HostLine). HasMost after ls k does)
+          (ap (λ (ls : List HostLine). flat_map hosts known.done ++ ls) (sym (append-nil slot.hosts))
+          ∙ sym (flat_map-append hosts known.done (slot ∷ [])))
+          (step k does (flat_map hosts known.done) has (known.most k does has));
+    }
+
+pub all-slots-taken : (sizes : List (Option ℕ)) (all : List SlotLines) → AreSlotsTaken sizes all []
+    → (k : ℕ) (does : What) → HasPlace k does → HasMost sizes (flat_map (λ slot. slot.hosts) all) k does
+all-slots-taken sizes all known k does has =
+    subst (λ (slots : List SlotLines). HasMost sizes (flat_map (λ slot. slot.hosts) slots) k does)
+    (sym (append-nil known.done) ∙ known.whole) (known.most k does has)

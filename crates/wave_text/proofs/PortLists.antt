@@ -1,0 +1,109 @@
+-- The ports that a table of sizes has are those of the lines that it was made of.
+use Rattle.std.proofs.Common.{◌≡◌, ℕ, ◌+◌, ◌<◌, ◌≤◌, List, [], ◌∷◌, ◌++◌, Option, Some, None, length, map, get_or, replicate}
+use Rattle.std.proofs.Common.{refl, sym, ap, subst, ◌∙◌, arith, append_assoc}
+use Rattle.std.specs.Prelude.{slice_get, All}
+use Rattle.std.specs.List.{flat_map, AllByRecursion}
+use Rattle.std.proofs.lemmas.List.{append-nil, get_or-replicate, length-replicate}
+use Rattle.std.proofs.lemmas.List.Folds.{flat_map-map}
+use Rattle.std.proofs.lemmas.List.Elements.{All-from_recursion}
+use Rattle.std.proofs.lemmas.Option.{slice_get-get_or, get_or_from_slice_get}
+use Rattle.ttp_base.specs.NodeSet.{below, most_nodes}
+use Rattle.ttp_base.proofs.Below.{below-lt, flat_map-next, flat_map_agree-below, map_each-below}
+use Rattle.ttp_world.specs.declared.script.Source.TheVariants as source
+use Rattle.whole_trace.specs.declared.shown.HostLine.{HostLine}
+use Rattle.shown_slot.specs.declared.host.Port.{Port}
+use Rattle.shown_slot.specs.declared.host.What.{What}
+use Rattle.shown_slot.specs.declared.host.What.TheVariants as what
+use Rattle.shown_slot.specs.Ports.{all_whats, most_bytes, port_if, ports_of}
+use Rattle.wave_text.specs.Places.{HasMost, HasPlace, ports_in, size_at, table_place}
+use Rattle.wave_text.specs.Variables.{HasLetters, HasSourceLetter}
+use Rattle.wave_text.proofs.Tables.{place-lt}
+
+-- a table with nothing
+pub none_noted : (k : ℕ) (does : What) → HasPlace k does → HasMost (replicate 624 None) [] k does
+none_noted k does has =
+    let less = place-lt k does has in
+    let within : table_place k does < length (replicate {A = Option ℕ} 624 None) =
+    omega (arith, less, length-replicate {A = Option ℕ} 624 None) in
+    slice_get-get_or (replicate 624 None) (table_place k does) None within
+    ∙ ap (λ (m : Option ℕ). Some m) (get_or-replicate 624 (table_place k does) None None less)
+
+-- Ports.
+
+noted_port : (sizes : List (Option ℕ)) (lines : List HostLine) (k : ℕ) (does : What) → HasMost sizes lines k does
+    → port_if k does (size_at sizes k does) ≡ port_if k does (most_bytes k does lines)
+noted_port sizes lines k does is =
+    ap (port_if k does) (get_or_from_slice_get sizes (table_place k does) (most_bytes k does lines) None is)
+
+abbrev pub node_read : ℕ → What
+node_read p = what.Read (source.Node p)
+
+-- the ports of the nodes that a host reads, with one node more
+pub next_node_read : (sizes : List (Option ℕ)) (k n : ℕ)
+    → ports_in sizes (map node_read (below (n + 1))) k
+    ≡ ports_in sizes (map node_read (below n)) k ++ port_if k (node_read n) (size_at sizes k (node_read n))
+next_node_read sizes k n =
+    let port : What → List Port = (λ does. port_if k does (size_at sizes k does)) in
+    flat_map-map port node_read (below (n + 1)) ∙ flat_map-next (λ p. port (node_read p)) n
+    ∙ ap (λ (ports : List Port). ports ++ port (node_read n)) (sym (flat_map-map port node_read (below n)))
+
+-- for each of the nodes of a cluster what it does, and for all
+abbrev pub AreNoted : List (Option ℕ) → List HostLine → Type 0
+AreNoted sizes lines = (k : ℕ) (does : What) → HasPlace k does → HasMost sizes lines k does
+
+noted_host : (sizes : List (Option ℕ)) (lines : List HostLine) (n k : ℕ) → AreNoted sizes lines → n ≤ most_nodes
+    → k < most_nodes
+    → ports_in sizes (all_whats n) k ≡ flat_map (λ does. port_if k does (most_bytes k does lines)) (all_whats n)
+noted_host sizes lines n k are few less =
+    let by_table : What → List Port = (λ does. port_if k does (size_at sizes k does)) in
+    let by_lines : What → List Port = (λ does. port_if k does (most_bytes k does lines)) in
+    let node : ℕ → What = (λ p. what.Read (source.Node p)) in
+    let write : by_table what.Write ≡ by_lines what.Write =
+    noted_port sizes lines k what.Write (are k what.Write (less, tt)) in
+    let status : by_table (what.Read source.Status) ≡ by_lines (what.Read source.Status) =
+    noted_port sizes lines k (what.Read source.Status) (are k (what.Read source.Status) (less, tt)) in
+    let nodes : flat_map by_table (map node (below n)) ≡ flat_map by_lines (map node (below n)) =
+    flat_map-map by_table node (below n)
+    ∙ flat_map_agree-below (λ p. by_table (node p)) (λ p. by_lines (node p)) n
+    (λ p below. noted_port sizes lines k (node p) (are k (node p) (less, omega (arith, below, few))))
+    ∙ sym (flat_map-map by_lines node (below n)) in
+    ap (λ (front : List Port). front ++ (by_table (what.Read source.Status) ++ flat_map by_table (map node (below n)))) write
+    ∙ ap (λ (middle : List Port). by_lines what.Write ++ (middle ++ flat_map by_table (map node (below n)))) status
+    ∙ ap (λ (end : List Port). by_lines what.Write ++ (by_lines (what.Read source.Status) ++ end)) nodes
+
+pub noted_ports : (sizes : List (Option ℕ)) (lines : List HostLine) (n : ℕ) → AreNoted sizes lines → n ≤ most_nodes
+    → flat_map (ports_in sizes (all_whats n)) (below n) ≡ ports_of n lines
+noted_ports sizes lines n are few =
+    flat_map_agree-below (ports_in sizes (all_whats n))
+    (λ k. flat_map (λ does. port_if k does (most_bytes k does lines)) (all_whats n)) n
+    (λ k below. noted_host sizes lines n k are few (omega (arith, below, few)))
+
+-- Their letters.
+
+all-append : {X : Type 0} (P : X → Type 0) (xs ys : List X) → AllByRecursion P xs → AllByRecursion P ys
+    → AllByRecursion P (xs ++ ys)
+all-append P [] ys xs-all ys-all = ys-all
+all-append P (x ∷ xs) ys xs-all ys-all = (xs-all.0, all-append P xs ys xs-all.1 ys-all)
+
+all-flat_map : {X Y : Type 0} (P : Y → Type 0) (Q : X → Type 0) (f : X → List Y)
+    → ((x : X) → Q x → AllByRecursion P (f x)) → (xs : List X) → AllByRecursion Q xs → AllByRecursion P (flat_map f xs)
+all-flat_map P Q f each [] all = tt
+all-flat_map P Q f each (x ∷ xs) all =
+    all-append P (f x) (flat_map f xs) (each x all.0) (all-flat_map P Q f each xs all.1)
+
+port_if-letters : (k : ℕ) (does : What) (size : Option ℕ) → HasPlace k does → AllByRecursion HasLetters (port_if k does size)
+port_if-letters k does None has = tt
+port_if-letters k does (Some size) has = (has, tt)
+
+whats-letters : (n : ℕ) → n ≤ most_nodes → AllByRecursion HasSourceLetter (all_whats n)
+whats-letters n few =
+    (tt, (tt, map_each-below HasSourceLetter (λ p. what.Read (source.Node p)) n (λ p below. omega (arith, below, few))))
+
+pub have_letters : (lines : List HostLine) (n : ℕ) → n ≤ most_nodes → All HasLetters (ports_of n lines)
+have_letters lines n few =
+    All-from_recursion HasLetters (ports_of n lines)
+    (all-flat_map HasLetters (λ k. k < n)
+    (λ k. flat_map (λ does. port_if k does (most_bytes k does lines)) (all_whats n))
+    (λ k below. all-flat_map HasLetters HasSourceLetter (λ does. port_if k does (most_bytes k does lines))
+    (λ does letter. port_if-letters k does (most_bytes k does lines) (omega (arith, below, few), letter))
+    (all_whats n) (whats-letters n few)) (below n) (below-lt n))

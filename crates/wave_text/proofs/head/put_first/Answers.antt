@@ -1,0 +1,13 @@
+use Rattle.std.proofs.Common.{◌≡◌, ℕ, List, [], ◌∷◌, ap, subst, ◌∙◌}
+use Rattle.std.specs.Prelude.{OnOk}
+use Rattle.ttp_base.specs.Outside.{WroteLines}
+use Rattle.shown_slot.specs.Trace.{first_text, head_text}
+use Rattle.wave_text.specs.Wave.{comment_line}
+use Rattle.wave_text.proofs.head.put_first.Goals as goal
+
+pub returns-clause-ok : goal.returns-clause-ok
+returns-clause-ok g c =
+    let is : c.bytes.result.now ≡ first_text c.args.trace.now =
+    c.bytes.ensures ∙ c.head_text.ensures.text ∙ ap head_text c.head.ensures.value in
+    subst (λ (text : List ℕ). OnOk c.put_comment.result (WroteLines (g.K.Sink.output c.args.out.now)
+    (g.K.Sink.output c.put_comment.new.out) (comment_line text ∷ []))) is c.put_comment.ensures.ok

@@ -1,0 +1,27 @@
+use Rattle.std.proofs.Common.{◌≡◌, ◌≤◌, List, length, ap, sym, subst, ◌∙◌, arith}
+use Rattle.std.specs.Prelude.{All}
+use Rattle.std.specs.List.{flat_map}
+use Rattle.whole_trace.specs.declared.shown.Head.{Head}
+use Rattle.shown_slot.specs.declared.host.Port.{Port}
+use Rattle.shown_slot.specs.Ports.{ports_of}
+use Rattle.shown_slot.specs.Trace.{trace_ports}
+use Rattle.wave_text.specs.Variables.{HasLetters}
+use Rattle.wave_text.proofs.PortLists.{have_letters, noted_ports}
+use Rattle.wave_text.proofs.ports.find_ports.Goals as goal
+
+pub returns-clause-value : goal.returns-clause-value
+returns-clause-value c =
+    let trace = c.args.trace.now in
+    let lines = flat_map (λ slot. slot.hosts) trace.slots in
+    let n = c.head-head.result.nodes in
+    c.in_ok-ports.ensures ∙ noted_ports c.sizes_in-sizes.result lines n c.sizes_in-sizes.ensures c.head-head.ensures.nodes.1
+    ∙ ap (λ (h : Head). ports_of h.nodes lines) c.head-head.ensures.value
+
+pub returns-clause-letters : goal.returns-clause-letters
+returns-clause-letters c =
+    let trace = c.args.trace.now in
+    let lines = flat_map (λ slot. slot.hosts) trace.slots in
+    let n = c.head-head.result.nodes in
+    subst (λ (ports : List Port). All HasLetters ports)
+    (sym (c.in_ok-ports.ensures ∙ noted_ports c.sizes_in-sizes.result lines n c.sizes_in-sizes.ensures c.head-head.ensures.nodes.1))
+    (have_letters lines n c.head-head.ensures.nodes.1)

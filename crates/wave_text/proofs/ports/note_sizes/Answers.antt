@@ -1,0 +1,14 @@
+use Rattle.std.proofs.Common.{[], ◌∷◌, List, refl, sym, subst, arith}
+use Rattle.std.proofs.lemmas.List.{append-nil}
+use Rattle.whole_trace.specs.declared.shown.HostLine.{HostLine}
+use Rattle.wave_text.specs.Places.{HasMost}
+use Rattle.wave_text.proofs.Noting.{all-taken, AreTaken, taken-more}
+use Rattle.wave_text.proofs.ports.note_sizes.Goals as goal
+
+pub loop-line-preserved : goal.loop-line-preserved
+loop-line-preserved c =
+    let known = c.loop-line.invariant in
+    taken-more c.args.sizes.now c.loop-line.sizes c.note_size.new.sizes c.args.slot.now.hosts c.next_line.new.self
+    c.in-Some.line
+    (subst (AreTaken c.args.sizes.now c.loop-line.sizes c.args.slot.now.hosts) c.in-Some.ensures.some known)
+    (omega (arith, known.size)) c.note_size.ensures

@@ -1,0 +1,11 @@
+use Rattle.ttp_base.specs.Outside.{WroteLines}
+use Rattle.ttp_base.specs.Text.{lines_below}
+use Rattle.wave_text.specs.Moment.{slot_before}
+use Rattle.wave_text.specs.Wave.{scope_changes}
+use Rattle.wave_text.proofs.slot.put_scopes.Given as goal
+
+-- the changes so far were written
+abbrev pub invariant-loop-node : goal.invariant-loop-node
+invariant-loop-node g l =
+    WroteLines (g.K.Sink.output l.fn.out) (g.K.Sink.output l.out)
+    (lines_below (scope_changes l.width l.ports (slot_before l.before) l.now.slot) l.node)
