@@ -1,25 +1,20 @@
 -- Clocks and bits of a script that keeps the rules on them, where nodes may be armed.
-use Rattle.std.proofs.Common.{◌≡◌, ℕ, ◌*◌, ◌<◌, ◌≤◌, ℤ, pos, negsuc, ◌+ℤ◌, ◌*ℤ◌, ◌≤ℤ◌, true, false, not, List, [], ◌∷◌}
+use Rattle.std.proofs.Common.{◌≡◌, ℕ, ◌*◌, ◌≤◌, ℤ, pos, negsuc, ◌+ℤ◌, ◌*ℤ◌, ◌≤ℤ◌, not, List, [], ◌∷◌}
 use Rattle.std.proofs.Common.{length}
-use Rattle.std.proofs.Common.{None, refl, sym, inl, inr, mul-le-mul_left, arith}
-use Rattle.std.specs.Prelude.{int_le, is_some, find}
-use Rattle.std.specs.List.{AllByRecursion, list_any, filter_map}
-use Rattle.std.proofs.lemmas.Bool.{not-false, and_parts, false_from_ne_true, both_ways, or_cases, or_left, or_right}
-use Rattle.std.proofs.lemmas.Bool.{not-true}
+use Rattle.std.proofs.Common.{None, refl, sym, mul-le-mul_left, arith}
+use Rattle.std.specs.Prelude.{int_le}
+use Rattle.std.specs.List.{AllByRecursion, filter_map}
 use Rattle.std.proofs.lemmas.Int.{ints}
 use Rattle.std.proofs.lemmas.Option.{none-some}
-use Rattle.ttp_base.specs.NodeSet.{below}
-use Rattle.ttp_base.proofs.Below.{each-below}
 use Rattle.ttp_world.specs.declared.medl.Medl.{Medl}
 use Rattle.ttp_world.specs.declared.script.Channel.{Channel}
 use Rattle.ttp_world.specs.declared.script.Event.{Event}
 use Rattle.ttp_world.specs.declared.script.Event.TheVariants as event
 use Rattle.ttp_world.specs.declared.script.Script.{Script}
-use Rattle.ttp_world.specs.Hypothesis.{drifts_hold, errors_hold_in, clocks_broken, needed, is_far_jump, is_allowed_jump}
-use Rattle.ttp_world.specs.Hypothesis.{is_within_bound, has_jumped_before, is_jump_before}
+use Rattle.ttp_world.specs.Hypothesis.{clocks_broken, needed}
 use Rattle.ttp_world.specs.Medl.{IsValid}
 use Rattle.ttp_world.specs.Returning.{needed_back, back_window_broken, disturbed_slot, disturbance_broken}
-use Rattle.ttp_world.specs.Script.{flipped_bit, jump_in, jump_of, has_jump, drift_of, reading_error, flipped_bits}
+use Rattle.ttp_world.specs.Script.{flipped_bit, flipped_bits}
 use Rattle.ttp_world.proofs.Jumps.{each-none, undisturbed-jump}
 use Rattle.fault_plan.specs.Kept.{IsWithinBounds}
 use Rattle.fault_plan.proofs.Bounds.{bounds-of, wide, le_of_test}

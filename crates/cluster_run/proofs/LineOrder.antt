@@ -82,13 +82,6 @@ pub record AreInOrder (reads done : List HostRead) (whole now : List (List ReadL
     pub told : AreDue reads whole → map read_of lines ≡ done
     pub kept : AreDue reads whole → (k : ℕ) → lines_by k lines ++ queue_of now k ≡ queue_of whole k
 
-pub in_order_none : (reads : List HostRead) (queues : List (List ReadLine)) (lines : List ReadLine) → lines ≡ []
-    → AreInOrder reads [] queues queues lines
-in_order_none reads queues lines none = record {
-  told = λ due. ap (map read_of) none;
-  kept = λ due k. ap (λ ls. lines_by k ls ++ queue_of queues k) none;
-}
-
 -- what is left for a host are its reads that are left
 left_due : (reads done rest : List HostRead) (whole now : List (List ReadLine)) (lines : List ReadLine) (k : ℕ)
     → reads ≡ done ++ rest → AreInOrder reads done whole now lines → AreDue reads whole

@@ -11,13 +11,13 @@ use Rattle.cluster_run.specs.Choosing.{AreBytesBefore}
 use Rattle.cluster_run.specs.Nodes.{AreNewNodes}
 use Rattle.cluster_run.specs.Ends.{desk_ends, end_at, host_at}
 use Rattle.cluster_run.specs.Slots.{StandsForSome}
-use Rattle.cluster_run.specs.Standing.{desks_of, DesksStandFor}
+use Rattle.cluster_run.specs.Standing.{nodes_view, NodesStandFor}
 use Rattle.cluster_run.proofs.NewRings.{new_written, new_read}
 use Rattle.host_port.specs.Rings.{at_source}
 
-pub new_desks : (list : Medl) (script : Script) (nodes : Nodes) → AreNewNodes list nodes
-    → DesksStandFor list script (desks_of nodes) []
-new_desks list script nodes new = record {
+pub new_nodes : (list : Medl) (script : Script) (nodes : Nodes) → AreNewNodes list nodes
+    → NodesStandFor list script (nodes_view nodes) []
+new_nodes list script nodes new = record {
   seats = record { each = λ j seat here. new.stand.each j seat here };
   written = λ k near.
       new_written list script k (host_at nodes.host_ends.items k) (new.rings.outgoing k near);
@@ -33,6 +33,6 @@ new_bytes list script k =
     (All-replicate (λ b. b < 256) (plan_at list k).payload 0 (omega arith)) (All-nil AreBytes)
 
 pub new_stands : (list : Medl) (script : Script) (nodes : Nodes) → AreNewNodes list nodes
-    → StandsForSome list script 0 (desks_of nodes)
+    → StandsForSome list script 0 (nodes_view nodes)
 new_stands list script nodes new =
-    record { numbers = []; at = record { count = refl; stands = new_desks list script nodes new } }
+    record { numbers = []; at = record { count = refl; stands = new_nodes list script nodes new } }

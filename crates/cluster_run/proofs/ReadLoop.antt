@@ -15,7 +15,6 @@ use Rattle.host_port.specs.Reading.{ReadersState, Attempts, Reads, buffers_of, r
 use Rattle.host_port.specs.Reading.{IsLeft, rings_read}
 use Rattle.host_port.specs.Rings.{place_of}
 use Rattle.cluster_run.specs.Reading.{readers_at, reader_in, reader_at, rings_in, ReadTheSame, ReadBuffers, HaveRead}
-use Rattle.cluster_run.specs.Reading.{MayReadAll}
 use Rattle.cluster_run.proofs.Places.{at_any}
 use Rattle.cluster_run.proofs.ReadAll.{same_place, reads_more-own, reads_more-other, IsRead, IsReadAt, have_more}
 
@@ -47,19 +46,6 @@ pub record AreRead (reads done : List HostRead) (start now : List (Option Reader
   pub have : (buffers : ℕ) → ReadBuffers buffers start → HaveRead buffers done start now
   pub left : (k : ℕ) (from : Source) → 1 ≤ reads_from reads k from
       → HasRoomFor (reads_from reads k from) (reads_from done k from) (reader_at now k from)
-
-room_first : (all : ℕ) (reader : Option ReaderState) → IsSomeAnd reader (λ (r : ReaderState). all ≤ r.spare)
-    → HasRoomFor all 0 reader
-room_first all None room = room
-room_first all (Some r) room = omega (arith, room)
-
-pub read_none : (reads : List HostRead) (start : List (Option ReadersState)) → MayReadAll reads start
-    → AreRead reads [] start start
-read_none reads start may = record {
-  rings = record { count = refl; each = λ k. refl };
-  have = λ buffers all. record { each = λ k from. refl; calls = λ k clear. may.calls k };
-  left = λ k from some. room_first (reads_from reads k from) (reader_at start k from) (may.room k from some);
-}
 
 -- The reader of a source that is read has as many buffers as it had when it was lent.
 

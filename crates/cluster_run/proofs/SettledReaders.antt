@@ -26,13 +26,6 @@ is_settled-none : (w : Option WriterState) → IsSettled w None
 is_settled-none None = tt
 is_settled-none (Some w) = tt
 
--- a host that doesn't read
-pub settles_none : (end : ControllerState) → SettlesReadsOf end None end
-settles_none end = record {
-  whole = λ from. is_settled-none (at_source end from);
-  settled_is = λ from. settled-none (at_source end from);
-}
-
 nothing_settled : (r : Option ReaderState) → None ≡ settled None r
 nothing_settled None = refl
 nothing_settled (Some r) = refl

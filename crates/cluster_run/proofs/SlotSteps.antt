@@ -43,7 +43,7 @@ use Rattle.cluster_run.specs.Reading.{AllGot, AreLinesOf, AreReadersLent, HaveRe
 use Rattle.cluster_run.specs.Report.{node_shown, number_told, numbers_in, read_shown, writes_shown}
 use Rattle.cluster_run.specs.Rings.{IsRingOf, pairs_read, pairs_read_in, words_read}
 use Rattle.cluster_run.specs.Slots.{IsNextOf}
-use Rattle.cluster_run.specs.Standing.{Desks, DesksStandFor}
+use Rattle.cluster_run.specs.Standing.{NodesView, NodesStandFor}
 use Rattle.cluster_run.proofs.Deliverable.{IsDeliverable, delivered-deliverable}
 use Rattle.cluster_run.proofs.HandedRings.{IsHandedOf, handed_ring}
 use Rattle.cluster_run.proofs.HandsOn.{HoldsCame, number_is_told}
@@ -76,10 +76,10 @@ same_numbers (Some n ∷ ns) = λ i. eq-eqb n n refl i && same_numbers ns i
 
 -- What is known of a slot, once it has ended and is told.
 pub record IsTold (list : Medl) (script : Script) (numbers : Numbers) (chosen : List Chosen)
-    (delivered : List (Option ℕ)) (old : Desks) (handed : List ControllerState) (new : Desks)
+    (delivered : List (Option ℕ)) (old : NodesView) (handed : List ControllerState) (new : NodesView)
     (first last : List (Option ReadersState)) (report : SlotReport) : Type 0 where
   pub valid : IsValid list
-  pub stands : DesksStandFor list script old numbers
+  pub stands : NodesStandFor list script old numbers
   pub ends_count : length old.controller_ends ≡ length list.slots
   pub seats_count : length new.seats ≡ length list.slots
   pub first_count : length first ≡ length list.slots
@@ -96,7 +96,7 @@ pub record IsTold (list : Medl) (script : Script) (numbers : Numbers) (chosen : 
   pub writes : report.writes ≡ writes_shown list script (length numbers) [] (writes_in script (length numbers))
 
 module _ {list : Medl} {script : Script} {numbers : Numbers} {chosen : List Chosen}
-    {delivered : List (Option ℕ)} {old : Desks} {handed : List ControllerState} {new : Desks}
+    {delivered : List (Option ℕ)} {old : NodesView} {handed : List ControllerState} {new : NodesView}
     {first last : List (Option ReadersState)} {report : SlotReport}
     (so : IsTold list script numbers chosen delivered old handed new first last report) where
   abbrev outcomes : List Outcome
@@ -202,8 +202,8 @@ module _ {list : Medl} {script : Script} {numbers : Numbers} {chosen : List Chos
         ∙ get_or-map message_of row k entry.Off
         ∙ message_of-row_in (next_slot list script numbers) chosen k node
 
-    desks : DesksStandFor list script new (told ∷ numbers)
-    desks = record {
+    nodes : NodesStandFor list script new (told ∷ numbers)
+    nodes = record {
       seats = subst (λ (r : List Entry). StandAfter script (r ∷ before) 0 new.seats) (sym rows) so.ended.stand;
       written = λ k node.
           subst (λ (o : Option ℕ). HoldsSent list script numbers o new.host_ends k) (sym (sent_at k node))
@@ -253,7 +253,7 @@ module _ {list : Medl} {script : Script} {numbers : Numbers} {chosen : List Chos
 
     pub is_next : IsNextOf list script numbers new report
     is_next = record {
-      stands = desks;
+      stands = nodes;
       shows = record {
         slot = so.slot_is ∙ sym slots;
         nodes = nodes

@@ -6,7 +6,7 @@ use Rattle.std.proofs.Common.{◌∙◌, append_assoc, arith, length-append}
 use Rattle.std.specs.Prelude.{◌==◌, IsSome}
 use Rattle.std.specs.List.{filter_map, cons_option}
 use Rattle.std.proofs.lemmas.Bool.{false≢true, cases_eq, eq-eqb, eqb-true, false_from_ne_true}
-use Rattle.std.proofs.lemmas.List.{append-nil, map-append, length-map, length-set, length-take, take_more}
+use Rattle.std.proofs.lemmas.List.{append-nil, map-append, length-map, length-set, take_more}
 use Rattle.std.proofs.lemmas.List.{take-append-drop, get_or-set_same, get_or-set_other}
 use Rattle.std.proofs.lemmas.List.Elements.{filter_map-append}
 use Rattle.std.proofs.lemmas.List.Sums.{sum_by-cons, count_by-le-length}
@@ -25,15 +25,6 @@ pub record AreWritten (old : List HostState) (writes : List HostWrite) (ends : L
   pub count : length ends ≡ length old
   pub each : (k : ℕ) → host_at ends k ≡ after_writes writes k (host_at old k)
   pub lines_are : lines ≡ write_lines old [] writes
-
--- Of none.
-
-after_none : (k : ℕ) (end : HostState) → end ≡ after_writes [] k end
-after_none k None = refl
-after_none k (Some w) = λ i. Some (record w { messages = sym (append-nil w.messages) i })
-
-pub written_none : (old : List HostState) → AreWritten old [] old []
-written_none old = record { count = refl; each = λ k. after_none k (host_at old k); lines_are = refl }
 
 -- Of one more: its host's ring has one message more.
 
@@ -200,10 +191,6 @@ cons_option-length (Some y) ys n few = omega (arith, few)
 pub filter_map-few : {X Y : Type 0} (h : X → Option Y) (xs : List X) → length (filter_map h xs) ≤ length xs
 filter_map-few h [] = omega arith
 filter_map-few h (x ∷ xs) = cons_option-length (h x) (filter_map h xs) (length xs) (filter_map-few h xs)
-
-pub taken_few : {X Y : Type 0} (h : X → Option Y) (xs : List X) (i : ℕ) → i ≤ length xs
-    → length (filter_map h (take i xs)) ≤ i
-taken_few h xs i within = omega (arith, filter_map-few h (take i xs), length-take i xs)
 
 -- an end that takes something is there
 pub takes-within : (ends : List HostState) (k size : ℕ) → Takes (host_at ends k) size → k < length ends

@@ -99,6 +99,7 @@ pub record HasPartEnded (l : Medl) (sc : Script) (carried : Carried) (first : �
 abbrev pub LeftOfPart : Type 0
 LeftOfPart = ℕ × (MutBor (List Seat) × (MutBor (List Desk) × Unit {0}))
 
+-- a part has ended its slot so, with what all parts read
 abbrev pub EndsPart : Common → Part → LeftOfPart → Type 0
 EndsPart common part left =
     HasPartEnded common.list.now common.script.now common.medium.now part.first part.seats.now left.1.0.now

@@ -37,10 +37,11 @@ pub record AreReadersOfAll (ends : List ControllerState) (readers : List (Option
   pub count : length readers ≡ length ends
   pub own : (k : ℕ) → k < length ends → ForSome (readers_at readers k) (AreReadersOfEnd (end_at ends k))
 
--- they read the same rings
+-- the rings that they read, if there are any
 abbrev pub rings_in : Option ReadersState → Option (List (Option RingState))
 rings_in = option_map (λ r. rings_read r.readers)
 
+-- they read the same rings
 pub record ReadTheSame (old new : List (Option ReadersState)) : Type 0 where
   pub count : length new ≡ length old
   pub each : (k : ℕ) → rings_in (readers_at new k) ≡ rings_in (readers_at old k)

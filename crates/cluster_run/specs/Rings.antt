@@ -87,9 +87,9 @@ GotEach s = s.tries ≡ length s.pairs
 abbrev pub SawAtMost : List (List ℕ) → Settlement → Type 0
 SawAtMost messages s = s.seen ≤ 2 * newest_number messages
 
--- the writer of a ring of this shape, which wrote these messages, and in which these pairs are joined. None of the readers
--- that were settled loaded a counter above twice the writer's number, and with two buffers or more each got its messages
--- at the first attempt
+-- the writer of a ring of this shape, which wrote these messages, and in which these pairs are joined. None of the
+-- readers that were settled loaded a counter above twice the writer's number, and with two buffers or more each got its
+-- messages at the first attempt
 pub record IsRing (shape : Shape) (messages : List (List ℕ)) (pairs : List Message) (w : WriterState) : Type 0 where
   pub shape_is : w.ring.shape ≡ shape
   pub messages_are : w.messages ≡ messages

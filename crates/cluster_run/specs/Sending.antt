@@ -93,6 +93,7 @@ Fetches (Some old) (Some new) = Attempts old new
 abbrev pub MayFetch : Option ReaderState → Type 0
 MayFetch fetcher = ForSome fetcher (λ f. 1 ≤ f.spare)
 
+-- those of all nodes
 abbrev pub MayFetchAll : List (Option ReaderState) → Type 0
 MayFetchAll fetchers = (k : ℕ) → MayFetch (get_or fetchers k None)
 

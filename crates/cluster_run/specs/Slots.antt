@@ -20,19 +20,19 @@ use Rattle.cluster_run.specs.Ending.{HaveHandedOn}
 use Rattle.cluster_run.specs.Ends.{desk_ends, desk_numbers}
 use Rattle.cluster_run.specs.Reading.{AllGot, AreLinesOf, AreReadersLent, HaveRead, SettlesReads}
 use Rattle.cluster_run.specs.Report.{numbers_in, ShowsNext}
-use Rattle.cluster_run.specs.Standing.{ClusterView, ClusterStandsFor, Desks, DesksStandFor, HoldsRead}
+use Rattle.cluster_run.specs.Standing.{ClusterView, ClusterStandsFor, NodesView, NodesStandFor, HoldsRead}
 
 -- Before the slot of this number.
 
--- the desks stand for the numbers of as many slots
-pub record StandsAt (list : Medl) (script : Script) (slot : ℕ) (desks : Desks) (numbers : Numbers) : Type 0 where
+-- the nodes stand for the numbers of as many slots
+pub record StandsAt (list : Medl) (script : Script) (slot : ℕ) (nodes : NodesView) (numbers : Numbers) : Type 0 where
   pub count : length numbers ≡ slot
-  pub stands : DesksStandFor list script desks numbers
+  pub stands : NodesStandFor list script nodes numbers
 
 -- so they do for some
-pub record StandsForSome (list : Medl) (script : Script) (slot : ℕ) (desks : Desks) : Type 0 where
+pub record StandsForSome (list : Medl) (script : Script) (slot : ℕ) (nodes : NodesView) : Type 0 where
   pub numbers : Numbers
-  pub at : StandsAt list script slot desks numbers
+  pub at : StandsAt list script slot nodes numbers
 
 -- Once the slot is planned.
 
@@ -70,8 +70,8 @@ HaveEndedFor list script numbers old new =
     HaveEnded list script (world list script numbers) old.chosen.items 0 new.seats.items
 
 -- The controllers have handed on what the slot left, and hosts have read what these lines tell: each that reads by
--- readers that were lent before, which are settled after it. `first` are the readers as they were lent, `last` those once
--- they have read, and `handed` the controllers' ends before these are settled.
+-- readers that were lent before, which are settled after it. `first` are the readers as they were lent, `last` those
+-- once they have read, and `handed` the controllers' ends before these are settled.
 pub record TellsReads (list : Medl) (script : Script) (slot : ℕ) (old new : Nodes) (lines : List ReadLine) : Type 0
   where
     pub handed : List ControllerState
@@ -86,11 +86,11 @@ pub record TellsReads (list : Medl) (script : Script) (slot : ℕ) (old new : No
     pub settles : SettlesReads handed last (desk_ends new.desks.items)
     pub told : AllGot (reads_in script slot) last → AreLinesOf (reads_in script slot) last lines
 
--- The desks stand for these numbers and those in the report, which shows the world's slot for them, and where the older
+-- The nodes stand for these numbers and those in the report, which shows the world's slot for them, and where the older
 -- ones were legal, all are.
-pub record IsNextOf (list : Medl) (script : Script) (numbers : Numbers) (desks : Desks) (report : SlotReport) : Type 0
-  where
-    pub stands : DesksStandFor list script desks (numbers_in report ∷ numbers)
+pub record IsNextOf (list : Medl) (script : Script) (numbers : Numbers) (nodes : NodesView) (report : SlotReport)
+  : Type 0 where
+    pub stands : NodesStandFor list script nodes (numbers_in report ∷ numbers)
     pub shows : ShowsNext list script numbers report
     pub legal : IsLegal list script numbers → IsLegal list script (numbers_in report ∷ numbers)
 

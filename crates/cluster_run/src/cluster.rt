@@ -97,8 +97,8 @@ impl Cluster {
         ensures bytes { OnOk result (AreBytesBefore self.new.list self.new.script self.new.done) }
         ensures done { OnOk result (self.new.done ≡ self.old.done + 1) }
         ensures undone { OnErr result (self.new.done ≡ self.old.done) }
-        ensures gone { OnErr result (self.new.desks ≡ None) }
-        ensures for_good { self.old.desks ≡ None → IsErr result }
+        ensures gone { OnErr result (self.new.nodes ≡ None) }
+        ensures for_good { self.old.nodes ≡ None → IsErr result }
     {
         let Some(nodes) = &mut self.nodes else {
             return Err(Memory);

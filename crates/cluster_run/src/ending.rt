@@ -1,6 +1,5 @@
 //! The end of a slot: each controller takes what its node hears, and hands on what its host is to get.
 ghost use Rattle.std.specs.Prelude.{◌≡◌};
-ghost use Rattle.controller.specs.PlantStands.{outcomes_of};
 ghost use Rattle.cluster_run.specs.Ending.{MayHandOn, delivered_to, handed_on, number_handed};
 ghost use Rattle.cluster_run.specs.Ending.{IsPartReady, HasPartEnded, EndsPart};
 

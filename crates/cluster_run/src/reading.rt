@@ -1,5 +1,5 @@
 //! What hosts read, and the lines of it.
-ghost use Rattle.std.specs.Prelude.{◌≡◌, ◌≢◌, ◌<◌, ◌≤◌, ℕ, [], ◌∷◌, ◌++◌, length, map, vec_len, vec_capacity};
+ghost use Rattle.std.specs.Prelude.{◌≡◌, ◌≢◌, ◌<◌, ◌≤◌, ℕ, [], ◌∷◌, length, map, vec_len, vec_capacity};
 ghost use Rattle.std.specs.Prelude.{All, IfOk, IfSome, IfNone, OnOk, is_some};
 ghost use Rattle.std.specs.Option.{ForSome};
 ghost use Rattle.std.specs.Vec.Iter.{into_iter_items};

@@ -37,8 +37,8 @@ fn emptied(alloc: Global, mut lines: Vec<NodeLine>, room: usize) -> Result<Vec<N
     Ok(lines)
 }
 
-/// The lines of all nodes after a slot, by the numbers of what they delivered in it, which their desks keep. They are written over
-/// `spare`, lines that are told no more, where these have room.
+/// The lines of all nodes after a slot, by the numbers of what they delivered in it, which their desks keep. They are
+/// written over `spare`, lines that are told no more, where these have room.
 pub(crate) fn node_lines(
     alloc: Global,
     spare: Vec<NodeLine>,

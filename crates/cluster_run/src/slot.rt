@@ -13,7 +13,7 @@ ghost use Rattle.cluster_run.specs.Reading.{ReadTheSame, ReadBuffers};
 ghost use Rattle.cluster_run.specs.Report.{writes_shown};
 ghost use Rattle.cluster_run.specs.Slots.{StandsAt, StandsForSome, ArePlannedNodes, HavePlannedSlot, MayEndSlot};
 ghost use Rattle.cluster_run.specs.Slots.{HaveEndedFor, TellsReads, IsNextOf};
-ghost use Rattle.cluster_run.specs.Standing.{desks_of};
+ghost use Rattle.cluster_run.specs.Standing.{nodes_view};
 
 use crate::choosing::choose;
 use crate::ending::{Common, end_all, end_halves};
@@ -76,13 +76,13 @@ fn plan<R: Threads + Sync, G: Gate>(
     requires slot { slot < script.now.slots }
     requires nodes { AreNodesOf list.now slot nodes.old }
     requires bytes { AreBytesBefore list.now script.now slot }
-    requires stands { StandsForSome list.now script.now slot (desks_of nodes.old) }
+    requires stands { StandsForSome list.now script.now slot (nodes_view nodes.old) }
     ensures nodes { OnOk result (ArePlannedNodes list.now script.now slot nodes.new) }
     ensures desks { nodes.new.desks ≡ nodes.old.desks }
     ensures bytes { OnOk result (AreBytesBefore list.now script.now (slot + 1)) }
     ensures writes { IfOk result (λ lines. lines.items
         ≡ writes_shown list.now script.now slot [] (writes_in script.now slot)) }
-    ensures plans { OnOk result ((numbers : Numbers) → StandsAt list.now script.now slot (desks_of nodes.old) numbers
+    ensures plans { OnOk result ((numbers : Numbers) → StandsAt list.now script.now slot (nodes_view nodes.old) numbers
         → HavePlannedSlot list.now script.now numbers nodes.new) }
 {
     begin_all(&mut nodes.seats, list, script, 0, slot);
@@ -257,12 +257,12 @@ pub(crate) fn slot_of<R: Threads + Wait + Sync, G: Gate>(
     requires slot { slot < script.now.slots }
     requires nodes { AreNodesOf list.now slot nodes.old }
     requires bytes { AreBytesBefore list.now script.now slot }
-    requires stands { StandsForSome list.now script.now slot (desks_of nodes.old) }
+    requires stands { StandsForSome list.now script.now slot (nodes_view nodes.old) }
     ensures nodes { OnOk result (AreNodesOf list.now (slot + 1) nodes.new) }
     ensures bytes { OnOk result (AreBytesBefore list.now script.now (slot + 1)) }
     ensures steps { IfOk result (λ report. (numbers : Numbers)
-        → StandsAt list.now script.now slot (desks_of nodes.old) numbers
-        → IsNextOf list.now script.now numbers (desks_of nodes.new) report) }
+        → StandsAt list.now script.now slot (nodes_view nodes.old) numbers
+        → IsNextOf list.now script.now numbers (nodes_view nodes.new) report) }
 {
     let writes = plan(rt, alloc, list, script, slot, nodes, gate)?;
     let reads = end_slot(rt, alloc, list, script, slot, nodes, gate)?;

@@ -1,7 +1,7 @@
 //! The lines that refuse a file.
 ghost use Rattle.std.specs.Prelude.{◌≡◌, ◌+◌, ◌≤◌, ◌++◌, length};
 ghost use Rattle.commands.specs.Faults.{field_text, unknown_text, list_fault_text, line_fault_text};
-ghost use Rattle.commands.specs.Faults.{script_fault_text, fault_text, fault_line};
+ghost use Rattle.commands.specs.Faults.{script_fault_text, fault_line};
 
 use crate::read::FileFault;
 use medl_text::{Field, MedlError};

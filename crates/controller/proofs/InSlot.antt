@@ -1,47 +1,40 @@
 -- Controllers in a slot of the world: what each stands for at each turn is its node of the slot after the history, and
 -- what they send in the second pass is on the medium.
-use Rattle.std.proofs.Common.{◌≡◌, ℕ, ◌<◌, ◌≤◌, ℤ, ◌+ℤ◌, Bool, true, false, cond, List, [], ◌∷◌, length, min, Option}
+use Rattle.std.proofs.Common.{◌≡◌, ℕ, ◌<◌, ◌≤◌, ℤ, ◌+ℤ◌, Bool, List, [], ◌∷◌, length, min, Option}
 use Rattle.std.proofs.Common.{is_some, refl, ap, sym, ◌∙◌, subst, arith, ◌+◌, get_or, set, unsigned_abs, pos}
 use Rattle.std.specs.List.{flat_map}
 use Rattle.std.specs.Option.{option_map_or}
 use Rattle.std.specs.Prelude.{slice_get, None, Some}
-use Rattle.std.proofs.lemmas.Bool.{cases_lt}
-use Rattle.std.proofs.lemmas.List.{length-map, get_or_past}
-use Rattle.std.proofs.lemmas.List.Elements.{All-get_or}
-use Rattle.std.proofs.lemmas.List.FromFn.{length-map-range_with_len}
+use Rattle.std.proofs.lemmas.List.{length-map}
 use Rattle.ttp_base.specs.NodeSet.{below}
 use Rattle.ttp_base.proofs.Below.{flat_map-next}
 use Rattle.ttp_world.specs.declared.medl.Medl.{Medl}
 use Rattle.ttp_world.specs.declared.node.Act.{Act}
-use Rattle.ttp_world.specs.declared.node.Act.TheVariants.{Send}
 use Rattle.ttp_world.specs.declared.node.Chosen.{Chosen}
 use Rattle.ttp_world.specs.declared.node.Entry.{Entry}
 use Rattle.ttp_world.specs.declared.script.Channel.{Channel}
 use Rattle.ttp_world.specs.declared.script.Channel.TheVariants as channel
 use Rattle.ttp_world.specs.declared.script.Script.{Script}
 use Rattle.ttp_world.specs.declared.script.TheConstants.{SLOT_LIMIT}
-use Rattle.ttp_world.specs.Act.{act, coming_place}
-use Rattle.ttp_world.specs.Conduct.{carries_payload, new_entry, delivery, node_frames}
-use Rattle.ttp_world.specs.Diary.{Diary, History, Surroundings, diary_of, entry_of}
+use Rattle.ttp_world.specs.Act.{act}
+use Rattle.ttp_world.specs.Conduct.{new_entry, delivery, node_frames}
+use Rattle.ttp_world.specs.Diary.{History, diary_of, entry_of}
 use Rattle.ttp_world.specs.Medium.{heard, surroundings_in, surroundings_of, SentFrame}
-use Rattle.ttp_world.specs.Medl.{plan_at}
 use Rattle.ttp_world.specs.Messages.{status_words}
-use Rattle.ttp_world.specs.Outgoing.{nothing_chosen}
-use Rattle.ttp_world.specs.Past.{NodePast, past_of}
+use Rattle.ttp_world.specs.Past.{past_of}
 use Rattle.ttp_world.specs.Script.{is_on, is_armed, jump_of, reading_error}
-use Rattle.ttp_world.specs.World.{BegunNode, BegunSlot, jump_taken, node_of, slot_after, chosen_of, sends_payload}
-use Rattle.ttp_world.specs.World.{frames_in, hearing_in, row_in, node_after, no_node, frames_of}
+use Rattle.ttp_world.specs.World.{BegunNode, jump_taken, node_of, slot_after, chosen_of}
+use Rattle.ttp_world.specs.World.{frames_in, hearing_in, row_in, frames_of}
 use Rattle.ttp_world.proofs.Silences.{is_silent_to-row_in}
 use Rattle.ttp_world.proofs.Slots.{node_of-slot_after, entry_of-row_in}
 use Rattle.medium.specs.declared.arrival.Arrival.{Arrival}
 use Rattle.medium.specs.Carried.{Carried}
 use Rattle.medium.specs.StandsFor as medium
-use Rattle.controller.specs.declared.controller.Intent.{Intent}
 use Rattle.controller.specs.declared.controller.Intent.TheVariants as intent
 use Rattle.controller.specs.declared.controller.Outcome.{Outcome}
 use Rattle.controller.specs.declared.seat.Seat.{Seat}
 use Rattle.controller.specs.Hearing.{hearing_of}
-use Rattle.controller.specs.Limits.{intent_by, loaded_length, view_clock, view_intent, turn_intent, turn_jump, IsBegun}
+use Rattle.controller.specs.Limits.{view_clock, view_intent, turn_jump, IsBegun}
 use Rattle.controller.specs.Kept.{kept}
 use Rattle.controller.specs.Passes.{StandsAfter, StandsForNode, jump_begun, HasBegun, HasPlanned, frames_by, IsLeft}
 use Rattle.controller.specs.Passes.{Carries, payload_handed, HaveBegun, IsFromClocks, KeepsClocks}

@@ -7,7 +7,6 @@ use Rattle.ttp_world.specs.declared.medl.Medl.{Medl}
 use Rattle.ttp_world.specs.declared.node.Chosen.{Chosen}
 use Rattle.ttp_world.specs.declared.script.Script.{Script}
 use Rattle.ttp_world.specs.Diary.{History}
-use Rattle.controller.specs.declared.controller.Outcome.{Outcome}
 use Rattle.controller.specs.declared.seat.Seat.{Seat}
 use Rattle.controller.specs.Passes.{AreLeft, HaveEnded, IsLeft}
 use Rattle.controller.specs.PlantStands.{IsStep, PlantStandsFor, no_outcome, outcomes_of, plant_of}

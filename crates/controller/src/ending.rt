@@ -1,5 +1,5 @@
 //! How a slot ends for a node: the entry that it makes, and what it hands to its host.
-ghost use Rattle.std.specs.Prelude.{◌≡◌, ◌<◌, length};
+ghost use Rattle.std.specs.Prelude.{◌<◌, length};
 ghost use Rattle.ttp_world.specs.Medl.{IsValid};
 ghost use Rattle.controller.specs.Ending.{EndsAs};
 ghost use Rattle.controller.specs.Hearing.{ReadingFits};

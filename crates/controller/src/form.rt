@@ -1,5 +1,4 @@
 //! The form of the frame that the list gives for a slot.
-ghost use Rattle.std.specs.Prelude.{◌≡◌};
 ghost use Rattle.slot_clock.specs.StandsFor.{StandsFor};
 ghost use Rattle.ttp_world.specs.Medl.{IsValid};
 ghost use Rattle.controller.specs.Hearing.{IsFormOf};

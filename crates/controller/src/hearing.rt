@@ -1,11 +1,11 @@
 //! What a node makes of what comes to it in a slot: its entry, and what it hands to its host.
-ghost use Rattle.std.specs.Prelude.{◌≡◌, ◌↔◌, ◌+◌, ◌≤◌, ◌<◌, ℕ, ℤ, ◌-ℤ◌, ◌+ℤ◌, Bool, not, IsTrue, length};
+ghost use Rattle.std.specs.Prelude.{◌≡◌, ◌↔◌, ◌+◌, ◌≤◌, ◌<◌, ℕ, ℤ, ◌-ℤ◌, ◌+ℤ◌, not, IsTrue, length};
 ghost use Rattle.std.specs.Prelude.{unsigned_abs, if◌then◌else◌};
 ghost use Rattle.ttp_frame.specs.Shape.{HaveRoom};
 ghost use Rattle.ttp_world.specs.Act.{coming_place};
 ghost use Rattle.ttp_world.specs.Conduct.{channel_join, delivery, join_entry, judging_entry, listening_entry};
 ghost use Rattle.ttp_world.specs.Conduct.{verdict_entry};
-ghost use Rattle.ttp_world.specs.Fitting.{carried_length, payload_in};
+ghost use Rattle.ttp_world.specs.Fitting.{payload_in};
 ghost use Rattle.ttp_world.specs.Medl.{IsValid, is_wide, member_bytes};
 ghost use Rattle.ttp_world.specs.Past.{NodePast};
 ghost use Rattle.ttp_world.specs.Reception.{Hearing, entry_deviation, expected_of, fits_members, fits_second};

@@ -1,7 +1,7 @@
 //! The giver's end and the worker's.
-ghost use Rattle.std.specs.Prelude.{true, ◌∷◌, ◌≡◌, ◌≢◌, ◌<◌, ℕ, [], None, Some, IfOk};
-ghost use Rattle.errand.specs.declared.note.Role.TheVariants.{Alone, Fresh, Gives, Works};
-ghost use Rattle.errand.specs.Turns.{number, bare, laden, fetched, took, gave};
+ghost use Rattle.std.specs.Prelude.{true, ◌≡◌, ◌≢◌, ◌<◌, [], None, Some, IfOk};
+ghost use Rattle.errand.specs.declared.note.Role.TheVariants.{Alone, Gives, Works};
+ghost use Rattle.errand.specs.Turns.{number, bare, laden};
 ghost use Rattle.errand.specs.Ends.{IsSeated};
 
 use crate::note::Note;

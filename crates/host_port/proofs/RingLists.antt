@@ -16,7 +16,7 @@ use Rattle.std.specs.Prelude.{IfSome}
 use Rattle.std.proofs.lemmas.List.Elements.{All-push}
 use Rattle.nbw_ring.specs.declared.view.Shape.{Shape}
 use Rattle.ttp_world.specs.Medl.{plan_at}
-use Rattle.host_port.specs.Rings.{at_source, shape_of, message_shape, incoming_shape, IsNew, HasStatus, HaveBuffers}
+use Rattle.host_port.specs.Rings.{at_source, shape_of, message_shape, incoming_shape, IsNew, HaveBuffers}
 use Rattle.host_port.proofs.ReaderLists.{ring_written}
 
 -- the writers of the status ring and of the rings of the first k nodes
@@ -105,7 +105,3 @@ first_status : (list : Medl) (w : Option WriterState) → IsNew (Some (shape_of 
     → IsSomeAnd w (λ w. w.ring.shape.width ≡ 4)
 first_status list None new = new
 first_status list (Some w) new = ap (λ s. s.width) new.0
-
-pub status_first : (list : Medl) (node k : ℕ) (rings : List (Option RingState)) (writers : List (Option WriterState))
-    → AreNew list node k rings writers → HasStatus writers
-status_first list node k rings writers so = first_status list (get_or writers 0 None) so.status

@@ -1,5 +1,5 @@
 //! How a controller takes its host's newest message.
-ghost use Rattle.std.specs.Prelude.{◌≡◌, ◌+◌, ◌/◌, ◌≤◌, length, slice_get, IsSome, IsSomeAnd, IfOk, IsOk, OnOk, OnErr};
+ghost use Rattle.std.specs.Prelude.{◌≡◌, ◌+◌, ◌/◌, ◌≤◌, length, slice_get, IsSome, IsSomeAnd, IfOk, IsOk, OnOk};
 ghost use Rattle.nbw_ring.specs.Attempts.{number_of, OnGot, OnOverrun};
 ghost use Rattle.nbw_ring.specs.States.{new_reader};
 ghost use Rattle.host_port.specs.Rings.{IsHostEndOf};
@@ -116,7 +116,6 @@ impl Port {
         ensures whole { OnOk result (IsSomeAnd end.old (λ w. IsWhole w f)) }
         ensures seen { OnOk result (IsSomeAnd end.old (λ w. HasSeen w f)) }
         ensures joined { OnOk result (end.new ≡ joined end.old f) }
-        ensures err { OnErr result (end.new ≡ end.old) }
     {
         Ok(end.settle_fetch(f))
     }

@@ -1,7 +1,6 @@
 //! How a host reads: readers are lent, read, and are settled.
-ghost use Rattle.std.specs.Prelude.{◌≡◌, ◌≢◌, ◌+◌, ◌≤◌, ◌<◌, ℕ, [], length, map, count_by, sum_by, take, reverse};
-ghost use Rattle.std.specs.Prelude.{get_or};
-ghost use Rattle.std.specs.Prelude.{vec_len, vec_capacity, option_map, All, IfOk, IfSome, OnOk, OnErr};
+ghost use Rattle.std.specs.Prelude.{◌≡◌, ◌≢◌, ◌<◌, [], sum_by};
+ghost use Rattle.std.specs.Prelude.{IfOk, IfSome};
 ghost use Rattle.ttp_world.specs.declared.script.Source.{Source};
 ghost use Rattle.ttp_world.specs.Script.{reads_in};
 ghost use Rattle.host_port.specs.Rings.{at_source, place_of, IsControllerEndOf};
@@ -184,6 +183,7 @@ impl Port {
             → at_source r.new.readers other ≡ at_source r.old.readers other }
         ensures calls { r.new.calls ≡ calls_after r.old.calls source (at_source r.new.readers source) }
     {
+        // The proof has from here how many buffers this port's rings have.
         let _ = &self.buffers;
         r.read(rt, source, gate);
     }

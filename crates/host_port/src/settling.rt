@@ -1,11 +1,11 @@
 //! How the readers of a slot are settled, and their pairs become lines.
-ghost use Rattle.std.specs.Prelude.{◌≡◌, ◌≢◌, ◌+◌, ◌≤◌, ◌<◌, ℕ, [], ◌∷◌, ◌++◌, length, map, take, reverse, get_or, All};
+ghost use Rattle.std.specs.Prelude.{◌≡◌, ◌≢◌, ◌+◌, ◌≤◌, ◌<◌, ℕ, [], ◌∷◌, length, map, take, get_or, All};
 ghost use Rattle.std.specs.Prelude.{vec_len, vec_capacity, option_map, IfOk, IfSome, IsSome, OnOk, OnErr};
 ghost use Rattle.ttp_world.specs.declared.script.Source.{Source};
 ghost use Rattle.host_port.specs.Rings.{at_source, IsControllerEndOf};
 ghost use Rattle.host_port.specs.Reading.{AreReadersOf, AreReadersOfEnd, AreTheirRings, IsItsRing, rings_read, settled, all_settled, IsSettled, got_of, pairs_from};
 ghost use Rattle.std.specs.Vec.Iter.{into_iter_items};
-ghost use Rattle.host_port.specs.Queues.{calls_at, pairs_at, queue_at, AreQueued};
+ghost use Rattle.host_port.specs.Queues.{pairs_at, queue_at, AreQueued};
 
 use crate::ends::ControllerEnd;
 use crate::port::Port;

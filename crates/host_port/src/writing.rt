@@ -3,7 +3,6 @@ ghost use Rattle.std.specs.Prelude.{◌≡◌, ◌<◌, ◌≤◌, ◌*◌, leng
 ghost use Rattle.ttp_world.specs.declared.script.Source.TheVariants as source;
 ghost use Rattle.ttp_world.specs.Words.{words_of_payload};
 ghost use Rattle.host_port.specs.Rings.{at_source, IsControllerEndOf, IsHostEndOf};
-ghost use Rattle.ttp_world.specs.declared.script.TheConstants.{PAYLOAD_LIMIT};
 ghost use Rattle.host_port.specs.Writing.{written, written_at, HasRoom, Takes, IsNewest};
 
 use crate::ends::{ControllerEnd, HostEnd};

@@ -6,7 +6,6 @@ use Rattle.ttp_world.specs.Hypothesis.{start_of, numbers_of, faulty_nodes_before
 use Rattle.ttp_world.specs.Returning.{disturbance_broken, slots_before, faulty_since}
 use Rattle.hypothesis.specs.declared.faulty.BackFaulty.{BackFaulty}
 use Rattle.hypothesis.specs.declared.faulty.KeptFaulty.{KeptFaulty}
-use Rattle.hypothesis.specs.declared.losses.Jumps.{Jumps}
 use Rattle.hypothesis.specs.declared.losses.Jumps.TheVariants as jumps
 use Rattle.hypothesis.specs.FaultySlots.{AreNewest}
 use Rattle.hypothesis.specs.Standing.{told_start, HaveSameNodes}

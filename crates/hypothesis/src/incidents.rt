@@ -1,7 +1,5 @@
 //! What happens to the nodes in a slot, of which each is looked up once.
-ghost use Rattle.std.specs.Prelude.{◌≡◌, ◌<◌, length};
 ghost use Rattle.ttp_world.specs.Medl.{IsValid};
-ghost use Rattle.ttp_world.specs.Script.{incidents_of};
 ghost use Rattle.hypothesis.specs.SlotIncidents.{AreIncidentsIn};
 
 use ttp_world::{Incidents, LastLookUp, Medl, Script};

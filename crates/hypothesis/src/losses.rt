@@ -1,5 +1,5 @@
 //! What a slot makes of the faulty nodes: clocks that jump, and frames that are lost.
-ghost use Rattle.std.specs.Prelude.{◌≡◌, ℕ, ◌<◌, ◌≤◌, ◌++◌, nat_lt, if◌then◌else◌, length, filter, All, None, is_some};
+ghost use Rattle.std.specs.Prelude.{◌≡◌, ℕ, ◌<◌, ◌++◌, nat_lt, if◌then◌else◌, length, filter, All, None, is_some};
 ghost use Rattle.std.specs.List.{list_any};
 ghost use Rattle.ttp_base.specs.NodeSet.{most_nodes};
 ghost use Rattle.ttp_world.specs.Hypothesis.{Harmless, nodes_made, is_breaking, is_other, others_in, jumps_now, loses};

@@ -1,12 +1,11 @@
 //! What stands outside the hypothesis: flipped bits, armed nodes, and jumps of a clock that do not
 //! go far or are not the node's first.
-ghost use Rattle.std.specs.Prelude.{◌≡◌, ℕ, ◌<◌, ◌^◌, nat_lt, length, slice_index, All};
-ghost use Rattle.std.specs.List.{list_any};
+ghost use Rattle.std.specs.Prelude.{◌≡◌, ◌<◌};
 ghost use Rattle.ttp_base.specs.NodeSet.{most_nodes};
 ghost use Rattle.ttp_world.specs.Hypothesis.{four_windows, is_far_jump, is_allowed_jump, outside_slot, outside_broken};
 ghost use Rattle.ttp_world.specs.Medl.{IsValid, IsWithin};
 ghost use Rattle.ttp_world.specs.Returning.{disturbed_slot, disturbance_broken};
-ghost use Rattle.ttp_world.specs.Script.{IsValidEvent, IsValidScript, AreBounded};
+ghost use Rattle.ttp_world.specs.Script.{IsValidEvent, IsValidScript};
 ghost use Rattle.hypothesis.specs.Jumps.{AreFirstJumps};
 
 use crate::nodes::lesser;

@@ -1,6 +1,6 @@
 //! The start: one starter alone reaches the first slot in which one would start, and each node that
 //! is ever on is on by then.
-ghost use Rattle.std.specs.Prelude.{◌≡◌, ◌+◌, ◌*◌, ◌<◌, ◌≤◌, length, filter, IfSome};
+ghost use Rattle.std.specs.Prelude.{◌≡◌, ◌+◌, ◌*◌, ◌<◌, length, filter, IfSome};
 ghost use Rattle.std.specs.List.{filter_map};
 ghost use Rattle.ttp_base.specs.NodeSet.{most_nodes};
 ghost use Rattle.ttp_world.specs.Hypothesis.{nodes_of, least_of, start_slot, starts_in, are_all_on, only_starter};

@@ -1,5 +1,5 @@
 //! The walk over the slots of a run, in which nodes become faulty.
-ghost use Rattle.std.specs.Prelude.{◌≡◌, ◌+◌, ◌*◌, ◌<◌, List, Some, None, true, length, MatchOption};
+ghost use Rattle.std.specs.Prelude.{◌≡◌, ◌+◌, ◌*◌, ◌<◌, List, Some, None, true, MatchOption};
 ghost use Rattle.ttp_base.specs.NodeSet.{most_nodes};
 ghost use Rattle.ttp_world.specs.Hypothesis.{FaultyNode, numbers_of, breaks_in, start_of, started_keep, unless};
 ghost use Rattle.ttp_world.specs.Medl.{IsValid};

@@ -1,7 +1,6 @@
 -- What holds of each ending of a form: what its texts are made of, and what its status and the form tell of each other.
-use Rattle.std.proofs.Common.{◌≡◌, ◌≢◌, ℕ, true, Option, Some, None, Result, Ok, Err, refl, arith}
+use Rattle.std.proofs.Common.{◌≡◌, ◌≢◌, ℕ, Option, Some, None, Result, Ok, Err, refl, arith}
 use Rattle.std.proofs.Common.{List}
-use Rattle.ttp_base.specs.Text.{Lines}
 use Rattle.whole_trace.specs.Whole.{WholeTrace}
 use Rattle.wave_text.proofs.DeclaredLines.{wave_lines-each}
 use Rattle.picture_text.proofs.PictureLines.{picture_lines-each}

@@ -1,7 +1,7 @@
 -- What a text is read as: by its first bytes, if it is longer than a trace may be. The line that refuses it is one line.
 use Rattle.std.proofs.Common.{◌≡◌, ◌⊎◌, ℕ, ◌+◌, ◌<◌, ◌≤◌, Bool, true, false, cond, List, ◌++◌, length, take, refl, ap, inl, inr}
-use Rattle.std.proofs.Common.{arith, nat_le, nat_lt, Result, Ok, Err, Option, Some, None, sym, ◌∙◌, IsTrue}
-use Rattle.std.specs.Prelude.{codes, decimal, ◌&&◌, ◌-◌}
+use Rattle.std.proofs.Common.{arith, nat_lt, Result, Ok, Err, Option, sym, ◌∙◌, IsTrue}
+use Rattle.std.specs.Prelude.{codes, decimal, ◌-◌}
 use Rattle.std.proofs.lemmas.Bool.{lt-ltb, le-ltb, ltb-false, cases_lt}
 use Rattle.std.proofs.lemmas.List.{take_all, length-take-le}
 use Rattle.ttp_base.specs.Text.{newline, is_line}

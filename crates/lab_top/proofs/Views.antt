@@ -1,5 +1,5 @@
 -- The promise of a view in its own words, from the promise of every form.
-use Rattle.std.proofs.Common.{◌≡◌, ◌⊎◌, ℕ, ◌+◌, ◌≤◌, List, [], ◌∷◌, take, Some, Result, Ok, Err, refl, ap, sym, subst, ◌∙◌}
+use Rattle.std.proofs.Common.{◌≡◌, ◌⊎◌, ℕ, ◌≤◌, List, [], ◌∷◌, Some, Result, Ok, Err, refl, sym, subst}
 use Rattle.std.proofs.Common.{inl, inr, arith}
 use Rattle.ttp_base.specs.Outside.{Held, Load, Gives, HasRisen, Wrote, WroteLines, CutShort}
 use Rattle.ttp_base.specs.Text.{Lines}

@@ -1,5 +1,5 @@
 -- The promises of `wave TRACE` and of `picture TRACE [FIRST LAST]` in their own words.
-use Rattle.std.specs.Prelude.{◌≡◌, ◌⊎◌, ◌≤◌, ℕ, List, [], ◌∷◌, length, Option, Result, Ok, Err, IsTrue}
+use Rattle.std.specs.Prelude.{◌≡◌, ◌⊎◌, ◌≤◌, ℕ, List, [], ◌∷◌, length, Option, Ok, Err, IsTrue}
 use Rattle.ttp_base.specs.Outside.{holds, Gives, HasRisen, Output, Wrote, WroteLines, CutShort}
 use Rattle.ttp_base.specs.Text.{Lines}
 use Rattle.whole_trace.specs.Whole.{WholeTrace, whole_in}

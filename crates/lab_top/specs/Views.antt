@@ -1,5 +1,5 @@
 -- The two views of a trace: of which slots each is, and its lines.
-use Rattle.std.specs.Prelude.{◌≡◌, ℕ, List, [], ◌∷◌, Option, None, Result, Ok, Err}
+use Rattle.std.specs.Prelude.{ℕ, List, [], Option, None, Result}
 use Rattle.ttp_base.specs.Text.{Lines}
 use Rattle.whole_trace.specs.Whole.{WholeTrace}
 use Rattle.wave_text.specs.Wave.{wave_lines}

@@ -3,7 +3,6 @@ use Rattle.std.proofs.Common.{◌≡◌, ℕ, ◌≤◌, List, [], ◌∷◌, �
 use Rattle.std.proofs.Common.{length}
 use Rattle.std.proofs.Common.{take, drop, map, Option, Some, None, IfSome, refl, sym, ap, subst, ◌∙◌, arith}
 use Rattle.std.proofs.Common.{codes}
-use Rattle.std.proofs.Common.{bytes_eq}
 use Rattle.std.specs.Prelude.{◌==◌, unwrap_or}
 use Rattle.std.proofs.lemmas.List.{append_assoc, append-nil, nil_from_length, take-append-drop}
 use Rattle.std.proofs.lemmas.List.FromFn.{fill_by_all}
@@ -26,7 +25,7 @@ use Rattle.line_reader.proofs.FieldLists.{fields_in-cons, fields_in-nil}
 use Rattle.line_reader.proofs.Options.{bound}
 use Rattle.line_text.proofs.Options.{guarded, some_same}
 use Rattle.line_reader.proofs.ReadWords.{equal, numeral-takes, byte-takes, offset-takes}
-use Rattle.line_text.proofs.LabelTexts.{label-takes, spelled}
+use Rattle.line_text.proofs.LabelTexts.{label-takes}
 use Rattle.line_reader.proofs.ReadWords.{byte_or_dash-takes}
 use Rattle.line_reader.proofs.ReadWords.{message_or_dash-takes, word-takes, ack-takes, source-takes, schedule-takes}
 use Rattle.line_reader.proofs.ReadWords.{members-takes, payload-takes}

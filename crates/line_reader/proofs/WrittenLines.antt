@@ -20,7 +20,6 @@ use Rattle.ttp_world.specs.declared.script.Source.{Source}
 use Rattle.ttp_world.specs.declared.script.Source.TheVariants as source
 use Rattle.ttp_world.specs.Medl.{member_bytes}
 use Rattle.ttp_world.specs.Trace.{number_or_dash, ack_word, source_word}
-use Rattle.ttp_world.proofs.NumberWords.{bytes_eq-same}
 use Rattle.ttp_world.proofs.TraceWords.{has-number_or_dash, has-ack_word, has-source_word}
 use Rattle.line_reader.specs.declared.trace_line.TraceLine.{TraceLine}
 use Rattle.line_reader.specs.declared.trace_line.TraceLine.TheVariants as line

@@ -1,16 +1,15 @@
 -- A word that writes something that fits is read as that.
 use Rattle.std.proofs.Common.{◌≡◌, ℕ, zero, suc, ◌+◌, ◌*◌, ◌/◌, ◌%◌, ◌^◌, ◌<◌, ◌≤◌, Bool, true, false}
-use Rattle.std.proofs.Common.{cond, ◌&&◌, not}
+use Rattle.std.proofs.Common.{cond}
 use Rattle.std.proofs.Common.{ℤ, pos, negsuc, List, [], ◌∷◌, length, fold, Option}
 use Rattle.std.proofs.Common.{Some, None}
-use Rattle.std.proofs.Common.{IfSome, refl, sym, ap, ◌∙◌, arith, codes, decimal, bytes_eq, lit<}
+use Rattle.std.proofs.Common.{IfSome, refl, sym, ap, ◌∙◌, arith, codes, decimal, bytes_eq}
 use Rattle.std.specs.Prelude.{◌==◌, nat_le, nat_lt, slice_index}
 use Rattle.std.specs.Fmt.{signed_decimal}
 use Rattle.std.specs.List.{list_all}
-use Rattle.std.proofs.Math.Nat.{pow-le-pow_right}
 use Rattle.std.proofs.lemmas.Bool.{both_ways, false_from_ne_true}
 use Rattle.std.proofs.lemmas.Bool.Decides.{nat_tests}
-use Rattle.std.proofs.lemmas.Fmt.{decimal_digit, first_decimal, length-decimal-le}
+use Rattle.std.proofs.lemmas.Fmt.{decimal_digit, first_decimal}
 use Rattle.std.proofs.lemmas.Grind.{pow_more}
 use Rattle.std.proofs.lemmas.List.Elements.{All-get_or, All-tail}
 use Rattle.std.proofs.lemmas.List.Folds.{list_all-append}
@@ -23,14 +22,13 @@ use Rattle.ttp_world.specs.declared.node.Ack.TheVariants as ack
 use Rattle.ttp_world.specs.declared.script.Source.TheVariants as source
 use Rattle.ttp_world.specs.Medl.{member_bytes}
 use Rattle.ttp_world.specs.Trace.{number_or_dash, ack_word}
-use Rattle.ttp_world.specs.TraceNumbers.{is_digit, number_named}
-use Rattle.ttp_world.proofs.NumberWords.{number_named-decimal, word-no_number}
+use Rattle.ttp_world.specs.TraceNumbers.{is_digit}
+use Rattle.ttp_world.proofs.NumberWords.{word-no_number}
 use Rattle.line_reader.specs.declared.trace_line.Word.{Word}
 use Rattle.line_reader.specs.declared.trace_line.Word.TheVariants as word
 use Rattle.line_text.specs.HostLines.{AreBytes}
 use Rattle.line_text.proofs.WrittenNumbers.{is_le, numeral-again, within_64}
 use Rattle.line_reader.specs.Reading.{◌>>=◌, byte_in, offset_in, byte_or_dash_in}
-use Rattle.line_text.specs.Numerals.{has_leading_zero, numeral_in}
 use Rattle.line_reader.specs.Reading.{message_or_dash_in}
 use Rattle.line_reader.specs.Reading.{is_hex, hex_value, append_hex, hex_in, schedule_in, is_six, members_word_in}
 use Rattle.line_reader.specs.Reading.{payload_in, hex_bytes_in, is_even, word_in, ack_in, source_in}

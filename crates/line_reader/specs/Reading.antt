@@ -1,7 +1,7 @@
 -- How a line of a trace is read: it is cut into words by the labels of its form, and each word is read for itself.
 use Rattle.std.specs.Prelude.{ℕ, ◌+◌, ◌-◌, ◌*◌, ◌%◌, ◌==◌, ℤ, pos, neg_ℤ, nat_le, nat_lt, Bool}
 use Rattle.std.specs.Prelude.{◌&&◌, ◌||◌}
-use Rattle.std.specs.Prelude.{not, List, [], ◌∷◌, length, take, drop, slice_index, fold, Option, Some, None, codes}
+use Rattle.std.specs.Prelude.{List, [], ◌∷◌, length, take, drop, slice_index, fold, Option, Some, None, codes}
 use Rattle.std.specs.Prelude.{unwrap_or, slice_get, if◌then◌else◌, position}
 use Rattle.std.specs.List.{list_all}
 use Rattle.std.specs.Str.{bytes_eq}

@@ -1,5 +1,5 @@
 //! A line cut into the words that follow its labels.
-ghost use Rattle.std.specs.Prelude.{◌≡◌, ◌∷◌, ◌++◌, ◌<◌, ◌≤◌, [], length, map, option_map, position};
+ghost use Rattle.std.specs.Prelude.{◌≡◌, ◌∷◌, ◌++◌, ◌<◌, ◌≤◌, [], length, map, position};
 ghost use Rattle.line_reader.specs.Reading.{is_space, word_end, fields_in, word_at};
 ghost use Rattle.line_text.specs.Labels.{after_label};
 

@@ -6,7 +6,6 @@ ghost use Rattle.ttp_world.specs.declared.keep.Keep.{Keep};
 ghost use Rattle.ttp_world.specs.declared.medl.Medl.{Medl};
 ghost use Rattle.ttp_world.specs.declared.node.NodeState.{NodeState};
 ghost use Rattle.ttp_world.specs.declared.script.Script.{Script};
-ghost use Rattle.ttp_world.specs.declared.script.Source.{Source};
 ghost use Rattle.ttp_world.specs.declared.script.Source.TheVariants as source;
 ghost use Rattle.ttp_world.specs.Trace.{trace_head, keep_line, back_line};
 ghost use Rattle.line_reader.specs.declared.trace_line.TraceLine.{TraceLine};

@@ -1,5 +1,5 @@
 //! The words of a line that are no numbers.
-ghost use Rattle.std.specs.Prelude.{◌≡◌, option_map};
+ghost use Rattle.std.specs.Prelude.{◌≡◌};
 ghost use Rattle.line_reader.specs.TraceLines.{names_peer, may_name_message, fits_word};
 ghost use Rattle.line_reader.specs.Reading.{word_in, ack_in, source_in, has_size};
 

@@ -1,7 +1,7 @@
 //! Words that are numbers.
 ghost use Rattle.std.specs.Prelude.{◌≡◌};
 ghost use Rattle.line_text.specs.Numerals.{numeral_in};
-ghost use Rattle.line_reader.specs.TraceLines.{offset_digits, slot_digits};
+ghost use Rattle.line_reader.specs.TraceLines.{slot_digits};
 ghost use Rattle.line_reader.specs.Reading.{byte_in, offset_in, byte_or_dash_in, message_or_dash_in};
 
 use line_text::{message_in, numeral_in};

@@ -11,7 +11,7 @@ use crate::head_line::head_line;
 use crate::host_line::{RingMessage, make_payload_line, make_read_line, make_write_line};
 use crate::labels::after_label;
 use crate::node_line::NodeLines;
-use crate::test_lines::{back_line, keep_line};
+use crate::answer_lines::{back_line, keep_line};
 use ttp_base::Line;
 use ttp_world::{Back, Keep, Medl, NodeState, Script, Source, StatusWords};
 

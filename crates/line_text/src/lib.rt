@@ -24,7 +24,7 @@ pub mod laws;
 mod node_line;
 mod numerals;
 mod put;
-mod test_lines;
+mod answer_lines;
 mod words;
 
 pub use behind::{
@@ -37,4 +37,4 @@ pub use labels::after_label;
 pub use node_line::NodeLines;
 pub use numerals::{message_in, numeral_in};
 pub use put::{put_back, put_header, put_keep, put_node_line, put_read_line, put_write_line};
-pub use test_lines::{back_line, keep_line};
+pub use answer_lines::{back_line, keep_line};

@@ -1,6 +1,5 @@
 //! The lines of the nodes after a slot.
 ghost use Rattle.std.specs.Prelude.{◌≡◌, ◌+◌, ◌≤◌, [], ◌∷◌, ◌++◌, length, IsTrue, OnOk, OnErr, option_map};
-ghost use Rattle.ttp_base.specs.NodeSet.{set_bits};
 ghost use Rattle.ttp_base.specs.Outside.{WroteLines, CutShort};
 ghost use Rattle.ttp_world.specs.declared.node.Ack.TheVariants as ack;
 ghost use Rattle.ttp_world.specs.Trace.{number_or_dash, ack_word};

@@ -1,5 +1,5 @@
 //! Words that are numbers.
-ghost use Rattle.std.specs.Prelude.{◌≡◌, ◌<◌, ◌≤◌, ◌^◌, length, IfSome};
+ghost use Rattle.std.specs.Prelude.{◌≡◌, ◌<◌, ◌≤◌, ◌^◌, IfSome};
 ghost use Rattle.line_text.specs.Numerals.{message_digits, has_leading_zero, numeral_in};
 
 // The most digits of a message number.

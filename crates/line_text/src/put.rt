@@ -9,7 +9,7 @@ ghost use Rattle.line_text.specs.LineParts.{HasDigits, listed_line};
 use crate::head_line::head_line;
 use crate::host_line::{RingMessage, make_read_line, make_write_line};
 use crate::node_line::NodeLines;
-use crate::test_lines::{back_line, keep_line};
+use crate::answer_lines::{back_line, keep_line};
 use ttp_base::{Failed, Line, Sink};
 use ttp_world::{Back, Keep, Medl, NodeState, Script};
 

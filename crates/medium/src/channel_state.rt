@@ -2,7 +2,7 @@
 ghost use Rattle.std.specs.Prelude.{◌≡◌};
 ghost use Rattle.ttp_world.specs.Medium.{flip_bits};
 ghost use Rattle.ttp_world.specs.Script.{is_among, bits_on};
-ghost use Rattle.medium.specs.ChannelState.{nothing, noise, bits, with_frame};
+ghost use Rattle.medium.specs.ChannelState.{nothing, bits, with_frame};
 ghost use Rattle.medium.specs.Shows.{Shows};
 
 use crate::arrival::Arrival;

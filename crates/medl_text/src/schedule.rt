@@ -1,7 +1,7 @@
 //! The slot table of one cluster cycle.
 ghost use Rattle.std.specs.Prelude.{◌≡◌, ◌+◌, ◌<◌, ◌≤◌, ◌++◌, length, decimal, OnOk, OnErr};
 ghost use Rattle.ttp_base.specs.Outside.{WroteLines, CutShort};
-ghost use Rattle.ttp_world.specs.Medl.{IsValid, plan_at, payload_length};
+ghost use Rattle.ttp_world.specs.Medl.{IsValid, payload_length};
 ghost use Rattle.medl_text.specs.Schedule.{letter_of, yes_or_no, table_head, slot_line, round_lines, slot_table};
 
 use ttp_base::{Failed, Line, Sink};

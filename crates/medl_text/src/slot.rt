@@ -6,8 +6,8 @@ ghost use Rattle.ttp_base.specs.Faults.{first_fault};
 ghost use Rattle.ttp_world.specs.Medl.{IsValidSlot, is_bare};
 ghost use Rattle.medl_text.specs.declared.error.FieldName.TheVariants as names;
 ghost use Rattle.medl_text.specs.Fault.{IsFirst};
-ghost use Rattle.medl_text.specs.ListFile.{at_slot, number_at, flag_at, is_kind, kind_of, letters_faults, kinds_faults};
-ghost use Rattle.medl_text.specs.ListFile.{kinds_at, most_payload, requests_faults, is_answer, answers_faults};
+ghost use Rattle.medl_text.specs.ListFile.{at_slot, flag_at, is_kind, kind_of, letters_faults, kinds_faults};
+ghost use Rattle.medl_text.specs.ListFile.{kinds_at, most_payload, requests_faults, is_answer};
 ghost use Rattle.medl_text.specs.ListFile.{live_faults, live_of, all_live, live_at, slot_faults, plan_of};
 
 use crate::error::{FieldName, MedlError};

@@ -4,13 +4,11 @@ use Rattle.std.proofs.Common.{codes, decimal, arith}
 use Rattle.std.specs.Prelude.{◌==◌}
 use Rattle.std.specs.List.{AllByRecursion}
 use Rattle.std.proofs.lemmas.List.Folds.{list_any-append}
-use Rattle.ttp_base.specs.NodeSet.{below}
 use Rattle.ttp_base.specs.Text.{newline, is_line}
 use Rattle.ttp_base.proofs.Below.{map_each-below}
 use Rattle.ttp_base.proofs.Lines.{is_line-append}
 use Rattle.ttp_base.proofs.Numerals.{has, has-decimal}
 use Rattle.ttp_world.specs.declared.medl.Medl.{Medl}
-use Rattle.ttp_world.specs.declared.node.Entry.{Entry}
 use Rattle.ttp_world.specs.declared.script.Script.{Script}
 use Rattle.ttp_world.specs.Diary.{History}
 use Rattle.ttp_world.specs.Trace.{number_or_dash}

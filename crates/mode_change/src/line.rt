@@ -1,5 +1,5 @@
 //! The lines of the text of modes.
-ghost use Rattle.std.specs.Prelude.{◌≡◌, ◌+◌, ◌≤◌, ◌++◌, length, option_map};
+ghost use Rattle.std.specs.Prelude.{◌≡◌, ◌+◌, ◌≤◌, ◌++◌, length};
 ghost use Rattle.ttp_world.specs.Medl.{IsValid};
 ghost use Rattle.ttp_world.specs.Trace.{number_or_dash};
 ghost use Rattle.mode_change.specs.ModeText.{mode_head, mode_line, live_word};

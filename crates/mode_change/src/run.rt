@@ -1,5 +1,5 @@
 //! A run by the message numbers that its trace names.
-ghost use Rattle.std.specs.Prelude.{List as Items, ◌≡◌, ℕ, ◌∷◌, ◌+◌, ◌<◌, [], length, drop, IfOk};
+ghost use Rattle.std.specs.Prelude.{List as Items, ◌≡◌, ◌∷◌, ◌+◌, ◌<◌, [], length, drop, IfOk};
 ghost use Rattle.ttp_base.specs.Text.{lines_of};
 ghost use Rattle.ttp_world.specs.declared.node.Entry.{Entry};
 ghost use Rattle.ttp_world.specs.declared.script.Script.{Script as Said};

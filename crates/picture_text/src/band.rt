@@ -1,7 +1,7 @@
 //! The names of the rows of each band.
 #![tactic(auto, using(ttp_base::proofs::Room::room))]
 
-ghost use Rattle.std.specs.Prelude.{◌≡◌, ◌+◌, ◌*◌, ◌^◌, ◌<◌, ◌≤◌, [], ◌∷◌, ◌++◌, length, map, codes, decimal};
+ghost use Rattle.std.specs.Prelude.{◌≡◌, ◌+◌, ◌*◌, ◌<◌, ◌≤◌, [], ◌++◌, length, map, codes, decimal};
 ghost use Rattle.ttp_base.specs.NodeSet.{below};
 ghost use Rattle.ttp_base.specs.Text.{lines_below};
 ghost use Rattle.picture_text.specs.Picture.{row_line, band_lines};

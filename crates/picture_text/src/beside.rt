@@ -1,7 +1,7 @@
 //! What stands beside the cells of a slot: why nodes left, and what hosts did.
 #![tactic(auto, using(ttp_base::proofs::Room::room))]
 
-ghost use Rattle.std.specs.Prelude.{◌≡◌, ◌+◌, ◌*◌, ◌^◌, ◌<◌, ◌≤◌, [], ◌∷◌, ◌++◌, length, map, codes, decimal};
+ghost use Rattle.std.specs.Prelude.{◌≡◌, ◌+◌, ◌*◌, ◌^◌, ◌<◌, ◌≤◌, [], ◌∷◌, length, map};
 ghost use Rattle.ttp_base.specs.Text.{lines_below};
 ghost use Rattle.line_reader.specs.TraceLines.{word_text};
 ghost use Rattle.picture_text.specs.Cells.{host_of, mark, host_mark};

@@ -1,9 +1,9 @@
 //! The cells of a slot.
 #![tactic(auto, using(ttp_base::proofs::Room::room))]
 
-ghost use Rattle.std.specs.Prelude.{◌≡◌, ◌+◌, ◌-◌, ◌*◌, ◌^◌, ◌<◌, ◌≤◌, [], ◌∷◌, ◌++◌, length, map, codes, decimal};
+ghost use Rattle.std.specs.Prelude.{◌≡◌, ◌+◌, ◌-◌, ◌*◌, ◌<◌, ◌≤◌, [], ◌∷◌, ◌++◌, length, map, codes, decimal};
 ghost use Rattle.ttp_base.specs.NodeSet.{below};
-ghost use Rattle.shown_slot.specs.Nodes.{clock_range, spread_in};
+ghost use Rattle.shown_slot.specs.Nodes.{clock_range};
 ghost use Rattle.shown_slot.specs.Trace.{no_node, node_at};
 ghost use Rattle.picture_text.specs.Cells.{doubt_class, other_class, data_class, node_class, node_cell, memberships};
 ghost use Rattle.picture_text.specs.Cells.{members_cell, apart_text, apart_shown, clocks_cell};

@@ -1,9 +1,9 @@
 //! The elements of a picture, formed in a line: cells, marks and texts.
 #![tactic(auto, using(ttp_base::proofs::Room::room))]
 
-ghost use Rattle.std.specs.Prelude.{◌≡◌, ◌+◌, ◌≤◌, [], ◌∷◌, ◌++◌, length, codes, decimal};
+ghost use Rattle.std.specs.Prelude.{◌≡◌, ◌+◌, ◌≤◌, [], ◌++◌, length, codes, decimal};
 ghost use Rattle.ttp_base.specs.Text.{newline};
-ghost use Rattle.picture_text.specs.Cells.{attribute, place, title_element, cell};
+ghost use Rattle.picture_text.specs.Cells.{place, cell};
 ghost use Rattle.picture_text.specs.Picture.{class_of};
 
 use crate::frame::Corner;

@@ -1,9 +1,8 @@
 //! The flags of the tests.
 #![tactic(auto, using(ttp_base::proofs::Room::room))]
 
-ghost use Rattle.std.specs.Prelude.{◌≡◌, ◌+◌, ◌-◌, ◌*◌, ◌^◌, ◌<◌, ◌≤◌, [], ◌∷◌, ◌++◌, length, map, codes, decimal};
-ghost use Rattle.picture_text.specs.Picture.{ended, class_of, text_line, is_shown, keep_flag, back_flag, flag_pole};
-ghost use Rattle.picture_text.specs.Cells.{attribute};
+ghost use Rattle.std.specs.Prelude.{◌≡◌, ◌+◌, ◌-◌, ◌*◌, ◌<◌, ◌≤◌, [], ◌∷◌, ◌++◌, length, codes};
+ghost use Rattle.picture_text.specs.Picture.{class_of, text_line, is_shown, keep_flag, back_flag, flag_pole};
 ghost use Rattle.picture_text.specs.Sheet.{Puts};
 ghost use Rattle.picture_text.specs.Tables.{keep_name, keep_slot, back_name, back_slot};
 ghost use Rattle.picture_text.specs.Window.{column_x, row_y};

@@ -1,5 +1,5 @@
 //! Where the cells of a picture stand.
-ghost use Rattle.std.specs.Prelude.{◌≡◌, ◌+◌, ◌*◌, ◌^◌, ◌<◌, ◌≤◌};
+ghost use Rattle.std.specs.Prelude.{◌≡◌, ◌+◌, ◌*◌, ◌^◌, ◌≤◌};
 ghost use Rattle.picture_text.specs.Window.{columns, band_height, bands, legend_top, height, column_x, row_y};
 
 use crate::frame::{Corner, Frame};

@@ -1,12 +1,12 @@
 //! The head of a picture: its size, its styles and what the tests say.
 #![tactic(auto, using(ttp_base::proofs::Room::room))]
 
-ghost use Rattle.std.specs.Prelude.{◌≡◌, ◌+◌, ◌^◌, ◌<◌, ◌≤◌, [], ◌∷◌, ◌++◌, length, get_or, map, codes, decimal};
+ghost use Rattle.std.specs.Prelude.{◌≡◌, ◌+◌, ◌<◌, ◌≤◌, [], ◌∷◌, ◌++◌, length, get_or, map, codes, decimal};
 ghost use Rattle.line_reader.specs.TraceLines.{keep_text, back_text};
 ghost use Rattle.shown_slot.specs.Trace.{head_text};
 ghost use Rattle.picture_text.specs.Cells.{title_element};
 ghost use Rattle.picture_text.specs.Picture.{ended, size, svg_line, word_style, style_lines, more_text, said_line};
-ghost use Rattle.picture_text.specs.Picture.{back_said, head_lines, class_of, text_line};
+ghost use Rattle.picture_text.specs.Picture.{back_said, text_line};
 ghost use Rattle.picture_text.specs.Sheet.{Puts};
 ghost use Rattle.picture_text.specs.Tables.{words, styles, keep_meaning, back_meaning};
 ghost use Rattle.picture_text.specs.Window.{height};

@@ -2,7 +2,6 @@
 #![tactic(auto, using(ttp_base::proofs::Room::room))]
 
 ghost use Rattle.std.specs.Prelude.{◌≡◌, ◌+◌, ◌*◌, ◌^◌, ◌<◌, ◌≤◌, [], ◌∷◌, ◌++◌, length, get_or, codes};
-ghost use Rattle.ttp_base.specs.Text.{lines_below};
 ghost use Rattle.picture_text.specs.Cells.{cell, mark, write_shape, read_shape, status_shape};
 ghost use Rattle.line_reader.specs.declared.trace_line.Word.TheVariants as word;
 ghost use Rattle.line_reader.specs.TraceLines.{word_text};

@@ -1,7 +1,6 @@
 //! Which members the nodes of a slot hold.
 ghost use Rattle.std.specs.Prelude.{◌≡◌, ◌<◌, ◌≤◌, [], length};
-ghost use Rattle.shown_slot.specs.Trace.{node_at};
-ghost use Rattle.picture_text.specs.Cells.{noted, memberships, holds, holders_of, more_held, most_held, held_by_most};
+ghost use Rattle.picture_text.specs.Cells.{noted, memberships, holds, holders_of, most_held, held_by_most};
 
 use shown_slot::is_holder;
 use std::marker::Model;

@@ -1,7 +1,7 @@
 //! The cell of the members that nodes hold.
 #![tactic(auto, using(ttp_base::proofs::Room::room))]
 
-ghost use Rattle.std.specs.Prelude.{◌≡◌, ◌+◌, ◌*◌, ◌^◌, ◌<◌, ◌≤◌, [], ◌∷◌, ◌++◌, length, codes, decimal, flat_map};
+ghost use Rattle.std.specs.Prelude.{◌≡◌, ◌+◌, ◌*◌, ◌<◌, ◌≤◌, [], ◌∷◌, ◌++◌, length, codes, decimal, flat_map};
 ghost use Rattle.picture_text.specs.Cells.{memberships, holders_of, each_node, membership_text, count_of, cell};
 ghost use Rattle.picture_text.specs.Cells.{members_title, members_cell};
 ghost use Rattle.picture_text.specs.Sheet.{Puts};

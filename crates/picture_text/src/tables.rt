@@ -1,6 +1,6 @@
 //! The tables of a picture: the letter, the colours and the meaning of each word, its styles, and what the answers
 //! of the tests mean.
-ghost use Rattle.std.specs.Prelude.{◌≡◌, ◌-◌, ◌<◌, ◌≤◌, [], get_or, length};
+ghost use Rattle.std.specs.Prelude.{◌≡◌, ◌-◌, ◌≤◌, [], get_or, length};
 ghost use Rattle.line_reader.specs.declared.trace_line.Word.TheVariants as word;
 ghost use Rattle.picture_text.specs.Tables.{words, letter, cell_colour, letter_colour, word_meaning, styles};
 ghost use Rattle.picture_text.specs.Tables.{rule_meanings, returning_meanings};

@@ -7,7 +7,7 @@
 //! The crate has no code that does anything: its functions are laws.
 #![tactic(auto)]
 
-ghost use Rattle.std.specs.Prelude.{◌≡◌, ℕ, ◌<◌, ◌≤◌, length};
+ghost use Rattle.std.specs.Prelude.{◌≡◌, ◌<◌, ◌≤◌, length};
 ghost use Rattle.ttp_world.specs.declared.keep.Back.TheVariants as back;
 ghost use Rattle.ttp_world.specs.BackSafety.{IsBackSafe};
 ghost use Rattle.ttp_world.specs.Legal.{IsLegal};

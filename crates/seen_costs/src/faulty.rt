@@ -1,5 +1,5 @@
 //! The faulty nodes of a run, by whichever test its script is put to.
-ghost use Rattle.std.specs.Prelude.{◌≡◌, ◌+◌, ◌<◌};
+ghost use Rattle.std.specs.Prelude.{◌+◌, ◌<◌};
 ghost use Rattle.ttp_world.specs.Medl.{IsValid};
 ghost use Rattle.ttp_world.specs.Script.{IsValidScript};
 ghost use Rattle.hypothesis.specs.Standing.{HaveSameNodes};

@@ -4,7 +4,7 @@ ghost use Rattle.std.specs.List.{list_any};
 ghost use Rattle.ttp_world.specs.Medium.{is_sending};
 ghost use Rattle.ttp_world.specs.Medl.{IsValid};
 ghost use Rattle.ttp_world.specs.declared.script.Event.TheVariants as event;
-ghost use Rattle.campaign.specs.Tried.{is_denied, is_hearing, is_timed, losses_between, losses_of, sized, jump_sizes, jumps_of};
+ghost use Rattle.campaign.specs.Tried.{is_denied, is_hearing, is_timed, losses_between, losses_of, sized, jump_sizes};
 ghost use Rattle.campaign.specs.Tried.{faults_of, faults_in};
 ghost use Rattle.single_faults.specs.Lost.{loss_kind};
 

@@ -1,7 +1,7 @@
 -- What is known of a plant that is past a slot, and of the rings as they were before it.
-use Rattle.std.proofs.Common.{◌≡◌, ℕ, ◌+◌, ◌<◌, ◌≤◌, Bool, true, false, cond, List, [], ◌∷◌, ◌++◌, length}
-use Rattle.std.proofs.Common.{Option, Some, None, refl, ap, sym, ◌∙◌, subst, arith, length-append}
-use Rattle.std.specs.Prelude.{◌==◌, is_some}
+use Rattle.std.proofs.Common.{◌≡◌, ℕ, ◌+◌, ◌<◌, Bool, cond, List, [], ◌∷◌, ◌++◌, length}
+use Rattle.std.proofs.Common.{Option, Some, None, ap, sym, ◌∙◌, subst, arith, length-append}
+use Rattle.std.specs.Prelude.{is_some}
 use Rattle.std.proofs.lemmas.Bool.{eq-eqb, ne_eqb}
 use Rattle.std.proofs.lemmas.List.{append-nil}
 use Rattle.ttp_world.specs.declared.medl.Medl.{Medl}
@@ -12,7 +12,7 @@ use Rattle.ttp_world.specs.declared.node.NodeState.{NodeState}
 use Rattle.ttp_world.specs.declared.script.Script.{Script}
 use Rattle.ttp_world.specs.Diary.{History}
 use Rattle.ttp_world.specs.Medl.{IsValid}
-use Rattle.ttp_world.specs.Messages.{delivered_of, in_messages, new_messages, newest_number, status_messages}
+use Rattle.ttp_world.specs.Messages.{delivered_of, in_messages, new_messages, newest_number}
 use Rattle.ttp_world.specs.Messages.{status_words}
 use Rattle.ttp_world.specs.Past.{state_of}
 use Rattle.ttp_world.specs.World.{node_past, row_in, slot_after}

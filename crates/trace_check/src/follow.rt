@@ -1,11 +1,11 @@
 //! A run that follows a text: the lines that are due, looked for one after another.
-ghost use Rattle.std.specs.Prelude.{◌≡◌, ℕ, ◌<◌, [], IfOk, IfErr, OnOk, length};
+ghost use Rattle.std.specs.Prelude.{◌<◌, [], IfOk, IfErr};
 ghost use Rattle.ttp_world.specs.declared.script.Script.{Script as Said};
 ghost use Rattle.ttp_world.specs.Legal.{IsLegal};
 ghost use Rattle.ttp_world.specs.Medl.{IsValid};
 ghost use Rattle.ttp_world.specs.Script.{IsValidScript};
 ghost use Rattle.ttp_world.specs.World.{Numbers};
-ghost use Rattle.trace_check.specs.Following.{StandsFor, StandsAt, GoesOn, GoesOnTo, DepartsAfter};
+ghost use Rattle.trace_check.specs.Following.{StandsFor, StandsAt, GoesOnTo, DepartsAfter};
 ghost use Rattle.trace_check.specs.Following.{IsTraceAnd, IsAmissAt};
 
 use crate::hosts::{follow_reads, follow_writes, settle};

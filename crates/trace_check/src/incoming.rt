@@ -1,5 +1,5 @@
 //! What hosts can read.
-ghost use Rattle.std.specs.Prelude.{◌≡◌, ◌≢◌, ◌↔◌, ℕ, ◌+◌, ◌*◌, ◌<◌, ◌≤◌, ◌^◌, [], length, slice_get, slice_set};
+ghost use Rattle.std.specs.Prelude.{◌≡◌, ◌↔◌, ◌+◌, ◌*◌, ◌<◌, ◌≤◌, ◌^◌, [], length, slice_get, slice_set};
 ghost use Rattle.std.specs.Prelude.{IsTrue, IfOk, OnOk, Some, replicate, ◌++◌};
 ghost use Rattle.ttp_world.specs.declared.medl.Medl.{Medl as List_};
 ghost use Rattle.ttp_world.specs.declared.node.Chosen.{Chosen};

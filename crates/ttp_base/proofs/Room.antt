@@ -1,5 +1,5 @@
 -- How much room the texts of a line take, for the callers that have to show that a text fits.
-use Rattle.std.proofs.Common.{◌≡◌, ℕ, zero, suc, ◌+◌, ◌*◌, ◌/◌, ◌<◌, ◌≤◌, ◌^◌, List, length, refl, ap, ◌∙◌}
+use Rattle.std.proofs.Common.{◌≡◌, ℕ, zero, suc, ◌/◌, ◌<◌, ◌≤◌, ◌^◌, length, refl}
 use Rattle.std.proofs.Common.{length-append, ℤ, SFits, w64, arith}
 use Rattle.std.proofs.lemmas.Fmt.{length-decimal-le, length_signed_le}
 use Rattle.std.specs.Fmt.{decimal, signed_decimal}

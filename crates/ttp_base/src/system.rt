@@ -72,8 +72,8 @@ fn load_front<R: Files>(
 /// The first bytes of what was opened, `count` of them or all where it gives fewer, or why it could not be
 /// opened: [`LoadError::Memory`] where memory was refused, and else [`LoadError::Failed`].
 ///
-/// It takes no byte past them, and asks for at most 4,096 at once. A read that a signal interrupts is tried
-/// again, at most 1,000,000 times. An error in the middle is the answer.
+/// An error in the middle is the answer. Tested and not proved: no byte past them is taken, at most 4,096 are
+/// asked for at once, and a read that a signal interrupts is tried again, at most 1,000,000 times.
 pub fn front_of<R: Read + Drop>(
     alloc: Global,
     opened: io::Result<R>,

@@ -1,5 +1,5 @@
 //! The check words of single bytes.
-ghost use Rattle.std.specs.Prelude.{◌≡◌, ◌<◌, [], ◌∷◌};
+ghost use Rattle.std.specs.Prelude.{◌≡◌, [], ◌∷◌};
 ghost use Rattle.ttp_world.specs.CheckWord.{check_word};
 
 // For each byte the check word that it has alone, from start 0.

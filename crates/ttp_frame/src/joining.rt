@@ -6,7 +6,7 @@ ghost use Rattle.std.specs.List.{list_all};
 ghost use Rattle.ttp_base.specs.NodeSet.{members_in};
 ghost use Rattle.ttp_world.specs.Fitting.{carried, is_formed, joinable};
 ghost use Rattle.ttp_world.specs.Fitting.{is_cold_start, is_joinable_state, is_listed_explicit};
-ghost use Rattle.ttp_world.specs.Medl.{member_bytes, may_start, schedule_limit, IsValid};
+ghost use Rattle.ttp_world.specs.Medl.{member_bytes, schedule_limit, IsValid};
 
 use crate::judging::has_shape;
 use crate::pieces::{COLD_START, IMPLICIT, ends_with_word, state_len};

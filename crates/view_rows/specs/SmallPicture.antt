@@ -1,5 +1,5 @@
 -- The picture of the trace, line by line, without the line feeds.
-use Rattle.std.specs.Prelude.{List, [], ◌∷◌, ◌++◌, map, codes}
+use Rattle.std.specs.Prelude.{[], ◌∷◌, ◌++◌, map, codes}
 use Rattle.ttp_base.specs.Text.{Lines}
 use Rattle.view_rows.specs.SmallWave.{ended}
 

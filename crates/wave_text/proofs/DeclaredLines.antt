@@ -1,9 +1,9 @@
 -- Each line before the slots of a waveform is one line, and so is each line of the whole.
-use Rattle.std.proofs.Common.{◌≡◌, ℕ, ◌+◌, ◌-◌, ◌*◌, ◌<◌, List, [], ◌∷◌, ◌++◌, map, refl, Option, Some, None, arith, codes}
+use Rattle.std.proofs.Common.{ℕ, ◌+◌, ◌-◌, ◌*◌, List, [], ◌∷◌, ◌++◌, map, refl, Option, Some, None, arith, codes}
 use Rattle.std.proofs.Common.{decimal}
 use Rattle.std.specs.List.{flat_map}
 use Rattle.ttp_base.specs.NodeSet.{below}
-use Rattle.ttp_base.specs.Text.{Lines, newline, hex, lines_below}
+use Rattle.ttp_base.specs.Text.{newline, hex, lines_below}
 use Rattle.ttp_base.proofs.Lines.{is_line-append}
 use Rattle.ttp_base.proofs.Numerals.{has-hex}
 use Rattle.ttp_world.specs.declared.keep.Back.{Back}

@@ -1,5 +1,5 @@
 -- No value, code, name or type of a variable has a line feed.
-use Rattle.std.proofs.Common.{◌≡◌, ℕ, zero, suc, ◌+◌, ◌*◌, ◌-◌, ◌/◌, ◌%◌, ◌<◌, Bool, true, false, List, [], ◌∷◌, ◌++◌, refl}
+use Rattle.std.proofs.Common.{◌≡◌, ℕ, zero, suc, ◌+◌, ◌-◌, ◌/◌, ◌%◌, ◌<◌, Bool, true, false, List, [], ◌∷◌, ◌++◌, refl}
 use Rattle.std.proofs.Common.{Option, Some, None, arith, codes, decimal, nat_lt}
 use Rattle.std.specs.Prelude.{◌==◌, if◌then◌else◌}
 use Rattle.std.specs.Fmt.{signed_decimal}
@@ -14,8 +14,6 @@ use Rattle.line_reader.specs.declared.trace_line.Word.TheVariants as word
 use Rattle.line_reader.specs.TraceLines.{word_text}
 use Rattle.whole_trace.specs.declared.shown.NodeShown.{NodeShown}
 use Rattle.shown_slot.specs.declared.host.Message.{Message}
-use Rattle.shown_slot.specs.declared.host.Port.{Port}
-use Rattle.shown_slot.specs.declared.host.What.{What}
 use Rattle.shown_slot.specs.declared.host.What.TheVariants as what
 use Rattle.shown_slot.specs.declared.node.ClockRange.{ClockRange}
 use Rattle.shown_slot.specs.declared.node.Sender.{Sender}
@@ -31,8 +29,8 @@ use Rattle.wave_text.specs.declared.variable.PortVariable.{PortVariable}
 use Rattle.wave_text.specs.declared.variable.PortVariable.TheVariants as of_port
 use Rattle.wave_text.specs.Values.{binary, binary_number, most_digits, number_text, wires_text, number_or_nothing, bit_text}
 use Rattle.wave_text.specs.Values.{agreement_text, sender_text, spread_text, cluster_value, phase_text, unless_off}
-use Rattle.wave_text.specs.Values.{held_text, node_ack_text, clock_text, node_value, message_number, bytes_text}
-use Rattle.wave_text.specs.Values.{message_bytes, port_value}
+use Rattle.wave_text.specs.Values.{held_text, node_value}
+use Rattle.wave_text.specs.Values.{port_value}
 
 -- a text without a line feed
 abbrev pub HasNone : List ℕ → Type 0

@@ -1,6 +1,6 @@
 -- The values of a node's variables tell its line.
-use Rattle.std.proofs.Common.{◌≡◌, ℕ, zero, suc, ◌+◌, ◌-◌, ◌*◌, ◌/◌, ◌%◌, ◌^◌, ◌<◌, ◌≤◌, Bool, true, false, List, [], ◌∷◌}
-use Rattle.std.proofs.Common.{◌++◌, drop, refl, sym, ap, ◌∙◌, Option, Some, None, arith, codes, nat_lt}
+use Rattle.std.proofs.Common.{◌≡◌, ℕ, zero, suc, ◌+◌, ◌-◌, ◌*◌, ◌/◌, ◌%◌, ◌^◌, ◌<◌, Bool, true, false, List, [], ◌∷◌}
+use Rattle.std.proofs.Common.{◌++◌, refl, sym, ap, ◌∙◌, Option, Some, None, arith, codes, nat_lt}
 use Rattle.std.proofs.Common.{decimal}
 use Rattle.std.specs.Prelude.{◌==◌, fold, IfSome, unwrap_or, if◌then◌else◌}
 use Rattle.std.proofs.lemmas.Bool.{ltb-true}

@@ -1,5 +1,5 @@
 -- Each line of a waveform is one line: its one line feed is its last byte.
-use Rattle.std.proofs.Common.{◌≡◌, ℕ, ◌+◌, ◌-◌, ◌*◌, ◌<◌, Bool, true, false, List, [], ◌∷◌, ◌++◌, length, map, refl}
+use Rattle.std.proofs.Common.{ℕ, ◌+◌, ◌-◌, Bool, true, false, List, [], ◌∷◌, ◌++◌, length, refl}
 use Rattle.std.proofs.Common.{Option, Some, None, arith, codes, decimal, nat_lt}
 use Rattle.std.specs.Prelude.{option_map, if◌then◌else◌}
 use Rattle.std.specs.List.{AllByRecursion, flat_map}
@@ -8,16 +8,15 @@ use Rattle.ttp_base.specs.NodeSet.{below}
 use Rattle.ttp_base.specs.Text.{Lines, newline, is_line, lines_below}
 use Rattle.ttp_base.proofs.Lines.{is_line-append}
 use Rattle.ttp_world.specs.declared.script.Source.TheVariants as source
-use Rattle.ttp_world.specs.Trace.{source_word}
 use Rattle.ttp_world.proofs.LineLists.{each-append}
 use Rattle.ttp_world.proofs.TraceLines.{IsLine}
 use Rattle.whole_trace.specs.declared.shown.NodeShown.{NodeShown}
-use Rattle.whole_trace.specs.Whole.{SlotLines, WholeTrace}
+use Rattle.whole_trace.specs.Whole.{SlotLines}
 use Rattle.shown_slot.specs.declared.host.Message.{Message}
 use Rattle.shown_slot.specs.declared.host.Port.{Port}
 use Rattle.shown_slot.specs.declared.host.What.{What}
 use Rattle.shown_slot.specs.declared.host.What.TheVariants as what
-use Rattle.shown_slot.specs.Trace.{node_at, trace_ports, first_text, keeps_text, returns_text, member_room}
+use Rattle.shown_slot.specs.Trace.{node_at}
 use Rattle.wave_text.specs.declared.variable.ClusterVariable.{ClusterVariable}
 use Rattle.wave_text.specs.declared.variable.ClusterVariable.TheVariants as of_cluster
 use Rattle.wave_text.specs.declared.variable.NodeVariable.{NodeVariable}

@@ -1,7 +1,6 @@
 -- Tables of what hosts do: where each has its entry, and what the entries of a table say.
 use Rattle.std.specs.Prelude.{◌≡◌, ◌<◌, ℕ, ◌+◌, ◌*◌, List, [], slice_get, get_or, flat_map, Option, Some, None}
 use Rattle.ttp_base.specs.NodeSet.{most_nodes}
-use Rattle.ttp_world.specs.declared.script.Source.{Source}
 use Rattle.ttp_world.specs.declared.script.Source.TheVariants as source
 use Rattle.whole_trace.specs.declared.shown.HostLine.{HostLine}
 use Rattle.whole_trace.specs.declared.shown.HostLine.TheVariants as line

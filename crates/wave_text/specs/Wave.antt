@@ -1,17 +1,15 @@
 -- The waveform of a trace, line by line.
-use Rattle.std.specs.Prelude.{◌≡◌, ℕ, zero, suc, ◌+◌, nat_lt, List, [], ◌∷◌, ◌++◌, map, length, get_or, flat_map, zip}
-use Rattle.std.specs.Prelude.{Bool, true, false, Option, Some, None, option_map, slice_get, codes, decimal, if◌then◌else◌}
+use Rattle.std.specs.Prelude.{ℕ, ◌+◌, nat_lt, List, [], ◌∷◌, ◌++◌, length, flat_map}
+use Rattle.std.specs.Prelude.{Option, Some, None, option_map, codes, decimal, if◌then◌else◌}
 use Rattle.std.specs.Str.{bytes_eq}
 use Rattle.ttp_base.specs.Text.{Lines, newline, lines_below}
 use Rattle.shown_slot.specs.declared.host.Message.{Message}
 use Rattle.shown_slot.specs.declared.host.Port.{Port}
 use Rattle.whole_trace.specs.declared.shown.NodeShown.{NodeShown}
-use Rattle.shown_slot.specs.Ports.{newest_message, ports_of}
+use Rattle.shown_slot.specs.Ports.{newest_message}
 use Rattle.whole_trace.specs.Whole.{SlotLines, WholeTrace}
 use Rattle.shown_slot.specs.Trace.{trace_ports, node_at}
 use Rattle.shown_slot.specs.Trace.{first_text, keeps_text, returns_text, member_room}
-use Rattle.wave_text.specs.declared.variable.ClusterVariable.{ClusterVariable}
-use Rattle.wave_text.specs.declared.variable.NodeVariable.{NodeVariable}
 use Rattle.wave_text.specs.Values.{cluster_value, node_value, port_value}
 use Rattle.wave_text.specs.Variables.{cluster_variables, node_variables, data_variables, port_variables, cluster_letter, node_code}
 use Rattle.wave_text.specs.Variables.{port_code, ports_at, declarations}

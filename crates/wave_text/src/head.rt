@@ -1,5 +1,5 @@
 //! What stands before the declarations, written.
-ghost use Rattle.std.specs.Prelude.{◌≡◌, ◌≤◌, [], ◌∷◌, length, OnOk, OnErr};
+ghost use Rattle.std.specs.Prelude.{◌≤◌, [], ◌∷◌, length, OnOk, OnErr};
 ghost use Rattle.ttp_base.specs.Outside.{WroteLines, CutShort};
 ghost use Rattle.shown_slot.specs.Trace.{first_text, keeps_text, returns_text};
 ghost use Rattle.wave_text.specs.Wave.{comment_line, comment_lines, head_lines};

@@ -1,5 +1,5 @@
 //! A slot whose first pass and third pass go over two parts of the nodes, as two threads share them.
-ghost use Rattle.std.specs.Prelude.{◌≡◌, ℕ, ◌<◌, ◌≤◌, ◌+◌, List, length, All, IfOk};
+ghost use Rattle.std.specs.Prelude.{◌≡◌, ◌<◌, ◌≤◌, ◌+◌, List, length, All, IfOk};
 ghost use Rattle.ttp_world.specs.declared.node.Chosen.{Chosen as Choice};
 ghost use Rattle.ttp_world.specs.declared.script.TheConstants.{SLOT_LIMIT, DRIFT_LIMIT};
 ghost use Rattle.ttp_world.specs.Diary.{History};

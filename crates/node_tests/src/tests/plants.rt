@@ -1,6 +1,5 @@
 //! A cold start of four nodes, worked out by hand.
-ghost use Rattle.std.specs.Prelude.{◌≡◌, ◌<◌, ◌≤◌, ◌+◌, [], All, Some, length, pos, replicate, IfOk};
-ghost use Rattle.ttp_world.specs.Script.{IsValidScript};
+ghost use Rattle.std.specs.Prelude.{◌≡◌, ◌<◌, ◌≤◌, [], All, Some, length, pos, replicate, IfOk};
 
 use super::alone::four_nodes;
 use controller::{Controller, Plant, is_loaded, laws};

@@ -1,6 +1,6 @@
 //! Lines by which hosts write and read, right and wrong. The expected answers come from the format's own
 //! text, never from a run.
-ghost use Rattle.std.specs.Prelude.{◌≡◌, ◌≤◌, length, IfOk};
+ghost use Rattle.std.specs.Prelude.{◌≤◌, IfOk};
 ghost use Rattle.ttp_world.specs.declared.medl.Kind.TheVariants as kind;
 ghost use Rattle.ttp_world.specs.Medl.{IsValid};
 

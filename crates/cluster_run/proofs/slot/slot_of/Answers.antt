@@ -11,7 +11,7 @@ use Rattle.cluster_run.specs.declared.nodes.Desk.{Desk}
 use Rattle.cluster_run.specs.Ends.{desk_ends, desk_numbers}
 use Rattle.cluster_run.specs.Reading.{AllGot, AreLinesOf, AreReadersLent, HaveRead}
 use Rattle.cluster_run.specs.Report.{HaveEndedSlot, node_shown, writes_shown}
-use Rattle.cluster_run.specs.Standing.{desks_of}
+use Rattle.cluster_run.specs.Standing.{nodes_view}
 use Rattle.cluster_run.proofs.SlotSteps.{IsTold, is_next, numbers_delivered}
 use Rattle.cluster_run.proofs.slot.slot_of.Goals as goal
 
@@ -26,8 +26,8 @@ returns-clause-steps g c = λ numbers at.
     let planned = c.in_ok-writes.ensures.plans numbers at in
     let reads = c.in_ok-reads.ensures.tells in
     let ends_count = length-map nodes.desks.items (λ (d : Desk). d.end) ∙ c.requires.nodes.desks in
-    let so : IsTold list script numbers mid.chosen.items (desk_numbers done.desks.items) (desks_of nodes)
-    reads.handed (desks_of done) reads.first reads.last
+    let so : IsTold list script numbers mid.chosen.items (desk_numbers done.desks.items) (nodes_view nodes)
+    reads.handed (nodes_view done) reads.first reads.last
     (record { slot = slot; nodes = c.in_ok-lines.lines; writes = c.from_vec.result; reads = c.in_ok-reads.reads }) =
     record {
       valid = c.requires.list;

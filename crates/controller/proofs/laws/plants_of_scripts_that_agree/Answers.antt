@@ -1,4 +1,4 @@
-use Rattle.std.proofs.Common.{◌+◌, subst, sym, arith}
+use Rattle.std.proofs.Common.{◌+◌, subst, arith}
 use Rattle.ttp_world.specs.Diary.{Surroundings, diary_of}
 use Rattle.controller.specs.StandsFor.{StandsFor}
 use Rattle.earlier_slots.proofs.SameWorlds.{surroundings_of-same}

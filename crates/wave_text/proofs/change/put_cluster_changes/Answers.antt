@@ -3,10 +3,10 @@ use Rattle.wave_text.specs.Variables.{cluster_letter, cluster_variables}
 use Rattle.wave_text.specs.Values.{cluster_value}
 use Rattle.wave_text.specs.Wave.{changes_by}
 use Rattle.std.specs.Prelude.{option_map}
-use Rattle.std.proofs.Common.{List, ℕ, [], ◌∷◌, ◌∙◌, subst, sym, arith, map}
+use Rattle.std.proofs.Common.{[], arith}
 use Rattle.std.proofs.lemmas.Result.{err_from_is_err_and}
 use Rattle.ttp_base.specs.Outside.{WroteLines, CutShort}
-use Rattle.wave_text.proofs.Puts.{WroteLines-at, CutShort-at, flat_map-filter, line_each}
+use Rattle.wave_text.proofs.Puts.{WroteLines-at, CutShort-at}
 use Rattle.wave_text.proofs.change.put_cluster_changes.Goals as goal
 
 pub returns-in_err-put_cluster_change-clause-failed : goal.returns-in_err-put_cluster_change-clause-failed

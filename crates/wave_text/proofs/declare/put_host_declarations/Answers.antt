@@ -1,13 +1,13 @@
 use Rattle.shown_slot.specs.declared.host.What.TheVariants as what
 use Rattle.shown_slot.specs.declared.host.Port.{Port}
-use Rattle.wave_text.specs.Variables.{port_declarations, ports_at}
+use Rattle.wave_text.specs.Variables.{port_declarations}
 use Rattle.std.specs.Prelude.{◌==◌, if◌then◌else◌}
 use Rattle.std.specs.List.{flat_map}
-use Rattle.std.proofs.Common.{◌≡◌, List, ℕ, [], ◌∷◌, ◌∙◌, ap, subst, sym, take, arith, map}
+use Rattle.std.proofs.Common.{◌≡◌, List, ℕ, [], ◌∙◌, ap, subst, sym, take, arith}
 use Rattle.std.proofs.lemmas.List.{take_all}
 use Rattle.std.proofs.lemmas.Result.{err_from_is_err_and}
 use Rattle.ttp_base.specs.Outside.{WroteLines, CutShort}
-use Rattle.wave_text.proofs.Puts.{WroteLines-at, CutShort-at, flat_map-filter, line_each}
+use Rattle.wave_text.proofs.Puts.{WroteLines-at, CutShort-at, flat_map-filter}
 use Rattle.wave_text.proofs.declare.put_host_declarations.Goals as goal
 
 pub returns-in_err-put_port_of-clause-failed : goal.returns-in_err-put_port_of-clause-failed

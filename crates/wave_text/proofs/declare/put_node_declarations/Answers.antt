@@ -1,10 +1,9 @@
 use Rattle.wave_text.specs.declared.variable.NodeVariable.TheVariants as of_node
 use Rattle.wave_text.specs.Variables.{node_declaration, node_variables}
-use Rattle.std.specs.List.{flat_map}
-use Rattle.std.proofs.Common.{List, ℕ, [], ◌∷◌, ◌∙◌, subst, sym, arith, map}
+use Rattle.std.proofs.Common.{List, ℕ, [], ◌∷◌, ◌∙◌, subst, arith}
 use Rattle.std.proofs.lemmas.Result.{err_from_is_err_and}
 use Rattle.ttp_base.specs.Outside.{WroteLines, CutShort}
-use Rattle.wave_text.proofs.Puts.{WroteLines-at, CutShort-at, flat_map-filter, line_each}
+use Rattle.wave_text.proofs.Puts.{WroteLines-at, CutShort-at, line_each}
 use Rattle.wave_text.proofs.declare.put_node_declarations.Goals as goal
 
 pub returns-in_err-write-clause-failed : goal.returns-in_err-write-clause-failed

@@ -1,5 +1,5 @@
-use Rattle.std.proofs.Common.{[], ◌∷◌, refl, subst, arith}
-use Rattle.wave_text.proofs.Noting.{all-noted, AreNoted, noted-more}
+use Rattle.std.proofs.Common.{[], subst, arith}
+use Rattle.wave_text.proofs.Noting.{AreNoted, noted-more}
 use Rattle.wave_text.proofs.newest.note_slot.Goals as goal
 
 pub loop-line-preserved : goal.loop-line-preserved

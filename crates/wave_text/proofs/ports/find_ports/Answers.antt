@@ -1,10 +1,9 @@
-use Rattle.std.proofs.Common.{◌≡◌, ◌≤◌, List, length, ap, sym, subst, ◌∙◌, arith}
+use Rattle.std.proofs.Common.{List, ap, sym, subst, ◌∙◌}
 use Rattle.std.specs.Prelude.{All}
 use Rattle.std.specs.List.{flat_map}
 use Rattle.whole_trace.specs.declared.shown.Head.{Head}
 use Rattle.shown_slot.specs.declared.host.Port.{Port}
 use Rattle.shown_slot.specs.Ports.{ports_of}
-use Rattle.shown_slot.specs.Trace.{trace_ports}
 use Rattle.wave_text.specs.Variables.{HasLetters}
 use Rattle.wave_text.proofs.PortLists.{have_letters, noted_ports}
 use Rattle.wave_text.proofs.ports.find_ports.Goals as goal

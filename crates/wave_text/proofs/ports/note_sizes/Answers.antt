@@ -1,8 +1,5 @@
-use Rattle.std.proofs.Common.{[], ◌∷◌, List, refl, sym, subst, arith}
-use Rattle.std.proofs.lemmas.List.{append-nil}
-use Rattle.whole_trace.specs.declared.shown.HostLine.{HostLine}
-use Rattle.wave_text.specs.Places.{HasMost}
-use Rattle.wave_text.proofs.Noting.{all-taken, AreTaken, taken-more}
+use Rattle.std.proofs.Common.{[], subst, arith}
+use Rattle.wave_text.proofs.Noting.{AreTaken, taken-more}
 use Rattle.wave_text.proofs.ports.note_sizes.Goals as goal
 
 pub loop-line-preserved : goal.loop-line-preserved

@@ -1,6 +1,5 @@
-use Rattle.std.proofs.Common.{refl, [], ◌∷◌, ◌++◌, codes}
+use Rattle.std.proofs.Common.{refl, [], ◌∷◌, ◌++◌}
 use Rattle.std.proofs.lemmas.Result.{err_from_is_err_and, on_ok_weaker, on_err_weaker}
-use Rattle.ttp_base.specs.Text.{newline}
 use Rattle.wave_text.proofs.Going.{all-cut, all-gone, begun, cut-going, gone-on}
 use Rattle.std.specs.Prelude.{Some}
 use Rattle.wave_text.specs.Wave.{slot_changes, slot_lines, time_line}

@@ -1,7 +1,7 @@
 use Rattle.std.proofs.Common.{refl, subst, arith}
 use Rattle.std.proofs.lemmas.Option.{same_Some}
 use Rattle.cluster_run.specs.Clusters.{AreClusterNodes}
-use Rattle.cluster_run.proofs.NewClusters.{new_bytes, new_desks, new_stands}
+use Rattle.cluster_run.proofs.NewClusters.{new_bytes, new_nodes, new_stands}
 use Rattle.cluster_run.proofs.cluster.Cluster.make.Goals as goal
 
 pub invariant_of-result : goal.invariant_of-result
@@ -22,4 +22,4 @@ invariant_of-result c =
 
 pub returns-clause-stands : goal.returns-clause-stands
 returns-clause-stands c =
-    record { done = refl; desks = new_desks c.args.list c.args.script c.in_ok-nodes.nodes c.in_ok-nodes.ensures }
+    record { done = refl; nodes = new_nodes c.args.list c.args.script c.in_ok-nodes.nodes c.in_ok-nodes.ensures }

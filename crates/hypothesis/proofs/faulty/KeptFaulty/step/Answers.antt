@@ -1,4 +1,4 @@
-use Rattle.std.proofs.Common.{ℕ, ◌+◌, Option, ap, sym, subst, ◌∙◌, add-one}
+use Rattle.std.proofs.Common.{ℕ, Option, ap, sym, subst, ◌∙◌, add-one}
 use Rattle.ttp_base.specs.NodeSet.{has_node}
 use Rattle.ttp_world.specs.Hypothesis.{ClusterStart, numbers_of, faulty_nodes_before, started_faulty_nodes}
 use Rattle.hypothesis.specs.Standing.{told_start, HaveSameNodes}

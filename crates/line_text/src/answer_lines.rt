@@ -1,5 +1,5 @@
 //! The last lines of a trace: the answer of the test of the single-fault hypothesis, and the one on armed nodes.
-ghost use Rattle.std.specs.Prelude.{◌≡◌, ◌≤◌, ◌++◌, length};
+ghost use Rattle.std.specs.Prelude.{◌≡◌, ◌≤◌, length};
 ghost use Rattle.ttp_world.specs.Trace.{keep_line, back_line};
 
 use ttp_base::Line;
