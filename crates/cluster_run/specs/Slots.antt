@@ -89,10 +89,10 @@ pub record TellsReads (list : Medl) (script : Script) (slot : ℕ) (old new : No
 -- The nodes stand for these numbers and those in the report, which shows the world's slot for them, and where the older
 -- ones were legal, all are.
 pub record IsNextOf (list : Medl) (script : Script) (numbers : Numbers) (nodes : NodesView) (report : SlotReport)
-  : Type 0 where
-    pub stands : NodesStandFor list script nodes (numbers_in report ∷ numbers)
-    pub shows : ShowsNext list script numbers report
-    pub legal : IsLegal list script numbers → IsLegal list script (numbers_in report ∷ numbers)
+    : Type 0 where
+  pub stands : NodesStandFor list script nodes (numbers_in report ∷ numbers)
+  pub shows : ShowsNext list script numbers report
+  pub legal : IsLegal list script numbers → IsLegal list script (numbers_in report ∷ numbers)
 
 -- Whatever numbers it stood for, it stands for these and those in its report, which shows the world's slot for
 -- them, and where the older ones were legal, all are.

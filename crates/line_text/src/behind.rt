@@ -7,11 +7,11 @@ ghost use Rattle.line_text.specs.HostLines.{written_line, message_line};
 ghost use Rattle.line_text.specs.LineParts.{HasDigits, listed_line};
 ghost use Rattle.line_text.specs.Labels.{after_label};
 
+use crate::answer_lines::{back_line, keep_line};
 use crate::head_line::head_line;
 use crate::host_line::{RingMessage, make_payload_line, make_read_line, make_write_line};
 use crate::labels::after_label;
 use crate::node_line::NodeLines;
-use crate::answer_lines::{back_line, keep_line};
 use ttp_base::Line;
 use ttp_world::{Back, Keep, Medl, NodeState, Script, Source, StatusWords};
 

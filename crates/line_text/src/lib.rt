@@ -15,6 +15,7 @@
 //! The crate knows no report and no ring, runs nothing, and reads no line as a value.
 #![tactic(auto)]
 
+mod answer_lines;
 mod behind;
 mod cut;
 mod head_line;
@@ -24,9 +25,9 @@ pub mod laws;
 mod node_line;
 mod numerals;
 mod put;
-mod answer_lines;
 mod words;
 
+pub use answer_lines::{back_line, keep_line};
 pub use behind::{
     behind_back, behind_header, behind_keep, behind_node_line, behind_payload_line,
     behind_status_line, behind_write_line,
@@ -37,4 +38,3 @@ pub use labels::after_label;
 pub use node_line::NodeLines;
 pub use numerals::{message_in, numeral_in};
 pub use put::{put_back, put_header, put_keep, put_node_line, put_read_line, put_write_line};
-pub use answer_lines::{back_line, keep_line};

@@ -6,10 +6,10 @@ ghost use Rattle.ttp_world.specs.Trace.{trace_head, keep_line, back_line};
 ghost use Rattle.line_text.specs.HostLines.{message_in, HasWords, written_line, message_line};
 ghost use Rattle.line_text.specs.LineParts.{HasDigits, listed_line};
 
+use crate::answer_lines::{back_line, keep_line};
 use crate::head_line::head_line;
 use crate::host_line::{RingMessage, make_read_line, make_write_line};
 use crate::node_line::NodeLines;
-use crate::answer_lines::{back_line, keep_line};
 use ttp_base::{Failed, Line, Sink};
 use ttp_world::{Back, Keep, Medl, NodeState, Script};
 
