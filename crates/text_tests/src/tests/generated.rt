@@ -1,12 +1,13 @@
 //! Scripts for a few lists, worked out by a program of its own.
-ghost use Rattle.std.specs.Prelude.{◌≡◌, [], ◌∷◌, true, false, IfOk};
+ghost use Rattle.std.specs.Prelude.{IfOk};
 ghost use Rattle.ttp_world.specs.Medl.{IsValid};
 
+use super::scripts::slot_of;
 use script_gen::generate;
 use std::alloc::Global;
 use std::test::Fail;
 use ttp_base::{List, Memory};
-use ttp_world::{Channels, Event, Fault, Kind, Medl, SlotPlan, Source};
+use ttp_world::{Channels, Event, Fault, Kind, Medl, Source};
 
 const BOTH: Channels = Channels { a: true, b: true };
 
@@ -72,39 +73,17 @@ fn line_of(event: &Event) -> Line {
     }
 }
 
-fn plan(alloc: Global, kind: Kind, payload: u8, start: bool) -> Result<SlotPlan, Memory>
-    ensures { IfOk result (λ plan. plan ≡ record {
-      kinds = kind ∷ [];
-      payload = payload;
-      sync = true;
-      start = start;
-      requests = false;
-      live = 1;
-    }) }
-{
-    let mut kinds = List::new(alloc);
-    kinds.push(kind)?;
-    Ok(SlotPlan {
-        kinds,
-        payload,
-        sync: true,
-        start,
-        requests: false,
-        live: 1,
-    })
-}
-
 // Six nodes, of which the first and the fifth send payload and the second may start.
 fn six_nodes(alloc: Global) -> Result<Medl, Memory>
     ensures { IfOk result IsValid }
 {
     let mut slots = List::new(alloc);
-    slots.push(plan(alloc, Kind::N, 2, false)?)?;
-    slots.push(plan(alloc, Kind::I, 0, true)?)?;
-    slots.push(plan(alloc, Kind::I, 0, false)?)?;
-    slots.push(plan(alloc, Kind::I, 0, false)?)?;
-    slots.push(plan(alloc, Kind::N, 3, false)?)?;
-    slots.push(plan(alloc, Kind::I, 0, false)?)?;
+    slots.push(slot_of(alloc, Kind::N, 2, false)?)?;
+    slots.push(slot_of(alloc, Kind::I, 0, true)?)?;
+    slots.push(slot_of(alloc, Kind::I, 0, false)?)?;
+    slots.push(slot_of(alloc, Kind::I, 0, false)?)?;
+    slots.push(slot_of(alloc, Kind::N, 3, false)?)?;
+    slots.push(slot_of(alloc, Kind::I, 0, false)?)?;
     Ok(Medl {
         version: 1,
         rounds: 1,
