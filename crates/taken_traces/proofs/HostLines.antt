@@ -40,6 +40,7 @@ use Rattle.line_reader.specs.WorldLines.{bytes_of_message}
 use Rattle.line_reader.proofs.LineValues.{status-value}
 use Rattle.whole_trace.specs.Due.{is_below, source_node}
 use Rattle.whole_trace.specs.Whole.{value_of}
+use Rattle.trace_size.proofs.HostEvents.{host_events-most, host_events-next}
 use Rattle.taken_traces.specs.Taken.{IsOfBytes}
 use Rattle.taken_traces.proofs.Reading.{value-again}
 use Rattle.taken_traces.proofs.StatusWords.{AreWords, statuses-small}
@@ -52,16 +53,8 @@ pub record IsWriteRead (list : Medl) (script : Script) (slot earlier : ℕ) (w :
   pub value : (i : ℕ) → i ≤ earlier → value_of (write_line list script slot w.host i)
       ≡ Some (line.Write slot w.host (length (messages_before list script w.host slot) + i))
 
-length-cons_if : {X : Type 0} (o : Option X) (xs : List X) → length (cons_option o xs) ≤ suc (length xs)
-length-cons_if None xs = omega arith
-length-cons_if (Some x) xs = omega arith
-
-no_more : {X Y : Type 0} (h : X → Option Y) (xs : List X) → length (filter_map h xs) ≤ length xs
-no_more h [] = omega arith
-no_more h (x ∷ xs) = omega (arith, length-cons_if (h x) (filter_map h xs), no_more h xs)
-
 write-read : (list : Medl) (script : Script) (slot : ℕ) (w : HostWrite) → IsValid list → IsValidScript list script
-    → slot < 20000 → IsValidWrite list w → IsWriteRead list script slot 131072 w
+    → slot < 20000 → IsValidWrite list w → IsWriteRead list script slot 95325 w
 write-read list script slot w valid valid_script early is = record {
   host = is.node;
   value = λ i few.
@@ -76,7 +69,7 @@ write-read list script slot w valid valid_script early is = record {
 
 writes-each : (list : Medl) (script : Script) (slot : ℕ) (ws : List HostWrite) → IsValid list
     → IsValidScript list script → slot < 20000 → AllByRecursion (IsValidWrite list) ws
-    → AllByRecursion (IsWriteRead list script slot 131072) ws
+    → AllByRecursion (IsWriteRead list script slot 95325) ws
 writes-each list script slot [] valid valid_script early are = tt
 writes-each list script slot (w ∷ ws) valid valid_script early are = (
   write-read list script slot w valid valid_script early are.0,
@@ -84,16 +77,21 @@ writes-each list script slot (w ∷ ws) valid valid_script early are = (
 )
 
 pub writes-read : (list : Medl) (script : Script) (slot : ℕ) → IsValid list → IsValidScript list script → slot < 20000
-    → AllByRecursion (IsWriteRead list script slot 131072) (writes_in script slot)
+    → AllByRecursion (IsWriteRead list script slot 95325) (writes_in script slot)
 writes-read list script slot valid valid_script early =
     writes-each list script slot (writes_in script slot) valid valid_script early
     (recursion_from_All (IsValidWrite list) (writes_in script slot) (valid_writes list script slot valid_script))
 
 -- there are not more of them than that
 pub writes-few : (list : Medl) (script : Script) (slot : ℕ) → IsValidScript list script
-    → length (writes_in script slot) ≤ 131072
+    → length (writes_in script slot) ≤ 95325
 writes-few list script slot valid_script =
-    omega (arith, no_more (write_in slot) script.events, valid_script.event_count)
+    omega (
+      arith,
+      host_events-next script.events slot,
+      host_events-most script.events (suc slot),
+      valid_script.host_event_count,
+    )
 
 pub host_writes-few : (k : ℕ) (ws : List HostWrite) → count_by (λ (w : HostWrite). w.host == k) ws ≤ length ws
 host_writes-few k [] = omega arith
@@ -125,13 +123,11 @@ host_bytes k w bytes =
     cond_both (w.host == k) (Some w.payload) None (λ (o : Option (List ℕ)). IfSome o AreBytes) (λ own. bytes)
     (λ other. tt)
 
-zero_bytes : (count : ℕ) → AreBytes (replicate count 0)
-zero_bytes count = All-replicate (λ b. b < 256) count 0 (omega arith)
-
 pub bytes_written : (list : Medl) (script : Script) (slot : ℕ) → All IsOfBytes script.events
     → AreBytesWritten list script slot
 bytes_written list script zero bytes k =
-    All-cons AreBytes (zeros_of list k) [] (zero_bytes (plan_at list k).payload) (All-nil AreBytes)
+    All-cons AreBytes (zeros_of list k) [] (All-replicate (λ b. b < 256) (plan_at list k).payload 0 (omega arith))
+    (All-nil AreBytes)
 bytes_written list script (suc slot) bytes k =
     All-append AreBytes (messages_before list script k slot) (messages_written script k slot)
     (bytes_written list script slot bytes k)
@@ -142,23 +138,23 @@ bytes_written list script (suc slot) bytes k =
 
 -- Messages as bytes.
 
-below_256 : (n : ℕ) → n % 256 < 256
-below_256 n = omega arith
+eight_bytes : (w : ℕ) → AllByRecursion (λ b. b < 256) (to_be_bytes w64 w)
+eight_bytes w =
+    (omega arith, (omega arith, (omega arith, (omega arith, (omega arith, (omega arith, (omega arith, (omega arith, tt))))))))
 
-word_bytes : (w : ℕ) → AllByRecursion (λ b. b < 256) (to_be_bytes w64 w)
-word_bytes w =
-    (below_256 _, (below_256 _, (below_256 _, (below_256 _, (below_256 _, (below_256 _, (below_256 _, (below_256 _, tt))))))))
+record AreEights (words message : List ℕ) : Type 0 where
+  bytes : AreBytes message
+  size : length message ≡ 8 * length words
 
-words_bytes : (words : List ℕ) → AreBytes (flat_map (to_be_bytes w64) words)
-words_bytes [] = All-nil (λ b. b < 256)
-words_bytes (w ∷ words) =
-    All-append (λ b. b < 256) (to_be_bytes w64 w) (flat_map (to_be_bytes w64) words)
-    (All-from_recursion (λ b. b < 256) (to_be_bytes w64 w) (word_bytes w)) (words_bytes words)
-
-words_size : (words : List ℕ) → length (flat_map (to_be_bytes w64) words) ≡ 8 * length words
-words_size [] = omega arith
-words_size (w ∷ words) =
-    omega (arith, length-append (to_be_bytes w64 w) (flat_map (to_be_bytes w64) words), words_size words)
+eights : (words : List ℕ) → AreEights words (flat_map (to_be_bytes w64) words)
+eights [] = record { bytes = All-nil (λ b. b < 256); size = omega arith }
+eights (w ∷ words) =
+    let others = eights words in
+    record {
+      bytes = All-append (λ b. b < 256) (to_be_bytes w64 w) (flat_map (to_be_bytes w64) words)
+          (All-from_recursion (λ b. b < 256) (to_be_bytes w64 w) (eight_bytes w)) others.bytes;
+      size = omega (arith, length-append (to_be_bytes w64 w) (flat_map (to_be_bytes w64) words), others.size);
+    }
 
 -- a message of a source can be told in a line
 abbrev IsTold : Source → List ℕ → Type 0
@@ -175,8 +171,8 @@ told-read slot host source.Status number words early node few told =
       slot = omega (arith, early);
       host = node;
       number = omega (arith, few);
-      source = omega (arith, words_size words, told.0);
-      payload = words_bytes words;
+      source = omega (arith, (eights words).size, told.0);
+      payload = (eights words).bytes;
     } in
     ap value_of (status-value slot host number words told.1)
     ∙ value-again (line.Read slot host source.Status number bytes) fits
@@ -185,7 +181,7 @@ told-read slot host (source.Node p) number payload early node few told =
       slot = omega (arith, early);
       host = node;
       number = omega (arith, few);
-      source = (told.0, (told.1, told.2));
+      source = (told.0, told.1, told.2);
       payload = told.3;
     } in
     value-again (line.Read slot host (source.Node p) number payload) fits
@@ -243,10 +239,9 @@ module _ (list : Medl) (script : Script) (new : SlotNumbers) (numbers : Numbers)
   )
   is_told host (source.Node p) number node source few is = (
     omega (arith, source.0, nodes-most list valid),
-    (
-      omega (arith, is.1, source.1),
-      (omega (arith, is.1, plan-few list.rounds list.modes list.slots p valid.slots), is.0),
-    ),
+    omega (arith, is.1, source.1),
+    omega (arith, is.1, plan-few list.rounds list.modes list.slots p valid.slots),
+    is.0,
   )
 
   read-read : (r : ReadMessage) → HasRead list script after r → IsOfRing list script after r

@@ -54,10 +54,13 @@ abbrev DeliversIfCorrect : Entry → Option Delivered → Type 0
 DeliversIfCorrect (entry.Judged sender v deviation) o = is_correct v ≡ false → o ≡ None
 DeliversIfCorrect _ o = Unit {0}
 
+none_where : (b c : Bool) (o : Option Delivered) → b ≡ false → cond (b && c) o None ≡ None
+none_where b c o other = ap (λ (x : Bool). cond (x && c) o None) other
+
 delivers : (list : Medl) (k : ℕ) (past : NodePast) (h : Hearing) (e : Entry)
     → DeliversIfCorrect e (delivery list k past h e)
 delivers list k past h (entry.Judged sender v deviation) =
-    λ other. ap (λ (b : Bool). cond (b && carries_payload list (coming_place list past)) (Some _) None) other
+    none_where (is_correct v) (carries_payload list (coming_place list past)) _
 delivers list k past h entry.Off = tt
 delivers list k past h entry.Waited = tt
 delivers list k past h entry.Retried = tt

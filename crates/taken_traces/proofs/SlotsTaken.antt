@@ -68,7 +68,7 @@ module _ (list : Medl) (script : Script) (row : List Entry) (before : History) (
   -- What they wrote.
 
   writes-end : (earlier ws : List HostWrite) (rest : Lines) (hosts : List HostLine)
-      → length earlier + length ws ≤ 131072 → AllByRecursion (IsWriteRead list script slot 131072) ws
+      → length earlier + length ws ≤ 95325 → AllByRecursion (IsWriteRead list script slot 95325) ws
       → EndsWith (due.Host head slot false) rest o (fronted hosts slots)
       → EndsWith (due.Host head slot false) (more_write_lines list script slot earlier ws ++ rest) o
       (fronted (writes_listed list script slot earlier ws ++ hosts) slots)
@@ -151,8 +151,8 @@ module _ (list : Medl) (script : Script) (row : List Entry) (before : History) (
 
   -- all lines of the slot
   slot-end : (at : Due) (new : SlotNumbers) (rest : Lines) → 1 ≤ length list.slots → Opens at → AreRead
-      → length (writes_in script slot) ≤ 131072
-      → AllByRecursion (IsWriteRead list script slot 131072) (writes_in script slot)
+      → length (writes_in script slot) ≤ 95325
+      → AllByRecursion (IsWriteRead list script slot 95325) (writes_in script slot)
       → AllByRecursion (IsReadRead list script slot (row ∷ before)) (read_messages (reads_in script slot) new.read)
       → ((b : Bool) → EndsWith (due.Host head slot b) rest o (fronted [] slots))
       → EndsWith at (slot_lines list script row before new ++ rest) o
@@ -192,10 +192,11 @@ later-opens head last next has_read v is within node =
 opens-behind : (list : Medl) (script : Script) (row : List Entry) (before : History) (o : Outline)
     (slots : List SlotLines) (has_read : Bool) → length before < script.slots
     → Opens list script row before o slots (behind (head_of_run list script) before has_read)
-opens-behind list script row [] o slots has_read within t j w peer message wide members accepted rejected a offset is =
+opens-behind list script row [] o slots has_read within =
+    λ t j w peer message wide members accepted rejected a offset is.
     ap (λ (b : Bool). cond b (Some (next_node (head_of_run list script) 0 0)) None) is
-opens-behind list script row (last ∷ before) o slots has_read within t j w peer message wide members accepted rejected a
-offset is =
+opens-behind list script row (last ∷ before) o slots has_read within =
+    λ t j w peer message wide members accepted rejected a offset is.
     later-opens (head_of_run list script) (length before) (suc (length before)) has_read
     (line.Node t j w peer message wide members accepted rejected a offset) (omega arith) within is
 

@@ -119,7 +119,7 @@ sound-made list k past chosen h Judge node inside other = sound-verdict list k p
 
 -- Pasts.
 
-abbrev IsDoubtIn : ℕ → Ack → Type 0
+abbrev pub IsDoubtIn : ℕ → Ack → Type 0
 IsDoubtIn n ack.Closed = Unit {0}
 IsDoubtIn n ack.First = Unit {0}
 IsDoubtIn n (ack.Doubt x) = x < n

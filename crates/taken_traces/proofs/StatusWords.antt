@@ -57,18 +57,15 @@ seven_bytes : (a b c d e f g : ℕ) → a < 256 → b < 256 → c < 256 → d < 
     → number_in (a ∷ b ∷ c ∷ d ∷ e ∷ f ∷ g ∷ []) < 2 ^ 64
 seven_bytes a b c d e f g p q r s t u v = omega (arith, p, q, r, s, t, u, v)
 
-low : (n : ℕ) → n % 256 < 256
-low n = omega arith
-
 cstate-small : (wide : Bool) (c : CState) → number_in (cstate_bytes (member_bytes wide) c) < 2 ^ 64
 cstate-small true c =
     let m = set_bits c.members in
     seven_bytes (c.time / 256 % 256) (c.time % 256) (c.round % 256) (c.slot % 256) (m / 256 / 256 % 256) (m / 256 % 256)
-    (m % 256) (low (c.time / 256)) (low c.time) (low c.round) (low c.slot) (low (m / 256 / 256)) (low (m / 256)) (low m)
+    (m % 256) (omega arith) (omega arith) (omega arith) (omega arith) (omega arith) (omega arith) (omega arith)
 cstate-small false c =
     let m = set_bits c.members in
-    six_bytes (c.time / 256 % 256) (c.time % 256) (c.round % 256) (c.slot % 256) (m / 256 % 256) (m % 256)
-    (low (c.time / 256)) (low c.time) (low c.round) (low c.slot) (low (m / 256)) (low m)
+    six_bytes (c.time / 256 % 256) (c.time % 256) (c.round % 256) (c.slot % 256) (m / 256 % 256) (m % 256) (omega arith)
+    (omega arith) (omega arith) (omega arith) (omega arith) (omega arith)
 
 -- The words.
 
