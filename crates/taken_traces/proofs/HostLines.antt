@@ -1,15 +1,14 @@
 -- The lines of what hosts write and read in a slot of a run are read, and are due.
-use Rattle.std.proofs.Common.{◌≡◌, ℕ, zero, suc, ◌+◌, ◌*◌, ◌%◌, ◌^◌, ◌<◌, ◌≤◌, Bool, true, false, cond, List, [], ◌∷◌, ◌++◌}
-use Rattle.std.proofs.Common.{All, length, get_or, Option, Some, None, IfSome, IsTrue, refl, sym, ap, subst, ◌∙◌, arith}
+use Rattle.std.proofs.Common.{◌≡◌, ℕ, zero, suc, ◌+◌, ◌*◌, ◌<◌, ◌≤◌, Bool, true, false, cond, List, [], ◌∷◌}
+use Rattle.std.proofs.Common.{All, length, get_or, Option, Some, None, IfSome, refl, sym, ap, subst, ◌∙◌, arith}
 use Rattle.std.proofs.Common.{length-append}
-use Rattle.std.specs.Prelude.{◌==◌, count_by, nat_le, replicate, slice_get, unwrap_or}
+use Rattle.std.specs.Prelude.{◌==◌, count_by, nat_le, slice_get, unwrap_or}
 use Rattle.std.specs.Int.{w64, to_be_bytes}
-use Rattle.std.specs.List.{AllByRecursion, cons_option, filter_map, flat_map, list_all}
+use Rattle.std.specs.List.{AllByRecursion, flat_map, list_all}
 use Rattle.std.proofs.lemmas.Bool.{and_parts, cond_both, leb-true, lt-ltb}
 use Rattle.std.proofs.lemmas.List.Elements.{All-nil, All-cons, All-append, All-replicate, All-from_recursion}
 use Rattle.std.proofs.lemmas.List.Elements.{recursion_from_All}
 use Rattle.std.proofs.lemmas.List.Sums.{sum_by-cons}
-use Rattle.ttp_world.specs.declared.host_lines.HostRead.{HostRead}
 use Rattle.ttp_world.specs.declared.medl.Medl.{Medl}
 use Rattle.ttp_world.specs.declared.medl.SlotPlan.{SlotPlan}
 use Rattle.ttp_world.specs.declared.script.Event.{Event}
@@ -31,11 +30,10 @@ use Rattle.ttp_world.proofs.HostPayloads.{AreBytesWritten, HasRead, IsMessageOf,
 use Rattle.ttp_world.proofs.LegalNumbers.{ring_messages-few, status_messages-count}
 use Rattle.ttp_world.proofs.LegalShapes.{legal-reads}
 use Rattle.ttp_world.proofs.Lists.{nodes-most}
-use Rattle.ttp_world.proofs.Worlds.{length-world, row_of_world}
+use Rattle.ttp_world.proofs.Worlds.{length-world}
 use Rattle.line_text.specs.HostLines.{AreBytes, message_line}
-use Rattle.line_text.specs.Numerals.{message_digits}
 use Rattle.line_reader.specs.declared.trace_line.TraceLine.TheVariants as line
-use Rattle.line_reader.specs.TraceLines.{FitsRead, FitsWrite, slot_digits}
+use Rattle.line_reader.specs.TraceLines.{FitsRead, FitsWrite}
 use Rattle.line_reader.specs.WorldLines.{bytes_of_message}
 use Rattle.line_reader.proofs.LineValues.{status-value}
 use Rattle.whole_trace.specs.Due.{is_below, source_node}

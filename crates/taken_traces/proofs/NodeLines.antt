@@ -1,11 +1,11 @@
 -- The line of a node after a slot of a run is read, and is the one that is due.
-use Rattle.std.proofs.Common.{◌≡◌, ℕ, suc, ◌+◌, ◌*◌, ◌^◌, ◌<◌, ◌≤◌, ℤ, pos, negsuc, Bool, true, false, cond, ◌&&◌, ◌||◌}
+use Rattle.std.proofs.Common.{◌≡◌, ℕ, suc, ◌*◌, ◌^◌, ◌<◌, ◌≤◌, ℤ, pos, negsuc, Bool, true, false, cond, ◌&&◌}
 use Rattle.std.proofs.Common.{not, List, [], ◌∷◌, length, Option, Some, None, IfSome, IsTrue, is_none, unsigned_abs}
 use Rattle.std.proofs.Common.{refl, sym, ap, ◌∙◌, arith, zero-lt-suc}
 use Rattle.std.specs.Prelude.{◌==◌, nat_le, option_map}
 use Rattle.std.proofs.Math.Nat.{pow-le-pow_right}
 use Rattle.std.proofs.lemmas.Bool.{and_parts, eq-eqb, le-leb, leb-true, lt-ltb}
-use Rattle.ttp_base.specs.NodeSet.{below, set_bits}
+use Rattle.ttp_base.specs.NodeSet.{set_bits}
 use Rattle.ttp_base.proofs.SetWords.{HasWord, HasWord-nil, HasWord-filter, set_bits-small, members_in-set_bits}
 use Rattle.ttp_world.specs.declared.medl.Medl.{Medl}
 use Rattle.ttp_world.specs.declared.node.Ack.{Ack}
@@ -37,7 +37,7 @@ use Rattle.ttp_world.proofs.Lists.{nodes-most}
 use Rattle.ttp_world.proofs.Pasts.{elim_both}
 use Rattle.ttp_world.proofs.Worlds.{row_of_world, length-world}
 use Rattle.line_text.specs.Numerals.{message_digits}
-use Rattle.line_reader.specs.TraceLines.{fits_word, slot_digits, FitsAck, FitsMembers, FitsOffset, FitsNode}
+use Rattle.line_reader.specs.TraceLines.{fits_word, FitsAck, FitsMembers, FitsOffset, FitsNode}
 use Rattle.line_reader.specs.WorldLines.{line_of_node, word_of}
 use Rattle.line_reader.proofs.LineValues.{node-value}
 use Rattle.whole_trace.specs.Due.{are_members, doubted, has_digits, is_below, is_node_line}

@@ -1,6 +1,6 @@
 -- A line more that is read, before lines that are.
 use Rattle.std.proofs.Common.{◌≡◌, ℕ, ◌-◌, List, ◌∷◌, ◌++◌, length, Option, Some, refl, ap, ◌∙◌, arith, length-append}
-use Rattle.std.specs.Prelude.{Result, Ok, option_and_then}
+use Rattle.std.specs.Prelude.{Ok, option_and_then}
 use Rattle.std.proofs.Math.Seq.{take-append_seam, drop-append_seam}
 use Rattle.ttp_base.specs.Text.{Lines, newline}
 use Rattle.line_reader.specs.declared.trace_line.TraceLine.{TraceLine}

@@ -27,8 +27,8 @@ use Rattle.whole_trace.specs.declared.due.Due.TheVariants as due
 use Rattle.whole_trace.specs.declared.due.Outline.{Outline}
 use Rattle.whole_trace.specs.declared.shown.Head.{Head}
 use Rattle.whole_trace.specs.declared.shown.HostLine.{HostLine}
-use Rattle.whole_trace.specs.Due.{after_node, due_after, is_below, is_node_line, next_node, source_node}
-use Rattle.whole_trace.specs.Whole.{SlotLines, SlotsFrom, no_lines, with_line, with_node}
+use Rattle.whole_trace.specs.Due.{after_node, due_after, is_node_line, next_node}
+use Rattle.whole_trace.specs.Whole.{SlotLines, SlotsFrom, no_lines, with_node}
 use Rattle.taken_traces.specs.Taken.{IsOfBytes, head_of_run, node_listed, read_listed, slot_listed, slots_listed}
 use Rattle.taken_traces.specs.Taken.{writes_listed}
 use Rattle.taken_traces.proofs.HostLines.{IsReadRead, IsWriteRead, host_writes-few, reads-read, writes-few, writes-read}

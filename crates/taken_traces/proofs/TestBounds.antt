@@ -1,6 +1,6 @@
 -- What the tests of a script answer fits into their lines: a rule that there is, and a slot of five digits.
-use Rattle.std.proofs.Common.{◌≡◌, ℕ, zero, suc, ◌+◌, ◌-◌, ◌*◌, ◌^◌, ◌<◌, ◌≤◌, Bool, true, false, cond, List, [], ◌∷◌}
-use Rattle.std.proofs.Common.{◌++◌, All, length, find, Option, Some, None, IfSome, IsTrue, refl, arith, min}
+use Rattle.std.proofs.Common.{ℕ, zero, suc, ◌+◌, ◌-◌, ◌*◌, ◌^◌, ◌<◌, ◌≤◌, Bool, true, false, cond, List, [], ◌∷◌}
+use Rattle.std.proofs.Common.{◌++◌, All, length, find, Option, Some, None, IfSome, IsTrue, refl, arith}
 use Rattle.std.specs.Prelude.{map, not, option_map, filter, nat_lt, slice_get, unwrap_or, reverse}
 use Rattle.std.specs.List.{filter_map, range_with_len, AllByRecursion}
 use Rattle.std.proofs.lemmas.Bool.{cond_both}
@@ -16,7 +16,7 @@ use Rattle.ttp_world.specs.declared.medl.Medl.{Medl}
 use Rattle.ttp_world.specs.declared.script.Event.{Event}
 use Rattle.ttp_world.specs.declared.script.Event.TheVariants as event
 use Rattle.ttp_world.specs.declared.script.Script.{Script}
-use Rattle.ttp_world.specs.Hypothesis.{drifts_hold, errors_hold_in, clocks_broken, needed, window_broken, outside_slot}
+use Rattle.ttp_world.specs.Hypothesis.{drifts_hold, errors_hold_in, clocks_broken, window_broken, outside_slot}
 use Rattle.ttp_world.specs.Hypothesis.{is_allowed_jump, lesser, least_of, outside_broken, ClusterStart, start_slot}
 use Rattle.ttp_world.specs.Hypothesis.{starts_in, are_all_on, only_starter, start_in, start_of, nodes_of, FaultyNode}
 use Rattle.ttp_world.specs.Hypothesis.{numbers_of, loss_in, nodes_made, jumpers_in, faulty_nodes_in, faulty_nodes_before}
@@ -24,7 +24,7 @@ use Rattle.ttp_world.specs.Hypothesis.{breaks_in, loss_broken, first_too_early, 
 use Rattle.ttp_world.specs.Hypothesis.{has_four_steady, lacks_steady_after, sync_broken, slots_since_start, unless}
 use Rattle.ttp_world.specs.Hypothesis.{started_keep, keeps}
 use Rattle.ttp_world.specs.Medl.{IsValid, may_start}
-use Rattle.ttp_world.specs.Returning.{back_window_broken, disturbed_slot, disturbance_broken, FaultySlot, stayed_in}
+use Rattle.ttp_world.specs.Returning.{back_window_broken, disturbed_slot, disturbance_broken, stayed_in}
 use Rattle.ttp_world.specs.Returning.{slots_before, breaks_back_in, back_loss_broken, joinings, back_fault_slots}
 use Rattle.ttp_world.specs.Returning.{back_distance_broken, has_four_before, lacks_four_after, back_sync_broken}
 use Rattle.ttp_world.specs.Returning.{breaks_arm_in, arms_broken, unless_back, started_back, returns}

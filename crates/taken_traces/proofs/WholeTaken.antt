@@ -1,7 +1,7 @@
 -- The whole text of a run: the first line, the slots and the lines of the tests.
-use Rattle.std.proofs.Common.{◌≡◌, ℕ, zero, suc, ◌+◌, ◌*◌, ◌^◌, ◌<◌, ◌≤◌, Bool, true, false, cond, ◌&&◌, ◌||◌, List, []}
-use Rattle.std.proofs.Common.{◌∷◌, ◌++◌, All, length, Option, Some, None, refl, sym, ap, subst, ◌∙◌, arith, append-nil}
-use Rattle.std.specs.Prelude.{◌==◌, Result, Ok}
+use Rattle.std.proofs.Common.{◌≡◌, ℕ, zero, suc, ◌+◌, ◌*◌, ◌≤◌, Bool, true, false, cond, ◌&&◌, ◌||◌, []}
+use Rattle.std.proofs.Common.{◌∷◌, ◌++◌, All, length, Some, None, refl, ap, ◌∙◌, arith, append-nil}
+use Rattle.std.specs.Prelude.{◌==◌, Ok}
 use Rattle.std.specs.List.{concat}
 use Rattle.std.proofs.lemmas.Bool.{eq-eqb, le-leb}
 use Rattle.ttp_base.specs.Text.{Lines, lines_of}
@@ -19,10 +19,9 @@ use Rattle.ttp_world.proofs.Lists.{nodes-most}
 use Rattle.ttp_world.proofs.TraceLines.{trace_lines-each}
 use Rattle.ttp_world.proofs.Worlds.{length-world}
 use Rattle.line_reader.specs.declared.trace_line.TraceLine.TheVariants as line
-use Rattle.line_reader.specs.TraceLines.{FitsHeader, text_of}
+use Rattle.line_reader.specs.TraceLines.{FitsHeader}
 use Rattle.line_reader.specs.WorldLines.{head_of}
 use Rattle.line_reader.proofs.LineValues.{back-value, keep-value}
-use Rattle.whole_trace.specs.declared.due.Due.{Due}
 use Rattle.whole_trace.specs.declared.due.Due.TheVariants as due
 use Rattle.whole_trace.specs.declared.due.Outline.{Outline}
 use Rattle.whole_trace.specs.Due.{is_head, is_within}

@@ -82,7 +82,7 @@ slot_listed list script row before new = record {
   hosts =
       writes_listed list script (length before) [] (writes_in script (length before))
       ++ map (read_listed list script (row ∷ before))
-          (read_messages (reads_in script (length before)) new.read);
+      (read_messages (reads_in script (length before)) new.read);
 }
 
 -- the oldest slot first
