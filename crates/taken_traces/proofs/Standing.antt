@@ -142,6 +142,21 @@ one_more : (b : Bool) (count : ℕ) → cond b 1 0 + count < count + 2
 one_more true count = omega arith
 one_more false count = omega arith
 
+-- no frame was accepted but a node's own newest one, and none was rejected
+fresh : (list : Medl) (k : ℕ) (past : NodePast) → k < length list.slots → past.place.slot < length list.slots
+    → past.accepted ≤ 1 → past.rejected ≡ 0 → IsDoubtIn (length list.slots) past.ack
+    → IfSome (peer_of k past.entry) (λ p. p < length list.slots)
+    → Stands list k past
+fresh list k past node inside good bad doubt peer =
+    let most = left-most (length list.slots) k past.place.slot node in
+    record {
+      slot = inside;
+      accepted = omega (arith, most, good);
+      rejected = omega (arith, most, bad);
+      doubt = doubt;
+      peer = peer;
+    }
+
 -- one slot more
 module _ (list : Medl) (k : ℕ) (past : NodePast) (s : SlotSurroundings) (valid : IsValid list)
     (node : k < length list.slots) (stands : Stands list k past) where
@@ -149,34 +164,10 @@ module _ (list : Medl) (k : ℕ) (past : NodePast) (s : SlotSurroundings) (valid
   next_slot = grind (arith, nat_tests, node, stands.slot)
 
   stands-after : (e : Entry) → IsOfList list e → IsSound list k past e → Stands list k (past_after list k past e s)
-  stands-after entry.Started of_list sound =
-      let most = left-most (length list.slots) k k node in
-      record {
-        slot = node;
-        accepted = omega (arith, most);
-        rejected = omega (arith, most);
-        doubt = tt;
-        peer = node;
-      }
+  stands-after entry.Started of_list sound = fresh list k _ node node (omega arith) refl tt node
   stands-after (entry.Joined sender cstate deviation) of_list sound =
-      let most = left-most (length list.slots) k cstate.slot node in
-      record {
-        slot = of_list.1.slot;
-        accepted = omega (arith, most);
-        rejected = omega (arith, most);
-        doubt = tt;
-        peer = of_list.0;
-      }
-  stands-after (entry.Sent message) of_list sound =
-      let place = next_place list past.place in
-      let most = left-most (length list.slots) k place.slot node in
-      record {
-        slot = next_slot;
-        accepted = omega (arith, most);
-        rejected = omega (arith, most);
-        doubt = tt;
-        peer = node;
-      }
+      fresh list k _ node of_list.1.slot (omega arith) refl tt of_list.0
+  stands-after (entry.Sent message) of_list sound = fresh list k _ node next_slot (omega arith) refl tt node
   stands-after (entry.Judged sender v deviation) of_list sound =
       let place = next_place list past.place in
       let fewer = left-fewer list k past.place node (λ same. sound.1 (sound.0 ∙ same)) stands.slot in
@@ -188,23 +179,8 @@ module _ (list : Medl) (k : ℕ) (past : NodePast) (s : SlotSurroundings) (valid
         peer = of_list;
       }
   stands-after (entry.Left why peer) of_list sound =
-      let most = left-most (length list.slots) k 0 node in
-      record {
-        slot = omega (arith, node);
-        accepted = omega (arith, most);
-        rejected = omega (arith, most);
-        doubt = tt;
-        peer = sound;
-      }
-  stands-after _ of_list sound =
-      let most = left-most (length list.slots) k 0 node in
-      record {
-        slot = omega (arith, node);
-        accepted = omega (arith, most);
-        rejected = omega (arith, most);
-        doubt = tt;
-        peer = tt;
-      }
+      fresh list k _ node (omega (arith, node)) (omega arith) refl tt sound
+  stands-after _ of_list sound = fresh list k _ node (omega (arith, node)) (omega arith) refl tt tt
 
 -- Each slot of a run.
 
@@ -225,21 +201,9 @@ stands-next list script history chosen k valid of_list node stands =
     (stands-after list k past (surroundings_in script (length history) row k) valid node stands (entry_of row k)
     (entry_of-row_after-of_list list script history chosen k valid node of_list) sound)
 
-stands-first : (list : Medl) (script : Script) (k : ℕ) → k < length list.slots
-    → Stands list k (node_past list script [] k)
-stands-first list script k node =
-    let most = left-most (length list.slots) k 0 node in
-    record {
-      slot = omega (arith, node);
-      accepted = omega (arith, most);
-      rejected = omega (arith, most);
-      doubt = tt;
-      peer = tt;
-    }
-
 stands-world : (list : Medl) (script : Script) (numbers : Numbers) (k : ℕ) → IsValid list → k < length list.slots
     → Stands list k (node_past list script (world list script numbers) k)
-stands-world list script [] k valid node = stands-first list script k node
+stands-world list script [] k valid node = fresh list k _ node (omega (arith, node)) (omega arith) refl tt tt
 stands-world list script (new ∷ numbers) k valid node =
     stands-next list script (world list script numbers) (messages_chosen list script (length numbers) new.sent) k valid
     (world-of_list list script numbers valid) node (stands-world list script numbers k valid node)

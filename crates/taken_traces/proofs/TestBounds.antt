@@ -169,11 +169,13 @@ module _ (list : Medl) (script : Script) (valid : IsValid list) (valid_script : 
   outside_in (event.Write node slot payload) is = tt
   outside_in (event.Read node slot from) is = tt
 
-  outside_broken-in : IsIn five_digits (outside_broken list script)
-  outside_broken-in =
-      run_in (outside_broken list script) (least_of-in script.slots (filter_map (outside_slot list script) script.events)
-      (filter_map-each (outside_slot list script) (IsValidEvent list script) (λ n. n < script.slots) script.events
-      outside_in valid_script.events))
+  -- the least slot that valid events name
+  of_events : (named : Event → Option ℕ) → ((e : Event) → IsValidEvent list script e → IsIn script.slots (named e))
+      → IsIn five_digits (least_of (filter_map named script.events))
+  of_events named each =
+      run_in (least_of (filter_map named script.events))
+      (least_of-in script.slots (filter_map named script.events)
+      (filter_map-each named (IsValidEvent list script) (λ n. n < script.slots) script.events each valid_script.events))
 
   disturbed_in : (e : Event) → IsValidEvent list script e
       → IfSome (disturbed_slot list script e) (λ n. n < script.slots)
@@ -186,13 +188,6 @@ module _ (list : Medl) (script : Script) (valid : IsValid list) (valid_script : 
   disturbed_in (event.Error node value from to) is = tt
   disturbed_in (event.Write node slot payload) is = tt
   disturbed_in (event.Read node slot from) is = tt
-
-  disturbance_in : IsIn five_digits (disturbance_broken list script)
-  disturbance_in =
-      run_in (disturbance_broken list script)
-      (least_of-in script.slots (filter_map (disturbed_slot list script) script.events)
-      (filter_map-each (disturbed_slot list script) (IsValidEvent list script) (λ n. n < script.slots) script.events
-      disturbed_in valid_script.events))
 
   -- The start comes at most three rounds after the last slot in which a node can come on.
 
@@ -269,7 +264,7 @@ module _ (list : Medl) (script : Script) (valid : IsValid list) (valid_script : 
       unless-fits 1 (clocks_broken list script) _ (omega arith) refl clocks_in
       (unless-fits 2 (window_broken list) _ (omega arith) refl (broken_if five_digits _ (omega arith))
       (unless-fits 3 (outside_broken list script) (started_keep list script (start_of list script)) (omega arith) refl
-      outside_broken-in
+      (of_events (outside_slot list script) outside_in)
       (started_keep-fits (start_of list script) start_of-in)))
 
   -- What armed nodes are owed.
@@ -296,5 +291,5 @@ module _ (list : Medl) (script : Script) (valid : IsValid list) (valid_script : 
       unless_back-fits 1 (clocks_broken list script) _ (omega arith) refl clocks_in
       (unless_back-fits 2 (back_window_broken list) _ (omega arith) refl (broken_if five_digits _ (omega arith))
       (unless_back-fits 3 (disturbance_broken list script) (started_back list script (start_of list script))
-      (omega arith) refl disturbance_in
+      (omega arith) refl (of_events (disturbed_slot list script) disturbed_in)
       (started_back-fits (start_of list script) start_of-in)))
