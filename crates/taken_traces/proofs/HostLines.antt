@@ -14,6 +14,7 @@ use Rattle.ttp_world.specs.declared.medl.SlotPlan.{SlotPlan}
 use Rattle.ttp_world.specs.declared.script.Event.{Event}
 use Rattle.ttp_world.specs.declared.script.Event.TheVariants as event
 use Rattle.ttp_world.specs.declared.script.Script.{Script}
+use Rattle.ttp_world.specs.declared.script.TheConstants.{HOST_EVENT_LIMIT, SLOT_LIMIT}
 use Rattle.ttp_world.specs.declared.script.Source.{Source}
 use Rattle.ttp_world.specs.declared.script.Source.TheVariants as source
 use Rattle.ttp_world.specs.Diary.{History}
@@ -52,7 +53,7 @@ pub record IsWriteRead (list : Medl) (script : Script) (slot earlier : ℕ) (w :
       ≡ Some (line.Write slot w.host (length (messages_before list script w.host slot) + i))
 
 write-read : (list : Medl) (script : Script) (slot : ℕ) (w : HostWrite) → IsValid list → IsValidScript list script
-    → slot < 20000 → IsValidWrite list w → IsWriteRead list script slot 95325 w
+    → slot < SLOT_LIMIT → IsValidWrite list w → IsWriteRead list script slot HOST_EVENT_LIMIT w
 write-read list script slot w valid valid_script early is = record {
   host = is.node;
   value = λ i few.
@@ -66,23 +67,23 @@ write-read list script slot w valid valid_script early is = record {
 }
 
 writes-each : (list : Medl) (script : Script) (slot : ℕ) (ws : List HostWrite) → IsValid list
-    → IsValidScript list script → slot < 20000 → AllByRecursion (IsValidWrite list) ws
-    → AllByRecursion (IsWriteRead list script slot 95325) ws
+    → IsValidScript list script → slot < SLOT_LIMIT → AllByRecursion (IsValidWrite list) ws
+    → AllByRecursion (IsWriteRead list script slot HOST_EVENT_LIMIT) ws
 writes-each list script slot [] valid valid_script early are = tt
 writes-each list script slot (w ∷ ws) valid valid_script early are = (
   write-read list script slot w valid valid_script early are.0,
   writes-each list script slot ws valid valid_script early are.1,
 )
 
-pub writes-read : (list : Medl) (script : Script) (slot : ℕ) → IsValid list → IsValidScript list script → slot < 20000
-    → AllByRecursion (IsWriteRead list script slot 95325) (writes_in script slot)
+pub writes-read : (list : Medl) (script : Script) (slot : ℕ) → IsValid list → IsValidScript list script → slot < SLOT_LIMIT
+    → AllByRecursion (IsWriteRead list script slot HOST_EVENT_LIMIT) (writes_in script slot)
 writes-read list script slot valid valid_script early =
     writes-each list script slot (writes_in script slot) valid valid_script early
     (recursion_from_All (IsValidWrite list) (writes_in script slot) (valid_writes list script slot valid_script))
 
 -- there are not more of them than that
 pub writes-few : (list : Medl) (script : Script) (slot : ℕ) → IsValidScript list script
-    → length (writes_in script slot) ≤ 95325
+    → length (writes_in script slot) ≤ HOST_EVENT_LIMIT
 writes-few list script slot valid_script =
     omega (
       arith,
@@ -159,8 +160,8 @@ abbrev IsTold : Source → List ℕ → Type 0
 IsTold source.Status message = (length message ≡ 4) × AreWords message
 IsTold (source.Node p) message = (p < 256) × (1 ≤ length message) × (length message ≤ 240) × AreBytes message
 
-told-read : (slot host : ℕ) (from : Source) (number : ℕ) (message : List ℕ) → slot < 20000 → host < 256
-    → number ≤ 20000 → IsTold from message
+told-read : (slot host : ℕ) (from : Source) (number : ℕ) (message : List ℕ) → slot < SLOT_LIMIT → host < 256
+    → number ≤ SLOT_LIMIT → IsTold from message
     → value_of (message_line slot host from number message)
     ≡ Some (line.Read slot host from number (bytes_of_message from message))
 told-read slot host source.Status number words early node few told =

@@ -16,6 +16,7 @@ use Rattle.ttp_world.specs.declared.node.Entry.TheVariants as entry
 use Rattle.ttp_world.specs.declared.node.Reason.TheVariants as reason
 use Rattle.ttp_world.specs.declared.node.Verdict.TheVariants as verdict
 use Rattle.ttp_world.specs.declared.script.Script.{Script}
+use Rattle.ttp_world.specs.declared.script.TheConstants.{SLOT_LIMIT}
 use Rattle.ttp_world.specs.Acknowledgement.{is_correct}
 use Rattle.ttp_world.specs.Act.{coming_place}
 use Rattle.ttp_world.specs.Conduct.{carries_payload, delivery}
@@ -96,13 +97,13 @@ module _ (list : Medl) (script : Script) (row : List Entry) (before : History) (
   word-named (entry.Left reason.Unacknowledged peer) says = refl
   word-named (entry.Left reason.Clique peer) says = refl
 
-  came_few : (o : Option Delivered) → length before < 20000
+  came_few : (o : Option Delivered) → length before < SLOT_LIMIT
       → IfSome (option_map (number_delivered list script (row ∷ before) k) o) (λ i. i < 10 ^ message_digits)
   came_few None early = tt
   came_few (Some d) early = omega (arith, in_messages-few list script (row ∷ before) k d.sender)
 
   -- it has at most six digits
-  number-named : (e : Entry) → length before < 20000 → IfSome (message_of e) (λ i. i < 10 ^ message_digits)
+  number-named : (e : Entry) → length before < SLOT_LIMIT → IfSome (message_of e) (λ i. i < 10 ^ message_digits)
       → IfSome (message_shown list script row before k e) (λ i. i < 10 ^ message_digits)
   number-named (entry.Sent message) early sent = sent
   number-named (entry.Judged sender v deviation) early sent = came_few came early
@@ -115,7 +116,7 @@ module _ (list : Medl) (script : Script) (row : List Entry) (before : History) (
   number-named (entry.Left why peer) early sent = tt
 
 sent_few : (list : Medl) (script : Script) (slot k : ℕ) (message : Option ℕ) → IsValid list
-    → IsValidScript list script → slot < 20000 → is_legal_message list script slot k message ≡ true
+    → IsValidScript list script → slot < SLOT_LIMIT → is_legal_message list script slot k message ≡ true
     → IfSome message (λ i. i < 10 ^ message_digits)
 sent_few list script slot k None valid script_valid early legal = tt
 sent_few list script slot k (Some i) valid script_valid early legal =
@@ -160,7 +161,7 @@ members-are list k diary valid =
 
 -- What else is shown.
 
-offset-fits : (z : ℤ) → unsigned_abs z ≤ 20000 * 2 ^ 38 → FitsOffset z
+offset-fits : (z : ℤ) → unsigned_abs z ≤ SLOT_LIMIT * 2 ^ 38 → FitsOffset z
 offset-fits (pos n) small = omega (arith, small)
 offset-fits (negsuc n) small = omega (arith, small)
 
@@ -210,7 +211,7 @@ node-read list script new numbers k valid script_valid within legal node =
     let e = entry_of row k in
     let message = message_shown list script row before k e in
     let same = length-world list script numbers in
-    let early : slot < 20000 = omega (arith, same, script_valid.slots, within) in
+    let early : slot < SLOT_LIMIT = omega (arith, same, script_valid.slots, within) in
     let most = nodes-most list valid in
     let shown = shown-in list script (new ∷ numbers) k valid node in
     let small = small_states list script (new ∷ numbers) k valid script_valid (omega (arith, within)) node in

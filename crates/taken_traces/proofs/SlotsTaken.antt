@@ -10,6 +10,7 @@ use Rattle.ttp_world.specs.declared.medl.Medl.{Medl}
 use Rattle.ttp_world.specs.declared.node.Ack.{Ack}
 use Rattle.ttp_world.specs.declared.node.Entry.{Entry}
 use Rattle.ttp_world.specs.declared.script.Script.{Script}
+use Rattle.ttp_world.specs.declared.script.TheConstants.{HOST_EVENT_LIMIT, SLOT_LIMIT}
 use Rattle.ttp_world.specs.Diary.{History}
 use Rattle.ttp_world.specs.Legal.{IsLegal, ReadMessage, read_messages}
 use Rattle.ttp_world.specs.Medl.{IsValid}
@@ -68,7 +69,7 @@ module _ (list : Medl) (script : Script) (row : List Entry) (before : History) (
   -- What they wrote.
 
   writes-end : (earlier ws : List HostWrite) (rest : Lines) (hosts : List HostLine)
-      → length earlier + length ws ≤ 95325 → AllByRecursion (IsWriteRead list script slot 95325) ws
+      → length earlier + length ws ≤ HOST_EVENT_LIMIT → AllByRecursion (IsWriteRead list script slot HOST_EVENT_LIMIT) ws
       → EndsWith (due.Host head slot false) rest o (fronted hosts slots)
       → EndsWith (due.Host head slot false) (more_write_lines list script slot earlier ws ++ rest) o
       (fronted (writes_listed list script slot earlier ws ++ hosts) slots)
@@ -151,8 +152,8 @@ module _ (list : Medl) (script : Script) (row : List Entry) (before : History) (
 
   -- all lines of the slot
   slot-end : (at : Due) (new : SlotNumbers) (rest : Lines) → 1 ≤ length list.slots → Opens at → AreRead
-      → length (writes_in script slot) ≤ 95325
-      → AllByRecursion (IsWriteRead list script slot 95325) (writes_in script slot)
+      → length (writes_in script slot) ≤ HOST_EVENT_LIMIT
+      → AllByRecursion (IsWriteRead list script slot HOST_EVENT_LIMIT) (writes_in script slot)
       → AllByRecursion (IsReadRead list script slot (row ∷ before)) (read_messages (reads_in script slot) new.read)
       → ((b : Bool) → EndsWith (due.Host head slot b) rest o (fronted [] slots))
       → EndsWith at (slot_lines list script row before new ++ rest) o
@@ -220,7 +221,7 @@ module _ (list : Medl) (script : Script) (valid : IsValid list) (valid_script : 
       let older_listed = slots_listed list script before numbers in
       let within : length numbers < script.slots = omega (arith, few) in
       let count = length-world list script numbers in
-      let early : length before < 20000 = omega (arith, count, within, valid_script.slots) in
+      let early : length before < SLOT_LIMIT = omega (arith, count, within, valid_script.slots) in
       let newest : (b : Bool) → EndsWith (behind (head_of_run list script) before b) (lines ++ rest) o
       (fronted [] (listed ∷ slots)) = λ b.
       slot-end list script row before o slots (behind (head_of_run list script) before b) new rest

@@ -8,6 +8,7 @@ use Rattle.ttp_base.specs.NodeSet.{set_bits}
 use Rattle.ttp_world.specs.declared.medl.Medl.{Medl}
 use Rattle.ttp_world.specs.declared.node.CState.{CState}
 use Rattle.ttp_world.specs.declared.script.Script.{Script}
+use Rattle.ttp_world.specs.declared.script.TheConstants.{SLOT_LIMIT}
 use Rattle.ttp_world.specs.Diary.{cstate_at, is_active_phase}
 use Rattle.ttp_world.specs.Fitting.{number_in}
 use Rattle.ttp_world.specs.Frame.{cstate_bytes}
@@ -85,7 +86,7 @@ status-small list slot past delivers early good bad =
     (omega (arith, good, bad))
 
 pub statuses-small : (list : Medl) (script : Script) (numbers : Numbers) (k : ℕ) → IsValid list
-    → length numbers ≤ 20000 → k < length list.slots
+    → length numbers ≤ SLOT_LIMIT → k < length list.slots
     → All AreWords (status_messages list script (world list script numbers) k)
 statuses-small list script [] k valid few node =
     All-cons AreWords (replicate 4 0) [] (four_words 0 0 0 0 (omega arith) (omega arith) (omega arith) (omega arith))
