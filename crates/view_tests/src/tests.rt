@@ -1,5 +1,6 @@
 //! What a line, a trace and its views are: public calls alone.
 
+mod laws;
 mod lines;
 mod small;
 mod traces;

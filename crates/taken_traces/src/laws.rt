@@ -1,0 +1,19 @@
+//! Laws over the definitions. The functions do nothing; their contracts are the laws.
+ghost use Rattle.std.specs.Prelude.{◌≡◌, All, Ok};
+ghost use Rattle.std.specs.List.{concat};
+ghost use Rattle.ttp_world.specs.declared.medl.Medl.{Medl};
+ghost use Rattle.ttp_world.specs.declared.script.Script.{Script};
+ghost use Rattle.ttp_world.specs.Legal.{IsLegalRun};
+ghost use Rattle.ttp_world.specs.Medl.{IsValid};
+ghost use Rattle.ttp_world.specs.Script.{IsValidScript};
+ghost use Rattle.ttp_world.specs.Trace.{trace_lines};
+ghost use Rattle.ttp_world.specs.World.{Numbers};
+ghost use Rattle.whole_trace.specs.Whole.{whole_in};
+ghost use Rattle.taken_traces.specs.Taken.{IsOfBytes, trace_of_run};
+
+/// The text of a run is taken for a trace, and for the one of the run.
+pub fn run_is_taken()
+    ensures { (list : Medl) (script : Script) (numbers : Numbers) → IsValid list → IsValidScript list script
+        → All IsOfBytes script.events → IsLegalRun list script numbers
+        → whole_in (concat (trace_lines list script numbers)) ≡ Ok (trace_of_run list script numbers) }
+{}

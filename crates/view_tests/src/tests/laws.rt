@@ -1,0 +1,6 @@
+//! The law of what views take, called once.
+
+#[test]
+fn law_of_runs() {
+    taken_traces::laws::run_is_taken();
+}
