@@ -1,0 +1,6 @@
+pub mod PlainTexts
+pub mod TitlesIn
+pub mod PictureTitles
+pub mod LineStarts
+pub mod SlotTitles
+pub mod TextLines
