@@ -4,3 +4,5 @@ pub mod PictureTitles
 pub mod LineStarts
 pub mod SlotTitles
 pub mod TextLines
+pub mod SlotTexts
+pub mod LinesAndTitles

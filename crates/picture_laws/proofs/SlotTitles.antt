@@ -4,7 +4,7 @@ use Rattle.std.proofs.Common.{List, [], ◌∷◌, ◌++◌, length, filter, ref
 use Rattle.std.specs.Prelude.{◌==◌}
 use Rattle.std.specs.List.{flat_map, range_with_len}
 use Rattle.std.specs.Fmt.{signed_decimal}
-use Rattle.std.proofs.lemmas.Bool.{and_parts, leb-true, leb-false, cases_eq}
+use Rattle.std.proofs.lemmas.Bool.{and_parts, and_from, leb-true, leb-false, le-leb, cases_eq}
 use Rattle.std.proofs.lemmas.List.{append_assoc, append-nil}
 use Rattle.std.proofs.lemmas.List.Elements.{filter-append}
 use Rattle.ttp_base.specs.NodeSet.{below, set_bits}
@@ -40,7 +40,7 @@ kept : (b : Bool) (line : List ℕ) (lines : Lines) → b ≡ true → cond b (l
 kept true line lines is = refl
 kept false line lines is = cc
 
-left_out : (b : Bool) (line : List ℕ) (lines : Lines) → b ≡ false → cond b (line ∷ lines) lines ≡ lines
+pub left_out : (b : Bool) (line : List ℕ) (lines : Lines) → b ≡ false → cond b (line ∷ lines) lines ≡ lines
 left_out true line lines is = cc
 left_out false line lines is = refl
 
@@ -56,7 +56,7 @@ filter-no p f [] none = refl
 filter-no p f (x ∷ xs) none = left_out (p (f x)) (f x) (filter p (map f xs)) (none x) ∙ filter-no p f xs none
 
 -- of numbers in a row, one alone has lines
-none-past : (f : ℕ → Lines) (a n : ℕ) → ((s : ℕ) → a ≤ s → s < a + n → f s ≡ []) → flat_map f (range_with_len a n) ≡ []
+pub none-past : (f : ℕ → Lines) (a n : ℕ) → ((s : ℕ) → a ≤ s → s < a + n → f s ≡ []) → flat_map f (range_with_len a n) ≡ []
 none-past f a zero none = refl
 none-past f a (suc n) none =
     let rest = none-past f (a + 1) n (λ s low high. none s (omega arith) (omega arith)) in
@@ -177,36 +177,44 @@ two-left p lines kept one other is first second =
     ∙ (λ i. is i ++ (left_out (p one) one (filter p (other ∷ [])) first ∙ left_out (p other) other [] second) i)
     ∙ append-nil kept
 
+pub nodes-own : (trace : WholeTrace) (t : ℕ) → filter (is_of_slot t) (node_texts trace t) ≡ node_texts trace t
+nodes-own trace t =
+    let head = trace.head in
+    let slot = slot_at trace t in
+    filter-all (is_of_slot t) (λ k. node_text head t k (node_at slot k)) (below head.nodes) (λ k.
+    ap (is_of_slot t) (node-begins head t k (node_at slot k))
+    ∙ of-own t (codes " node " ++ (decimal k ++ 32 ∷ node_rest head (node_at slot k))))
+
 cells-own : (trace : WholeTrace) (t : ℕ) → filter (is_of_slot t) (cell_titles trace t) ≡ node_texts trace t
 cells-own trace t =
     let head = trace.head in
     let slot = slot_at trace t in
     let held = memberships slot.nodes in
-    let text : ℕ → List ℕ = λ k. node_text head t k (node_at slot k) in
     two-left (is_of_slot t) (node_texts trace t) (node_texts trace t) (members_said head t slot held) (clocks_said t slot)
-    (filter-all (is_of_slot t) text (below head.nodes) (λ k.
-    ap (is_of_slot t) (node-begins head t k (node_at slot k))
-    ∙ of-own t (codes " node " ++ (decimal k ++ 32 ∷ node_rest head (node_at slot k)))))
+    (nodes-own trace t)
     (ap (is_of_slot t) (members-begin head t slot held) ∙ of-own t (32 ∷ said_rest head slot held) ∙ no-line head slot held)
     (ap (is_of_slot t) (clocks-begin t slot) ∙ of-own t (32 ∷ clocks_rest slot))
 
 -- a test that no line of the slot passes
-abbrev FailsIn : (List ℕ → Bool) → ℕ → Type 0
+abbrev pub FailsIn : (List ℕ → Bool) → ℕ → Type 0
 FailsIn p s = (rest : List ℕ) → p (codes "slot " ++ (decimal s ++ 32 ∷ rest)) ≡ false
+
+pub nodes-other : (trace : WholeTrace) (p : List ℕ → Bool) (s : ℕ) → FailsIn p s → filter p (node_texts trace s) ≡ []
+nodes-other trace p s none =
+    let head = trace.head in
+    let slot = slot_at trace s in
+    filter-no p (λ k. node_text head s k (node_at slot k)) (below head.nodes) (λ k.
+    ap p (node-begins head s k (node_at slot k)) ∙ none (codes "node " ++ (decimal k ++ 32 ∷ node_rest head (node_at slot k))))
 
 cells-other : (trace : WholeTrace) (p : List ℕ → Bool) (s : ℕ) → FailsIn p s → filter p (cell_titles trace s) ≡ []
 cells-other trace p s none =
-    let head = trace.head in
     let slot = slot_at trace s in
     let held = memberships slot.nodes in
-    let text : ℕ → List ℕ = λ k. node_text head s k (node_at slot k) in
-    two-left p (node_texts trace s) [] (members_said head s slot held) (clocks_said s slot)
-    (filter-no p text (below head.nodes) (λ k.
-    ap p (node-begins head s k (node_at slot k)) ∙ none (codes "node " ++ (decimal k ++ 32 ∷ node_rest head (node_at slot k)))))
-    (ap p (members-begin head s slot held) ∙ none (said_rest head slot held))
+    two-left p (node_texts trace s) [] (members_said trace.head s slot held) (clocks_said s slot) (nodes-other trace p s none)
+    (ap p (members-begin trace.head s slot held) ∙ none (said_rest trace.head slot held))
     (ap p (clocks-begin s slot) ∙ none (clocks_rest slot))
 
-hosts-own : (trace : WholeTrace) (t : ℕ) → filter (is_of_slot t) (host_texts trace t) ≡ host_texts trace t
+pub hosts-own : (trace : WholeTrace) (t : ℕ) → filter (is_of_slot t) (host_texts trace t) ≡ host_texts trace t
 hosts-own trace t =
     filter-all (is_of_slot t) (host_text t) (slot_at trace t).hosts (λ by.
     ap (is_of_slot t) (host-begins t by) ∙ of-own t (codes " host " ++ host_rest by)
@@ -216,7 +224,7 @@ hosts-own trace t =
     either true = refl
     either false = refl
 
-hosts-other : (trace : WholeTrace) (p : List ℕ → Bool) (s : ℕ) → FailsIn p s → filter p (host_texts trace s) ≡ []
+pub hosts-other : (trace : WholeTrace) (p : List ℕ → Bool) (s : ℕ) → FailsIn p s → filter p (host_texts trace s) ≡ []
 hosts-other trace p s none =
     filter-no p (host_text s) (slot_at trace s).hosts (λ by.
     ap p (host-begins s by) ∙ none (codes "host " ++ host_rest by))
@@ -226,11 +234,11 @@ hosts-other trace p s none =
 -- the last of them is none past the trace
 chosen-last : (few : Bool) (count many first : ℕ) → nat_le count many ≡ few → first ≤ count - many
     → (cond few (let whole : Span = record { first = 0; last = count - 1 } in whole)
-    (record { first = first; last = first + many - 1 })).last ≤ count
+    (record { first = first; last = first + many - 1 })).last ≤ count - 1
 chosen-last true count many first is low = omega arith
 chosen-last false count many first is low = let less = leb-false count many is in omega (arith, less, low)
 
-last-shown : (n : ℕ) (slots : List SlotLines) (asked : Option Span) → (span_shown n slots asked).last ≤ length slots
+pub last-shown : (n : ℕ) (slots : List SlotLines) (asked : Option Span) → (span_shown n slots asked).last ≤ length slots - 1
 last-shown n slots None =
     let many = 4 * columns n in
     chosen-last (nat_le (length slots) many) (length slots) many (min (slot_of_interest slots - 2 * n) (length slots - many))
@@ -270,12 +278,35 @@ passed trace asked p t nodes hosts few shows first legend cells marks others =
     ∙ (λ i. above i ++ filter-append p lower legend_titles i) ∙ (λ i. nodes ++ (below i ++ legend i))
     ∙ ap (λ (lines : Lines). nodes ++ lines) (append-nil hosts)
   where
-    below_limit : (first last s t count : ℕ) → first ≤ t → t ≤ last → last ≤ count → count ≤ 20000
+    below_limit : (first last s t count : ℕ) → first ≤ t → t ≤ last → last ≤ count - 1 → count ≤ 20000
         → s < first + (last + 1 - first) → s < 2 ^ 64
     below_limit first last s t count low high top few less = omega (arith, low, high, top, few, less)
 
+-- where the test passes no line of a slot that is shown, no title passes
+pub none-passed : (trace : WholeTrace) (asked : Option Span) (p : List ℕ → Bool)
+    → p (first_text trace) ≡ false → filter p legend_titles ≡ []
+    → ((s : ℕ) → is_shown (shown_of trace asked) s ≡ true → FailsIn p s) → filter p (picture_titles trace asked) ≡ []
+none-passed trace asked p first legend others =
+    let span = shown_of trace asked in
+    let n = span.last + 1 - span.first in
+    let upper : Lines = flat_map (cell_titles trace) (slots_in span) in
+    let lower : Lines = flat_map (host_texts trace) (slots_in span) in
+    let is : (s : ℕ) → span.first ≤ s → s < span.first + n → is_shown span s ≡ true = λ s low high.
+    and_from (nat_le span.first s) (nat_le s span.last) (le-leb span.first s low) (le-leb s span.last (omega (arith, low, high))) in
+    let above : filter p upper ≡ [] =
+    filter-flat p (cell_titles trace) (slots_in span)
+    ∙ none-past (λ s. filter p (cell_titles trace s)) span.first n (λ s low high.
+    cells-other trace p s (others s (is s low high))) in
+    let below : filter p lower ≡ [] =
+    filter-flat p (host_texts trace) (slots_in span)
+    ∙ none-past (λ s. filter p (host_texts trace s)) span.first n (λ s low high.
+    hosts-other trace p s (others s (is s low high))) in
+    left_out (p (first_text trace)) (first_text trace) (filter p (upper ++ (lower ++ legend_titles))) first
+    ∙ filter-append p upper (lower ++ legend_titles)
+    ∙ (λ i. above i ++ filter-append p lower legend_titles i) ∙ (λ i. below i ++ legend i)
+
 -- a slot that is shown has a number of at most five digits
-shown-limit : (trace : WholeTrace) (asked : Option Span) (t : ℕ) → length trace.slots ≤ 20000
+pub shown-limit : (trace : WholeTrace) (asked : Option Span) (t : ℕ) → length trace.slots ≤ 20000
     → is_shown (shown_of trace asked) t ≡ true → t < 2 ^ 64
 shown-limit trace asked t few shows =
     let span = shown_of trace asked in
@@ -283,8 +314,19 @@ shown-limit trace asked t few shows =
     let last = last-shown trace.head.nodes trace.slots asked in
     below_limit t span.last (length trace.slots) high last few
   where
-    below_limit : (t last count : ℕ) → t ≤ last → last ≤ count → count ≤ 20000 → t < 2 ^ 64
+    below_limit : (t last count : ℕ) → t ≤ last → last ≤ count - 1 → count ≤ 20000 → t < 2 ^ 64
     below_limit t last count high top few = omega (arith, high, top, few)
+
+pub no-title-past : (trace : WholeTrace) (asked : Option Span) (t : ℕ) → length trace.slots ≤ 20000 → t < 2 ^ 64
+    → is_shown (shown_of trace asked) t ≡ false → filter (is_of_slot t) (picture_titles trace asked) ≡ []
+no-title-past trace asked t few limit hidden =
+    none-passed trace asked (is_of_slot t) refl refl (λ s shows rest.
+    of-other t s rest limit (shown-limit trace asked s few shows) (λ same.
+    absurd (no (is_shown (shown_of trace asked) s) shows (ap (is_shown (shown_of trace asked)) same ∙ hidden))))
+  where
+    no : (b : Bool) → b ≡ true → b ≡ false → ⊥
+    no true is not = cc
+    no false is not = cc
 
 pub titles-of_slot : (trace : WholeTrace) (asked : Option Span) (t : ℕ) → length trace.slots ≤ 20000
     → is_shown (shown_of trace asked) t ≡ true

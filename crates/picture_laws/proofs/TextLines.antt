@@ -393,6 +393,7 @@ flat-same f g (t ∷ ts) same = λ i. same t i ++ flat-same f g ts same i
 -- what a text says that is a trace
 pub record IsTextOf (lines : Lines) (trace : WholeTrace) : Type 0 where
   pub are : lines ≡ map ended (trace_texts trace)
+  pub some : 1 ≤ length trace.slots
   pub slots : length trace.slots ≤ 20000
   pub nodes : trace.head.nodes ≤ 24
 
@@ -412,6 +413,7 @@ header-says first lines o head is right says counted =
       are =
           (λ i. (is ∙ (λ j. ended (head_text (sym says.of j)))) i ∷ says.are i)
           ∙ (λ i. ended (first_text whole) ∷ map ended (numbered i ++ ends_left o));
+      some = omega (arith, counted, same, few.0);
       slots = omega (arith, counted, same, few.1);
       nodes = subst (λ (h : Head). h.nodes ≤ 24) (sym says.of) (few_nodes head right).1;
     }
