@@ -2,6 +2,7 @@
 use Rattle.std.proofs.Common.{◌≡◌, ℕ, ◌+◌, ◌<◌, ◌≤◌, ◌^◌, Bool, true, false, List, [], ◌∷◌, length, filter, refl, sym, ap, ◌∙◌, arith}
 use Rattle.std.proofs.Common.{nat_le, Option}
 use Rattle.std.specs.Prelude.{Result, Ok}
+use Rattle.std.specs.List.{AllByRecursion}
 use Rattle.std.proofs.lemmas.Bool.{and_parts, leb-true}
 use Rattle.whole_trace.specs.Whole.{SlotLines, WholeTrace, whole_in}
 use Rattle.shown_slot.specs.Trace.{node_at, node_text}
@@ -9,6 +10,7 @@ use Rattle.picture_text.specs.declared.window.Span.{Span}
 use Rattle.picture_text.specs.Picture.{slot_at, is_shown, picture_lines}
 use Rattle.picture_text.specs.Window.{span_shown}
 use Rattle.picture_laws.specs.Titles.{begins_with, titles, is_of_slot, node_start, bare_lines, shown_of, picture_titles}
+use Rattle.picture_laws.proofs.TitlesIn.{HasOne}
 use Rattle.picture_laws.proofs.PictureTitles.{picture_of-titles}
 use Rattle.picture_laws.proofs.SlotTitles.{titles-of_slot, title-of_node, no-title-past, last-shown}
 use Rattle.picture_laws.proofs.SlotTexts.{bare-text, texts-of_slot}
@@ -16,7 +18,10 @@ use Rattle.picture_laws.proofs.TextLines.{IsTextOf, text-lines}
 
 pub picture_lines-titles : (trace : WholeTrace) (asked : Option Span)
     → titles (picture_lines trace asked) ≡ picture_titles trace asked
-picture_lines-titles trace asked = picture_of-titles trace (span_shown trace.head.nodes trace.slots asked)
+picture_lines-titles trace asked = (picture_of-titles trace (span_shown trace.head.nodes trace.slots asked)).are
+
+pub picture_lines-once : (trace : WholeTrace) (asked : Option Span) → AllByRecursion HasOne (picture_lines trace asked)
+picture_lines-once trace asked = (picture_of-titles trace (span_shown trace.head.nodes trace.slots asked)).once
 
 slot-within : (trace : WholeTrace) (asked : Option Span) (t : ℕ) → 1 ≤ length trace.slots
     → is_shown (shown_of trace asked) t ≡ true → t < length trace.slots

@@ -1,7 +1,9 @@
 -- The titles of a picture are the first line of its trace, those of the cells and marks of each slot, and the legend's.
 use Rattle.std.proofs.Common.{◌≡◌, ℕ, ◌+◌, ◌-◌, ◌*◌, List, [], ◌∷◌, ◌++◌, map, length, refl, ◌∙◌, Option, Some, None, codes, decimal}
-use Rattle.std.specs.Prelude.{◌==◌, ◌%◌}
-use Rattle.std.specs.List.{flat_map}
+use Rattle.std.proofs.Common.{◌≤◌, true, arith}
+use Rattle.std.specs.Prelude.{◌==◌, ◌%◌, nat_le}
+use Rattle.std.specs.List.{AllByRecursion, list_all, flat_map}
+use Rattle.std.proofs.lemmas.Bool.{and_parts, leb-true}
 use Rattle.std.proofs.lemmas.List.{append_assoc, append-nil}
 use Rattle.ttp_base.specs.NodeSet.{below}
 use Rattle.ttp_base.specs.Text.{Lines, newline, lines_below}
@@ -36,7 +38,7 @@ use Rattle.picture_laws.proofs.PlainTexts.{plain-keep_meaning, plain-back_meanin
 use Rattle.picture_laws.proofs.PlainTexts.{plain-no_members, plain-count, plain-clocks, plain-apart_shown, plain-keep_name}
 use Rattle.picture_laws.proofs.PlainTexts.{plain-back_name}
 use Rattle.picture_laws.proofs.TitlesIn.{◌▸◌, tag, plain, title, titles_of, place-adds, feed, text-titles, classed-titles}
-use Rattle.picture_laws.proofs.TitlesIn.{cell-titles, mark-titles, Have, ◌▹◌, line, no-lines, map-none, map-each}
+use Rattle.picture_laws.proofs.TitlesIn.{cell-titles, mark-titles, HasOne, Have, ◌▹◌, untitled, titled, no-lines, map-none, map-each}
 use Rattle.picture_laws.proofs.TitlesIn.{flat-none, flat-each, if-none}
 
 -- The head.
@@ -70,11 +72,19 @@ said-titles y said meaning s m =
 back_said-titles : (b : Option Back) → Have (back_said b) []
 back_said-titles None = no-lines
 back_said-titles (Some b) =
-    line (said_line 58 (back_text b) (back_meaning b)) [] [] []
+    untitled (said_line 58 (back_text b) (back_meaning b)) [] []
     (said-titles 58 (back_text b) (back_meaning b) (plain-back b) (plain-back_meaning b)) no-lines
 
+-- lines that all have no title, by computing
+each-untitled : (lines : Lines) → list_all (λ text. nat_le (length (titles_in text)) 0) lines ≡ true
+    → AllByRecursion HasOne lines
+each-untitled [] are = tt
+each-untitled (text ∷ lines) are =
+    let parts = and_parts (nat_le (length (titles_in text)) 0) (list_all (λ other. nat_le (length (titles_in other)) 0) lines) are in
+    let none = leb-true (length (titles_in text)) 0 parts.0 in (omega (arith, none), each-untitled lines parts.1)
+
 styles-titles : Have style_lines []
-styles-titles = record { are = refl }
+styles-titles = record { are = refl; once = each-untitled style_lines refl }
 
 -- the text of the first line of the picture that is seen
 abbrev shown_text : WholeTrace → Span → List ℕ
@@ -96,15 +106,15 @@ head-titles trace span =
     let back = back_said trace.back in
     let name = title first (plain-head trace.head) ▸ feed in
     let all =
-    line (svg_line h) (ended (title_element first) ∷ style_lines) [] (first ∷ []) (svg-titles h)
-    (line (ended (title_element first)) style_lines (first ∷ []) [] (titles_of name) styles-titles)
-    ▹ line (ground h) (text_line [] 12 20 (shown_text trace span) ∷ said ∷ back) [] [] (ground-titles h)
-    (line (text_line [] 12 20 (shown_text trace span)) (said ∷ back) [] []
+    untitled (svg_line h) (ended (title_element first) ∷ style_lines) (first ∷ []) (svg-titles h)
+    (titled (ended (title_element first)) style_lines first [] (titles_of name) styles-titles)
+    ▹ untitled (ground h) (text_line [] 12 20 (shown_text trace span) ∷ said ∷ back) [] (ground-titles h)
+    (untitled (text_line [] 12 20 (shown_text trace span)) (said ∷ back) []
     (text-titles [] 12 20 (shown_text trace span) refl (shown-plain trace span))
-    (line said back [] []
+    (untitled said back []
     (said-titles 40 (keep_text trace.keep) (keep_meaning trace.keep) (plain-keep trace.keep) (plain-keep_meaning trace.keep))
     (back_said-titles trace.back))) in
-    record { are = all.are }
+    record { are = all.are; once = all.once }
 
 -- Bands.
 
@@ -119,9 +129,9 @@ band-titles n span band =
     let clocks = row_line (row_y n span t (n + 1) + 17) (codes "clocks") in
     let all =
     map-none row (below n) (λ k. row-titles (row_y n span t k + 13) (codes "node " ++ decimal k) (simp parts))
-    ▹ line members (clocks ∷ []) [] [] (row-titles (row_y n span t n + 17) (codes "members") refl)
-    (line clocks [] [] [] (row-titles (row_y n span t (n + 1) + 17) (codes "clocks") refl) no-lines) in
-    record { are = all.are }
+    ▹ untitled members (clocks ∷ []) [] (row-titles (row_y n span t n + 17) (codes "members") refl)
+    (untitled clocks [] [] (row-titles (row_y n span t (n + 1) + 17) (codes "clocks") refl) no-lines) in
+    record { are = all.are; once = all.once }
 
 -- Cells.
 
@@ -130,7 +140,7 @@ number-titles n span t =
     let x = column_x n span t + 8 in
     let y = row_y n span t 0 - 5 in
     if-none (t % 5 == 0) (text_line (class_of (codes "slot")) x y (decimal t) ∷ [])
-    (line (text_line (class_of (codes "slot")) x y (decimal t)) [] [] []
+    (untitled (text_line (class_of (codes "slot")) x y (decimal t)) [] []
     (classed-titles (codes "slot") x y (decimal t) refl (plain-decimal t)) no-lines)
 
 node-titles : (head : Head) (t k : ℕ) (node : NodeShown) (most : Option ℕ) (x y : ℕ)
@@ -172,10 +182,10 @@ slot-titles trace span t =
     let all =
     number-titles n span t
     ▹ map-each node name (below n) (λ k. node-titles head t k (node_at slot k) most x (row_y n span t k))
-    ▹ line members (clocks ∷ []) (said ∷ []) (apart ∷ [])
+    ▹ titled members (clocks ∷ []) said (apart ∷ [])
     (members-titles head slot (memberships slot.nodes) t x (row_y n span t n + 4))
-    (line clocks [] (apart ∷ []) [] (clocks-titles t slot x (row_y n span t (n + 1) + 4)) no-lines) in
-    record { are = all.are }
+    (titled clocks [] apart [] (clocks-titles t slot x (row_y n span t (n + 1) + 4)) no-lines) in
+    record { are = all.are; once = all.once }
 
 -- What stands beside the cells.
 
@@ -195,8 +205,8 @@ why-titles n span t slot k =
     let box = why_box w (x + 18) y in
     let word = why_word w (x + 21) (y + 13) in
     if-none (has_left w) (box ∷ word ∷ [])
-    (line box (word ∷ []) [] [] (why_box-titles w (x + 18) y)
-    (line word [] [] [] (classed-titles (codes "why") (x + 21) (y + 13) (word_text w) refl (plain-word w)) no-lines))
+    (untitled box (word ∷ []) [] (why_box-titles w (x + 18) y)
+    (untitled word [] [] (classed-titles (codes "why") (x + 21) (y + 13) (word_text w) refl (plain-word w)) no-lines))
 
 host-titles : (t : ℕ) (by : HostLine) (x y : ℕ) → titles_in (host_mark t by x y) ≡ host_text t by ∷ []
 host-titles t (by_host.Write host number) x y =
@@ -219,7 +229,7 @@ beside-titles trace span t =
     flat-none (why_lines n span t slot) (below n) (why-titles n span t slot)
     ▹ map-each shown (host_text t) slot.hosts (λ by.
     host-titles t by (column_x n span t) (row_y n span t (host_of by))) in
-    record { are = all.are }
+    record { are = all.are; once = all.once }
 
 -- Flags.
 
@@ -238,8 +248,8 @@ flag-titles n span t class x name c s =
     let y = row_y n span t 0 - 17 in
     let word = text_line (class_of class) x y name in
     if-none (is_shown span t) (flag_pole n span t ∷ word ∷ [])
-    (line (flag_pole n span t) (word ∷ []) [] [] (pole-titles n span t)
-    (line word [] [] [] (classed-titles class x y name c s) no-lines))
+    (untitled (flag_pole n span t) (word ∷ []) [] (pole-titles n span t)
+    (untitled word [] [] (classed-titles class x y name c s) no-lines))
 
 keep-titles : (n : ℕ) (span : Span) (k : Keep) → Have (keep_flag n span k) []
 keep-titles n span k =
@@ -259,8 +269,8 @@ legend-titles x y meaning is = text-titles [] (x + 23) (y + 13) meaning refl is
 entry : (first : List ℕ) (x y : ℕ) (name meaning : List ℕ) → titles_in first ≡ name ∷ [] → Plain meaning
     → Have (first ∷ legend_text x y meaning ∷ []) (name ∷ [])
 entry first x y name meaning is m =
-    line first (legend_text x y meaning ∷ []) (name ∷ []) [] is
-    (line (legend_text x y meaning) [] [] [] (legend-titles x y meaning m) no-lines)
+    titled first (legend_text x y meaning ∷ []) name [] is
+    (untitled (legend_text x y meaning) [] [] (legend-titles x y meaning m) no-lines)
 
 words-titles : (top i : ℕ) (ws : List Word) → Have (word_entries top i ws) (map word_text ws)
 words-titles top i [] = no-lines
@@ -272,7 +282,7 @@ words-titles top i (w ∷ ws) =
     entry (cell (word_text w) x y (word_text w) (letter w)) x y (word_text w) (word_text w ++ codes ": " ++ word_meaning w)
     name (plain-meaning w)
     ▹ words-titles top (i + 1) ws in
-    record { are = all.are }
+    record { are = all.are; once = all.once }
 
 cell_entry-titles : (top i : ℕ) (class shown meaning : List ℕ) → Plain class → Plain shown → Plain meaning
     → Have (cell_entry top i class shown meaning) (meaning ∷ [])
@@ -300,14 +310,13 @@ classes-titles top =
     ▹ mark_entry-titles top 6 (codes "write") write_shape 11 (codes "its host writes a message") refl refl refl
     ▹ mark_entry-titles top 7 (codes "read") read_shape 6 (codes "its host reads a node's message") refl refl refl
     ▹ mark_entry-titles top 8 (codes "status") status_shape 6 (codes "its host reads its status") refl refl refl in
-    record { are = all.are }
+    record { are = all.are; once = all.once }
 
 -- The whole.
 
 pub picture_of-titles : (trace : WholeTrace) (span : Span)
-    → titles (picture_of trace span)
-    ≡ first_text trace
-    ∷ (flat_map (cell_titles trace) (slots_in span) ++ (flat_map (host_texts trace) (slots_in span) ++ legend_titles))
+    → Have (picture_of trace span) (first_text trace
+    ∷ (flat_map (cell_titles trace) (slots_in span) ++ (flat_map (host_texts trace) (slots_in span) ++ legend_titles)))
 picture_of-titles trace span =
     let n = trace.head.nodes in
     let top = legend_top n span in
@@ -321,8 +330,10 @@ picture_of-titles trace span =
     ▹ flat-each cells (cell_titles trace) (slots_in span) (slot-titles trace span)
     ▹ flat-each beside (host_texts trace) (slots_in span) (beside-titles trace span)
     ▹ keep-titles n span trace.keep ▹ back-titles n span trace.back ▹ words-titles top 0 words
-    ▹ classes-titles (top + 118) ▹ line (ended (codes "</svg>")) [] [] [] refl no-lines in
-    all.are ∙ nested (first_text trace ∷ []) shown done (map word_text words) class_titles
+    ▹ classes-titles (top + 118) ▹ untitled (ended (codes "</svg>")) [] [] refl no-lines in record {
+      are = all.are ∙ nested (first_text trace ∷ []) shown done (map word_text words) class_titles;
+      once = all.once;
+    }
   where
     nested : (a b c d e : Lines) → a ++ [] ++ b ++ c ++ [] ++ [] ++ d ++ e ++ [] ≡ a ++ (b ++ (c ++ (d ++ e)))
     nested a b c d e = simp (append_assoc, append-nil)

@@ -1,11 +1,12 @@
 -- The titles in a text that is put together of tags and plain texts.
 use Rattle.std.proofs.Common.{◌≡◌, ℕ, ◌+◌, Bool, true, false, cond, ◌&&◌, ◌||◌, List, [], ◌∷◌, ◌++◌, map, drop, codes, decimal}
-use Rattle.std.proofs.Common.{refl, sym, ap, ◌∙◌}
+use Rattle.std.proofs.Common.{refl, sym, ap, subst, ◌∙◌, ◌≤◌, length, arith}
 use Rattle.std.specs.Prelude.{◌==◌}
-use Rattle.std.specs.List.{list_any, flat_map}
+use Rattle.std.specs.List.{AllByRecursion, list_any, flat_map}
 use Rattle.std.proofs.lemmas.List.{append_assoc, append-nil}
 use Rattle.std.proofs.lemmas.List.Concat.{flat_map-append}
 use Rattle.ttp_base.specs.Text.{Lines, newline}
+use Rattle.ttp_world.proofs.LineLists.{each-append}
 use Rattle.picture_text.specs.Cells.{attribute, place, title_element, cell, mark}
 use Rattle.picture_text.specs.Picture.{ended, class_of, text_line}
 use Rattle.picture_laws.specs.Titles.{begins_with, text_before, titles_in, titles}
@@ -27,9 +28,9 @@ pub ◌▸◌ : {x y : List ℕ} {a b : Lines} → Adds x a → Adds y b → Add
 pub tag : (x : List ℕ) → ((rest : List ℕ) → titles_in (x ++ rest) ≡ titles_in rest) → Adds x []
 tag x none = record { before = none }
 
-untitled : (x rest : List ℕ) → Plain x → titles_in (x ++ rest) ≡ titles_in rest
-untitled [] rest is = refl
-untitled (c ∷ x) rest is = go (60 == c) (38 == c) is (untitled x rest)
+skipped : (x rest : List ℕ) → Plain x → titles_in (x ++ rest) ≡ titles_in rest
+skipped [] rest is = refl
+skipped (c ∷ x) rest is = go (60 == c) (38 == c) is (skipped x rest)
   where
     go : (opens other : Bool) → ((opens || other) || list_any is_markup x) ≡ false
         → (Plain x → titles_in (x ++ rest) ≡ titles_in rest)
@@ -41,7 +42,7 @@ untitled (c ∷ x) rest is = go (60 == c) (38 == c) is (untitled x rest)
     go false false is others = others is
 
 pub plain : (x : List ℕ) → Plain x → Adds x []
-plain x is = record { before = λ rest. untitled x rest is }
+plain x is = record { before = λ rest. skipped x rest is }
 
 -- A title.
 
@@ -61,7 +62,7 @@ before-end (c ∷ x) rest is = go (60 == c) (38 == c) is (before-end x rest)
 pub title : (name : List ℕ) → Plain name → Adds (title_element name) (name ∷ [])
 title name is = record { before = λ rest.
   ap (λ (bytes : List ℕ). titles_in (codes "<title>" ++ bytes)) (append_assoc name (codes "</title>") rest)
-  ∙ (λ i. before-end name rest is i ∷ untitled name (codes "</title>" ++ rest) is i) }
+  ∙ (λ i. before-end name rest is i ∷ skipped name (codes "</title>" ++ rest) is i) }
 
 -- all the titles of some bytes
 pub titles_of : {bytes : List ℕ} {names : Lines} → Adds bytes names → titles_in bytes ≡ names
@@ -117,29 +118,50 @@ mark-titles class shape x y name c s n =
 
 -- Lists of lines.
 
--- these lines have these titles
+-- a line has one title at most
+abbrev pub HasOne : List ℕ → Type 0
+HasOne text = length (titles_in text) ≤ 1
+
+-- these lines have these titles, and none has two
 pub record Have (lines names : Lines) : Type 0 where
   pub are : titles lines ≡ names
+  pub once : AllByRecursion HasOne lines
 
 infixl 20 ◌▹◌
 pub ◌▹◌ : {xs ys : Lines} {a b : Lines} → Have xs a → Have ys b → Have (xs ++ ys) (a ++ b)
-◌▹◌ {xs} {ys} p q = record { are = flat_map-append titles_in xs ys ∙ (λ i. p.are i ++ q.are i) }
+◌▹◌ {xs} {ys} p q = record {
+  are = flat_map-append titles_in xs ys ∙ (λ i. p.are i ++ q.are i);
+  once = each-append HasOne xs ys p.once q.once;
+}
 
--- a line before others
-pub line : (text : List ℕ) (lines : Lines) (a b : Lines) → titles_in text ≡ a → Have lines b → Have (text ∷ lines) (a ++ b)
-line text lines a b is others = record { are = λ i. is i ++ others.are i }
+has-one : (text : List ℕ) (names : Lines) → length names ≤ 1 → titles_in text ≡ names → HasOne text
+has-one text names few is = subst (λ (lines : Lines). length lines ≤ 1) (sym is) few
+
+-- a line before others: without a title, and with one
+pub untitled : (text : List ℕ) (lines names : Lines) → titles_in text ≡ [] → Have lines names → Have (text ∷ lines) names
+untitled text lines names is others = record {
+  are = λ i. is i ++ others.are i;
+  once = (has-one text [] (omega arith) is, others.once);
+}
+
+pub titled : (text : List ℕ) (lines : Lines) (name : List ℕ) (names : Lines) → titles_in text ≡ name ∷ [] → Have lines names
+    → Have (text ∷ lines) (name ∷ names)
+titled text lines name names is others = record {
+  are = λ i. is i ++ others.are i;
+  once = (has-one text (name ∷ []) (omega arith) is, others.once);
+}
 
 pub no-lines : Have [] []
-no-lines = record { are = refl }
+no-lines = record { are = refl; once = tt }
 
 pub map-none : {X : Type 0} (f : X → List ℕ) (xs : List X) → ((x : X) → titles_in (f x) ≡ []) → Have (map f xs) []
 map-none f [] each = no-lines
-map-none f (x ∷ xs) each = line (f x) (map f xs) [] [] (each x) (map-none f xs each)
+map-none f (x ∷ xs) each = untitled (f x) (map f xs) [] (each x) (map-none f xs each)
 
 pub map-each : {X : Type 0} (f name : X → List ℕ) (xs : List X) → ((x : X) → titles_in (f x) ≡ name x ∷ [])
     → Have (map f xs) (map name xs)
 map-each f name [] each = no-lines
-map-each f name (x ∷ xs) each = line (f x) (map f xs) (name x ∷ []) (map name xs) (each x) (map-each f name xs each)
+map-each f name (x ∷ xs) each = titled (f x) (map f xs) (name x) (map name xs) (each x) (map-each f name xs each)
 
 pub flat-none : {X : Type 0} (f : X → Lines) (xs : List X) → ((x : X) → Have (f x) []) → Have (flat_map f xs) []
 flat-none f [] each = no-lines

@@ -1,5 +1,8 @@
-use Rattle.picture_laws.proofs.LinesAndTitles.{picture_lines-titles}
+use Rattle.picture_laws.proofs.LinesAndTitles.{picture_lines-titles, picture_lines-once}
 use Rattle.picture_laws.proofs.laws.titles_of_pictures.Goals as goal
 
-pub returns : goal.returns
-returns c = picture_lines-titles
+pub returns-clause-order : goal.returns-clause-order
+returns-clause-order c = picture_lines-titles
+
+pub returns-clause-once : goal.returns-clause-once
+returns-clause-once c = picture_lines-once
