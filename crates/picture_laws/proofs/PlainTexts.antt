@@ -32,12 +32,9 @@ use Rattle.picture_text.specs.Cells.{member_digits, each_node, membership_text, 
 use Rattle.picture_text.specs.Picture.{more_text}
 use Rattle.picture_text.specs.Tables.{letter, word_meaning, rule_meanings, returning_meanings, keep_meaning, back_meaning}
 use Rattle.picture_text.specs.Tables.{keep_name, back_name}
+use Rattle.picture_laws.specs.Titles.{is_markup}
 
--- `<` or `&`
-abbrev pub is_markup : ℕ → Bool
-is_markup c = (60 == c) || (38 == c)
-
--- a text without them
+-- a text without `<` and `&`
 abbrev pub Plain : List ℕ → Type 0
 Plain text = list_any is_markup text ≡ false
 

@@ -9,8 +9,8 @@ use Rattle.ttp_base.specs.Text.{Lines, newline}
 use Rattle.ttp_world.proofs.LineLists.{each-append}
 use Rattle.picture_text.specs.Cells.{attribute, place, title_element, cell, mark}
 use Rattle.picture_text.specs.Picture.{ended, class_of, text_line}
-use Rattle.picture_laws.specs.Titles.{begins_with, text_before, titles_in, titles}
-use Rattle.picture_laws.proofs.PlainTexts.{is_markup, Plain, plain-decimal, parts}
+use Rattle.picture_laws.specs.Titles.{begins_with, text_before, titles_in, titles, is_markup}
+use Rattle.picture_laws.proofs.PlainTexts.{Plain, plain-decimal, parts}
 
 -- before any text, these bytes add these titles
 pub record Adds (bytes : List ℕ) (names : Lines) : Type 0 where

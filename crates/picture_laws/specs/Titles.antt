@@ -39,6 +39,10 @@ titles_in (c ∷ text) =
 abbrev pub titles : Lines → Lines
 titles lines = flat_map titles_in lines
 
+-- `<` or `&`, which stand for nothing by themselves in the text of an element
+abbrev pub is_markup : ℕ → Bool
+is_markup c = (60 == c) || (38 == c)
+
 -- Lines of a trace.
 
 -- the lines of the nodes after slot t, and those of hosts in it, without their line feeds

@@ -1,6 +1,6 @@
 //! Laws of the titles of a picture. The functions have no code: their contracts are the laws.
 ghost use Rattle.std.specs.Prelude.{◌≡◌, ℕ, ◌<◌, ◌≤◌, ◌^◌, true, false, List, [], ◌∷◌, map, length, count_by, filter, Option, Ok};
-ghost use Rattle.std.specs.List.{AllByRecursion};
+ghost use Rattle.std.specs.List.{AllByRecursion, list_any};
 ghost use Rattle.std.specs.Str.{bytes_eq};
 ghost use Rattle.ttp_base.specs.Text.{lines_of};
 ghost use Rattle.whole_trace.specs.Whole.{WholeTrace, whole_in};
@@ -8,17 +8,19 @@ ghost use Rattle.shown_slot.specs.Trace.{node_at, node_text};
 ghost use Rattle.picture_text.specs.declared.window.Span.{Span as Slots};
 ghost use Rattle.picture_text.specs.Picture.{ended, slot_at, is_shown, picture_lines};
 ghost use Rattle.picture_laws.specs.Titles.{begins_with, titles_in, titles, trace_texts, is_of_slot, node_start, bare_lines};
-ghost use Rattle.picture_laws.specs.Titles.{shown_of, picture_titles};
+ghost use Rattle.picture_laws.specs.Titles.{is_markup, shown_of, picture_titles};
 
 /// The titles of a picture, as they are read out of its lines: the first line of the trace; of each slot shown the
 /// lines of its nodes, what members they hold, and how far clocks are apart; of each slot shown the lines of its
 /// hosts; and those of the legend (`order`). No line of a picture has two, so each is that of an element of its
-/// own (`once`).
+/// own (`once`); and none has a byte that would need an escape (`plain`).
 pub fn titles_of_pictures()
     ensures order { (trace : WholeTrace) (asked : Option Slots)
         → titles (picture_lines trace asked) ≡ picture_titles trace asked }
     ensures once { (trace : WholeTrace) (asked : Option Slots)
         → AllByRecursion (λ line. length (titles_in line) ≤ 1) (picture_lines trace asked) }
+    ensures plain { (trace : WholeTrace) (asked : Option Slots)
+        → AllByRecursion (λ title. list_any is_markup title ≡ false) (titles (picture_lines trace asked)) }
 {}
 
 /// A text that is a trace has the lines that its value gives, in this order, and no others.
