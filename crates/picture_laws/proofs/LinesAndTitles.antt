@@ -1,7 +1,7 @@
 -- The lines of a text that is a trace are the titles of its picture.
-use Rattle.std.proofs.Common.{◌≡◌, ℕ, ◌+◌, ◌<◌, ◌≤◌, ◌^◌, Bool, true, false, List, [], ◌∷◌, length, filter, refl, sym, ap, ◌∙◌, arith}
+use Rattle.std.proofs.Common.{◌≡◌, ℕ, ◌<◌, ◌≤◌, ◌^◌, true, false, List, [], ◌∷◌, length, filter, refl, sym, ap, ◌∙◌, arith}
 use Rattle.std.proofs.Common.{nat_le, not, map, subst, ◌++◌, Option}
-use Rattle.std.specs.Prelude.{Result, Ok}
+use Rattle.std.specs.Prelude.{Ok}
 use Rattle.std.specs.List.{AllByRecursion, flat_map, list_all, list_any}
 use Rattle.std.proofs.lemmas.Bool.{and_parts, leb-true, not-true}
 use Rattle.ttp_base.specs.NodeSet.{below}
@@ -15,14 +15,14 @@ use Rattle.picture_text.specs.declared.window.Span.{Span}
 use Rattle.picture_text.specs.Cells.{memberships}
 use Rattle.picture_text.specs.Picture.{slot_at, slots_in, is_shown, picture_lines}
 use Rattle.picture_text.specs.Window.{span_shown}
-use Rattle.picture_laws.specs.Titles.{begins_with, titles, is_of_slot, node_start, bare_lines, shown_of, picture_titles}
-use Rattle.picture_laws.specs.Titles.{is_markup, node_texts, host_texts, members_said, clocks_said, cell_titles, legend_titles}
+use Rattle.picture_laws.specs.Titles.{begins_with, titles, is_of_slot, node_start, texts_of_lines, shown_of, picture_titles}
+use Rattle.picture_laws.specs.Titles.{is_markup, texts_of_nodes, texts_of_hosts, members_said, clocks_said, cell_titles, legend_titles}
 use Rattle.picture_laws.proofs.PlainTexts.{Plain, plain-head, plain-node, plain-host, plain-members, plain-no_members, plain-clocks}
 use Rattle.picture_laws.proofs.TitlesIn.{HasOne}
 use Rattle.picture_laws.proofs.PictureTitles.{picture_of-titles}
 use Rattle.picture_laws.proofs.SlotTitles.{titles-of_slot, title-of_node, no-title-past, last-shown}
 use Rattle.picture_laws.proofs.SlotTexts.{bare-text, texts-of_slot}
-use Rattle.picture_laws.proofs.TextLines.{IsTextOf, text-lines}
+use Rattle.picture_laws.proofs.TextLines.{text-lines}
 
 pub picture_lines-titles : (trace : WholeTrace) (asked : Option Span)
     → titles (picture_lines trace asked) ≡ picture_titles trace asked
@@ -51,7 +51,7 @@ plain-cells trace t =
     let head = trace.head in
     let slot = slot_at trace t in
     let held = memberships slot.nodes in
-    each-append Plain (node_texts trace t) (members_said head t slot held ∷ clocks_said t slot ∷ [])
+    each-append Plain (texts_of_nodes trace t) (members_said head t slot held ∷ clocks_said t slot ∷ [])
     (plain-map (λ k. node_text head t k (node_at slot k)) (below head.nodes) (λ k. plain-node head t k (node_at slot k)))
     (plain-said head t slot held, (plain-clocks t (clock_range slot.nodes), tt))
 
@@ -66,12 +66,12 @@ pub picture_lines-plain : (trace : WholeTrace) (asked : Option Span)
 picture_lines-plain trace asked =
     let shown = slots_in (shown_of trace asked) in
     let cells = flat_map (cell_titles trace) shown in
-    let hosts = flat_map (host_texts trace) shown in
+    let hosts = flat_map (texts_of_hosts trace) shown in
     subst (AllByRecursion Plain) (sym (picture_lines-titles trace asked)) (
       plain-head trace.head,
       each-append Plain cells (hosts ++ legend_titles) (plain-flat (cell_titles trace) shown (plain-cells trace))
           (each-append Plain hosts legend_titles
-          (plain-flat (host_texts trace) shown (λ t.
+          (plain-flat (texts_of_hosts trace) shown (λ t.
           plain-map (host_text t) (slot_at trace t).hosts (plain-host t))) (plain-all legend_titles refl)),
     )
 
@@ -87,7 +87,7 @@ slot-within trace asked t some shows =
 
 pub slot-lines : (text : List ℕ) (trace : WholeTrace) (asked : Option Span) (t : ℕ) → whole_in text ≡ Ok trace
     → is_shown (shown_of trace asked) t ≡ true
-    → filter (is_of_slot t) (titles (picture_lines trace asked)) ≡ filter (is_of_slot t) (bare_lines text)
+    → filter (is_of_slot t) (titles (picture_lines trace asked)) ≡ filter (is_of_slot t) (texts_of_lines text)
 slot-lines text trace asked t is shows =
     let whole = text-lines text trace is in
     ap (filter (is_of_slot t)) (picture_lines-titles trace asked) ∙ titles-of_slot trace asked t whole.slots shows

@@ -1,12 +1,12 @@
 -- The titles of a picture are the first line of its trace, those of the cells and marks of each slot, and the legend's.
 use Rattle.std.proofs.Common.{◌≡◌, ℕ, ◌+◌, ◌-◌, ◌*◌, List, [], ◌∷◌, ◌++◌, map, length, refl, ◌∙◌, Option, Some, None, codes, decimal}
-use Rattle.std.proofs.Common.{◌≤◌, true, arith}
+use Rattle.std.proofs.Common.{true, arith}
 use Rattle.std.specs.Prelude.{◌==◌, ◌%◌, nat_le}
 use Rattle.std.specs.List.{AllByRecursion, list_all, flat_map}
 use Rattle.std.proofs.lemmas.Bool.{and_parts, leb-true}
 use Rattle.std.proofs.lemmas.List.{append_assoc, append-nil}
 use Rattle.ttp_base.specs.NodeSet.{below}
-use Rattle.ttp_base.specs.Text.{Lines, newline, lines_below}
+use Rattle.ttp_base.specs.Text.{Lines}
 use Rattle.ttp_world.specs.declared.keep.Back.{Back}
 use Rattle.ttp_world.specs.declared.keep.Keep.{Keep}
 use Rattle.ttp_world.specs.declared.script.Source.TheVariants as source
@@ -26,11 +26,11 @@ use Rattle.picture_text.specs.Cells.{members_cell_of, members_cell, apart_text, 
 use Rattle.picture_text.specs.Picture.{ended, class_of, text_line, size, svg_line, style_lines, more_text, said_line, back_said}
 use Rattle.picture_text.specs.Picture.{head_lines, row_line, band_lines, number_lines, slot_at, cell_lines, why_lines}
 use Rattle.picture_text.specs.Picture.{why_box, why_word, beside_lines, is_shown, flag_pole, flag_lines, keep_flag, back_flag, legend_x, legend_y, legend_text}
-use Rattle.picture_text.specs.Picture.{word_entries, cell_entry, mark_entry, class_entries, slots_in, picture_of, picture_lines}
+use Rattle.picture_text.specs.Picture.{word_entries, cell_entry, mark_entry, class_entries, slots_in, picture_of}
 use Rattle.picture_text.specs.Tables.{words, letter, word_meaning, keep_meaning, back_meaning, keep_slot, keep_name}
 use Rattle.picture_text.specs.Tables.{back_slot, back_name}
-use Rattle.picture_text.specs.Window.{span_shown, strange_past, columns, bands, legend_top, height, column_x, row_y}
-use Rattle.picture_laws.specs.Titles.{titles_in, titles, node_texts, host_texts, members_said, clocks_said, cell_titles}
+use Rattle.picture_text.specs.Window.{strange_past, columns, bands, legend_top, height, column_x, row_y}
+use Rattle.picture_laws.specs.Titles.{titles_in, texts_of_hosts, members_said, clocks_said, cell_titles}
 use Rattle.picture_laws.specs.Titles.{class_titles, legend_titles}
 use Rattle.picture_laws.proofs.PlainTexts.{Plain, parts, plain-decimal, plain-word, plain-letter, plain-meaning}
 use Rattle.picture_laws.proofs.PlainTexts.{plain-head, plain-keep, plain-back, plain-node, plain-host, plain-more}
@@ -220,7 +220,7 @@ host-titles t (by_host.Read host (source.Node p) number payload) x y =
     mark-titles (codes "read") read_shape (x + 11) (y + 12) (host_text t by) refl refl (plain-host t by)
 
 beside-titles : (trace : WholeTrace) (span : Span) (t : ℕ)
-    → Have (beside_lines trace.head.nodes span t (slot_at trace t)) (host_texts trace t)
+    → Have (beside_lines trace.head.nodes span t (slot_at trace t)) (texts_of_hosts trace t)
 beside-titles trace span t =
     let n = trace.head.nodes in
     let slot = slot_at trace t in
@@ -316,19 +316,19 @@ classes-titles top =
 
 pub picture_of-titles : (trace : WholeTrace) (span : Span)
     → Have (picture_of trace span) (first_text trace
-    ∷ (flat_map (cell_titles trace) (slots_in span) ++ (flat_map (host_texts trace) (slots_in span) ++ legend_titles)))
+    ∷ (flat_map (cell_titles trace) (slots_in span) ++ (flat_map (texts_of_hosts trace) (slots_in span) ++ legend_titles)))
 picture_of-titles trace span =
     let n = trace.head.nodes in
     let top = legend_top n span in
     let cells : ℕ → Lines = λ t. cell_lines trace.head span t (slot_at trace t) in
     let beside : ℕ → Lines = λ t. beside_lines n span t (slot_at trace t) in
     let shown = flat_map (cell_titles trace) (slots_in span) in
-    let done = flat_map (host_texts trace) (slots_in span) in
+    let done = flat_map (texts_of_hosts trace) (slots_in span) in
     let all =
     head-titles trace span
     ▹ flat-none (band_lines n span) (below (bands n span)) (band-titles n span)
     ▹ flat-each cells (cell_titles trace) (slots_in span) (slot-titles trace span)
-    ▹ flat-each beside (host_texts trace) (slots_in span) (beside-titles trace span)
+    ▹ flat-each beside (texts_of_hosts trace) (slots_in span) (beside-titles trace span)
     ▹ keep-titles n span trace.keep ▹ back-titles n span trace.back ▹ words-titles top 0 words
     ▹ classes-titles (top + 118) ▹ untitled (ended (codes "</svg>")) [] [] refl no-lines in record {
       are = all.are ∙ nested (first_text trace ∷ []) shown done (map word_text words) class_titles;

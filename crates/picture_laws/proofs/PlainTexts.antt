@@ -1,5 +1,5 @@
 -- What no text of a picture has: a byte that begins a tag or stands for another.
-use Rattle.std.proofs.Common.{◌≡◌, ℕ, zero, suc, ◌+◌, ◌-◌, ◌/◌, ◌%◌, ◌<◌, Bool, true, false, cond, ◌&&◌, ◌||◌, not, nat_lt}
+use Rattle.std.proofs.Common.{◌≡◌, ℕ, zero, suc, ◌+◌, ◌-◌, ◌/◌, ◌%◌, Bool, true, false, cond, ◌&&◌, ◌||◌, not, nat_lt}
 use Rattle.std.proofs.Common.{List, [], ◌∷◌, ◌++◌, refl, ◌∙◌, ℤ, pos, negsuc, Option, Some, None, arith, codes, decimal, length, get_or}
 use Rattle.std.specs.Prelude.{◌==◌, nat_le, is_some}
 use Rattle.std.specs.List.{AllByRecursion, list_any, flat_map}
@@ -56,7 +56,7 @@ markup-onto (suc k) n text =
     let more = digit_glyph false (n % 10) ∷ text in
     let here : list_any is_markup more ≡ list_any is_markup text = rw (glyph-plain (nat_lt (n % 10) 10) (n % 10) refl) refl in
     let go : (last : Bool)
-        → list_any is_markup (cond last more (digits_onto k 10 false (n / 10) more)) ≡ list_any is_markup text =
+    → list_any is_markup (cond last more (digits_onto k 10 false (n / 10) more)) ≡ list_any is_markup text =
     elim [ true ↦ here | false ↦ markup-onto k (n / 10) more ∙ here ] in
     go (n / 10 == 0)
 

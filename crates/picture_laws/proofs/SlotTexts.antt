@@ -1,5 +1,5 @@
 -- The lines of a text that is a trace, slot by slot.
-use Rattle.std.proofs.Common.{◌≡◌, ◌≢◌, ℕ, ◌+◌, ◌-◌, ◌<◌, ◌≤◌, ◌^◌, Bool, true, false, cond, List, [], ◌∷◌, ◌++◌, map, take, length}
+use Rattle.std.proofs.Common.{◌≡◌, ◌≢◌, ℕ, ◌-◌, ◌<◌, ◌≤◌, ◌^◌, Bool, true, false, cond, List, [], ◌∷◌, ◌++◌, map, take, length}
 use Rattle.std.proofs.Common.{filter, refl, sym, ap, ◌∙◌, arith, Option, Some, None, option_map, option_to_list}
 use Rattle.std.specs.List.{flat_map, count_by}
 use Rattle.std.specs.Str.{bytes_eq}
@@ -18,7 +18,7 @@ use Rattle.line_text.proofs.LabelTexts.{spelled}
 use Rattle.whole_trace.specs.Whole.{WholeTrace}
 use Rattle.shown_slot.specs.Trace.{first_text}
 use Rattle.picture_text.specs.Picture.{ended}
-use Rattle.picture_laws.specs.Titles.{node_texts, host_texts, slot_texts, trace_texts, is_of_slot, bare_lines}
+use Rattle.picture_laws.specs.Titles.{texts_of_nodes, texts_of_hosts, texts_of_slot, texts_of_trace, is_of_slot, texts_of_lines}
 use Rattle.picture_laws.proofs.LineStarts.{of-other}
 use Rattle.picture_laws.proofs.SlotTitles.{filter-flat, one-alone, left_out, nodes-own, nodes-other, hosts-own, hosts-other}
 use Rattle.picture_laws.proofs.TextLines.{IsTextOf}
@@ -38,8 +38,8 @@ bare-each : (texts : Lines) → map bare (map ended texts) ≡ texts
 bare-each [] = refl
 bare-each (text ∷ texts) = λ i. bare-ended text i ∷ bare-each texts i
 
-pub bare-text : (text : List ℕ) (trace : WholeTrace) → IsTextOf (lines_of text) trace → bare_lines text ≡ trace_texts trace
-bare-text text trace is = ap (map bare) is.are ∙ bare-each (trace_texts trace)
+pub bare-text : (text : List ℕ) (trace : WholeTrace) → IsTextOf (lines_of text) trace → texts_of_lines text ≡ texts_of_trace trace
+bare-text text trace is = ap (map bare) is.are ∙ bare-each (texts_of_trace trace)
 
 -- The lines of a slot.
 
@@ -52,33 +52,33 @@ back-no t None = refl
 back-no t (Some (back.Yes start)) = refl
 back-no t (Some (back.No rule slot)) = refl
 
-slot-own : (trace : WholeTrace) (t : ℕ) → filter (is_of_slot t) (slot_texts trace t) ≡ slot_texts trace t
+slot-own : (trace : WholeTrace) (t : ℕ) → filter (is_of_slot t) (texts_of_slot trace t) ≡ texts_of_slot trace t
 slot-own trace t =
-    filter-append (is_of_slot t) (node_texts trace t) (host_texts trace t)
+    filter-append (is_of_slot t) (texts_of_nodes trace t) (texts_of_hosts trace t)
     ∙ (λ i. nodes-own trace t i ++ hosts-own trace t i)
 
 slot-other : (trace : WholeTrace) (t s : ℕ) → t < 2 ^ 64 → s < 2 ^ 64 → s ≢ t
-    → filter (is_of_slot t) (slot_texts trace s) ≡ []
+    → filter (is_of_slot t) (texts_of_slot trace s) ≡ []
 slot-other trace t s few less ne =
     let none = λ (rest : List ℕ). of-other t s rest few less ne in
-    filter-append (is_of_slot t) (node_texts trace s) (host_texts trace s)
+    filter-append (is_of_slot t) (texts_of_nodes trace s) (texts_of_hosts trace s)
     ∙ (λ i. nodes-other trace (is_of_slot t) s none i ++ hosts-other trace (is_of_slot t) s none i)
 
 pub texts-of_slot : (trace : WholeTrace) (t : ℕ) → length trace.slots ≤ 20000 → t < length trace.slots
-    → filter (is_of_slot t) (trace_texts trace) ≡ slot_texts trace t
+    → filter (is_of_slot t) (texts_of_trace trace) ≡ texts_of_slot trace t
 texts-of_slot trace t few within =
     let p = is_of_slot t in
     let ends : Lines = option_to_list (option_map back_text trace.back) in
-    let slots : Lines = flat_map (slot_texts trace) (below (length trace.slots)) in
+    let slots : Lines = flat_map (texts_of_slot trace) (below (length trace.slots)) in
     left_out (p (first_text trace)) (first_text trace) (filter p (slots ++ (keep_text trace.keep ∷ ends))) refl
     ∙ filter-append p slots (keep_text trace.keep ∷ ends)
-    ∙ (λ i. (filter-flat p (slot_texts trace) (below (length trace.slots))
-    ∙ one-alone (λ s. filter p (slot_texts trace s)) 0 (length trace.slots) t (omega arith) (omega (arith, within)) (λ s less ne.
+    ∙ (λ i. (filter-flat p (texts_of_slot trace) (below (length trace.slots))
+    ∙ one-alone (λ s. filter p (texts_of_slot trace s)) 0 (length trace.slots) t (omega arith) (omega (arith, within)) (λ s less ne.
     slot-other trace t s (omega (arith, within, few)) (omega (arith, less, few)) ne)
     ∙ slot-own trace t) i
     ++ (left_out (p (keep_text trace.keep)) (keep_text trace.keep) (filter p ends) (keep-no t trace.keep)
     ∙ back-no t trace.back) i)
-    ∙ append-nil (slot_texts trace t)
+    ∙ append-nil (texts_of_slot trace t)
 
 -- How often a line stands.
 

@@ -1,5 +1,5 @@
 -- Of a slot that is shown the titles are the lines of its nodes and of its hosts.
-use Rattle.std.proofs.Common.{◌≡◌, ◌≢◌, ℕ, zero, suc, ◌+◌, ◌-◌, ◌*◌, ◌<◌, ◌≤◌, ◌^◌, Bool, true, false, cond, ◌&&◌, ◌||◌, min, map, nat_le}
+use Rattle.std.proofs.Common.{◌≡◌, ◌≢◌, ℕ, zero, suc, ◌+◌, ◌-◌, ◌*◌, ◌<◌, ◌≤◌, ◌^◌, Bool, true, false, cond, ◌||◌, min, map, nat_le}
 use Rattle.std.proofs.Common.{List, [], ◌∷◌, ◌++◌, length, filter, refl, sym, ap, ◌∙◌, arith, codes, decimal, Option, Some, None, inl, inr}
 use Rattle.std.specs.Prelude.{◌==◌}
 use Rattle.std.specs.List.{flat_map, range_with_len}
@@ -23,8 +23,8 @@ use Rattle.shown_slot.specs.Trace.{node_at, first_text, node_text, host_text}
 use Rattle.picture_text.specs.declared.window.Span.{Span}
 use Rattle.picture_text.specs.Cells.{memberships, membership_text, apart_text}
 use Rattle.picture_text.specs.Picture.{slot_at, slots_in, is_shown}
-use Rattle.picture_text.specs.Window.{columns, chosen_span, span_shown, slot_of_interest}
-use Rattle.picture_laws.specs.Titles.{begins_with, node_texts, host_texts, is_of_slot, node_start, members_said, clocks_said}
+use Rattle.picture_text.specs.Window.{columns, span_shown, slot_of_interest}
+use Rattle.picture_laws.specs.Titles.{begins_with, texts_of_nodes, texts_of_hosts, is_of_slot, node_start, members_said, clocks_said}
 use Rattle.picture_laws.specs.Titles.{cell_titles, legend_titles, shown_of, picture_titles}
 use Rattle.picture_laws.proofs.LineStarts.{of-other, of-own, start-other, start-own, start-node, start-neighbour}
 
@@ -177,7 +177,7 @@ two-left p lines kept one other is first second =
     ∙ (λ i. is i ++ (left_out (p one) one (filter p (other ∷ [])) first ∙ left_out (p other) other [] second) i)
     ∙ append-nil kept
 
-pub nodes-own : (trace : WholeTrace) (t : ℕ) → filter (is_of_slot t) (node_texts trace t) ≡ node_texts trace t
+pub nodes-own : (trace : WholeTrace) (t : ℕ) → filter (is_of_slot t) (texts_of_nodes trace t) ≡ texts_of_nodes trace t
 nodes-own trace t =
     let head = trace.head in
     let slot = slot_at trace t in
@@ -185,12 +185,12 @@ nodes-own trace t =
     ap (is_of_slot t) (node-begins head t k (node_at slot k))
     ∙ of-own t (codes " node " ++ (decimal k ++ 32 ∷ node_rest head (node_at slot k))))
 
-cells-own : (trace : WholeTrace) (t : ℕ) → filter (is_of_slot t) (cell_titles trace t) ≡ node_texts trace t
+cells-own : (trace : WholeTrace) (t : ℕ) → filter (is_of_slot t) (cell_titles trace t) ≡ texts_of_nodes trace t
 cells-own trace t =
     let head = trace.head in
     let slot = slot_at trace t in
     let held = memberships slot.nodes in
-    two-left (is_of_slot t) (node_texts trace t) (node_texts trace t) (members_said head t slot held) (clocks_said t slot)
+    two-left (is_of_slot t) (texts_of_nodes trace t) (texts_of_nodes trace t) (members_said head t slot held) (clocks_said t slot)
     (nodes-own trace t)
     (ap (is_of_slot t) (members-begin head t slot held) ∙ of-own t (32 ∷ said_rest head slot held) ∙ no-line head slot held)
     (ap (is_of_slot t) (clocks-begin t slot) ∙ of-own t (32 ∷ clocks_rest slot))
@@ -199,7 +199,7 @@ cells-own trace t =
 abbrev pub FailsIn : (List ℕ → Bool) → ℕ → Type 0
 FailsIn p s = (rest : List ℕ) → p (codes "slot " ++ (decimal s ++ 32 ∷ rest)) ≡ false
 
-pub nodes-other : (trace : WholeTrace) (p : List ℕ → Bool) (s : ℕ) → FailsIn p s → filter p (node_texts trace s) ≡ []
+pub nodes-other : (trace : WholeTrace) (p : List ℕ → Bool) (s : ℕ) → FailsIn p s → filter p (texts_of_nodes trace s) ≡ []
 nodes-other trace p s none =
     let head = trace.head in
     let slot = slot_at trace s in
@@ -210,11 +210,11 @@ cells-other : (trace : WholeTrace) (p : List ℕ → Bool) (s : ℕ) → FailsIn
 cells-other trace p s none =
     let slot = slot_at trace s in
     let held = memberships slot.nodes in
-    two-left p (node_texts trace s) [] (members_said trace.head s slot held) (clocks_said s slot) (nodes-other trace p s none)
+    two-left p (texts_of_nodes trace s) [] (members_said trace.head s slot held) (clocks_said s slot) (nodes-other trace p s none)
     (ap p (members-begin trace.head s slot held) ∙ none (said_rest trace.head slot held))
     (ap p (clocks-begin s slot) ∙ none (clocks_rest slot))
 
-pub hosts-own : (trace : WholeTrace) (t : ℕ) → filter (is_of_slot t) (host_texts trace t) ≡ host_texts trace t
+pub hosts-own : (trace : WholeTrace) (t : ℕ) → filter (is_of_slot t) (texts_of_hosts trace t) ≡ texts_of_hosts trace t
 hosts-own trace t =
     filter-all (is_of_slot t) (host_text t) (slot_at trace t).hosts (λ by.
     ap (is_of_slot t) (host-begins t by) ∙ of-own t (codes " host " ++ host_rest by)
@@ -224,7 +224,7 @@ hosts-own trace t =
     either true = refl
     either false = refl
 
-pub hosts-other : (trace : WholeTrace) (p : List ℕ → Bool) (s : ℕ) → FailsIn p s → filter p (host_texts trace s) ≡ []
+pub hosts-other : (trace : WholeTrace) (p : List ℕ → Bool) (s : ℕ) → FailsIn p s → filter p (texts_of_hosts trace s) ≡ []
 hosts-other trace p s none =
     filter-no p (host_text s) (slot_at trace s).hosts (λ by.
     ap p (host-begins s by) ∙ none (codes "host " ++ host_rest by))
@@ -251,7 +251,7 @@ last-shown n slots (Some asked) = omega arith
 passed : (trace : WholeTrace) (asked : Option Span) (p : List ℕ → Bool) (t : ℕ) (nodes hosts : Lines)
     → length trace.slots ≤ 20000 → is_shown (shown_of trace asked) t ≡ true
     → p (first_text trace) ≡ false → filter p legend_titles ≡ []
-    → filter p (cell_titles trace t) ≡ nodes → filter p (host_texts trace t) ≡ hosts
+    → filter p (cell_titles trace t) ≡ nodes → filter p (texts_of_hosts trace t) ≡ hosts
     → ((s : ℕ) → s < 2 ^ 64 → s ≢ t → FailsIn p s)
     → filter p (picture_titles trace asked) ≡ nodes ++ hosts
 passed trace asked p t nodes hosts few shows first legend cells marks others =
@@ -262,15 +262,15 @@ passed trace asked p t nodes hosts few shows first legend cells marks others =
     let high = leb-true t span.last parts.1 in
     let last = last-shown trace.head.nodes trace.slots asked in
     let upper : Lines = flat_map (cell_titles trace) (slots_in span) in
-    let lower : Lines = flat_map (host_texts trace) (slots_in span) in
+    let lower : Lines = flat_map (texts_of_hosts trace) (slots_in span) in
     let above : filter p upper ≡ nodes =
     filter-flat p (cell_titles trace) (slots_in span)
     ∙ one-alone (λ s. filter p (cell_titles trace s)) span.first n t low (omega (arith, low, high)) (λ s less ne.
     cells-other trace p s (others s (below_limit span.first span.last s t (length trace.slots) low high last few less) ne))
     ∙ cells in
     let below : filter p lower ≡ hosts =
-    filter-flat p (host_texts trace) (slots_in span)
-    ∙ one-alone (λ s. filter p (host_texts trace s)) span.first n t low (omega (arith, low, high)) (λ s less ne.
+    filter-flat p (texts_of_hosts trace) (slots_in span)
+    ∙ one-alone (λ s. filter p (texts_of_hosts trace s)) span.first n t low (omega (arith, low, high)) (λ s less ne.
     hosts-other trace p s (others s (below_limit span.first span.last s t (length trace.slots) low high last few less) ne))
     ∙ marks in
     left_out (p (first_text trace)) (first_text trace) (filter p (upper ++ (lower ++ legend_titles))) first
@@ -290,7 +290,7 @@ none-passed trace asked p first legend others =
     let span = shown_of trace asked in
     let n = span.last + 1 - span.first in
     let upper : Lines = flat_map (cell_titles trace) (slots_in span) in
-    let lower : Lines = flat_map (host_texts trace) (slots_in span) in
+    let lower : Lines = flat_map (texts_of_hosts trace) (slots_in span) in
     let is : (s : ℕ) → span.first ≤ s → s < span.first + n → is_shown span s ≡ true = λ s low high.
     and_from (nat_le span.first s) (nat_le s span.last) (le-leb span.first s low) (le-leb s span.last (omega (arith, low, high))) in
     let above : filter p upper ≡ [] =
@@ -298,8 +298,8 @@ none-passed trace asked p first legend others =
     ∙ none-past (λ s. filter p (cell_titles trace s)) span.first n (λ s low high.
     cells-other trace p s (others s (is s low high))) in
     let below : filter p lower ≡ [] =
-    filter-flat p (host_texts trace) (slots_in span)
-    ∙ none-past (λ s. filter p (host_texts trace s)) span.first n (λ s low high.
+    filter-flat p (texts_of_hosts trace) (slots_in span)
+    ∙ none-past (λ s. filter p (texts_of_hosts trace s)) span.first n (λ s low high.
     hosts-other trace p s (others s (is s low high))) in
     left_out (p (first_text trace)) (first_text trace) (filter p (upper ++ (lower ++ legend_titles))) first
     ∙ filter-append p upper (lower ++ legend_titles)
@@ -330,9 +330,9 @@ no-title-past trace asked t few limit hidden =
 
 pub titles-of_slot : (trace : WholeTrace) (asked : Option Span) (t : ℕ) → length trace.slots ≤ 20000
     → is_shown (shown_of trace asked) t ≡ true
-    → filter (is_of_slot t) (picture_titles trace asked) ≡ node_texts trace t ++ host_texts trace t
+    → filter (is_of_slot t) (picture_titles trace asked) ≡ texts_of_nodes trace t ++ texts_of_hosts trace t
 titles-of_slot trace asked t few shows =
-    passed trace asked (is_of_slot t) t (node_texts trace t) (host_texts trace t) few shows refl refl (cells-own trace t)
+    passed trace asked (is_of_slot t) t (texts_of_nodes trace t) (texts_of_hosts trace t) few shows refl refl (cells-own trace t)
     (hosts-own trace t) (λ s less ne rest. of-other t s rest (shown-limit trace asked t few shows) less ne)
 
 pub title-of_node : (trace : WholeTrace) (asked : Option Span) (t k : ℕ) → length trace.slots ≤ 20000
@@ -345,13 +345,13 @@ title-of_node trace asked t k few small shows within =
     let held = memberships slot.nodes in
     let text : ℕ → List ℕ = λ j. node_text head t j (node_at slot j) in
     let p = begins_with (node_start t k) in
-    let nodes : filter p (node_texts trace t) ≡ text k ∷ [] =
+    let nodes : filter p (texts_of_nodes trace t) ≡ text k ∷ [] =
     one-passes p text head.nodes k within
     (ap p (node-begins head t k (node_at slot k)) ∙ start-node t k (node_rest head (node_at slot k))) (λ j less ne.
     ap p (node-begins head t j (node_at slot j))
     ∙ start-neighbour t k j (node_rest head (node_at slot j)) (omega (arith, within, small)) (omega (arith, less, small)) ne) in
     let cells =
-    two-left p (node_texts trace t) (text k ∷ []) (members_said head t slot held) (clocks_said t slot) nodes
+    two-left p (texts_of_nodes trace t) (text k ∷ []) (members_said head t slot held) (clocks_said t slot) nodes
     (ap p (members-begin head t slot held) ∙ start-own t k (32 ∷ said_rest head slot held)
     ∙ no-node head slot held (decimal k ++ codes " "))
     (ap p (clocks-begin t slot) ∙ start-own t k (32 ∷ clocks_rest slot)) in

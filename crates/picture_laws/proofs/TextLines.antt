@@ -6,7 +6,7 @@ use Rattle.std.specs.Prelude.{◌==◌, Result, Ok, Err}
 use Rattle.std.specs.List.{flat_map, range_with_len}
 use Rattle.std.specs.Str.{bytes_eq}
 use Rattle.std.proofs.lemmas.Bool.{and_parts, eqb-true, ltb-true, ltb-false, ne_eqb}
-use Rattle.std.proofs.lemmas.List.{append_assoc, take-append-drop, get_or-drop, drop-drop, map-append}
+use Rattle.std.proofs.lemmas.List.{append_assoc, take-append-drop, get_or-drop, drop-drop}
 use Rattle.ttp_base.specs.NodeSet.{below}
 use Rattle.ttp_base.specs.Text.{Lines, newline, lines_of}
 use Rattle.ttp_world.specs.declared.keep.Back.{Back}
@@ -34,9 +34,9 @@ use Rattle.whole_trace.specs.Whole.{no_lines, no_slots, with_node, with_node_lin
 use Rattle.whole_trace.specs.Whole.{whole_or_line, whole_in}
 use Rattle.whole_trace.proofs.Heads.{few_slots, few_nodes}
 use Rattle.whole_trace.proofs.SlotCounts.{slot_count}
-use Rattle.shown_slot.specs.Trace.{no_node, node_at, head_text, first_text, keeps_text, returns_text, node_text, host_text}
+use Rattle.shown_slot.specs.Trace.{no_node, head_text, first_text, node_text, host_text}
 use Rattle.picture_text.specs.Picture.{ended, no_slot, slot_at}
-use Rattle.picture_laws.specs.Titles.{node_texts, host_texts, slot_texts, trace_texts}
+use Rattle.picture_laws.specs.Titles.{texts_of_hosts, texts_of_slot, texts_of_trace}
 
 -- A line.
 
@@ -143,9 +143,6 @@ is-line_of head t k s j w peer message wide members accepted rejected a z then e
       next = sym (some_same (next_node head t k) then g.1);
     }
 
-later : (k : ℕ) → (k + 1 == 0) ≡ false
-later k = ne_eqb (k + 1) 0 (λ e. omega (arith, e))
-
 next-says : (head : Head) (t k : ℕ) (lines : Lines) (from : SlotsFrom) (o : Outline)
     → Say (next_node head t k) lines from o → SaysSlots head lines (from_node head t (k + 1) from o) o
 next-says head t k lines from o says = by (nat_lt (k + 1) head.nodes) refl says
@@ -154,8 +151,9 @@ next-says head t k lines from o says = by (nat_lt (k + 1) head.nodes) refl says
         → Say (cond b (due.Node head t (k + 1)) (due.Host head t false)) lines from o
         → SaysSlots head lines (from_node head t (k + 1) from o) o
     by true is say =
+        let later : (k + 1 == 0) ≡ false = ne_eqb (k + 1) 0 (λ e. omega (arith, e)) in
         subst (λ (first : Bool). SaysSlots head lines
-            (cond first (from_slot head t from.slots o) (from_node head t (k + 1) from o)) o) (later k) say
+        (cond first (from_slot head t from.slots o) (from_node head t (k + 1) from o)) o) later say
     by false is say =
         let past = ltb-false (k + 1) head.nodes is in
         let none : 0 ≡ head.nodes - (k + 1) = omega (arith, past) in
@@ -335,9 +333,14 @@ end (due.Nothing head k b) o e =
     subst (λ (x : Outline). SaysNothing head k b [] x) (ok_same last o e)
     (record { of = refl; keep = refl; back = refl; are = refl })
 
-later-ok : (r : Result Outline ℕ) (o : Outline) → one_line_later r ≡ Ok o → r ≡ Ok o
-later-ok (Ok outline) o e = e
-later-ok (Err n) o e = cc
+-- what is judged of lines from one on is judged of the others
+judged-later : (then : Due) (lines : Lines) (o : Outline) → one_line_later (judged then lines) ≡ Ok o
+    → judged then lines ≡ Ok o
+judged-later then lines o e = by (judged then lines) e
+  where
+    by : (r : Result Outline ℕ) → one_line_later r ≡ Ok o → r ≡ Ok o
+    by (Ok outline) e = e
+    by (Err n) e = cc
 
 value-step : (at : Due) (v : Option TraceLine) (text : List ℕ) (lines : Lines) (o : Outline) → value_of text ≡ v
     → ((then : Due) → judged then lines ≡ Ok o → Say then lines (slots_from lines) o)
@@ -351,7 +354,7 @@ value-step at (Some v) text lines o is others e = on (due_after at v) refl e
     on None then judges = cc
     on (Some due) then judges =
         step at due v text lines (slots_from lines) o (value-says text v is) then
-        (others due (later-ok (judged due lines) o judges))
+        (others due (judged-later due lines o judges))
 
 lines-say : (at : Due) (lines : Lines) (o : Outline) → judged at lines ≡ Ok o → Say at lines (slots_from lines) o
 lines-say at [] o e = end at o e
@@ -380,9 +383,9 @@ slots-numbered head t (suc n) slots =
     λ i. slot_left head t (here i)
     ++ (ap (slots_left head (t + 1) n) rest ∙ slots-numbered head (t + 1) n slots) i
 
-slot-numbered : (trace : WholeTrace) (t : ℕ) → slot_left trace.head t (slot_at trace t) ≡ slot_texts trace t
+slot-numbered : (trace : WholeTrace) (t : ℕ) → slot_left trace.head t (slot_at trace t) ≡ texts_of_slot trace t
 slot-numbered trace t =
-    λ i. nodes-numbered trace.head t 0 trace.head.nodes (slot_at trace t).nodes i ++ host_texts trace t
+    λ i. nodes-numbered trace.head t 0 trace.head.nodes (slot_at trace t).nodes i ++ texts_of_hosts trace t
 
 flat-same : (f g : ℕ → Lines) (ts : List ℕ) → ((t : ℕ) → f t ≡ g t) → flat_map f ts ≡ flat_map g ts
 flat-same f g [] same = refl
@@ -392,7 +395,7 @@ flat-same f g (t ∷ ts) same = λ i. same t i ++ flat-same f g ts same i
 
 -- what a text says that is a trace
 pub record IsTextOf (lines : Lines) (trace : WholeTrace) : Type 0 where
-  pub are : lines ≡ map ended (trace_texts trace)
+  pub are : lines ≡ map ended (texts_of_trace trace)
   pub some : 1 ≤ length trace.slots
   pub slots : length trace.slots ≤ 20000
   pub nodes : trace.head.nodes ≤ 24
@@ -406,9 +409,9 @@ header-says first lines o head is right says counted =
     let few = few_slots head right in
     let same : o.head.slots ≡ head.slots = ap (λ (h : Head). h.slots) says.of in
     let count : suc (head.slots - (0 + 1)) ≡ length slots = omega (arith, few.0, counted, same) in
-    let numbered : slots_left head 0 (suc (head.slots - (0 + 1))) slots ≡ flat_map (slot_texts whole) (below (length slots)) =
+    let numbered : slots_left head 0 (suc (head.slots - (0 + 1))) slots ≡ flat_map (texts_of_slot whole) (below (length slots)) =
     (λ i. slots_left (sym says.of i) 0 (count i) slots) ∙ slots-numbered o.head 0 (length slots) slots
-    ∙ flat-same (λ s. slot_left o.head s (get_or slots s no_slot)) (slot_texts whole) (below (length slots))
+    ∙ flat-same (λ s. slot_left o.head s (get_or slots s no_slot)) (texts_of_slot whole) (below (length slots))
     (slot-numbered whole) in record {
       are =
           (λ i. (is ∙ (λ j. ended (head_text (sym says.of j)))) i ∷ says.are i)
@@ -429,7 +432,7 @@ first-says first lines o e = on (value_of first) refl e
         let head : Head =
         record { version = version; nodes = nodes; rounds = rounds; slots = slots; schedule = schedule } in
         let g = guarded (is_head head) (Some (due.Node head 0 0)) then is in
-        let all = lines-say then lines o (later-ok (judged then lines) o judges) in
+        let all = lines-say then lines o (judged-later then lines o judges) in
         header-says first lines o head (value-says first (line.Header version nodes rounds slots schedule) said) g.0
         (say-same (due.Node head 0 0) then lines (slots_from lines) o g.1 all) (slot_count (first ∷ lines) o e)
     header v (Some then) said is judges = cc

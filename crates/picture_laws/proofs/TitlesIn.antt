@@ -8,9 +8,9 @@ use Rattle.std.proofs.lemmas.List.Concat.{flat_map-append}
 use Rattle.ttp_base.specs.Text.{Lines, newline}
 use Rattle.ttp_world.proofs.LineLists.{each-append}
 use Rattle.picture_text.specs.Cells.{attribute, place, title_element, cell, mark}
-use Rattle.picture_text.specs.Picture.{ended, class_of, text_line}
+use Rattle.picture_text.specs.Picture.{class_of, text_line}
 use Rattle.picture_laws.specs.Titles.{begins_with, text_before, titles_in, titles, is_markup}
-use Rattle.picture_laws.proofs.PlainTexts.{Plain, plain-decimal, parts}
+use Rattle.picture_laws.proofs.PlainTexts.{Plain, parts}
 
 -- before any text, these bytes add these titles
 pub record Adds (bytes : List ℕ) (names : Lines) : Type 0 where
@@ -20,8 +20,8 @@ infixl 20 ◌▸◌
 pub ◌▸◌ : {x y : List ℕ} {a b : Lines} → Adds x a → Adds y b → Adds (x ++ y) (a ++ b)
 ◌▸◌ {x} {y} {a} {b} p q = record {
   before = λ rest.
-  ap titles_in (append_assoc x y rest) ∙ p.before (y ++ rest) ∙ ap (λ (others : Lines). a ++ others) (q.before rest)
-  ∙ sym (append_assoc a b (titles_in rest));
+      ap titles_in (append_assoc x y rest) ∙ p.before (y ++ rest) ∙ ap (λ (others : Lines). a ++ others) (q.before rest)
+      ∙ sym (append_assoc a b (titles_in rest));
 }
 
 -- a tag or the like, by computing
@@ -60,9 +60,11 @@ before-end (c ∷ x) rest is = go (60 == c) (38 == c) is (before-end x rest)
     go false false is others = ap (λ (bytes : List ℕ). c ∷ bytes) (others is)
 
 pub title : (name : List ℕ) → Plain name → Adds (title_element name) (name ∷ [])
-title name is = record { before = λ rest.
-  ap (λ (bytes : List ℕ). titles_in (codes "<title>" ++ bytes)) (append_assoc name (codes "</title>") rest)
-  ∙ (λ i. before-end name rest is i ∷ skipped name (codes "</title>" ++ rest) is i) }
+title name is = record {
+  before = λ rest.
+      ap (λ (bytes : List ℕ). titles_in (codes "<title>" ++ bytes)) (append_assoc name (codes "</title>") rest)
+      ∙ (λ i. before-end name rest is i ∷ skipped name (codes "</title>" ++ rest) is i);
+}
 
 -- all the titles of some bytes
 pub titles_of : {bytes : List ℕ} {names : Lines} → Adds bytes names → titles_in bytes ≡ names

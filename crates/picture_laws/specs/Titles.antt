@@ -39,27 +39,27 @@ titles_in (c ∷ text) =
 abbrev pub titles : Lines → Lines
 titles lines = flat_map titles_in lines
 
--- `<` or `&`, which stand for nothing by themselves in the text of an element
+-- `<` or `&`, which are not read as themselves in the text of an element
 abbrev pub is_markup : ℕ → Bool
 is_markup c = (60 == c) || (38 == c)
 
 -- Lines of a trace.
 
 -- the lines of the nodes after slot t, and those of hosts in it, without their line feeds
-abbrev pub node_texts : WholeTrace → ℕ → Lines
-node_texts trace t = map (λ k. node_text trace.head t k (node_at (slot_at trace t) k)) (below trace.head.nodes)
+abbrev pub texts_of_nodes : WholeTrace → ℕ → Lines
+texts_of_nodes trace t = map (λ k. node_text trace.head t k (node_at (slot_at trace t) k)) (below trace.head.nodes)
 
-abbrev pub host_texts : WholeTrace → ℕ → Lines
-host_texts trace t = map (host_text t) (slot_at trace t).hosts
+abbrev pub texts_of_hosts : WholeTrace → ℕ → Lines
+texts_of_hosts trace t = map (host_text t) (slot_at trace t).hosts
 
 -- all lines of a trace, without their line feeds: the first, those of each slot, and those of the tests
-abbrev pub slot_texts : WholeTrace → ℕ → Lines
-slot_texts trace t = node_texts trace t ++ host_texts trace t
+abbrev pub texts_of_slot : WholeTrace → ℕ → Lines
+texts_of_slot trace t = texts_of_nodes trace t ++ texts_of_hosts trace t
 
-abbrev pub trace_texts : WholeTrace → Lines
-trace_texts trace =
+abbrev pub texts_of_trace : WholeTrace → Lines
+texts_of_trace trace =
     first_text trace
-    ∷ (flat_map (slot_texts trace) (below (length trace.slots))
+    ∷ (flat_map (texts_of_slot trace) (below (length trace.slots))
     ++ (keeps_text trace ∷ option_to_list (returns_text trace)))
 
 -- a line is that of a node or a host in slot t
@@ -73,8 +73,8 @@ abbrev pub node_start : ℕ → ℕ → List ℕ
 node_start t k = codes "slot " ++ decimal t ++ codes " node " ++ decimal k ++ codes " "
 
 -- the lines of a text, without their line feeds
-abbrev pub bare_lines : List ℕ → Lines
-bare_lines text = map (λ line. take (length line - 1) line) (lines_of text)
+abbrev pub texts_of_lines : List ℕ → Lines
+texts_of_lines text = map (λ line. take (length line - 1) line) (lines_of text)
 
 -- The titles that a picture has.
 
@@ -90,7 +90,7 @@ clocks_said t slot = codes "slot " ++ decimal t ++ codes " clocks apart " ++ apa
 abbrev pub cell_titles : WholeTrace → ℕ → Lines
 cell_titles trace t =
     let slot = slot_at trace t in
-    node_texts trace t ++ (members_said trace.head t slot (memberships slot.nodes) ∷ clocks_said t slot ∷ [])
+    texts_of_nodes trace t ++ (members_said trace.head t slot (memberships slot.nodes) ∷ clocks_said t slot ∷ [])
 
 -- the titles of the legend: what its classes and marks mean, and these behind its words
 abbrev pub class_titles : Lines
@@ -116,4 +116,4 @@ shown_of trace asked = span_shown trace.head.nodes trace.slots asked
 abbrev pub picture_titles : WholeTrace → Option Span → Lines
 picture_titles trace asked =
     let shown = slots_in (shown_of trace asked) in
-    first_text trace ∷ (flat_map (cell_titles trace) shown ++ (flat_map (host_texts trace) shown ++ legend_titles))
+    first_text trace ∷ (flat_map (cell_titles trace) shown ++ (flat_map (texts_of_hosts trace) shown ++ legend_titles))

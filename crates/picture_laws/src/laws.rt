@@ -7,7 +7,7 @@ ghost use Rattle.whole_trace.specs.Whole.{WholeTrace, whole_in};
 ghost use Rattle.shown_slot.specs.Trace.{node_at, node_text};
 ghost use Rattle.picture_text.specs.declared.window.Span.{Span as Slots};
 ghost use Rattle.picture_text.specs.Picture.{ended, slot_at, is_shown, picture_lines};
-ghost use Rattle.picture_laws.specs.Titles.{begins_with, titles_in, titles, trace_texts, is_of_slot, node_start, bare_lines};
+ghost use Rattle.picture_laws.specs.Titles.{begins_with, titles_in, titles, texts_of_trace, is_of_slot, node_start, texts_of_lines};
 ghost use Rattle.picture_laws.specs.Titles.{is_markup, shown_of, picture_titles};
 
 /// The titles of a picture, as they are read out of its lines: the first line of the trace; of each slot shown the
@@ -26,7 +26,7 @@ pub fn titles_of_pictures()
 /// A text that is a trace has the lines that its value gives, in this order, and no others.
 pub fn lines_of_texts()
     ensures { (text : List ℕ) (trace : WholeTrace) → whole_in text ≡ Ok trace
-        → lines_of text ≡ map ended (trace_texts trace) }
+        → lines_of text ≡ map ended (texts_of_trace trace) }
 {}
 
 /// The lines of a trace are the titles of its picture. Of a slot that is shown the titles that are lines of nodes and
@@ -36,10 +36,10 @@ pub fn lines_of_texts()
 pub fn lines_are_titles()
     ensures slot { (text : List ℕ) (trace : WholeTrace) (asked : Option Slots) (t : ℕ) → whole_in text ≡ Ok trace
         → is_shown (shown_of trace asked) t ≡ true
-        → filter (is_of_slot t) (titles (picture_lines trace asked)) ≡ filter (is_of_slot t) (bare_lines text) }
+        → filter (is_of_slot t) (titles (picture_lines trace asked)) ≡ filter (is_of_slot t) (texts_of_lines text) }
     ensures line { (text : List ℕ) (trace : WholeTrace) (asked : Option Slots) (t : ℕ) (line : List ℕ)
         → whole_in text ≡ Ok trace → is_shown (shown_of trace asked) t ≡ true → is_of_slot t line ≡ true
-        → count_by (bytes_eq line) (titles (picture_lines trace asked)) ≡ count_by (bytes_eq line) (bare_lines text) }
+        → count_by (bytes_eq line) (titles (picture_lines trace asked)) ≡ count_by (bytes_eq line) (texts_of_lines text) }
     ensures node { (text : List ℕ) (trace : WholeTrace) (asked : Option Slots) (t k : ℕ) → whole_in text ≡ Ok trace
         → is_shown (shown_of trace asked) t ≡ true → k < trace.head.nodes
         → filter (begins_with (node_start t k)) (titles (picture_lines trace asked))

@@ -1,19 +1,19 @@
 //! The titles of a picture.
 ghost use Rattle.std.specs.Prelude.{◌≡◌, [], ◌∷◌, codes, filter, None, true, false};
 ghost use Rattle.picture_text.specs.Picture.{picture_lines};
-ghost use Rattle.picture_laws.specs.Titles.{begins_with, titles_in, titles, node_start, is_of_slot, trace_texts};
+ghost use Rattle.picture_laws.specs.Titles.{begins_with, titles_in, titles, node_start, is_of_slot, texts_of_trace};
 ghost use Rattle.view_rows.specs.Small.{small};
 ghost use Rattle.view_rows.specs.SmallTitles.{small_titles, small_lines, lines_slot_0};
 
 /// The titles of the picture of the small trace, whole, and the lines of its text.
 pub fn small_trace()
     ensures titles { titles (picture_lines small None) ≡ small_titles }
-    ensures lines { trace_texts small ≡ small_lines }
+    ensures lines { texts_of_trace small ≡ small_lines }
 {}
 
 /// Of slot 0 the titles that are lines of the trace are its lines, in their order, and that of node 2 is one.
 pub fn lines_of_a_slot()
-    ensures titles { filter (is_of_slot 0) small_titles ≡ lines_slot_0 }
+    ensures titles { filter (is_of_slot 0) (titles (picture_lines small None)) ≡ lines_slot_0 }
     ensures lines { filter (is_of_slot 0) small_lines ≡ lines_slot_0 }
     ensures node { filter (begins_with (node_start 0 2)) small_titles
         ≡ codes "slot 0 node 2 correct peer 0 msg - mem 0006 acc 3 rej 1 ack none clock 0" ∷ [] }
