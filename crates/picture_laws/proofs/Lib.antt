@@ -1,4 +1,3 @@
-pub mod PlainTexts
 pub mod TitlesIn
 pub mod PictureTitles
 pub mod LineStarts

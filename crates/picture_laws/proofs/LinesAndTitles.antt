@@ -1,23 +1,23 @@
 -- The lines of a text that is a trace are the titles of its picture.
 use Rattle.std.proofs.Common.{◌≡◌, ℕ, ◌<◌, ◌≤◌, ◌^◌, true, false, List, [], ◌∷◌, length, filter, refl, sym, ap, ◌∙◌, arith}
-use Rattle.std.proofs.Common.{nat_le, not, map, subst, ◌++◌, Option}
-use Rattle.std.specs.Prelude.{Ok}
+use Rattle.std.proofs.Common.{◌||◌, nat_le, not, map, subst, ◌++◌, Option}
+use Rattle.std.specs.Prelude.{◌==◌, Ok}
 use Rattle.std.specs.List.{AllByRecursion, flat_map, list_all, list_any}
-use Rattle.std.proofs.lemmas.Bool.{and_parts, leb-true, not-true}
+use Rattle.std.proofs.lemmas.Bool.{and_parts, or_parts, or_from, leb-true, not-true}
 use Rattle.ttp_base.specs.NodeSet.{below}
 use Rattle.ttp_base.specs.Text.{Lines}
 use Rattle.ttp_world.proofs.LineLists.{each-append}
 use Rattle.whole_trace.specs.declared.shown.Head.{Head}
 use Rattle.whole_trace.specs.Whole.{SlotLines, WholeTrace, whole_in}
 use Rattle.shown_slot.specs.Nodes.{clock_range}
-use Rattle.shown_slot.specs.Trace.{node_at, node_text, host_text}
+use Rattle.shown_slot.specs.Trace.{node_at, first_text, node_text, host_text}
 use Rattle.picture_text.specs.declared.window.Span.{Span}
 use Rattle.picture_text.specs.Cells.{memberships}
 use Rattle.picture_text.specs.Picture.{slot_at, slots_in, is_shown, picture_lines}
 use Rattle.picture_text.specs.Window.{span_shown}
 use Rattle.picture_laws.specs.Titles.{begins_with, titles, is_of_slot, node_start, texts_of_lines, shown_of, picture_titles}
 use Rattle.picture_laws.specs.Titles.{is_markup, texts_of_nodes, texts_of_hosts, members_said, clocks_said, cell_titles, legend_titles}
-use Rattle.picture_laws.proofs.PlainTexts.{Plain, plain-head, plain-node, plain-host, plain-members, plain-no_members, plain-clocks}
+use Rattle.picture_text.proofs.PlainTexts.{is_special, Plain, plain-head, plain-node, plain-host, plain-members, plain-no_members, plain-clocks}
 use Rattle.picture_laws.proofs.TitlesIn.{HasOne}
 use Rattle.picture_laws.proofs.PictureTitles.{picture_of-titles}
 use Rattle.picture_laws.proofs.SlotTitles.{titles-of_slot, title-of_node, no-title-past, last-shown}
@@ -33,44 +33,57 @@ picture_lines-once trace asked = (picture_of-titles trace (span_shown trace.head
 
 -- The titles need no escapes.
 
-plain-map : {X : Type 0} (f : X → List ℕ) (xs : List X) → ((x : X) → Plain (f x)) → AllByRecursion Plain (map f xs)
-plain-map f [] each = tt
-plain-map f (x ∷ xs) each = (each x, plain-map f xs each)
+abbrev Unmarked : List ℕ → Type 0
+Unmarked text = list_any is_markup text ≡ false
 
-plain-flat : {X : Type 0} (f : X → Lines) (xs : List X) → ((x : X) → AllByRecursion Plain (f x))
-    → AllByRecursion Plain (flat_map f xs)
+-- as plain texts do not
+unmarked : (text : List ℕ) → Plain text → Unmarked text
+unmarked [] is = refl
+unmarked (c ∷ text) is =
+    let parts = or_parts (is_special c) (list_any is_special text) is in
+    or_from (is_markup c) (list_any is_markup text) (or_parts (c == 10) ((60 == c) || (38 == c)) parts.0).1
+    (unmarked text parts.1)
+
+plain-map : {X : Type 0} (f : X → List ℕ) (xs : List X) → ((x : X) → Plain (f x)) → AllByRecursion Unmarked (map f xs)
+plain-map f [] each = tt
+plain-map f (x ∷ xs) each = (unmarked (f x) (each x), plain-map f xs each)
+
+plain-flat : {X : Type 0} (f : X → Lines) (xs : List X) → ((x : X) → AllByRecursion Unmarked (f x))
+    → AllByRecursion Unmarked (flat_map f xs)
 plain-flat f [] each = tt
-plain-flat f (x ∷ xs) each = each-append Plain (f x) (flat_map f xs) (each x) (plain-flat f xs each)
+plain-flat f (x ∷ xs) each = each-append Unmarked (f x) (flat_map f xs) (each x) (plain-flat f xs each)
 
 plain-said : (head : Head) (t : ℕ) (slot : SlotLines) (held : List ℕ) → Plain (members_said head t slot held)
 plain-said head t slot [] = plain-no_members t
 plain-said head t slot (members ∷ others) = plain-members head t slot
 
-plain-cells : (trace : WholeTrace) (t : ℕ) → AllByRecursion Plain (cell_titles trace t)
+plain-cells : (trace : WholeTrace) (t : ℕ) → AllByRecursion Unmarked (cell_titles trace t)
 plain-cells trace t =
     let head = trace.head in
     let slot = slot_at trace t in
     let held = memberships slot.nodes in
-    each-append Plain (texts_of_nodes trace t) (members_said head t slot held ∷ clocks_said t slot ∷ [])
-    (plain-map (λ k. node_text head t k (node_at slot k)) (below head.nodes) (λ k. plain-node head t k (node_at slot k)))
-    (plain-said head t slot held, (plain-clocks t (clock_range slot.nodes), tt))
+    each-append Unmarked (texts_of_nodes trace t) (members_said head t slot held ∷ clocks_said t slot ∷ [])
+    (plain-map (λ k. node_text head t k (node_at slot k)) (below head.nodes) (λ k. plain-node head t k (node_at slot k))) (
+      unmarked (members_said head t slot held) (plain-said head t slot held),
+      (unmarked (clocks_said t slot) (plain-clocks t (clock_range slot.nodes)), tt),
+    )
 
-plain-all : (texts : Lines) → list_all (λ text. not (list_any is_markup text)) texts ≡ true → AllByRecursion Plain texts
+plain-all : (texts : Lines) → list_all (λ text. not (list_any is_markup text)) texts ≡ true → AllByRecursion Unmarked texts
 plain-all [] are = tt
 plain-all (text ∷ texts) are =
     let parts = and_parts (not (list_any is_markup text)) (list_all (λ other. not (list_any is_markup other)) texts) are in
     (not-true (list_any is_markup text) parts.0, plain-all texts parts.1)
 
 pub picture_lines-plain : (trace : WholeTrace) (asked : Option Span)
-    → AllByRecursion Plain (titles (picture_lines trace asked))
+    → AllByRecursion Unmarked (titles (picture_lines trace asked))
 picture_lines-plain trace asked =
     let shown = slots_in (shown_of trace asked) in
     let cells = flat_map (cell_titles trace) shown in
     let hosts = flat_map (texts_of_hosts trace) shown in
-    subst (AllByRecursion Plain) (sym (picture_lines-titles trace asked)) (
-      plain-head trace.head,
-      each-append Plain cells (hosts ++ legend_titles) (plain-flat (cell_titles trace) shown (plain-cells trace))
-          (each-append Plain hosts legend_titles
+    subst (AllByRecursion Unmarked) (sym (picture_lines-titles trace asked)) (
+      unmarked (first_text trace) (plain-head trace.head),
+      each-append Unmarked cells (hosts ++ legend_titles) (plain-flat (cell_titles trace) shown (plain-cells trace))
+          (each-append Unmarked hosts legend_titles
           (plain-flat (texts_of_hosts trace) shown (λ t.
           plain-map (host_text t) (slot_at trace t).hosts (plain-host t))) (plain-all legend_titles refl)),
     )

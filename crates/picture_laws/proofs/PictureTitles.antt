@@ -23,20 +23,20 @@ use Rattle.picture_text.specs.declared.window.Span.{Span}
 use Rattle.picture_text.specs.Cells.{attribute, title_element, cell, mark, write_shape, read_shape, status_shape}
 use Rattle.picture_text.specs.Cells.{memberships, held_by_most, node_class, node_cell, members_title, count_of}
 use Rattle.picture_text.specs.Cells.{members_cell_of, members_cell, apart_text, apart_shown, clocks_cell, host_of, host_mark}
-use Rattle.picture_text.specs.Picture.{ended, class_of, text_line, size, svg_line, style_lines, more_text, said_line, back_said}
+use Rattle.picture_text.specs.Picture.{ended, class_of, text_line, size, svg_line, style_lines, said_line, back_said}
 use Rattle.picture_text.specs.Picture.{head_lines, row_line, band_lines, number_lines, slot_at, cell_lines, why_lines}
 use Rattle.picture_text.specs.Picture.{why_box, why_word, beside_lines, is_shown, flag_pole, flag_lines, keep_flag, back_flag, legend_x, legend_y, legend_text}
 use Rattle.picture_text.specs.Picture.{word_entries, cell_entry, mark_entry, class_entries, slots_in, picture_of}
 use Rattle.picture_text.specs.Tables.{words, letter, word_meaning, keep_meaning, back_meaning, keep_slot, keep_name}
 use Rattle.picture_text.specs.Tables.{back_slot, back_name}
-use Rattle.picture_text.specs.Window.{strange_past, columns, bands, legend_top, height, column_x, row_y}
+use Rattle.picture_text.specs.Window.{columns, bands, legend_top, height, column_x, row_y}
 use Rattle.picture_laws.specs.Titles.{titles_in, texts_of_hosts, members_said, clocks_said, cell_titles}
 use Rattle.picture_laws.specs.Titles.{class_titles, legend_titles}
-use Rattle.picture_laws.proofs.PlainTexts.{Plain, parts, plain-decimal, plain-word, plain-letter, plain-meaning}
-use Rattle.picture_laws.proofs.PlainTexts.{plain-head, plain-keep, plain-back, plain-node, plain-host, plain-more}
-use Rattle.picture_laws.proofs.PlainTexts.{plain-keep_meaning, plain-back_meaning, plain-class, plain-members}
-use Rattle.picture_laws.proofs.PlainTexts.{plain-no_members, plain-count, plain-clocks, plain-apart_shown, plain-keep_name}
-use Rattle.picture_laws.proofs.PlainTexts.{plain-back_name}
+use Rattle.picture_text.proofs.PlainTexts.{Plain, parts, shown_text, plain-shown, plain-decimal, plain-word, plain-letter, plain-meaning}
+use Rattle.picture_text.proofs.PlainTexts.{plain-head, plain-keep, plain-back, plain-node, plain-host}
+use Rattle.picture_text.proofs.PlainTexts.{plain-keep_meaning, plain-back_meaning, plain-class, plain-members}
+use Rattle.picture_text.proofs.PlainTexts.{plain-no_members, plain-count, plain-clocks, plain-apart_shown, plain-keep_name}
+use Rattle.picture_text.proofs.PlainTexts.{plain-back_name}
 use Rattle.picture_laws.proofs.TitlesIn.{◌▸◌, tag, plain, title, titles_of, place-adds, feed, text-titles, classed-titles}
 use Rattle.picture_laws.proofs.TitlesIn.{cell-titles, mark-titles, HasOne, Have, ◌▹◌, untitled, titled, no-lines, map-none, map-each}
 use Rattle.picture_laws.proofs.TitlesIn.{flat-none, flat-each, if-none}
@@ -86,18 +86,6 @@ each-untitled (text ∷ lines) are =
 styles-titles : Have style_lines []
 styles-titles = record { are = refl; once = each-untitled style_lines refl }
 
--- the text of the first line of the picture that is seen
-abbrev shown_text : WholeTrace → Span → List ℕ
-shown_text trace span =
-    first_text trace ++ codes ", shown: slots " ++ decimal span.first ++ codes " to " ++ decimal span.last
-    ++ more_text (strange_past span.last trace.slots)
-
-shown-plain : (trace : WholeTrace) (span : Span) → Plain (shown_text trace span)
-shown-plain trace span =
-    let first = plain-head trace.head in
-    let more = plain-more (strange_past span.last trace.slots) in
-    simp (parts, first, more)
-
 head-titles : (trace : WholeTrace) (span : Span) → Have (head_lines trace span) (first_text trace ∷ [])
 head-titles trace span =
     let h = height trace.head.nodes span in
@@ -110,7 +98,7 @@ head-titles trace span =
     (titled (ended (title_element first)) style_lines first [] (titles_of name) styles-titles)
     ▹ untitled (ground h) (text_line [] 12 20 (shown_text trace span) ∷ said ∷ back) [] (ground-titles h)
     (untitled (text_line [] 12 20 (shown_text trace span)) (said ∷ back) []
-    (text-titles [] 12 20 (shown_text trace span) refl (shown-plain trace span))
+    (text-titles [] 12 20 (shown_text trace span) refl (plain-shown trace span))
     (untitled said back []
     (said-titles 40 (keep_text trace.keep) (keep_meaning trace.keep) (plain-keep trace.keep) (plain-keep_meaning trace.keep))
     (back_said-titles trace.back))) in

@@ -9,8 +9,8 @@ use Rattle.ttp_base.specs.Text.{Lines, newline}
 use Rattle.ttp_world.proofs.LineLists.{each-append}
 use Rattle.picture_text.specs.Cells.{attribute, place, title_element, cell, mark}
 use Rattle.picture_text.specs.Picture.{class_of, text_line}
-use Rattle.picture_laws.specs.Titles.{begins_with, text_before, titles_in, titles, is_markup}
-use Rattle.picture_laws.proofs.PlainTexts.{Plain, parts}
+use Rattle.picture_laws.specs.Titles.{begins_with, text_before, titles_in, titles}
+use Rattle.picture_text.proofs.PlainTexts.{is_special, Plain, parts}
 
 -- before any text, these bytes add these titles
 pub record Adds (bytes : List ℕ) (names : Lines) : Type 0 where
@@ -30,16 +30,17 @@ tag x none = record { before = none }
 
 skipped : (x rest : List ℕ) → Plain x → titles_in (x ++ rest) ≡ titles_in rest
 skipped [] rest is = refl
-skipped (c ∷ x) rest is = go (60 == c) (38 == c) is (skipped x rest)
+skipped (c ∷ x) rest is = go (c == 10) (60 == c) (38 == c) is (skipped x rest)
   where
-    go : (opens other : Bool) → ((opens || other) || list_any is_markup x) ≡ false
+    go : (feed opens other : Bool) → ((feed || (opens || other)) || list_any is_special x) ≡ false
         → (Plain x → titles_in (x ++ rest) ≡ titles_in rest)
         → cond (opens && begins_with (codes "title>") (x ++ rest))
         (text_before (codes "</title>") (drop 6 (x ++ rest)) ∷ titles_in (x ++ rest)) (titles_in (x ++ rest))
         ≡ titles_in rest
-    go true other is others = absurd (cc)
-    go false true is others = absurd (cc)
-    go false false is others = others is
+    go true opens other is others = absurd (cc)
+    go false true other is others = absurd (cc)
+    go false false true is others = absurd (cc)
+    go false false false is others = others is
 
 pub plain : (x : List ℕ) → Plain x → Adds x []
 plain x is = record { before = λ rest. skipped x rest is }
@@ -48,16 +49,17 @@ plain x is = record { before = λ rest. skipped x rest is }
 
 before-end : (x rest : List ℕ) → Plain x → text_before (codes "</title>") (x ++ (codes "</title>" ++ rest)) ≡ x
 before-end [] rest is = refl
-before-end (c ∷ x) rest is = go (60 == c) (38 == c) is (before-end x rest)
+before-end (c ∷ x) rest is = go (c == 10) (60 == c) (38 == c) is (before-end x rest)
   where
-    go : (opens other : Bool) → ((opens || other) || list_any is_markup x) ≡ false
+    go : (feed opens other : Bool) → ((feed || (opens || other)) || list_any is_special x) ≡ false
         → (Plain x → text_before (codes "</title>") (x ++ (codes "</title>" ++ rest)) ≡ x)
         → cond (opens && begins_with (codes "/title>") (x ++ (codes "</title>" ++ rest))) []
         (c ∷ text_before (codes "</title>") (x ++ (codes "</title>" ++ rest)))
         ≡ c ∷ x
-    go true other is others = absurd (cc)
-    go false true is others = absurd (cc)
-    go false false is others = ap (λ (bytes : List ℕ). c ∷ bytes) (others is)
+    go true opens other is others = absurd (cc)
+    go false true other is others = absurd (cc)
+    go false false true is others = absurd (cc)
+    go false false false is others = ap (λ (bytes : List ℕ). c ∷ bytes) (others is)
 
 pub title : (name : List ℕ) → Plain name → Adds (title_element name) (name ∷ [])
 title name is = record {

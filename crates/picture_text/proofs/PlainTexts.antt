@@ -1,9 +1,10 @@
--- What no text of a picture has: a byte that begins a tag or stands for another.
+-- What no text in a line of a picture has: a line feed, or a byte that begins a tag or stands for another.
 use Rattle.std.proofs.Common.{◌≡◌, ℕ, zero, suc, ◌+◌, ◌-◌, ◌/◌, ◌%◌, Bool, true, false, cond, ◌&&◌, ◌||◌, not, nat_lt}
 use Rattle.std.proofs.Common.{List, [], ◌∷◌, ◌++◌, refl, ◌∙◌, ℤ, pos, negsuc, Option, Some, None, arith, codes, decimal, length, get_or}
 use Rattle.std.specs.Prelude.{◌==◌, nat_le, is_some}
-use Rattle.std.specs.List.{AllByRecursion, list_any, flat_map}
+use Rattle.std.specs.List.{AllByRecursion, list_all, list_any, flat_map}
 use Rattle.std.specs.Fmt.{digit_glyph, digits_onto, digits, signed_decimal}
+use Rattle.std.proofs.lemmas.Bool.{and_parts, not-true}
 use Rattle.std.proofs.lemmas.List.Folds.{list_any-append}
 use Rattle.ttp_base.specs.NodeSet.{set_bits}
 use Rattle.ttp_base.specs.Text.{Lines, hex_digit, hex, byte_hex, hex_bytes}
@@ -23,46 +24,51 @@ use Rattle.whole_trace.specs.declared.shown.Head.{Head}
 use Rattle.whole_trace.specs.declared.shown.HostLine.{HostLine}
 use Rattle.whole_trace.specs.declared.shown.HostLine.TheVariants as by_host
 use Rattle.whole_trace.specs.declared.shown.NodeShown.{NodeShown}
-use Rattle.whole_trace.specs.Whole.{SlotLines}
+use Rattle.whole_trace.specs.Whole.{SlotLines, WholeTrace}
 use Rattle.shown_slot.specs.declared.node.ClockRange.{ClockRange}
 use Rattle.shown_slot.specs.Nodes.{is_doubt, is_holder, spread_in}
-use Rattle.shown_slot.specs.Trace.{head_text, node_text, host_text}
+use Rattle.shown_slot.specs.Trace.{head_text, first_text, node_text, host_text}
+use Rattle.picture_text.specs.declared.window.Span.{Span}
 use Rattle.picture_text.specs.Cells.{memberships, holders_of, doubt_class, other_class, data_class, node_class}
 use Rattle.picture_text.specs.Cells.{member_digits, each_node, membership_text, members_title, count_of, apart_text, apart_shown}
 use Rattle.picture_text.specs.Picture.{more_text}
-use Rattle.picture_text.specs.Tables.{letter, word_meaning, rule_meanings, returning_meanings, keep_meaning, back_meaning}
+use Rattle.picture_text.specs.Tables.{words, letter, word_meaning, rule_meanings, returning_meanings, keep_meaning, back_meaning}
 use Rattle.picture_text.specs.Tables.{keep_name, back_name}
-use Rattle.picture_laws.specs.Titles.{is_markup}
+use Rattle.picture_text.specs.Window.{strange_past}
 
--- a text without `<` and `&`
+-- a line feed, `<` or `&`
+abbrev pub is_special : ℕ → Bool
+is_special c = (c == 10) || ((60 == c) || (38 == c))
+
+-- a text without them
 abbrev pub Plain : List ℕ → Type 0
-Plain text = list_any is_markup text ≡ false
+Plain text = list_any is_special text ≡ false
 
 pub plain-append : (x y : List ℕ) → Plain x → Plain y → Plain (x ++ y)
-plain-append x y p q = rw (list_any-append is_markup x y, p, q) refl
+plain-append x y p q = rw (list_any-append is_special x y, p, q) refl
 
-pub markup-append : (x y : List ℕ) → list_any is_markup (x ++ y) ≡ (list_any is_markup x || list_any is_markup y)
-markup-append x y = list_any-append is_markup x y
+pub special-append : (x y : List ℕ) → list_any is_special (x ++ y) ≡ (list_any is_special x || list_any is_special y)
+special-append x y = list_any-append is_special x y
 
 -- Numbers.
 
-glyph-plain : (small : Bool) (d : ℕ) → nat_lt d 10 ≡ small → is_markup (cond small (48 + d) (87 + d)) ≡ false
+glyph-plain : (small : Bool) (d : ℕ) → nat_lt d 10 ≡ small → is_special (cond small (48 + d) (87 + d)) ≡ false
 glyph-plain true d less = grind (arith, less)
 glyph-plain false d less = grind (arith, less)
 
-markup-onto : (k n : ℕ) (text : List ℕ) → list_any is_markup (digits_onto k 10 false n text) ≡ list_any is_markup text
-markup-onto zero n text = refl
-markup-onto (suc k) n text =
+special-onto : (k n : ℕ) (text : List ℕ) → list_any is_special (digits_onto k 10 false n text) ≡ list_any is_special text
+special-onto zero n text = refl
+special-onto (suc k) n text =
     let more = digit_glyph false (n % 10) ∷ text in
-    let here : list_any is_markup more ≡ list_any is_markup text = rw (glyph-plain (nat_lt (n % 10) 10) (n % 10) refl) refl in
+    let here : list_any is_special more ≡ list_any is_special text = rw (glyph-plain (nat_lt (n % 10) 10) (n % 10) refl) refl in
     let go : (last : Bool)
-    → list_any is_markup (cond last more (digits_onto k 10 false (n / 10) more)) ≡ list_any is_markup text =
-    elim [ true ↦ here | false ↦ markup-onto k (n / 10) more ∙ here ] in
+    → list_any is_special (cond last more (digits_onto k 10 false (n / 10) more)) ≡ list_any is_special text =
+    elim [ true ↦ here | false ↦ special-onto k (n / 10) more ∙ here ] in
     go (n / 10 == 0)
 
 pub plain-decimal : (n : ℕ) → Plain (decimal n)
 unfolding digits
-plain-decimal n = markup-onto 64 n []
+plain-decimal n = special-onto 64 n []
 
 plain-signed : (z : ℤ) → Plain (signed_decimal z)
 plain-signed (pos n) = plain-decimal n
@@ -84,7 +90,7 @@ plain-hex_bytes [] = refl
 plain-hex_bytes (byte ∷ bytes) =
     plain-append (byte_hex byte) (hex_bytes bytes) (plain-byte_hex byte) (plain-hex_bytes bytes)
 
-pub ruleset parts = (markup-append, plain-decimal, plain-hex)
+pub ruleset parts = (special-append, plain-decimal, plain-hex)
 
 -- Words.
 
@@ -101,65 +107,42 @@ plain-source : (from : Source) → Plain (source_word from)
 plain-source source.Status = refl
 plain-source (source.Node p) = plain-decimal p
 
-pub plain-word : (w : Word) → Plain (word_text w)
-plain-word w =
-    elim w as (λ v. Plain (word_text v)) [
-      | word.Off ↦ refl
-      | word.Wait ↦ refl
-      | word.Retry ↦ refl
-      | word.Gone ↦ refl
-      | word.Start ↦ refl
-      | word.Join ↦ refl
-      | word.Send ↦ refl
-      | word.Correct ↦ refl
-      | word.Tentative ↦ refl
-      | word.Incorrect ↦ refl
-      | word.Invalid ↦ refl
-      | word.Null ↦ refl
-      | word.Denied ↦ refl
-      | word.Unacknowledged ↦ refl
-      | word.Clique ↦ refl
+-- what a test finds of all words it finds of each
+each-word : (test : Word → Bool) → list_all test words ≡ true → (w : Word) → test w ≡ true
+each-word test all w =
+    let are = each-of words all in
+    elim w as (λ v. test v ≡ true) [
+      | word.Off ↦ are.0
+      | word.Wait ↦ are.1.0
+      | word.Retry ↦ are.1.1.0
+      | word.Gone ↦ are.1.1.1.0
+      | word.Start ↦ are.1.1.1.1.0
+      | word.Join ↦ are.1.1.1.1.1.0
+      | word.Send ↦ are.1.1.1.1.1.1.0
+      | word.Correct ↦ are.1.1.1.1.1.1.1.0
+      | word.Tentative ↦ are.1.1.1.1.1.1.1.1.0
+      | word.Incorrect ↦ are.1.1.1.1.1.1.1.1.1.0
+      | word.Invalid ↦ are.1.1.1.1.1.1.1.1.1.1.0
+      | word.Null ↦ are.1.1.1.1.1.1.1.1.1.1.1.0
+      | word.Denied ↦ are.1.1.1.1.1.1.1.1.1.1.1.1.0
+      | word.Unacknowledged ↦ are.1.1.1.1.1.1.1.1.1.1.1.1.1.0
+      | word.Clique ↦ are.1.1.1.1.1.1.1.1.1.1.1.1.1.1.0
     ]
+  where
+    each-of : (ws : List Word) → list_all test ws ≡ true → AllByRecursion (λ v. test v ≡ true) ws
+    each-of [] e = tt
+    each-of (v ∷ ws) e = let parts = and_parts (test v) (list_all test ws) e in (parts.0, each-of ws parts.1)
+
+pub plain-word : (w : Word) → Plain (word_text w)
+plain-word w = not-true (list_any is_special (word_text w)) (each-word (λ v. not (list_any is_special (word_text v))) refl w)
 
 pub plain-letter : (w : Word) → Plain (letter w)
-plain-letter w =
-    elim w as (λ v. Plain (letter v)) [
-      | word.Off ↦ refl
-      | word.Wait ↦ refl
-      | word.Retry ↦ refl
-      | word.Gone ↦ refl
-      | word.Start ↦ refl
-      | word.Join ↦ refl
-      | word.Send ↦ refl
-      | word.Correct ↦ refl
-      | word.Tentative ↦ refl
-      | word.Incorrect ↦ refl
-      | word.Invalid ↦ refl
-      | word.Null ↦ refl
-      | word.Denied ↦ refl
-      | word.Unacknowledged ↦ refl
-      | word.Clique ↦ refl
-    ]
+plain-letter w = not-true (list_any is_special (letter w)) (each-word (λ v. not (list_any is_special (letter v))) refl w)
 
 pub plain-meaning : (w : Word) → Plain (word_text w ++ codes ": " ++ word_meaning w)
 plain-meaning w =
-    elim w as (λ v. Plain (word_text v ++ codes ": " ++ word_meaning v)) [
-      | word.Off ↦ refl
-      | word.Wait ↦ refl
-      | word.Retry ↦ refl
-      | word.Gone ↦ refl
-      | word.Start ↦ refl
-      | word.Join ↦ refl
-      | word.Send ↦ refl
-      | word.Correct ↦ refl
-      | word.Tentative ↦ refl
-      | word.Incorrect ↦ refl
-      | word.Invalid ↦ refl
-      | word.Null ↦ refl
-      | word.Denied ↦ refl
-      | word.Unacknowledged ↦ refl
-      | word.Clique ↦ refl
-    ]
+    not-true (list_any is_special (word_text w ++ codes ": " ++ word_meaning w))
+    (each-word (λ v. not (list_any is_special (word_text v ++ codes ": " ++ word_meaning v))) refl w)
 
 plain-if : (b : Bool) (x y : List ℕ) → Plain x → Plain y → Plain (cond b x y)
 plain-if true x y p q = p
@@ -193,6 +176,18 @@ plain-host t (by_host.Read host from number payload) = simp (parts, plain-source
 pub plain-more : (s : Option ℕ) → Plain (more_text s)
 plain-more None = refl
 plain-more (Some t) = simp parts
+
+-- the text of the line that says what is shown
+abbrev pub shown_text : WholeTrace → Span → List ℕ
+shown_text trace span =
+    first_text trace ++ codes ", shown: slots " ++ decimal span.first ++ codes " to " ++ decimal span.last
+    ++ more_text (strange_past span.last trace.slots)
+
+pub plain-shown : (trace : WholeTrace) (span : Span) → Plain (shown_text trace span)
+plain-shown trace span =
+    let first = plain-head trace.head in
+    let more = plain-more (strange_past span.last trace.slots) in
+    simp (parts, first, more)
 
 -- an entry of a table of such texts
 plain-any : (table : Lines) (i : ℕ) → AllByRecursion (λ text. Plain text) table → Plain (get_or table i [])
