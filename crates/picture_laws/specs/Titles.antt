@@ -22,7 +22,7 @@ begins_with [] text = true
 begins_with (b ∷ bytes) [] = false
 begins_with (b ∷ bytes) (c ∷ text) = (b == c) && begins_with bytes text
 
--- a text up to the first place where these bytes stand
+-- a text up to the first place where these bytes stand, or all of it
 abbrev pub text_before : List ℕ → List ℕ → List ℕ
 text_before bytes [] = []
 text_before bytes (c ∷ text) = if begins_with bytes (c ∷ text) then [] else c ∷ text_before bytes text

@@ -12,8 +12,8 @@ ghost use Rattle.picture_laws.specs.Titles.{is_markup, shown_of, picture_titles}
 
 /// The titles of a picture, as they are read out of its lines: the first line of the trace; of each slot shown the
 /// lines of its nodes, what members they hold, and how far clocks are apart; of each slot shown the lines of its
-/// hosts; and those of the legend (`order`). No line of a picture has two, so each is that of an element of its
-/// own (`once`); and none has a byte that would need an escape (`plain`).
+/// hosts; and those of the legend (`order`). No line of a picture has two (`once`), and none has a byte that would
+/// need an escape (`plain`).
 pub fn titles_of_pictures()
     ensures order { (trace : WholeTrace) (asked : Option Slots)
         → titles (picture_lines trace asked) ≡ picture_titles trace asked }
