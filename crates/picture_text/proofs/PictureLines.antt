@@ -1,49 +1,45 @@
 -- Each line of a picture is one line: its one line feed is its last byte.
-use Rattle.std.proofs.Common.{◌≡◌, ℕ, zero, suc, ◌+◌, ◌-◌, ◌*◌, Bool, true, false, ◌&&◌, ◌||◌, List, [], ◌∷◌, ◌++◌, map, length, get_or}
-use Rattle.std.proofs.Common.{refl, ℤ, Option, Some, None, arith, codes, decimal, cond, not}
-use Rattle.std.specs.Prelude.{◌==◌, ◌%◌, nat_le, is_some}
+use Rattle.std.proofs.Common.{◌≡◌, ℕ, ◌+◌, ◌-◌, ◌*◌, Bool, true, false, ◌||◌, List, [], ◌∷◌, ◌++◌, map, length}
+use Rattle.std.proofs.Common.{refl, Option, Some, None, arith, codes, decimal, cond}
+use Rattle.std.specs.Prelude.{◌==◌, ◌%◌}
 use Rattle.std.specs.List.{AllByRecursion, list_all, list_any, flat_map}
-use Rattle.std.specs.Fmt.{signed_decimal}
-use Rattle.std.proofs.lemmas.Bool.{and_parts}
+use Rattle.std.proofs.lemmas.Bool.{and_parts, or_parts, or_from}
 use Rattle.std.proofs.lemmas.List.Folds.{list_any-append}
-use Rattle.ttp_base.specs.NodeSet.{below, set_bits}
-use Rattle.ttp_base.specs.Text.{Lines, newline, is_line, hex, hex_bytes, lines_below}
+use Rattle.ttp_base.specs.NodeSet.{below}
+use Rattle.ttp_base.specs.Text.{Lines, newline, is_line, hex, lines_below}
 use Rattle.ttp_base.proofs.Lines.{is_line-append}
-use Rattle.ttp_base.proofs.Numerals.{has, has-append, has-decimal, has-signed, has-hex, has-hex_bytes}
+use Rattle.ttp_base.proofs.Numerals.{has, has-decimal, has-hex}
 use Rattle.ttp_world.specs.declared.keep.Back.{Back}
-use Rattle.ttp_world.specs.declared.keep.Back.TheVariants as back
 use Rattle.ttp_world.specs.declared.keep.Keep.{Keep}
-use Rattle.ttp_world.specs.declared.keep.Keep.TheVariants as keep
-use Rattle.ttp_world.specs.declared.node.Ack.{Ack}
-use Rattle.ttp_world.specs.declared.script.Source.{Source}
 use Rattle.ttp_world.specs.declared.script.Source.TheVariants as source
-use Rattle.ttp_world.specs.Trace.{number_or_dash, ack_word, source_word}
 use Rattle.ttp_world.proofs.LineLists.{each-append}
 use Rattle.ttp_world.proofs.TraceLines.{IsLine}
-use Rattle.ttp_world.proofs.TraceWords.{has-number_or_dash, has-ack_word, has-source_word}
 use Rattle.line_reader.specs.declared.trace_line.Word.{Word}
-use Rattle.line_reader.specs.declared.trace_line.Word.TheVariants as word
 use Rattle.line_reader.specs.TraceLines.{word_text, keep_text, back_text}
 use Rattle.whole_trace.specs.declared.shown.Head.{Head}
 use Rattle.whole_trace.specs.declared.shown.HostLine.{HostLine}
 use Rattle.whole_trace.specs.declared.shown.HostLine.TheVariants as by_host
 use Rattle.whole_trace.specs.declared.shown.NodeShown.{NodeShown}
 use Rattle.whole_trace.specs.Whole.{SlotLines, WholeTrace}
-use Rattle.shown_slot.specs.declared.node.ClockRange.{ClockRange}
-use Rattle.shown_slot.specs.Nodes.{is_doubt, is_holder, has_left, clock_range, spread_in}
-use Rattle.shown_slot.specs.Trace.{node_at, head_text, first_text, node_text, host_text}
+use Rattle.shown_slot.specs.Nodes.{has_left, clock_range}
+use Rattle.shown_slot.specs.Trace.{node_at, first_text, node_text, host_text}
 use Rattle.picture_text.specs.declared.window.Span.{Span}
 use Rattle.picture_text.specs.Cells.{attribute, place, title_element, cell, mark, write_shape, read_shape, status_shape}
-use Rattle.picture_text.specs.Cells.{memberships, holders_of, held_by_most, doubt_class, other_class, data_class, node_class}
-use Rattle.picture_text.specs.Cells.{node_cell, member_digits, each_node, membership_text, members_title, count_of}
+use Rattle.picture_text.specs.Cells.{memberships, held_by_most, node_class}
+use Rattle.picture_text.specs.Cells.{node_cell, members_title, count_of}
 use Rattle.picture_text.specs.Cells.{members_cell_of, members_cell, apart_text, apart_shown, clocks_cell, host_of, host_mark}
 use Rattle.picture_text.specs.Picture.{ended, class_of, text_line, size, svg_line, style_lines, more_text, said_line, back_said}
 use Rattle.picture_text.specs.Picture.{head_lines, row_line, band_lines, number_lines, slot_at, cell_lines, why_lines}
 use Rattle.picture_text.specs.Picture.{beside_lines, is_shown, flag_lines, keep_flag, back_flag, legend_x, legend_y, legend_text}
 use Rattle.picture_text.specs.Picture.{word_entries, cell_entry, mark_entry, class_entries, slots_in, picture_of, picture_lines}
-use Rattle.picture_text.specs.Tables.{words, letter, word_meaning, rule_meanings, returning_meanings, keep_meaning}
+use Rattle.picture_text.specs.Tables.{words, letter, word_meaning, keep_meaning}
 use Rattle.picture_text.specs.Tables.{back_meaning, keep_slot, keep_name, back_slot, back_name}
 use Rattle.picture_text.specs.Window.{span_shown, strange_past, columns, bands, legend_top, height, column_x, row_y}
+use Rattle.picture_text.proofs.PlainTexts.{is_special, Plain, parts as plain_parts}
+use Rattle.picture_text.proofs.PlainTexts.{plain-apart_shown, plain-back, plain-back_meaning, plain-back_name, plain-class}
+use Rattle.picture_text.proofs.PlainTexts.{plain-clocks, plain-count, plain-decimal, plain-head, plain-host, plain-keep}
+use Rattle.picture_text.proofs.PlainTexts.{plain-keep_meaning, plain-keep_name, plain-letter, plain-meaning, plain-members}
+use Rattle.picture_text.proofs.PlainTexts.{plain-no_members, plain-node, plain-shown, plain-word}
 
 -- a text without a line feed
 abbrev Unfed : List ℕ → Type 0
@@ -55,73 +51,21 @@ AreLines lines = AllByRecursion IsLine lines
 
 -- Parts of a line.
 
+-- as plain texts are
+unfed : (text : List ℕ) → Plain text → Unfed text
+unfed [] is = refl
+unfed (c ∷ text) is =
+    let parts = or_parts (is_special c) (list_any is_special text) is in
+    or_from (c == 10) (has 10 text) (or_parts (c == 10) ((60 == c) || (38 == c)) parts.0).0 (unfed text parts.1)
+
 unfed-append : (x y : List ℕ) → list_any (λ c. c == 10) (x ++ y) ≡ (list_any (λ c. c == 10) x || list_any (λ c. c == 10) y)
 unfed-append x y = list_any-append (λ c. c == 10) x y
 
 unfed-decimal : (n : ℕ) → Unfed (decimal n)
 unfed-decimal n = has-decimal 10 n (omega arith)
 
-unfed-signed : (z : ℤ) → Unfed (signed_decimal z)
-unfed-signed z = has-signed 10 z (omega arith)
-
 unfed-hex : (digits v : ℕ) → Unfed (hex digits v)
 unfed-hex digits v = has-hex 10 digits v (omega arith)
-
-unfed-hex_bytes : (bytes : List ℕ) → Unfed (hex_bytes bytes)
-unfed-hex_bytes bytes = has-hex_bytes 10 bytes (omega arith)
-
-unfed-number : (number : Option ℕ) → Unfed (number_or_dash number)
-unfed-number number = has-number_or_dash 10 number (omega arith)
-
-unfed-ack : (a : Ack) → Unfed (ack_word a)
-unfed-ack a = has-ack_word 10 a (omega arith)
-
-unfed-source : (from : Source) → Unfed (source_word from)
-unfed-source from = has-source_word 10 from (omega arith)
-
-unfed-word : (w : Word) → Unfed (word_text w)
-unfed-word w =
-    elim w as (λ v. Unfed (word_text v)) [
-      | word.Off ↦ refl
-      | word.Wait ↦ refl
-      | word.Retry ↦ refl
-      | word.Gone ↦ refl
-      | word.Start ↦ refl
-      | word.Join ↦ refl
-      | word.Send ↦ refl
-      | word.Correct ↦ refl
-      | word.Tentative ↦ refl
-      | word.Incorrect ↦ refl
-      | word.Invalid ↦ refl
-      | word.Null ↦ refl
-      | word.Denied ↦ refl
-      | word.Unacknowledged ↦ refl
-      | word.Clique ↦ refl
-    ]
-
-unfed-letter : (w : Word) → Unfed (letter w)
-unfed-letter w =
-    elim w as (λ v. Unfed (letter v)) [
-      | word.Off ↦ refl
-      | word.Wait ↦ refl
-      | word.Retry ↦ refl
-      | word.Gone ↦ refl
-      | word.Start ↦ refl
-      | word.Join ↦ refl
-      | word.Send ↦ refl
-      | word.Correct ↦ refl
-      | word.Tentative ↦ refl
-      | word.Incorrect ↦ refl
-      | word.Invalid ↦ refl
-      | word.Null ↦ refl
-      | word.Denied ↦ refl
-      | word.Unacknowledged ↦ refl
-      | word.Clique ↦ refl
-    ]
-
-unfed-if : (b : Bool) (x y : List ℕ) → Unfed x → Unfed y → Unfed (cond b x y)
-unfed-if true x y p q = p
-unfed-if false x y p q = q
 
 ruleset parts = (unfed-append, unfed-decimal, unfed-hex)
 
@@ -130,52 +74,37 @@ ruleset parts = (unfed-append, unfed-decimal, unfed-hex)
 ended-line : (text : List ℕ) → Unfed text → IsLine (ended text)
 ended-line text none = is_line-append text newline none refl
 
-text-line : (class : List ℕ) (x y : ℕ) (shown : List ℕ) → Unfed class → Unfed shown → IsLine (text_line class x y shown)
+text-line : (class : List ℕ) (x y : ℕ) (shown : List ℕ) → Plain class → Plain shown → IsLine (text_line class x y shown)
 text-line class x y shown c s =
-    ended-line (codes "<text" ++ class ++ place x y ++ codes ">" ++ shown ++ codes "</text>") (simp (parts, c, s))
+    let of_class = unfed class c in
+    let of_shown = unfed shown s in
+    ended-line (codes "<text" ++ class ++ place x y ++ codes ">" ++ shown ++ codes "</text>") (simp (parts, of_class, of_shown))
 
-classed-line : (class : List ℕ) (x y : ℕ) (shown : List ℕ) → Unfed class → Unfed shown
+classed-line : (class : List ℕ) (x y : ℕ) (shown : List ℕ) → Plain class → Plain shown
     → IsLine (text_line (class_of class) x y shown)
-classed-line class x y shown c s = text-line (class_of class) x y shown (simp (parts, c)) s
+classed-line class x y shown c s = text-line (class_of class) x y shown (simp (plain_parts, c)) s
 
-cell-line : (class : List ℕ) (x y : ℕ) (title shown : List ℕ) → Unfed class → Unfed title → Unfed shown
+cell-line : (class : List ℕ) (x y : ℕ) (title shown : List ℕ) → Plain class → Plain title → Plain shown
     → IsLine (cell class x y title shown)
 cell-line class x y title shown c t s =
+    let of_class = unfed class c in
+    let of_title = unfed title t in
+    let of_shown = unfed shown s in
     is_line-append (codes "<g" ++ attribute (codes "class") class ++ codes ">" ++ title_element title
     ++ codes "<rect" ++ place x y ++ codes " width=\"17\" height=\"17\"/>"
     ++ codes "<text" ++ place (x + 8) (y + 13) ++ codes ">" ++ shown ++ codes "</text></g>") newline
-    (simp (parts, c, t, s)) refl
+    (simp (parts, of_class, of_title, of_shown)) refl
 
-mark-line : (class shape : List ℕ) (x y : ℕ) (title : List ℕ) → Unfed class → Unfed shape → Unfed title
+mark-line : (class shape : List ℕ) (x y : ℕ) (title : List ℕ) → Plain class → Plain shape → Plain title
     → IsLine (mark class shape x y title)
 mark-line class shape x y title c s t =
+    let of_class = unfed class c in
+    let of_shape = unfed shape s in
+    let of_title = unfed title t in
     is_line-append (codes "<path" ++ attribute (codes "class") class
     ++ attribute (codes "d") (codes "M" ++ decimal x ++ codes " " ++ decimal y ++ shape)
     ++ codes ">" ++ title_element title ++ codes "</path>") newline
-    (simp (parts, c, s, t)) refl
-
--- Lines of the trace, as titles.
-
-unfed-head : (head : Head) → Unfed (head_text head)
-unfed-head head =
-    has-append 10 (codes "ttpbench trace " ++ decimal head.version ++ codes " nodes " ++ decimal head.nodes
-    ++ codes " rounds " ++ decimal head.rounds ++ codes " slots " ++ decimal head.slots ++ codes " schedule ")
-    (hex 6 head.schedule) (simp parts) (unfed-hex 6 head.schedule)
-
-unfed-keep : (k : Keep) → Unfed (keep_text k)
-unfed-keep (keep.Yes start) = simp parts
-unfed-keep (keep.No rule slot) = simp parts
-
-unfed-back : (b : Back) → Unfed (back_text b)
-unfed-back (back.Yes start) = simp parts
-unfed-back (back.No rule slot) = simp parts
-
-unfed-node : (head : Head) (t k : ℕ) (node : NodeShown) → Unfed (node_text head t k node)
-unfed-node head t k node = simp (parts, unfed-word, unfed-number, unfed-ack, unfed-signed)
-
-unfed-host : (t : ℕ) (line : HostLine) → Unfed (host_text t line)
-unfed-host t (by_host.Write host number) = simp parts
-unfed-host t (by_host.Read host from number payload) = simp (parts, unfed-source, unfed-hex_bytes)
+    (simp (parts, of_class, of_shape, of_title)) refl
 
 -- Lists of lines.
 
@@ -198,46 +127,18 @@ all-lines (line ∷ lines) are =
 
 -- The head.
 
-unfed-more : (s : Option ℕ) → Unfed (more_text s)
-unfed-more None = refl
-unfed-more (Some t) = simp parts
-
--- an entry of a table of texts without line feeds
-unfed-any : (table : Lines) (i : ℕ) → AllByRecursion (λ text. Unfed text) table → Unfed (get_or table i [])
-unfed-any [] i are = refl
-unfed-any (text ∷ table) zero are = are.0
-unfed-any (text ∷ table) (suc i) are = unfed-any table i are.1
-
-unfed-keep_meaning : (k : Keep) → Unfed (keep_meaning k)
-unfed-keep_meaning (keep.Yes start) = simp parts
-unfed-keep_meaning (keep.No rule slot) =
-    unfed-any rule_meanings (rule - 1) (refl, (refl, (refl, (refl, (refl, (refl, (refl, tt)))))))
-
-unfed-back_meaning : (b : Back) → Unfed (back_meaning b)
-unfed-back_meaning (back.Yes start) = refl
-unfed-back_meaning (back.No rule slot) =
-    unfed-any returning_meanings (rule - 1) (refl, (refl, (refl, (refl, (refl, (refl, (refl, (refl, tt))))))))
-
-said-line : (y : ℕ) (said meaning : List ℕ) → Unfed said → Unfed meaning → IsLine (said_line y said meaning)
+said-line : (y : ℕ) (said meaning : List ℕ) → Plain said → Plain meaning → IsLine (said_line y said meaning)
 said-line y said meaning s m =
-    classed-line (codes "said") 12 y (said ++ codes ": " ++ meaning) refl (simp (parts, s, m))
+    classed-line (codes "said") 12 y (said ++ codes ": " ++ meaning) refl (simp (plain_parts, s, m))
 
 back-lines : (b : Option Back) → AreLines (back_said b)
 back-lines None = tt
-back-lines (Some b) = (said-line 58 (back_text b) (back_meaning b) (unfed-back b) (unfed-back_meaning b), tt)
-
-unfed-shown : (trace : WholeTrace) (span : Span)
-    → Unfed (first_text trace ++ codes ", shown: slots " ++ decimal span.first ++ codes " to " ++ decimal span.last
-    ++ more_text (strange_past span.last trace.slots))
-unfed-shown trace span =
-    let first = unfed-head trace.head in
-    let more = unfed-more (strange_past span.last trace.slots) in
-    simp (parts, first, more)
+back-lines (Some b) = (said-line 58 (back_text b) (back_meaning b) (plain-back b) (plain-back_meaning b), tt)
 
 head-each : (trace : WholeTrace) (span : Span) → AreLines (head_lines trace span)
 head-each trace span =
     let h = height trace.head.nodes span in
-    let first = unfed-head trace.head in
+    let first = unfed (first_text trace) (plain-head trace.head) in
     each-append IsLine (svg_line h ∷ ended (title_element (first_text trace)) ∷ style_lines)
     (ended (codes "<rect" ++ size h ++ attribute (codes "fill") (codes "#ffffff") ++ codes "/>")
     ∷ text_line [] 12 20 (first_text trace ++ codes ", shown: slots " ++ decimal span.first ++ codes " to "
@@ -254,10 +155,10 @@ head-each trace span =
       ended-line (codes "<rect" ++ size h ++ attribute (codes "fill") (codes "#ffffff") ++ codes "/>") (simp parts),
       (
         text-line [] 12 20 (first_text trace ++ codes ", shown: slots " ++ decimal span.first ++ codes " to "
-            ++ decimal span.last ++ more_text (strange_past span.last trace.slots)) refl (unfed-shown trace span),
+            ++ decimal span.last ++ more_text (strange_past span.last trace.slots)) refl (plain-shown trace span),
         (
-          said-line 40 (keep_text trace.keep) (keep_meaning trace.keep) (unfed-keep trace.keep)
-              (unfed-keep_meaning trace.keep),
+          said-line 40 (keep_text trace.keep) (keep_meaning trace.keep) (plain-keep trace.keep)
+              (plain-keep_meaning trace.keep),
           back-lines trace.back,
         ),
       ),
@@ -265,7 +166,7 @@ head-each trace span =
 
 -- Bands.
 
-row-line : (y : ℕ) (name : List ℕ) → Unfed name → IsLine (row_line y name)
+row-line : (y : ℕ) (name : List ℕ) → Plain name → IsLine (row_line y name)
 row-line y name none = classed-line (codes "row") 64 y name refl none
 
 band-each : (n : ℕ) (span : Span) (band : ℕ) → AreLines (band_lines n span band)
@@ -274,7 +175,7 @@ band-each n span band =
     let row : ℕ → List ℕ = λ k. row_line (row_y n span t k + 13) (codes "node " ++ decimal k) in
     each-append IsLine (map row (below n))
     (row_line (row_y n span t n + 17) (codes "members") ∷ row_line (row_y n span t (n + 1) + 17) (codes "clocks") ∷ [])
-    (each-map row (below n) (λ k. row-line (row_y n span t k + 13) (codes "node " ++ decimal k) (simp parts)))
+    (each-map row (below n) (λ k. row-line (row_y n span t k + 13) (codes "node " ++ decimal k) (simp plain_parts)))
     (row-line (row_y n span t n + 17) (codes "members") refl, (row-line (row_y n span t (n + 1) + 17) (codes "clocks") refl, tt))
 
 -- Cells.
@@ -282,82 +183,28 @@ band-each n span band =
 number-each : (n : ℕ) (span : Span) (t : ℕ) → AreLines (number_lines n span t)
 number-each n span t =
     each-if (t % 5 == 0) (text_line (class_of (codes "slot")) (column_x n span t + 8) (row_y n span t 0 - 5) (decimal t) ∷ [])
-    (classed-line (codes "slot") (column_x n span t + 8) (row_y n span t 0 - 5) (decimal t) refl (unfed-decimal t), tt)
-
-unfed-doubt : (node : NodeShown) → Unfed (doubt_class node)
-unfed-doubt node = unfed-if (is_doubt node.ack) (codes " doubt") [] refl refl
-
-unfed-other : (node : NodeShown) (most : Option ℕ) → Unfed (other_class node most)
-unfed-other node None = refl
-unfed-other node (Some members) =
-    unfed-if (is_holder node && not (set_bits node.members == members)) (codes " other") [] refl refl
-
-unfed-data : (node : NodeShown) → Unfed (data_class node)
-unfed-data node = unfed-if (is_some node.message) (codes " data") [] refl refl
-
-unfed-class : (node : NodeShown) (most : Option ℕ) → Unfed (node_class node most)
-unfed-class node most =
-    let w = unfed-word node.word in
-    let a = unfed-doubt node in
-    let b = unfed-other node most in
-    let d = unfed-data node in
-    has-append 10 (word_text node.word ++ doubt_class node ++ other_class node most) (data_class node)
-    (has-append 10 (word_text node.word ++ doubt_class node) (other_class node most)
-    (has-append 10 (word_text node.word) (doubt_class node) w a) b) d
+    (classed-line (codes "slot") (column_x n span t + 8) (row_y n span t 0 - 5) (decimal t) refl (plain-decimal t), tt)
 
 node-cell : (head : Head) (t k : ℕ) (node : NodeShown) (most : Option ℕ) (x y : ℕ)
     → IsLine (node_cell head t k node most x y)
 node-cell head t k node most x y =
-    cell-line (node_class node most) x y (node_text head t k node) (letter node.word) (unfed-class node most)
-    (unfed-node head t k node) (unfed-letter node.word)
+    cell-line (node_class node most) x y (node_text head t k node) (letter node.word) (plain-class node most)
+    (plain-node head t k node) (plain-letter node.word)
 
-unfed-flat : {X : Type 0} (f : X → List ℕ) (xs : List X) → ((x : X) → Unfed (f x)) → Unfed (flat_map f xs)
-unfed-flat f [] are = refl
-unfed-flat f (x ∷ xs) are = has-append 10 (f x) (flat_map f xs) (are x) (unfed-flat f xs are)
-
-unfed-membership : (head : Head) (slot : SlotLines) (members : ℕ) → Unfed (membership_text head slot members)
-unfed-membership head slot members =
-    let nodes = unfed-flat (λ k. codes " " ++ decimal k) (holders_of members slot) (λ k. simp parts) in
-    has-append 10 (codes " " ++ hex (member_digits head) members ++ codes " of") (each_node (holders_of members slot))
-    (simp parts) nodes
-
-unfed-title : (head : Head) (t : ℕ) (slot : SlotLines) → Unfed (members_title head t slot)
-unfed-title head t slot =
-    has-append 10 (codes "slot " ++ decimal t ++ codes " members")
-    (flat_map (membership_text head slot) (memberships slot.nodes)) (simp parts)
-    (unfed-flat (membership_text head slot) (memberships slot.nodes) (unfed-membership head slot))
-
-unfed-count : (nodes : List NodeShown) → Unfed (count_of nodes)
-unfed-count [] = refl
-unfed-count (node ∷ nodes) =
-    unfed-if (is_holder node) (decimal (length node.members)) (count_of nodes) (unfed-decimal (length node.members))
-    (unfed-count nodes)
-
-members-cell_of : (words : List ℕ) (nodes : List NodeShown) (t x y : ℕ) (title : List ℕ) → Unfed title
+members-cell_of : (words : List ℕ) (nodes : List NodeShown) (t x y : ℕ) (title : List ℕ) → Plain title
     → IsLine (members_cell_of words nodes t x y title)
 members-cell_of [] nodes t x y title none =
-    cell-line (codes "none") x y (codes "slot " ++ decimal t ++ codes " members -") (codes "-") refl (simp parts) refl
+    cell-line (codes "none") x y (codes "slot " ++ decimal t ++ codes " members -") (codes "-") refl (plain-no_members t) refl
 members-cell_of (one ∷ []) nodes t x y title none =
-    cell-line (codes "agree") x y title (count_of nodes) refl none (unfed-count nodes)
+    cell-line (codes "agree") x y title (count_of nodes) refl none (plain-count nodes)
 members-cell_of (one ∷ other ∷ more) nodes t x y title none =
     cell-line (codes "differ") x y title (codes "!") refl none refl
-
-unfed-apart : (range : Option ClockRange) → Unfed (apart_text range)
-unfed-apart None = refl
-unfed-apart (Some range) = unfed-decimal (spread_in range)
-
-unfed-apart_shown : (range : Option ClockRange) → Unfed (apart_shown range)
-unfed-apart_shown None = refl
-unfed-apart_shown (Some range) =
-    unfed-if (nat_le 1000 (spread_in range)) (codes "*") (decimal (spread_in range)) refl (unfed-decimal (spread_in range))
 
 clocks-cell : (t : ℕ) (slot : SlotLines) (x y : ℕ) → IsLine (clocks_cell t slot x y)
 clocks-cell t slot x y =
     let range = clock_range slot.nodes in
     cell-line (codes "none") x y (codes "slot " ++ decimal t ++ codes " clocks apart " ++ apart_text range) (apart_shown range)
-    refl
-    (has-append 10 (codes "slot " ++ decimal t ++ codes " clocks apart ") (apart_text range) (simp parts)
-    (unfed-apart range)) (unfed-apart_shown range)
+    refl (plain-clocks t range) (plain-apart_shown range)
 
 cells-each : (head : Head) (span : Span) (t : ℕ) (slot : SlotLines) → AreLines (cell_lines head span t slot)
 cells-each head span t slot =
@@ -370,7 +217,7 @@ cells-each head span t slot =
     (each-append IsLine (number_lines n span t) (map node (below n)) (number-each n span t)
     (each-map node (below n) (λ k. node-cell head t k (node_at slot k) most x (row_y n span t k)))) (
       members-cell_of (memberships slot.nodes) slot.nodes t x (row_y n span t n + 4) (members_title head t slot)
-          (unfed-title head t slot),
+          (plain-members head t slot),
       (clocks-cell t slot x (row_y n span t (n + 1) + 4), tt),
     )
 
@@ -384,18 +231,18 @@ why-each n span t slot k =
     let box = codes "<rect" ++ class_of (codes "why") ++ place (x + 18) y
     ++ attribute (codes "width") (decimal (7 * length (word_text w) + 6)) ++ codes " height=\"17\"/>" in
     each-if (has_left w) (ended box ∷ text_line (class_of (codes "why")) (x + 21) (y + 13) (word_text w) ∷ [])
-    (ended-line box (simp parts), (classed-line (codes "why") (x + 21) (y + 13) (word_text w) refl (unfed-word w), tt))
+    (ended-line box (simp parts), (classed-line (codes "why") (x + 21) (y + 13) (word_text w) refl (plain-word w), tt))
 
 host-mark : (t : ℕ) (line : HostLine) (x y : ℕ) → IsLine (host_mark t line x y)
 host-mark t (by_host.Write host number) x y =
     let line = by_host.Write host number in
-    mark-line (codes "write") write_shape x (y + 17) (host_text t line) refl refl (unfed-host t line)
+    mark-line (codes "write") write_shape x (y + 17) (host_text t line) refl refl (plain-host t line)
 host-mark t (by_host.Read host source.Status number payload) x y =
     let line = by_host.Read host source.Status number payload in
-    mark-line (codes "status") status_shape (x + 12) y (host_text t line) refl refl (unfed-host t line)
+    mark-line (codes "status") status_shape (x + 12) y (host_text t line) refl refl (plain-host t line)
 host-mark t (by_host.Read host (source.Node p) number payload) x y =
     let line = by_host.Read host (source.Node p) number payload in
-    mark-line (codes "read") read_shape (x + 11) (y + 12) (host_text t line) refl refl (unfed-host t line)
+    mark-line (codes "read") read_shape (x + 11) (y + 12) (host_text t line) refl refl (plain-host t line)
 
 beside-each : (n : ℕ) (span : Span) (t : ℕ) (slot : SlotLines) → AreLines (beside_lines n span t slot)
 beside-each n span t slot =
@@ -406,7 +253,7 @@ beside-each n span t slot =
 
 -- Flags.
 
-flag-each : (n : ℕ) (span : Span) (t : ℕ) (class : List ℕ) (x : ℕ) (name : List ℕ) → Unfed class → Unfed name
+flag-each : (n : ℕ) (span : Span) (t : ℕ) (class : List ℕ) (x : ℕ) (name : List ℕ) → Plain class → Plain name
     → AreLines (flag_lines n span t class x name)
 flag-each n span t class x name c s =
     let pole = codes "<path" ++ class_of (codes "flag") ++ attribute (codes "d") (codes "M"
@@ -415,66 +262,38 @@ flag-each n span t class x name c s =
     each-if (is_shown span t) (ended pole ∷ text_line (class_of class) x (row_y n span t 0 - 17) name ∷ [])
     (ended-line pole (simp parts), (classed-line class x (row_y n span t 0 - 17) name c s, tt))
 
-unfed-keep_name : (k : Keep) → Unfed (keep_name k)
-unfed-keep_name (keep.Yes start) = refl
-unfed-keep_name (keep.No rule slot) = simp parts
-
-unfed-back_name : (b : Back) → Unfed (back_name b)
-unfed-back_name (back.Yes start) = refl
-unfed-back_name (back.No rule slot) = simp parts
-
 keep-flag : (n : ℕ) (span : Span) (k : Keep) → AreLines (keep_flag n span k)
 keep-flag n span k =
-    flag-each n span (keep_slot k) (codes "keep") (column_x n span (keep_slot k) - 4) (keep_name k) refl (unfed-keep_name k)
+    flag-each n span (keep_slot k) (codes "keep") (column_x n span (keep_slot k) - 4) (keep_name k) refl (plain-keep_name k)
 
 back-flag : (n : ℕ) (span : Span) (b : Option Back) → AreLines (back_flag n span b)
 back-flag n span None = tt
 back-flag n span (Some b) =
-    flag-each n span (back_slot b) (codes "back") (column_x n span (back_slot b) + 3) (back_name b) refl (unfed-back_name b)
+    flag-each n span (back_slot b) (codes "back") (column_x n span (back_slot b) + 3) (back_name b) refl (plain-back_name b)
 
 -- The legend.
 
-legend-line : (x y : ℕ) (meaning : List ℕ) → Unfed meaning → IsLine (legend_text x y meaning)
+legend-line : (x y : ℕ) (meaning : List ℕ) → Plain meaning → IsLine (legend_text x y meaning)
 legend-line x y meaning none = text-line [] (x + 23) (y + 13) meaning refl none
-
-unfed-meaning : (w : Word) → Unfed (word_text w ++ codes ": " ++ word_meaning w)
-unfed-meaning w =
-    elim w as (λ v. Unfed (word_text v ++ codes ": " ++ word_meaning v)) [
-      | word.Off ↦ refl
-      | word.Wait ↦ refl
-      | word.Retry ↦ refl
-      | word.Gone ↦ refl
-      | word.Start ↦ refl
-      | word.Join ↦ refl
-      | word.Send ↦ refl
-      | word.Correct ↦ refl
-      | word.Tentative ↦ refl
-      | word.Incorrect ↦ refl
-      | word.Invalid ↦ refl
-      | word.Null ↦ refl
-      | word.Denied ↦ refl
-      | word.Unacknowledged ↦ refl
-      | word.Clique ↦ refl
-    ]
 
 words-each : (top i : ℕ) (ws : List Word) → AreLines (word_entries top i ws)
 words-each top i [] = tt
 words-each top i (w ∷ ws) = (
-  cell-line (word_text w) (legend_x i) (legend_y top i) (word_text w) (letter w) (unfed-word w) (unfed-word w) (unfed-letter w),
+  cell-line (word_text w) (legend_x i) (legend_y top i) (word_text w) (letter w) (plain-word w) (plain-word w) (plain-letter w),
   (
-    legend-line (legend_x i) (legend_y top i) (word_text w ++ codes ": " ++ word_meaning w) (unfed-meaning w),
+    legend-line (legend_x i) (legend_y top i) (word_text w ++ codes ": " ++ word_meaning w) (plain-meaning w),
     words-each top (i + 1) ws,
   ),
 )
 
-cell-entry : (top i : ℕ) (class shown meaning : List ℕ) → Unfed class → Unfed shown → Unfed meaning
+cell-entry : (top i : ℕ) (class shown meaning : List ℕ) → Plain class → Plain shown → Plain meaning
     → AreLines (cell_entry top i class shown meaning)
 cell-entry top i class shown meaning c s m = (
   cell-line class (legend_x i) (legend_y top i) meaning shown c m s,
   (legend-line (legend_x i) (legend_y top i) meaning m, tt),
 )
 
-mark-entry : (top i : ℕ) (class shape : List ℕ) (down : ℕ) (meaning : List ℕ) → Unfed class → Unfed shape → Unfed meaning
+mark-entry : (top i : ℕ) (class shape : List ℕ) (down : ℕ) (meaning : List ℕ) → Plain class → Plain shape → Plain meaning
     → AreLines (mark_entry top i class shape down meaning)
 mark-entry top i class shape down meaning c s m = (
   mark-line class shape (legend_x i + 6) (legend_y top i + down) meaning c s m,

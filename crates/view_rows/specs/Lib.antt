@@ -1,3 +1,4 @@
 pub mod Small
 pub mod SmallWave
 pub mod SmallPicture
+pub mod SmallTitles

@@ -5,4 +5,5 @@
 #![tactic(auto, unfolding(ttp_base::specs::NodeSet::with_node, ttp_base::specs::NodeSet::members_in, ttp_world::specs::Trace::digits, wave_text::specs::Values::binary, wave_text::specs::Values::binary_number))]
 
 pub mod picture;
+pub mod titles;
 pub mod wave;

@@ -1,0 +1,181 @@
+-- The titles in a text that is put together of tags and plain texts.
+use Rattle.std.proofs.Common.{◌≡◌, ℕ, ◌+◌, Bool, true, false, cond, ◌&&◌, ◌||◌, List, [], ◌∷◌, ◌++◌, map, drop, codes, decimal}
+use Rattle.std.proofs.Common.{refl, sym, ap, subst, ◌∙◌, ◌≤◌, length, arith}
+use Rattle.std.specs.Prelude.{◌==◌}
+use Rattle.std.specs.List.{AllByRecursion, list_any, flat_map}
+use Rattle.std.proofs.lemmas.List.{append_assoc, append-nil}
+use Rattle.std.proofs.lemmas.List.Concat.{flat_map-append}
+use Rattle.ttp_base.specs.Text.{Lines, newline}
+use Rattle.ttp_world.proofs.LineLists.{each-append}
+use Rattle.picture_text.specs.Cells.{attribute, place, title_element, cell, mark}
+use Rattle.picture_text.specs.Picture.{class_of, text_line}
+use Rattle.picture_laws.specs.Titles.{begins_with, text_before, titles_in, titles}
+use Rattle.picture_text.proofs.PlainTexts.{is_special, Plain, parts}
+
+-- before any text, these bytes add these titles
+pub record Adds (bytes : List ℕ) (names : Lines) : Type 0 where
+  pub before : (rest : List ℕ) → titles_in (bytes ++ rest) ≡ names ++ titles_in rest
+
+infixl 20 ◌▸◌
+pub ◌▸◌ : {x y : List ℕ} {a b : Lines} → Adds x a → Adds y b → Adds (x ++ y) (a ++ b)
+◌▸◌ {x} {y} {a} {b} p q = record {
+  before = λ rest.
+      ap titles_in (append_assoc x y rest) ∙ p.before (y ++ rest) ∙ ap (λ (others : Lines). a ++ others) (q.before rest)
+      ∙ sym (append_assoc a b (titles_in rest));
+}
+
+-- a tag or the like, by computing
+pub tag : (x : List ℕ) → ((rest : List ℕ) → titles_in (x ++ rest) ≡ titles_in rest) → Adds x []
+tag x none = record { before = none }
+
+skipped : (x rest : List ℕ) → Plain x → titles_in (x ++ rest) ≡ titles_in rest
+skipped [] rest is = refl
+skipped (c ∷ x) rest is = go (c == 10) (60 == c) (38 == c) is (skipped x rest)
+  where
+    go : (feed opens other : Bool) → ((feed || (opens || other)) || list_any is_special x) ≡ false
+        → (Plain x → titles_in (x ++ rest) ≡ titles_in rest)
+        → cond (opens && begins_with (codes "title>") (x ++ rest))
+        (text_before (codes "</title>") (drop 6 (x ++ rest)) ∷ titles_in (x ++ rest)) (titles_in (x ++ rest))
+        ≡ titles_in rest
+    go true opens other is others = absurd (cc)
+    go false true other is others = absurd (cc)
+    go false false true is others = absurd (cc)
+    go false false false is others = others is
+
+pub plain : (x : List ℕ) → Plain x → Adds x []
+plain x is = record { before = λ rest. skipped x rest is }
+
+-- A title.
+
+before-end : (x rest : List ℕ) → Plain x → text_before (codes "</title>") (x ++ (codes "</title>" ++ rest)) ≡ x
+before-end [] rest is = refl
+before-end (c ∷ x) rest is = go (c == 10) (60 == c) (38 == c) is (before-end x rest)
+  where
+    go : (feed opens other : Bool) → ((feed || (opens || other)) || list_any is_special x) ≡ false
+        → (Plain x → text_before (codes "</title>") (x ++ (codes "</title>" ++ rest)) ≡ x)
+        → cond (opens && begins_with (codes "/title>") (x ++ (codes "</title>" ++ rest))) []
+        (c ∷ text_before (codes "</title>") (x ++ (codes "</title>" ++ rest)))
+        ≡ c ∷ x
+    go true opens other is others = absurd (cc)
+    go false true other is others = absurd (cc)
+    go false false true is others = absurd (cc)
+    go false false false is others = ap (λ (bytes : List ℕ). c ∷ bytes) (others is)
+
+pub title : (name : List ℕ) → Plain name → Adds (title_element name) (name ∷ [])
+title name is = record {
+  before = λ rest.
+      ap (λ (bytes : List ℕ). titles_in (codes "<title>" ++ bytes)) (append_assoc name (codes "</title>") rest)
+      ∙ (λ i. before-end name rest is i ∷ skipped name (codes "</title>" ++ rest) is i);
+}
+
+-- all the titles of some bytes
+pub titles_of : {bytes : List ℕ} {names : Lines} → Adds bytes names → titles_in bytes ≡ names
+titles_of {bytes} {names} adds = ap titles_in (sym (append-nil bytes)) ∙ adds.before [] ∙ append-nil names
+
+-- Parts of lines.
+
+pub attribute-adds : (name value : List ℕ) → Plain name → Plain value → Adds (attribute name value) []
+attribute-adds name value n v = plain (attribute name value) (simp (parts, n, v))
+
+pub place-adds : (x y : ℕ) → Adds (place x y) []
+place-adds x y = plain (place x y) (simp parts)
+
+pub feed : Adds newline []
+feed = tag newline (λ rest. refl)
+
+-- Lines.
+
+-- a line of text
+pub text-titles : (class : List ℕ) (x y : ℕ) (shown : List ℕ) → Plain class → Plain shown
+    → titles_in (text_line class x y shown) ≡ []
+text-titles class x y shown c s =
+    let all =
+    tag (codes "<text") (λ rest. refl) ▸ plain class c ▸ place-adds x y ▸ tag (codes ">") (λ rest. refl) ▸ plain shown s
+    ▸ tag (codes "</text>") (λ rest. refl) ▸ feed in
+    titles_of all
+
+pub classed-titles : (class : List ℕ) (x y : ℕ) (shown : List ℕ) → Plain class → Plain shown
+    → titles_in (text_line (class_of class) x y shown) ≡ []
+classed-titles class x y shown c s = text-titles (class_of class) x y shown (simp (parts, c)) s
+
+-- a cell, and a mark
+pub cell-titles : (class : List ℕ) (x y : ℕ) (name shown : List ℕ) → Plain class → Plain name → Plain shown
+    → titles_in (cell class x y name shown) ≡ name ∷ []
+cell-titles class x y name shown c n s =
+    let all =
+    tag (codes "<g") (λ rest. refl) ▸ attribute-adds (codes "class") class refl c ▸ tag (codes ">") (λ rest. refl)
+    ▸ title name n ▸ tag (codes "<rect") (λ rest. refl) ▸ place-adds x y
+    ▸ tag (codes " width=\"17\" height=\"17\"/>") (λ rest. refl) ▸ tag (codes "<text") (λ rest. refl)
+    ▸ place-adds (x + 8) (y + 13) ▸ tag (codes ">") (λ rest. refl) ▸ plain shown s
+    ▸ tag (codes "</text></g>") (λ rest. refl) ▸ feed in
+    titles_of all
+
+pub mark-titles : (class shape : List ℕ) (x y : ℕ) (name : List ℕ) → Plain class → Plain shape → Plain name
+    → titles_in (mark class shape x y name) ≡ name ∷ []
+mark-titles class shape x y name c s n =
+    let path = codes "M" ++ decimal x ++ codes " " ++ decimal y ++ shape in
+    let all =
+    tag (codes "<path") (λ rest. refl) ▸ attribute-adds (codes "class") class refl c
+    ▸ attribute-adds (codes "d") path refl (simp (parts, s)) ▸ tag (codes ">") (λ rest. refl) ▸ title name n
+    ▸ tag (codes "</path>") (λ rest. refl) ▸ feed in
+    titles_of all
+
+-- Lists of lines.
+
+-- a line has one title at most
+abbrev pub HasOne : List ℕ → Type 0
+HasOne text = length (titles_in text) ≤ 1
+
+-- these lines have these titles, and none has two
+pub record Have (lines names : Lines) : Type 0 where
+  pub are : titles lines ≡ names
+  pub once : AllByRecursion HasOne lines
+
+infixl 20 ◌▹◌
+pub ◌▹◌ : {xs ys : Lines} {a b : Lines} → Have xs a → Have ys b → Have (xs ++ ys) (a ++ b)
+◌▹◌ {xs} {ys} p q = record {
+  are = flat_map-append titles_in xs ys ∙ (λ i. p.are i ++ q.are i);
+  once = each-append HasOne xs ys p.once q.once;
+}
+
+has-one : (text : List ℕ) (names : Lines) → length names ≤ 1 → titles_in text ≡ names → HasOne text
+has-one text names few is = subst (λ (lines : Lines). length lines ≤ 1) (sym is) few
+
+-- a line before others: without a title, and with one
+pub untitled : (text : List ℕ) (lines names : Lines) → titles_in text ≡ [] → Have lines names → Have (text ∷ lines) names
+untitled text lines names is others = record {
+  are = λ i. is i ++ others.are i;
+  once = (has-one text [] (omega arith) is, others.once);
+}
+
+pub titled : (text : List ℕ) (lines : Lines) (name : List ℕ) (names : Lines) → titles_in text ≡ name ∷ [] → Have lines names
+    → Have (text ∷ lines) (name ∷ names)
+titled text lines name names is others = record {
+  are = λ i. is i ++ others.are i;
+  once = (has-one text (name ∷ []) (omega arith) is, others.once);
+}
+
+pub no-lines : Have [] []
+no-lines = record { are = refl; once = tt }
+
+pub map-none : {X : Type 0} (f : X → List ℕ) (xs : List X) → ((x : X) → titles_in (f x) ≡ []) → Have (map f xs) []
+map-none f [] each = no-lines
+map-none f (x ∷ xs) each = untitled (f x) (map f xs) [] (each x) (map-none f xs each)
+
+pub map-each : {X : Type 0} (f name : X → List ℕ) (xs : List X) → ((x : X) → titles_in (f x) ≡ name x ∷ [])
+    → Have (map f xs) (map name xs)
+map-each f name [] each = no-lines
+map-each f name (x ∷ xs) each = titled (f x) (map f xs) (name x) (map name xs) (each x) (map-each f name xs each)
+
+pub flat-none : {X : Type 0} (f : X → Lines) (xs : List X) → ((x : X) → Have (f x) []) → Have (flat_map f xs) []
+flat-none f [] each = no-lines
+flat-none f (x ∷ xs) each = each x ▹ flat-none f xs each
+
+pub flat-each : {X : Type 0} (f names : X → Lines) (xs : List X) → ((x : X) → Have (f x) (names x))
+    → Have (flat_map f xs) (flat_map names xs)
+flat-each f names [] each = no-lines
+flat-each f names (x ∷ xs) each = each x ▹ flat-each f names xs each
+
+pub if-none : (b : Bool) (lines : Lines) → Have lines [] → Have (cond b lines []) []
+if-none true lines none = none
+if-none false lines none = no-lines

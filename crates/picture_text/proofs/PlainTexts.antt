@@ -1,0 +1,272 @@
+-- What no text in a line of a picture has: a line feed, or a byte that begins a tag or stands for another.
+use Rattle.std.proofs.Common.{◌≡◌, ℕ, zero, suc, ◌+◌, ◌-◌, ◌/◌, ◌%◌, Bool, true, false, cond, ◌&&◌, ◌||◌, not, nat_lt}
+use Rattle.std.proofs.Common.{List, [], ◌∷◌, ◌++◌, refl, ◌∙◌, ℤ, pos, negsuc, Option, Some, None, arith, codes, decimal, length, get_or}
+use Rattle.std.specs.Prelude.{◌==◌, nat_le, is_some}
+use Rattle.std.specs.List.{AllByRecursion, list_all, list_any, flat_map}
+use Rattle.std.specs.Fmt.{digit_glyph, digits_onto, digits, signed_decimal}
+use Rattle.std.proofs.lemmas.Bool.{and_parts, not-true}
+use Rattle.std.proofs.lemmas.List.Folds.{list_any-append}
+use Rattle.ttp_base.specs.NodeSet.{set_bits}
+use Rattle.ttp_base.specs.Text.{Lines, hex_digit, hex, byte_hex, hex_bytes}
+use Rattle.ttp_world.specs.declared.keep.Back.{Back}
+use Rattle.ttp_world.specs.declared.keep.Back.TheVariants as back
+use Rattle.ttp_world.specs.declared.keep.Keep.{Keep}
+use Rattle.ttp_world.specs.declared.keep.Keep.TheVariants as keep
+use Rattle.ttp_world.specs.declared.node.Ack.{Ack}
+use Rattle.ttp_world.specs.declared.node.Ack.TheVariants as ack
+use Rattle.ttp_world.specs.declared.script.Source.{Source}
+use Rattle.ttp_world.specs.declared.script.Source.TheVariants as source
+use Rattle.ttp_world.specs.Trace.{number_or_dash, ack_word, source_word}
+use Rattle.line_reader.specs.declared.trace_line.Word.{Word}
+use Rattle.line_reader.specs.declared.trace_line.Word.TheVariants as word
+use Rattle.line_reader.specs.TraceLines.{word_text, keep_text, back_text}
+use Rattle.whole_trace.specs.declared.shown.Head.{Head}
+use Rattle.whole_trace.specs.declared.shown.HostLine.{HostLine}
+use Rattle.whole_trace.specs.declared.shown.HostLine.TheVariants as by_host
+use Rattle.whole_trace.specs.declared.shown.NodeShown.{NodeShown}
+use Rattle.whole_trace.specs.Whole.{SlotLines, WholeTrace}
+use Rattle.shown_slot.specs.declared.node.ClockRange.{ClockRange}
+use Rattle.shown_slot.specs.Nodes.{is_doubt, is_holder, spread_in}
+use Rattle.shown_slot.specs.Trace.{head_text, first_text, node_text, host_text}
+use Rattle.picture_text.specs.declared.window.Span.{Span}
+use Rattle.picture_text.specs.Cells.{memberships, holders_of, doubt_class, other_class, data_class, node_class}
+use Rattle.picture_text.specs.Cells.{member_digits, each_node, membership_text, members_title, count_of, apart_text, apart_shown}
+use Rattle.picture_text.specs.Picture.{more_text}
+use Rattle.picture_text.specs.Tables.{words, letter, word_meaning, rule_meanings, returning_meanings, keep_meaning, back_meaning}
+use Rattle.picture_text.specs.Tables.{keep_name, back_name}
+use Rattle.picture_text.specs.Window.{strange_past}
+
+-- a line feed, `<` or `&`
+abbrev pub is_special : ℕ → Bool
+is_special c = (c == 10) || ((60 == c) || (38 == c))
+
+-- a text without them
+abbrev pub Plain : List ℕ → Type 0
+Plain text = list_any is_special text ≡ false
+
+pub plain-append : (x y : List ℕ) → Plain x → Plain y → Plain (x ++ y)
+plain-append x y p q = rw (list_any-append is_special x y, p, q) refl
+
+pub special-append : (x y : List ℕ) → list_any is_special (x ++ y) ≡ (list_any is_special x || list_any is_special y)
+special-append x y = list_any-append is_special x y
+
+-- Numbers.
+
+glyph-plain : (small : Bool) (d : ℕ) → nat_lt d 10 ≡ small → is_special (cond small (48 + d) (87 + d)) ≡ false
+glyph-plain true d less = grind (arith, less)
+glyph-plain false d less = grind (arith, less)
+
+special-onto : (k n : ℕ) (text : List ℕ) → list_any is_special (digits_onto k 10 false n text) ≡ list_any is_special text
+special-onto zero n text = refl
+special-onto (suc k) n text =
+    let more = digit_glyph false (n % 10) ∷ text in
+    let here : list_any is_special more ≡ list_any is_special text = rw (glyph-plain (nat_lt (n % 10) 10) (n % 10) refl) refl in
+    let go : (last : Bool)
+    → list_any is_special (cond last more (digits_onto k 10 false (n / 10) more)) ≡ list_any is_special text =
+    elim [ true ↦ here | false ↦ special-onto k (n / 10) more ∙ here ] in
+    go (n / 10 == 0)
+
+pub plain-decimal : (n : ℕ) → Plain (decimal n)
+unfolding digits
+plain-decimal n = special-onto 64 n []
+
+plain-signed : (z : ℤ) → Plain (signed_decimal z)
+plain-signed (pos n) = plain-decimal n
+plain-signed (negsuc n) = rw (plain-decimal (suc n)) refl
+
+pub plain-hex : (digits v : ℕ) → Plain (hex digits v)
+plain-hex zero v = refl
+plain-hex (suc digits) v =
+    plain-append (hex digits (v / 16)) (hex_digit (v % 16) ∷ []) (plain-hex digits (v / 16))
+    (rw (glyph-plain (nat_lt (v % 16) 10) (v % 16) refl) refl)
+
+plain-byte_hex : (byte : ℕ) → Plain (byte_hex byte)
+plain-byte_hex byte =
+    let high = glyph-plain (nat_lt (byte / 16) 10) (byte / 16) refl in
+    rw (high, glyph-plain (nat_lt (byte % 16) 10) (byte % 16) refl) refl
+
+plain-hex_bytes : (bytes : List ℕ) → Plain (hex_bytes bytes)
+plain-hex_bytes [] = refl
+plain-hex_bytes (byte ∷ bytes) =
+    plain-append (byte_hex byte) (hex_bytes bytes) (plain-byte_hex byte) (plain-hex_bytes bytes)
+
+pub ruleset parts = (special-append, plain-decimal, plain-hex)
+
+-- Words.
+
+plain-number : (number : Option ℕ) → Plain (number_or_dash number)
+plain-number None = refl
+plain-number (Some n) = plain-decimal n
+
+plain-ack : (a : Ack) → Plain (ack_word a)
+plain-ack ack.Closed = refl
+plain-ack ack.First = refl
+plain-ack (ack.Doubt x) = simp parts
+
+plain-source : (from : Source) → Plain (source_word from)
+plain-source source.Status = refl
+plain-source (source.Node p) = plain-decimal p
+
+-- what a test finds of all words it finds of each
+each-word : (test : Word → Bool) → list_all test words ≡ true → (w : Word) → test w ≡ true
+each-word test all w =
+    let are = each-of words all in
+    elim w as (λ v. test v ≡ true) [
+      | word.Off ↦ are.0
+      | word.Wait ↦ are.1.0
+      | word.Retry ↦ are.1.1.0
+      | word.Gone ↦ are.1.1.1.0
+      | word.Start ↦ are.1.1.1.1.0
+      | word.Join ↦ are.1.1.1.1.1.0
+      | word.Send ↦ are.1.1.1.1.1.1.0
+      | word.Correct ↦ are.1.1.1.1.1.1.1.0
+      | word.Tentative ↦ are.1.1.1.1.1.1.1.1.0
+      | word.Incorrect ↦ are.1.1.1.1.1.1.1.1.1.0
+      | word.Invalid ↦ are.1.1.1.1.1.1.1.1.1.1.0
+      | word.Null ↦ are.1.1.1.1.1.1.1.1.1.1.1.0
+      | word.Denied ↦ are.1.1.1.1.1.1.1.1.1.1.1.1.0
+      | word.Unacknowledged ↦ are.1.1.1.1.1.1.1.1.1.1.1.1.1.0
+      | word.Clique ↦ are.1.1.1.1.1.1.1.1.1.1.1.1.1.1.0
+    ]
+  where
+    each-of : (ws : List Word) → list_all test ws ≡ true → AllByRecursion (λ v. test v ≡ true) ws
+    each-of [] e = tt
+    each-of (v ∷ ws) e = let parts = and_parts (test v) (list_all test ws) e in (parts.0, each-of ws parts.1)
+
+pub plain-word : (w : Word) → Plain (word_text w)
+plain-word w = not-true (list_any is_special (word_text w)) (each-word (λ v. not (list_any is_special (word_text v))) refl w)
+
+pub plain-letter : (w : Word) → Plain (letter w)
+plain-letter w = not-true (list_any is_special (letter w)) (each-word (λ v. not (list_any is_special (letter v))) refl w)
+
+pub plain-meaning : (w : Word) → Plain (word_text w ++ codes ": " ++ word_meaning w)
+plain-meaning w =
+    not-true (list_any is_special (word_text w ++ codes ": " ++ word_meaning w))
+    (each-word (λ v. not (list_any is_special (word_text v ++ codes ": " ++ word_meaning v))) refl w)
+
+plain-if : (b : Bool) (x y : List ℕ) → Plain x → Plain y → Plain (cond b x y)
+plain-if true x y p q = p
+plain-if false x y p q = q
+
+-- Lines of the trace.
+
+pub plain-head : (head : Head) → Plain (head_text head)
+plain-head head =
+    plain-append (codes "ttpbench trace " ++ decimal head.version ++ codes " nodes " ++ decimal head.nodes
+    ++ codes " rounds " ++ decimal head.rounds ++ codes " slots " ++ decimal head.slots ++ codes " schedule ")
+    (hex 6 head.schedule) (simp parts) (plain-hex 6 head.schedule)
+
+pub plain-keep : (k : Keep) → Plain (keep_text k)
+plain-keep (keep.Yes start) = simp parts
+plain-keep (keep.No rule slot) = simp parts
+
+pub plain-back : (b : Back) → Plain (back_text b)
+plain-back (back.Yes start) = simp parts
+plain-back (back.No rule slot) = simp parts
+
+pub plain-node : (head : Head) (t k : ℕ) (node : NodeShown) → Plain (node_text head t k node)
+plain-node head t k node = simp (parts, plain-word, plain-number, plain-ack, plain-signed)
+
+pub plain-host : (t : ℕ) (line : HostLine) → Plain (host_text t line)
+plain-host t (by_host.Write host number) = simp parts
+plain-host t (by_host.Read host from number payload) = simp (parts, plain-source, plain-hex_bytes)
+
+-- The head.
+
+pub plain-more : (s : Option ℕ) → Plain (more_text s)
+plain-more None = refl
+plain-more (Some t) = simp parts
+
+-- the text of the line that says what is shown
+abbrev pub shown_text : WholeTrace → Span → List ℕ
+shown_text trace span =
+    first_text trace ++ codes ", shown: slots " ++ decimal span.first ++ codes " to " ++ decimal span.last
+    ++ more_text (strange_past span.last trace.slots)
+
+pub plain-shown : (trace : WholeTrace) (span : Span) → Plain (shown_text trace span)
+plain-shown trace span =
+    let first = plain-head trace.head in
+    let more = plain-more (strange_past span.last trace.slots) in
+    simp (parts, first, more)
+
+-- an entry of a table of such texts
+plain-any : (table : Lines) (i : ℕ) → AllByRecursion (λ text. Plain text) table → Plain (get_or table i [])
+plain-any [] i are = refl
+plain-any (text ∷ table) zero are = are.0
+plain-any (text ∷ table) (suc i) are = plain-any table i are.1
+
+pub plain-keep_meaning : (k : Keep) → Plain (keep_meaning k)
+plain-keep_meaning (keep.Yes start) = simp parts
+plain-keep_meaning (keep.No rule slot) =
+    plain-any rule_meanings (rule - 1) (refl, (refl, (refl, (refl, (refl, (refl, (refl, tt)))))))
+
+pub plain-back_meaning : (b : Back) → Plain (back_meaning b)
+plain-back_meaning (back.Yes start) = refl
+plain-back_meaning (back.No rule slot) =
+    plain-any returning_meanings (rule - 1) (refl, (refl, (refl, (refl, (refl, (refl, (refl, (refl, tt))))))))
+
+pub plain-said : (said meaning : List ℕ) → Plain said → Plain meaning → Plain (said ++ codes ": " ++ meaning)
+plain-said said meaning s m = simp (parts, s, m)
+
+-- Cells.
+
+pub plain-class : (node : NodeShown) (most : Option ℕ) → Plain (node_class node most)
+plain-class node most =
+    let message = plain-if (is_some node.message) (codes " data") [] refl refl in
+    let doubt = plain-if (is_doubt node.ack) (codes " doubt") [] refl refl in
+    plain-append (word_text node.word ++ doubt_class node ++ other_class node most) (data_class node)
+    (plain-append (word_text node.word ++ doubt_class node) (other_class node most)
+    (plain-append (word_text node.word) (doubt_class node) (plain-word node.word) doubt) (other most)) message
+  where
+    other : (held : Option ℕ) → Plain (other_class node held)
+    other None = refl
+    other (Some members) =
+        plain-if (is_holder node && not (set_bits node.members == members)) (codes " other") [] refl refl
+
+plain-flat : {X : Type 0} (f : X → List ℕ) (xs : List X) → ((x : X) → Plain (f x)) → Plain (flat_map f xs)
+plain-flat f [] are = refl
+plain-flat f (x ∷ xs) are = plain-append (f x) (flat_map f xs) (are x) (plain-flat f xs are)
+
+plain-membership : (head : Head) (slot : SlotLines) (members : ℕ) → Plain (membership_text head slot members)
+plain-membership head slot members =
+    plain-append (codes " " ++ hex (member_digits head) members ++ codes " of") (each_node (holders_of members slot))
+    (simp parts) (plain-flat (λ k. codes " " ++ decimal k) (holders_of members slot) (λ k. simp parts))
+
+pub plain-members : (head : Head) (t : ℕ) (slot : SlotLines) → Plain (members_title head t slot)
+plain-members head t slot =
+    plain-append (codes "slot " ++ decimal t ++ codes " members")
+    (flat_map (membership_text head slot) (memberships slot.nodes)) (simp parts)
+    (plain-flat (membership_text head slot) (memberships slot.nodes) (plain-membership head slot))
+
+pub plain-no_members : (t : ℕ) → Plain (codes "slot " ++ decimal t ++ codes " members -")
+plain-no_members t = simp parts
+
+pub plain-count : (nodes : List NodeShown) → Plain (count_of nodes)
+plain-count [] = refl
+plain-count (node ∷ nodes) =
+    plain-if (is_holder node) (decimal (length node.members)) (count_of nodes) (plain-decimal (length node.members))
+    (plain-count nodes)
+
+plain-apart : (range : Option ClockRange) → Plain (apart_text range)
+plain-apart None = refl
+plain-apart (Some range) = plain-decimal (spread_in range)
+
+pub plain-clocks : (t : ℕ) (range : Option ClockRange)
+    → Plain (codes "slot " ++ decimal t ++ codes " clocks apart " ++ apart_text range)
+plain-clocks t range =
+    plain-append (codes "slot " ++ decimal t ++ codes " clocks apart ") (apart_text range) (simp parts) (plain-apart range)
+
+pub plain-apart_shown : (range : Option ClockRange) → Plain (apart_shown range)
+plain-apart_shown None = refl
+plain-apart_shown (Some range) =
+    plain-if (nat_le 1000 (spread_in range)) (codes "*") (decimal (spread_in range)) refl (plain-decimal (spread_in range))
+
+-- Flags.
+
+pub plain-keep_name : (k : Keep) → Plain (keep_name k)
+plain-keep_name (keep.Yes start) = refl
+plain-keep_name (keep.No rule slot) = simp parts
+
+pub plain-back_name : (b : Back) → Plain (back_name b)
+plain-back_name (back.Yes start) = refl
+plain-back_name (back.No rule slot) = simp parts
