@@ -205,9 +205,6 @@ plain-back_meaning (back.Yes start) = refl
 plain-back_meaning (back.No rule slot) =
     plain-any returning_meanings (rule - 1) (refl, (refl, (refl, (refl, (refl, (refl, (refl, (refl, tt))))))))
 
-pub plain-said : (said meaning : List ℕ) → Plain said → Plain meaning → Plain (said ++ codes ": " ++ meaning)
-plain-said said meaning s m = simp (parts, s, m)
-
 -- Cells.
 
 pub plain-class : (node : NodeShown) (most : Option ℕ) → Plain (node_class node most)
