@@ -57,6 +57,7 @@ fn a_picture(rt: HostRuntime) -> Result<(), Fail> {
 fn one_slot(rt: HostRuntime) -> Result<(), Fail> {
     let trace = read_whole(TRACE.as_bytes())?;
     let mut sink = MemorySink::new(rt.alloc(), 16_000, no_failures(rt.alloc()))?;
+    assert_eq!(rt; trace.head().slots, 2);
     let asked = Span { first: 0, last: 0 };
     put_picture(&trace, Some(asked), &mut sink)?;
     let text = str::from_utf8(sink.bytes())?;
