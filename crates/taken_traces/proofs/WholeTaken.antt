@@ -1,6 +1,6 @@
 -- The whole text of a run: the first line, the slots and the lines of the tests.
 use Rattle.std.proofs.Common.{◌≡◌, ℕ, zero, suc, ◌+◌, ◌*◌, ◌≤◌, Bool, true, false, cond, ◌&&◌, ◌||◌, []}
-use Rattle.std.proofs.Common.{◌∷◌, ◌++◌, All, length, Some, None, refl, ap, ◌∙◌, arith, append-nil}
+use Rattle.std.proofs.Common.{◌∷◌, ◌++◌, All, length, Some, None, refl, ap, ◌∙◌, arith, append-nil, length-append}
 use Rattle.std.specs.Prelude.{◌==◌, Ok}
 use Rattle.std.specs.List.{concat}
 use Rattle.std.proofs.lemmas.Bool.{eq-eqb, le-leb}
@@ -17,7 +17,7 @@ use Rattle.ttp_world.specs.Trace.{back_line, back_lines_if, history_lines, keep_
 use Rattle.ttp_world.specs.World.{Numbers, world}
 use Rattle.ttp_world.proofs.Lists.{nodes-most}
 use Rattle.ttp_world.proofs.TraceLines.{trace_lines-each}
-use Rattle.ttp_world.proofs.Worlds.{length-world}
+use Rattle.ttp_world.proofs.Worlds.{length-world, row_of_world}
 use Rattle.line_reader.specs.declared.trace_line.TraceLine.TheVariants as line
 use Rattle.line_reader.specs.TraceLines.{FitsHeader}
 use Rattle.line_reader.specs.WorldLines.{head_of}
@@ -26,7 +26,8 @@ use Rattle.whole_trace.specs.declared.due.Due.TheVariants as due
 use Rattle.whole_trace.specs.declared.due.Outline.{Outline}
 use Rattle.whole_trace.specs.Due.{is_head, is_within}
 use Rattle.whole_trace.specs.Whole.{SlotsFrom, WholeTrace, judged, no_slots, value_of, whole_in, whole_or_line}
-use Rattle.taken_traces.specs.Taken.{IsOfBytes, back_if, head_of_run, slots_listed, trace_of_run}
+use Rattle.taken_traces.specs.Taken.{IsOfBytes, back_if, head_of_run, slot_listed, slots_listed}
+use Rattle.taken_traces.specs.Taken.{trace_of_run}
 use Rattle.taken_traces.proofs.Reading.{EndsWith, one_line, value-again}
 use Rattle.taken_traces.proofs.SlotsTaken.{behind, fronted, history-end}
 use Rattle.taken_traces.proofs.TestBounds.{keeps-fits, returns-fits}
@@ -129,3 +130,16 @@ module _ (list : Medl) (script : Script) (valid : IsValid list) (valid_script : 
       ap (λ (ls : Lines). whole_or_line ls (judged due.First ls)) cut ∙ ap (whole_or_line lines) all.judges
       ∙ ap (λ (from : SlotsFrom). Ok (made from)) rest.slots
       ∙ ap (λ ss. Ok (made (fronted [] ss))) (append-nil listed)
+
+-- It has as many slots as there are numbers.
+pub slots-counted : (list : Medl) (script : Script) (numbers : Numbers)
+    → length (slots_listed list script (world list script numbers) numbers) ≡ length numbers
+slots-counted list script [] = refl
+slots-counted list script (new ∷ numbers) =
+    let before = world list script numbers in
+    let row = row_of_world list script new numbers in
+    omega (
+      arith,
+      length-append (slots_listed list script before numbers) (slot_listed list script row before new ∷ []),
+      slots-counted list script numbers,
+    )
