@@ -12,12 +12,12 @@ use Rattle.fault_runs.specs.Ends.{WroteFewer}
 use Rattle.commands.specs.declared.read.FileFault.{FileFault}
 use Rattle.commands.specs.Faults.{fault_line}
 use Rattle.commands.specs.Files.{refused_list, refused_script, script_plan}
-use Rattle.commands.specs.Outcome.{Showed}
+use Rattle.commands.specs.Outcome.{Showed, Refused}
 use Rattle.commands.specs.Plan.{Outside, ends, line_ending, said_ending, after, Comes, AsksFirst, told_ending}
 use Rattle.commands.specs.Promise.{IsUnfinished, NoneAskedRose, Promise as CallPromise}
 use Rattle.commands.specs.Read.{list_limit, list_from, script_limit, script_from}
 use Rattle.commands.specs.Right.{AreTold}
-use Rattle.commands.specs.Texts.{Texts, those, nothing, WroteAmong}
+use Rattle.commands.specs.Texts.{Texts, those, nothing, WroteAmong, alone}
 use Rattle.commands.proofs.Both.{CameBoth, both_came, both_told, both_ask}
 use Rattle.commands.proofs.Fronts.{list_from-front, script_from-front}
 use Rattle.commands.proofs.Plans.{AllAsk, all_asked, all_come, both_every, end_comes, told_comes}
@@ -39,7 +39,20 @@ fewer text before now some = record {
   wrote = some.wrote;
 }
 
--- and none, since a campaign has a first line
+-- and the other way round
+pub wants : (text : Lines) (before now : Output) → WroteFewer before now text
+    → Refused ttplab (those (begun text)) before now (alone 7)
+wants text before now some = record {
+  status = refl;
+  text = record {
+    lines = some.whole;
+    among = record { next = some.next; rest = some.rest; begins = some.text };
+    wrote = some.wrote;
+  };
+  none = refl;
+}
+
+-- none are first lines too, since a campaign has one
 none_of : (medl : Medl) (right : Script) (first last : ℕ) (before now : Output) → Wrote before now []
     → WroteFewer before now (campaign_lines medl right first last)
 none_of medl right first last before now none =

@@ -8,7 +8,7 @@ use Rattle.std.proofs.lemmas.List.Folds.{list_any-append}
 use Rattle.ttp_base.specs.NodeSet.{set_bits}
 use Rattle.ttp_base.specs.Text.{newline, is_line}
 use Rattle.ttp_base.proofs.Lines.{is_line-append}
-use Rattle.ttp_base.proofs.Numerals.{has, has-append, has-decimal, has-signed, has-hex}
+use Rattle.ttp_base.proofs.Numerals.{has-signed, has-hex}
 use Rattle.ttp_world.specs.declared.medl.Medl.{Medl}
 use Rattle.ttp_world.specs.declared.node.Entry.TheVariants as entry
 use Rattle.ttp_world.specs.declared.script.Channels.{Channels}
@@ -33,17 +33,8 @@ use Rattle.campaign.specs.Lines.{summary, head_line, own_line, fault_line, count
 use Rattle.campaign.specs.Lines.{fault_slot, fault_node, run_line, lines_with, campaign_lines}
 use Rattle.campaign.specs.Tried.{with_fault, faults_from}
 use Rattle.campaign.specs.ZerosWorld.{zeros_world}
+use Rattle.wave_text.proofs.Feeds.{HasNone, none-append, none-decimal}
 use Rattle.commands.specs.Lines.{AreLines}
-
--- no line feed
-abbrev HasNone : List ℕ → Type 0
-HasNone text = has 10 text ≡ false
-
-low : 10 < 45
-low = omega arith
-
-numeral : (n : ℕ) → HasNone (decimal n)
-numeral n = has-decimal 10 n low
 
 ended : (text : List ℕ) → HasNone text → is_line (text ++ newline) ≡ true
 ended text none = is_line-append text newline none refl
@@ -75,7 +66,7 @@ joined-none : {X : Type 0} (word : X → List ℕ) → ((x : X) → HasNone (wor
 joined-none word each [] = refl
 joined-none word each (x ∷ []) = each x
 joined-none word each (x ∷ y ∷ xs) =
-    has-append 10 (word x) (44 ∷ join_with_byte 44 (map word (y ∷ xs))) (each x) (joined-none word each (y ∷ xs))
+    none-append (word x) (44 ∷ join_with_byte 44 (map word (y ∷ xs))) (each x) (joined-none word each (y ∷ xs))
 
 listed-none : {X : Type 0} (word : X → List ℕ) → ((x : X) → HasNone (word x)) → (xs : List X)
     → HasNone (listed (map word xs))
@@ -84,15 +75,15 @@ listed-none word each (x ∷ xs) = joined-none word each (x ∷ xs)
 
 leave-none : (leave : Leave) → HasNone (leave_word leave)
 leave-none leave =
-    has-append 10 (decimal leave.node) (codes ":" ++ decimal leave.slot ++ codes ":" ++ reason_word leave.reason)
-    (numeral leave.node)
-    (has-append 10 (decimal leave.slot) (codes ":" ++ reason_word leave.reason) (numeral leave.slot)
-    (has-entry_word 10 (entry.Left leave.reason 0) low))
+    none-append (decimal leave.node) (codes ":" ++ decimal leave.slot ++ codes ":" ++ reason_word leave.reason)
+    (none-decimal leave.node)
+    (none-append (decimal leave.slot) (codes ":" ++ reason_word leave.reason) (none-decimal leave.slot)
+    (has-entry_word 10 (entry.Left leave.reason 0) (omega arith)))
 
 span-none : (span : Option Span) → HasNone (span_words span)
 span-none None = refl
 span-none (Some span) =
-    has-append 10 (decimal span.first) (codes " " ++ decimal span.last) (numeral span.first) (numeral span.last)
+    none-append (decimal span.first) (codes " " ++ decimal span.last) (none-decimal span.first) (none-decimal span.last)
 
 four-none : (left hurt split end : List ℕ) → HasNone left → HasNone hurt → HasNone split → HasNone end
     → HasNone (codes "left " ++ left ++ codes " hurt " ++ hurt ++ codes " split " ++ split ++ codes " end " ++ end)
@@ -102,8 +93,8 @@ cost-none : (list : Medl) (cost : Cost) → HasNone (cost_words list cost)
 cost-none list cost =
     four-none (listed (map leave_word cost.left)) (listed (map decimal cost.hurt)) (span_words cost.split)
     (listed (map (members_word list) cost.end)) (listed-none leave_word leave-none cost.left)
-    (listed-none decimal numeral cost.hurt) (span-none cost.split)
-    (listed-none (members_word list) (λ members. has-hex 10 (member_digits list) (set_bits members) low) cost.end)
+    (listed-none decimal none-decimal cost.hurt) (span-none cost.split)
+    (listed-none (members_word list) (λ members. has-hex 10 (member_digits list) (set_bits members) (omega arith)) cost.end)
 
 -- The fault.
 
@@ -124,8 +115,8 @@ loss-none word node channels kind from to p q r s t u = simp (list_any-append (�
 loss_words-none : (word : List ℕ) (node : ℕ) (channels : Channels) (kind : Fault) (from to : ℕ) → HasNone word
     → HasNone (loss_words word node channels kind from to)
 loss_words-none word node channels kind from to none =
-    loss-none word (decimal node) (channels_word channels) (kind_word kind) (decimal from) (decimal to) none (numeral node)
-    (channels-none channels.a channels.b) (kind-none kind) (numeral from) (numeral to)
+    loss-none word (decimal node) (channels_word channels) (kind_word kind) (decimal from) (decimal to) none (none-decimal node)
+    (channels-none channels.a channels.b) (kind-none kind) (none-decimal from) (none-decimal to)
 
 jump-none : (node value slot : List ℕ) → HasNone node → HasNone value → HasNone slot
     → HasNone (codes "jump " ++ node ++ codes " " ++ value ++ codes " " ++ slot)
@@ -136,7 +127,7 @@ fault-none (event.Send node channels kind from to) = loss_words-none (codes "sen
 fault-none (event.Receive node channels kind from to) =
     loss_words-none (codes "receive ") node channels kind from to refl
 fault-none (event.Jump node value slot) =
-    jump-none (decimal node) (signed_decimal value) (decimal slot) (numeral node) (has-signed 10 value low) (numeral slot)
+    jump-none (decimal node) (signed_decimal value) (decimal slot) (none-decimal node) (has-signed 10 value (omega arith)) (none-decimal slot)
 fault-none (event.Flip node channels bit slot) = refl
 fault-none (event.Error node value from to) = refl
 fault-none (event.Arm node slot) = refl
@@ -155,7 +146,7 @@ head-by nodes slots first last p q r s =
 head-is_line : (list : Medl) (script : Script) (first last : ℕ) → is_line (head_line list script first last) ≡ true
 head-is_line list script first last =
     head-by (decimal (length list.slots)) (decimal script.slots) (decimal first) (decimal last)
-    (numeral (length list.slots)) (numeral script.slots) (numeral first) (numeral last)
+    (none-decimal (length list.slots)) (none-decimal script.slots) (none-decimal first) (none-decimal last)
 
 own-by : (test cost : List ℕ) → HasNone test → HasNone cost
     → is_line (codes "slot - node - " ++ (test ++ codes " " ++ cost ++ codes " fault ") ++ codes "-" ++ newline) ≡ true
@@ -188,14 +179,14 @@ own-is_line list script =
 run-is_line : (list : Medl) (more : Script) (e : Event) → is_line (fault_line list e (summary list more)) ≡ true
 run-is_line list more e =
     run-by (decimal (fault_slot e)) (decimal (fault_node e)) (test_words list more)
-    (cost_words list (summary list more).cost) (fault_words e) (numeral (fault_slot e)) (numeral (fault_node e))
+    (cost_words list (summary list more).cost) (fault_words e) (none-decimal (fault_slot e)) (none-decimal (fault_node e))
     (test-none list more) (cost-none list (summary list more).cost) (fault-none e)
 
 counts-is_line : (name : List ℕ) (counts : Counts) → HasNone name → is_line (counts_line name counts) ≡ true
 counts-is_line name counts none =
     counts-by name (decimal counts.runs) (decimal counts.same) (decimal counts.hurt) (decimal counts.split)
-    (decimal counts.torn) (decimal counts.dead) none (numeral counts.runs) (numeral counts.same) (numeral counts.hurt)
-    (numeral counts.split) (numeral counts.torn) (numeral counts.dead)
+    (decimal counts.torn) (decimal counts.dead) none (none-decimal counts.runs) (none-decimal counts.same) (none-decimal counts.hurt)
+    (none-decimal counts.split) (none-decimal counts.torn) (none-decimal counts.dead)
 
 runs-each : (list : Medl) (script : Script) (faults : List Event) → AreLines (map (run_line list script) faults)
 runs-each list script [] = tt

@@ -22,6 +22,10 @@ use Rattle.script_text.specs.Statement.{Statement, keyword_of, statement_of}
 use Rattle.script_text.proofs.RightFiles.{line_right}
 use Rattle.script_text.proofs.Sizes.{with_end, size_of, size-lines_of}
 use Rattle.script_text.proofs.Valid.{AreValid, AreValid-none}
+use Rattle.medl_text.proofs.Valid.{medl_of-valid}
+use Rattle.commands.specs.Files.{TookBoth}
+use Rattle.commands.specs.Plan.{Outside}
+use Rattle.commands.proofs.Right.{right_list, right_script}
 
 -- the bytes that are still owed where no line has said the run's slots
 abbrev owed : Option ℕ → ℕ
@@ -82,44 +86,54 @@ line_room_by list said line None before none valid =
     first_room list line said (says_nothing (words_of line)) (keyword_of (word_at (words_of line) 0)) refl before none
 line_room_by list said line (Some count) before none valid = omega (arith, (line_right list said line none valid).size)
 
-no_errors : (number : ℕ) (found : List LineFault) (more : List ScriptError) → errors_at number found ++ more ≡ []
-    → (found ≡ []) × (more ≡ [])
-no_errors number [] more none = (refl, none)
-no_errors number (fault ∷ found) more none = absurd (cc)
+-- where a list of faults is empty, so are its parts
+from_none : {P : Type 0} (number : ℕ) (found : List LineFault) (more : List ScriptError)
+    → errors_at number found ++ more ≡ [] → (found ≡ [] → more ≡ [] → P) → P
+from_none number [] more none then = then refl none
+from_none number (fault ∷ found) more none then = absurd (cc)
 
 no_debt : (slots : Option ℕ) → is_some slots ≡ true → owed slots ≡ 0
 no_debt None is = absurd (cc)
 no_debt (Some count) is = refl
-
-slots_said : (number : ℕ) (said : List Statement) → end_faults number said ≡ [] → is_some (slots_of said) ≡ true
-slots_said number said none = grind (arith, common_steps)
 
 lines_room : (list : Medl) (number : ℕ) (said : List Statement) (lines : List (List ℕ))
     → file_faults list number said lines ≡ [] → AreValid list said
     → 8 * length (events_of (statements_of said lines)) + owed (slots_of said)
     ≤ 8 * length (events_of said) + size_of lines
 lines_room list number said [] none valid =
-    omega (arith, no_debt (slots_of said) (slots_said number said none))
+    let said_so : is_some (slots_of said) ≡ true = grind (arith, common_steps) in
+    omega (arith, no_debt (slots_of said) said_so)
 lines_room list number said (line ∷ lines) none valid =
     let words = words_of line in
-    let both = no_errors number (line_faults list said words) _ none in
-    let right = line_right list said line both.0 valid in
+    from_none number (line_faults list said words) _ none
+    (λ line_none lines_none.
     omega (
       arith,
-      line_room_by list said line (slots_of said) refl both.0 valid,
-      lines_room list (suc number) (statements_after said words) lines both.1 right.valid,
-    )
+      line_room_by list said line (slots_of said) refl line_none valid,
+      lines_room list (suc number) (statements_after said words) lines lines_none
+          (line_right list said line line_none valid).valid,
+    ))
 
-read_as : (found : List ScriptError) (script told : Script) → script_or_fault found told ≡ Ok script
-    → (found ≡ []) × (told ≡ script)
-read_as [] script told is = (refl, cc)
-read_as (fault ∷ found) script told is = absurd (cc)
+-- where there is no fault, the script is the one that the lines state
+of_lines : (found : List ScriptError) (script told : Script) → script_or_fault found told ≡ Ok script
+    → (found ≡ [] → length told.events < EVENT_LIMIT) → length script.events < EVENT_LIMIT
+of_lines [] script told is few =
+    let same : told ≡ script = cc in
+    subst (λ (s : Script). length s.events < EVENT_LIMIT) same (few refl)
+of_lines (fault ∷ found) script told is few = absurd (cc)
 
 pub script_of-room : (list : Medl) (text : List ℕ) (script : Script) → IsValid list → length text ≤ 1048576
     → script_of list text ≡ Ok script → length script.events < EVENT_LIMIT
 unfolding script_of lines_script stated_script
 script_of-room list text script valid size is =
     let lines = lines_of text in
-    let both = read_as (file_faults list 1 [] lines) script (stated_script list (statements_of [] lines)) is in
-    rw (← both.1)
-    (omega (arith, size, size-lines_of text, lines_room list 1 [] lines both.0 (AreValid-none list valid)))
+    of_lines (file_faults list 1 [] lines) script (stated_script list (statements_of [] lines)) is
+    (λ none. omega (arith, size, size-lines_of text, lines_room list 1 [] lines none (AreValid-none list valid)))
+
+-- so has one that was loaded
+pub room_of : (list script : List ℕ) (before now : Outside) (medl : Medl) (right : Script)
+    → TookBoth list script before now medl right → length right.events < EVENT_LIMIT
+room_of list script before now medl right took =
+    let read = right_list took.first.bytes medl took.first.taken in
+    let are = right_script took.first.bytes took.second.bytes medl right read took.second.taken in
+    script_of-room medl took.second.bytes right (medl_of-valid took.first.bytes medl are.list) are.script_size are.script

@@ -11,14 +11,14 @@ pub data LabSets : Type 0 where
   begun : (text : Lines) → LabSets
 
 -- these lines begin a text, and are not all of it
-pub record IsBegun (text lines : Lines) : Type 0 where
+pub record IsProperFront (text lines : Lines) : Type 0 where
   pub next : List ℕ
   pub rest : Lines
   pub begins : text ≡ lines ++ next ∷ rest
 
 -- these lines are a text of a set
 abbrev pub IsOfSet : LabSets → Lines → Type 0
-IsOfSet (begun text) lines = IsBegun text lines
+IsOfSet (begun text) lines = IsProperFront text lines
 
 -- the program
 abbrev pub ttplab : Program
