@@ -1,5 +1,5 @@
 -- Each line of a campaign is one line: its one line feed is its last byte.
-use Rattle.std.proofs.Common.{◌≡◌, ◌<◌, ℕ, ◌-◌, Bool, true, false, cond, ◌||◌, List, [], ◌∷◌, ◌++◌, map, length, take}
+use Rattle.std.proofs.Common.{◌≡◌, ◌<◌, ℕ, zero, suc, ◌+◌, ◌-◌, Bool, true, false, cond, List, [], ◌∷◌, ◌++◌, map, length, take}
 use Rattle.std.proofs.Common.{Option, Some, None, refl, arith, codes, decimal}
 use Rattle.std.specs.Prelude.{◌==◌}
 use Rattle.std.specs.Fmt.{signed_decimal}
@@ -41,23 +41,30 @@ ended text none = is_line-append text newline none refl
 
 -- The test: a line without its line feed.
 
-front_of_line : (line : List ℕ) → is_line line ≡ true → HasNone (unended line)
-front_of_line [] is = absurd (cc)
-front_of_line (b ∷ line) is = go (b == 10) refl line is (front_of_line line)
+front_of_line : (n : ℕ) (line : List ℕ) → is_line line ≡ true → n + 1 ≡ length line → HasNone (take n line)
+front_of_line zero line is long = refl
+front_of_line (suc n) [] is long = absurd (cc)
+front_of_line (suc n) (b ∷ line) is long =
+    go (b == 10) refl is (λ ends. front_of_line n line ends (omega (arith, long)))
   where
-    go : (feed : Bool) → (b == 10) ≡ feed → (rest : List ℕ) → cond feed (length rest == 0) (is_line rest) ≡ true
-        → (is_line rest ≡ true → HasNone (unended rest)) → HasNone (unended (b ∷ rest))
-    go true feed [] ends more = refl
-    go true feed (c ∷ rest) ends more = absurd (cc)
-    go false feed [] ends more = absurd (cc)
-    go false feed (c ∷ rest) ends more = rw (feed, more ends) refl
+    go : (feed : Bool) → (b == 10) ≡ feed → cond feed (length line == 0) (is_line line) ≡ true
+        → (is_line line ≡ true → HasNone (take n line)) → HasNone (b ∷ take n line)
+    go true feed ends more = absurd (grind (arith, long))
+    go false feed ends more = rw (feed, more ends) refl
+
+line_is_long : (line : List ℕ) → is_line line ≡ true → (length line - 1) + 1 ≡ length line
+line_is_long [] is = absurd (cc)
+line_is_long (b ∷ line) is = omega arith
+
+unended-none : (line : List ℕ) → is_line line ≡ true → HasNone (unended line)
+unended-none line is = front_of_line (length line - 1) line is (line_is_long line is)
 
 test-none : (list : Medl) (script : Script) → HasNone (test_words list script)
 test-none list script = by_arm (has_arm script)
   where
     by_arm : (armed : Bool) → HasNone (test_words_if list script armed)
-    by_arm true = front_of_line (back_line (returns list script)) (back_line-IsLine (returns list script))
-    by_arm false = front_of_line (keep_line (keeps list script)) (keep_line-IsLine (keeps list script))
+    by_arm true = unended-none (back_line (returns list script)) (back_line-IsLine (returns list script))
+    by_arm false = unended-none (keep_line (keeps list script)) (keep_line-IsLine (keeps list script))
 
 -- The cost.
 
@@ -73,17 +80,22 @@ listed-none : {X : Type 0} (word : X → List ℕ) → ((x : X) → HasNone (wor
 listed-none word each [] = refl
 listed-none word each (x ∷ xs) = joined-none word each (x ∷ xs)
 
+leave-by : (node slot why : List ℕ) → HasNone node → HasNone slot → HasNone why
+    → HasNone (node ++ codes ":" ++ slot ++ codes ":" ++ why)
+leave-by node slot why p q r = simp (list_any-append (λ c. c == 10), p, q, r)
+
 leave-none : (leave : Leave) → HasNone (leave_word leave)
 leave-none leave =
-    none-append (decimal leave.node) (codes ":" ++ decimal leave.slot ++ codes ":" ++ reason_word leave.reason)
-    (none-decimal leave.node)
-    (none-append (decimal leave.slot) (codes ":" ++ reason_word leave.reason) (none-decimal leave.slot)
-    (has-entry_word 10 (entry.Left leave.reason 0) (omega arith)))
+    leave-by (decimal leave.node) (decimal leave.slot) (reason_word leave.reason) (none-decimal leave.node)
+    (none-decimal leave.slot) (has-entry_word 10 (entry.Left leave.reason 0) (omega arith))
+
+span-by : (first last : List ℕ) → HasNone first → HasNone last → HasNone (first ++ codes " " ++ last)
+span-by first last p q = simp (list_any-append (λ c. c == 10), p, q)
 
 span-none : (span : Option Span) → HasNone (span_words span)
 span-none None = refl
 span-none (Some span) =
-    none-append (decimal span.first) (codes " " ++ decimal span.last) (none-decimal span.first) (none-decimal span.last)
+    span-by (decimal span.first) (decimal span.last) (none-decimal span.first) (none-decimal span.last)
 
 four-none : (left hurt split end : List ℕ) → HasNone left → HasNone hurt → HasNone split → HasNone end
     → HasNone (codes "left " ++ left ++ codes " hurt " ++ hurt ++ codes " split " ++ split ++ codes " end " ++ end)

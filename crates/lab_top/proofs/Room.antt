@@ -1,28 +1,24 @@
 -- A script that a file holds has room for one event more: the line that says the run's slots says nothing else, and takes
 -- bytes as well.
-use Rattle.std.proofs.Common.{◌≡◌, ℕ, ◌+◌, ◌*◌, ◌<◌, ◌≤◌, Bool, true, false, List, [], ◌∷◌, ◌++◌, length, Option, Some, None}
-use Rattle.std.proofs.Common.{Result, Ok, Err, refl, ap, sym, subst, suc, arith, append-nil}
+use Rattle.std.proofs.Common.{◌≡◌, ◌⊎◌, ℕ, ◌+◌, ◌*◌, ◌<◌, ◌≤◌, Bool, true, false, List, [], ◌∷◌, ◌++◌, length, Option}
+use Rattle.std.proofs.Common.{Some, None, Ok, refl, ap, subst, suc, arith, append-nil, inl, inr}
 use Rattle.std.specs.Prelude.{is_some, if◌then◌else◌}
 use Rattle.std.proofs.lemmas.Grind.{common_steps}
 use Rattle.ttp_world.specs.declared.medl.Medl.{Medl}
-use Rattle.ttp_world.specs.declared.script.Event.{Event}
 use Rattle.ttp_world.specs.declared.script.Script.{Script}
 use Rattle.ttp_world.specs.declared.script.TheConstants.{EVENT_LIMIT}
 use Rattle.ttp_world.specs.Medl.{IsValid}
+use Rattle.medl_text.proofs.Valid.{medl_of-valid}
 use Rattle.script_text.specs.declared.error.LineFault.{LineFault}
 use Rattle.script_text.specs.declared.error.ScriptError.{ScriptError}
-use Rattle.script_text.specs.declared.keyword.Keyword.{Keyword}
-use Rattle.script_text.specs.declared.keyword.Keyword.TheVariants as keyword
-use Rattle.script_text.specs.Faults.{slots_of, events_of, is_after_slots, form_faults, keyword_faults, line_faults}
-use Rattle.script_text.specs.Faults.{keyword_statements, statements_after}
+use Rattle.script_text.specs.Faults.{slots_of, events_of, line_faults, keyword_statements, statements_after}
 use Rattle.script_text.specs.Lines.{lines_of, words_of, word_at, says_nothing}
-use Rattle.script_text.specs.ScriptFile.{errors_at, end_faults, file_faults, statements_of, stated_script}
+use Rattle.script_text.specs.ScriptFile.{errors_at, file_faults, statements_of, stated_script}
 use Rattle.script_text.specs.ScriptFile.{script_or_fault, lines_script, script_of}
-use Rattle.script_text.specs.Statement.{Statement, keyword_of, statement_of}
+use Rattle.script_text.specs.Statement.{Statement, says_slots, says_on, says_drift, says_event, keyword_of, statement_of}
 use Rattle.script_text.proofs.RightFiles.{line_right}
 use Rattle.script_text.proofs.Sizes.{with_end, size_of, size-lines_of}
 use Rattle.script_text.proofs.Valid.{AreValid, AreValid-none}
-use Rattle.medl_text.proofs.Valid.{medl_of-valid}
 use Rattle.commands.specs.Files.{TookBoth}
 use Rattle.commands.specs.Plan.{Outside}
 use Rattle.commands.proofs.Right.{right_list, right_script}
@@ -32,65 +28,56 @@ abbrev owed : Option ℕ → ℕ
 owed None = 2
 owed (Some count) = 0
 
--- before that line no other states anything
+-- a line states nothing, or one thing, and then it has a byte
 
-after_slots : (list : Medl) (said : List Statement) (words : List (List ℕ)) (form : Keyword)
-    → form_faults list said words form ≡ [] → is_after_slots form (slots_of said) ≡ true
-unfolding form_faults
-after_slots list said words form none = grind (arith, common_steps)
+grown_by : (said : List Statement) (words : List (List ℕ)) (size : ℕ) (nothing : Bool) (form : Option _) → 1 ≤ size
+    → ((if nothing then said else keyword_statements said words form) ≡ said)
+    ⊎ ((statement : Statement)
+    × (((if nothing then said else keyword_statements said words form) ≡ statement ∷ said) × (1 ≤ size)))
+grown_by said words size true form bytes = inl refl
+grown_by said words size false None bytes = inl refl
+grown_by said words size false (Some form) bytes = inr (statement_of form words, (refl, bytes))
 
-slots_alone : (form : Keyword) → is_after_slots form None ≡ true → form ≡ keyword.Slots
-slots_alone keyword.Slots after = refl
-slots_alone keyword.On after = absurd (cc)
-slots_alone keyword.Drift after = absurd (cc)
-slots_alone keyword.Send after = absurd (cc)
-slots_alone keyword.Receive after = absurd (cc)
-slots_alone keyword.Flip after = absurd (cc)
-slots_alone keyword.Error after = absurd (cc)
-slots_alone keyword.Jump after = absurd (cc)
-slots_alone keyword.Arm after = absurd (cc)
-slots_alone keyword.Write after = absurd (cc)
-slots_alone keyword.Read after = absurd (cc)
+grown : (said : List Statement) (line : List ℕ)
+    → (statements_after said (words_of line) ≡ said)
+    ⊎ ((statement : Statement) × ((statements_after said (words_of line) ≡ statement ∷ said) × (1 ≤ length line)))
+unfolding statements_after words_of
+grown said [] = inl refl
+grown said (b ∷ line) =
+    let words = words_of (b ∷ line) in
+    grown_by said words (length (b ∷ line)) (says_nothing words) (keyword_of (word_at words 0)) (omega arith)
 
--- and it has a byte
-says-bytes : (line : List ℕ) → says_nothing (words_of line) ≡ false → 1 ≤ length line
-unfolding words_of
-says-bytes [] says = absurd (cc)
-says-bytes (b ∷ line) says = omega arith
+-- it takes the bytes of its event, or of what was owed
 
-slots_room : (line : List ℕ) (said : List Statement) (words : List (List ℕ)) → 1 ≤ length line
-    → 8 * length (events_of (statement_of keyword.Slots words ∷ said)) + 2 ≤ 8 * length (events_of said) + with_end line
-slots_room line said words bytes = omega (arith, bytes, ap length (append-nil (events_of said)))
+first_room : (statement : Statement) (said : List Statement) (line : List ℕ) → slots_of said ≡ None → 1 ≤ length line
+    → 8 * length (events_of (statement ∷ said)) ≤ 8 * length (events_of said) + with_end line
+    → 8 * length (events_of (statement ∷ said)) + 2
+    ≤ 8 * length (events_of said) + with_end line + owed (slots_of (statement ∷ said))
+first_room (says_slots count) said line before bytes size =
+    omega (arith, bytes, ap length (append-nil (events_of said)))
+first_room (says_on node slot) said line before bytes size = rw before (omega (arith, size))
+first_room (says_drift node value) said line before bytes size = rw before (omega (arith, size))
+first_room (says_event e) said line before bytes size = rw before (omega (arith, size))
 
-first_room : (list : Medl) (line : List ℕ) (said : List Statement) (nothing : Bool) (form : Option Keyword)
-    → says_nothing (words_of line) ≡ nothing → slots_of said ≡ None
-    → (if nothing then [] else keyword_faults list said (words_of line) form) ≡ []
-    → 8 * length (events_of (if nothing then said else keyword_statements said (words_of line) form)) + 2
-    ≤ 8 * length (events_of said) + with_end line
-    + owed (slots_of (if nothing then said else keyword_statements said (words_of line) form))
-first_room list line said true form is before none = rw before (omega arith)
-first_room list line said false None is before none = absurd (cc)
-first_room list line said false (Some form) is before none =
-    let slots = slots_alone form
-    (subst (λ (s : Option ℕ). is_after_slots form s ≡ true) before (after_slots list said (words_of line) form none)) in
-    rw slots (omega (arith, slots_room line said (words_of line) (says-bytes line is)))
-
--- a line without a fault takes the bytes of its event, or of what was owed
-
-line_room_by : (list : Medl) (said : List Statement) (line : List ℕ) (slots : Option ℕ) → slots_of said ≡ slots
-    → line_faults list said (words_of line) ≡ [] → AreValid list said
+line_room : (list : Medl) (said : List Statement) (line : List ℕ) (slots : Option ℕ) → slots_of said ≡ slots
+    → 8 * length (events_of (statements_after said (words_of line))) ≤ 8 * length (events_of said) + with_end line
     → 8 * length (events_of (statements_after said (words_of line))) + owed slots
     ≤ 8 * length (events_of said) + with_end line + owed (slots_of (statements_after said (words_of line)))
-unfolding line_faults statements_after
-line_room_by list said line None before none valid =
-    first_room list line said (says_nothing (words_of line)) (keyword_of (word_at (words_of line) 0)) refl before none
-line_room_by list said line (Some count) before none valid = omega (arith, (line_right list said line none valid).size)
+line_room list said line (Some count) before size = omega (arith, size)
+line_room list said line None before size =
+    elim (grown said line) [
+      | inl same ↦ rw (same, before) (omega arith)
+      | inr one ↦
+          rw one.1.0 (first_room one.0 said line before one.1.1
+          (subst (λ (after : List Statement). 8 * length (events_of after) ≤ 8 * length (events_of said) + with_end line)
+          one.1.0 size))
+    ]
 
 -- where a list of faults is empty, so are its parts
 from_none : {P : Type 0} (number : ℕ) (found : List LineFault) (more : List ScriptError)
     → errors_at number found ++ more ≡ [] → (found ≡ [] → more ≡ [] → P) → P
-from_none number [] more none then = then refl none
-from_none number (fault ∷ found) more none then = absurd (cc)
+from_none number [] more none holds = holds refl none
+from_none number (fault ∷ found) more none holds = absurd (cc)
 
 no_debt : (slots : Option ℕ) → is_some slots ≡ true → owed slots ≡ 0
 no_debt None is = absurd (cc)
@@ -107,11 +94,11 @@ lines_room list number said (line ∷ lines) none valid =
     let words = words_of line in
     from_none number (line_faults list said words) _ none
     (λ line_none lines_none.
+    let right = line_right list said line line_none valid in
     omega (
       arith,
-      line_room_by list said line (slots_of said) refl line_none valid,
-      lines_room list (suc number) (statements_after said words) lines lines_none
-          (line_right list said line line_none valid).valid,
+      line_room list said line (slots_of said) refl right.size,
+      lines_room list (suc number) (statements_after said words) lines lines_none right.valid,
     ))
 
 -- where there is no fault, the script is the one that the lines state
