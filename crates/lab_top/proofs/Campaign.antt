@@ -301,12 +301,32 @@ module _ (list script : List ℕ) (first last : ℕ) (before now : Outside) (ans
       absurd (subst (λ (r : Result Medl FileFault). AsksFirst held
       (after refused_list (λ medl. script_plan medl script (from_script medl)) r) (other ∷ loads)) read asked.1.2)
 
+  list_end : (bytes : List ℕ) (fault : FileFault) → HoldsText list before now bytes → list_from bytes ≡ Err fault
+      → told_ending before.files.held (campaign_plan list script first last)
+      ≡ Some (line_ending 3 (fault_line (codes "list") fault))
+  list_end bytes fault file wrong = rw (file.file, list_from-front bytes, wrong) refl
+
   list_due : (bytes : List ℕ) (fault : FileFault) → HoldsText list before now bytes
       → ¬ HasRisen before.output.faults now.output.faults → list_from bytes ≡ Err fault
       → WroteOrNone 3 (fault_line (codes "list") fault ∷ []) before.output now.output answer.status
   list_due bytes fault file sink wrong =
-      line_due 3 (fault_line (codes "list") fault) (rw (file.file, list_from-front bytes, wrong) refl)
+      line_due 3 (fault_line (codes "list") fault) (list_end bytes fault file wrong)
       (list_asked bytes fault file wrong call.loads call.in_order) sink
+
+  script_end : (bytes : List ℕ) (medl : Medl) (script_bytes : List ℕ) (fault : FileFault)
+      → HoldsText list before now bytes → list_from bytes ≡ Ok medl → HoldsText script before now script_bytes
+      → script_from medl script_bytes ≡ Err fault
+      → told_ending before.files.held (campaign_plan list script first last)
+      ≡ Some (line_ending 4 (fault_line (codes "script") fault))
+  script_end bytes medl script_bytes fault file right script_file wrong =
+      rw (
+        file.file,
+        list_from-front bytes,
+        right,
+        script_file.file,
+        script_from-front medl script_bytes,
+        wrong,
+      ) refl
 
   script_due : (bytes : List ℕ) (medl : Medl) (script_bytes : List ℕ) (fault : FileFault)
       → HoldsText list before now bytes → list_from bytes ≡ Ok medl → HoldsText script before now script_bytes
@@ -314,14 +334,7 @@ module _ (list script : List ℕ) (first last : ℕ) (before now : Outside) (ans
       → WroteOrNone 4 (fault_line (codes "script") fault ∷ []) before.output now.output answer.status
   script_due bytes medl script_bytes fault file right script_file sink wrong =
       line_due 4 (fault_line (codes "script") fault)
-      (rw (
-        file.file,
-        list_from-front bytes,
-        right,
-        script_file.file,
-        script_from-front medl script_bytes,
-        wrong,
-      ) refl)
+      (script_end bytes medl script_bytes fault file right script_file wrong)
       (all_asked (Quiet before now) held (campaign_plan list script first last) call.loads
       (both_ask (Quiet before now) list script from_script file.quiet script_file.quiet (λ m r. tt)) call.in_order) sink
 
