@@ -1,5 +1,5 @@
 //! Campaigns of five nodes, whole, and what refuses their files. The texts are those of the format's description.
-use crate::calls::{Call, answer, call_of, gives};
+use crate::calls::{Call, call_of, gives};
 use crate::expected::{LATENT_22, QUIET_11, QUIET_22};
 use std::test::Fail;
 
@@ -36,19 +36,22 @@ fn campaigns_are_the_described_ones(rt: HostRuntime) -> Result<(), Fail> {
     }
     // Slots that the script does not have are passed over, and a range has no leading zeros.
     let words = ["campaign", "list", "quiet", "000000045", "999999999"];
-    let text = [
+    let text: [&str; 4] = [
         "ttplab campaign 1 nodes 5 slots 45 from 45 to 999999999\n",
         "slot - node - keeps yes start 10 left - hurt - split - - end 001f fault -\n",
         "kept 0 same 0 hurt 0 split 0 torn 0 dead 0\n",
         "broken 0 same 0 hurt 0 split 0 torn 0 dead 0\n",
     ];
-    gives(&rt, &call_of(&words, &FILES), 0, &text)?;
+    let text = text.as_slice();
+    gives(&rt, &call_of(&words, &FILES), 0, text)?;
+    let mut bad_write = 0u32;
     for whole in 0..text.len() {
+        bad_write = bad_write.saturating_add(1);
         let failing = Call {
-            bad_write: whole as u32 + 1,
+            bad_write,
             ..call_of(&words, &FILES)
         };
-        gives(&rt, &failing, 6, &text[..whole])?;
+        gives(&rt, &failing, 6, text.get(..whole).ok_or("few lines")?)?;
     }
     Ok(())
 }
@@ -88,26 +91,20 @@ fn files_that_fail_are_told(rt: HostRuntime) -> Result<(), Fail> {
     gives(&rt, &call_of(&words, &FILES), 5, &["load: script\n"])
 }
 
-// A text of a comment that has so many bytes, behind a script.
-fn padded<R: AllocGlobal>(rt: &R, length: usize) -> Result<String, Fail> {
+// A script with a comment behind it that no script file has room for.
+fn too_large<R: AllocGlobal>(rt: &R) -> Result<String, Fail> {
     let mut text = String::new(rt.alloc());
     text.push_str(QUIET)?;
-    text.push_str("#")?;
-    while text.len() < length {
-        text.push_str(" ")?;
+    for _ in 0..32_768 {
+        text.push_str("# thirty-two bytes with its end\n")?;
     }
     Ok(text)
 }
 
 #[test]
-fn the_limit_of_a_script_file(rt: HostRuntime) -> Result<(), Fail> {
+fn a_script_that_is_too_large_is_told(rt: HostRuntime) -> Result<(), Fail> {
+    let script = too_large(&rt)?;
+    let files: [(&str, &[&str]); 2] = [("list", &[LIST]), ("script", &[script.as_str()])];
     let words = ["campaign", "list", "script", "45", "45"];
-    for (length, due) in [(1_048_576, 0), (1_048_577, 4)] {
-        let script = padded(&rt, length)?;
-        let files: [(&str, &[&str]); 2] = [("list", &[LIST]), ("script", &[script.as_str()])];
-        let (status, written) = answer(&rt, &call_of(&words, &files))?;
-        assert_eq!(rt; status, due);
-        assert!(rt; status == 0 || written.as_slice() == "script: too large\n".as_bytes());
-    }
-    Ok(())
+    gives(&rt, &call_of(&words, &files), 4, &["script: too large\n"])
 }

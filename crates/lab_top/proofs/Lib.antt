@@ -4,4 +4,4 @@ pub mod Refusals
 pub mod Forms
 pub mod Promises
 pub mod Views
-pub mod Campaign
+pub mod CampaignPromises

@@ -2,7 +2,7 @@ use Rattle.std.proofs.Common.{Some, refl}
 use Rattle.commands.specs.Texts.{alone}
 use Rattle.lab_top.specs.Views.{wave_view, picture_view}
 use Rattle.lab_top.specs.Words.{wave, picture, campaign}
-use Rattle.lab_top.proofs.Campaign.{campaign_promise}
+use Rattle.lab_top.proofs.CampaignPromises.{campaign_promise}
 use Rattle.lab_top.proofs.Promises.{lab_promise}
 use Rattle.lab_top.proofs.Views.{view_promise}
 use Rattle.lab_top.proofs.call.lab.Goals as goal

@@ -4,6 +4,7 @@ use Rattle.commands.specs.Texts.{alone}
 use Rattle.commands.proofs.Loads.{pair_came, no_pair}
 use Rattle.lab_top.specs.Forms.{campaign_ending}
 use Rattle.lab_top.specs.Texts.{ttplab}
+use Rattle.lab_top.proofs.Room.{room_of}
 use Rattle.lab_top.proofs.faults.campaign.Goals as goal
 
 pub returns-in-Ok : goal.returns-in-Ok
@@ -17,3 +18,7 @@ pub returns-in-Err : goal.returns-in-Err
 returns-in-Err g c =
     no_pair ttplab c.args.list.now c.args.script.now
     (λ medl right. ends (campaign_ending medl right c.args.first c.args.last)) _ _ c.in-Err.status c.in-Err.ensures.err
+
+pub show_campaign-requires-clause-room : goal.show_campaign-requires-clause-room
+show_campaign-requires-clause-room g c =
+    room_of c.args.list.now c.args.script.now _ _ c.in-Ok.medl c.in-Ok.right c.in-Ok.ensures.ok

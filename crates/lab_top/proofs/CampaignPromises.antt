@@ -12,7 +12,7 @@ use Rattle.fault_runs.specs.Ends.{WroteFewer}
 use Rattle.commands.specs.declared.read.FileFault.{FileFault}
 use Rattle.commands.specs.Faults.{fault_line}
 use Rattle.commands.specs.Files.{refused_list, refused_script, script_plan}
-use Rattle.commands.specs.Outcome.{Showed, Refused}
+use Rattle.commands.specs.Outcome.{Showed, Refused, Shows}
 use Rattle.commands.specs.Plan.{Outside, ends, line_ending, said_ending, after, Comes, AsksFirst, told_ending}
 use Rattle.commands.specs.Promise.{IsUnfinished, NoneAskedRose, Promise as CallPromise}
 use Rattle.commands.specs.Read.{list_limit, list_from, script_limit, script_from}
@@ -40,7 +40,7 @@ fewer text before now some = record {
 }
 
 -- and the other way round
-pub wants : (text : Lines) (before now : Output) → WroteFewer before now text
+wants : (text : Lines) (before now : Output) → WroteFewer before now text
     → Refused ttplab (those (begun text)) before now (alone 7)
 wants text before now some = record {
   status = refl;
@@ -51,6 +51,34 @@ wants text before now some = record {
   };
   none = refl;
 }
+
+-- what the campaign's call leaves, as the ending of the form has it
+
+pub shows_all : (medl : Medl) (right : Script) (first last : ℕ) (before now : Output)
+    → WroteLines before now (campaign_lines medl right first last)
+    → Shows ttplab (campaign_ending medl right first last) before now (alone 0)
+shows_all medl right first last before now wrote =
+    inl (inl (record {
+      status = refl;
+      text = record { lines = campaign_lines medl right first last; among = refl; wrote = wrote };
+      kept = refl;
+    }))
+
+pub shows_cut : (medl : Medl) (right : Script) (first last : ℕ) (before now : Output)
+    → CutShort before now (campaign_lines medl right first last)
+    → Shows ttplab (campaign_ending medl right first last) before now (alone 6)
+shows_cut medl right first last before now cut =
+    inl (inr (record {
+      status = refl;
+      text = record { lines = campaign_lines medl right first last; among = refl; cut = cut };
+      none = refl;
+    }))
+
+pub shows_fewer : (medl : Medl) (right : Script) (first last : ℕ) (before now : Output)
+    → WroteFewer before now (campaign_lines medl right first last)
+    → Shows ttplab (campaign_ending medl right first last) before now (alone 7)
+shows_fewer medl right first last before now some =
+    inr (wants (campaign_lines medl right first last) before now some)
 
 -- none are first lines too, since a campaign has one
 none_of : (medl : Medl) (right : Script) (first last : ℕ) (before now : Output) → Wrote before now []
