@@ -5,4 +5,12 @@
 #![tactic(auto)]
 
 #[cfg(test)]
-mod tests;
+mod calls;
+#[cfg(test)]
+mod campaigns;
+#[cfg(test)]
+mod expected;
+#[cfg(test)]
+mod views;
+#[cfg(test)]
+mod words;

@@ -1,19 +1,28 @@
 -- What holds of each ending of a form: what its texts are made of, and what its status and the form tell of each other.
-use Rattle.std.proofs.Common.{◌≡◌, ◌≢◌, ℕ, Option, Some, None, Result, Ok, Err, refl, arith}
+use Rattle.std.proofs.Common.{◌≡◌, ◌≢◌, ℕ, Bool, true, false, ◌++◌, ◌∷◌, Option, Some, None, Result, Ok, Err, refl, subst, arith}
 use Rattle.std.proofs.Common.{List}
+use Rattle.ttp_base.specs.Text.{Lines}
+use Rattle.ttp_world.specs.declared.medl.Medl.{Medl}
+use Rattle.ttp_world.specs.declared.script.Script.{Script}
+use Rattle.campaign.specs.Lines.{campaign_lines}
 use Rattle.whole_trace.specs.Whole.{WholeTrace}
 use Rattle.wave_text.proofs.DeclaredLines.{wave_lines-each}
 use Rattle.picture_text.proofs.PictureLines.{picture_lines-each}
+use Rattle.commands.specs.declared.read.FileFault.{FileFault}
+use Rattle.commands.specs.Files.{refused_list, refused_script}
 use Rattle.commands.specs.Lines.{AreLines}
-use Rattle.commands.specs.Texts.{nothing}
-use Rattle.commands.proofs.Lines.{IsFinal, SaysLine, text_final, line_final}
-use Rattle.commands.proofs.Plans.{Every}
+use Rattle.commands.specs.Plan.{ends, said_ending}
+use Rattle.commands.specs.Texts.{those, nothing}
+use Rattle.commands.proofs.Lines.{AreOfLines, IsFinal, SaysLine, one_text, lines_front, text_final, line_final}
+use Rattle.commands.proofs.Lines.{refused_list-final, refused_script-final}
+use Rattle.commands.proofs.Plans.{Every, both_every}
 use Rattle.lab_top.specs.declared.refusal.TraceFault.{TraceFault}
-use Rattle.lab_top.specs.Forms.{lab_usage_line, viewed_ending, view_plan, lab_plan_of}
+use Rattle.lab_top.specs.Forms.{lab_usage_line, viewed_ending, view_plan, campaign_ending, campaign_plan, lab_plan_of}
 use Rattle.lab_top.specs.Refusals.{trace_fault_line}
-use Rattle.lab_top.specs.Texts.{LabEnding, ttplab}
+use Rattle.lab_top.specs.Texts.{begun, LabEnding, ttplab}
 use Rattle.lab_top.specs.Views.{View, wave_view, picture_view, viewed}
-use Rattle.lab_top.specs.Words.{LabForm, wave, picture}
+use Rattle.lab_top.specs.Words.{LabForm, wave, picture, campaign, is_campaign}
+use Rattle.lab_top.proofs.CampaignLines.{campaign_lines-each}
 use Rattle.lab_top.proofs.Refusals.{trace_fault_line-is_line}
 
 -- an ending that a form may come to
@@ -22,9 +31,10 @@ pub record IsOfForm (form : Option LabForm) (ending : LabEnding) : Type 0 where
   -- the usage line answers words of no form alone
   pub usage : ending.status ≡ 2 → form ≡ None
   pub not_1 : ending.status ≢ 1
-  pub not_3 : ending.status ≢ 3
-  -- nothing stands where memory is refused
-  pub lets : ending.unfinished ≡ nothing
+  -- only a campaign reads a list
+  pub lists : ending.status ≡ 3 → is_campaign form ≡ true
+  -- but for a campaign, nothing stands where memory is refused
+  pub lets : is_campaign form ≡ false → ending.unfinished ≡ nothing
 
 -- each line of a view is one line
 abbrev IsOfLines : View → Type 0
@@ -36,30 +46,80 @@ view_ends form view (Ok trace) lines = record {
   final = text_final ttplab 0 (view.lines trace) (omega arith) (lines trace);
   usage = λ two. absurd (omega (arith, two));
   not_1 = λ one. omega (arith, one);
-  not_3 = λ three. omega (arith, three);
-  lets = refl;
+  lists = λ three. absurd (omega (arith, three));
+  lets = λ other. refl;
 }
 view_ends form view (Err fault) lines = record {
   final = line_final ttplab 4 (trace_fault_line fault) (omega arith) (trace_fault_line-is_line fault);
   usage = λ two. absurd (omega (arith, two));
   not_1 = λ one. omega (arith, one);
-  not_3 = λ three. omega (arith, three);
-  lets = refl;
+  lists = λ three. absurd (omega (arith, three));
+  lets = λ other. refl;
 }
 
 of_view : (form : Option LabForm) (view : View) (trace : List ℕ) → IsOfLines view
     → Every (IsOfForm form) SaysLine (view_plan view trace)
 of_view form view trace lines = (refl, λ text. view_ends form view (viewed view text) lines)
 
+-- the endings of a list or a script that is refused are those of a campaign
+
+no_list : (form : Option LabForm) → is_campaign form ≡ true → (fault : FileFault)
+    → IsOfForm form (said_ending (refused_list fault))
+no_list form is fault = record {
+  final = refused_list-final ttplab fault;
+  usage = λ two. absurd (omega (arith, two));
+  not_1 = λ one. omega (arith, one);
+  lists = λ three. is;
+  lets = λ other. refl;
+}
+
+no_script : (form : Option LabForm) (fault : FileFault) → IsOfForm form (said_ending (refused_script fault))
+no_script form fault = record {
+  final = refused_script-final ttplab fault;
+  usage = λ two. absurd (omega (arith, two));
+  not_1 = λ one. omega (arith, one);
+  lists = λ three. absurd (omega (arith, three));
+  lets = λ other. refl;
+}
+
+-- a campaign is made of lines, and so are its first ones
+begun-each : (text : Lines) → AreLines text → AreOfLines ttplab (those (begun text))
+begun-each text each lines some = lines_front lines (some.next ∷ some.rest) (subst AreLines some.begins each)
+
+campaign_ends : (list script : List ℕ) (first last : ℕ) (medl : Medl) (right : Script)
+    → IsOfForm (Some (campaign list script first last)) (campaign_ending medl right first last)
+campaign_ends list script first last medl right =
+    let text = campaign_lines medl right first last in
+    let each = campaign_lines-each medl right first last in
+    record {
+      final = record {
+        status = omega arith;
+        texts = one_text ttplab text each;
+        unfinished = begun-each text each;
+      };
+      usage = λ two. absurd (omega (arith, two));
+      not_1 = λ one. omega (arith, one);
+      lists = λ three. refl;
+      lets = λ other. absurd (cc);
+    }
+
+of_campaign : (list script : List ℕ) (first last : ℕ)
+    → Every (IsOfForm (Some (campaign list script first last))) SaysLine (campaign_plan list script first last)
+of_campaign list script first last =
+    let form = Some (campaign list script first last) in
+    both_every (IsOfForm form) SaysLine list script (λ medl right. ends (campaign_ending medl right first last)) refl refl
+    (no_list form refl) (no_script form) (campaign_ends list script first last)
+
 pub lab_forms : (form : Option LabForm) → Every (IsOfForm form) SaysLine (lab_plan_of form)
 lab_forms None = record {
   final = line_final ttplab 2 lab_usage_line (omega arith) refl;
   usage = λ two. refl;
   not_1 = λ one. omega (arith, one);
-  not_3 = λ three. omega (arith, three);
-  lets = refl;
+  lists = λ three. absurd (omega (arith, three));
+  lets = λ other. refl;
 }
 lab_forms (Some (wave trace)) = of_view (Some (wave trace)) wave_view trace wave_lines-each
 lab_forms (Some (picture trace asked)) =
     of_view (Some (picture trace asked)) (picture_view asked) trace
     (λ whole. picture_lines-each whole asked)
+lab_forms (Some (campaign list script first last)) = of_campaign list script first last

@@ -1,4 +1,7 @@
+pub mod Room
+pub mod CampaignLines
 pub mod Refusals
 pub mod Forms
 pub mod Promises
 pub mod Views
+pub mod CampaignPromises

@@ -1,5 +1,5 @@
 -- The promise of a call, from the plan that it followed.
-use Rattle.std.proofs.Common.{◌≡◌, ◌≢◌, ◌≤◌, [], Option, None, sym, subst, ◌∙◌, inl, inr, arith}
+use Rattle.std.proofs.Common.{◌≡◌, ◌≢◌, ◌≤◌, [], false, Option, None, sym, subst, ◌∙◌, inl, inr, arith}
 use Rattle.ttp_base.specs.Outside.{Wrote}
 use Rattle.commands.specs.Outcome.{Follows}
 use Rattle.commands.specs.Plan.{Outside}
@@ -10,8 +10,8 @@ use Rattle.commands.proofs.Plans.{all_come, every_weaker}
 use Rattle.commands.proofs.Promises.{wrote_nothing, promise}
 use Rattle.lab_top.specs.Forms.{lab_plan_of}
 use Rattle.lab_top.specs.Promise.{LabPromise}
-use Rattle.lab_top.specs.Texts.{LabAnswer, ttplab}
-use Rattle.lab_top.specs.Words.{LabForm}
+use Rattle.lab_top.specs.Texts.{LabSets, LabAnswer, ttplab}
+use Rattle.lab_top.specs.Words.{LabForm, is_campaign}
 use Rattle.lab_top.proofs.Forms.{IsOfForm, lab_forms}
 
 module _ (form : Option LabForm) (before now : Outside) (answer : LabAnswer)
@@ -23,13 +23,14 @@ module _ (form : Option LabForm) (before now : Outside) (answer : LabAnswer)
       all_come (IsOfForm form) SaysLine before.files.held (lab_plan_of form) call.loads final.0 (lab_forms form)
       final.1.comes
 
-  empty_of : IsUnfinished ttplab (lab_plan_of form) before now call.loads → Wrote before.output now.output []
-  empty_of (inl none) = none
-  empty_of (inr some) =
+  empty_of : is_campaign form ≡ false → IsUnfinished ttplab (lab_plan_of form) before now call.loads
+      → Wrote before.output now.output []
+  empty_of other (inl none) = none
+  empty_of other (inr some) =
       let is = all_come (IsOfForm form) SaysLine before.files.held (lab_plan_of form) call.loads some.0 (lab_forms form)
       some.1.comes in
       wrote_nothing ttplab before.output now.output
-      (subst (λ (texts : Texts ⊥). WroteAmong ttplab texts before.output now.output) is.lets some.2)
+      (subst (λ (texts : Texts LabSets). WroteAmong ttplab texts before.output now.output) (is.lets other) some.2)
 
 pub lab_promise : (form : Option LabForm) (before now : Outside) (answer : LabAnswer)
     → Follows ttplab (lab_plan_of form) before now answer → (form ≡ None → answer.status ≢ 7)
@@ -40,7 +41,7 @@ lab_promise form before now answer follows never =
     follows in
     record {
       call = call;
-      empty = λ seven. empty_of form before now answer call (call.refused seven).1;
+      empty = λ seven other. empty_of form before now answer call other (call.refused seven).1;
       usage = λ two.
           let few : answer.status ≤ 4 = omega (arith, two) in
           (ended_of form before now answer call few).usage (sym (call.ended few).2.status ∙ two);
@@ -48,7 +49,7 @@ lab_promise form before now answer follows never =
       not_1 = λ one.
           let few : answer.status ≤ 4 = omega (arith, one) in
           (ended_of form before now answer call few).not_1 (sym (call.ended few).2.status ∙ one);
-      not_3 = λ three.
+      lists = λ three.
           let few : answer.status ≤ 4 = omega (arith, three) in
-          (ended_of form before now answer call few).not_3 (sym (call.ended few).2.status ∙ three);
+          (ended_of form before now answer call few).lists (sym (call.ended few).2.status ∙ three);
     }

@@ -5,3 +5,4 @@ pub mod Texts
 pub mod Forms
 pub mod Promise
 pub mod ViewPromise
+pub mod CampaignPromise

@@ -1,22 +1,23 @@
 -- The promise of a call of `ttplab`, for every form.
-use Rattle.std.specs.Prelude.{◌≡◌, ◌≢◌, [], Option, None}
+use Rattle.std.specs.Prelude.{◌≡◌, ◌≢◌, false, true, [], Option, None}
 use Rattle.ttp_base.specs.Outside.{Wrote}
 use Rattle.commands.specs.Plan.{Outside}
 use Rattle.commands.specs.Promise.{Promise as CallPromise}
 use Rattle.lab_top.specs.Forms.{lab_plan_of}
 use Rattle.lab_top.specs.Texts.{LabAnswer, ttplab}
-use Rattle.lab_top.specs.Words.{LabForm}
+use Rattle.lab_top.specs.Words.{LabForm, is_campaign}
 
 -- a call by words of this form promises
 pub record LabPromise (form : Option LabForm) (before now : Outside) (answer : LabAnswer) : Type 0 where
   -- What every call promises that follows a plan: what it asked for, how it ended and what it wrote.
   pub call : CallPromise ttplab (lab_plan_of form) before now answer
   pub open call use *
-  -- With status 7 nothing is written.
-  pub empty : answer.status ≡ 7 → Wrote before.output now.output []
+  -- With status 7 what is written may be some first lines of what was due for `campaign`, and for every other form it is
+  -- nothing.
+  pub empty : answer.status ≡ 7 → is_campaign form ≡ false → Wrote before.output now.output []
   -- Words of no form take no memory, and only they are answered by the usage line.
   pub usage : answer.status ≡ 2 → form ≡ None
   pub no_form : form ≡ None → answer.status ≢ 7
-  -- Statuses 1 and 3 never come.
+  -- Status 1 never comes, and status 3, of a list that is refused, for `campaign` alone.
   pub not_1 : answer.status ≢ 1
-  pub not_3 : answer.status ≢ 3
+  pub lists : answer.status ≡ 3 → is_campaign form ≡ true

@@ -1,18 +1,35 @@
--- What is the own part of `ttplab` in the promise of a call: each text that it may write is said by itself, and it
--- keeps nothing for its caller.
+-- What is the own part of `ttplab` in the promise of a call: each text that it may write is said by itself, and so are
+-- the first lines that want of memory may leave of one; it keeps nothing for its caller.
+use Rattle.std.specs.Prelude.{◌≡◌, ℕ, List, ◌∷◌, ◌++◌, None}
+use Rattle.ttp_base.specs.Text.{Lines}
 use Rattle.commands.specs.Plan.{Ending, Plan}
 use Rattle.commands.specs.Texts.{Program, Answer}
 
+-- A set of texts.
+pub data LabSets : Type 0 where
+  -- no lines, or the first lines of this text, but not all
+  begun : (text : Lines) → LabSets
+
+-- these lines begin a text, and are not all of it
+pub record IsProperFront (text lines : Lines) : Type 0 where
+  pub next : List ℕ
+  pub rest : Lines
+  pub begins : text ≡ lines ++ next ∷ rest
+
+-- these lines are a text of a set
+abbrev pub IsOfSet : LabSets → Lines → Type 0
+IsOfSet (begun text) lines = IsProperFront text lines
+
 -- the program
 abbrev pub ttplab : Program
-ttplab = record { Sets = ⊥; Kept = ⊥; IsOf = λ set lines. ⊥; Beside = λ set lines kept. ⊥ }
+ttplab = record { Sets = LabSets; Kept = ⊥; IsOf = IsOfSet; Beside = λ set lines kept. kept ≡ None }
 
 -- its endings, plans and answers
 abbrev pub LabEnding : Type 0
-LabEnding = Ending ⊥
+LabEnding = Ending LabSets
 
 abbrev pub LabPlan : Type 0
-LabPlan = Plan ⊥
+LabPlan = Plan LabSets
 
 abbrev pub LabAnswer : Type 0
 LabAnswer = Answer ⊥

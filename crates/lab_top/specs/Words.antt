@@ -1,5 +1,5 @@
 -- The forms of the words of `ttplab`.
-use Rattle.std.specs.Prelude.{List, [], ◌∷◌, ℕ, codes, Option, Some, None, if◌then◌else◌}
+use Rattle.std.specs.Prelude.{List, [], ◌∷◌, ℕ, nat_le, codes, Bool, true, false, Option, Some, None, if◌then◌else◌}
 use Rattle.std.specs.Str.{bytes_eq}
 use Rattle.commands.specs.Words.{numeral_named}
 use Rattle.picture_text.specs.declared.window.Span.{Span}
@@ -12,8 +12,14 @@ pub data LabForm : Type 0 where
   wave : (trace : List ℕ) → LabForm
   -- the picture of the trace of this name, of the slots that are asked for, or else of those that are chosen
   picture : (trace : List ℕ) (asked : Option Span) → LabForm
+  -- the campaign of the script of this name for the list of this name, over the slots from the first to the last
+  campaign : (list script : List ℕ) (first last : ℕ) → LabForm
 
--- the most digits of a slot
+abbrev pub is_campaign : Option LabForm → Bool
+is_campaign (Some (campaign list script first last)) = true
+is_campaign _ = false
+
+-- the most digits of a slot that is shown
 abbrev pub slot_digits : ℕ
 slot_digits = 5
 
@@ -26,6 +32,20 @@ abbrev pub picture_of_slots : List ℕ → Option ℕ → Option ℕ → Option 
 picture_of_slots trace (Some first) (Some last) = Some (picture trace (Some (record { first = first; last = last })))
 picture_of_slots trace _ _ = None
 
+-- the most digits of a slot that ends a range
+abbrev pub bound_digits : ℕ
+bound_digits = 9
+
+-- the slot that a word names, as an end of a range: 1 to 9 decimal digits
+abbrev pub bound_named : List ℕ → Option ℕ
+bound_named word = numeral_named bound_digits word
+
+-- the campaign over the slots that two words name, if both name one and the first is not past the last
+abbrev pub campaign_of_range : List ℕ → List ℕ → Option ℕ → Option ℕ → Option LabForm
+campaign_of_range list script (Some first) (Some last) =
+    if nat_le first last then Some (campaign list script first last) else None
+campaign_of_range list script _ _ = None
+
 -- the form that words have, if they have one
 abbrev pub lab_form_of : List (List ℕ) → Option LabForm
 lab_form_of (verb ∷ trace ∷ []) =
@@ -33,10 +53,13 @@ lab_form_of (verb ∷ trace ∷ []) =
     else (if bytes_eq verb (codes "picture") then Some (picture trace None) else None)
 lab_form_of (verb ∷ trace ∷ first ∷ last ∷ []) =
     if bytes_eq verb (codes "picture") then picture_of_slots trace (slot_named first) (slot_named last) else None
+lab_form_of (verb ∷ list ∷ script ∷ first ∷ last ∷ []) =
+    if bytes_eq verb (codes "campaign") then campaign_of_range list script (bound_named first) (bound_named last) else None
 lab_form_of _ = None
 
 -- the form that a command of the code stands for
 abbrev pub lab_form_asked : Command → Option LabForm
 lab_form_asked (command.Wave trace) = Some (wave trace.now)
 lab_form_asked (command.Picture trace asked) = Some (picture trace.now asked)
+lab_form_asked (command.Campaign list script first last) = Some (campaign list.now script.now first last)
 lab_form_asked command.NoForm = None

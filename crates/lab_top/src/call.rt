@@ -5,12 +5,14 @@ ghost use Rattle.commands.specs.Outcome.{Follows};
 ghost use Rattle.commands.specs.Plan.{outside};
 ghost use Rattle.commands.specs.Texts.{alone};
 ghost use Rattle.commands.specs.Words.{texts_of};
+ghost use Rattle.lab_top.specs.CampaignPromise.{CampaignPromise};
 ghost use Rattle.lab_top.specs.Forms.{lab_plan_of};
 ghost use Rattle.lab_top.specs.Promise.{LabPromise};
 ghost use Rattle.lab_top.specs.Texts.{ttplab};
 ghost use Rattle.lab_top.specs.ViewPromise.{WavePromise, PicturePromise};
-ghost use Rattle.lab_top.specs.Words.{wave, picture, lab_form_of, lab_form_asked};
+ghost use Rattle.lab_top.specs.Words.{wave, picture, campaign, lab_form_of, lab_form_asked};
 
+use crate::faults::campaign;
 use crate::picture::picture;
 use crate::wave::wave;
 use crate::words::{Command, command_of};
@@ -18,7 +20,8 @@ use commands::say;
 use std::alloc::Global;
 use ttp_base::{Library, Sink};
 
-const USAGE: &str = "usage: wave TRACE | picture TRACE [FIRST LAST]\n";
+const USAGE: &str =
+    "usage: wave TRACE | picture TRACE [FIRST LAST] | campaign LIST SCRIPT FIRST LAST\n";
 
 // What the words ask for.
 fn obey<L: Library, K: Sink>(
@@ -35,30 +38,43 @@ fn obey<L: Library, K: Sink>(
     match command {
         Command::Wave { trace } => wave(alloc, trace, library, out),
         Command::Picture { trace, asked } => picture(alloc, trace, asked, library, out),
+        Command::Campaign {
+            list,
+            script,
+            first,
+            last,
+        } => campaign(alloc, list, script, first, last, library, out),
         Command::NoForm => say(out, USAGE.as_bytes(), 2),
     }
 }
 
-/// Writes the view of a trace that the words spell, and answers its status. The words are those after the
-/// program's name.
+/// Does what the words spell, and answers its status. The words are those after the program's name.
 ///
-/// There are two forms: `wave TRACE` writes a waveform, a text in the format VCD that wave viewers read, and
+/// There are three forms. `wave TRACE` writes a waveform, a text in the format VCD that wave viewers read, and
 /// `picture TRACE [FIRST LAST]` a picture, a text in the format SVG that browsers show, of the slots from FIRST
-/// to LAST, or else of those that are chosen. FIRST and LAST are 1 to 5 decimal digits. What is taken for a
-/// trace says `whole_in` of whole_trace: its form is asked for, and not whether it is right.
+/// to LAST, or else of those that are chosen. These FIRST and LAST are 1 to 5 decimal digits. What is taken for
+/// a trace says `whole_in` of whole_trace: its form is asked for, and not whether it is right.
+/// `campaign LIST SCRIPT FIRST LAST` runs the list with the script, and with each single fault more that is
+/// tried in the slots from FIRST to LAST, and writes a line on what each run cost. These are 1 to 9 decimal
+/// digits, and FIRST is not past LAST.
 ///
 /// | status | comes | what is written |
 /// |---|---|---|
-/// | 0 | the file is a trace that has the slots | the view |
+/// | 0 | the file is a trace that has the slots; the files are a list and a script for it | the view; the campaign |
 /// | 2 | exactly where the words have no form | the usage line |
-/// | 4 | exactly where the text is longer than 134,217,728 bytes, is no trace, or lacks the slots | `trace: too large`, `trace: line N` with its first line that is not due or is missing, or `trace: slots 0 to L` with its last slot |
-/// | 5 | only where the count of the file's name rose | `load: trace` |
+/// | 3 | for `campaign`, exactly where the list is longer than 1,048,576 bytes or refused | a line that begins `list: ` |
+/// | 4 | for a view, exactly where the text is longer than 134,217,728 bytes, is no trace, or lacks the slots | `trace: too large`, `trace: line N` with its first line that is not due or is missing, or `trace: slots 0 to L` with its last slot |
+/// | 4 | for `campaign`, exactly where the script is longer than 1,048,576 bytes or refused | a line that begins `script: ` |
+/// | 5 | only where the count of the file's name rose, and no earlier refusal came | `load: trace`, `load: list` or `load: script` |
 /// | 6 | only where the sink's count rose | so many whole lines of a text that was due, and a front of the next |
-/// | 7 | want of memory | nothing |
+/// | 7 | want of memory | nothing, or for `campaign` some whole lines of it, fewer than all |
 ///
-/// The library is asked for the one file, once, and for words of no form it is left alone. The text is held
-/// while it is shown, and gone over a few times; a picture takes no other memory, and a waveform a few bytes for
-/// each source that a host reads. Each line is one piece, so the cost is one write for each line.
+/// The library is asked for the files of the form, each once, in the order of the words, and for a script only
+/// where the list is not refused; for words of no form it is left alone. The text of a trace is held while it is
+/// shown, and gone over a few times; a picture takes no other memory, and a waveform a few bytes for each source
+/// that a host reads. A campaign of n lines runs the cluster n times, through all slots of the script; it
+/// takes memory for each run, and keeps none of it. Each line is one piece, so the cost is one write for
+/// each line.
 pub fn lab<L: Library, K: Sink>(alloc: Global, words: &[String], library: &mut L, out: &mut K) -> u8
     // The promise of every form: what is asked for, how it ends, and what is written.
     ensures promise { LabPromise (lab_form_of (texts_of words.now)) (outside (L.files library.old) (K.output out.old))
@@ -72,6 +88,13 @@ pub fn lab<L: Library, K: Sink>(alloc: Global, words: &[String], library: &mut L
     // The same for `picture`, of the slots that are asked for, or else of those that are chosen.
     ensures picture { (trace : List ℕ) (asked : Option Span) → lab_form_of (texts_of words.now) ≡ Some (picture trace asked)
         → PicturePromise trace asked (outside (L.files library.old) (K.output out.old))
+        (outside (L.files library.new) (K.output out.new)) result }
+    // For `campaign`, in its own words: status 0 is exactly the campaign of the list and the script that the files hold,
+    // and status 3 or 4 the line on a file that is refused. Right files give it, any others their line; with status 6 it
+    // was cut short, and with status 7 nothing is written, or some first lines of it and never all.
+    ensures campaign { (list script : List ℕ) (first last : ℕ)
+        → lab_form_of (texts_of words.now) ≡ Some (campaign list script first last)
+        → CampaignPromise list script first last (outside (L.files library.old) (K.output out.old))
         (outside (L.files library.new) (K.output out.new)) result }
 {
     obey(alloc, command_of(words), library, out)

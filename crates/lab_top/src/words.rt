@@ -1,7 +1,8 @@
 //! The forms of a call's words.
 ghost use Rattle.std.specs.Prelude.{◌≡◌, [], ◌∷◌};
 ghost use Rattle.commands.specs.Words.{texts_of};
-ghost use Rattle.lab_top.specs.Words.{slot_named, picture_of_slots, lab_form_of, lab_form_asked};
+ghost use Rattle.lab_top.specs.Words.{slot_named, picture_of_slots, bound_named, campaign_of_range};
+ghost use Rattle.lab_top.specs.Words.{lab_form_of, lab_form_asked};
 
 use commands::numeral_named;
 use picture_text::Span;
@@ -10,15 +11,30 @@ use picture_text::Span;
 #[derive(Clone, Copy)]
 pub(crate) enum Command<'a> {
     /// The waveform of the trace of this name.
-    Wave { trace: &'a str },
+    Wave {
+        trace: &'a str,
+    },
     /// The picture of the trace of this name, of these slots, or of those that are chosen.
-    Picture { trace: &'a str, asked: Option<Span> },
+    Picture {
+        trace: &'a str,
+        asked: Option<Span>,
+    },
+    /// The campaign of the script of this name for the list of this name, over these slots.
+    Campaign {
+        list: &'a str,
+        script: &'a str,
+        first: u32,
+        last: u32,
+    },
     /// Nothing: the words have no form.
     NoForm,
 }
 
-// The most digits of a slot.
+// The most digits of a slot that is shown.
 const SLOT_DIGITS: usize = 5;
+
+// The most digits of a slot that ends a range.
+const BOUND_DIGITS: usize = 9;
 
 // The slot that a word names.
 fn slot_named(word: &[u8]) -> Option<u32>
@@ -36,6 +52,30 @@ fn picture_of_slots<'a>(trace: &'a str, first: &str, last: &str) -> Command<'a>
         (Some(first), Some(last)) => Command::Picture {
             trace,
             asked: Some(Span { first, last }),
+        },
+        _ => Command::NoForm,
+    }
+}
+
+// The slot that a word names, as an end of a range.
+fn bound_named(word: &[u8]) -> Option<u32>
+    ensures { result ≡ bound_named word.now }
+{
+    let slot = numeral_named(word, BOUND_DIGITS)?;
+    Some(slot as u32)
+}
+
+// The campaign that is asked for by words for its first and its last slot.
+fn campaign_of_range<'a>(list: &'a str, script: &'a str, first: &str, last: &str) -> Command<'a>
+    ensures { lab_form_asked result
+        ≡ campaign_of_range list.now script.now (bound_named first.now) (bound_named last.now) }
+{
+    match (bound_named(first.as_bytes()), bound_named(last.as_bytes())) {
+        (Some(first), Some(last)) if first <= last => Command::Campaign {
+            list,
+            script,
+            first,
+            last,
         },
         _ => Command::NoForm,
     }
@@ -62,6 +102,22 @@ fn slots_command<'a>(verb: &str, trace: &'a str, first: &str, last: &str) -> Com
     }
 }
 
+// The command of five words.
+fn range_command<'a>(
+    verb: &str,
+    list: &'a str,
+    script: &'a str,
+    first: &str,
+    last: &str,
+) -> Command<'a>
+    ensures { lab_form_asked result ≡ lab_form_of (verb.now ∷ list.now ∷ script.now ∷ first.now ∷ last.now ∷ []) }
+{
+    match verb {
+        "campaign" => campaign_of_range(list, script, first, last),
+        _ => Command::NoForm,
+    }
+}
+
 /// The command that words spell.
 pub(crate) fn command_of(words: &[String]) -> Command<'_>
     ensures { lab_form_asked result ≡ lab_form_of (texts_of words.now) }
@@ -71,6 +127,13 @@ pub(crate) fn command_of(words: &[String]) -> Command<'_>
         [verb, trace, first, last] => {
             slots_command(verb.as_str(), trace.as_str(), first.as_str(), last.as_str())
         }
+        [verb, list, script, first, last] => range_command(
+            verb.as_str(),
+            list.as_str(),
+            script.as_str(),
+            first.as_str(),
+            last.as_str(),
+        ),
         _ => Command::NoForm,
     }
 }

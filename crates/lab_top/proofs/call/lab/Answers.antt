@@ -1,7 +1,8 @@
-use Rattle.std.proofs.Common.{Some}
+use Rattle.std.proofs.Common.{Some, refl}
 use Rattle.commands.specs.Texts.{alone}
 use Rattle.lab_top.specs.Views.{wave_view, picture_view}
-use Rattle.lab_top.specs.Words.{wave, picture}
+use Rattle.lab_top.specs.Words.{wave, picture, campaign}
+use Rattle.lab_top.proofs.CampaignPromises.{campaign_promise}
 use Rattle.lab_top.proofs.Promises.{lab_promise}
 use Rattle.lab_top.proofs.Views.{view_promise}
 use Rattle.lab_top.proofs.call.lab.Goals as goal
@@ -16,11 +17,18 @@ returns-clause-wave g c = λ trace form.
     let p = lab_promise (Some (wave trace)) _ _ (alone c.obey.result)
     (rw (c.command_of.ensures, form) at c.obey.ensures.follows)
     (rw (c.command_of.ensures, form) at c.obey.ensures.no_form) in
-    view_promise wave_view trace _ _ (alone c.obey.result) p.call p.empty
+    view_promise wave_view trace _ _ (alone c.obey.result) p.call (λ seven. p.empty seven refl)
 
 pub returns-clause-picture : goal.returns-clause-picture
 returns-clause-picture g c = λ trace asked form.
     let p = lab_promise (Some (picture trace asked)) _ _ (alone c.obey.result)
     (rw (c.command_of.ensures, form) at c.obey.ensures.follows)
     (rw (c.command_of.ensures, form) at c.obey.ensures.no_form) in
-    view_promise (picture_view asked) trace _ _ (alone c.obey.result) p.call p.empty
+    view_promise (picture_view asked) trace _ _ (alone c.obey.result) p.call (λ seven. p.empty seven refl)
+
+pub returns-clause-campaign : goal.returns-clause-campaign
+returns-clause-campaign g c = λ list script first last form.
+    let p = lab_promise (Some (campaign list script first last)) _ _ (alone c.obey.result)
+    (rw (c.command_of.ensures, form) at c.obey.ensures.follows)
+    (rw (c.command_of.ensures, form) at c.obey.ensures.no_form) in
+    campaign_promise list script first last _ _ (alone c.obey.result) p.call

@@ -1,11 +1,8 @@
 //! Views of small traces over a library and a sink in memory. The expected lines come from the manual page,
 //! never from a run.
-use lab_top::lab;
+use crate::calls::{Call, answer, call_of, gives, joined};
 use std::process::Abort;
 use std::test::Fail;
-use ttp_base::{List, MemoryLibrary, MemorySink};
-
-const USAGE: &str = "usage: wave TRACE | picture TRACE [FIRST LAST]\n";
 
 // Two slots of four nodes, of which node 0 listens.
 const HEAD: &str = "ttpbench trace 1 nodes 4 rounds 1 slots 2 schedule 000000\n";
@@ -48,93 +45,6 @@ const CELL: &str =
     "<g class=\"wait\"><title>slot 1 node 0 wait peer - msg - mem 0000 acc 0 rej 0 ack none clock 7\
     </title><rect x=\"72\" y=\"102\" width=\"17\" height=\"17\"/><text x=\"80\" y=\"115\">w</text></g>\n";
 
-// A call of `lab`: its words, the parts of the text that the library holds under `trace`, if it holds one, and
-// which call of the library fails, and which of the sink; 0 is none.
-#[derive(Clone, Copy)]
-struct Call<'a> {
-    words: &'a [&'a str],
-    trace: Option<&'a [&'a str]>,
-    bad_load: u32,
-    bad_write: u32,
-}
-
-// A call in which nothing fails.
-fn call_of<'a>(words: &'a [&'a str], trace: &'a [&'a str]) -> Call<'a> {
-    Call {
-        words,
-        trace: Some(trace),
-        bad_load: 0,
-        bad_write: 0,
-    }
-}
-
-// The texts, one after another.
-fn joined<R: AllocGlobal>(rt: &R, parts: &[&str]) -> Result<String, Fail> {
-    let mut text = String::new(rt.alloc());
-    for part in parts {
-        text.push_str(part)?;
-    }
-    Ok(text)
-}
-
-// The number of the call that fails.
-fn failing<R: AllocGlobal>(rt: &R, call: u32) -> Result<List<u32>, Fail> {
-    let mut calls = List::new(rt.alloc());
-    calls.push(call)?;
-    Ok(calls)
-}
-
-fn library_of<R: AllocGlobal>(rt: &R, call: &Call<'_>) -> Result<MemoryLibrary, Fail> {
-    let mut library = MemoryLibrary::new(rt.alloc(), failing(rt, call.bad_load)?);
-    if let Some(parts) = call.trace {
-        library.add("trace", joined(rt, parts)?.as_bytes())?;
-    }
-    Ok(library)
-}
-
-fn words_of<R: AllocGlobal>(rt: &R, call: &Call<'_>) -> Result<Vec<String>, Fail> {
-    let mut words = Vec::new(rt.alloc());
-    for word in call.words {
-        words.push(String::from_str(rt.alloc(), word)?)?;
-    }
-    Ok(words)
-}
-
-// The one call of `lab` here.
-fn run_lab<R: AllocGlobal>(
-    rt: &R,
-    words: &[String],
-    library: &mut MemoryLibrary,
-    out: &mut MemorySink,
-) -> u8 {
-    lab(rt.alloc(), words, library, out)
-}
-
-// What a call answers and writes.
-fn answer<R: AllocGlobal>(rt: &R, call: &Call<'_>) -> Result<(u8, Vec<u8>), Fail> {
-    let words = words_of(rt, call)?;
-    let mut library = library_of(rt, call)?;
-    let mut out = MemorySink::new(rt.alloc(), 65_536, failing(rt, call.bad_write)?)?;
-    let status = run_lab(rt, &words, &mut library, &mut out);
-    Ok((status, Vec::from_slice(rt.alloc(), out.bytes())?))
-}
-
-// A call answers this status and writes these texts, one after another.
-fn gives<R: AllocGlobal + Abort>(
-    rt: &R,
-    call: &Call<'_>,
-    status: u8,
-    texts: &[&str],
-) -> Result<(), Fail> {
-    let wanted = joined(rt, texts)?;
-    let (found, written) = answer(rt, call)?;
-    assert!(rt;
-        found == status && written.as_slice() == wanted.as_bytes(),
-        "not {status} {wanted}"
-    );
-    Ok(())
-}
-
 // A call answers 0 and writes a text that begins with these lines and has this part. A sink that fails at one of
 // the lines has those before it.
 fn shows<R: AllocGlobal + Abort>(
@@ -158,7 +68,7 @@ fn shows<R: AllocGlobal + Abort>(
     Ok(())
 }
 
-const TRACE: [&str; 4] = [HEAD, SLOT_0, SLOT_1, KEEPS];
+const TRACE: [(&str, &[&str]); 1] = [("trace", &[HEAD, SLOT_0, SLOT_1, KEEPS])];
 
 #[test]
 fn a_trace_has_two_views(rt: HostRuntime) -> Result<(), Fail> {
@@ -195,10 +105,11 @@ fn a_text_that_is_no_trace_is_told(rt: HostRuntime) -> Result<(), Fail> {
         ),
     ];
     for (parts, line) in rows {
-        gives(&rt, &call_of(&["wave", "trace"], parts), 4, &[line])?;
+        let files = [("trace", parts)];
+        gives(&rt, &call_of(&["wave", "trace"], &files), 4, &[line])?;
         gives(
             &rt,
-            &call_of(&["picture", "trace", "9", "1"], parts),
+            &call_of(&["picture", "trace", "9", "1"], &files),
             4,
             &[line],
         )?;
@@ -211,20 +122,7 @@ fn a_text_that_is_no_trace_is_told(rt: HostRuntime) -> Result<(), Fail> {
 }
 
 #[test]
-fn words_and_the_outside_are_told(rt: HostRuntime) -> Result<(), Fail> {
-    let none: [&[&str]; 8] = [
-        &[],
-        &["wave"],
-        &["wave", "trace", "0", "1"],
-        &["picture", "trace", "0"],
-        &["picture", "trace", "", "1"],
-        &["picture", "trace", "0", "100000"],
-        &["picture", "trace", "-0", "1"],
-        &["trace", "trace"],
-    ];
-    for words in none {
-        gives(&rt, &call_of(words, &TRACE), 2, &[USAGE])?;
-    }
+fn a_fault_of_the_outside_is_told(rt: HostRuntime) -> Result<(), Fail> {
     let wave = call_of(&["wave", "trace"], &TRACE);
     gives(
         &rt,
@@ -237,10 +135,7 @@ fn words_and_the_outside_are_told(rt: HostRuntime) -> Result<(), Fail> {
     )?;
     gives(
         &rt,
-        &Call {
-            trace: None,
-            ..wave
-        },
+        &call_of(&["wave", "trace"], &[]),
         5,
         &["load: trace\n"],
     )?;
