@@ -44,12 +44,11 @@ class Cluster:
 
 
 class Line:
-    """What a line of a campaign says."""
+    """What a line of a campaign says; that of the script's own run has no fault."""
 
     def __init__(self, text):
         words = text.split(" ")
-        self.slot, self.node, self.says_yes = words[1], words[3], words[5] == "yes"
-        self.rule = words[6]
+        self.says_yes, self.rule = words[5] == "yes", words[6]
         self.left = {}
         for word in [] if words[9] == "-" else words[9].split(","):
             node, slot, _ = word.split(":")
@@ -58,9 +57,8 @@ class Line:
         self.split = 0 if words[13] == "-" else int(words[14]) - int(words[13]) + 1
         self.end = [] if words[16] == "-" else [bin(int(word, 16)).count("1") for word in words[16].split(",")]
         self.cost, self.fault = " ".join(words[8:17]), " ".join(words[18:])
-        self.is_own = self.fault == "-"
-        if not self.is_own:
-            self.slot, self.node = int(self.slot), int(self.node)
+        if self.fault != "-":
+            self.slot, self.node = int(words[1]), int(words[3])
             self.kind, self.is_jump = words[18], words[18] == "jump"
             self.size = int(words[20]) if self.is_jump else 0
             self.channels = "" if self.is_jump else words[20]
@@ -121,6 +119,17 @@ class Lab:
         print(f"fact {fact}: {what}: {found}" + (", which is the fact" if is_so else f", and NOT {right}"), flush=True)
 
 
+class Missing(Exception):
+    """A fault that the campaign didn't try."""
+
+
+def line_of(lines, fault):
+    for line in lines:
+        if line.fault == fault:
+            return line
+    raise Missing(fault)
+
+
 def steady(nodes):
     """A cluster without drift, for ten rounds."""
     return Cluster(nodes, 10 * nodes)
@@ -163,7 +172,8 @@ def yes_lines(lab):
         _, lines = lab.read(listed, script, slot, slot)
         hurt += sum(bool(line.hurt or line.split) for line in lines if line.says_yes)
     kept = lab.kept - before
-    lab.look(1, f"20 random lists of 4 to 24 nodes, {kept} lines of second faults that say yes: are they 2,000 or more", kept >= 2_000, True)
+    what = f"20 random lists of 4 to 24 nodes, {kept} lines of second faults that say yes: are they 2,000 or more"
+    lab.look(1, what, kept >= 2_000, True)
     lab.look(1, "and those that show a node hurt or memberships split", hurt, 0)
 
 
@@ -182,11 +192,13 @@ def single_faults(lab):
         what = f"{cluster.nodes} nodes, drift {1 if cluster.clocks else 0}, slots {first} to {last}"
         right = len(full), len(half)
         found = sum(set(line.left) == {line.node} for line in full), sum(line.cost == own.cost for line in half)
-        lab.look(2, f"{what}, faults on both channels that cost their own node alone, and on one that cost nothing", found, right)
+        what += ", faults on both channels that cost their own node alone, and on one that cost nothing"
+        lab.look(2, what, found, right)
     own, lines = lab.campaign(steady(8), 32, 39)
     kept = [line for line in lines if line.says_yes]
     told = len(kept), sum(line.cost == own.cost for line in kept), sum(bool(line.hurt) for line in kept)
-    lab.look(2, "8 nodes, slots 32 to 39, lines that say yes, of them like the script's own, of them with a node hurt", told, (896, 512, 0))
+    what = "8 nodes, slots 32 to 39, lines that say yes, of them like the script's own, of them with a node hurt"
+    lab.look(2, what, told, (896, 512, 0))
 
 
 # Facts 3 and 4: the slot after the start.
@@ -207,17 +219,18 @@ def after_the_start(lab):
         dead = [line for line in lines if line.fault in ending]
         told = sum(line.is_dead and len(line.left) == nodes - 1 for line in dead)
         lab.look(3, "and of the first four those after which all but the starter have left", told, 4)
-        silent = next(line for line in lines if line.fault == f"send 1 AB silence {slot} {slot}")
+        silent = line_of(lines, f"send 1 AB silence {slot} {slot}")
         lab.look(3, "and who leaves by silence there", sorted(silent.left), [1])
 
 
 def deaf_starter(lab):
     cluster = Cluster(8, 200)
     _, lines = lab.campaign(cluster, 17, 17)
-    line = next(line for line in lines if line.fault == "receive 0 AB silence 17 199")
+    line = line_of(lines, "receive 0 AB silence 17 199")
     told = line.left, sorted(line.hurt), line.end
     gone = {1: 35, 2: 52, 3: 69, 4: 86, 5: 103, 6: 126, 7: 119}
-    lab.look(4, "8 nodes, a starter that is deaf from slot 17 on: who leaves when, who is hurt, what is left", told, (gone, [*range(1, 8)], []))
+    what = "8 nodes, a starter that is deaf from slot 17 on: who leaves when, who is hurt, what is left"
+    lab.look(4, what, told, (gone, [*range(1, 8)], []))
     _, lines = lab.campaign(cluster, 17, 47)
     later = [line for line in lines if line.kind == "receive" and line.node == 0 and line.channels == "AB" and line.lasts]
     found = sorted(line.fault for line in later if line.hurt)
@@ -239,14 +252,16 @@ def dead_receivers(lab):
     }
     for where, lines in dead.items():
         own, lines = lab.campaign(cluster, 32, 39, lines)
-        lab.look(5, f"8 nodes, receivers of 3 and 4 dead on {where}: whether the test says yes, and who leaves", (own.says_yes, own.left), (True, {}))
+        what = f"8 nodes, receivers of 3 and 4 dead on {where}: whether the test says yes, and who leaves"
+        lab.look(5, what, (own.says_yes, own.left), (True, {}))
         hurt = [line for line in lines if line.hurt]
         if where != "the same channel":
             lab.look(5, f"lines of {len(lines)} with a node hurt", len(hurt), 0)
             continue
         lost = [line for line in lines if line.kind == "send" and line.channels == "B" and line.node not in (3, 4)]
         told = len(lost), sum({3, 4} <= set(line.left) for line in lost), len(hurt)
-        lab.look(5, "frames of the others lost on B alone, those that cost 3 and 4, and all lines with a node hurt", told, (24, 24, 24))
+        what = "frames of the others lost on B alone, those that cost 3 and 4, and all lines with a node hurt"
+        lab.look(5, what, told, (24, 24, 24))
         three = {line.node for line in lost if len(line.left) == 3}
         lab.look(5, "senders that such a loss costs too, whose successors are 3 and 4", three, {2})
 
@@ -264,7 +279,8 @@ def edge_of_the_window(lab):
     lab.look(6, "jump 7 -14 48, seven slots before node 7 sends: who leaves", sorted(line.left), [6])
     large = Cluster(24, 200, kind="X", data=16, **DRIFTING)
     line = lab.run(large, "jump 17 -100 113")
-    lab.look(6, "24 drifting nodes, jump 17 -100 113: how many leave beside 17", (17 in line.left, len(line.others(17))), (True, 12))
+    told = 17 in line.left, len(line.others(17))
+    lab.look(6, "24 drifting nodes, jump 17 -100 113: whether 17 leaves, and how many beside", told, (True, 12))
     for some, first, last, near_hurt in ((cluster, 32, 79, 72), (large, 96, 103, 14)):
         _, lines = lab.campaign(some, first, last)
         jumps = [line for line in lines if line.is_jump and abs(line.size) == some.window]
@@ -325,12 +341,14 @@ def two_faults(lab):
                     third[tuple(sorted((node, line.node))), tuple(others)] += 1
         what = f"{nodes} nodes, {apart} pairs of faults in different slots, 1 to {2 * nodes + 2} apart, that cost a third node"
         lab.look(7, what, more, 0)
-        lab.look(7, f"pairs of them and of {together} in one slot that leave two memberships, or no two nodes", (torn, dead), (0, 0))
-        lab.look(7, "who is lost beside the two in one slot: the sender, where they are its successors", dict(third), {((1, 2), (0,)): 16})
-        longest[nodes] = max(spans)
+        what = f"pairs of them and of {together} in one slot that leave two memberships, or no two nodes"
+        lab.look(7, what, (torn, dead), (0, 0))
+        what = "who is lost beside the two in one slot: the sender, where they are its successors"
+        lab.look(7, what, dict(third), {((1, 2), (0,)): 16})
+        longest[nodes] = max(spans, default=0)
     lab.look(7, "slots in which memberships are split, by nodes, at most", longest, {5: 8, 6: 10, 7: 11, 8: 13})
     _, lines = lab.campaign(steady(8), 32, 32, ["receive 1 AB noise 32 32"])
-    line = next(line for line in lines if line.fault == "receive 2 AB noise 32 32")
+    line = line_of(lines, "receive 2 AB noise 32 32")
     lab.look(7, "8 nodes, receive 1 and receive 2 AB noise 32 32: who leaves when", line.left, {0: 34, 1: 41, 2: 42})
     for nodes in (6, 7, 8):
         cluster, slot, pairs, more = Cluster(nodes, 20 * nodes, **DRIFTING), 4 * nodes, 0, 0
@@ -343,6 +361,21 @@ def two_faults(lab):
             full = [line for line in lines if line.is_full(cluster.window)]
             pairs, more = pairs + len(full), more + sum(bool(line.others(node, line.node)) for line in full)
         lab.look(7, f"{nodes} drifting nodes, {pairs} pairs of faults in different slots that cost a third node", more, 0)
+    drifting_in_one_slot(lab)
+
+
+def drifting_in_one_slot(lab):
+    """Two faults in one slot, where clocks drift: a sender that is lost too leaves a clock less."""
+    most, pairs = {}, 0
+    for nodes in (6, 7, 8):
+        cluster, slot = Cluster(nodes, 20 * nodes, **DRIFTING), 4 * nodes
+        for node, fault in full_faults(cluster, slot, range(4)):
+            _, lines = lab.campaign(cluster, slot, slot, [fault])
+            full = [line for line in lines if line.is_full(cluster.window)]
+            pairs += len(full)
+            most[nodes] = max([most.get(nodes, 0), *(len(line.others(node, line.node)) for line in full)])
+    what = f"drifting nodes, {pairs} pairs of faults in one slot: by nodes, how many are lost beside the two at most"
+    lab.look(7, what, most, {6: 2, 7: 1, 8: 1})
 
 
 # Fact 8: fewer than four clocks.
@@ -355,9 +388,9 @@ def too_few_clocks(lab):
     hurt = [line for line in full if line.hurt_others()]
     lab.look(8, f"5 drifting nodes, second faults of {len(full)} in slots 32 to 51 that cost a third node", len(hurt), len(full))
     waits = [line.left[node] - line.slot for line in hurt for node in line.hurt_others()]
-    lab.look(8, "slots until it leaves, from and to", (min(waits), max(waits)), (8, 18))
+    lab.look(8, "slots until it leaves, from and to", (min(waits, default=0), max(waits, default=0)), (8, 18))
     lab.look(8, "the rules that the tests name", {line.rule for line in full}, {"H7"})
-    line = next(line for line in full if line.fault == "send 0 AB silence 40 40")
+    line = line_of(full, "send 0 AB silence 40 40")
     lab.look(8, "send 0 AB silence 40 40: who is hurt and when it leaves", (line.hurt, line.left[4]), ({4}, 54))
     calm = Cluster(5, 120)
     _, lines = lab.campaign(calm, 32, 51, ["send 2 AB silence 22 22"])
@@ -368,6 +401,10 @@ def too_few_clocks(lab):
     full = [line for line in lines if line.is_full(six.window) and line.node != 2]
     found = sum(bool(line.hurt_others()) for line in full)
     lab.look(8, f"6 drifting nodes, second faults of {len(full)} in slots 36 to 59 that cost a third node", found, 0)
+    _, lines = lab.campaign(six, 24, 24, ["receive 1 AB silence 24 24"])
+    line = line_of(lines, "receive 2 AB silence 24 24")
+    what = "6 drifting nodes, receive 1 and receive 2 AB silence 24 24: who leaves when"
+    lab.look(8, what, line.left, {0: 26, 1: 31, 2: 32, 4: 46})
 
 
 # Fact 9: small clusters.
@@ -383,12 +420,14 @@ def small_clusters(lab):
                 pairs += 1
                 dead[line.slot - slot] += line.is_dead
                 left[line.slot - slot, max(line.end, default=0)] += 1
-    lab.look(9, f"4 nodes, {pairs} pairs, slots between two faults that can end the cluster", sorted(gap for gap in dead if dead[gap]), [0, 1, 2, 3, 4])
+    found = sorted(gap for gap in dead if dead[gap])
+    lab.look(9, f"4 nodes, {pairs} pairs, slots between two faults that can end the cluster", found, [0, 1, 2, 3, 4])
     found = {members for gap, members in left if gap >= 5}
     lab.look(9, "how many nodes are left where they are 5 to 10 slots apart", found, {2})
     _, lines = lab.campaign(steady(4), 20, 20, ["receive 2 AB silence 16 16"])
-    line = next(line for line in lines if line.fault == "send 0 AB noise 20 20")
-    lab.look(9, "receive 2 AB silence 16 16 and send 0 AB noise 20 20: who leaves, what is left", (sorted(line.left), line.is_dead), ([0, 1, 2, 3], True))
+    line = line_of(lines, "send 0 AB noise 20 20")
+    what = "receive 2 AB silence 16 16 and send 0 AB noise 20 20: who leaves, and whether no two are left"
+    lab.look(9, what, (sorted(line.left), line.is_dead), ([0, 1, 2, 3], True))
     for on, left in ((3, 2), (2, 0)):
         _, lines = lab.campaign(Cluster(8, 80, on=on), 32, 39)
         full = [line for line in lines if line.is_full(1)]
@@ -415,12 +454,14 @@ def sets_of_receivers(lab):
                 whole += len(line.end) == 1 and some_deaf != some_hearing
                 least[nodes] = min(least.get(nodes, nodes), len(stays))
                 sides.add((size * 2 - nodes > 0, size * 2 == nodes, kind, some_deaf))
-        lab.look(10, f"{nodes} nodes, sets of receivers that lose one frame, and those after which one group and one membership stays", (tried, whole), (2 * (2 ** (nodes - 1) - 1),) * 2)
+        what = f"{nodes} nodes, sets of receivers that lose one frame, and those after which one group and one membership stays"
+        lab.look(10, what, (tried, whole), (2 * (2 ** (nodes - 1) - 1),) * 2)
     lab.look(10, "the fewest nodes that are left, by nodes", least, {5: 2, 6: 2, 7: 3, 8: 3})
     clear = {(more, deaf) for more, equal, _, deaf in sides if not equal}
     lab.look(10, "whether the deaf are more than half, and stay", clear, {(True, True), (False, False)})
     half = {(kind, deaf) for _, equal, kind, deaf in sides if equal}
-    lab.look(10, "where they are half: the kind of loss, and whether they stay", half, {("silence", True), ("noise", True), ("noise", False)})
+    right = {("silence", True), ("noise", True), ("noise", False)}
+    lab.look(10, "where they are half: the kind of loss, and whether they stay", half, right)
 
 
 # Fact 11: a node that comes back.
@@ -438,14 +479,15 @@ def node_that_returns(lab):
     yes = [line for line in lines if line.says_yes]
     no = [line for line in lines if not line.says_yes]
     told = len(yes), sum(bool(line.hurt) for line in yes)
-    lab.look(11, "6 nodes, slots 40 to 87, lines that say returns yes, and those with a node hurt", (told[0] > 2_900, told[1]), (True, 0))
+    lab.look(11, "6 nodes, slots 40 to 87, lines that say returns yes, and those with a node hurt", told, (2_976, 0))
     hurt = [line for line in no if line.hurt]
     lab.look(11, "lines that say returns no with a node hurt", len(hurt), 59)
     receivers = [line for line in hurt if line.kind == "receive" and line.hurt == {line.node} and line.node != 2]
     told = len(receivers), sorted({line.slot for line in receivers})
     lab.look(11, "receivers that are hurt by missing a frame, and in which slots", told, (40, [44, 50, 56, 62]))
     rest = [line for line in hurt if line not in receivers]
-    lab.look(11, "who is hurt in the rest, and in which slots", ({tuple(line.hurt) for line in rest}, {line.slot for line in rest}), ({(2,)}, {59, 60, 61, 62, 63}))
+    told = {tuple(line.hurt) for line in rest}, sorted({line.slot for line in rest})
+    lab.look(11, "who is hurt in the rest, and in which slots", told, ({(2,)}, [59, 60, 61, 62, 63]))
 
 
 FACTS = {
@@ -489,7 +531,10 @@ def main():
         lab = Lab(folder)
         for number in chosen:
             before = lab.runs
-            FACTS[number](lab)
+            try:
+                FACTS[number](lab)
+            except Missing as fault:
+                lab.look(number, f"a line on the fault {fault}", "none", "one")
             print(f"fact {number}: {lab.runs - before} runs", flush=True)
     print(f"{lab.kept} lines of all campaigns say yes, and {lab.unsafe} of them show a node hurt or memberships split")
     found = sum(lab.found.values())
