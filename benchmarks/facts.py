@@ -217,7 +217,7 @@ def after_the_start(lab):
         what = f"{nodes} nodes, {len(some)} losses and jumps by 4 W in slots 0 to {last}, that hurt another node"
         lab.look(3, what, found, sorted([*ending, deaf]))
         dead = [line for line in lines if line.fault in ending]
-        told = sum(line.is_dead and len(line.left) == nodes - 1 for line in dead)
+        told = sum(line.is_dead and sorted(line.left) == [*range(1, nodes)] for line in dead)
         lab.look(3, "and of the first four those after which all but the starter have left", told, 4)
         silent = line_of(lines, f"send 1 AB silence {slot} {slot}")
         lab.look(3, "and who leaves by silence there", sorted(silent.left), [1])
