@@ -1,5 +1,5 @@
 //! A node that hears nobody, slot by slot, worked out by hand.
-ghost use Rattle.std.specs.Prelude.{◌≡◌, ℕ, [], ◌∷◌, length, true, false, IfOk};
+ghost use Rattle.std.specs.Prelude.{◌≡◌, ◌≤◌, ℕ, [], ◌∷◌, length, true, false, unsigned_abs, IfOk};
 ghost use Rattle.ttp_world.specs.declared.medl.Kind.TheVariants as kind;
 ghost use Rattle.ttp_world.specs.Medl.{IsValid, plan_at};
 ghost use Rattle.controller.specs.PlantWithin.{IsEnded};
@@ -72,6 +72,8 @@ fn silent_slot(
 ) -> bool
     requires list { list.now ≡ controller.old.list }
     requires turn { IsEnded controller.old.turn }
+    requires jump { unsigned_abs jump ≤ 1000 }
+    requires drift { unsigned_abs drift ≤ 1000 }
     ensures list { list.now ≡ controller.new.list }
     ensures turn { IsEnded controller.new.turn }
 {

@@ -33,16 +33,18 @@ pub(super) fn through_slot(
     requires turn { IsEnded controller.old.turn }
     requires on_a { unsigned_abs (offset_of_arrival came.0.now) ≤ 1000 }
     requires on_b { unsigned_abs (offset_of_arrival came.1.now) ≤ 1000 }
+    requires jump { unsigned_abs jump ≤ 1000 }
+    requires error { unsigned_abs error ≤ 1000 }
+    requires drift { unsigned_abs drift ≤ 1000 }
     ensures list { list.now ≡ controller.new.list }
     ensures turn { IsEnded controller.new.turn }
 {
-    let offset = controller.state().offset;
-    assert!(rt; offset.unsigned_abs() <= 1000 && jump.unsigned_abs() <= 1000);
-    assert!(rt; error.unsigned_abs() <= 1000 && drift.unsigned_abs() <= 1000);
+    assert!(rt; controller.state().offset.unsigned_abs() <= 1000);
     assert!(rt; list.window.unsigned_abs() <= 1000);
     controller.begin(list, on, false, jump);
     assert!(rt; controller.intent() != Intent::Loaded);
     let sent = controller.plan(list, 0, &[]).is_some();
+    assert!(rt; controller.clock().unsigned_abs() <= 2000);
     controller.take(list, came.0, came.1, error, drift, outcome);
     sent
 }

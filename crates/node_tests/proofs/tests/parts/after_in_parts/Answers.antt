@@ -1,6 +1,9 @@
-use Rattle.std.proofs.Common.{[], refl, arith}
-use Rattle.ttp_world.specs.World.{slot_after}
+use Rattle.std.proofs.Common.{List, [], ◌∷◌, ◌+◌, refl, subst, sym, arith}
+use Rattle.std.proofs.lemmas.List.{with_items_is}
+use Rattle.ttp_world.specs.World.{row_in, slot_after}
 use Rattle.controller.proofs.Payloads.{chosen-step, nothing-chosen}
+use Rattle.controller.specs.PlantStands.{PlantStandsFor, MayStep, plant_of}
+use Rattle.controller.specs.declared.seat.Seat.{Seat}
 use Rattle.node_tests.proofs.tests.parts.after_in_parts.Goals as goal
 
 pub loop-slot-init : goal.loop-slot-init
@@ -14,15 +17,30 @@ loop-slot-init c =
 pub step_in_parts-requires-clause-chosen : goal.step_in_parts-requires-clause-chosen
 step_in_parts-requires-clause-chosen c =
     let invariant = c.loop-slot.invariant in
-    chosen-step c.nothing_for_all-chosen.result c.in_ok-list.ensures.valid invariant.stands
+    subst
+    (λ (seats : List Seat). MayStep (plant_of c.in_ok-list.list c.loop-slot.slot seats) c.in_ok-script.script
+    c.nothing_for_all-chosen.result) (sym c.deref_mut.ensures.value)
+    (chosen-step c.nothing_for_all-chosen.result c.in_ok-list.ensures.valid invariant.stands
     (nothing-chosen (slot_after c.in_ok-list.list c.in_ok-script.script invariant.history)
     c.nothing_for_all-chosen.result c.in_ok-list.ensures.bare (omega (arith, c.in_ok-list.ensures.slots))
-    c.nothing_for_all-chosen.ensures)
+    c.nothing_for_all-chosen.ensures))
 
 pub loop-slot-preserved : goal.loop-slot-preserved
 loop-slot-preserved c =
     let invariant = c.loop-slot.invariant in
+    let stands : PlantStandsFor (plant_of c.in_ok-list.list c.loop-slot.slot c.deref_mut.result.now)
+    c.in_ok-script.script invariant.history =
+    subst
+    (λ (seats : List Seat). PlantStandsFor (plant_of c.in_ok-list.list c.loop-slot.slot seats) c.in_ok-script.script
+    invariant.history) (sym c.deref_mut.ensures.value) invariant.stands in
+    let told = with_items_is c.loop-slot.seats c.step_in_parts.new.seats
+    (omega (arith, c.step_in_parts.ensures.nodes, c.deref_mut.ensures.len)) in
+    let before = invariant.history in
+    let row = row_in (slot_after c.in_ok-list.list c.in_ok-script.script before) c.nothing_for_all-chosen.result in
     record {
-      history = _;
-      stands = (c.step_in_parts.ensures.steps invariant.history invariant.stands).stands;
+      history = row ∷ before;
+      stands =
+          subst
+          (λ (seats : List Seat). PlantStandsFor (plant_of c.in_ok-list.list (c.loop-slot.slot + 1) seats)
+          c.in_ok-script.script (row ∷ before)) (sym told) (c.step_in_parts.ensures.steps before stands).stands;
     }
