@@ -1,10 +1,14 @@
 -- The first line of a text that is left.
-use Rattle.std.proofs.Common.{◌≡◌, ℕ, ◌<◌, Bool, true, false, cond, List, [], ◌∷◌, ◌++◌, length, get_or, drop}
-use Rattle.std.proofs.Common.{Some, refl, sym, ap, ◌∙◌, arith, length-append}
+use Rattle.std.proofs.Common.{◌≡◌, ℕ, suc, ◌<◌, Bool, true, false, cond, List, [], ◌∷◌, ◌++◌, length, get_or, take, drop}
+use Rattle.std.proofs.Common.{Some, None, refl, sym, ap, ◌∙◌, arith, length-append}
 use Rattle.std.specs.List.{concat}
+use Rattle.std.proofs.lemmas.Bool.Decides.{nat_tests}
+use Rattle.std.proofs.lemmas.List.Sums.{position_or_len_is}
+use Rattle.memchr.specs.Find.{IsFirstByte, is_byte}
 use Rattle.ttp_base.specs.Text.{Lines, newline, is_newline, before_lines, lines_of}
 use Rattle.line_reader.specs.declared.trace_line.TraceLine.{TraceLine}
 use Rattle.line_text.proofs.Cuts.{concat-lines_of}
+use Rattle.line_text.proofs.FirstLines.{IsCut, cut-Some, cut-None}
 use Rattle.whole_trace.specs.Whole.{value_of}
 
 uncons : (lines : Lines) → 0 < length lines → lines ≡ get_or lines 0 [] ∷ drop 1 lines
@@ -46,3 +50,24 @@ rest-shorter text line rest v cut is =
     let whole : text ≡ line ++ rest =
     sym (concat-lines_of text) ∙ ap concat cut ∙ ap (λ (bytes : List ℕ). line ++ bytes) (concat-lines_of rest) in
     omega (arith, ap length whole, length-append line rest, some-bytes line v is)
+
+-- A text cut by a search for its first line feed.
+
+no_feed : (b : Bool) → ¬ (b ≡ true) → b ≡ false
+no_feed true other = absurd (other refl)
+no_feed false other = refl
+
+pub cut-behind_feed : (text : List ℕ) (end : ℕ) → IsFirstByte (is_byte 10) text (Some end)
+    → IsCut text (take (suc end) text) (drop (suc end) text)
+cut-behind_feed text end here =
+    let within = here.0.high in
+    let at = position_or_len_is is_newline text end 0 (omega arith)
+    (λ k below. no_feed (is_newline (get_or text k 0)) (here.0.before k (omega arith) below)) (λ _. here.1) in
+    cut-Some text end (grind (arith, nat_tests))
+
+pub cut-no_feed : (text : List ℕ) → IsFirstByte (is_byte 10) text None → IsCut text text []
+cut-no_feed text nowhere =
+    let at = position_or_len_is is_newline text (length text) 0 (omega arith)
+    (λ k below. no_feed (is_newline (get_or text k 0)) (nowhere k (omega arith) below))
+    (λ within. absurd (omega arith)) in
+    cut-None text (grind (arith, nat_tests))

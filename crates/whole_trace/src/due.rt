@@ -1,7 +1,7 @@
 //! Which line is due in a trace, by the lines before it.
 ghost use Rattle.std.specs.Prelude.{◌≡◌};
 ghost use Rattle.whole_trace.specs.Due.{is_head, is_below, are_members, doubted, source_node, is_node_line};
-ghost use Rattle.whole_trace.specs.Due.{is_keep, is_back, after_head, after_node, after_host, due_after, ending};
+ghost use Rattle.whole_trace.specs.Due.{is_keep, is_back, after_head, next_node, after_node, after_host, due_after, ending};
 
 use crate::shown::Head;
 use line_reader::TraceLine;
@@ -172,25 +172,33 @@ fn after_head(line: &TraceLine) -> Option<Due>
     }
 }
 
+/// What is due behind the line of a node.
+pub(crate) fn next_node(head: Head, slot: u32, node: u8) -> Due
+    ensures { result ≡ next_node head slot node }
+{
+    if node < head.nodes && node + 1 < head.nodes {
+        Due::Node {
+            head,
+            slot,
+            node: node + 1,
+        }
+    } else {
+        Due::Host {
+            head,
+            slot,
+            has_read: false,
+        }
+    }
+}
+
 // Where the line is that of a node.
 fn after_node(head: Head, slot: u32, node: u8, line: &TraceLine) -> Option<Due>
     ensures { result ≡ after_node head slot node line.now }
 {
-    if !is_node_line(&head, slot, node, line) {
-        return None;
-    }
-    if node < head.nodes && node + 1 < head.nodes {
-        Some(Due::Node {
-            head,
-            slot,
-            node: node + 1,
-        })
+    if is_node_line(&head, slot, node, line) {
+        Some(next_node(head, slot, node))
     } else {
-        Some(Due::Host {
-            head,
-            slot,
-            has_read: false,
-        })
+        None
     }
 }
 
