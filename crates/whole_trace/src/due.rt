@@ -1,10 +1,11 @@
 //! Which line is due in a trace, by the lines before it.
 ghost use Rattle.std.specs.Prelude.{◌≡◌};
+ghost use Rattle.line_reader.specs.declared.trace_line.TraceLine.TheVariants as said;
 ghost use Rattle.whole_trace.specs.Due.{is_head, is_below, are_members, doubted, source_node, is_node_line};
 ghost use Rattle.whole_trace.specs.Due.{is_keep, is_back, after_head, next_node, after_node, after_host, due_after, ending};
 
 use crate::shown::Head;
-use line_reader::TraceLine;
+use line_reader::{NodeLine, TraceLine};
 use ttp_base::NodeSet;
 use ttp_world::{Ack, Back, Keep, Source};
 
@@ -94,6 +95,21 @@ fn source_node(source: Source) -> Option<u8>
         Source::Node(node) => Some(node),
         Source::Status => None,
     }
+}
+
+/// Whether a line of a node is that of this one after this slot.
+pub(crate) fn is_due_node(head: &Head, due: u32, k: u8, node: &NodeLine) -> bool
+    ensures { result ≡ is_node_line head.now due k (said.Node node.now.slot node.now.node node.now.word node.now.peer
+        node.now.message node.now.wide node.now.members node.now.accepted node.now.rejected node.now.ack
+        node.now.offset) }
+{
+    node.slot == due
+        && node.node == k
+        && k < head.nodes
+        && node.wide == (head.version == 2)
+        && is_below(head.nodes, node.peer)
+        && are_members(head.nodes, node.members)
+        && is_below(head.nodes, doubted(node.ack))
 }
 
 // Whether a line is that of a node after a slot.

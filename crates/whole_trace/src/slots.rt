@@ -5,7 +5,7 @@ ghost use Rattle.whole_trace.specs.Steps.{GoesOn, is_node, IsHostPlace, IsHostSt
 ghost use Rattle.whole_trace.specs.Whole.{SlotLines, slots_from, with_node};
 
 use crate::due::Due;
-use crate::place::{Place, Step, behind_node};
+use crate::place::{Place, Step, behind_node, due_node};
 use crate::shown::{HostLine, NodeShown};
 use line_reader::TraceLine;
 use std::marker::Model;
@@ -115,6 +115,11 @@ fn next_node<'a>(at: Place<'a>) -> Option<(NodeShown, Place<'a>)>
         → (slots_from (lines_of at.entry.rest.now)).front.hosts ≡ []
         → (slots_from (lines_of at.entry.rest.now)).slots ≡ [] }
 {
+    if let Due::Node { head, slot, node } = at.due {
+        if let Some(found) = due_node(head, slot, node, at.rest) {
+            return Some(found);
+        }
+    }
     let Step { line, behind } = at.next()?;
     match line {
         TraceLine::Node {

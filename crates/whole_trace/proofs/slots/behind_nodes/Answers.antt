@@ -1,4 +1,4 @@
-use Rattle.std.proofs.Common.{◌+◌, sym, subst, ◌∙◌, arith}
+use Rattle.std.proofs.Common.{◌+◌, subst, ◌∙◌, arith}
 use Rattle.ttp_base.specs.Text.{lines_of}
 use Rattle.whole_trace.specs.declared.due.Due.{Due}
 use Rattle.whole_trace.specs.Steps.{IsInSlot}
