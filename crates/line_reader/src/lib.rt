@@ -1,4 +1,5 @@
-//! A line of a trace, read: [`read_line`] gives the value whose line some bytes are.
+//! A line of a trace, read: [`read_line`] gives the value whose line some bytes are, and [`read_node_line`] that of a
+//! node's line alone, which costs less.
 //!
 //! What the line of a value is says `text_of` of `specs/TraceLines.antt`, and what fits into its widths
 //! `Fits`. A value is read exactly where it fits and the bytes are its line, so each line is the line of
@@ -17,5 +18,5 @@ mod numerals;
 mod read;
 mod trace_line;
 
-pub use read::read_line;
-pub use trace_line::{TraceLine, Word};
+pub use read::{read_line, read_node_line};
+pub use trace_line::{NodeLine, TraceLine, Word};

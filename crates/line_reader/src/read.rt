@@ -1,7 +1,8 @@
 //! A line of a trace, read.
-ghost use Rattle.std.specs.Prelude.{◌≡◌, IfSome};
+ghost use Rattle.std.specs.Prelude.{◌≡◌, IfSome, option_map};
 ghost use Rattle.line_reader.specs.TraceLines.{text_of, Fits};
 ghost use Rattle.line_reader.specs.declared.trace_line.TraceLine.{TraceLine as Line};
+ghost use Rattle.line_reader.specs.declared.trace_line.TraceLine.TheVariants as said;
 ghost use Rattle.line_reader.specs.Reading.{head_in, node_in, write_in, read_in, kept_in, broken_in, owed_in};
 ghost use Rattle.line_reader.specs.Reading.{refused_in, line_in};
 
@@ -9,7 +10,7 @@ use crate::digits::{is_wide, members_in, payload_in, schedule_in};
 use crate::fields::fields_in;
 use crate::line_words::{ack_in, fits_word, has_size, source_in, word_in};
 use crate::numerals::{byte_in, byte_or_dash_in, message_or_dash_in, offset_in, slot_in};
-use crate::trace_line::TraceLine;
+use crate::trace_line::{NodeLine, TraceLine};
 use line_text::message_in;
 use ttp_world::{Back, Keep};
 
@@ -42,10 +43,11 @@ fn head_in(bytes: &[u8]) -> Option<TraceLine>
     })
 }
 
-// The line of a node.
+/// What the line of a node says, without the line feed; `None` where it is none that [`read_line`] reads. Takes no memory.
 #[tactic(auto, unfolding(crate::specs::Reading::node_in))]
-fn node_in(bytes: &[u8]) -> Option<TraceLine>
-    ensures { result ≡ node_in bytes.now }
+pub fn read_node_line(bytes: &[u8]) -> Option<NodeLine>
+    ensures { option_map (λ n. said.Node n.slot n.node n.word n.peer n.message n.wide n.members n.accepted n.rejected n.ack
+        n.offset) result ≡ node_in bytes.now }
 {
     let words = fields_in(
         &[
@@ -68,7 +70,7 @@ fn node_in(bytes: &[u8]) -> Option<TraceLine>
     if !fits_word(word, peer, message) {
         return None;
     }
-    Some(TraceLine::Node {
+    Some(NodeLine {
         slot,
         node,
         word,
@@ -80,6 +82,26 @@ fn node_in(bytes: &[u8]) -> Option<TraceLine>
         rejected,
         ack,
         offset,
+    })
+}
+
+// The line of a node.
+fn node_in(bytes: &[u8]) -> Option<TraceLine>
+    ensures { result ≡ node_in bytes.now }
+{
+    let node = read_node_line(bytes)?;
+    Some(TraceLine::Node {
+        slot: node.slot,
+        node: node.node,
+        word: node.word,
+        peer: node.peer,
+        message: node.message,
+        wide: node.wide,
+        members: node.members,
+        accepted: node.accepted,
+        rejected: node.rejected,
+        ack: node.ack,
+        offset: node.offset,
     })
 }
 

@@ -71,3 +71,19 @@ pub enum TraceLine {
     /// Whether each armed node is owed its place.
     Back(Back),
 }
+
+/// What the line of a node says: the same as [`TraceLine::Node`], in a small value.
+#[derive(Clone, Copy, Debug, PartialEq, Eq)]
+pub struct NodeLine {
+    pub slot: u32,
+    pub node: u8,
+    pub word: Word,
+    pub peer: Option<u8>,
+    pub message: Option<u64>,
+    pub wide: bool,
+    pub members: NodeSet,
+    pub accepted: u8,
+    pub rejected: u8,
+    pub ack: Ack,
+    pub offset: i64,
+}

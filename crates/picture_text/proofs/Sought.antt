@@ -4,9 +4,12 @@ use Rattle.std.proofs.Common.{refl, sym, ap, ◌∙◌, arith, length-drop, ◌-
 use Rattle.std.specs.Prelude.{position, Option, unwrap_or, option_map}
 use Rattle.std.specs.List.{position_or_len}
 use Rattle.std.proofs.lemmas.Bool.{lt-ltb, le-ltb}
+use Rattle.std.proofs.lemmas.Bool.Decides.{nat_tests}
 use Rattle.std.proofs.lemmas.List.{drop-drop, get_or-drop}
 use Rattle.std.proofs.lemmas.List.Quantifiers.{position-Some}
+use Rattle.std.proofs.lemmas.List.Sums.{position_or_len_is, fails_before_first}
 use Rattle.whole_trace.specs.Whole.{SlotLines}
+use Rattle.picture_text.specs.Picture.{no_slot}
 use Rattle.picture_text.specs.Window.{is_strange, has_start, slot_of_interest, strange_past}
 
 pub found_at : {X : Type 0} (p : X → Bool) (xs : List X) (n : ℕ) → position_or_len p xs ≡ n → n < length xs
@@ -34,27 +37,15 @@ not_all xs t e = omega (arith, length-drop t xs, ap length e)
 pub found_within : {X : Type 0} (p : X → Bool) (xs : List X) (n : ℕ) (d : X) → Some n ≡ position p xs → n < length xs
 found_within p xs n d e = (position-Some p xs n d (sym e)).0
 
-pub not_some : (o : Option ℕ) → ((x : ℕ) → o ≡ Some x → ⊥) → o ≡ None
-not_some None none = refl
-not_some (Some x) none = absurd (none x refl)
-
 -- the slot of interest, by what is found
 pub interest-strange : (slots : List SlotLines) (s : ℕ) → Some s ≡ position is_strange slots
     → s ≡ slot_of_interest slots
 interest-strange slots s e = ap (λ (o : Option ℕ). unwrap_or o (unwrap_or (position has_start slots) 0)) e
 
-pub interest-start : (slots : List SlotLines) (s : ℕ) → None ≡ position is_strange slots
-    → Some s ≡ position has_start slots
+pub interest-calm : (slots : List SlotLines) (s : ℕ) → None ≡ position is_strange slots
+    → s ≡ unwrap_or (position has_start slots) 0
     → s ≡ slot_of_interest slots
-interest-start slots s e start =
-    ap (λ (o : Option ℕ). unwrap_or o 0) start
-    ∙ ap (λ (o : Option ℕ). unwrap_or o (unwrap_or (position has_start slots) 0)) e
-
-pub interest-nothing : (slots : List SlotLines) → None ≡ position is_strange slots → None ≡ position has_start slots
-    → 0 ≡ slot_of_interest slots
-interest-nothing slots e start =
-    ap (λ (o : Option ℕ). unwrap_or o 0) start
-    ∙ ap (λ (o : Option ℕ). unwrap_or o (unwrap_or (position has_start slots) 0)) e
+interest-calm slots s e start = start ∙ ap (λ (o : Option ℕ). unwrap_or o (unwrap_or (position has_start slots) 0)) e
 
 -- the slots past one, where those before another one are behind
 pub behind : (slots from : List SlotLines) (first last : ℕ) → first ≤ last → from ≡ drop first slots
@@ -66,3 +57,16 @@ behind slots from first last order is =
 pub past-found : (slots : List SlotLines) (last : ℕ) (o : Option ℕ) → o ≡ position is_strange (drop (last + 1) slots)
     → option_map (λ s. last + 1 + s) o ≡ strange_past last slots
 past-found slots last o e = ap (option_map (λ s. last + 1 + s)) e
+
+-- no slot past one is strange where no slot is
+
+pub past-calm : (slots : List SlotLines) (last : ℕ) → position is_strange slots ≡ None → None ≡ strange_past last slots
+past-calm slots last e =
+    let later = drop (last + 1) slots in
+    let all : length slots ≤ position_or_len is_strange slots = grind (arith, nat_tests) in
+    let none : position_or_len is_strange later ≡ length later =
+    position_or_len_is is_strange later (length later) no_slot (omega arith)
+    (λ k below. ap is_strange (get_or-drop (last + 1) slots k no_slot)
+    ∙ fails_before_first is_strange slots (last + 1 + k) no_slot (omega (arith, all, below, length-drop (last + 1) slots)))
+    (λ within. absurd (omega (arith, within))) in
+    ap (option_map (λ s. last + 1 + s)) (sym (found_nowhere is_strange later none))

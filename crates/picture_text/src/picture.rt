@@ -2,14 +2,14 @@
 #![tactic(auto, using(crate::proofs::Puts::puts))]
 
 ghost use Rattle.std.specs.Prelude.{◌≡◌, ◌+◌, ◌<◌, ◌≤◌, [], ◌∷◌, ◌++◌, codes, length, flat_map, drop, IfSome, OnOk};
-ghost use Rattle.std.specs.Prelude.{OnErr};
+ghost use Rattle.std.specs.Prelude.{None, OnErr, IsTrue, position};
 ghost use Rattle.ttp_base.specs.Outside.{WroteLines, CutShort};
 ghost use Rattle.ttp_base.specs.Text.{lines_below};
 ghost use Rattle.picture_text.specs.Picture.{ended, band_lines, cell_lines, beside_lines, slot_at, slots_in, keep_flag};
 ghost use Rattle.picture_text.specs.Picture.{back_flag, word_entries, class_entries, picture_of, picture_lines};
 ghost use Rattle.picture_text.specs.Sheet.{Puts};
 ghost use Rattle.picture_text.specs.Tables.{words};
-ghost use Rattle.picture_text.specs.Window.{bands, legend_top};
+ghost use Rattle.picture_text.specs.Window.{bands, legend_top, is_strange};
 
 use crate::band::put_bands;
 use crate::beside::put_beside;
@@ -20,7 +20,7 @@ use crate::grid::legend_top;
 use crate::head::put_head;
 use crate::legend::{put_classes, put_words};
 use crate::sheet::Sheet;
-use crate::walk::{skipped, span_shown, strange_past};
+use crate::walk::{Shown, skipped, span_shown, strange_past};
 use crate::window::Span;
 use ttp_base::{Failed, Sink};
 use ttp_world::{Back, Keep};
@@ -106,14 +106,17 @@ fn put_rest<K: Sink>(frame: Frame, keep: Keep, back: Option<Back>, sheet: &mut S
 }
 
 // Writes the picture of these slots.
-fn put_span<K: Sink>(trace: &Whole<'_>, span: Span, sheet: &mut Sheet, out: &mut K)
-    requires { (span.first ≤ span.last) × (span.last < length trace.now.slots) }
-    ensures { Puts sheet.old.failed (K.output out.old) sheet.new.failed (K.output out.new) (picture_of trace.now span) }
+fn put_span<K: Sink>(trace: &Whole<'_>, shown: Shown, sheet: &mut Sheet, out: &mut K)
+    requires shown { (shown.span.first ≤ shown.span.last) × (shown.span.last < length trace.now.slots) }
+    requires calm { IsTrue shown.is_calm → position is_strange trace.now.slots ≡ None }
+    ensures { Puts sheet.old.failed (K.output out.old) sheet.new.failed (K.output out.new)
+        (picture_of trace.now shown.span) }
 {
     let head = trace.head();
+    let span = shown.span;
     let frame = Frame { head, span };
     let first = skipped(trace.slots(), span.first);
-    let strange = strange_past(trace, span.last, first.again(), span.first);
+    let strange = strange_past(trace, shown, first.again());
     put_head(frame, strange, trace.keep(), trace.back(), sheet, out);
     put_rows(trace, frame, &first, sheet, out);
     put_rest(frame, trace.keep(), trace.back(), sheet, out);
@@ -133,8 +136,8 @@ pub fn put_picture<K: Sink>(
     ensures ok { OnOk result (WroteLines (K.output out.old) (K.output out.new) (picture_lines trace.now asked)) }
     ensures failed { OnErr result (CutShort (K.output out.old) (K.output out.new) (picture_lines trace.now asked)) }
 {
-    let span = span_shown(trace, asked);
+    let shown = span_shown(trace, asked);
     let mut sheet = Sheet::new();
-    put_span(trace, span, &mut sheet, out);
+    put_span(trace, shown, &mut sheet, out);
     sheet.end()
 }

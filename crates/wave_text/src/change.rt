@@ -1,5 +1,5 @@
 //! The changes of the variables of a cluster and of its nodes, written.
-ghost use Rattle.std.specs.Prelude.{◌≡◌, ◌<◌, ◌≤◌, [], ◌∷◌, length, option_map, IfSome, OnOk, OnErr};
+ghost use Rattle.std.specs.Prelude.{◌≡◌, ◌<◌, ◌≤◌, ℕ, [], ◌∷◌, length, option_map, IfSome, IsTrue, OnOk, OnErr};
 ghost use Rattle.ttp_base.specs.Outside.{WroteLines, CutShort};
 ghost use Rattle.wave_text.specs.Values.{cluster_value, node_value};
 ghost use Rattle.wave_text.specs.Variables.{cluster_letter, node_letter, node_code};
@@ -157,8 +157,25 @@ pub(crate) fn node_code(variable: NodeVariable, node: u8) -> [u8; 2]
     [node_letter(variable), b'A' + node]
 }
 
-// Writes the change of a variable of a node.
-fn put_node_change<K: Sink>(
+// Whether a variable of a node has the same value for sure, since what it is read from is the same.
+fn is_kept(variable: NodeVariable, before: &NodeShown, now: &NodeShown) -> bool
+    ensures { IsTrue result → (width : ℕ) → node_value width variable before.now ≡ node_value width variable now.now }
+{
+    before.word == now.word
+        && match variable {
+            NodeVariable::Sends | NodeVariable::Phase | NodeVariable::Word => true,
+            NodeVariable::Peer => before.peer == now.peer,
+            NodeVariable::Message => before.message == now.message,
+            NodeVariable::Members => before.members.bits() == now.members.bits(),
+            NodeVariable::Accepted => before.accepted == now.accepted,
+            NodeVariable::Rejected => before.rejected == now.rejected,
+            NodeVariable::Ack => before.ack == now.ack,
+            NodeVariable::Clock => before.offset == now.offset,
+        }
+}
+
+// Writes the change of a variable of a node, by the texts of its values.
+fn put_node_texts<K: Sink>(
     width: u8,
     variable: NodeVariable,
     node: u8,
@@ -187,6 +204,33 @@ fn put_node_change<K: Sink>(
             put_change(&mut drafts.now, Some(drafts.before.bytes()), &code, out)
         }
     }
+}
+
+// Writes the change of a variable of a node.
+fn put_node_change<K: Sink>(
+    width: u8,
+    variable: NodeVariable,
+    node: u8,
+    before: Option<&NodeShown>,
+    now: &NodeShown,
+    drafts: &mut Drafts,
+    out: &mut K,
+) -> Result<(), Failed>
+    requires width { width ≤ 24 }
+    requires node { node < 24 }
+    ensures ok { OnOk result (WroteLines (K.output out.old) (K.output out.new)
+        (changes_by (node_value width variable) (node_code variable node) (option_map (λ shown. shown.now) before.entry)
+        now.now)) }
+    ensures failed { OnErr result (CutShort (K.output out.old) (K.output out.new)
+        (changes_by (node_value width variable) (node_code variable node) (option_map (λ shown. shown.now) before.entry)
+        now.now)) }
+{
+    if let Some(before) = before {
+        if is_kept(variable, before, now) {
+            return Ok(());
+        }
+    }
+    put_node_texts(width, variable, node, before, now, drafts, out)
 }
 
 /// Writes the changes of a node's variables.

@@ -17,7 +17,7 @@ use shown_slot::{Port, What};
 use std::alloc::Global;
 use ttp_base::{List, Memory};
 use ttp_world::Source;
-use whole_trace::{HostLine, SlotShown, Whole};
+use whole_trace::{HostLine, Hosts, Whole};
 
 // How many bytes of its message a line says.
 fn size_in(line: &HostLine) -> u8
@@ -53,13 +53,13 @@ fn note_size(sizes: &mut [Option<u8>], line: &HostLine)
 }
 
 // Takes the lines of a slot's hosts into a table of sizes.
-fn note_sizes(sizes: &mut [Option<u8>], slot: &SlotShown)
+fn note_sizes(sizes: &mut [Option<u8>], lines: Hosts)
     requires { length sizes.old ≡ 624 }
-    ensures { (k : ℕ) (does : Does) (lines : Items Shown) → HasPlace k does → HasMost sizes.old lines k does
-        → HasMost sizes.new (lines ++ slot.now.hosts) k does }
+    ensures { (k : ℕ) (does : Does) (before : Items Shown) → HasPlace k does → HasMost sizes.old before k does
+        → HasMost sizes.new (before ++ lines.entry) k does }
 {
-    let mut hosts = slot.hosts();
-    while let Some(line) = hosts.next_line() {
+    let mut left = lines;
+    while let Some(line) = left.next_line() {
         note_size(sizes, &line);
     }
 }
@@ -78,8 +78,8 @@ fn sizes_in(trace: &Whole) -> [Option<u8>; 624]
 {
     let mut sizes = no_sizes();
     let mut slots = trace.slots();
-    while let Some(slot) = slots.next_slot() {
-        note_sizes(&mut sizes, &slot);
+    while let Some(lines) = slots.next_hosts() {
+        note_sizes(&mut sizes, lines);
     }
     sizes
 }

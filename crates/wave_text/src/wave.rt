@@ -244,8 +244,9 @@ fn put_all<K: Sink>(
 /// Writes the waveform of a trace, each of its lines as one piece.
 ///
 /// All memory is taken before the first line is written, less than a mebibyte, however many slots there are. The
-/// trace is gone over twice. A slot costs the reading of its lines and, for each variable, its value after the slot
-/// and the one before; what the line of a host costs does not grow with how many things hosts do.
+/// trace is gone over twice, the first time by the lines of hosts alone. A slot costs the reading of its lines and,
+/// for each variable that is read from something else than before, its value after the slot and the one before; what
+/// the line of a host costs does not grow with how many things hosts do.
 ///
 /// `Failed` is the sink's: some first lines were written, or none, and perhaps some first bytes of the next.
 /// Where memory is refused nothing is written.

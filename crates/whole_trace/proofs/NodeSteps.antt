@@ -1,9 +1,9 @@
 -- The line of a node in a text: which node's it is, and what it adds to the slots behind it.
 use Rattle.std.proofs.Common.{◌≡◌, ℕ, ◌+◌, Bool, true, false, ◌&&◌, ℤ, List, [], ◌∷◌, Option, Some, None, refl, sym, ap, ◌∙◌}
-use Rattle.std.proofs.Common.{IsTrue, not, subst}
+use Rattle.std.proofs.Common.{◌≤◌, IsTrue, cond, not, subst, get_or, drop, arith}
 use Rattle.std.proofs.lemmas.Bool.{and_parts}
 use Rattle.std.specs.Prelude.{◌==◌, nat_le, nat_lt, Result, Ok, Err, option_and_then}
-use Rattle.std.proofs.lemmas.Bool.{eqb-true}
+use Rattle.std.proofs.lemmas.Bool.{eqb-true, eq-eqb, ne_eqb, le-leb, leb-true, ltb-true}
 use Rattle.ttp_base.specs.NodeSet.{most_nodes}
 use Rattle.ttp_base.specs.Text.{Lines, lines_of}
 use Rattle.ttp_world.specs.declared.node.Ack.{Ack}
@@ -17,10 +17,11 @@ use Rattle.whole_trace.specs.declared.due.Outline.{Outline}
 use Rattle.whole_trace.specs.declared.shown.Head.{Head}
 use Rattle.whole_trace.specs.declared.shown.NodeShown.{NodeShown}
 use Rattle.whole_trace.specs.Due.{is_below, source_node, is_node_line, next_node, after_node, due_after}
-use Rattle.whole_trace.specs.Steps.{IsStep, is_taken, GoesOn, node_due, behind_node, IsNodeStep, IsInSlot}
-use Rattle.whole_trace.specs.Steps.{are_few, is_between, is_host_line, IsHostStep, IsSlotPlace}
-use Rattle.whole_trace.specs.Whole.{due_behind, one_line_later, judged_behind, judged, with_line, with_value, with_node_line}
+use Rattle.whole_trace.specs.Steps.{IsStep, is_taken, GoesOn, node_due, behind_node, IsNodeStep, is_in_slot, IsInSlot}
+use Rattle.whole_trace.specs.Steps.{are_few, is_between, is_host_line, IsHostPlace, IsHostStep, IsSlotPlace}
+use Rattle.whole_trace.specs.Whole.{due_behind, one_line_later, judged_behind, judged, with_line, with_value, with_node, with_node_line}
 use Rattle.whole_trace.specs.Whole.{SlotLines, SlotsFrom, value_of, slots_from}
+use Rattle.whole_trace.proofs.Texts.{cut-front, rest-shorter, text-some}
 
 -- Any line.
 
@@ -114,6 +115,74 @@ node-step at then text rest t j w peer message wide members accepted rejected a 
       shorter = s.shorter;
     }
 
+-- a text begins with a line that is due
+pub due-step : (head : Head) (slot k : ℕ) (text front rest : List ℕ) (v : TraceLine) (then : Due)
+    → get_or (lines_of text) 0 [] ≡ front → drop 1 (lines_of text) ≡ lines_of rest → value_of front ≡ Some v
+    → is_node_line head slot k v ≡ true → then ≡ next_node head slot k → IsStep (due.Node head slot k) text v then rest
+due-step head slot k text front rest v then first others value is next =
+    let cut = cut-front text front rest first others (text-some text front v first value) in record {
+      line = front;
+      cut = cut;
+      value = value;
+      next = rw is (ap (λ (d : Due). Some d) (sym next));
+      shorter = rest-shorter text front rest v cut value;
+    }
+
+-- where the line of a node is due in a trace, one stands
+pub node-stands : (head : Head) (slot k : ℕ) (text front rest : List ℕ) → get_or (lines_of text) 0 [] ≡ front
+    → drop 1 (lines_of text) ≡ lines_of rest → GoesOn (due.Node head slot k) (lines_of text)
+    → (shown : NodeShown) × IsNodeStep (due.Node head slot k) text shown (next_node head slot k) rest
+node-stands head slot k [] front rest first others on = cc
+node-stands head slot k (b ∷ bytes) front rest first others on = by_value (value_of front) refl
+  where
+    at : Due
+    at = due.Node head slot k
+
+    text : List ℕ
+    text = b ∷ bytes
+
+    cut : lines_of text ≡ front ∷ lines_of rest
+    cut = cut-front text front rest first others (omega arith)
+
+    Stands : Option Due → Type 0
+    Stands o = IsTrue (is_taken (judged_behind (λ d. judged d (lines_of rest)) o))
+
+    by_due : (v : TraceLine) (o : Option Due) → value_of front ≡ Some v → due_after at v ≡ o → Stands o
+        → (shown : NodeShown) × IsNodeStep at text shown (next_node head slot k) rest
+    by_due v None value next is = cc
+    by_due (line.Node t j w peer message wide members accepted rejected a z) (Some then) value next is =
+        let v = line.Node t j w peer message wide members accepted rejected a z in
+        let step = node-step at then text rest t j w peer message wide members accepted rejected a z (record {
+          line = front;
+          cut = cut;
+          value = value;
+          next = next;
+          shorter = rest-shorter text front rest v cut value;
+        }) in
+        let shown : NodeShown = record {
+          word = w;
+          peer = peer;
+          message = message;
+          members = members;
+          accepted = accepted;
+          rejected = rejected;
+          ack = a;
+          offset = z;
+        } in
+        (shown, subst (λ (d : Due). IsNodeStep at text shown d rest) step.next step)
+    by_due v (Some then) value next is = cc
+
+    by_value : (o : Option TraceLine) → value_of front ≡ o
+        → (shown : NodeShown) × IsNodeStep at text shown (next_node head slot k) rest
+    by_value None is =
+        let no : Stands (option_and_then (due_after at) None) =
+        subst (λ (o : Option TraceLine). Stands (option_and_then (due_after at) o)) is
+        (subst (λ (lines : Lines). GoesOn at lines) cut on) in cc
+    by_value (Some v) is =
+        by_due v (due_after at v) is refl
+        (subst (λ (o : Option TraceLine). Stands (option_and_then (due_after at) o)) is
+        (subst (λ (lines : Lines). GoesOn at lines) cut on))
+
 -- Behind the nodes.
 
 -- no line of a node follows in the slot where lines of hosts do
@@ -167,6 +236,58 @@ hosts-follow (due.Host head slot has_read) count lines other in_slot = record {
 }
 hosts-follow (due.Back head k) count lines other in_slot = let no : false ≡ true = in_slot.in_slot in cc
 hosts-follow (due.Nothing head k b) count lines other in_slot = let no : false ≡ true = in_slot.in_slot in cc
+
+pub are-hosts : (at : Due) (count : ℕ) (lines : Lines)
+    → ((head : Head) (slot k : ℕ) → at ≡ due.Node head slot k → ⊥)
+    → IsInSlot count at lines → IsHostPlace at lines
+are-hosts due.First count lines other in_slot = let no : false ≡ true = in_slot.in_slot in cc
+are-hosts (due.Node head slot k) count lines other in_slot = absurd (other head slot k refl)
+are-hosts (due.Host head slot has_read) count lines other in_slot = record { goes_on = in_slot.goes_on; host = refl }
+are-hosts (due.Back head k) count lines other in_slot = let no : false ≡ true = in_slot.in_slot in cc
+are-hosts (due.Nothing head k b) count lines other in_slot = let no : false ≡ true = in_slot.in_slot in cc
+
+-- the next node is due, or hosts are
+next-in_slot : (head : Head) (slot k count : ℕ) → k ≡ count → nat_lt k head.nodes ≡ true → are_few head ≡ true
+    → IsTrue (is_in_slot (count + 1) (next_node head slot k))
+next-in_slot head slot k count same less few = by_last (nat_lt (k + 1) head.nodes) refl
+  where
+    by_last : (b : Bool) → nat_lt (k + 1) head.nodes ≡ b
+        → IsTrue (is_in_slot (count + 1) (cond b (due.Node head slot (k + 1)) (due.Host head slot false)))
+    by_last true is =
+        let next : (k + 1 == count + 1) ≡ true = eq-eqb (k + 1) (count + 1) (omega (arith, same)) in
+        rw next (rw is few)
+    by_last false is =
+        let most = leb-true head.nodes most_nodes (and_parts (nat_lt 0 head.nodes) (nat_le head.nodes most_nodes) few).1 in
+        let below = ltb-true k head.nodes less in
+        let within : nat_le (count + 1) most_nodes ≡ true = le-leb (count + 1) most_nodes (omega (arith, same, most, below)) in
+        rw within few
+
+-- what a line of a node leaves behind that of node 0
+pub record IsPassed (count : ℕ) (text : List ℕ) (then : Due) (rest : List ℕ) : Type 0 where
+  pub hosts : (slots_from (lines_of text)).front.hosts ≡ (slots_from (lines_of rest)).front.hosts
+  pub others : (slots_from (lines_of text)).slots ≡ (slots_from (lines_of rest)).slots
+  pub place : IsInSlot (count + 1) then (lines_of rest)
+
+pub passed : (head : Head) (slot k count : ℕ) (text rest : List ℕ) (shown : NodeShown) (then : Due) → 1 ≤ count
+    → IsInSlot count (due.Node head slot k) (lines_of text) → IsNodeStep (due.Node head slot k) text shown then rest
+    → IsPassed count text then rest
+passed head slot k count text rest shown then some in_slot step =
+    let from = slots_from (lines_of rest) in
+    let parts = and_parts ((k == count) && nat_lt k head.nodes) (are_few head) in_slot.in_slot in
+    let first = and_parts (k == count) (nat_lt k head.nodes) parts.0 in
+    let same = eqb-true k count first.0 in
+    let later : (k == 0) ≡ false = ne_eqb k 0 (λ none. omega (arith, none, same, some)) in
+    let adds : slots_from (lines_of text) ≡ record { front = with_node shown from.front; slots = from.slots } =
+    step.slots ∙ rw later refl in record {
+      hosts = ap (λ (f : SlotsFrom). f.front.hosts) adds;
+      others = ap (λ (f : SlotsFrom). f.slots) adds;
+      place = record {
+        goes_on = step.goes_on in_slot.goes_on;
+        in_slot =
+            subst (λ (d : Due). IsTrue (is_in_slot (count + 1) d)) (sym step.next)
+            (next-in_slot head slot k count same first.1 parts.1);
+      };
+    }
 
 -- The line of a host.
 

@@ -1,10 +1,20 @@
 -- The first line of a text that is left.
-use Rattle.std.proofs.Common.{◌≡◌, ℕ, ◌<◌, Bool, true, false, cond, List, [], ◌∷◌, ◌++◌, length, get_or, drop}
-use Rattle.std.proofs.Common.{Some, refl, sym, ap, ◌∙◌, arith, length-append}
+use Rattle.std.proofs.Common.{◌≡◌, ℕ, suc, ◌<◌, Bool, true, false, cond, List, [], ◌∷◌, ◌++◌, length, get_or, take, drop}
+use Rattle.std.proofs.Common.{Some, None, refl, sym, ap, ◌∙◌, arith, length-append}
 use Rattle.std.specs.List.{concat}
+use Rattle.std.specs.Prelude.{Option, option_map, IfSome, ◌-◌}
+use Rattle.std.specs.Str.{bytes_eq}
+use Rattle.std.proofs.lemmas.Bool.{false_from_ne_true}
+use Rattle.std.proofs.lemmas.Bool.Decides.{nat_tests}
+use Rattle.std.proofs.lemmas.List.Sums.{position_or_len_is}
+use Rattle.memchr.specs.Find.{IsFirstByte, is_byte}
 use Rattle.ttp_base.specs.Text.{Lines, newline, is_newline, before_lines, lines_of}
 use Rattle.line_reader.specs.declared.trace_line.TraceLine.{TraceLine}
+use Rattle.line_reader.specs.declared.trace_line.TraceLine.TheVariants as line
+use Rattle.line_reader.specs.declared.trace_line.NodeLine.{NodeLine}
+use Rattle.line_reader.specs.Reading.{or_else, line_in, node_in, read_in, write_in, head_in, kept_in, broken_in, owed_in, refused_in}
 use Rattle.line_text.proofs.Cuts.{concat-lines_of}
+use Rattle.line_text.proofs.FirstLines.{IsCut, cut-Some, cut-None}
 use Rattle.whole_trace.specs.Whole.{value_of}
 
 uncons : (lines : Lines) → 0 < length lines → lines ≡ get_or lines 0 [] ∷ drop 1 lines
@@ -46,3 +56,38 @@ rest-shorter text line rest v cut is =
     let whole : text ≡ line ++ rest =
     sym (concat-lines_of text) ∙ ap concat cut ∙ ap (λ (bytes : List ℕ). line ++ bytes) (concat-lines_of rest) in
     omega (arith, ap length whole, length-append line rest, some-bytes line v is)
+
+-- A text cut by a search for its first line feed.
+
+pub cut-behind_feed : (text : List ℕ) (end : ℕ) → IsFirstByte (is_byte 10) text (Some end)
+    → IsCut text (take (suc end) text) (drop (suc end) text)
+cut-behind_feed text end here =
+    let within = here.0.high in
+    let at = position_or_len_is is_newline text end 0 (omega arith)
+    (λ k below. false_from_ne_true (is_newline (get_or text k 0)) (here.0.before k (omega arith) below)) (λ _. here.1) in
+    cut-Some text end (grind (arith, nat_tests))
+
+pub cut-no_feed : (text : List ℕ) → IsFirstByte (is_byte 10) text None → IsCut text text []
+cut-no_feed text nowhere =
+    let at = position_or_len_is is_newline text (length text) 0 (omega arith)
+    (λ k below. false_from_ne_true (is_newline (get_or text k 0)) (nowhere k (omega arith) below))
+    (λ within. absurd (omega arith)) in
+    cut-None text (grind (arith, nat_tests))
+
+-- The line of a node.
+
+-- what the line of a node says, as a line
+abbrev pub said_by : NodeLine → TraceLine
+said_by n =
+    line.Node n.slot n.node n.word n.peer n.message n.wide n.members n.accepted n.rejected n.ack n.offset
+
+-- what is read as the line of a node is what the line says
+pub node-said : (text : List ℕ) (o : Option NodeLine) → bytes_eq (drop (length text - 1) text) newline ≡ true
+    → option_map said_by o ≡ node_in (take (length text - 1) text) → IfSome o (λ n. value_of text ≡ Some (said_by n))
+unfolding line_in
+node-said text None feed is = tt
+node-said text (Some n) feed is =
+    let bytes = take (length text - 1) text in
+    rw feed (ap (λ (o : Option TraceLine). or_else o (or_else (read_in bytes) (or_else (write_in bytes) (
+    or_else (head_in bytes) (or_else (kept_in bytes) (or_else (broken_in bytes) (
+    or_else (owed_in bytes) (refused_in bytes)))))))) (sym is))

@@ -1,10 +1,11 @@
 //! Which line is due in a trace, by the lines before it.
 ghost use Rattle.std.specs.Prelude.{◌≡◌};
+ghost use Rattle.line_reader.specs.declared.trace_line.TraceLine.TheVariants as said;
 ghost use Rattle.whole_trace.specs.Due.{is_head, is_below, are_members, doubted, source_node, is_node_line};
-ghost use Rattle.whole_trace.specs.Due.{is_keep, is_back, after_head, after_node, after_host, due_after, ending};
+ghost use Rattle.whole_trace.specs.Due.{is_keep, is_back, after_head, next_node, after_node, after_host, due_after, ending};
 
 use crate::shown::Head;
-use line_reader::TraceLine;
+use line_reader::{NodeLine, TraceLine};
 use ttp_base::NodeSet;
 use ttp_world::{Ack, Back, Keep, Source};
 
@@ -96,6 +97,21 @@ fn source_node(source: Source) -> Option<u8>
     }
 }
 
+/// Whether a line of a node is that of this one after this slot.
+pub(crate) fn is_due_node(head: &Head, due: u32, k: u8, node: &NodeLine) -> bool
+    ensures { result ≡ is_node_line head.now due k (said.Node node.now.slot node.now.node node.now.word node.now.peer
+        node.now.message node.now.wide node.now.members node.now.accepted node.now.rejected node.now.ack
+        node.now.offset) }
+{
+    node.slot == due
+        && node.node == k
+        && k < head.nodes
+        && node.wide == (head.version == 2)
+        && is_below(head.nodes, node.peer)
+        && are_members(head.nodes, node.members)
+        && is_below(head.nodes, doubted(node.ack))
+}
+
 // Whether a line is that of a node after a slot.
 fn is_node_line(head: &Head, due: u32, k: u8, line: &TraceLine) -> bool
     ensures { result ≡ is_node_line head.now due k line.now }
@@ -172,25 +188,33 @@ fn after_head(line: &TraceLine) -> Option<Due>
     }
 }
 
+/// What is due behind the line of a node.
+pub(crate) fn next_node(head: Head, slot: u32, node: u8) -> Due
+    ensures { result ≡ next_node head slot node }
+{
+    if node < head.nodes && node + 1 < head.nodes {
+        Due::Node {
+            head,
+            slot,
+            node: node + 1,
+        }
+    } else {
+        Due::Host {
+            head,
+            slot,
+            has_read: false,
+        }
+    }
+}
+
 // Where the line is that of a node.
 fn after_node(head: Head, slot: u32, node: u8, line: &TraceLine) -> Option<Due>
     ensures { result ≡ after_node head slot node line.now }
 {
-    if !is_node_line(&head, slot, node, line) {
-        return None;
-    }
-    if node < head.nodes && node + 1 < head.nodes {
-        Some(Due::Node {
-            head,
-            slot,
-            node: node + 1,
-        })
+    if is_node_line(&head, slot, node, line) {
+        Some(next_node(head, slot, node))
     } else {
-        Some(Due::Host {
-            head,
-            slot,
-            has_read: false,
-        })
+        None
     }
 }
 

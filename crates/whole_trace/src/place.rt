@@ -1,12 +1,17 @@
 //! A place in the text of a trace.
-ghost use Rattle.std.specs.Prelude.{◌≡◌, ◌<◌, length, Err, IfSome, IsNone};
+ghost use Rattle.std.specs.Prelude.{◌≡◌, ◌<◌, [], length, get_or, drop, Some, Err, IfSome, IsNone};
 ghost use Rattle.ttp_base.specs.Text.{lines_of};
-ghost use Rattle.whole_trace.specs.Steps.{IsStep};
+ghost use Rattle.line_reader.specs.declared.trace_line.TraceLine.{TraceLine as Line};
+ghost use Rattle.line_reader.specs.declared.trace_line.TraceLine.TheVariants as said;
+ghost use Rattle.whole_trace.specs.declared.due.Due.TheVariants as due;
+ghost use Rattle.whole_trace.specs.declared.shown.NodeShown.{NodeShown as Shown};
+ghost use Rattle.whole_trace.specs.Steps.{IsStep, GoesOn, IsNodeStep};
 ghost use Rattle.whole_trace.specs.Whole.{value_of, judged};
 
-use crate::due::{Due, due_after};
-use line_reader::{TraceLine, read_line};
-use line_text::cut_line;
+use crate::due::{Due, due_after, is_due_node, next_node};
+use crate::shown::{Head, NodeShown};
+use line_reader::{NodeLine, TraceLine, read_line, read_node_line};
+use memchr::memchr;
 
 /// What is left of a text before one of its lines, and what is due there.
 #[derive(Clone, Copy)]
@@ -20,6 +25,18 @@ pub(crate) struct Place<'a> {
 pub(crate) struct Step<'a> {
     pub(crate) line: TraceLine,
     pub(crate) behind: Place<'a>,
+}
+
+// The first line of a text, with its line feed if it has one, and what follows it. The line feed is looked for many
+// bytes at a time.
+fn cut_line(text: &[u8]) -> (&[u8], &[u8])
+    ensures first { get_or (lines_of text.now) 0 [] ≡ result.0.now }
+    ensures others { drop 1 (lines_of text.now) ≡ lines_of result.1.now }
+{
+    match memchr(b'\n', text) {
+        Some(end) => text.split_at(end + 1),
+        None => (text, &[]),
+    }
 }
 
 // What a line says, its line feed with it.
@@ -37,7 +54,71 @@ fn value_of(line: &[u8]) -> Option<TraceLine>
     }
 }
 
+// What the line of a node says, its line feed with it, if it is one.
+fn node_value_of(text: &[u8]) -> Option<NodeLine>
+    ensures { IfSome result (λ n. value_of text.now ≡ Some (said.Node n.slot n.node n.word n.peer n.message n.wide n.members
+        n.accepted n.rejected n.ack n.offset)) }
+{
+    if text.is_empty() {
+        return None;
+    }
+    let (bytes, end) = text.split_at(text.len() - 1);
+    if end == b"\n".as_slice() {
+        read_node_line(bytes)
+    } else {
+        None
+    }
+}
+
+/// What the line of a node says, and the place behind it, where it is the first line that is left and is due. This is
+/// [`Place::next`] for these lines, which are most of a trace, with less to move.
+pub(crate) fn due_node<'a>(
+    head: Head,
+    slot: u32,
+    node: u8,
+    rest: &'a [u8],
+) -> Option<(NodeShown, Place<'a>)>
+    ensures step { IfSome result (λ r. (v : Line) × IsStep (due.Node head slot node) rest.now v r.1.due r.1.rest.now) }
+    ensures node { IfSome result (λ r. IsNodeStep (due.Node head slot node) rest.now r.0 r.1.due r.1.rest.now) }
+{
+    let (line, behind) = cut_line(rest);
+    let value = node_value_of(line)?;
+    if !is_due_node(&head, slot, node, &value) {
+        return None;
+    }
+    let shown = NodeShown {
+        word: value.word,
+        peer: value.peer,
+        message: value.message,
+        members: value.members,
+        accepted: value.accepted,
+        rejected: value.rejected,
+        ack: value.ack,
+        offset: value.offset,
+    };
+    let place = Place {
+        due: next_node(head, slot, node),
+        rest: behind,
+    };
+    Some((shown, place))
+}
+
 impl<'a> Place<'a> {
+    /// The place behind the first line that is left, if it is due.
+    pub(crate) fn behind_next(self) -> Option<Place<'a>>
+        ensures some { IfSome result (λ p. (v : Line) × IsStep self.entry.due self.entry.rest.now v p.due p.rest.now) }
+        ensures none { IsNone result → 0 < length self.entry.rest.now
+            → judged self.entry.due (lines_of self.entry.rest.now) ≡ Err 1 }
+    {
+        if let Due::Node { head, slot, node } = self.due {
+            if let Some((_, behind)) = due_node(head, slot, node, self.rest) {
+                return Some(behind);
+            }
+        }
+        let Step { behind, .. } = self.next()?;
+        Some(behind)
+    }
+
     /// The first line that is left, if it is due.
     pub(crate) fn next(self) -> Option<Step<'a>>
         ensures some { IfSome result (λ s. IsStep self.entry.due self.entry.rest.now s.line s.behind.due s.behind.rest.now) }
@@ -51,5 +132,17 @@ impl<'a> Place<'a> {
             line,
             behind: Place { due, rest },
         })
+    }
+}
+
+/// The place behind the line of a node that is due in a trace. Of the line nothing but its end is looked for.
+pub(crate) fn behind_node<'a>(head: Head, slot: u32, node: u8, rest: &'a [u8]) -> Place<'a>
+    requires { GoesOn (due.Node head slot node) (lines_of rest.now) }
+    ensures { (shown : Shown) × IsNodeStep (due.Node head slot node) rest.now shown result.due result.rest.now }
+{
+    let (_, behind) = cut_line(rest);
+    Place {
+        due: next_node(head, slot, node),
+        rest: behind,
     }
 }

@@ -1,11 +1,11 @@
 //! The slots of a trace, one after another.
 ghost use Rattle.std.specs.Prelude.{◌≡◌, ◌∷◌, ◌≤◌, [], length, IfSome, IsNone, IsTrue};
 ghost use Rattle.ttp_base.specs.Text.{lines_of};
-ghost use Rattle.whole_trace.specs.Steps.{GoesOn, is_node, IsHostStep, IsInSlot, IsNodeStep, IsSlotPlace};
-ghost use Rattle.whole_trace.specs.Whole.{slots_from, with_node};
+ghost use Rattle.whole_trace.specs.Steps.{GoesOn, is_node, IsHostPlace, IsHostStep, IsInSlot, IsNodeStep, IsSlotPlace};
+ghost use Rattle.whole_trace.specs.Whole.{SlotLines, slots_from, with_node};
 
 use crate::due::Due;
-use crate::place::{Place, Step};
+use crate::place::{Place, Step, behind_node, due_node};
 use crate::shown::{HostLine, NodeShown};
 use line_reader::TraceLine;
 use std::marker::Model;
@@ -115,6 +115,11 @@ fn next_node<'a>(at: Place<'a>) -> Option<(NodeShown, Place<'a>)>
         → (slots_from (lines_of at.entry.rest.now)).front.hosts ≡ []
         → (slots_from (lines_of at.entry.rest.now)).slots ≡ [] }
 {
+    if let Due::Node { head, slot, node } = at.due {
+        if let Some(found) = due_node(head, slot, node, at.rest) {
+            return Some(found);
+        }
+    }
     let Step { line, behind } = at.next()?;
     match line {
         TraceLine::Node {
@@ -165,6 +170,21 @@ fn shown_from<'a>(first: NodeShown, from: Place<'a>) -> (SlotShown<'a>, Place<'a
         }
     }
     (SlotShown { count, nodes, at }, at)
+}
+
+// The place behind the lines of a slot's nodes, from behind that of node 0. Only the ends of these lines are looked for.
+fn behind_nodes<'a>(from: Place<'a>) -> Place<'a>
+    requires { IsInSlot 1 from.due (lines_of from.rest.now) }
+    ensures hosts { (slots_from (lines_of result.rest.now)).front.hosts ≡ (slots_from (lines_of from.entry.rest.now)).front.hosts }
+    ensures others { (slots_from (lines_of result.rest.now)).slots ≡ (slots_from (lines_of from.entry.rest.now)).slots }
+    ensures place { IsHostPlace result.due (lines_of result.rest.now) }
+    ensures between { IsSlotPlace result.due (lines_of result.rest.now) }
+{
+    let mut at = from;
+    while let Due::Node { head, slot, node } = at.due {
+        at = behind_node(head, slot, node, at.rest);
+    }
+    at
 }
 
 // The place behind a line of a host, if one comes next.
@@ -227,6 +247,23 @@ impl<'a> Slots<'a> {
         ensures { result ≡ (slots_from (lines_of at.entry.rest.now)).slots }
     {
         Slots { at }
+    }
+
+    /// What hosts do in the next slot, if one is left. Of what its nodes do nothing is read but the line of node 0, so
+    /// this costs a fraction of [`Slots::next_slot`]. Takes no memory.
+    pub fn next_hosts(&mut self) -> Option<Hosts<'a>>
+        ensures some { IfSome result (λ hosts. (slot : SlotLines) × (self.old ≡ slot ∷ self.new) × (hosts ≡ slot.hosts)) }
+        ensures none { IsNone result → self.old ≡ [] }
+    {
+        let at = behind_hosts(self.at);
+        match next_node(at) {
+            Some((_, behind)) => {
+                let hosts = behind_nodes(behind);
+                self.at = hosts;
+                Some(Hosts { at: hosts })
+            }
+            None => None,
+        }
     }
 
     /// The lines of the next slot, if one is left. Takes no memory.

@@ -86,8 +86,8 @@ pub fn read_whole<'a>(text: &'a [u8]) -> Result<Whole<'a>, u64>
     };
     let mut passed: u64 = 0;
     while !at.rest.is_empty() {
-        match at.next() {
-            Some(step) => at = step.behind,
+        match at.behind_next() {
+            Some(behind) => at = behind,
             None => return Err(passed + 1),
         }
         passed += 1;

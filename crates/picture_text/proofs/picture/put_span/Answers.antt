@@ -3,7 +3,7 @@ use Rattle.picture_text.proofs.picture.put_span.Goals as goal
 
 pub returns : goal.returns
 returns g c =
-    picture_put c.args.trace.now c.args.span c.head-head.result c.strange_past-strange.result c.keep.result
+    picture_put c.args.trace.now c.args.shown.span c.head-head.result c.strange_past-strange.result c.keep.result
     c.keep-2.result
     c.back.result c.back-2.result _ _ _ _ _ _ _ _ c.head-head.ensures.value c.strange_past-strange.ensures
     c.keep.ensures

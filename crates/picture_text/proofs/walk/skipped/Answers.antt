@@ -10,5 +10,5 @@ unreachable-requires c =
 
 pub loop-passed-preserved : goal.loop-passed-preserved
 loop-passed-preserved c =
-    next_place c.args.slots c.loop-passed._passed c.in-Some._slot c.next_slot.new.self
-    (sym c.loop-passed.invariant ∙ c.in-Some.ensures.some)
+    next_place c.args.slots c.loop-passed._passed c.in-Some.ensures.some.0 c.next_hosts.new.self
+    (sym c.loop-passed.invariant ∙ c.in-Some.ensures.some.1)

@@ -1,12 +1,13 @@
-use Rattle.std.proofs.Common.{◌≡◌, ℕ, List, [], Option, None, length, replicate, ap, sym, subst, ◌∙◌, arith}
+use Rattle.std.proofs.Common.{◌≡◌, ℕ, List, [], ◌++◌, Option, None, length, replicate, ap, sym, subst, ◌∙◌, arith}
 use Rattle.std.proofs.lemmas.List.{length-replicate}
+use Rattle.whole_trace.specs.declared.shown.HostLine.{HostLine}
 use Rattle.wave_text.specs.Places.{HasMost}
 use Rattle.wave_text.proofs.Noting.{AreSlotsTaken, slots-taken-more}
 use Rattle.wave_text.proofs.PortLists.{none_noted}
 use Rattle.wave_text.proofs.ports.sizes_in.Goals as goal
 
-pub loop-slot-init : goal.loop-slot-init
-loop-slot-init c =
+pub loop-lines-init : goal.loop-lines-init
+loop-lines-init c =
     let none : c.no_sizes-sizes.result ≡ replicate 624 None = c.no_sizes-sizes.ensures in
     record {
       done = [];
@@ -16,9 +17,12 @@ loop-slot-init c =
           subst (λ (sizes : List (Option ℕ)). HasMost sizes [] k does) (sym none) (none_noted k does has);
     }
 
-pub loop-slot-preserved : goal.loop-slot-preserved
-loop-slot-preserved c =
-    let known = c.loop-slot.invariant in
-    slots-taken-more c.loop-slot.sizes c.note_sizes.new.sizes c.args.trace.now.slots c.next_slot.new.self c.in-Some.slot
-    (subst (AreSlotsTaken c.loop-slot.sizes c.args.trace.now.slots) c.in-Some.ensures.some known)
-    (omega (arith, known.size)) c.note_sizes.ensures
+pub loop-lines-preserved : goal.loop-lines-preserved
+loop-lines-preserved c =
+    let known = c.loop-lines.invariant in
+    let next = c.in-Some.ensures.some in
+    let sizes = c.note_sizes.new.sizes in
+    slots-taken-more c.loop-lines.sizes sizes c.args.trace.now.slots c.next_hosts.new.self next.0
+    (subst (AreSlotsTaken c.loop-lines.sizes c.args.trace.now.slots) next.1 known) (omega (arith, known.size))
+    (λ k does before has is.
+    subst (λ (lines : List HostLine). HasMost sizes (before ++ lines) k does) next.2 (c.note_sizes.ensures k does before has is))

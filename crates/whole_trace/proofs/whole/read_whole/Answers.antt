@@ -12,17 +12,17 @@ pub loop-at-preserved : goal.loop-at-preserved
 loop-at-preserved c =
     let known = c.loop-at.invariant in
     let at = c.loop-at.at in
-    let step = c.in-Some.step in
-    let is = c.in-Some.ensures.some in
-    let others = judged step.behind.due (lines_of step.behind.rest.now) in
+    let behind = c.in-Some.behind in
+    let step = c.in-Some.ensures.some in
+    let others = judged behind.due (lines_of behind.rest.now) in
     record {
       judged =
           known.judged
           ∙ ap (λ (r : Result Outline ℕ). behind_lines c.loop-at.passed r)
-          (judged-step at.due at.rest.now step.line step.behind.due step.behind.rest.now is)
+          (judged-step at.due at.rest.now step.0 behind.due behind.rest.now step.1)
           ∙ behind-one c.loop-at.passed others;
-      head = head_kept at.due step.behind.due step.line known.head is.next;
-      few = omega (arith, is.shorter, known.few);
+      head = head_kept at.due behind.due step.0 known.head step.1.next;
+      few = omega (arith, step.1.shorter, known.few);
     }
 
 pub invariant_of-result : goal.invariant_of-result

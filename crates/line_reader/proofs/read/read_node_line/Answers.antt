@@ -1,6 +1,6 @@
 use Rattle.std.proofs.Common.{refl, rules}
 use Rattle.line_reader.specs.Reading.{node_in}
-use Rattle.line_reader.proofs.read.node_in.Goals as goal
+use Rattle.line_reader.proofs.read.read_node_line.Goals as goal
 
 pub returns-in_err-word : goal.returns-in_err-word
 unfolding node_in
