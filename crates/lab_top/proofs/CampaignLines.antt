@@ -212,11 +212,10 @@ with-each list script first last faults = (
   (
     own-is_line list script,
     each-append (λ (line : List ℕ). is_line line ≡ true) (map (run_line list script) faults) _
-        (runs-each list script faults)
-        (
-      counts-is_line (codes "kept ") _ refl,
-      (counts-is_line (codes "broken ") _ refl, tt),
-    ),
+        (runs-each list script faults) (
+          counts-is_line (codes "kept ") _ refl,
+          (counts-is_line (codes "broken ") _ refl, tt),
+        ),
   ),
 )
 

@@ -124,6 +124,7 @@ pub(crate) fn command_of(words: &[String]) -> Command<'_>
 {
     match words {
         [verb, trace] => trace_command(verb.as_str(), trace.as_str()),
+        [_, _, _] => Command::NoForm,
         [verb, trace, first, last] => {
             slots_command(verb.as_str(), trace.as_str(), first.as_str(), last.as_str())
         }
