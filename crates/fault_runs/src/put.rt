@@ -264,10 +264,10 @@ fn put_end<K: Sink>(tally: &mut Tally, out: &mut K) -> Result<(), CampaignFault>
 /// does not have are passed over.
 ///
 /// A campaign of n lines runs the cluster n times, each time through all slots of the script. The runs of a
-/// slot are made in as many threads as are asked for, rounded up to a power of two, [`processors`] is as many
-/// as serve, and with none or one they are made in this one. What is written is the same. Between two slots it
-/// keeps what is shown of the nodes in the script's own run; the lines of a slot are held until all of its runs
-/// were made.
+/// slot are made in as many threads as are asked for, rounded up to a power of two; with 0 or 1 they are made
+/// in this one, and [`crate::processors`] says how many are of use. What is written is the same. Between two
+/// slots it keeps what is shown of the nodes in the script's own run; the lines of a slot are held until all of
+/// its runs were made.
 ///
 /// # Errors
 ///
