@@ -1,10 +1,12 @@
 //! Campaigns over a list and a script as their files say them. The lines are those of the format's
 //! description.
 
-use fault_runs::{has_room, put_campaign};
+use fault_runs::{has_room, processors, put_campaign};
 use medl_text::read_medl;
 use script_text::read_script;
+use std::process::Abort;
 use std::test::Fail;
+use std::thread::Threads;
 use ttp_base::{List, MemorySink};
 
 // Five nodes, of which node 0 starts in slot 10.
@@ -22,87 +24,68 @@ const QUIET: &str = "slots 45\non 0 0\non 1 0\non 2 0\non 3 0\non 4 0\n";
 const LATENT: &str = "slots 45\non 0 0\non 1 0\non 2 0\non 3 0\non 4 0\n\
     receive 3 A silence 0 44\nreceive 4 A silence 0 44\n";
 
-// A script, a slot, how many bytes its campaign has, and a line of it.
-type Case = (&'static str, u32, usize, &'static str);
+// A script, a slot, and the text of its campaign: how many bytes it has, and their sum, in which each counts 31 times
+// what the next one does, modulo 2^64. Both are taken of the texts that stand with the format's description.
+type Case = (&'static str, u32, usize, u64);
 
-const CASES: [Case; 8] = [
-    (
-        QUIET,
-        22,
-        8217,
-        "slot - node - keeps yes start 10 left - hurt - split - - end 001f fault -\n",
-    ),
-    (
-        QUIET,
-        22,
-        8217,
-        "slot 22 node 2 keeps yes start 10 left 2:24:denied hurt - split - - end 001b fault send 2 AB silence 22 22\n",
-    ),
-    (
-        QUIET,
-        22,
-        8217,
-        "kept 70 same 40 hurt 0 split 0 torn 0 dead 0\n",
-    ),
-    (
-        QUIET,
-        22,
-        8217,
-        "broken 10 same 10 hurt 0 split 0 torn 0 dead 0\n",
-    ),
-    (
-        QUIET,
-        11,
-        8146,
-        "slot 11 node 0 keeps no H6 11 left 1:23:denied,2:34:denied,4:44:unacknowledged hurt 1,2,4 \
-            split 21 43 end 0001,0008 fault receive 0 AB silence 11 44\n",
-    ),
-    (
-        QUIET,
-        11,
-        8146,
-        "broken 40 same 14 hurt 5 split 1 torn 1 dead 5\n",
-    ),
-    (
-        LATENT,
-        22,
-        8537,
-        "slot 22 node 2 keeps no H5 22 left 2:24:denied,3:28:clique,4:29:unacknowledged hurt 2,3,4 \
-            split 22 28 end 0003 fault send 2 B silence 22 22\n",
-    ),
-    (
-        LATENT,
-        22,
-        8537,
-        "broken 14 same 10 hurt 4 split 4 torn 0 dead 0\n",
-    ),
+const CASES: [Case; 3] = [
+    (QUIET, 22, 8217, 73_808_455_622_624_466),
+    (QUIET, 11, 8146, 1_652_484_910_366_786_774),
+    (LATENT, 22, 8537, 12_531_716_413_516_326_789),
 ];
 
-// Whether a text has a line.
-fn has_line(text: &[u8], line: &str) -> bool {
-    for start in 0..text.len() {
-        let end = start + line.len();
-        if end <= text.len() && &text[start..end] == line.as_bytes() {
-            return true;
-        }
+// A sum of bytes that tells their order.
+fn sum_of(text: &[u8]) -> u64 {
+    let mut sum: u64 = 0;
+    for byte in text {
+        sum = sum.wrapping_mul(31).wrapping_add(u64::from(*byte));
     }
-    false
+    sum
+}
+
+// Runs a campaign in so many threads, and compares its text.
+fn try_case<R: Threads + Sync + AllocGlobal + Abort>(
+    rt: &R,
+    case: Case,
+    threads: usize,
+) -> Result<(), Fail> {
+    let (script, slot, length, sum) = case;
+    let list = read_medl(rt.alloc(), FIVE.as_bytes())?;
+    assert!(rt; script.len() <= 1_048_576);
+    let script = read_script(rt.alloc(), &list, script.as_bytes())?;
+    assert!(rt; has_room(&script));
+    let mut out = MemorySink::new(rt.alloc(), 10_000, List::new(rt.alloc()))?;
+    assert_eq!(rt;
+        put_campaign(
+            rt,
+            rt.alloc(),
+            &list,
+            &script,
+            slot,
+            slot,
+            threads,
+            &mut out
+        ),
+        Ok(())
+    );
+    assert_eq!(rt; out.bytes().len(), length);
+    assert_eq!(rt; sum_of(out.bytes()), sum);
+    Ok(())
 }
 
 #[test]
-fn lines_of_five_nodes(rt: HostRuntime) -> Result<(), Fail> {
-    let list = read_medl(rt.alloc(), FIVE.as_bytes())?;
-    for (script, slot, length, line) in CASES {
-        assert!(rt; script.len() <= 1_048_576);
-        let script = read_script(rt.alloc(), &list, script.as_bytes())?;
-        assert!(rt; has_room(&script));
-        let mut out = MemorySink::new(rt.alloc(), 10_000, List::new(rt.alloc()))?;
-        assert_eq!(rt;
-            put_campaign(rt.alloc(), &list, &script, slot, slot, &mut out),
-            Ok(())
-        );
-        assert_eq!(rt; out.bytes().len(), length);
-        assert!(rt; has_line(out.bytes(), line), "{line}");
+fn texts_of_five_nodes(rt: HostRuntime) -> Result<(), Fail> {
+    for case in CASES {
+        try_case(&rt, case, 1)?;
+    }
+    Ok(())
+}
+
+#[test]
+fn the_same_text_in_several_threads(rt: HostRuntime) -> Result<(), Fail> {
+    assert!(rt; processors(&rt) >= 1);
+    for threads in [2, 3] {
+        try_case(&rt, CASES[0], threads)?;
     }
     Ok(())
 }

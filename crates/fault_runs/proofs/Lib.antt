@@ -4,3 +4,4 @@ pub mod Orders
 pub mod Endings
 pub mod Results
 pub mod Wholes
+pub mod Tries

@@ -9,7 +9,6 @@ use Rattle.ttp_world.specs.declared.script.Event.{Event}
 use Rattle.ttp_world.specs.declared.script.Script.{Script}
 use Rattle.campaign.specs.declared.cost.Cost.{Cost}
 use Rattle.campaign.specs.declared.cost.Counts.{Counts}
-use Rattle.campaign.specs.CostText.{cost_words}
 use Rattle.campaign.specs.Lines.{Summary, summary, summary_with, head_line, own_line, run_line}
 use Rattle.campaign.specs.Lines.{counts_line, kept_counts, broken_counts}
 use Rattle.campaign.specs.Tried.{faults_in, row_of}
@@ -68,7 +67,7 @@ pub record AreCountsOf (list : Medl) (own : Cost) (runs : List Summary) (tally :
   pub kept : tally.kept ≡ kept_counts list own runs
   pub broken : tally.broken ≡ broken_counts list own runs
 
--- what the runs with these faults come to, beside the words of the script's own run
-pub record IsTallyOf (list : Medl) (script : Script) (faults : List Event) (tally : Tally) : Type 0 where
-  pub own : tally.own ≡ cost_words list (summary list script).cost
-  pub counts : AreCountsOf list (summary list script).cost (map (summary_with list script) faults) tally
+-- what the runs with these faults come to
+abbrev pub IsTallyOf : Medl → Script → List Event → Tally → Type 0
+IsTallyOf list script faults tally =
+    AreCountsOf list (summary list script).cost (map (summary_with list script) faults) tally

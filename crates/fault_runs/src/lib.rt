@@ -4,15 +4,18 @@
 //! of slots, and writes the lines of `campaign_lines` (crate campaign) to a sink, each as one piece:
 //!
 //! ```text
-//! put_campaign(alloc, &list, &script, 32, 39, &mut out)?;
+//! put_campaign(&rt, alloc, &list, &script, 32, 39, processors(&rt), &mut out)?;
 //! ```
 //!
-//! Each run goes from slot 0 to the script's last one, so a campaign costs as many runs as it has lines. It
-//! keeps no run but the script's own, and forgets each line once it is written.
+//! The runs of a slot's faults are made side by side, in as many threads as are asked for. What is written is
+//! the same for any number of threads. Each run goes from slot 0 to the script's last one. The crate keeps no
+//! run but the script's own, and forgets the lines of a slot once they are written.
 #![tactic(auto, using(ttp_world::proofs::Lists::nodes))]
 
 mod put;
 mod tally;
+mod tried;
 
 pub use put::{CampaignFault, put_campaign};
 pub use tally::has_room;
+pub use tried::processors;

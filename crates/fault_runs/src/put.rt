@@ -1,27 +1,31 @@
 //! A campaign, written.
 ghost use Rattle.std.specs.Prelude.{◌≡◌, ◌+◌, ◌<◌, ◌≤◌, ◌^◌, ◌*◌, ℕ, nat_le, ◌&&◌, [], ◌∷◌, ◌++◌, List as Items};
-ghost use Rattle.std.specs.Prelude.{length, All, Err, IsOk, OnOk, IfOk, IfErr};
+ghost use Rattle.std.specs.Prelude.{length, map, Err, IsOk, OnOk, IfOk, IfErr};
 ghost use Rattle.ttp_base.specs.Outside.{WroteLines, CutShort};
 ghost use Rattle.ttp_world.specs.declared.medl.Medl.{Medl};
 ghost use Rattle.ttp_world.specs.declared.script.Event.{Event};
+ghost use Rattle.ttp_world.specs.declared.script.Script.{Script};
 ghost use Rattle.ttp_world.specs.declared.script.TheConstants.{EVENT_LIMIT};
 ghost use Rattle.ttp_world.specs.Medl.{IsValid};
 ghost use Rattle.ttp_world.specs.Script.{IsValidScript};
-ghost use Rattle.campaign.specs.Lines.{Summary, summary, campaign_lines};
+ghost use Rattle.campaign.specs.Lines.{Summary, campaign_lines};
 ghost use Rattle.campaign.specs.declared.cost.Cost.{Cost};
 ghost use Rattle.campaign.specs.ZerosWorld.{zeros_world};
-ghost use Rattle.single_faults.specs.Tried.{MayStand};
 ghost use Rattle.seen_costs.specs.States.{AreShown};
 ghost use Rattle.run_costs.specs.Standing.{IsRunAfter};
 ghost use Rattle.fault_runs.specs.declared.put.CampaignFault.TheVariants as fault;
 ghost use Rattle.fault_runs.specs.Ends.{LeftBy, LeftFewerBy, WroteFewer};
 ghost use Rattle.fault_runs.specs.Runs.{tried_in, tried_before, entries_of, fault_lines, front_lines, end_lines};
 ghost use Rattle.fault_runs.specs.Runs.{most_tried, HasAtMost, AreCountsOf, IsTallyOf};
+ghost use Rattle.fault_runs.specs.Tries.{MayTry, tried_of, tried_lines};
 
 use crate::tally::Tally;
+use crate::tried::{Common, Tried, form_words, try_beside};
+use campaign_text::Text;
 use run_costs::Run;
 use single_faults::faults_in;
 use std::alloc::Global;
+use std::thread::Threads;
 use ttp_base::{List, Memory, Sink};
 use ttp_world::{Entry, Event, Medl, NodeState, Script};
 
@@ -55,58 +59,43 @@ fn put_formed<K: Sink>(
     }
 }
 
-// The run of one fault, told in a line.
-fn put_fault<K: Sink>(
-    alloc: Global,
-    list: &Medl,
-    script: &Script,
-    fault: &Event,
-    tally: &mut Tally,
-    out: &mut K,
-) -> Result<(), CampaignFault>
-    requires valid { IsValid list.now }
-    requires script { IsValidScript list.now script.now }
-    requires room { length script.now.events < EVENT_LIMIT }
-    requires fault { MayStand list.now script.now fault.now }
+// Counts the run of one fault, and writes its line.
+fn put_tried<K: Sink>(tried: &Tried, tally: &mut Tally, out: &mut K) -> Result<(), CampaignFault>
     requires few { HasAtMost (2 ^ 62) tally.old }
-    ensures told { (faults : Items Event) → IsTallyOf list.now script.now faults tally.old
-        → OnOk result (IsTallyOf list.now script.now (faults ++ fault.now ∷ []) tally.new) }
-    ensures few { (most : ℕ) → HasAtMost most tally.old → OnOk result (HasAtMost (most + 1) tally.new) }
-    ensures ok { OnOk result
-        (WroteLines (K.output out.old) (K.output out.new) (fault_lines list.now script.now (fault.now ∷ []))) }
+    ensures told { (list : Medl) (script : Script) (faults : Items Event) (fault : Event)
+        → tried.now ≡ tried_of list script fault → IsTallyOf list script faults tally.old
+        → IsTallyOf list script (faults ++ fault ∷ []) tally.new }
+    ensures few { (most : ℕ) → HasAtMost most tally.old → HasAtMost (most + 1) tally.new }
+    ensures ok { OnOk result (WroteLines (K.output out.old) (K.output out.new) (tried.now.line ∷ [])) }
     ensures err { IfErr result
-        (λ why. LeftBy why (K.output out.old) (K.output out.new) (fault_lines list.now script.now (fault.now ∷ []))) }
+        (λ why. LeftBy why (K.output out.old) (K.output out.new) (tried.now.line ∷ [])) }
 {
-    let formed = tally.try_fault(alloc, list, script, fault);
-    put_formed(formed, tally, out)
+    tally.count(tried);
+    match out.write(tried.line.bytes()) {
+        Ok(()) => Ok(()),
+        Err(_) => Err(CampaignFault::Failed),
+    }
 }
 
-// The runs of the faults of a slot.
-fn put_faults<K: Sink>(
-    alloc: Global,
-    list: &Medl,
-    script: &Script,
-    faults: &[Event],
+// The same for those of a slot.
+fn put_all<K: Sink>(
+    all: &[Tried],
     slot: u32,
     tally: &mut Tally,
     out: &mut K,
 ) -> Result<(), CampaignFault>
-    requires valid { IsValid list.now }
-    requires script { IsValidScript list.now script.now }
-    requires room { length script.now.events < EVENT_LIMIT }
-    requires faults { All (MayStand list.now script.now) faults.now }
-    requires count { length faults.now ≤ most_tried }
+    requires count { length all.now ≤ most_tried }
     requires few { HasAtMost (most_tried * slot) tally.old }
-    ensures told { (before : Items Event) → IsTallyOf list.now script.now before tally.old
-        → OnOk result (IsTallyOf list.now script.now (before ++ faults.now) tally.new) }
+    ensures told { (list : Medl) (script : Script) (before faults : Items Event)
+        → all.now ≡ map (tried_of list script) faults → IsTallyOf list script before tally.old
+        → OnOk result (IsTallyOf list script (before ++ faults) tally.new) }
     ensures few { OnOk result (HasAtMost (most_tried * (slot + 1)) tally.new) }
-    ensures ok { OnOk result
-        (WroteLines (K.output out.old) (K.output out.new) (fault_lines list.now script.now faults.now)) }
+    ensures ok { OnOk result (WroteLines (K.output out.old) (K.output out.new) (tried_lines all.now)) }
     ensures err { IfErr result
-        (λ why. LeftBy why (K.output out.old) (K.output out.new) (fault_lines list.now script.now faults.now)) }
+        (λ why. LeftBy why (K.output out.old) (K.output out.new) (tried_lines all.now)) }
 {
-    for fault in faults {
-        if let Err(why) = put_fault(alloc, list, script, fault, tally, out) {
+    for tried in all {
+        if let Err(why) = put_tried(tried, tally, out) {
             return Err(why);
         }
     }
@@ -156,66 +145,74 @@ fn tried_in(
 }
 
 // The next slot of the script's own run, and the runs of its faults.
-fn put_slot<K: Sink>(
+fn put_slot<R: Threads + Sync, K: Sink>(
+    rt: &R,
     alloc: Global,
-    list: &Medl,
-    script: &Script,
+    common: &Common,
     first: u32,
     last: u32,
+    threads: usize,
     own: &mut Run,
     slot: u32,
     tally: &mut Tally,
     out: &mut K,
 ) -> Result<(), CampaignFault>
-    requires valid { IsValid list.now }
-    requires script { IsValidScript list.now script.now }
-    requires room { length script.now.events < EVENT_LIMIT }
-    requires slot { slot < script.now.slots }
-    requires run { IsRunAfter own.old list.now script.now slot }
+    requires may { MayTry common.now }
+    requires slot { slot < common.now.script.now.slots }
+    requires run { IsRunAfter own.old common.now.list.now common.now.script.now slot }
     requires few { HasAtMost (most_tried * slot) tally.old }
-    ensures run { IsRunAfter own.new list.now script.now (slot + 1) }
-    ensures told { (before : Items Event) → IsTallyOf list.now script.now before tally.old
-        → OnOk result (IsTallyOf list.now script.now
-        (before ++ tried_in list.now script.now first last slot) tally.new) }
+    ensures run { IsRunAfter own.new common.now.list.now common.now.script.now (slot + 1) }
+    ensures told { (before : Items Event) → IsTallyOf common.now.list.now common.now.script.now before tally.old
+        → OnOk result (IsTallyOf common.now.list.now common.now.script.now
+        (before ++ tried_in common.now.list.now common.now.script.now first last slot) tally.new) }
     ensures few { OnOk result (HasAtMost (most_tried * (slot + 1)) tally.new) }
     ensures ok { OnOk result (WroteLines (K.output out.old) (K.output out.new)
-        (fault_lines list.now script.now (tried_in list.now script.now first last slot))) }
+        (fault_lines common.now.list.now common.now.script.now
+        (tried_in common.now.list.now common.now.script.now first last slot))) }
     ensures err { IfErr result (λ why. LeftBy why (K.output out.old) (K.output out.new)
-        (fault_lines list.now script.now (tried_in list.now script.now first last slot))) }
+        (fault_lines common.now.list.now common.now.script.now
+        (tried_in common.now.list.now common.now.script.now first last slot))) }
 {
+    let (list, script) = (common.list, common.script);
     own.step(list, script, slot);
     let Ok(faults) = tried_in(alloc, list, script, first, last, own.states(list), slot) else {
         return Err(CampaignFault::Memory);
     };
-    put_faults(alloc, list, script, faults.as_slice(), slot, tally, out)
+    let Ok(all) = try_beside(rt, alloc, common, faults.as_slice(), threads) else {
+        return Err(CampaignFault::Memory);
+    };
+    put_all(all.as_slice(), slot, tally, out)
 }
 
 // The runs of all faults, by the script's own run, which has not begun.
-fn put_slots<K: Sink>(
+fn put_slots<R: Threads + Sync, K: Sink>(
+    rt: &R,
     alloc: Global,
-    list: &Medl,
-    script: &Script,
+    common: &Common,
     first: u32,
     last: u32,
+    threads: usize,
     own: &mut Run,
     tally: &mut Tally,
     out: &mut K,
 ) -> Result<(), CampaignFault>
-    requires valid { IsValid list.now }
-    requires script { IsValidScript list.now script.now }
-    requires room { length script.now.events < EVENT_LIMIT }
-    requires run { IsRunAfter own.old list.now script.now 0 }
+    requires may { MayTry common.now }
+    requires run { IsRunAfter own.old common.now.list.now common.now.script.now 0 }
     requires few { HasAtMost 0 tally.old }
-    requires told { IsTallyOf list.now script.now [] tally.old }
-    ensures told { OnOk result (IsTallyOf list.now script.now
-        (tried_before list.now script.now first last script.now.slots) tally.new) }
+    requires told { IsTallyOf common.now.list.now common.now.script.now [] tally.old }
+    ensures told { OnOk result (IsTallyOf common.now.list.now common.now.script.now
+        (tried_before common.now.list.now common.now.script.now first last common.now.script.now.slots) tally.new) }
     ensures ok { OnOk result (WroteLines (K.output out.old) (K.output out.new)
-        (fault_lines list.now script.now (tried_before list.now script.now first last script.now.slots))) }
+        (fault_lines common.now.list.now common.now.script.now
+        (tried_before common.now.list.now common.now.script.now first last common.now.script.now.slots))) }
     ensures err { IfErr result (λ why. LeftBy why (K.output out.old) (K.output out.new)
-        (fault_lines list.now script.now (tried_before list.now script.now first last script.now.slots))) }
+        (fault_lines common.now.list.now common.now.script.now
+        (tried_before common.now.list.now common.now.script.now first last common.now.script.now.slots))) }
 {
-    for slot in 0..script.slots {
-        if let Err(why) = put_slot(alloc, list, script, first, last, own, slot, tally, out) {
+    for slot in 0..common.script.slots {
+        if let Err(why) = put_slot(
+            rt, alloc, common, first, last, threads, own, slot, tally, out,
+        ) {
             return Err(why);
         }
     }
@@ -224,30 +221,27 @@ fn put_slots<K: Sink>(
 
 // The head, and the line of the script's own run.
 fn put_front<K: Sink>(
-    alloc: Global,
-    list: &Medl,
-    script: &Script,
+    common: &Common,
     first: u32,
     last: u32,
     tally: &mut Tally,
     out: &mut K,
 ) -> Result<(), CampaignFault>
-    requires valid { IsValid list.now }
-    requires script { IsValidScript list.now script.now }
-    requires counts { AreCountsOf list.now (summary list.now script.now).cost [] tally.old }
+    requires may { MayTry common.now }
+    requires told { IsTallyOf common.now.list.now common.now.script.now [] tally.old }
     requires few { HasAtMost 0 tally.old }
-    ensures told { OnOk result (IsTallyOf list.now script.now [] tally.new) }
+    ensures told { OnOk result (IsTallyOf common.now.list.now common.now.script.now [] tally.new) }
     ensures few { OnOk result (HasAtMost 0 tally.new) }
     ensures ok { OnOk result (WroteLines (K.output out.old) (K.output out.new)
-        (front_lines list.now script.now first last)) }
+        (front_lines common.now.list.now common.now.script.now first last)) }
     ensures err { IfErr result (λ why. LeftFewerBy why (K.output out.old) (K.output out.new)
-        (front_lines list.now script.now first last)) }
+        (front_lines common.now.list.now common.now.script.now first last)) }
 {
-    let formed = tally.form_head(alloc, list, script, first, last);
+    let formed = tally.form_head(common, first, last);
     if let Err(why) = put_formed(formed, tally, out) {
         return Err(why);
     }
-    let formed = tally.form_own(list, script);
+    let formed = tally.form_own(common);
     put_formed(formed, tally, out)
 }
 
@@ -269,20 +263,25 @@ fn put_end<K: Sink>(tally: &mut Tally, out: &mut K) -> Result<(), CampaignFault>
 /// Writes the campaign of a script over the slots of a range, each line as one piece. Slots that the script
 /// does not have are passed over.
 ///
-/// A campaign of n lines runs the cluster n times, each time through all slots of the script. Between two
-/// lines it keeps what is shown of the nodes in the script's own run, and the longest line.
+/// A campaign of n lines runs the cluster n times, each time through all slots of the script. The runs of a
+/// slot are made in as many threads as are asked for, rounded up to a power of two; with 0 or 1 they are made
+/// in this one, and [`crate::processors`] says how many are of use. What is written is the same. Between two
+/// slots it keeps what is shown of the nodes in the script's own run; the lines of a slot are held until all of
+/// its runs were made.
 ///
 /// # Errors
 ///
 /// `Failed` where the sink's count of faults rose: then the text is cut short. `Memory` where memory was
 /// refused: then some of its first lines were written, and never all. What the script's own run takes is
 /// taken before the first line.
-pub fn put_campaign<K: Sink>(
+pub fn put_campaign<R: Threads + Sync, K: Sink>(
+    rt: &R,
     alloc: Global,
     list: &Medl,
     script: &Script,
     first: u32,
     last: u32,
+    threads: usize,
     out: &mut K,
 ) -> Result<(), CampaignFault>
     requires valid { IsValid list.now }
@@ -295,14 +294,25 @@ pub fn put_campaign<K: Sink>(
     ensures memory { result ≡ Err fault.Memory
         → WroteFewer (K.output out.old) (K.output out.new) (campaign_lines list.now script.now first last) }
 {
+    let mut words = Text::new(alloc);
     let mut tally = Tally::new(alloc);
     let Ok(mut own) = Run::new(alloc, list) else {
         return Err(CampaignFault::Memory);
     };
-    if let Err(why) = put_front(alloc, list, script, first, last, &mut tally, out) {
+    let Ok(_) = form_words(alloc, list, script, &mut words) else {
+        return Err(CampaignFault::Memory);
+    };
+    let common = Common {
+        list,
+        script,
+        own: words.bytes(),
+    };
+    if let Err(why) = put_front(&common, first, last, &mut tally, out) {
         return Err(why);
     }
-    if let Err(why) = put_slots(alloc, list, script, first, last, &mut own, &mut tally, out) {
+    if let Err(why) = put_slots(
+        rt, alloc, &common, first, last, threads, &mut own, &mut tally, out,
+    ) {
         return Err(why);
     }
     put_end(&mut tally, out)

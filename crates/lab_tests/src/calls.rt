@@ -2,6 +2,7 @@
 use lab_top::lab;
 use std::process::Abort;
 use std::test::Fail;
+use std::thread::Threads;
 use ttp_base::{List, MemoryLibrary, MemorySink};
 
 /// A call of `lab`: its words, the files that the library holds, each with the parts of its text, and which call
@@ -57,17 +58,20 @@ fn words_of<R: AllocGlobal>(rt: &R, call: &Call<'_>) -> Result<Vec<String>, Fail
 }
 
 // The one call of `lab` here.
-fn run_lab<R: AllocGlobal>(
+fn run_lab<R: AllocGlobal + Threads + Sync>(
     rt: &R,
     words: &[String],
     library: &mut MemoryLibrary,
     out: &mut MemorySink,
 ) -> u8 {
-    lab(rt.alloc(), words, library, out)
+    lab(rt, rt.alloc(), words, library, out)
 }
 
 /// What a call answers and writes.
-pub(crate) fn answer<R: AllocGlobal>(rt: &R, call: &Call<'_>) -> Result<(u8, Vec<u8>), Fail> {
+pub(crate) fn answer<R: AllocGlobal + Threads + Sync>(
+    rt: &R,
+    call: &Call<'_>,
+) -> Result<(u8, Vec<u8>), Fail> {
     let words = words_of(rt, call)?;
     let mut library = library_of(rt, call)?;
     let mut out = MemorySink::new(rt.alloc(), 65_536, failing(rt, call.bad_write)?)?;
@@ -76,7 +80,7 @@ pub(crate) fn answer<R: AllocGlobal>(rt: &R, call: &Call<'_>) -> Result<(u8, Vec
 }
 
 /// A call answers this status and writes these texts, one after another.
-pub(crate) fn gives<R: AllocGlobal + Abort>(
+pub(crate) fn gives<R: AllocGlobal + Abort + Threads + Sync>(
     rt: &R,
     call: &Call<'_>,
     status: u8,

@@ -3,6 +3,7 @@
 use crate::calls::{Call, answer, call_of, gives, joined};
 use std::process::Abort;
 use std::test::Fail;
+use std::thread::Threads;
 
 // Two slots of four nodes, of which node 0 listens.
 const HEAD: &str = "ttpbench trace 1 nodes 4 rounds 1 slots 2 schedule 000000\n";
@@ -47,7 +48,7 @@ const CELL: &str =
 
 // A call answers 0 and writes a text that begins with these lines and has this part. A sink that fails at one of
 // the lines has those before it.
-fn shows<R: AllocGlobal + Abort>(
+fn shows<R: AllocGlobal + Abort + Threads + Sync>(
     rt: &R,
     call: &Call<'_>,
     head: &[&str],

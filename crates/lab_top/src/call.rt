@@ -18,13 +18,15 @@ use crate::wave::wave;
 use crate::words::{Command, command_of};
 use commands::say;
 use std::alloc::Global;
+use std::thread::Threads;
 use ttp_base::{Library, Sink};
 
 const USAGE: &str =
     "usage: wave TRACE | picture TRACE [FIRST LAST] | campaign LIST SCRIPT FIRST LAST\n";
 
 // What the words ask for.
-fn obey<L: Library, K: Sink>(
+fn obey<R: Threads + Sync, L: Library, K: Sink>(
+    rt: &R,
     alloc: Global,
     command: Command<'_>,
     library: &mut L,
@@ -43,7 +45,7 @@ fn obey<L: Library, K: Sink>(
             script,
             first,
             last,
-        } => campaign(alloc, list, script, first, last, library, out),
+        } => campaign(rt, alloc, list, script, first, last, library, out),
         Command::NoForm => say(out, USAGE.as_bytes(), 2),
     }
 }
@@ -72,10 +74,17 @@ fn obey<L: Library, K: Sink>(
 /// The library is asked for the files of the form, each once, in the order of the words, and for a script only
 /// where the list is not refused; for words of no form it is left alone. The text of a trace is held while it is
 /// shown, and gone over a few times; a picture takes no other memory, and a waveform a few bytes for each source
-/// that a host reads. A campaign of n lines runs the cluster n times, through all slots of the script; it
-/// takes memory for each run, and keeps none of it. Each line is one piece, so the cost is one write for
-/// each line.
-pub fn lab<L: Library, K: Sink>(alloc: Global, words: &[String], library: &mut L, out: &mut K) -> u8
+/// that a host reads. A campaign of n lines runs the cluster n times, through all slots of the script; the
+/// runs of a slot's faults are made side by side in as many threads as there are processors, and their lines
+/// are held until all of them were made. It takes memory for each run, and keeps none of it. Each line is one
+/// piece, so the cost is one write for each line.
+pub fn lab<R: Threads + Sync, L: Library, K: Sink>(
+    rt: &R,
+    alloc: Global,
+    words: &[String],
+    library: &mut L,
+    out: &mut K,
+) -> u8
     // The promise of every form: what is asked for, how it ends, and what is written.
     ensures promise { LabPromise (lab_form_of (texts_of words.now)) (outside (L.files library.old) (K.output out.old))
         (outside (L.files library.new) (K.output out.new)) (alone result) }
@@ -97,5 +106,5 @@ pub fn lab<L: Library, K: Sink>(alloc: Global, words: &[String], library: &mut L
         → CampaignPromise list script first last (outside (L.files library.old) (K.output out.old))
         (outside (L.files library.new) (K.output out.new)) result }
 {
-    obey(alloc, command_of(words), library, out)
+    obey(rt, alloc, command_of(words), library, out)
 }

@@ -11,13 +11,15 @@ ghost use Rattle.lab_top.specs.Texts.{ttplab};
 ghost use Rattle.lab_top.specs.Words.{campaign};
 
 use commands::load_both;
-use fault_runs::{CampaignFault, put_campaign};
+use fault_runs::{CampaignFault, processors, put_campaign};
 use std::alloc::Global;
+use std::thread::Threads;
 use ttp_base::{Library, Sink};
 use ttp_world::{Medl, Script};
 
 // The campaign of a script that has room for one event more.
-fn show_campaign<K: Sink>(
+fn show_campaign<R: Threads + Sync, K: Sink>(
+    rt: &R,
     alloc: Global,
     list: &Medl,
     script: &Script,
@@ -31,7 +33,7 @@ fn show_campaign<K: Sink>(
     ensures { Shows ttplab (campaign_ending list.now script.now first last) (K.output out.old) (K.output out.new)
         (alone result) }
 {
-    match put_campaign(alloc, list, script, first, last, out) {
+    match put_campaign(rt, alloc, list, script, first, last, processors(rt), out) {
         Ok(()) => 0,
         Err(CampaignFault::Failed) => 6,
         Err(CampaignFault::Memory) => 7,
@@ -40,7 +42,8 @@ fn show_campaign<K: Sink>(
 
 /// The campaign of the script of this name for the list of this name, over the slots from the first to the
 /// last. A script that a file holds always has room for one event more.
-pub(crate) fn campaign<L: Library, K: Sink>(
+pub(crate) fn campaign<R: Threads + Sync, L: Library, K: Sink>(
+    rt: &R,
     alloc: Global,
     list: &str,
     script: &str,
@@ -54,7 +57,7 @@ pub(crate) fn campaign<L: Library, K: Sink>(
         (alone result) }
 {
     match load_both(alloc, list, script, library, out) {
-        Ok((medl, right)) => show_campaign(alloc, &medl, &right, first, last, out),
+        Ok((medl, right)) => show_campaign(rt, alloc, &medl, &right, first, last, out),
         Err(status) => status,
     }
 }

@@ -28,7 +28,7 @@ fn main(rt: HostRuntime) -> ExitCode {
                 return ExitCode::from(7);
             };
             let mut out = StreamSink::new(buffered);
-            let status = lab(rt.alloc(), &words, &mut library, &mut out);
+            let status = lab(&rt, rt.alloc(), &words, &mut library, &mut out);
             ExitCode::from(if out.end().is_ok() { status } else { 6 })
         }
         Err(error) if error.kind() == io::ErrorKind::OutOfMemory => ExitCode::from(7),

@@ -14,6 +14,10 @@ pub returns-in_default-clause-memory : goal.returns-in_default-clause-memory
 returns-in_default-clause-memory g c = λ same.
     none-written c.args.list.now c.args.script.now c.args.first c.args.last (g.K.Sink.output c.args.out.now)
 
+pub returns-in_default-form_words-clause-memory : goal.returns-in_default-form_words-clause-memory
+returns-in_default-form_words-clause-memory g c = λ same.
+    none-written c.args.list.now c.args.script.now c.args.first c.args.last (g.K.Sink.output c.args.out.now)
+
 pub returns-in-Err-clause-failed : goal.returns-in-Err-clause-failed
 returns-in-Err-clause-failed g c = λ same.
     let list = c.args.list.now in
@@ -68,7 +72,7 @@ returns g c =
     let e = g.K.Sink.output c.put_end.new.out in
     let front = c.in_default-put_front.ensures.ok in
     let faults = c.in_default-put_slots.ensures.ok in
-    let counts = c.in_default-put_slots.ensures.told.counts in
+    let counts = c.in_default-put_slots.ensures.told in
     let own = (summary list script).cost in
     let runs = map (summary_with list script) (tried_before list script first last script.slots) in
     let left : IfErr c.put_end.result

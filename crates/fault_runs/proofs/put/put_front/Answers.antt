@@ -2,32 +2,25 @@ use Rattle.std.proofs.Common.{◌≡◌, ◌∷◌, [], sym, subst, ◌∙◌}
 use Rattle.ttp_base.specs.Outside.{WroteLines}
 use Rattle.ttp_base.proofs.Outputs.{Wrote-join}
 use Rattle.campaign.specs.declared.cost.Counts.{Counts}
-use Rattle.campaign.specs.CostText.{cost_words}
 use Rattle.campaign.specs.Lines.{summary, head_line, own_line}
 use Rattle.fault_runs.specs.declared.put.CampaignFault.{CampaignFault}
 use Rattle.fault_runs.specs.Ends.{LeftFewerBy}
 use Rattle.fault_runs.specs.Runs.{front_lines, AreAtMost, HasAtMost, IsTallyOf}
 use Rattle.fault_runs.proofs.Endings.{fewer-after, fewer-more}
-use Rattle.fault_runs.proofs.Results.{ok-is, ok-always, ok-weaker, err-weaker}
+use Rattle.fault_runs.proofs.Results.{ok-always, ok-weaker, err-weaker}
 use Rattle.fault_runs.proofs.put.put_front.Goals as goal
-
-pub form_own-formed-requires-clause-own : goal.form_own-formed-requires-clause-own
-form_own-formed-requires-clause-own g c =
-    ok-is
-    (c.form_head-formed.new.self.own ≡ cost_words c.args.list.now (summary c.args.list.now c.args.script.now).cost)
-    c.form_head-formed.result c.in_default.ensures.formed c.form_head-formed.ensures.own
 
 pub returns-in-Err-clause-err : goal.returns-in-Err-clause-err
 returns-in-Err-clause-err g c =
-    let head = head_line c.args.list.now c.args.script.now c.args.first c.args.last in
-    let own = own_line c.args.list.now (summary c.args.list.now c.args.script.now) in
+    let head = head_line c.args.common.now.list.now c.args.common.now.script.now c.args.first c.args.last in
+    let own = own_line c.args.common.now.list.now (summary c.args.common.now.list.now c.args.common.now.script.now) in
     fewer-more c.in-Err.why (g.K.Sink.output c.args.out.now) (g.K.Sink.output c.put_formed.new.out) (head ∷ [])
     (own ∷ []) (c.in-Err.ensures.err head c.form_head-formed.ensures.line)
 
 pub returns : goal.returns
 returns g c =
-    let list = c.args.list.now in
-    let script = c.args.script.now in
+    let list = c.args.common.now.list.now in
+    let script = c.args.common.now.script.now in
     let first = c.args.first in
     let last = c.args.last in
     let a = g.K.Sink.output c.args.out.now in
@@ -37,16 +30,13 @@ returns g c =
     let own = own_line list (summary list script) in
     let tally = c.form_own-formed.new.self in
     let wrote_head = c.in_default.ensures.ok head c.form_head-formed.ensures.line in
-    let words : c.form_head-formed.new.self.own ≡ cost_words list (summary list script).cost =
-    ok-is (c.form_head-formed.new.self.own ≡ cost_words list (summary list script).cost)
-    c.form_head-formed.result c.in_default.ensures.formed c.form_head-formed.ensures.own in
     let kept : tally.kept ≡ c.args.tally.now.kept = c.form_own-formed.ensures.kept ∙ c.form_head-formed.ensures.kept in
     let broken : tally.broken ≡ c.args.tally.now.broken =
     c.form_own-formed.ensures.broken ∙ c.form_head-formed.ensures.broken in
     record {
       told = ok-always (IsTallyOf list script [] tally) c.put_formed-2.result (record {
-        own = c.form_own-formed.ensures.own ∙ words;
-        counts = record { kept = kept ∙ c.requires.counts.kept; broken = broken ∙ c.requires.counts.broken };
+        kept = kept ∙ c.requires.told.kept;
+        broken = broken ∙ c.requires.told.broken;
       });
       few = ok-always (HasAtMost 0 tally) c.put_formed-2.result (record {
         kept = subst (λ (k : Counts). AreAtMost 0 k) (sym kept) c.requires.few.kept;

@@ -1,15 +1,56 @@
+use Rattle.std.proofs.Common.{◌≡◌, ℕ, ◌≤◌, length, ap, sym, subst, ◌∙◌}
+use Rattle.std.proofs.lemmas.List.{length-map}
+use Rattle.std.specs.Prelude.{map, OnOk, IfErr}
+use Rattle.ttp_base.specs.Outside.{WroteLines}
+use Rattle.ttp_base.specs.Text.{Lines}
 use Rattle.ttp_world.proofs.Lists.{nodes-most}
+use Rattle.fault_runs.specs.declared.put.CampaignFault.{CampaignFault}
+use Rattle.fault_runs.specs.Ends.{LeftBy}
+use Rattle.fault_runs.specs.Runs.{tried_in, most_tried}
+use Rattle.fault_runs.specs.Tries.{tried_of}
 use Rattle.fault_runs.proofs.Ranges.{tried-few, tried-stand}
+use Rattle.fault_runs.proofs.Tries.{lines-of}
 use Rattle.fault_runs.proofs.put.put_slot.Goals as goal
 
-pub put_faults-requires-clause-faults : goal.put_faults-requires-clause-faults
-put_faults-requires-clause-faults g c =
+pub try_beside-requires-clause-faults : goal.try_beside-requires-clause-faults
+try_beside-requires-clause-faults g c κs within =
     rw (c.as_slice.ensures, c.in-Ok.ensures)
-    (tried-stand c.args.list.now c.args.script.now c.args.first c.args.last c.args.slot
-    c.requires.valid c.requires.slot)
+    (tried-stand c.args.common.now.list.now c.args.common.now.script.now c.args.first c.args.last c.args.slot
+    c.requires.may.valid c.requires.slot)
 
-pub put_faults-requires-clause-count : goal.put_faults-requires-clause-count
-put_faults-requires-clause-count g c =
-    rw (c.as_slice.ensures, c.in-Ok.ensures)
-    (tried-few c.args.list.now c.args.script.now c.args.first c.args.last c.args.slot
-    (nodes-most c.args.list.now c.requires.valid))
+pub put_all-requires-clause-count : goal.put_all-requires-clause-count
+put_all-requires-clause-count g c =
+    let list = c.args.common.now.list.now in
+    let script = c.args.common.now.script.now in
+    let tried = tried_in list script c.args.first c.args.last c.args.slot in
+    let all : c.as_slice-2.result.now ≡ map (tried_of list script) tried =
+    c.as_slice-2.ensures.value ∙ c.in-Ok-try_beside.ensures
+    ∙ ap (map (tried_of list script)) (c.as_slice.ensures ∙ c.in-Ok.ensures) in
+    subst (λ (n : ℕ). n ≤ most_tried) (sym (ap length all ∙ length-map tried (tried_of list script)))
+    (tried-few list script c.args.first c.args.last c.args.slot (nodes-most list c.requires.may.valid))
+
+pub returns-clause-ok : goal.returns-clause-ok
+returns-clause-ok g c =
+    let list = c.args.common.now.list.now in
+    let script = c.args.common.now.script.now in
+    let tried = tried_in list script c.args.first c.args.last c.args.slot in
+    let all : c.as_slice-2.result.now ≡ map (tried_of list script) tried =
+    c.as_slice-2.ensures.value ∙ c.in-Ok-try_beside.ensures
+    ∙ ap (map (tried_of list script)) (c.as_slice.ensures ∙ c.in-Ok.ensures) in
+    subst
+    (λ (lines : Lines). OnOk c.put_all.result
+    (WroteLines (g.K.Sink.output c.args.out.now) (g.K.Sink.output c.put_all.new.out) lines))
+    (lines-of list script tried c.as_slice-2.result.now all) c.put_all.ensures.ok
+
+pub returns-clause-err : goal.returns-clause-err
+returns-clause-err g c =
+    let list = c.args.common.now.list.now in
+    let script = c.args.common.now.script.now in
+    let tried = tried_in list script c.args.first c.args.last c.args.slot in
+    let all : c.as_slice-2.result.now ≡ map (tried_of list script) tried =
+    c.as_slice-2.ensures.value ∙ c.in-Ok-try_beside.ensures
+    ∙ ap (map (tried_of list script)) (c.as_slice.ensures ∙ c.in-Ok.ensures) in
+    subst
+    (λ (lines : Lines). IfErr c.put_all.result
+    (λ (why : CampaignFault). LeftBy why (g.K.Sink.output c.args.out.now) (g.K.Sink.output c.put_all.new.out) lines))
+    (lines-of list script tried c.as_slice-2.result.now all) c.put_all.ensures.err

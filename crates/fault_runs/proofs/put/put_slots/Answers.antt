@@ -17,8 +17,8 @@ loop-slot-init g c = (c.requires.run, c.requires.told, c.requires.few, Wrote-non
 
 pub loop-slot-preserved : goal.loop-slot-preserved
 loop-slot-preserved g c =
-    let list = c.args.list.now in
-    let script = c.args.script.now in
+    let list = c.args.common.now.list.now in
+    let script = c.args.common.now.script.now in
     let slot = c.loop-slot.slot in
     let now = tried_in list script c.args.first c.args.last slot in
     let before = tried_before list script c.args.first c.args.last slot in
@@ -36,8 +36,8 @@ loop-slot-preserved g c =
 
 pub returns-in-Err-clause-err : goal.returns-in-Err-clause-err
 returns-in-Err-clause-err g c =
-    let list = c.args.list.now in
-    let script = c.args.script.now in
+    let list = c.args.common.now.list.now in
+    let script = c.args.common.now.script.now in
     let slot = c.loop-slot.slot in
     let why = c.in-Err.why in
     let a = g.K.Sink.output c.args.out.now in

@@ -7,8 +7,8 @@ use Rattle.fault_runs.proofs.put.put_slots.Given as goal
 -- the runs of the faults of the slots so far were told and counted
 abbrev pub invariant-loop-slot : goal.invariant-loop-slot
 invariant-loop-slot g l =
-    IsRunAfter l.own l.list l.script l.slot
-    × IsTallyOf l.list l.script (tried_before l.list l.script l.first l.last l.slot) l.tally
+    IsRunAfter l.own l.common.list.now l.common.script.now l.slot
+    × IsTallyOf l.common.list.now l.common.script.now (tried_before l.common.list.now l.common.script.now l.first l.last l.slot) l.tally
     × HasAtMost (most_tried * l.slot) l.tally
     × WroteLines (g.K.Sink.output l.initial.out) (g.K.Sink.output l.out)
-    (fault_lines l.list l.script (tried_before l.list l.script l.first l.last l.slot))
+    (fault_lines l.common.list.now l.common.script.now (tried_before l.common.list.now l.common.script.now l.first l.last l.slot))

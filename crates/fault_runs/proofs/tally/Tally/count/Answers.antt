@@ -1,14 +1,20 @@
-use Rattle.fault_runs.proofs.Counts.{at_most-more}
+use Rattle.std.proofs.Common.{◌≡◌, ◌∷◌, [], List, ap, sym, subst, ◌∙◌}
+use Rattle.std.proofs.lemmas.List.{map-append}
+use Rattle.std.specs.Prelude.{map}
+use Rattle.campaign.specs.Lines.{Summary, summary, summary_with, is_same_cost}
+use Rattle.fault_runs.specs.declared.tried.Tried.{Tried}
+use Rattle.fault_runs.specs.Runs.{AreCountsOf}
 use Rattle.fault_runs.proofs.tally.Tally.count.Goals as goal
 
-pub returns-then-yes-clause-few : goal.returns-then-yes-clause-few
-returns-then-yes-clause-few c = λ most are. record {
-  kept = c.with_run-self.ensures.few most are.kept;
-  broken = at_most-more most c.args.self.now.broken are.broken;
-}
-
-pub returns-else-yes-clause-few : goal.returns-else-yes-clause-few
-returns-else-yes-clause-few c = λ most are. record {
-  kept = at_most-more most c.args.self.now.kept are.kept;
-  broken = c.with_run-self-else-yes.ensures.few most are.broken;
-}
+pub returns-clause-told : goal.returns-clause-told
+returns-clause-told c = λ list script faults fault tried are.
+    let own = (summary list script).cost in
+    let told = summary_with list script in
+    let yes : (told fault).yes ≡ c.args.tried.now.yes = sym (ap (λ (t : Tried). t.yes) tried) in
+    let cost : (told fault).cost ≡ c.args.tried.now.cost = sym (ap (λ (t : Tried). t.cost) tried) in
+    let same : c.args.tried.now.is_same ≡ is_same_cost list own c.args.tried.now.cost =
+    ap (λ (t : Tried). t.is_same) tried ∙ ap (is_same_cost list own) cost in
+    subst (λ (runs : List Summary). AreCountsOf list own runs c.add.new.self)
+    (sym (map-append told faults (fault ∷ [])))
+    (c.add.ensures.counts list own (map told faults) (told fault) yes cost same
+    (record { kept = are.kept; broken = are.broken }))

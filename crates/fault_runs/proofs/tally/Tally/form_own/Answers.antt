@@ -1,11 +1,11 @@
-use Rattle.std.proofs.Common.{◌≡◌, ◌++◌, List, ℕ, subst, ◌∙◌}
+use Rattle.std.proofs.Common.{◌≡◌, ◌++◌, List, ℕ, subst}
 use Rattle.std.specs.Prelude.{OnOk}
 use Rattle.campaign.specs.Lines.{summary, own_line}
 use Rattle.fault_runs.proofs.tally.Tally.form_own.Goals as goal
 
 pub returns-clause-line : goal.returns-clause-line
 returns-clause-line c =
-    let list = c.args.list.now in
-    let script = c.args.script.now in
+    let list = c.args.common.now.list.now in
+    let script = c.args.common.now.script.now in
     subst (λ (old : List ℕ). OnOk c.put_own.result (c.put_own.new.text ≡ old ++ own_line list (summary list script)))
-    c.clear.ensures (c.put_own.ensures (summary list script).cost (c.bytes.ensures ∙ c.requires.own))
+    c.clear.ensures (c.put_own.ensures (summary list script).cost c.requires.own)

@@ -4,7 +4,7 @@ use Rattle.campaign.specs.CostText.{cost_words}
 use Rattle.campaign.specs.ZerosWorld.{zeros_world}
 use Rattle.campaign_text.specs.Listing.{in_order}
 use Rattle.fault_runs.proofs.Orders.{in_order-hurt}
-use Rattle.fault_runs.proofs.tally.form_words.Goals as goal
+use Rattle.fault_runs.proofs.tried.form_words.Goals as goal
 
 pub put_cost-requires-clause-hurt : goal.put_cost-requires-clause-hurt
 put_cost-requires-clause-hurt c =

@@ -1,0 +1,20 @@
+use Rattle.std.proofs.Common.{◌≡◌, ◌+◌, ◌++◌, ◌∷◌, [], take, ap, sym, ◌∙◌}
+use Rattle.std.proofs.lemmas.List.{map-append, take_more}
+use Rattle.std.specs.Prelude.{map}
+use Rattle.ttp_world.specs.declared.script.Event.{Event}
+use Rattle.fault_runs.specs.Tries.{tried_of}
+use Rattle.fault_runs.proofs.tried.try_each.Goals as goal
+
+pub loop-fault-preserved : goal.loop-fault-preserved
+loop-fault-preserved c =
+    let tried = tried_of c.args.common.now.list.now c.args.common.now.script.now in
+    let faults = c.args.faults.now in
+    let i = c.loop-fault.fault-index in
+    let fault = c.fault-item.result in
+    let more : take i faults ++ fault ∷ [] ≡ take (i + 1) faults =
+    ap (λ (e : Event). take i faults ++ e ∷ []) c.fault-item.is
+    ∙ sym (take_more faults i fault c.loop-fault-test.true) in
+    c.in_ok-push.ensures.items
+    ∙ (λ j. c.loop-fault.invariant j ++ c.in_ok-try_one.ensures j ∷ [])
+    ∙ sym (map-append tried (take i faults) (fault ∷ []))
+    ∙ ap (map tried) more

@@ -1,0 +1,30 @@
+use Rattle.std.proofs.Common.{◌≡◌, ◌++◌, List, ℕ, ap, ◌∙◌}
+use Rattle.std.specs.Str.{bytes_eq}
+use Rattle.ttp_world.specs.declared.script.Script.{Script}
+use Rattle.campaign.specs.Cost.{says_yes}
+use Rattle.campaign.specs.CostText.{cost_words}
+use Rattle.campaign.specs.Lines.{summary, summary_with, fault_line, run_line, is_same_cost}
+use Rattle.fault_runs.proofs.tried.try_one.Goals as goal
+
+pub returns : goal.returns
+returns c =
+    let list = c.args.common.now.list.now in
+    let script = c.args.common.now.script.now in
+    let fault = c.args.fault.now in
+    let more = c.in_ok-more.more in
+    let own = (summary list script).cost in
+    let told = summary_with list script fault in
+    let cost : c.in_ok-cost.cost ≡ told.cost =
+    c.in_ok-cost.ensures.cost ∙ ap (λ (s : Script). (summary list s).cost) c.in_ok-more.ensures in
+    let yes : c.in_ok-yes.yes ≡ told.yes =
+    c.in_ok-yes.ensures.yes ∙ ap (λ (s : Script). says_yes list s) c.in_ok-more.ensures in
+    let line : c.put_run.new.text ≡ run_line list script fault =
+    c.in_ok-yes.ensures.line (summary list more).cost (c.bytes.ensures ∙ c.in_ok-cost.ensures.words)
+    ∙ ap (λ (old : List ℕ). old ++ fault_line list fault (summary list more)) c.new-line.ensures
+    ∙ ap (λ (s : Script). fault_line list fault (summary list s)) c.in_ok-more.ensures in
+    let words : c.bytes-2.result.now ≡ cost_words list told.cost =
+    c.bytes-2.ensures ∙ c.in_ok-cost.ensures.words
+    ∙ ap (λ (s : Script). cost_words list (summary list s).cost) c.in_ok-more.ensures in
+    let same : c.eq-is_same.result ≡ is_same_cost list own told.cost =
+    c.eq-is_same.ensures ∙ (λ i. bytes_eq (c.requires.may.own i) (words i)) in
+    λ i. record { line = line i; yes = yes i; cost = cost i; is_same = same i }

@@ -1,0 +1,33 @@
+-- The runs of faults, as they are told before they are counted.
+use Rattle.std.specs.Prelude.{◌≡◌, ◌<◌, length, List, map}
+use Rattle.ttp_base.specs.Text.{Lines}
+use Rattle.ttp_world.specs.declared.medl.Medl.{Medl}
+use Rattle.ttp_world.specs.declared.script.Event.{Event}
+use Rattle.ttp_world.specs.declared.script.Script.{Script}
+use Rattle.ttp_world.specs.declared.script.TheConstants.{EVENT_LIMIT}
+use Rattle.ttp_world.specs.Medl.{IsValid}
+use Rattle.ttp_world.specs.Script.{IsValidScript}
+use Rattle.campaign.specs.CostText.{cost_words}
+use Rattle.campaign.specs.Lines.{summary, summary_with, run_line, is_same_cost}
+use Rattle.fault_runs.specs.declared.tried.Common.{Common}
+use Rattle.fault_runs.specs.declared.tried.Tried.{Tried}
+
+-- the script may be run with one fault more, and the words of what its own run costs are there
+pub record MayTry (common : Common) : Type 0 where
+  pub valid : IsValid common.list.now
+  pub script : IsValidScript common.list.now common.script.now
+  pub room : length common.script.now.events < EVENT_LIMIT
+  pub own : common.own.now ≡ cost_words common.list.now (summary common.list.now common.script.now).cost
+
+-- what is told of the run with a fault
+abbrev pub tried_of : Medl → Script → Event → Tried
+tried_of list script fault = record {
+  line = run_line list script fault;
+  yes = (summary_with list script fault).yes;
+  cost = (summary_with list script fault).cost;
+  is_same = is_same_cost list (summary list script).cost (summary_with list script fault).cost;
+}
+
+-- the lines of some runs
+abbrev pub tried_lines : List Tried → Lines
+tried_lines all = map (λ (tried : Tried). tried.line) all
