@@ -20,5 +20,5 @@ returns-in-Err g c =
     (λ medl right. ends (campaign_ending medl right c.args.first c.args.last)) _ _ c.in-Err.status c.in-Err.ensures.err
 
 pub show_campaign-requires-clause-room : goal.show_campaign-requires-clause-room
-show_campaign-requires-clause-room g c =
+show_campaign-requires-clause-room g c κs within =
     room_of c.args.list.now c.args.script.now _ _ c.in-Ok.medl c.in-Ok.right c.in-Ok.ensures.ok
