@@ -202,8 +202,8 @@ module _ {list : Medl} {script : Script} {numbers : Numbers} {chosen : List Chos
         ∙ get_or-map message_of row k entry.Off
         ∙ message_of-row_in (next_slot list script numbers) chosen k node
 
-    nodes : NodesStandFor list script new (told ∷ numbers)
-    nodes = record {
+    stand : NodesStandFor list script new (told ∷ numbers)
+    stand = record {
       seats = subst (λ (r : List Entry). StandAfter script (r ∷ before) 0 new.seats) (sym rows) so.ended.stand;
       written = λ k node.
           subst (λ (o : Option ℕ). HoldsSent list script numbers o new.host_ends k) (sym (sent_at k node))
@@ -253,7 +253,7 @@ module _ {list : Medl} {script : Script} {numbers : Numbers} {chosen : List Chos
 
     pub is_next : IsNextOf list script numbers new report
     is_next = record {
-      stands = nodes;
+      stands = stand;
       shows = record {
         slot = so.slot_is ∙ sym slots;
         nodes = nodes
