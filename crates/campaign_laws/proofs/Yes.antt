@@ -1,5 +1,5 @@
 -- Where the test of a script says yes, nobody is hurt and no memberships are split.
-use Rattle.std.proofs.Common.{◌≡◌, ℕ, suc, ◌-◌, ◌<◌, ◌≤◌, Bool, true, false, cond, not, ◌&&◌, ◌||◌, List, [], ◌∷◌}
+use Rattle.std.proofs.Common.{◌≡◌, ℕ, suc, ◌+◌, ◌-◌, ◌<◌, ◌≤◌, Bool, true, false, cond, not, ◌&&◌, ◌||◌, List, [], ◌∷◌}
 use Rattle.std.proofs.Common.{length, Option, Some, None, refl, ap, sym, ◌∙◌, subst, arith, inl, inr, IsTrue}
 use Rattle.std.specs.Prelude.{filter, ◌⊎◌, nat_le}
 use Rattle.std.specs.List.{filter_map, cons_option, AllByRecursion}
@@ -14,6 +14,7 @@ use Rattle.ttp_world.specs.declared.keep.Keep.TheVariants as keep
 use Rattle.ttp_world.specs.declared.medl.Medl.{Medl}
 use Rattle.ttp_world.specs.declared.node.Entry.{Entry}
 use Rattle.ttp_world.specs.declared.node.Entry.TheVariants as entry
+use Rattle.ttp_world.specs.declared.node.Phase.{Phase}
 use Rattle.ttp_world.specs.declared.node.Phase.TheVariants as phase
 use Rattle.ttp_world.specs.declared.script.Script.{Script}
 use Rattle.ttp_world.specs.Diary.{History, entry_of, diary_of, phase_after, is_active, is_active_phase}
@@ -25,9 +26,10 @@ use Rattle.ttp_world.specs.Returning.{has_arm, returns, is_sound}
 use Rattle.ttp_world.specs.Safety.{newest_slot, is_settled, members_of_node, has_left}
 use Rattle.ttp_world.specs.Script.{IsValidScript}
 use Rattle.ttp_world.specs.Starts.{StartsAlone}
-use Rattle.ttp_world.specs.World.{SlotNumbers, Numbers, world}
+use Rattle.ttp_world.specs.World.{SlotNumbers, Numbers, node_past, world}
 use Rattle.ttp_world.proofs.LegalRuns.{legal-whole, legal-none}
 use Rattle.ttp_world.proofs.LegalShapes.{legal-older}
+use Rattle.ttp_world.proofs.Worlds.{length-world}
 use Rattle.fault_plan.proofs.KeptPlan.{kept-plan}
 use Rattle.back_plan.proofs.Returned.{returned-by_plan}
 use Rattle.safety_laws.proofs.StartSlot.{first_due}
@@ -35,7 +37,7 @@ use Rattle.safety_laws.proofs.Waiting.{WaitAll, WaitAll-world}
 use Rattle.safety.proofs.Kept.{kept-safe}
 use Rattle.rejoin.proofs.Returned.{returned-safe}
 use Rattle.campaign.specs.Cost.{is_kept, is_owed, says_yes, says_yes_if, faulty_by_test, faulty_if, is_hurt_in, is_hurt}
-use Rattle.campaign.specs.Cost.{is_firm, firm_members, each_once, memberships, has_two, is_split, split_span}
+use Rattle.campaign.specs.Cost.{hurt_nodes, is_firm, firm_members, each_once, memberships, has_two, is_split, split_span}
 use Rattle.campaign.specs.Cost.{span_after, cost_of}
 use Rattle.campaign.specs.declared.cost.Cost.{Cost}
 use Rattle.campaign.specs.ZerosWorld.{zeros_world}

@@ -6,7 +6,7 @@
 //! of two nodes as a whole.
 #![tactic(auto, unfolding(ttp_base::specs::NodeSet::with_node, ttp_base::specs::NodeSet::members_in, ttp_world::specs::Trace::digits))]
 
-ghost use Rattle.std.specs.Prelude.{◌≡◌, codes, pos};
+ghost use Rattle.std.specs.Prelude.{◌≡◌, codes, map, pos, negsuc};
 ghost use Rattle.ttp_world.specs.declared.script.Event.TheVariants as event;
 ghost use Rattle.ttp_world.specs.declared.script.Fault.TheVariants as fault;
 ghost use Rattle.campaign.specs.Lines.{own_line, run_line, summary, campaign_lines};

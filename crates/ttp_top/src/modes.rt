@@ -1,5 +1,5 @@
 //! The command `modes MEDL SCRIPT TRACE`.
-ghost use Rattle.std.specs.Prelude.{Some, IsTrue};
+ghost use Rattle.std.specs.Prelude.{◌≡◌, Some, IsTrue};
 ghost use Rattle.ttp_world.specs.Medl.{IsValid};
 ghost use Rattle.ttp_world.specs.Script.{IsValidScript};
 ghost use Rattle.trace_check.specs.Answer.{is_trace};

@@ -1,5 +1,5 @@
 //! The five tests of safety with armed nodes.
-ghost use Rattle.std.specs.Prelude.{◌≡◌, [], ◌∷◌, true, false, None, Some};
+ghost use Rattle.std.specs.Prelude.{◌≡◌, [], ◌∷◌, true, false, None, Some, nat_le};
 ghost use Rattle.ttp_world.specs.declared.node.Entry.TheVariants as entry;
 ghost use Rattle.ttp_world.specs.BackSafety.{IsBackSafe, back_correct_nodes, has_sent_in_stint, back_senders};
 ghost use Rattle.ttp_world.specs.BackSafety.{newest_arm, has_left_since_arm, back_members_agree};

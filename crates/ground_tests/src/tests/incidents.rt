@@ -1,5 +1,5 @@
 //! What happens to nodes in slots at the edges of events, worked out by hand.
-ghost use Rattle.std.specs.Prelude.{◌≡◌, ◌+◌, ◌<◌, ◌≤◌, length, All, IfOk, []};
+ghost use Rattle.std.specs.Prelude.{◌≡◌, ℕ, ◌+◌, ◌<◌, ◌≤◌, length, All, IfOk, ◌∷◌, []};
 ghost use Rattle.ttp_world.specs.Events.{IsBounded};
 
 use std::alloc::Global;

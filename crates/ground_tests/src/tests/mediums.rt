@@ -1,4 +1,5 @@
 //! What a third node hears of two others by the faults of each kind, worked out by hand.
+ghost use Rattle.std.specs.Prelude.{◌≡◌, ◌≤◌, All, IfOk, length};
 ghost use Rattle.ttp_world.specs.Events.{IsBounded};
 
 use medium::{Arrival, Medium, Outgoing};
