@@ -60,21 +60,31 @@ fn campaigns_are_the_described_ones(rt: HostRuntime) -> Result<(), Fail> {
 fn files_that_are_refused_are_told(rt: HostRuntime) -> Result<(), Fail> {
     let words = ["campaign", "list", "script", "22", "22"];
     // The list, the script, the status and the line.
-    let rows: [(&str, &str, u8, &str); 6] = [
-        ("", "", 3, "list: missing version\n"),
-        ("?", QUIET, 3, "list: not toml\n"),
-        (LIST, "", 4, "script: line 1 no slots\n"),
-        (LIST, "slots 45\non 5 0\n", 4, "script: line 2 no node\n"),
-        (LIST, "slots 45\non 0 45\n", 4, "script: line 2 range\n"),
+    let rows: [(&[&str], &[&str], u8, &str); 6] = [
+        (&[], &[], 3, "list: missing version\n"),
+        (&["?"], &[QUIET], 3, "list: not toml\n"),
+        (&[LIST], &[], 4, "script: line 1 no slots\n"),
         (
-            LIST,
-            "slots 45\nwrite 0 0 00\n",
+            &[LIST],
+            &["slots 45\non 5 0\n"],
+            4,
+            "script: line 2 no node\n",
+        ),
+        (
+            &[LIST],
+            &["slots 45\non 0 45\n"],
+            4,
+            "script: line 2 range\n",
+        ),
+        (
+            &[LIST],
+            &["slots 45\nwrite 0 0 00\n"],
             4,
             "script: line 2 no data\n",
         ),
     ];
     for (list, script, status, line) in rows {
-        let files: [(&str, &[&str]); 2] = [("list", &[list]), ("script", &[script])];
+        let files = [("list", list), ("script", script)];
         gives(&rt, &call_of(&words, &files), status, &[line])?;
     }
     Ok(())
