@@ -1,8 +1,8 @@
 #!/usr/bin/env python3
 """Times `ttplab campaign` on one processor and on four, beside `ttpbench run` of the same cluster.
 
-The one cluster has 8 nodes and 100 slots, and the faults of its slots 32 to 83 are tried; the other has 24 nodes and 48
-slots, and those of all slots are, 18,432 at most. Both have no drift, and node 0 starts them. For each it prints the runs
+The one cluster has 8 nodes and 100 slots, and the faults of its slots 32 to 83 are tried; the other has 24 nodes and 240
+slots, and those of slots 96 to 143 are, 18,432 of them. Both have no drift, and node 0 starts them. For each it prints the runs
 of a campaign, and how long they took by the clock and how long processors were at work, by the least of some runs on one
 processor and on four (as many as there are, if fewer); how many more runs four made by the clock; what a run cost beside
 one of `run` with the trace to /dev/null, which is taken from a longer script of the same cluster; and the most memory that
@@ -22,7 +22,7 @@ from runs import list_text, processor_seconds_of, program, script_text, written
 
 LAB = os.path.join(TOP, "crates", "ttplab", "out", "ttplab")
 # Nodes, slots, the first slot of faults and the last.
-CAMPAIGNS = ((8, 100, 32, 83), (24, 48, 0, 47))
+CAMPAIGNS = ((8, 100, 32, 83), (24, 240, 96, 143))
 TIMES = 3
 # So many slots more tell what a slot of `run` costs.
 LONG = 5_000
