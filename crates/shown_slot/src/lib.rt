@@ -11,7 +11,6 @@
 mod host;
 mod node;
 mod text;
-mod word;
 
 pub use host::{Message, Port, What, message_of};
 pub use node::{
@@ -19,4 +18,4 @@ pub use node::{
     left_bits, sender_among, sends,
 };
 pub use text::{back_text, head_text, keep_text};
-pub use word::word_text;
+pub use whole_trace::word_text;

@@ -5,6 +5,7 @@ pub mod Telling
 pub mod Puts
 pub mod Binary
 pub mod Hosts
+pub mod Held
 pub mod HostLines
 pub mod Tables
 pub mod Noting
@@ -12,3 +13,4 @@ pub mod PortLists
 pub mod Going
 pub mod LaterSlots
 pub mod WaveParts
+pub mod Counts

@@ -1,6 +1,8 @@
 //! The changes of the variables of a cluster and of its nodes, written.
-ghost use Rattle.std.specs.Prelude.{◌≡◌, ◌<◌, ◌≤◌, ℕ, [], ◌∷◌, length, option_map, IfSome, IsTrue, OnOk, OnErr};
+ghost use Rattle.std.specs.Prelude.{◌≡◌, ◌<◌, ◌≤◌, ℕ, [], ◌∷◌, length, Some, option_map, IfSome, IsTrue, OnOk, OnErr};
 ghost use Rattle.ttp_base.specs.Outside.{WroteLines, CutShort};
+ghost use Rattle.wave_text.specs.declared.variable.NodeVariable.TheVariants as of_node;
+ghost use Rattle.wave_text.specs.Moment.{DiffersInCounts};
 ghost use Rattle.wave_text.specs.Values.{cluster_value, node_value};
 ghost use Rattle.wave_text.specs.Variables.{cluster_letter, node_letter, node_code};
 ghost use Rattle.wave_text.specs.Wave.{change_line, change_lines, changes_by, cluster_changes, node_changes};
@@ -8,6 +10,7 @@ ghost use Rattle.wave_text.specs.Wave.{change_line, change_lines, changes_by, cl
 use crate::draft::Draft;
 use crate::value::{put_cluster_value, put_node_value};
 use crate::variable::{CLUSTER_VARIABLES, ClusterVariable, NODE_VARIABLES, NodeVariable};
+use shown_slot::{active_bits, is_active, left_bits};
 use ttp_base::{Failed, Sink};
 use whole_trace::NodeShown;
 
@@ -77,8 +80,23 @@ pub(crate) fn cluster_letter(variable: ClusterVariable) -> &'static str
     }
 }
 
-// Writes the change of a variable of the cluster.
-fn put_cluster_change<K: Sink>(
+// Whether a variable of the cluster has the same value for sure, since what it is read from is the same. Only of sets of
+// nodes this is asked, whose texts are long.
+fn is_kept_by_all(variable: ClusterVariable, before: &[NodeShown], now: &[NodeShown]) -> bool
+    requires now { length now.now ≤ 24 }
+    requires before { length before.now ≤ 24 }
+    ensures { IsTrue result
+        → (width : ℕ) → cluster_value width variable before.now ≡ cluster_value width variable now.now }
+{
+    match variable {
+        ClusterVariable::Active => active_bits(before) == active_bits(now),
+        ClusterVariable::Leaving => left_bits(before) == left_bits(now),
+        _ => false,
+    }
+}
+
+// Writes the change of a variable of the cluster, by the texts of its values.
+fn put_cluster_texts<K: Sink>(
     width: u8,
     variable: ClusterVariable,
     before: Option<&[NodeShown]>,
@@ -107,6 +125,33 @@ fn put_cluster_change<K: Sink>(
             put_change(&mut drafts.now, Some(drafts.before.bytes()), code, out)
         }
     }
+}
+
+// Writes the change of a variable of the cluster.
+fn put_cluster_change<K: Sink>(
+    width: u8,
+    variable: ClusterVariable,
+    before: Option<&[NodeShown]>,
+    now: &[NodeShown],
+    drafts: &mut Drafts,
+    out: &mut K,
+) -> Result<(), Failed>
+    requires width { width ≤ 24 }
+    requires now { length now.now ≤ 24 }
+    requires before { IfSome before (λ nodes. length nodes.now ≤ 24) }
+    ensures ok { OnOk result (WroteLines (K.output out.old) (K.output out.new)
+        (changes_by (cluster_value width variable) (cluster_letter variable) (option_map (λ nodes. nodes.now) before.entry)
+        now.now)) }
+    ensures failed { OnErr result (CutShort (K.output out.old) (K.output out.new)
+        (changes_by (cluster_value width variable) (cluster_letter variable) (option_map (λ nodes. nodes.now) before.entry)
+        now.now)) }
+{
+    if let Some(before) = before {
+        if is_kept_by_all(variable, before, now) {
+            return Ok(());
+        }
+    }
+    put_cluster_texts(width, variable, before, now, drafts, out)
 }
 
 /// Writes the changes of the cluster's variables.
@@ -157,21 +202,41 @@ pub(crate) fn node_code(variable: NodeVariable, node: u8) -> [u8; 2]
     [node_letter(variable), b'A' + node]
 }
 
+// Whether a variable of a node whose word is the same has the same value for sure.
+fn is_kept_by_word(variable: NodeVariable, before: &NodeShown, now: &NodeShown) -> bool
+    requires { before.now.word ≡ now.now.word }
+    ensures { IsTrue result → (width : ℕ) → node_value width variable before.now ≡ node_value width variable now.now }
+{
+    match variable {
+        NodeVariable::Sends | NodeVariable::Phase | NodeVariable::Word => true,
+        NodeVariable::Peer => before.peer == now.peer,
+        NodeVariable::Message => before.message == now.message,
+        NodeVariable::Members => before.members.bits() == now.members.bits(),
+        NodeVariable::Accepted => before.accepted == now.accepted,
+        NodeVariable::Rejected => before.rejected == now.rejected,
+        NodeVariable::Ack => before.ack == now.ack,
+        NodeVariable::Clock => before.offset == now.offset,
+    }
+}
+
+// Whether two lines show the same members for sure: both nodes are active and hold the same, or do so by the same word.
+#[tactic(auto, using(crate::proofs::Held::held_by_active))]
+fn show_same_members(before: &NodeShown, now: &NodeShown) -> bool
+    ensures { IsTrue result
+        → (width : ℕ) → node_value width of_node.Members before.now ≡ node_value width of_node.Members now.now }
+{
+    before.members.bits() == now.members.bits()
+        && (before.word == now.word || (is_active(before.word) && is_active(now.word)))
+}
+
 // Whether a variable of a node has the same value for sure, since what it is read from is the same.
 fn is_kept(variable: NodeVariable, before: &NodeShown, now: &NodeShown) -> bool
     ensures { IsTrue result → (width : ℕ) → node_value width variable before.now ≡ node_value width variable now.now }
 {
-    before.word == now.word
-        && match variable {
-            NodeVariable::Sends | NodeVariable::Phase | NodeVariable::Word => true,
-            NodeVariable::Peer => before.peer == now.peer,
-            NodeVariable::Message => before.message == now.message,
-            NodeVariable::Members => before.members.bits() == now.members.bits(),
-            NodeVariable::Accepted => before.accepted == now.accepted,
-            NodeVariable::Rejected => before.rejected == now.rejected,
-            NodeVariable::Ack => before.ack == now.ack,
-            NodeVariable::Clock => before.offset == now.offset,
-        }
+    match variable {
+        NodeVariable::Members => show_same_members(before, now),
+        variable => before.word == now.word && is_kept_by_word(variable, before, now),
+    }
 }
 
 // Writes the change of a variable of a node, by the texts of its values.
@@ -233,8 +298,8 @@ fn put_node_change<K: Sink>(
     put_node_texts(width, variable, node, before, now, drafts, out)
 }
 
-/// Writes the changes of a node's variables.
-pub(crate) fn put_node_changes<K: Sink>(
+// Writes the changes of a node's variables, one after another.
+fn put_each_change<K: Sink>(
     width: u8,
     node: u8,
     before: Option<&NodeShown>,
@@ -253,4 +318,77 @@ pub(crate) fn put_node_changes<K: Sink>(
         put_node_change(width, *variable, node, before, now, drafts, out)?;
     }
     Ok(())
+}
+
+// Whether lines show the same of a node but for its peer and the frames that it accepted.
+fn differ_in_counts(before: &NodeShown, now: &NodeShown) -> bool
+    ensures { IsTrue result → DiffersInCounts before.now now.now }
+{
+    before.word == now.word
+        && before.message == now.message
+        && before.members.bits() == now.members.bits()
+        && before.rejected == now.rejected
+        && before.ack == now.ack
+        && before.offset == now.offset
+}
+
+// Writes the changes of a node's variables where no others can have changed.
+fn put_counts<K: Sink>(
+    width: u8,
+    node: u8,
+    before: &NodeShown,
+    now: &NodeShown,
+    drafts: &mut Drafts,
+    out: &mut K,
+) -> Result<(), Failed>
+    requires width { width ≤ 24 }
+    requires node { node < 24 }
+    requires counts { DiffersInCounts before.now now.now }
+    ensures ok { OnOk result (WroteLines (K.output out.old) (K.output out.new)
+        (node_changes width node (Some before.now) now.now)) }
+    ensures failed { OnErr result (CutShort (K.output out.old) (K.output out.new)
+        (node_changes width node (Some before.now) now.now)) }
+{
+    put_node_change(
+        width,
+        NodeVariable::Peer,
+        node,
+        Some(before),
+        now,
+        drafts,
+        out,
+    )?;
+    put_node_change(
+        width,
+        NodeVariable::Accepted,
+        node,
+        Some(before),
+        now,
+        drafts,
+        out,
+    )
+}
+
+/// Writes the changes of a node's variables.
+pub(crate) fn put_node_changes<K: Sink>(
+    width: u8,
+    node: u8,
+    before: Option<&NodeShown>,
+    now: &NodeShown,
+    drafts: &mut Drafts,
+    out: &mut K,
+) -> Result<(), Failed>
+    requires width { width ≤ 24 }
+    requires node { node < 24 }
+    ensures ok { OnOk result (WroteLines (K.output out.old) (K.output out.new)
+        (node_changes width node (option_map (λ shown. shown.now) before.entry) now.now)) }
+    ensures failed { OnErr result (CutShort (K.output out.old) (K.output out.new)
+        (node_changes width node (option_map (λ shown. shown.now) before.entry) now.now)) }
+{
+    if let Some(before) = before {
+        if differ_in_counts(before, now) {
+            return put_counts(width, node, before, now, drafts, out);
+        }
+    }
+    put_each_change(width, node, before, now, drafts, out)
 }

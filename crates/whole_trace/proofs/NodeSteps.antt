@@ -21,7 +21,7 @@ use Rattle.whole_trace.specs.Steps.{IsStep, is_taken, GoesOn, node_due, behind_n
 use Rattle.whole_trace.specs.Steps.{are_few, is_between, is_host_line, IsHostPlace, IsHostStep, IsSlotPlace}
 use Rattle.whole_trace.specs.Whole.{due_behind, one_line_later, judged_behind, judged, with_line, with_value, with_node, with_node_line}
 use Rattle.whole_trace.specs.Whole.{SlotLines, SlotsFrom, value_of, slots_from}
-use Rattle.whole_trace.proofs.Texts.{cut-front, rest-shorter, text-some}
+use Rattle.whole_trace.proofs.Texts.{cut-front, rest-shorter}
 
 -- Any line.
 
@@ -117,16 +117,15 @@ node-step at then text rest t j w peer message wide members accepted rejected a 
 
 -- a text begins with a line that is due
 pub due-step : (head : Head) (slot k : ℕ) (text front rest : List ℕ) (v : TraceLine) (then : Due)
-    → get_or (lines_of text) 0 [] ≡ front → drop 1 (lines_of text) ≡ lines_of rest → value_of front ≡ Some v
-    → is_node_line head slot k v ≡ true → then ≡ next_node head slot k → IsStep (due.Node head slot k) text v then rest
-due-step head slot k text front rest v then first others value is next =
-    let cut = cut-front text front rest first others (text-some text front v first value) in record {
-      line = front;
-      cut = cut;
-      value = value;
-      next = rw is (ap (λ (d : Due). Some d) (sym next));
-      shorter = rest-shorter text front rest v cut value;
-    }
+    → lines_of text ≡ front ∷ lines_of rest → value_of front ≡ Some v → is_node_line head slot k v ≡ true
+    → then ≡ next_node head slot k → IsStep (due.Node head slot k) text v then rest
+due-step head slot k text front rest v then cut value is next = record {
+  line = front;
+  cut = cut;
+  value = value;
+  next = rw is (ap (λ (d : Due). Some d) (sym next));
+  shorter = rest-shorter text front rest v cut value;
+}
 
 -- where the line of a node is due in a trace, one stands
 pub node-stands : (head : Head) (slot k : ℕ) (text front rest : List ℕ) → get_or (lines_of text) 0 [] ≡ front

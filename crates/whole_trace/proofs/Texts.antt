@@ -10,11 +10,11 @@ use Rattle.std.proofs.lemmas.List.Sums.{position_or_len_is}
 use Rattle.memchr.specs.Find.{IsFirstByte, is_byte}
 use Rattle.ttp_base.specs.Text.{Lines, newline, is_newline, before_lines, lines_of}
 use Rattle.line_reader.specs.declared.trace_line.TraceLine.{TraceLine}
-use Rattle.line_reader.specs.declared.trace_line.TraceLine.TheVariants as line
 use Rattle.line_reader.specs.declared.trace_line.NodeLine.{NodeLine}
 use Rattle.line_reader.specs.Reading.{or_else, line_in, node_in, read_in, write_in, head_in, kept_in, broken_in, owed_in, refused_in}
 use Rattle.line_text.proofs.Cuts.{concat-lines_of}
 use Rattle.line_text.proofs.FirstLines.{IsCut, cut-Some, cut-None}
+use Rattle.whole_trace.specs.Alike.{said_by}
 use Rattle.whole_trace.specs.Whole.{value_of}
 
 uncons : (lines : Lines) → 0 < length lines → lines ≡ get_or lines 0 [] ∷ drop 1 lines
@@ -75,11 +75,6 @@ cut-no_feed text nowhere =
     cut-None text (grind (arith, nat_tests))
 
 -- The line of a node.
-
--- what the line of a node says, as a line
-abbrev pub said_by : NodeLine → TraceLine
-said_by n =
-    line.Node n.slot n.node n.word n.peer n.message n.wide n.members n.accepted n.rejected n.ack n.offset
 
 -- what is read as the line of a node is what the line says
 pub node-said : (text : List ℕ) (o : Option NodeLine) → bytes_eq (drop (length text - 1) text) newline ≡ true

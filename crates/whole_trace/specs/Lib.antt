@@ -1,3 +1,4 @@
+pub mod Alike
 pub mod Due
 pub mod Steps
 pub mod Whole

@@ -1,5 +1,5 @@
 -- One line more of a text, and the places from which a text is gone over again.
-use Rattle.std.specs.Prelude.{ℕ, ◌+◌, ◌≡◌, ◌<◌, ◌≤◌, ◌==◌, nat_le, nat_lt, Bool, true, false, ◌&&◌, List, ◌∷◌, length, Some}
+use Rattle.std.specs.Prelude.{ℕ, ◌+◌, ◌≡◌, ◌<◌, ◌≤◌, ◌==◌, nat_le, nat_lt, Bool, true, false, ◌&&◌, List, ◌∷◌, ◌++◌, length, Some, codes, decimal}
 use Rattle.std.specs.Prelude.{Result, Ok, Err, IsTrue}
 use Rattle.ttp_base.specs.NodeSet.{most_nodes}
 use Rattle.ttp_base.specs.Text.{Lines, lines_of}
@@ -45,6 +45,10 @@ abbrev pub is_host_line : TraceLine → Bool
 is_host_line (line.Write slot host number) = true
 is_host_line (line.Read slot host from number payload) = true
 is_host_line _ = false
+
+-- what the lines of hosts in a slot begin with
+abbrev pub host_front : ℕ → List ℕ
+host_front slot = codes "slot " ++ decimal slot ++ codes " host "
 
 -- behind the nodes' lines of a slot
 pub record IsHostPlace (due : Due) (lines : Lines) : Type 0 where

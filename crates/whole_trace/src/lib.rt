@@ -9,12 +9,15 @@
 //! does not know.
 #![tactic(auto)]
 
+mod alike;
 mod due;
 mod place;
 mod shown;
 mod slots;
 mod whole;
+mod word;
 
 pub use shown::{Head, HostLine, NodeShown};
 pub use slots::{Hosts, SlotShown, Slots};
 pub use whole::{Whole, read_whole};
+pub use word::word_text;

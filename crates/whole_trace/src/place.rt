@@ -5,9 +5,11 @@ ghost use Rattle.line_reader.specs.declared.trace_line.TraceLine.{TraceLine as L
 ghost use Rattle.line_reader.specs.declared.trace_line.TraceLine.TheVariants as said;
 ghost use Rattle.whole_trace.specs.declared.due.Due.TheVariants as due;
 ghost use Rattle.whole_trace.specs.declared.shown.NodeShown.{NodeShown as Shown};
+ghost use Rattle.whole_trace.specs.Alike.{said_by, IsNodeFront};
 ghost use Rattle.whole_trace.specs.Steps.{IsStep, GoesOn, IsNodeStep};
 ghost use Rattle.whole_trace.specs.Whole.{value_of, judged};
 
+use crate::alike::Alike;
 use crate::due::{Due, due_after, is_due_node, next_node};
 use crate::shown::{Head, NodeShown};
 use line_reader::{NodeLine, TraceLine, read_line, read_node_line};
@@ -54,10 +56,9 @@ fn value_of(line: &[u8]) -> Option<TraceLine>
     }
 }
 
-// What the line of a node says, its line feed with it, if it is one.
-fn node_value_of(text: &[u8]) -> Option<NodeLine>
-    ensures { IfSome result (λ n. value_of text.now ≡ Some (said.Node n.slot n.node n.word n.peer n.message n.wide n.members
-        n.accepted n.rejected n.ack n.offset)) }
+// What the line of a node says, its line feed with it, if it is one. It is read word by word.
+fn words_of(text: &[u8]) -> Option<NodeLine>
+    ensures { IfSome result (λ n. value_of text.now ≡ Some (said_by n)) }
 {
     if text.is_empty() {
         return None;
@@ -70,19 +71,35 @@ fn node_value_of(text: &[u8]) -> Option<NodeLine>
     }
 }
 
-/// What the line of a node says, and the place behind it, where it is the first line that is left and is due. This is
-/// [`Place::next`] for these lines, which are most of a trace, with less to move.
-pub(crate) fn due_node<'a>(
+// What the first line of a text says, if it is that of a node, and what follows it. It is read word by word where it is
+// not made of the pieces of the newest line.
+fn node_in_front<'a>(text: &'a [u8], alike: &mut Alike) -> Option<(NodeLine, &'a [u8])>
+    ensures { IfSome result (λ r. IsNodeFront text.now r.0 r.1.now) }
+{
+    if let Some(found) = alike.read(text) {
+        return Some(found);
+    }
+    let (line, behind) = cut_line(text);
+    let node = words_of(line)?;
+    alike.note(&node);
+    Some((node, behind))
+}
+
+// What the line of a node says, and the place behind it, where it is the first line that is left and is due. This is
+// `Place::next` for these lines, which are most of a trace, with less to move.
+fn due_node<'a>(
     head: Head,
     slot: u32,
     node: u8,
     rest: &'a [u8],
+    alike: &mut Alike,
 ) -> Option<(NodeShown, Place<'a>)>
     ensures step { IfSome result (λ r. (v : Line) × IsStep (due.Node head slot node) rest.now v r.1.due r.1.rest.now) }
     ensures node { IfSome result (λ r. IsNodeStep (due.Node head slot node) rest.now r.0 r.1.due r.1.rest.now) }
 {
-    let (line, behind) = cut_line(rest);
-    let value = node_value_of(line)?;
+    let Some((value, behind)) = node_in_front(rest, alike) else {
+        return None;
+    };
     if !is_due_node(&head, slot, node, &value) {
         return None;
     }
@@ -103,23 +120,62 @@ pub(crate) fn due_node<'a>(
     Some((shown, place))
 }
 
+// The same of the first line of the next slot, where no line of a host comes before it.
+fn later_node<'a>(
+    head: Head,
+    slot: u32,
+    has_read: bool,
+    rest: &'a [u8],
+    alike: &mut Alike,
+) -> Option<(NodeShown, Place<'a>)>
+    ensures step { IfSome result (λ r. (v : Line) × IsStep (due.Host head slot has_read) rest.now v r.1.due r.1.rest.now) }
+    ensures node { IfSome result (λ r. IsNodeStep (due.Host head slot has_read) rest.now r.0 r.1.due r.1.rest.now) }
+{
+    if head.slots <= slot {
+        return None;
+    }
+    if head.slots <= slot + 1 {
+        return None;
+    }
+    match due_node(head, slot + 1, 0, rest, alike) {
+        Some(found) => Some(found),
+        None => None,
+    }
+}
+
 impl<'a> Place<'a> {
+    /// What the line of a node says, and the place behind it, where it is the first line that is left and is due.
+    #[inline(always)]
+    pub(crate) fn next_shown(self, alike: &mut Alike) -> Option<(NodeShown, Place<'a>)>
+        ensures step { IfSome result (λ r. (v : Line) × IsStep self.entry.due self.entry.rest.now v r.1.due r.1.rest.now) }
+        ensures node { IfSome result (λ r. IsNodeStep self.entry.due self.entry.rest.now r.0 r.1.due r.1.rest.now) }
+    {
+        match self.due {
+            Due::Node { head, slot, node } => due_node(head, slot, node, self.rest, alike),
+            Due::Host {
+                head,
+                slot,
+                has_read,
+            } => later_node(head, slot, has_read, self.rest, alike),
+            _ => None,
+        }
+    }
+
     /// The place behind the first line that is left, if it is due.
-    pub(crate) fn behind_next(self) -> Option<Place<'a>>
+    pub(crate) fn behind_next(self, alike: &mut Alike) -> Option<Place<'a>>
         ensures some { IfSome result (λ p. (v : Line) × IsStep self.entry.due self.entry.rest.now v p.due p.rest.now) }
         ensures none { IsNone result → 0 < length self.entry.rest.now
             → judged self.entry.due (lines_of self.entry.rest.now) ≡ Err 1 }
     {
-        if let Due::Node { head, slot, node } = self.due {
-            if let Some((_, behind)) = due_node(head, slot, node, self.rest) {
-                return Some(behind);
-            }
+        if let Some((_, behind)) = self.next_shown(alike) {
+            return Some(behind);
         }
         let Step { behind, .. } = self.next()?;
         Some(behind)
     }
 
-    /// The first line that is left, if it is due.
+    /// The first line that is left, if it is due. It stands apart, since its values are large and few lines need it.
+    #[inline(never)]
     pub(crate) fn next(self) -> Option<Step<'a>>
         ensures some { IfSome result (λ s. IsStep self.entry.due self.entry.rest.now s.line s.behind.due s.behind.rest.now) }
         ensures none { IsNone result → 0 < length self.entry.rest.now

@@ -1,17 +1,44 @@
 //! The slots of a trace, one after another.
-ghost use Rattle.std.specs.Prelude.{◌≡◌, ◌∷◌, ◌≤◌, [], length, IfSome, IsNone, IsTrue};
+ghost use Rattle.std.specs.Prelude.{◌≡◌, ◌∷◌, ◌≤◌, [], length, is_some, IfSome, IsNone, IsTrue};
 ghost use Rattle.ttp_base.specs.Text.{lines_of};
-ghost use Rattle.whole_trace.specs.Steps.{GoesOn, is_node, IsHostPlace, IsHostStep, IsInSlot, IsNodeStep, IsSlotPlace};
+ghost use Rattle.line_text.specs.Labels.{after_label};
+ghost use Rattle.whole_trace.specs.Steps.{GoesOn, host_front, is_node, IsHostPlace, IsHostStep, IsInSlot, IsNodeStep, IsSlotPlace};
 ghost use Rattle.whole_trace.specs.Whole.{SlotLines, slots_from, with_node};
 
+use crate::alike::Alike;
 use crate::due::Due;
-use crate::place::{Place, Step, behind_node, due_node};
+use crate::place::{Place, Step, behind_node};
 use crate::shown::{HostLine, NodeShown};
 use line_reader::TraceLine;
+use line_text::after_label;
 use std::marker::Model;
+use ttp_base::Line;
 
 // The most nodes of a trace.
 const MOST_NODES: usize = 24;
+
+// Whether a text may begin with the line of a host in this slot.
+#[tactic(auto, using(ttp_base::proofs::Room::room))]
+fn may_be_host(slot: u32, text: &[u8]) -> bool
+    ensures { result ≡ is_some (after_label (host_front slot) text.now) }
+{
+    let mut front = Line::new();
+    front.put_text("slot ");
+    front.put_number(u64::from(slot));
+    front.put_text(" host ");
+    after_label(front.bytes(), text).is_some()
+}
+
+// Whether no line of a host comes next, by what the lines of hosts begin with.
+fn is_past_hosts(at: &Place) -> bool
+    ensures { IsTrue result → GoesOn at.now.due (lines_of at.now.rest.now)
+        → (slots_from (lines_of at.now.rest.now)).front.hosts ≡ [] }
+{
+    match at.due {
+        Due::Host { slot, .. } => !may_be_host(slot, at.rest),
+        _ => false,
+    }
+}
 
 /// The lines of hosts in a slot that are still to come. Contracts see it as the list of them.
 #[derive(Drop)]
@@ -39,6 +66,9 @@ impl<'a> Hosts<'a> {
         ensures some { IfSome result (λ line. self.old ≡ line ∷ self.new) }
         ensures none { IsNone result → self.old ≡ [] }
     {
+        if is_past_hosts(&self.at) {
+            return None;
+        }
         let Step { line, behind } = self.at.next()?;
         match line {
             TraceLine::Write { host, number, .. } => {
@@ -108,17 +138,16 @@ impl<'a> SlotShown<'a> {
 }
 
 // The next line of a node, behind lines of hosts.
-fn next_node<'a>(at: Place<'a>) -> Option<(NodeShown, Place<'a>)>
+#[inline(always)]
+fn next_node<'a>(at: Place<'a>, alike: &mut Alike) -> Option<(NodeShown, Place<'a>)>
     ensures some { IfSome result (λ r. IsNodeStep at.entry.due at.entry.rest.now r.0 r.1.due r.1.rest.now) }
     ensures node { IsNone result → IsTrue (is_node at.entry.due) → ¬ (GoesOn at.entry.due (lines_of at.entry.rest.now)) }
     ensures none { IsNone result → IsSlotPlace at.entry.due (lines_of at.entry.rest.now)
         → (slots_from (lines_of at.entry.rest.now)).front.hosts ≡ []
         → (slots_from (lines_of at.entry.rest.now)).slots ≡ [] }
 {
-    if let Due::Node { head, slot, node } = at.due {
-        if let Some(found) = due_node(head, slot, node, at.rest) {
-            return Some(found);
-        }
+    if let Some(found) = at.next_shown(alike) {
+        return Some(found);
     }
     let Step { line, behind } = at.next()?;
     match line {
@@ -150,7 +179,11 @@ fn next_node<'a>(at: Place<'a>) -> Option<(NodeShown, Place<'a>)>
 }
 
 // The lines of a slot, from behind that of node 0, and the place behind those of its nodes.
-fn shown_from<'a>(first: NodeShown, from: Place<'a>) -> (SlotShown<'a>, Place<'a>)
+fn shown_from<'a>(
+    first: NodeShown,
+    from: Place<'a>,
+    alike: &mut Alike,
+) -> (SlotShown<'a>, Place<'a>)
     requires { IsInSlot 1 from.due (lines_of from.rest.now) }
     ensures slot { result.0 ≡ with_node first (slots_from (lines_of from.entry.rest.now)).front }
     ensures others { (slots_from (lines_of result.1.rest.now)).slots ≡ (slots_from (lines_of from.entry.rest.now)).slots }
@@ -160,7 +193,7 @@ fn shown_from<'a>(first: NodeShown, from: Place<'a>) -> (SlotShown<'a>, Place<'a
     let mut count = 1;
     let mut at = from;
     while let Due::Node { .. } = at.due {
-        match next_node(at) {
+        match next_node(at, alike) {
             Some((node, behind)) => {
                 nodes[count] = node;
                 count += 1;
@@ -193,6 +226,9 @@ fn behind_host<'a>(at: Place<'a>) -> Option<Place<'a>>
     ensures none { IsNone result → IsSlotPlace at.entry.due (lines_of at.entry.rest.now)
         → (slots_from (lines_of at.entry.rest.now)).front.hosts ≡ [] }
 {
+    if is_past_hosts(&at) {
+        return None;
+    }
     let Step { line, behind } = at.next()?;
     match line {
         TraceLine::Write { .. } | TraceLine::Read { .. } => Some(behind),
@@ -218,6 +254,7 @@ fn behind_hosts<'a>(from: Place<'a>) -> Place<'a>
 #[derive(Drop)]
 pub struct Slots<'a> {
     at: Place<'a>,
+    alike: Alike,
 }
 
 impl<'a> Model for Slots<'a> {
@@ -238,7 +275,10 @@ impl<'a> Slots<'a> {
     pub fn again(&self) -> Slots<'a>
         ensures { result ≡ self.now }
     {
-        Slots { at: self.at }
+        Slots {
+            at: self.at,
+            alike: Alike::new(),
+        }
     }
 
     /// The slots from a place on.
@@ -246,7 +286,10 @@ impl<'a> Slots<'a> {
         requires { IsSlotPlace at.due (lines_of at.rest.now) }
         ensures { result ≡ (slots_from (lines_of at.entry.rest.now)).slots }
     {
-        Slots { at }
+        Slots {
+            at,
+            alike: Alike::new(),
+        }
     }
 
     /// What hosts do in the next slot, if one is left. Of what its nodes do nothing is read but the line of node 0, so
@@ -256,7 +299,7 @@ impl<'a> Slots<'a> {
         ensures none { IsNone result → self.old ≡ [] }
     {
         let at = behind_hosts(self.at);
-        match next_node(at) {
+        match next_node(at, &mut self.alike) {
             Some((_, behind)) => {
                 let hosts = behind_nodes(behind);
                 self.at = hosts;
@@ -272,9 +315,9 @@ impl<'a> Slots<'a> {
         ensures none { IsNone result → self.old ≡ [] }
     {
         let at = behind_hosts(self.at);
-        match next_node(at) {
+        match next_node(at, &mut self.alike) {
             Some((node, behind)) => {
-                let (slot, rest) = shown_from(node, behind);
+                let (slot, rest) = shown_from(node, behind, &mut self.alike);
                 self.at = rest;
                 Some(slot)
             }

@@ -2,6 +2,7 @@
 ghost use Rattle.std.specs.Prelude.{◌≡◌, ◌≤◌, length};
 ghost use Rattle.whole_trace.specs.Whole.{whole_in};
 
+use crate::alike::Alike;
 use crate::due::{Due, Outline, ending};
 use crate::place::{Place, Step};
 use crate::shown::Head;
@@ -84,9 +85,10 @@ pub fn read_whole<'a>(text: &'a [u8]) -> Result<Whole<'a>, u64>
         due: Due::First,
         rest: text,
     };
+    let mut alike = Alike::new();
     let mut passed: u64 = 0;
     while !at.rest.is_empty() {
-        match at.behind_next() {
+        match at.behind_next(&mut alike) {
             Some(behind) => at = behind,
             None => return Err(passed + 1),
         }

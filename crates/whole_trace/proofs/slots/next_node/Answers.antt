@@ -5,9 +5,9 @@ use Rattle.whole_trace.specs.Steps.{IsStep, IsNodeStep}
 use Rattle.whole_trace.proofs.NodeSteps.{node-step}
 use Rattle.whole_trace.proofs.slots.next_node.Goals as goal
 
-pub returns-in-Node-line-clause-some : goal.returns-in-Node-line-clause-some
-returns-in-Node-line-clause-some c =
-    let n = c.in-Node-line in
+pub returns-in-Node-clause-some : goal.returns-in-Node-clause-some
+returns-in-Node-clause-some c =
+    let n = c.in-Node in
     let at = c.args.at in
     let behind = c.in_ok-line.field-0.behind in
     let fits : SFits w64 n.offset = search rules in

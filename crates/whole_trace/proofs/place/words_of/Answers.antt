@@ -3,8 +3,9 @@ use Rattle.std.specs.Prelude.{◌≡◌, ◌-◌, length, take, drop, option_map
 use Rattle.std.specs.Str.{bytes_eq}
 use Rattle.ttp_base.specs.Text.{newline}
 use Rattle.line_reader.specs.Reading.{node_in}
-use Rattle.whole_trace.proofs.Texts.{node-said, said_by}
-use Rattle.whole_trace.proofs.place.node_value_of.Goals as goal
+use Rattle.whole_trace.specs.Alike.{said_by}
+use Rattle.whole_trace.proofs.Texts.{node-said}
+use Rattle.whole_trace.proofs.place.words_of.Goals as goal
 
 pub returns-then-eq : goal.returns-then-eq
 returns-then-eq c =

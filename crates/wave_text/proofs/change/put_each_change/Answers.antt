@@ -7,7 +7,7 @@ use Rattle.std.proofs.Common.{[], arith}
 use Rattle.std.proofs.lemmas.Result.{err_from_is_err_and}
 use Rattle.ttp_base.specs.Outside.{WroteLines, CutShort}
 use Rattle.wave_text.proofs.Puts.{WroteLines-at, CutShort-at}
-use Rattle.wave_text.proofs.change.put_node_changes.Goals as goal
+use Rattle.wave_text.proofs.change.put_each_change.Goals as goal
 
 pub returns-in_err-put_node_change-clause-failed : goal.returns-in_err-put_node_change-clause-failed
 returns-in_err-put_node_change-clause-failed g c =

@@ -5,7 +5,7 @@ use Rattle.ttp_base.specs.Outside.{WroteLines}
 use Rattle.wave_text.specs.Values.{node_value}
 use Rattle.wave_text.specs.Variables.{node_code, node_variables}
 use Rattle.wave_text.specs.Wave.{changes_by}
-use Rattle.wave_text.proofs.change.put_node_changes.Given as goal
+use Rattle.wave_text.proofs.change.put_each_change.Given as goal
 
 -- the changes so far were written
 abbrev pub invariant-loop-variable : goal.invariant-loop-variable

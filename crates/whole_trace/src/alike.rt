@@ -1,0 +1,264 @@
+//! Lines of nodes that say nearly the same as one before.
+ghost use Rattle.std.specs.Prelude.{◌≡◌, ◌+◌, ◌*◌, ◌<◌, ◌≤◌, [], ◌∷◌, ◌++◌, length, None, Some, IfSome, decimal};
+ghost use Rattle.std.specs.Fmt.{signed_decimal};
+ghost use Rattle.ttp_base.specs.NodeSet.{set_bits};
+ghost use Rattle.ttp_base.specs.Text.{newline, hex};
+ghost use Rattle.ttp_world.specs.Medl.{member_bytes};
+ghost use Rattle.ttp_world.specs.Trace.{number_or_dash, ack_word};
+ghost use Rattle.line_text.specs.LineParts.{head_text, ack_text};
+ghost use Rattle.line_reader.specs.Reading.{offset_in};
+ghost use Rattle.line_reader.specs.TraceLines.{Fits, FitsMembers, FitsOffset};
+ghost use Rattle.whole_trace.specs.Alike.{said_by, judged_text, IsNodeFront};
+
+use crate::word::word_text;
+use line_reader::{NodeLine, Word};
+use line_text::{after_label, cut_line, numeral_in};
+use std::marker::Model;
+use ttp_base::{Line, NodeSet};
+use ttp_world::Ack;
+
+// The most digits of an offset.
+const OFFSET_DIGITS: usize = 18;
+
+/// The newest line of a node that was read word by word, if there is one, and the pieces of it that the lines of other
+/// nodes mostly share: in a slot they say the same but for their numbers, the frames that they accepted, and their clocks.
+/// Of such a line these are read, and the pieces are compared. Contracts see it as what the newest line says.
+///
+/// It takes no memory.
+#[derive(Drop)]
+pub(crate) struct Alike {
+    newest: Option<NodeLine>,
+    // What the lines of the slot begin with.
+    head: Line,
+    // What stands behind the node's number, up to the frames that it accepted.
+    judged: Line,
+    // And what stands behind these, up to its clock.
+    behind: Line,
+}
+
+impl Model for Alike {
+    ghost use Rattle.std.specs.Prelude.{Option};
+    ghost use Rattle.line_reader.specs.declared.trace_line.NodeLine.{NodeLine};
+    ghost use Rattle.whole_trace.specs.Alike.{HavePieces};
+
+    ghost Value = { Option NodeLine };
+
+    ghost view = { λ a. a.newest };
+
+    ghost invariant = { λ a. HavePieces a.newest a.head a.judged a.behind };
+}
+
+#[tactic(auto, using(ttp_base::proofs::Room::room))]
+fn put_head(line: &mut Line, slot: u32)
+    requires { length line.old ≤ 600 }
+    ensures { line.new ≡ line.old ++ head_text slot }
+{
+    line.put_text("slot ");
+    line.put_number(u64::from(slot));
+    line.put_text(" node ");
+}
+
+#[tactic(auto, using(ttp_base::proofs::Room::room))]
+fn put_number_or_dash(line: &mut Line, number: Option<u64>)
+    requires { length line.old + 20 ≤ 640 }
+    ensures text { line.new ≡ line.old ++ number_or_dash number }
+    ensures short { length line.new ≤ length line.old + 20 }
+{
+    match number {
+        Some(number) => line.put_number(number),
+        None => line.put_text("-"),
+    }
+}
+
+// Adds members in six digits or in four.
+#[tactic(auto, using(ttp_base::proofs::Room::room))]
+fn put_members(line: &mut Line, wide: bool, members: NodeSet)
+    requires room { length line.old + 20 ≤ 640 }
+    requires fits { FitsMembers (member_bytes wide) members }
+    ensures text { line.new ≡ line.old ++ hex (2 * member_bytes wide) (set_bits members) }
+    ensures short { length line.new ≤ length line.old + 6 }
+{
+    if wide {
+        line.put_hex(u64::from(members.bits()), 6);
+    } else {
+        line.put_hex(u64::from(members.bits()), 4);
+    }
+}
+
+// Adds what stands between a node's number and the frames that it accepted.
+#[tactic(auto, using(ttp_base::proofs::Room::room))]
+fn put_judged(line: &mut Line, node: &NodeLine)
+    requires room { length line.old ≤ 400 }
+    requires fits { Fits (said_by node.now) }
+    ensures { line.new ≡ line.old ++ judged_text node.now }
+{
+    line.put_text(" ");
+    line.put_text(word_text(node.word));
+    line.put_text(" peer ");
+    put_number_or_dash(line, node.peer.map(u64::from));
+    line.put_text(" msg ");
+    put_number_or_dash(line, node.message);
+    line.put_text(" mem ");
+    put_members(line, node.wide, node.members);
+    line.put_text(" acc ");
+}
+
+#[tactic(auto, using(ttp_base::proofs::Room::room))]
+fn put_ack_word(line: &mut Line, ack: Ack)
+    requires { length line.old + 30 ≤ 640 }
+    ensures text { line.new ≡ line.old ++ ack_word ack }
+    ensures short { length line.new ≤ length line.old + 30 }
+{
+    match ack {
+        Ack::Closed => line.put_text("none"),
+        Ack::First => line.put_text("first"),
+        Ack::Doubt(successor) => {
+            line.put_text("doubt:");
+            line.put_number(u64::from(successor));
+        }
+    }
+}
+
+// Adds what stands between the frames that a node accepted and its clock.
+#[tactic(auto, using(ttp_base::proofs::Room::room))]
+fn put_behind(line: &mut Line, node: &NodeLine)
+    requires { length line.old ≤ 400 }
+    ensures { line.new ≡ line.old ++ ack_text node.now.rejected node.now.ack }
+{
+    line.put_text(" rej ");
+    line.put_number(u64::from(node.rejected));
+    line.put_text(" ack ");
+    put_ack_word(line, node.ack);
+    line.put_text(" clock ");
+}
+
+// A digit at the front of bytes, and what follows it.
+fn digit_in_front(bytes: &[u8]) -> Option<(u8, &[u8])>
+    ensures { IfSome result (λ r. (bytes.now ≡ (48 + r.0) ∷ r.1.now) × (r.0 < 10)) }
+{
+    match bytes {
+        [digit, rest @ ..] => {
+            if *digit < b'0' || b'9' < *digit {
+                return None;
+            }
+            Some((*digit - b'0', rest))
+        }
+        [] => None,
+    }
+}
+
+// A number of one digit or of two at the front of bytes, and what follows it.
+#[tactic(auto, using(crate::proofs::Pieces::one_digit, crate::proofs::Pieces::two_digits))]
+fn number_in_front(bytes: &[u8]) -> Option<(u8, &[u8])>
+    ensures { IfSome result (λ r. (bytes.now ≡ decimal r.0 ++ r.1.now) × (r.0 < 100)) }
+{
+    let (high, rest) = digit_in_front(bytes)?;
+    match digit_in_front(rest) {
+        Some((low, behind)) => {
+            if high == 0 {
+                return None;
+            }
+            Some((10 * high + low, behind))
+        }
+        None => Some((high, rest)),
+    }
+}
+
+// A number with a `-` before a negative one.
+#[tactic(auto, unfolding(line_reader::specs::Reading::offset_in))]
+fn offset_in(word: &[u8]) -> Option<i64>
+    ensures { result ≡ offset_in word.now }
+{
+    if let Some(b'-') = word.first() {
+        let number = numeral_in(&word[1..], OFFSET_DIGITS)?;
+        return if number == 0 {
+            None
+        } else {
+            Some(-(number as i64))
+        };
+    }
+    let number = numeral_in(word, OFFSET_DIGITS)?;
+    Some(number as i64)
+}
+
+// A clock, with the line feed behind it.
+fn clock_in(bytes: &[u8]) -> Option<i64>
+    ensures { IfSome result (λ z. (bytes.now ≡ signed_decimal z ++ newline) × FitsOffset z) }
+{
+    if bytes.is_empty() {
+        return None;
+    }
+    let (word, end) = bytes.split_at(bytes.len() - 1);
+    if end[0] == b'\n' {
+        offset_in(word)
+    } else {
+        None
+    }
+}
+
+impl Alike {
+    /// With no line yet.
+    pub(crate) fn new() -> Alike
+        ensures { result ≡ None }
+    {
+        Alike {
+            newest: None,
+            head: Line::new(),
+            judged: Line::new(),
+            behind: Line::new(),
+        }
+    }
+
+    /// What the line of a node at the front of a text says, and what follows it there, where its pieces are those of the
+    /// newest line. Of such a line the end is not looked for.
+    pub(crate) fn read<'a>(&self, text: &'a [u8]) -> Option<(NodeLine, &'a [u8])>
+        ensures { IfSome result (λ r. IsNodeFront text.now r.0 r.1.now) }
+    {
+        let newest = self.newest?;
+        let rest = after_label(self.head.bytes(), text)?;
+        let (node, rest) = number_in_front(rest)?;
+        let rest = after_label(self.judged.bytes(), rest)?;
+        let (accepted, rest) = number_in_front(rest)?;
+        let rest = after_label(self.behind.bytes(), rest)?;
+        let (last, behind) = cut_line(rest);
+        let offset = clock_in(last)?;
+        let node = NodeLine {
+            slot: newest.slot,
+            node,
+            word: newest.word,
+            peer: newest.peer,
+            message: newest.message,
+            wide: newest.wide,
+            members: newest.members,
+            accepted,
+            rejected: newest.rejected,
+            ack: newest.ack,
+            offset,
+        };
+        Some((node, behind))
+    }
+
+    // Keeps the pieces of a line.
+    fn keep(&mut self, node: &NodeLine)
+        requires { Fits (said_by node.now) }
+        ensures { self.new ≡ Some node.now }
+    {
+        self.head.clear();
+        put_head(&mut self.head, node.slot);
+        self.judged.clear();
+        put_judged(&mut self.judged, node);
+        self.behind.clear();
+        put_behind(&mut self.behind, node);
+        self.newest = Some(*node);
+    }
+
+    /// Takes a line that was read word by word. That of a sender is not kept, since no other one in its slot is like it.
+    pub(crate) fn note(&mut self, node: &NodeLine)
+        requires { Fits (said_by node.now) }
+    {
+        match node.word {
+            Word::Send => {}
+            _ => self.keep(node),
+        }
+    }
+}
