@@ -2,3 +2,5 @@ pub mod Alike
 pub mod Calm
 pub mod Yes
 pub mod Kept
+pub mod NoYes
+pub mod SafeLines

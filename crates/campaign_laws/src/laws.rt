@@ -1,5 +1,5 @@
 //! The laws of the lines of a campaign. The functions do nothing; their contracts are the laws.
-ghost use Rattle.std.specs.Prelude.{◌≡◌, ℕ, ◌<◌, [], None, map, length, IsTrue};
+ghost use Rattle.std.specs.Prelude.{◌≡◌, ℕ, ◌<◌, [], None, map, length, All, IsTrue};
 ghost use Rattle.ttp_world.specs.declared.script.TheConstants.{EVENT_LIMIT};
 ghost use Rattle.ttp_world.specs.Diary.{History};
 ghost use Rattle.ttp_world.specs.Legal.{IsLegalRun};
@@ -8,8 +8,9 @@ ghost use Rattle.ttp_world.specs.Script.{IsValidScript};
 ghost use Rattle.ttp_world.specs.World.{Numbers, world};
 ghost use Rattle.campaign.specs.declared.cost.Cost.{Cost};
 ghost use Rattle.campaign.specs.Cost.{says_yes};
-ghost use Rattle.campaign.specs.Lines.{summary, summary_of, summary_with, kept_counts};
+ghost use Rattle.campaign.specs.Lines.{summary, summary_of, summary_with, kept_counts, campaign_lines};
 ghost use Rattle.campaign.specs.Tried.{faults_from};
+ghost use Rattle.campaign_laws.specs.SafeLines.{IsSafeLine};
 
 use ttp_world::{Medl, Script};
 
@@ -52,4 +53,15 @@ pub fn kept_is_safe(list: &Medl, script: &Script)
     ensures split { (own : Cost) (history : History) (first last : ℕ)
         → (kept_counts list.now own (map (summary_with list.now script.now)
         (faults_from list.now script.now history first last))).split ≡ 0 }
+{}
+
+/// So each line of a campaign in which the test says yes has the words `hurt - split - -`, and the line `kept`
+/// has `hurt 0 split 0`: of the text as it is read, line by line. The script is to have room for one event more.
+///
+/// It does nothing, and takes no memory.
+pub fn lines_are_safe(list: &Medl, script: &Script)
+    requires valid { IsValid list.now }
+    requires script { IsValidScript list.now script.now }
+    requires room { length script.now.events < EVENT_LIMIT }
+    ensures { (first last : ℕ) → All IsSafeLine (campaign_lines list.now script.now first last) }
 {}

@@ -1,6 +1,6 @@
 -- Those who were hurt are told in the order of the nodes.
 use Rattle.std.proofs.Common.{◌≡◌, ℕ, ◌<◌, ◌≤◌, Bool, true, false, ◌&&◌, ◌||◌, ltb, List, [], ◌∷◌, length, inl, inr}
-use Rattle.std.proofs.Common.{refl, ap, ◌∙◌, arith}
+use Rattle.std.proofs.Common.{refl, ap, sym, subst, ◌∙◌, arith}
 use Rattle.std.specs.Prelude.{◌==◌, filter}
 use Rattle.std.specs.List.{AllByRecursion}
 use Rattle.std.proofs.lemmas.Bool.{and_right, cases_lt, lt-ltb, le-ltb, ne_eqb}
@@ -13,7 +13,10 @@ use Rattle.ttp_world.specs.declared.script.Script.{Script}
 use Rattle.ttp_world.specs.Diary.{History}
 use Rattle.ttp_world.specs.Medl.{IsValid}
 use Rattle.ttp_world.proofs.Lists.{nodes-most}
+use Rattle.campaign.specs.declared.cost.Cost.{Cost}
 use Rattle.campaign.specs.Cost.{is_hurt, hurt_nodes}
+use Rattle.campaign.specs.Lines.{summary}
+use Rattle.campaign.specs.ZerosWorld.{zeros_world}
 use Rattle.campaign_text.specs.Listing.{in_order}
 
 none-past : (n j : ℕ) (ks : List ℕ) → AllByRecursion (λ k. k < n) ks → n ≤ j → has_node ks j ≡ false
@@ -37,7 +40,14 @@ in_order-sieve p n fits =
           ∙ and_right (p j) (has_node (below n) j) (none-past n j (below n) (below-lt n) past))
     ]
 
-pub in_order-hurt : (list : Medl) (script : Script) (history : History) → IsValid list
+in_order-hurt : (list : Medl) (script : Script) (history : History) → IsValid list
     → in_order (hurt_nodes list script history) ≡ hurt_nodes list script history
 in_order-hurt list script history valid =
     in_order-sieve (is_hurt list script history) (length list.slots) (nodes-most list valid)
+
+-- those of a run's cost
+pub cost-ordered : (list : Medl) (script : Script) (cost : Cost) → IsValid list → cost ≡ (summary list script).cost
+    → in_order cost.hurt ≡ cost.hurt
+cost-ordered list script cost valid are =
+    subst (λ (told : Cost). in_order told.hurt ≡ told.hurt) (sym are)
+    (in_order-hurt list script (zeros_world list script script.slots) valid)

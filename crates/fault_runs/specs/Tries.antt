@@ -1,5 +1,5 @@
 -- The runs of faults, as they are told before they are counted.
-use Rattle.std.specs.Prelude.{◌≡◌, ◌<◌, length, List, map}
+use Rattle.std.specs.Prelude.{◌≡◌, ℕ, ◌<◌, length, List, map}
 use Rattle.ttp_base.specs.Text.{Lines}
 use Rattle.ttp_world.specs.declared.medl.Medl.{Medl}
 use Rattle.ttp_world.specs.declared.script.Event.{Event}
@@ -9,8 +9,16 @@ use Rattle.ttp_world.specs.Medl.{IsValid}
 use Rattle.ttp_world.specs.Script.{IsValidScript}
 use Rattle.campaign.specs.CostText.{cost_words}
 use Rattle.campaign.specs.Lines.{summary, summary_with, run_line, is_same_cost}
+use Rattle.run_costs.specs.declared.seen_run.SeenRun.{SeenRun}
+use Rattle.run_costs.specs.Standing.{IsSeenAfter}
+use Rattle.fault_runs.specs.declared.own.OwnRun.{OwnRun}
 use Rattle.fault_runs.specs.declared.tried.Common.{Common}
 use Rattle.fault_runs.specs.declared.tried.Tried.{Tried}
+
+-- the script's own run has done so many slots, and what it was before stands beside it
+pub record IsOwnAfter (own : OwnRun) (list : Medl) (script : Script) (slots : ℕ) : Type 0 where
+  pub run : IsSeenAfter own.run list script slots
+  pub before : IsSeenAfter own.before list script own.before.slots
 
 -- the script may be run with one fault more, and the words of what its own run costs are there
 pub record MayTry (common : Common) : Type 0 where
@@ -18,6 +26,10 @@ pub record MayTry (common : Common) : Type 0 where
   pub script : IsValidScript common.list.now common.script.now
   pub room : length common.script.now.events < EVENT_LIMIT
   pub own : common.own.now ≡ cost_words common.list.now (summary common.list.now common.script.now).cost
+
+-- a run by that script, as far as it has come
+abbrev pub IsPastOf : Common → SeenRun → Type 0
+IsPastOf common run = IsSeenAfter run common.list.now common.script.now run.slots
 
 -- what is told of the run with a fault
 abbrev pub tried_of : Medl → Script → Event → Tried

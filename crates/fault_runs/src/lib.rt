@@ -8,10 +8,12 @@
 //! ```
 //!
 //! The runs of a slot's faults are made side by side, in as many threads as are asked for. What is written is
-//! the same for any number of threads. Each run goes from slot 0 to the script's last one. The crate keeps no
-//! run but the script's own, and forgets the lines of a slot once they are written.
+//! the same for any number of threads. The slots before a fault are those of the script's own run, and each run
+//! goes on from there to the script's last slot. The crate keeps no run but the script's own, as it is and as it
+//! was before the newest slot, and forgets the lines of a slot once they are written.
 #![tactic(auto, using(ttp_world::proofs::Lists::nodes))]
 
+mod own;
 mod put;
 mod tally;
 mod tried;

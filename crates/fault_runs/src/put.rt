@@ -12,17 +12,17 @@ ghost use Rattle.campaign.specs.Lines.{Summary, campaign_lines};
 ghost use Rattle.campaign.specs.declared.cost.Cost.{Cost};
 ghost use Rattle.campaign.specs.ZerosWorld.{zeros_world};
 ghost use Rattle.seen_costs.specs.States.{AreShown};
-ghost use Rattle.run_costs.specs.Standing.{IsRunAfter};
 ghost use Rattle.fault_runs.specs.declared.put.CampaignFault.TheVariants as fault;
 ghost use Rattle.fault_runs.specs.Ends.{LeftBy, LeftFewerBy, WroteFewer};
 ghost use Rattle.fault_runs.specs.Runs.{tried_in, tried_before, entries_of, fault_lines, front_lines, end_lines};
 ghost use Rattle.fault_runs.specs.Runs.{most_tried, HasAtMost, AreCountsOf, IsTallyOf};
-ghost use Rattle.fault_runs.specs.Tries.{MayTry, tried_of, tried_lines};
+ghost use Rattle.fault_runs.specs.Tries.{MayTry, IsOwnAfter, tried_of, tried_lines};
 
+use crate::own::OwnRun;
 use crate::tally::Tally;
 use crate::tried::{Common, Tried, form_words, try_beside};
 use campaign_text::Text;
-use run_costs::Run;
+use run_costs::cost_of;
 use single_faults::faults_in;
 use std::alloc::Global;
 use std::thread::Threads;
@@ -152,16 +152,16 @@ fn put_slot<R: Threads + Sync, K: Sink>(
     first: u32,
     last: u32,
     threads: usize,
-    own: &mut Run,
+    own: &mut OwnRun,
     slot: u32,
     tally: &mut Tally,
     out: &mut K,
 ) -> Result<(), CampaignFault>
     requires may { MayTry common.now }
     requires slot { slot < common.now.script.now.slots }
-    requires run { IsRunAfter own.old common.now.list.now common.now.script.now slot }
+    requires run { IsOwnAfter own.old common.now.list.now common.now.script.now slot }
     requires few { HasAtMost (most_tried * slot) tally.old }
-    ensures run { IsRunAfter own.new common.now.list.now common.now.script.now (slot + 1) }
+    ensures run { IsOwnAfter own.new common.now.list.now common.now.script.now (slot + 1) }
     ensures told { (before : Items Event) → IsTallyOf common.now.list.now common.now.script.now before tally.old
         → OnOk result (IsTallyOf common.now.list.now common.now.script.now
         (before ++ tried_in common.now.list.now common.now.script.now first last slot) tally.new) }
@@ -178,7 +178,7 @@ fn put_slot<R: Threads + Sync, K: Sink>(
     let Ok(faults) = tried_in(alloc, list, script, first, last, own.states(list), slot) else {
         return Err(CampaignFault::Memory);
     };
-    let Ok(all) = try_beside(rt, alloc, common, faults.as_slice(), threads) else {
+    let Ok(all) = try_beside(rt, alloc, common, &own.before, faults.as_slice(), threads) else {
         return Err(CampaignFault::Memory);
     };
     put_all(all.as_slice(), slot, tally, out)
@@ -192,12 +192,12 @@ fn put_slots<R: Threads + Sync, K: Sink>(
     first: u32,
     last: u32,
     threads: usize,
-    own: &mut Run,
+    own: &mut OwnRun,
     tally: &mut Tally,
     out: &mut K,
 ) -> Result<(), CampaignFault>
     requires may { MayTry common.now }
-    requires run { IsRunAfter own.old common.now.list.now common.now.script.now 0 }
+    requires run { IsOwnAfter own.old common.now.list.now common.now.script.now 0 }
     requires few { HasAtMost 0 tally.old }
     requires told { IsTallyOf common.now.list.now common.now.script.now [] tally.old }
     ensures told { OnOk result (IsTallyOf common.now.list.now common.now.script.now
@@ -263,11 +263,11 @@ fn put_end<K: Sink>(tally: &mut Tally, out: &mut K) -> Result<(), CampaignFault>
 /// Writes the campaign of a script over the slots of a range, each line as one piece. Slots that the script
 /// does not have are passed over.
 ///
-/// A campaign of n lines runs the cluster n times, each time through all slots of the script. The runs of a
-/// slot are made in as many threads as are asked for, rounded up to a power of two; with 0 or 1 they are made
-/// in this one, and [`crate::processors`] says how many are of use. What is written is the same. Between two
-/// slots it keeps what is shown of the nodes in the script's own run; the lines of a slot are held until all of
-/// its runs were made.
+/// A campaign of n lines runs the cluster n times, each time from the slot of the fault to the script's last one;
+/// the slots before are run once. The test of each script goes over all slots. The runs of a slot are made in as
+/// many threads as are asked for, rounded up to a power of two; with 0 or 1 they are made in this one, and
+/// [`crate::processors`] says how many are of use. What is written is the same. Between two slots it keeps the
+/// script's own run; the lines of a slot are held until all of its runs were made.
 ///
 /// # Errors
 ///
@@ -296,10 +296,13 @@ pub fn put_campaign<R: Threads + Sync, K: Sink>(
 {
     let mut words = Text::new(alloc);
     let mut tally = Tally::new(alloc);
-    let Ok(mut own) = Run::new(alloc, list) else {
+    let Ok(mut own) = OwnRun::new(alloc, list, script) else {
         return Err(CampaignFault::Memory);
     };
-    let Ok(_) = form_words(alloc, list, script, &mut words) else {
+    let Ok(cost) = cost_of(alloc, list, script) else {
+        return Err(CampaignFault::Memory);
+    };
+    let Ok(()) = form_words(list, &cost, &mut words) else {
         return Err(CampaignFault::Memory);
     };
     let common = Common {

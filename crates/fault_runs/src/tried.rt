@@ -4,13 +4,14 @@ ghost use Rattle.std.specs.Thread.{IsSync};
 ghost use Rattle.ttp_world.specs.Medl.{IsValid};
 ghost use Rattle.ttp_world.specs.Script.{IsValidScript};
 ghost use Rattle.campaign.specs.CostText.{cost_words};
-ghost use Rattle.campaign.specs.Lines.{summary};
+ghost use Rattle.campaign_text.specs.Listing.{in_order};
 ghost use Rattle.single_faults.specs.Tried.{MayStand};
-ghost use Rattle.fault_runs.specs.Tries.{MayTry, tried_of};
+ghost use Rattle.run_costs.specs.Standing.{IsRunOfList};
+ghost use Rattle.fault_runs.specs.Tries.{MayTry, IsPastOf, tried_of};
 
 use campaign::Cost;
 use campaign_text::{Text, put_cost, put_run};
-use run_costs::cost_of;
+use run_costs::{SeenRun, cost_from};
 use single_faults::laws::more_is_valid;
 use single_faults::with_fault;
 use std::alloc::Global;
@@ -37,35 +38,40 @@ pub(crate) struct Tried {
     pub(crate) is_same: bool,
 }
 
-/// What the run of a script costs, with its words in place of those that were there.
-pub(crate) fn form_words(
-    alloc: Global,
-    list: &Medl,
-    script: &Script,
-    words: &mut Text,
-) -> Result<Cost, Memory>
+/// The words of a cost, in place of those that were there.
+pub(crate) fn form_words(list: &Medl, cost: &Cost, words: &mut Text) -> Result<(), Memory>
     requires valid { IsValid list.now }
-    requires script { IsValidScript list.now script.now }
-    ensures cost { IfOk result (λ cost. cost ≡ (summary list.now script.now).cost) }
-    ensures words { OnOk result (words.new ≡ cost_words list.now (summary list.now script.now).cost) }
+    requires hurt { in_order cost.now.hurt ≡ cost.now.hurt }
+    ensures { OnOk result (words.new ≡ cost_words list.now cost.now) }
 {
-    let cost = cost_of(alloc, list, script)?;
     words.clear();
-    put_cost(words, list, &cost)?;
-    Ok(cost)
+    put_cost(words, list, cost)
 }
 
-// The run of a fault.
-fn try_one(alloc: Global, common: &Common, fault: &Event, words: &mut Text) -> Result<Tried, Memory>
+// The run of a fault, by the script's own run as far as it has come. Its cost is formed in `words`, and it is made
+// in `run`.
+fn try_one(
+    alloc: Global,
+    common: &Common,
+    past: &SeenRun,
+    fault: &Event,
+    words: &mut Text,
+    run: &mut SeenRun,
+) -> Result<Tried, Memory>
     requires may { MayTry common.now }
+    requires past { IsPastOf common.now past.now }
     requires fault { MayStand common.now.list.now common.now.script.now fault.now }
-    ensures { IfOk result (λ tried. tried ≡ tried_of common.now.list.now common.now.script.now fault.now) }
+    requires run { IsRunOfList run.old.run common.now.list.now }
+    ensures tried { IfOk result (λ tried. tried ≡ tried_of common.now.list.now common.now.script.now fault.now) }
+    ensures run { OnOk result (IsRunOfList run.new.run common.now.list.now) }
 {
     more_is_valid(common.list, common.script, fault);
     let more = with_fault(alloc, common.script, fault)?;
-    let cost = form_words(alloc, common.list, &more, words)?;
+    let (list, script) = (common.list, common.script);
+    let cost = cost_from(alloc, list, script, fault, &more, past, run)?;
+    form_words(list, &cost, words)?;
     let mut line = Text::new(alloc);
-    let yes = put_run(&mut line, common.list, &more, fault, words.bytes())?;
+    let yes = put_run(&mut line, list, &more, fault, words.bytes())?;
     let is_same = common.own == words.bytes();
     Ok(Tried {
         line,
@@ -76,51 +82,64 @@ fn try_one(alloc: Global, common: &Common, fault: &Event, words: &mut Text) -> R
 }
 
 // Those of some faults, one after another.
-fn try_each(alloc: Global, common: &Common, faults: &[Event]) -> Result<Vec<Tried>, Memory>
+fn try_each(
+    alloc: Global,
+    common: &Common,
+    past: &SeenRun,
+    faults: &[Event],
+) -> Result<Vec<Tried>, Memory>
     requires may { MayTry common.now }
+    requires past { IsPastOf common.now past.now }
     requires faults { All (MayStand common.now.list.now common.now.script.now) faults.now }
     ensures { IfOk result (λ all. all.items ≡ map (tried_of common.now.list.now common.now.script.now) faults.now) }
 {
-    let mut words = Text::new(alloc);
     let mut all = Vec::new(alloc);
+    if faults.is_empty() {
+        return Ok(all);
+    }
+    let mut words = Text::new(alloc);
+    let mut run = SeenRun::new(alloc, common.list, common.script)?;
     for fault in faults {
-        all.push(try_one(alloc, common, fault, &mut words)?)?;
+        all.push(try_one(alloc, common, past, fault, &mut words, &mut run)?)?;
     }
     Ok(all)
 }
 
-/// Those of some faults, in their order. They are halved until there is a part for each of so many threads, and
-/// each part is run in a thread of its own, or in this one where the system gives none.
+/// Those of some faults, in their order, by the script's own run as far as it has come. They are halved until
+/// there is a part for each of so many threads, and each part is run in a thread of its own, or in this one where
+/// the system gives none.
 #[cycle(halves)]
 #[tactic(auto, using(crate::proofs::Tries::halves_tried))]
 pub(crate) fn try_beside<R: Threads + Sync>(
     rt: &R,
     alloc: Global,
     common: &Common,
+    past: &SeenRun,
     faults: &[Event],
     threads: usize,
 ) -> Result<Vec<Tried>, Memory>
     requires may { MayTry common.now }
+    requires past { IsPastOf common.now past.now }
     requires faults { All (MayStand common.now.list.now common.now.script.now) faults.now }
     ensures { IfOk result (λ all. all.items ≡ map (tried_of common.now.list.now common.now.script.now) faults.now) }
 {
     if threads < 2 || faults.len() < 2 {
-        return try_each(alloc, common, faults);
+        return try_each(alloc, common, past, faults);
     }
     let (front, back) = faults.split_at(faults.len() / 2);
     let half = threads - threads / 2;
     let try_front = || -> Result<Vec<Tried>, Memory>
-        requires { IsSync R.row × MayTry common.now
+        requires { IsSync R.row × MayTry common.now × IsPastOf common.now past.now
             × All (MayStand common.now.list.now common.now.script.now) front.now }
         ensures { IfOk result (λ all. all.items
             ≡ map (tried_of common.entry.now.list.now common.entry.now.script.now) front.entry.now) }
-    { try_beside(rt, alloc, common, front, half) };
+    { try_beside(rt, alloc, common, past, front, half) };
     let try_back = || -> Result<Vec<Tried>, Memory>
-        requires { IsSync R.row × MayTry common.now
+        requires { IsSync R.row × MayTry common.now × IsPastOf common.now past.now
             × All (MayStand common.now.list.now common.now.script.now) back.now }
         ensures { IfOk result (λ all. all.items
             ≡ map (tried_of common.entry.now.list.now common.entry.now.script.now) back.entry.now) }
-    { try_beside(rt, alloc, common, back, half) };
+    { try_beside(rt, alloc, common, past, back, half) };
     let (first, second) = join(rt, try_front, try_back);
     let mut all = first?;
     let mut rest = second?;

@@ -23,10 +23,13 @@ use Rattle.commands.proofs.Fronts.{list_from-front, script_from-front}
 use Rattle.commands.proofs.Plans.{AllAsk, all_asked, all_come, both_every, end_comes, told_comes}
 use Rattle.commands.proofs.Promises.{wrote_nothing}
 use Rattle.commands.proofs.Told.{Quiet, told_shows, told_cut, told_leaves}
-use Rattle.lab_top.specs.CampaignPromise.{MayBeBoth, WroteCampaign, BeganCampaign, ToldList, ToldScript, CampaignPromise}
+use Rattle.campaign_laws.proofs.SafeLines.{campaign_lines-safe}
+use Rattle.lab_top.specs.CampaignPromise.{MayBeBoth, WroteCampaign, WroteSafe, BeganCampaign, ToldList, ToldScript}
+use Rattle.lab_top.specs.CampaignPromise.{CampaignPromise}
 use Rattle.lab_top.specs.Forms.{campaign_ending, campaign_plan}
 use Rattle.lab_top.specs.Texts.{begun, LabSets, LabEnding, LabPlan, LabAnswer, ttplab}
 use Rattle.lab_top.specs.ViewPromise.{HoldsText, WroteOrNone}
+use Rattle.lab_top.proofs.Room.{script_of-room}
 
 -- first lines that were written, as the campaign's call leaves them
 fewer : (text : Lines) (before now : Output) → WroteAmong ttplab (those (begun text)) before now
@@ -126,6 +129,19 @@ module _ (list script : List ℕ) (first last : ℕ) (before now : Outside) (ans
         files = may_be_both final.0 came;
         wrote =
             subst (λ (lines : Lines). WroteLines before.output now.output lines) showed.text.among showed.text.wrote;
+      }
+
+  wrote_safe : answer.status ≡ 0 → WroteSafe before now
+  wrote_safe zero =
+      let campaign = wrote_campaign zero in
+      let files = campaign.files in
+      record {
+        lines = campaign_lines campaign.medl campaign.right first last;
+        wrote = campaign.wrote;
+        safe =
+            campaign_lines-safe campaign.medl files.valid campaign.right files.valid_script
+            (script_of-room campaign.medl files.script_bytes campaign.right files.valid files.are.script_size
+            files.are.script) first last;
       }
 
   -- right files that are told
@@ -371,6 +387,7 @@ pub campaign_promise : (list script : List ℕ) (first last : ℕ) (before now :
     → CampaignPromise list script first last before now answer.status
 campaign_promise list script first last before now answer call = record {
   shown = wrote_campaign list script first last before now answer call;
+  safe = wrote_safe list script first last before now answer call;
   no_list = list_refused list script first last before now answer call;
   no_script = script_refused list script first last before now answer call;
   complete = completed list script first last before now answer call;

@@ -1,11 +1,13 @@
 -- The promise of `campaign LIST SCRIPT FIRST LAST` in its own words.
-use Rattle.std.specs.Prelude.{◌≡◌, ◌⊎◌, ℕ, List, [], ◌∷◌, codes, Ok, Err}
+use Rattle.std.specs.Prelude.{◌≡◌, ◌⊎◌, ℕ, List, [], ◌∷◌, All, codes, Ok, Err}
 use Rattle.ttp_base.specs.Outside.{holds, Gives, HasRisen, Wrote, WroteLines, CutShort}
 use Rattle.ttp_world.specs.declared.medl.Medl.{Medl}
 use Rattle.ttp_world.specs.declared.script.Script.{Script}
 use Rattle.ttp_world.specs.Medl.{IsValid}
 use Rattle.ttp_world.specs.Script.{IsValidScript}
+use Rattle.ttp_base.specs.Text.{Lines}
 use Rattle.campaign.specs.Lines.{campaign_lines}
+use Rattle.campaign_laws.specs.SafeLines.{IsSafeLine}
 use Rattle.fault_runs.specs.Ends.{WroteFewer}
 use Rattle.commands.specs.declared.read.FileFault.{FileFault}
 use Rattle.commands.specs.Faults.{fault_line}
@@ -30,6 +32,13 @@ pub record WroteCampaign (list script : List ℕ) (first last : ℕ) (before now
   pub right : Script
   pub files : MayBeBoth list script before medl right
   pub wrote : WroteLines before.output now.output (campaign_lines medl right first last)
+
+-- lines were written, and nothing else; each of them in which the test says yes tells that nobody was hurt and that
+-- memberships were never split, and the one that counts such runs counts none in which that was otherwise
+pub record WroteSafe (before now : Outside) : Type 0 where
+  pub lines : Lines
+  pub wrote : WroteLines before.output now.output lines
+  pub safe : All IsSafeLine lines
 
 -- some of its first lines were written, or none, and never all
 pub record BeganCampaign (list script : List ℕ) (first last : ℕ) (before now : Outside) : Type 0 where
@@ -62,6 +71,8 @@ pub record ToldScript (list script : List ℕ) (before now : Outside) : Type 0 w
 pub record CampaignPromise (list script : List ℕ) (first last : ℕ) (before now : Outside) (status : ℕ) : Type 0 where
   -- Status 0 says that the files are a list and a script, and that exactly their campaign was written.
   pub shown : status ≡ 0 → WroteCampaign list script first last before now
+  -- Of the text that is written with status 0 it says what a yes is worth.
+  pub safe : status ≡ 0 → WroteSafe before now
   -- Status 3 says that the first file is no list, and status 4 that the second is no script for it, and that the line was
   -- written that says what is wrong.
   pub no_list : status ≡ 3 → ToldList list before now

@@ -74,10 +74,10 @@ fn obey<R: Threads + Sync, L: Library, K: Sink>(
 /// The library is asked for the files of the form, each once, in the order of the words, and for a script only
 /// where the list is not refused; for words of no form it is left alone. The text of a trace is held while it is
 /// shown, and gone over a few times; a picture takes no other memory, and a waveform a few bytes for each source
-/// that a host reads. A campaign of n lines runs the cluster n times, through all slots of the script; the
-/// runs of a slot's faults are made side by side in as many threads as there are processors, and their lines
-/// are held until all of them were made. It takes memory for each run, and keeps none of it. Each line is one
-/// piece, so the cost is one write for each line.
+/// that a host reads. A campaign of n lines runs the cluster n times, each from the slot of its fault to the
+/// script's last one; the runs of a slot's faults are made side by side in as many threads as there are
+/// processors, and their lines are held until all of them were made. It takes memory for the runs of a slot, and
+/// keeps none of it. Each line is one piece, so the cost is one write for each line.
 pub fn lab<R: Threads + Sync, L: Library, K: Sink>(
     rt: &R,
     alloc: Global,
@@ -100,7 +100,9 @@ pub fn lab<R: Threads + Sync, L: Library, K: Sink>(
         (outside (L.files library.new) (K.output out.new)) result }
     // For `campaign`, in its own words: status 0 is exactly the campaign of the list and the script that the files hold,
     // and status 3 or 4 the line on a file that is refused. Right files give it, any others their line; with status 6 it
-    // was cut short, and with status 7 nothing is written, or some first lines of it and never all.
+    // was cut short, and with status 7 nothing is written, or some first lines of it and never all. Of the text of
+    // status 0 it says what a yes is worth: in each line whose test says yes nobody was hurt and memberships were never
+    // split, and the line `kept` counts none.
     ensures campaign { (list script : List ℕ) (first last : ℕ)
         → lab_form_of (texts_of words.now) ≡ Some (campaign list script first last)
         → CampaignPromise list script first last (outside (L.files library.old) (K.output out.old))

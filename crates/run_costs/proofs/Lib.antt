@@ -1,2 +1,3 @@
 pub mod Payloads
 pub mod Plants
+pub mod LaterEvents

@@ -14,7 +14,9 @@
 
 mod cost;
 mod run;
+mod seen_run;
 mod zeros;
 
-pub use cost::cost_of;
+pub use cost::{cost_from, cost_of};
 pub use run::Run;
+pub use seen_run::SeenRun;

@@ -48,6 +48,13 @@ fn note_states(plant: &Plant, nodes: u8, states: &mut [NodeState; 24])
     }
 }
 
+// Takes over what is shown of the nodes of another run.
+fn copy_states(to: &mut [NodeState; 24], from: &[NodeState; 24])
+    ensures { to.new ≡ from.now }
+{
+    to.copy_from_slice(from);
+}
+
 impl Run {
     /// The run of a list before its first slot. Only this call takes memory.
     pub fn new(alloc: Global, list: &Medl) -> Result<Run, Memory>
@@ -71,6 +78,16 @@ impl Run {
     {
         self.plant.slot(list, script, self.zeros.as_slice());
         note_states(&self.plant, list.nodes(), &mut self.states);
+    }
+
+    /// Makes it a copy of another run of the same list. It takes no memory.
+    pub fn copy_from(&mut self, other: &Run)
+        requires list { other.now.plant.list ≡ self.old.plant.list }
+        requires zeros { other.now.zeros ≡ self.old.zeros }
+        ensures { self.new ≡ other.now }
+    {
+        self.plant.copy_from(&other.plant);
+        copy_states(&mut self.states, &other.states);
     }
 
     /// What is shown of each node after the newest slot, in the order of the nodes.

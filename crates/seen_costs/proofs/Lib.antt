@@ -1,3 +1,5 @@
 pub mod Distinct
 pub mod Nodes
 pub mod Rows
+pub mod LaterFaults
+pub mod Later

@@ -1,3 +1,4 @@
 pub mod States
 pub mod FaultyAt
 pub mod Told
+pub mod Later

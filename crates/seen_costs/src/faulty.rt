@@ -1,14 +1,17 @@
 //! The faulty nodes of a run, by whichever test its script is put to.
-ghost use Rattle.std.specs.Prelude.{◌+◌, ◌<◌};
+ghost use Rattle.std.specs.Prelude.{◌≡◌, ◌+◌, ◌<◌, ◌≤◌, true};
+ghost use Rattle.ttp_world.specs.declared.script.Script.{Script};
 ghost use Rattle.ttp_world.specs.Medl.{IsValid};
 ghost use Rattle.ttp_world.specs.Script.{IsValidScript};
 ghost use Rattle.hypothesis.specs.Standing.{HaveSameNodes};
 ghost use Rattle.campaign.specs.Cost.{faulty_by_test};
+ghost use Rattle.campaign.specs.Tried.{with_fault};
 ghost use Rattle.seen_costs.specs.FaultyAt.{IsFaultyAt};
+ghost use Rattle.seen_costs.specs.Later.{comes_later, is_loss};
 
 use hypothesis::{BackFaulty, KeptFaulty, has_arm, start_of};
 use ttp_base::NodeSet;
-use ttp_world::{Medl, Script};
+use ttp_world::{Event, Medl, Script};
 
 /// A walk over the slots of a run, which tells who is faulty after each.
 #[derive(Clone, Copy)]
@@ -17,6 +20,13 @@ pub(crate) enum Faulty {
     Nobody,
     Kept(KeptFaulty),
     Back(BackFaulty),
+}
+
+// Whether an event says that frames are lost.
+fn is_loss(event: &Event) -> bool
+    ensures { result ≡ is_loss event.now }
+{
+    matches!(event, Event::Send { .. } | Event::Receive { .. })
 }
 
 impl Faulty {
@@ -46,6 +56,37 @@ impl Faulty {
             Faulty::Nobody => NodeSet::empty(),
             Faulty::Kept(walk) => walk.step(list, script, slot),
             Faulty::Back(walk) => walk.step(list, script, slot),
+        }
+    }
+
+    // Over the first slots, so many.
+    fn after(list: &Medl, script: &Script, slots: u32) -> Faulty
+        requires valid { IsValid list.now }
+        requires script { IsValidScript list.now script.now }
+        requires slots { slots ≤ script.now.slots }
+        ensures { IsFaultyAt list.now script.now slots result }
+    {
+        let mut faulty = Faulty::new(list, script);
+        for slot in 0..slots {
+            faulty.step(list, script, slot);
+        }
+        faulty
+    }
+
+    /// The walk over the same slots by a script with one event more, which comes later. A loss leaves it as
+    /// it is. A jump may be one that no rule allows, and what a walk knows of the jumps is said of all that
+    /// the script has: so the slots are gone over again.
+    pub(crate) fn with_later(&self, list: &Medl, more: &Script, event: &Event, slots: u32) -> Faulty
+        requires valid { IsValid list.now }
+        requires script { IsValidScript list.now more.now }
+        requires slots { slots ≤ more.now.slots }
+        ensures { (script : Script) → more.now ≡ with_fault script event.now → comes_later slots event.now ≡ true
+            → IsFaultyAt list.now script slots self.now → IsFaultyAt list.now more.now slots result }
+    {
+        if is_loss(event) {
+            *self
+        } else {
+            Faulty::after(list, more, slots)
         }
     }
 }

@@ -1,5 +1,5 @@
 //! What was seen of a run so far.
-ghost use Rattle.std.specs.Prelude.{◌≡◌, ◌+◌, ◌<◌, ◌≤◌, [], ◌++◌, ◌||◌, ℕ, Bool, None, length, filter, get_or};
+ghost use Rattle.std.specs.Prelude.{◌≡◌, ◌+◌, ◌<◌, ◌≤◌, [], ◌++◌, ◌||◌, ℕ, Bool, true, None, length, filter, get_or};
 ghost use Rattle.std.specs.Prelude.{IfOk, OnOk};
 ghost use Rattle.std.specs.List.{filter_map, cons_option};
 ghost use Rattle.ttp_base.specs.NodeSet.{below, has_node};
@@ -8,7 +8,9 @@ ghost use Rattle.ttp_world.specs.Medl.{IsValid};
 ghost use Rattle.ttp_world.specs.Returning.{is_sound};
 ghost use Rattle.ttp_world.specs.Script.{IsValidScript};
 ghost use Rattle.campaign.specs.Cost.{cost_of, leave_after, span_with, span_after};
+ghost use Rattle.campaign.specs.Tried.{with_fault};
 ghost use Rattle.campaign.specs.ZerosWorld.{zeros_world};
+ghost use Rattle.seen_costs.specs.Later.{comes_later};
 ghost use Rattle.seen_costs.specs.States.{state_at, AreShown};
 ghost use Rattle.seen_costs.specs.Told.{is_hurt_by, IsSeenOf};
 
@@ -17,7 +19,7 @@ use crate::sets::{are_split, memberships};
 use campaign::{Cost, Leave, Span};
 use std::alloc::Global;
 use ttp_base::{List, Memory, NodeSet};
-use ttp_world::{Entry, Medl, NodeState, Script};
+use ttp_world::{Entry, Event, Medl, NodeState, Script};
 
 /// What was seen of a run so far. It takes no memory.
 #[derive(Clone, Copy)]
@@ -178,6 +180,24 @@ impl SeenCost {
         note_leaves(&mut self.left, states, slot);
         self.hurt = hurt_with(self.hurt, states, correct);
         self.split = span_after(slot, are_split(states, correct), self.split);
+    }
+
+    /// What was seen of the same slots, where the run is that of a script with one event more, which comes
+    /// later. It takes no memory, and for a loss no time; for a jump the faulty nodes of these slots are told
+    /// again.
+    pub fn with_later(&self, list: &Medl, more: &Script, event: &Event, slots: u32) -> SeenCost
+        requires valid { IsValid list.now }
+        requires script { IsValidScript list.now more.now }
+        requires slots { slots ≤ more.now.slots }
+        ensures { (script : Script) → more.now ≡ with_fault script event.now → comes_later slots event.now ≡ true
+            → IsSeenOf list.now script slots self.now → IsSeenOf list.now more.now slots result }
+    {
+        SeenCost {
+            faulty: self.faulty.with_later(list, more, event, slots),
+            left: self.left,
+            hurt: self.hurt,
+            split: self.split,
+        }
     }
 
     /// What the run cost so far, where these are the states after its newest slot.

@@ -1,11 +1,16 @@
 //! `ttplab`: runs one command over real files and standard output, and ends with its status.
 //!
+//! How far a campaign has come is told on standard error.
+//!
 //! Standard output is buffered, and what the buffer holds in the end is handed on before the program
 //! ends; where that fails, the status is 6. Where the system gives no words, it ends with status 8 and
 //! writes nothing; where that is for want of memory, with status 7. The few lines here and the real files
 //! and streams behind them are trusted; the rest is `lab`, which is proved.
 #![tactic(auto)]
 
+mod watched;
+
+use crate::watched::WatchedSink;
 use lab_top::lab;
 use std::env::Env;
 use std::io::BufWriter;
@@ -27,9 +32,9 @@ fn main(rt: HostRuntime) -> ExitCode {
             let Ok(buffered) = buffered else {
                 return ExitCode::from(7);
             };
-            let mut out = StreamSink::new(buffered);
+            let mut out = WatchedSink::new(&rt, StreamSink::new(buffered));
             let status = lab(&rt, rt.alloc(), &words, &mut library, &mut out);
-            ExitCode::from(if out.end().is_ok() { status } else { 6 })
+            ExitCode::from(if out.into_inner().end().is_ok() { status } else { 6 })
         }
         Err(error) if error.kind() == io::ErrorKind::OutOfMemory => ExitCode::from(7),
         Err(_) => ExitCode::from(8),

@@ -6,6 +6,7 @@ use Rattle.fault_runs.specs.declared.put.CampaignFault.{CampaignFault}
 use Rattle.fault_runs.specs.Ends.{LeftFewerBy}
 use Rattle.fault_runs.specs.Runs.{end_lines, tried_before}
 use Rattle.fault_runs.proofs.Endings.{err-cut, err-fewer}
+use Rattle.fault_runs.proofs.Orders.{cost-ordered}
 use Rattle.fault_runs.proofs.Wholes.{none-written, front-left, faults-left, counts-left, all-written}
 use Rattle.fault_runs.proofs.Results.{ok-weaker, err-weaker}
 use Rattle.fault_runs.proofs.put.put_campaign.Goals as goal
@@ -13,6 +14,14 @@ use Rattle.fault_runs.proofs.put.put_campaign.Goals as goal
 pub returns-in_default-clause-memory : goal.returns-in_default-clause-memory
 returns-in_default-clause-memory g c = λ same.
     none-written c.args.list.now c.args.script.now c.args.first c.args.last (g.K.Sink.output c.args.out.now)
+
+pub returns-in_default-cost_of-clause-memory : goal.returns-in_default-cost_of-clause-memory
+returns-in_default-cost_of-clause-memory g c = λ same.
+    none-written c.args.list.now c.args.script.now c.args.first c.args.last (g.K.Sink.output c.args.out.now)
+
+pub form_words-requires-clause-hurt : goal.form_words-requires-clause-hurt
+form_words-requires-clause-hurt g c =
+    cost-ordered c.args.list.now c.args.script.now c.in-Ok-cost_of.cost c.requires.valid c.in-Ok-cost_of.ensures
 
 pub returns-in_default-form_words-clause-memory : goal.returns-in_default-form_words-clause-memory
 returns-in_default-form_words-clause-memory g c = λ same.

@@ -1,13 +1,13 @@
 use Rattle.std.proofs.Common.{◌*◌}
 use Rattle.ttp_base.specs.Outside.{WroteLines}
-use Rattle.run_costs.specs.Standing.{IsRunAfter}
 use Rattle.fault_runs.specs.Runs.{fault_lines, tried_before, most_tried, HasAtMost, IsTallyOf}
+use Rattle.fault_runs.specs.Tries.{IsOwnAfter}
 use Rattle.fault_runs.proofs.put.put_slots.Given as goal
 
 -- the runs of the faults of the slots so far were told and counted
 abbrev pub invariant-loop-slot : goal.invariant-loop-slot
 invariant-loop-slot g l =
-    IsRunAfter l.own l.common.list.now l.common.script.now l.slot
+    IsOwnAfter l.own l.common.list.now l.common.script.now l.slot
     × IsTallyOf l.common.list.now l.common.script.now (tried_before l.common.list.now l.common.script.now l.first l.last l.slot) l.tally
     × HasAtMost (most_tried * l.slot) l.tally
     × WroteLines (g.K.Sink.output l.initial.out) (g.K.Sink.output l.out)

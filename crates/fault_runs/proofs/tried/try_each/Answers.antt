@@ -13,8 +13,10 @@ loop-fault-preserved c =
     let fault = c.fault-item.result in
     let more : take i faults ++ fault ∷ [] ≡ take (i + 1) faults =
     ap (λ (e : Event). take i faults ++ e ∷ []) c.fault-item.is
-    ∙ sym (take_more faults i fault c.loop-fault-test.true) in
-    c.in_ok-push.ensures.items
-    ∙ (λ j. c.loop-fault.invariant j ++ c.in_ok-try_one.ensures j ∷ [])
-    ∙ sym (map-append tried (take i faults) (fault ∷ []))
-    ∙ ap (map tried) more
+    ∙ sym (take_more faults i fault c.loop-fault-test.true) in (
+      c.in_ok-push.ensures.items
+          ∙ (λ j. c.loop-fault.invariant.0 j ++ c.in_ok-try_one.ensures.tried j ∷ [])
+          ∙ sym (map-append tried (take i faults) (fault ∷ []))
+          ∙ ap (map tried) more,
+      c.in_ok-try_one.ensures.run,
+    )
