@@ -1,0 +1,11 @@
+pub mod WordsCut
+pub mod ListsRead
+pub mod CostsRead
+pub mod CostsOfRuns
+pub mod FaultsRead
+pub mod Counted
+pub mod LinesRead
+pub mod RunsRead
+pub mod GoingOn
+pub mod Groups
+pub mod Pieces

@@ -1,0 +1,4 @@
+pub mod CommaLists
+pub mod Lengths
+pub mod LineSteps
+pub mod Rooms

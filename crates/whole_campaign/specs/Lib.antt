@@ -1,0 +1,7 @@
+pub mod Due
+pub mod Faults
+pub mod Own
+pub mod Runs
+pub mod Steps
+pub mod Whole
+pub mod Words
