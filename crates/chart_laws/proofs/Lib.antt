@@ -1,0 +1,10 @@
+pub mod AlikeCharts
+pub mod JoinedRanges
+pub mod Draws
+pub mod PlainWords
+pub mod ChartDraws
+pub mod SlotOrder
+pub mod PlainLines
+pub mod ReadLines
+pub mod CampaignsRead
+pub mod FaultLines

@@ -1,0 +1,48 @@
+-- Texts of a chart that are formed part by part.
+use Rattle.std.proofs.Common.{◌≡◌, ℕ, List, ◌++◌, codes, refl, append_assoc}
+use Rattle.ttp_base.specs.Text.{newline}
+use Rattle.picture_text.specs.Cells.{attribute, title_element}
+use Rattle.picture_text.specs.Picture.{class_of, ended}
+use Rattle.picture_text.proofs.Joined.{cell_in_parts}
+
+-- a wide cell whose places are p and q
+pub wide_cell_parts : (class title p q shown : List ℕ)
+    → codes "<g class=\"" ++ class ++ codes "\"><title>" ++ title
+    ++ (codes "</title><rect" ++ p ++ codes " width=\"19\" height=\"17\"/>" ++ codes "<text" ++ q ++ codes ">") ++ shown
+    ++ (codes "</text></g>" ++ newline)
+    ≡ codes "<g" ++ attribute (codes "class") class ++ codes ">" ++ title_element title
+    ++ codes "<rect" ++ p ++ codes " width=\"19\" height=\"17\"/>"
+    ++ codes "<text" ++ q ++ codes ">" ++ shown ++ codes "</text></g>" ++ newline
+wide_cell_parts class title p q shown =
+    cell_in_parts (codes "<g") (codes " class=\"") class (codes "\"") (codes ">") (codes "<title>") title
+    (codes "</title>") (codes "<rect") p (codes " width=\"19\" height=\"17\"/>") (codes "<text") q (codes ">") shown
+    (codes "</text></g>") newline
+
+-- an upright line
+pole_in_parts : (a b class quote d m x space y v height g n : List ℕ)
+    → (a ++ b) ++ class ++ (quote ++ d ++ m) ++ x ++ space ++ y ++ v ++ height ++ (quote ++ g ++ n)
+    ≡ (a ++ (b ++ class ++ quote) ++ (d ++ (m ++ x ++ space ++ y ++ v ++ height) ++ quote) ++ g) ++ n
+pole_in_parts a b class quote d m x space y v height g n = simp append_assoc refl
+
+pub pole_parts : (class x y height : List ℕ)
+    → codes "<path class=\"" ++ class ++ codes "\" d=\"M" ++ x ++ codes " " ++ y ++ codes "v" ++ height
+    ++ codes "\"/>\n"
+    ≡ ended (codes "<path" ++ class_of class ++ attribute (codes "d") (codes "M" ++ x ++ codes " " ++ y
+    ++ codes "v" ++ height) ++ codes "/>")
+pole_parts class x y height =
+    pole_in_parts (codes "<path") (codes " class=\"") class (codes "\"") (codes " d=\"") (codes "M") x (codes " ") y
+    (codes "v") height (codes "/>") newline
+
+-- the line of what is shown
+pub shown_parts : (front a b c d e f g h i j k m end feed : List ℕ)
+    → front ++ (a ++ b) ++ (c ++ d) ++ (e ++ f) ++ (g ++ h) ++ (i ++ j) ++ k ++ m ++ (end ++ feed)
+    ≡ (front ++ (a ++ b ++ c ++ d ++ e ++ f ++ g ++ h ++ i ++ j ++ k ++ m) ++ end) ++ feed
+shown_parts front a b c d e f g h i j k m end feed = simp append_assoc refl
+
+-- what is told of a slot
+pub told_parts : (o a b c d e : List ℕ) → o ++ a ++ b ++ c ++ d ++ e ≡ o ++ (a ++ b ++ c ++ d ++ e)
+told_parts o a b c d e = simp append_assoc refl
+
+-- the title of a ground
+pub title_parts : (o a b c d e f : List ℕ) → o ++ a ++ (b ++ c) ++ (d ++ e) ++ f ≡ o ++ (a ++ b ++ c ++ d ++ e ++ f)
+title_parts o a b c d e f = simp append_assoc refl

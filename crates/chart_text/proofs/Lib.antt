@@ -1,0 +1,9 @@
+pub mod Places
+pub mod Slots
+pub mod Counting
+pub mod Order
+pub mod Written
+pub mod Joined
+pub mod Taken
+pub mod Worst
+pub mod Whole

@@ -1,0 +1,12 @@
+use Rattle.std.proofs.Common.{◌+◌, ◌++◌, map, codes, decimal}
+use Rattle.ttp_base.specs.NodeSet.{below}
+use Rattle.picture_text.specs.Picture.{row_line}
+use Rattle.picture_text.specs.Sheet.{Puts}
+use Rattle.chart_text.specs.Columns.{chart_y}
+use Rattle.chart_text.proofs.band.put_node_names.Given as goal
+
+-- the names so far were put
+abbrev pub invariant-loop-node : goal.invariant-loop-node
+invariant-loop-node g l =
+    Puts l.fn.sheet.failed (g.K.Sink.output l.fn.out) l.sheet.failed (g.K.Sink.output l.out)
+    (map (λ k. row_line (chart_y l.nodes l.column k + 15) (codes "node " ++ decimal k)) (below l.node))

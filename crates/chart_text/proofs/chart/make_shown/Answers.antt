@@ -1,0 +1,34 @@
+use Rattle.std.proofs.Common.{◌+◌, ◌-◌, ◌++◌, codes, decimal, get_or, length}
+use Rattle.picture_text.specs.Cells.{place}
+use Rattle.ttp_base.specs.Text.{newline}
+use Rattle.chart_text.specs.Chart.{hidden_text}
+use Rattle.chart_text.specs.Steps.{marked_slots}
+use Rattle.chart_text.proofs.Joined.{shown_parts}
+use Rattle.chart_text.proofs.chart.make_shown.Goals as goal
+
+pub returns : goal.returns
+returns c =
+    let shown = marked_slots c.args.marks.now in
+    rw (
+      c.close_text.ensures,
+      c.put_hidden.ensures.text,
+      c.put_number.ensures,
+      c.from-5.ensures,
+      c.put_many-5.ensures.text,
+      c.from-4.ensures,
+      c.put_many-4.ensures.text,
+      c.from-3.ensures,
+      c.put_many-3.ensures.text,
+      c.from-2.ensures,
+      c.put_many-2.ensures.text,
+      c.from.ensures,
+      c.put_many.ensures.text,
+      c.open_text.ensures.text,
+      c.marked_slot-last.ensures,
+      c.marked_slot-first.ensures,
+      c.requires.many,
+    )
+    (shown_parts (codes "<text" ++ place 12 20 ++ codes ">") (decimal c.args.many) (codes " faults, ")
+    (decimal c.args.frame.size.nodes) (codes " nodes, ") (decimal c.args.frame.size.slots) (codes " slots, shown: ")
+    (decimal (length shown)) (codes " of them, ") (decimal (get_or shown 0 0)) (codes " to ")
+    (decimal (get_or shown (length shown - 1) 0)) (hidden_text c.args.hidden) (codes "</text>") newline)

@@ -1,0 +1,30 @@
+use Rattle.std.proofs.Common.{◌∙◌, ◌&&◌, [], ap, ℕ, List, length, map}
+use Rattle.campaign.specs.declared.cost.Counts.{Counts}
+use Rattle.whole_campaign.specs.declared.shown.Piece.{Piece}
+use Rattle.picture_text.specs.Picture.{text_line}
+use Rattle.picture_text.proofs.Pairs.{puts_both, puts_first}
+use Rattle.chart_text.specs.Chart.{chart_front, slots_shown_text, own_lines, counted_lines, counts_sum}
+use Rattle.chart_text.specs.Columns.{chart_height, first_told_slot, is_hidden}
+use Rattle.chart_text.specs.Looks.{does_harm}
+use Rattle.chart_text.specs.Steps.{marked_slots}
+use Rattle.chart_text.proofs.Written.{along}
+use Rattle.chart_text.proofs.chart.put_head.Goals as goal
+
+pub returns-clause-puts : goal.returns-clause-puts
+returns-clause-puts g c =
+    let size = c.args.frame.size in
+    let shown = marked_slots c.args.marks.now in
+    let hidden = c.first_hidden-hidden.ensures
+    ∙ ap (first_told_slot (λ fault. does_harm size fault && is_hidden shown fault)) c.faults.ensures in
+    let kept = c.sums_of.ensures.kept
+    ∙ ap (λ (ps : List Piece). counts_sum (map (λ piece. piece.kept) ps)) c.pieces.ensures in
+    let broken = c.sums_of.ensures.broken
+    ∙ ap (λ (ps : List Piece). counts_sum (map (λ piece. piece.broken) ps)) c.pieces.ensures in
+    puts_both
+    (puts_both
+    (along (ap (chart_front size) (c.chart_height.ensures ∙ ap (chart_height size.nodes) c.requires.shown))
+    c.put_front.ensures)
+    (puts_first
+    (c.make_shown.ensures ∙ (λ i. text_line [] 12 20 (slots_shown_text size shown (c.requires.many i) (hidden i))))
+    c.write.ensures (along (ap own_lines c.own.ensures) c.put_own.ensures.puts)))
+    (along (λ i. counted_lines (kept i) (broken i)) c.put_sums.ensures)

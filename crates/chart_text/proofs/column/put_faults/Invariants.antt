@@ -1,0 +1,28 @@
+use Rattle.std.proofs.Common.{◌≡◌, ◌+◌, ◌≤◌, true, Bool, length}
+use Rattle.std.specs.List.{flat_map}
+use Rattle.ttp_base.specs.Outside.{Output}
+use Rattle.picture_text.specs.Sheet.{Puts}
+use Rattle.chart_text.specs.Column.{faults_told_in, shown_fault}
+use Rattle.chart_text.specs.Steps.{in_order_from, SameFrom, longest_text}
+use Rattle.chart_text.specs.Walks.{IsSlotTally}
+use Rattle.chart_text.proofs.column.put_faults.Given as goal
+
+-- the faults so far were put and counted
+abbrev pub invariant-loop-fault : goal.invariant-loop-fault
+invariant-loop-fault g l =
+    record {
+      puts : (fails : Bool) (now : Output)
+          → Puts l.sheet.failed (g.K.Sink.output l.out) fails now
+          (flat_map (shown_fault l.frame.size l.column.number) (faults_told_in l.column.slot l.ahead))
+          → Puts l.fn.sheet.failed (g.K.Sink.output l.fn.out) fails now
+          (flat_map (shown_fault l.frame.size l.column.number) (faults_told_in l.column.slot l.fn.ahead));
+      tally : IsSlotTally l.frame.size l.tally (faults_told_in l.column.slot l.ahead) (faults_told_in l.column.slot l.fn.ahead);
+      same : SameFrom (l.column.slot + 1) l.fn.ahead l.ahead;
+      order : in_order_from l.column.slot l.ahead ≡ true;
+      few : length l.ahead ≤ length l.fn.ahead;
+      short : longest_text l.ahead ≤ longest_text l.fn.ahead;
+      room : l.buffer.room ≡ l.fn.buffer.room;
+    }
+
+abbrev pub decreases-loop-fault : goal.decreases-loop-fault
+decreases-loop-fault g l = length l.ahead

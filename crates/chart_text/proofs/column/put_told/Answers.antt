@@ -1,0 +1,19 @@
+use Rattle.std.proofs.Common.{◌++◌, codes, decimal}
+use Rattle.std.specs.List.{flat_map}
+use Rattle.ttp_base.specs.NodeSet.{below}
+use Rattle.chart_text.specs.Column.{look_told}
+use Rattle.chart_text.proofs.Joined.{told_parts}
+use Rattle.chart_text.proofs.column.put_told.Goals as goal
+
+pub returns-clause-text : goal.returns-clause-text
+returns-clause-text c =
+    rw (
+      c.put_looks_told.ensures.text,
+      c.put_number-2.ensures,
+      c.put_text-2.ensures,
+      c.put_number.ensures,
+      c.from.ensures,
+      c.put_text.ensures,
+    )
+    (told_parts c.args.line.now (codes "slot ") (decimal c.args.slot) (codes " faults ")
+    (decimal c.args.tally.now.many) (flat_map (look_told c.args.tally.now.counts) (below 9)))

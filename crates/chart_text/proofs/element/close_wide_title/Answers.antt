@@ -1,0 +1,16 @@
+use Rattle.std.proofs.Common.{◌+◌, codes}
+use Rattle.picture_text.specs.Cells.{place}
+use Rattle.picture_text.proofs.Joined.{between_parts}
+use Rattle.chart_text.proofs.element.close_wide_title.Goals as goal
+
+pub returns-clause-text : goal.returns-clause-text
+returns-clause-text c =
+    rw (
+      c.put_text-3.ensures,
+      c.put_place-2.ensures.text,
+      c.put_text-2.ensures,
+      c.put_place.ensures.text,
+      c.put_text.ensures,
+    )
+    (between_parts c.args.line.now (codes "</title><rect") (place c.args.at.x c.args.at.y)
+    (codes " width=\"19\" height=\"17\"/>") (codes "<text") (place (c.args.at.x + 9) (c.args.at.y + 13)) (codes ">"))

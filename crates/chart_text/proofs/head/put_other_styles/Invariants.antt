@@ -1,0 +1,12 @@
+use Rattle.std.proofs.Common.{map, get_or, []}
+use Rattle.ttp_base.specs.NodeSet.{below}
+use Rattle.picture_text.specs.Picture.{ended}
+use Rattle.picture_text.specs.Sheet.{Puts}
+use Rattle.chart_text.specs.Chart.{other_styles}
+use Rattle.chart_text.proofs.head.put_other_styles.Given as goal
+
+-- the styles so far were put
+abbrev pub invariant-loop-number : goal.invariant-loop-number
+invariant-loop-number g l =
+    Puts l.fn.sheet.failed (g.K.Sink.output l.fn.out) l.sheet.failed (g.K.Sink.output l.out)
+    (map (λ k. ended (get_or other_styles k [])) (below l.number))

@@ -1,0 +1,5 @@
+use Rattle.picture_text.proofs.Pairs.{puts_two}
+use Rattle.chart_text.proofs.head.put_title.Goals as goal
+
+pub returns : goal.returns
+returns g c = puts_two c.make_svg.ensures c.make_title.ensures c.write.ensures c.write-2.ensures

@@ -1,0 +1,5 @@
+use Rattle.picture_text.proofs.Pairs.{puts_two}
+use Rattle.chart_text.proofs.key.put_key_halves.Goals as goal
+
+pub returns : goal.returns
+returns g c = puts_two c.make_text.ensures c.make_text-2.ensures c.write.ensures c.write-2.ensures

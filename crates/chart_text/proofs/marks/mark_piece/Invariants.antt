@@ -1,0 +1,10 @@
+use Rattle.std.proofs.Common.{◌≡◌, ℕ, ◌<◌, ◌&&◌, ◌||◌, length}
+use Rattle.std.specs.Prelude.{nat_le, nat_lt}
+use Rattle.chart_text.specs.Steps.{has_mark}
+use Rattle.chart_text.proofs.marks.mark_piece.Given as goal
+
+-- the slots of the piece so far are marked
+abbrev pub invariant-loop-t : goal.invariant-loop-t
+invariant-loop-t l =
+    (s : ℕ) → s < length l.fn.marks
+    → has_mark l.marks s ≡ (has_mark l.fn.marks s || (nat_le l.piece.first s && (nat_lt s l.t && nat_lt s l.end)))

@@ -1,0 +1,14 @@
+use Rattle.std.proofs.Common.{◌≡◌, ◌≤◌, length}
+use Rattle.std.specs.Prelude.{filter}
+use Rattle.ttp_base.specs.NodeSet.{below}
+use Rattle.chart_text.specs.Steps.{has_mark}
+use Rattle.chart_text.proofs.marks.marked_slot.Given as goal
+
+-- the marks so far were passed
+abbrev pub invariant-loop-t : goal.invariant-loop-t
+invariant-loop-t l =
+    record {
+      count : l.passed ≡ length (filter (has_mark l.marks) (below l.t));
+      low : l.passed ≤ l.number;
+      few : l.passed ≤ l.t;
+    }

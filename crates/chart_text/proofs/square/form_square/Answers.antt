@@ -1,0 +1,19 @@
+use Rattle.std.proofs.Common.{decimal}
+use Rattle.picture_text.proofs.Joined.{mark_parts}
+use Rattle.chart_text.specs.Elements.{square_shape}
+use Rattle.chart_text.proofs.square.form_square.Goals as goal
+
+pub returns-clause-text : goal.returns-clause-text
+returns-clause-text c =
+    rw (
+      c.put_bytes-3.ensures.text,
+      c.bytes-2.ensures,
+      c.close_mark.ensures,
+      c.clear-2.ensures,
+      c.put_bytes-2.ensures.text,
+      c.put_bytes.ensures.text,
+      c.bytes.ensures,
+      c.clear.ensures.text,
+      c.open_mark.ensures.text,
+    )
+    (mark_parts c.args.class.now (decimal c.args.at.x) (decimal c.args.at.y) square_shape c.args.text.now)

@@ -1,0 +1,16 @@
+use Rattle.std.proofs.Common.{◌≡◌, length, map}
+use Rattle.chart_text.specs.Chart.{counts_together, counts_sum}
+use Rattle.chart_text.proofs.sums.sums_of.Given as goal
+
+-- with those of the pieces that are left the sums are whole
+abbrev pub invariant-loop-piece : goal.invariant-loop-piece
+invariant-loop-piece l =
+    record {
+      kept : counts_together l.sums.kept (counts_sum (map (λ piece. piece.kept) l.left))
+          ≡ counts_sum (map (λ piece. piece.kept) l.fn.pieces);
+      broken : counts_together l.sums.broken (counts_sum (map (λ piece. piece.broken) l.left))
+          ≡ counts_sum (map (λ piece. piece.broken) l.fn.pieces);
+    }
+
+abbrev pub decreases-loop-piece : goal.decreases-loop-piece
+decreases-loop-piece l = length l.left

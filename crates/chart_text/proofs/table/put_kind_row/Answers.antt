@@ -1,0 +1,8 @@
+use Rattle.std.proofs.Common.{ℕ, map}
+use Rattle.ttp_base.specs.NodeSet.{below}
+use Rattle.picture_text.proofs.Pairs.{puts_first}
+use Rattle.chart_text.proofs.table.put_kind_row.Goals as goal
+
+pub returns : goal.returns
+returns g c =
+    puts_first c.make_kind.ensures c.write.ensures (rw c.kind_number.ensures.value at c.put_counts.ensures)

@@ -1,0 +1,324 @@
+//! The chart of a campaign.
+#![tactic(auto)]
+
+ghost use Rattle.std.specs.Prelude.{◌≡◌, ◌+◌, ◌-◌, ◌^◌, ◌<◌, ◌≤◌, [], ◌∷◌, ◌++◌, codes, decimal, length, map, IfOk, OnOk};
+ghost use Rattle.std.specs.Prelude.{ℕ, false, Err, IfErr, IfSome};
+ghost use Rattle.ttp_base.specs.Outside.{WroteLines, CutShort};
+ghost use Rattle.picture_text.specs.Sheet.{Puts};
+ghost use Rattle.picture_text.specs.Picture.{ended, text_line};
+ghost use Rattle.chart_text.specs.Chart.{slots_shown_text, counts_sum, chart_head, chart_body, chart_end, chart_of, chart_lines};
+ghost use Rattle.chart_text.specs.Columns.{size_of_campaign, first_told_slot, slots_shown, chosen_slots, tried_slots, place_of_harm, shown_among, key_top};
+ghost use Rattle.chart_text.specs.Key.{all_counts};
+ghost use Rattle.chart_text.specs.Looks.{does_harm};
+ghost use Rattle.chart_text.specs.Steps.{has_mark, marked_slots, longest_text, IsReadable};
+ghost use Rattle.chart_text.specs.Walks.{LeftOfChart};
+ghost use Rattle.chart_text.specs.declared.chart.ChartFault.TheVariants as fault;
+
+use crate::ahead::Ahead;
+use crate::band::put_bands;
+use crate::buffer::Buffer;
+use crate::column::put_columns;
+use crate::element::put_many;
+use crate::flag::{put_flag, test_slot};
+use crate::frame::{Frame, chart_height, key_top, most_columns};
+use crate::head::{put_front, put_hidden, put_own, put_sums};
+use crate::key::{put_key, put_legend};
+use crate::marks::{count_marks, keep_asked, keep_from, mark_pieces, marked_slot, place_in};
+use crate::size::Size;
+use crate::sums::sums_of;
+use crate::survey::{Survey, first_hidden, survey_of};
+use crate::table::put_table;
+use picture_text::{Sheet, Span, close_text, open_text};
+use std::alloc::Global;
+use ttp_base::{Line, Memory, Sink};
+use whole_campaign::{Campaign, Pieces};
+
+/// Why a chart was not written whole.
+#[derive(Clone, Copy, Debug, PartialEq, Eq)]
+pub enum ChartFault {
+    /// No slot is to be shown, and nothing was written.
+    NoSlot,
+    /// Memory was refused, and nothing was written.
+    Memory,
+    /// The sink's count of faults rose.
+    Failed,
+}
+
+// Marks the slots in which faults are tried.
+fn mark_tried(marks: &mut [bool], pieces: Pieces<'_>)
+    requires { (t : ℕ) → has_mark marks.old t ≡ false }
+    ensures { marked_slots marks.new ≡ tried_slots (length marks.old) pieces.entry }
+{
+    mark_pieces(marks, pieces);
+}
+
+// A mark for each slot of a run in which faults are tried.
+#[tactic(auto, using(crate::proofs::Slots::none_marked))]
+fn tried_marks(alloc: Global, slots: u32, pieces: Pieces<'_>) -> Result<Vec<bool>, Memory>
+    ensures length { IfOk result (λ marks. length marks.items ≡ slots) }
+    ensures marks { IfOk result (λ marks. marked_slots marks.items ≡ tried_slots slots pieces.entry) }
+{
+    match vec![in alloc; false; slots as usize] {
+        Ok(mut marks) => {
+            mark_tried(&mut marks, pieces);
+            Ok(marks)
+        }
+        Err(_) => Err(Memory),
+    }
+}
+
+// The place of the slot of the first harm among those that are marked, or 0.
+fn place_of_harm(marks: &[bool], harm: Option<u32>) -> u32
+    requires { length marks.now ≤ 20000 }
+    ensures { result ≡ place_of_harm (marked_slots marks.now) harm }
+{
+    match harm {
+        Some(slot) => match place_in(marks, slot) {
+            Some(place) => place,
+            None => 0,
+        },
+        None => 0,
+    }
+}
+
+// Takes away the marks of slots that are not chosen.
+fn keep_chosen(marks: &mut [bool], nodes: u8, harm: Option<u32>)
+    requires few { length marks.old ≤ 20000 }
+    requires nodes { (4 ≤ nodes) × (nodes ≤ 24) }
+    ensures { marked_slots marks.new ≡ chosen_slots nodes harm (marked_slots marks.old) }
+{
+    let all = count_marks(marks);
+    let most = most_columns(nodes);
+    if most < all {
+        let earlier = place_of_harm(marks, harm).saturating_sub(u32::from(nodes));
+        keep_from(marks, earlier.min(all - most), most);
+    }
+}
+
+// Takes away the marks of slots that are not shown.
+fn keep_shown(marks: &mut [bool], nodes: u8, harm: Option<u32>, asked: Option<Span>)
+    requires few { length marks.old ≤ 20000 }
+    requires nodes { (4 ≤ nodes) × (nodes ≤ 24) }
+    ensures { marked_slots marks.new ≡ shown_among nodes harm asked (marked_slots marks.old) }
+{
+    match asked {
+        Some(asked) => keep_asked(marks, asked),
+        None => keep_chosen(marks, nodes, harm),
+    }
+}
+
+// Makes the line of what is shown.
+#[tactic(auto, using(ttp_base::proofs::Room::room))]
+fn make_shown(line: &mut Line, frame: Frame, marks: &[bool], many: u64, hidden: Option<u32>)
+    requires marks { length marks.now ≤ 20000 }
+    requires many { frame.many ≡ length (marked_slots marks.now) }
+    requires some { 1 ≤ frame.many }
+    ensures { line.new ≡ text_line [] 12 20 (slots_shown_text frame.size (marked_slots marks.now) many hidden) }
+{
+    let first = marked_slot(marks, 0);
+    let last = marked_slot(marks, frame.many - 1);
+    open_text(line, 12, 20);
+    put_many(line, many, " faults, ");
+    put_many(line, u64::from(frame.size.nodes), " nodes, ");
+    put_many(line, u64::from(frame.size.slots), " slots, shown: ");
+    put_many(line, u64::from(frame.many), " of them, ");
+    put_many(line, u64::from(first), " to ");
+    line.put_number(u64::from(last));
+    put_hidden(line, hidden);
+    close_text(line);
+}
+
+// Writes the head.
+fn put_head<K: Sink>(
+    campaign: &Campaign<'_>,
+    frame: Frame,
+    marks: &[bool],
+    many: u64,
+    buffer: &mut Buffer,
+    sheet: &mut Sheet,
+    out: &mut K,
+)
+    requires readable { IsReadable campaign.now }
+    requires size { frame.size ≡ size_of_campaign campaign.now }
+    requires marks { length marks.now ≤ 20000 }
+    requires shown { frame.many ≡ length (marked_slots marks.now) }
+    requires some { 1 ≤ frame.many }
+    requires many { many ≡ length campaign.now.faults }
+    requires own { length campaign.now.own.text + length campaign.now.own.cost + 200 ≤ buffer.old.room }
+    requires test { length campaign.now.own.test_text + 300 ≤ buffer.old.room }
+    ensures puts { Puts sheet.old.failed (K.output out.old) sheet.new.failed (K.output out.new)
+        (chart_head frame.size campaign.now.own (marked_slots marks.now) campaign.now.faults
+        (counts_sum (map (λ piece. piece.kept) campaign.now.pieces))
+        (counts_sum (map (λ piece. piece.broken) campaign.now.pieces))) }
+    ensures room { buffer.new.room ≡ buffer.old.room }
+{
+    let hidden = first_hidden(frame.size, marks, campaign.faults());
+    put_front(frame.size, chart_height(frame), sheet, out);
+    make_shown(&mut sheet.line, frame, marks, many, hidden);
+    sheet.write(out);
+    put_own(campaign.own(), buffer, sheet, out);
+    put_sums(sums_of(campaign.pieces()), sheet, out);
+}
+
+// Writes the columns and what stands beside them.
+fn put_body<K: Sink>(
+    campaign: &Campaign<'_>,
+    frame: Frame,
+    marks: &[bool],
+    buffer: &mut Buffer,
+    sheet: &mut Sheet,
+    out: &mut K,
+)
+    requires readable { IsReadable campaign.now }
+    requires marks { length marks.now ≡ frame.size.slots }
+    requires shown { frame.many ≡ length (marked_slots marks.now) }
+    requires room { longest_text campaign.now.faults + 200 ≤ buffer.old.room }
+    ensures { Puts sheet.old.failed (K.output out.old) sheet.new.failed (K.output out.new)
+        (chart_body frame.size campaign.now.own.test (marked_slots marks.now) campaign.now.faults) }
+{
+    put_bands(frame, sheet, out);
+    let mut ahead = Ahead::new(campaign.faults());
+    put_columns(frame, marks, &mut ahead, buffer, sheet, out);
+    let own = campaign.own();
+    let column = place_in(marks, test_slot(&own.test));
+    put_flag(frame.size.nodes, column, &own.test, sheet, out);
+}
+
+// Writes the key and the table.
+fn put_end<K: Sink>(frame: Frame, counts: &[u64; 252], sheet: &mut Sheet, out: &mut K)
+    ensures { Puts sheet.old.failed (K.output out.old) sheet.new.failed (K.output out.new)
+        (chart_end (key_top frame.size.nodes frame.many) counts.now) }
+{
+    let top = key_top(frame);
+    put_key(top, sheet, out);
+    put_legend(top, sheet, out);
+    put_table(counts, top, sheet, out);
+    sheet.put(b"</svg>\n", out);
+}
+
+// Writes the chart of the marked slots.
+fn put_marked<K: Sink>(
+    campaign: &Campaign<'_>,
+    frame: Frame,
+    marks: &[bool],
+    survey: &Survey,
+    buffer: &mut Buffer,
+    out: &mut K,
+) -> Result<(), ChartFault>
+    requires readable { IsReadable campaign.now }
+    requires size { frame.size ≡ size_of_campaign campaign.now }
+    requires marks { length marks.now ≡ frame.size.slots }
+    requires shown { frame.many ≡ length (marked_slots marks.now) }
+    requires some { 1 ≤ frame.many }
+    requires many { survey.now.many ≡ length campaign.now.faults }
+    requires counts { survey.now.counts ≡ all_counts frame.size campaign.now.faults }
+    requires own { length campaign.now.own.text + length campaign.now.own.cost + 200 ≤ buffer.old.room }
+    requires test { length campaign.now.own.test_text + 300 ≤ buffer.old.room }
+    requires room { longest_text campaign.now.faults + 200 ≤ buffer.old.room }
+    ensures ok { OnOk result (WroteLines (K.output out.old) (K.output out.new)
+        (chart_of frame.size campaign.now.own (marked_slots marks.now) campaign.now.faults
+        (counts_sum (map (λ piece. piece.kept) campaign.now.pieces))
+        (counts_sum (map (λ piece. piece.broken) campaign.now.pieces)))) }
+    ensures failed { IfErr result (λ why. LeftOfChart why (marked_slots marks.now) (K.output out.old) (K.output out.new)
+        (chart_of frame.size campaign.now.own (marked_slots marks.now) campaign.now.faults
+        (counts_sum (map (λ piece. piece.kept) campaign.now.pieces))
+        (counts_sum (map (λ piece. piece.broken) campaign.now.pieces)))) }
+{
+    let mut sheet = Sheet::new();
+    put_head(campaign, frame, marks, survey.many, buffer, &mut sheet, out);
+    put_body(campaign, frame, marks, buffer, &mut sheet, out);
+    put_end(frame, &survey.counts, &mut sheet, out);
+    match sheet.end() {
+        Ok(()) => Ok(()),
+        Err(_) => Err(ChartFault::Failed),
+    }
+}
+
+// How much room the longest line with a text of the campaign takes.
+fn room_for(campaign: &Campaign<'_>, longest: usize) -> Option<usize>
+    ensures own { IfSome result (λ room. length campaign.now.own.text + length campaign.now.own.cost + 200 ≤ room) }
+    ensures test { IfSome result (λ room. length campaign.now.own.test_text + 300 ≤ room) }
+    ensures longest { IfSome result (λ room. longest + 200 ≤ room) }
+{
+    let own = campaign.own();
+    let words = own.text.len().checked_add(own.cost.len())?;
+    let all = words.checked_add(own.test_text.len())?;
+    longest.max(all).checked_add(300)
+}
+
+// The nodes and slots of a campaign's runs.
+fn size_of_campaign(campaign: &Campaign<'_>) -> Size
+    ensures size { result ≡ size_of_campaign campaign.now }
+    ensures nodes { (4 ≤ result.nodes) × (result.nodes ≤ 24) }
+    ensures slots { result.slots ≤ 20000 }
+{
+    Size {
+        nodes: campaign.nodes(),
+        slots: campaign.slots(),
+    }
+}
+
+// A mark for each slot of a run that is shown.
+fn shown_marks(
+    alloc: Global,
+    campaign: &Campaign<'_>,
+    size: Size,
+    harm: Option<u32>,
+    asked: Option<Span>,
+) -> Result<Vec<bool>, Memory>
+    requires size { size ≡ size_of_campaign campaign.now }
+    requires nodes { (4 ≤ size.nodes) × (size.nodes ≤ 24) }
+    requires slots { size.slots ≤ 20000 }
+    requires harm { harm ≡ first_told_slot (does_harm size) campaign.now.faults }
+    ensures length { IfOk result (λ marks. length marks.items ≡ size.slots) }
+    ensures marks { IfOk result (λ marks. marked_slots marks.items ≡ slots_shown campaign.now asked) }
+{
+    match tried_marks(alloc, size.slots, campaign.pieces()) {
+        Ok(mut marks) => {
+            keep_shown(&mut marks, size.nodes, harm, asked);
+            Ok(marks)
+        }
+        Err(_) => Err(Memory),
+    }
+}
+
+/// Writes the chart of a campaign: of the slots that were asked for, as far as faults of them are tried, or of those that
+/// are chosen where none were asked for.
+///
+/// Each line is one piece. `NoSlot` comes exactly where no slot is to be shown, and `Memory` where memory was refused;
+/// with both nothing was written. `Failed` is the sink's: some first lines were written, or none, and some first bytes of
+/// the next one. The campaign is gone over a few times. Memory is taken for a mark for each slot and the longest line.
+///
+/// Its faults have to stand by their slots, and their number and the counts of its pieces to fit 64 bits. A campaign that
+/// was read from a text is so, which no clause of `read_campaign` says yet.
+pub fn put_chart<K: Sink>(
+    alloc: Global,
+    campaign: &Campaign<'_>,
+    asked: Option<Span>,
+    out: &mut K,
+) -> Result<(), ChartFault>
+    requires { IsReadable campaign.now }
+    ensures ok { OnOk result (WroteLines (K.output out.old) (K.output out.new) (chart_lines campaign.now asked)) }
+    ensures shown { OnOk result (¬ (slots_shown campaign.now asked ≡ [])) }
+    ensures failed { result ≡ Err fault.Failed → ¬ (slots_shown campaign.now asked ≡ []) }
+    ensures left { IfErr result (λ why. LeftOfChart why (slots_shown campaign.now asked) (K.output out.old)
+        (K.output out.new) (chart_lines campaign.now asked)) }
+{
+    let size = size_of_campaign(campaign);
+    let survey = survey_of(size, campaign.faults());
+    let Ok(marks) = shown_marks(alloc, campaign, size, survey.harm, asked) else {
+        return Err(ChartFault::Memory);
+    };
+    let many = count_marks(&marks);
+    if many == 0 {
+        return Err(ChartFault::NoSlot);
+    }
+    let Some(room) = room_for(campaign, survey.longest) else {
+        return Err(ChartFault::Memory);
+    };
+    let Ok(mut buffer) = Buffer::with_room(alloc, room) else {
+        return Err(ChartFault::Memory);
+    };
+    let frame = Frame { size, many };
+    put_marked(campaign, frame, &marks, &survey, &mut buffer, out)
+}

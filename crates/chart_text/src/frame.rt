@@ -1,0 +1,91 @@
+//! Where the elements of a chart stand.
+#![tactic(auto)]
+
+ghost use Rattle.std.specs.Prelude.{◌≡◌, ◌+◌, ◌*◌, ◌^◌, ◌≤◌, length};
+ghost use Rattle.chart_text.specs.Columns.{most_columns, chart_band, chart_bands, key_top, chart_height, chart_x, chart_y};
+
+use crate::size::Size;
+use picture_text::{Corner, columns};
+
+/// The size of a campaign's runs, and how many columns are shown.
+#[derive(Clone, Copy)]
+pub(crate) struct Frame {
+    pub(crate) size: Size,
+    pub(crate) many: u32,
+    ghost nodes: { (4 ≤ size.nodes) × (size.nodes ≤ 24) },
+    ghost slots: { size.slots ≤ 20000 },
+    ghost few: { many ≤ 20000 },
+}
+
+/// The most slots that are shown unasked.
+pub(crate) fn most_columns(nodes: u8) -> u32
+    requires { (4 ≤ nodes) × (nodes ≤ 24) }
+    ensures value { result ≡ most_columns nodes }
+    ensures few { result ≤ 432 }
+{
+    columns(nodes) * u32::from((36 / nodes).max(1))
+}
+
+fn chart_band(nodes: u8) -> u64
+    requires { nodes ≤ 24 }
+    ensures value { result ≡ chart_band nodes }
+    ensures low { result ≤ 708 }
+{
+    26 * u64::from(nodes) + 84
+}
+
+/// How many bands there are.
+pub(crate) fn chart_bands(frame: Frame) -> u32
+    ensures value { result ≡ chart_bands frame.size.nodes frame.many }
+    ensures few { result ≤ 20000 }
+{
+    frame.many.saturating_sub(1) / columns(frame.size.nodes) + 1
+}
+
+/// Where the key begins.
+#[tactic(auto, using(crate::proofs::Places::bands_are_low))]
+pub(crate) fn key_top(frame: Frame) -> u64
+    ensures value { result ≡ key_top frame.size.nodes frame.many }
+    ensures low { result ≤ 2 ^ 30 }
+{
+    100 + chart_band(frame.size.nodes) * u64::from(chart_bands(frame))
+}
+
+/// How high the chart is.
+pub(crate) fn chart_height(frame: Frame) -> u64
+    ensures { result ≡ chart_height frame.size.nodes frame.many }
+{
+    key_top(frame) + 340
+}
+
+/// The left edge of a column.
+pub(crate) fn chart_x(nodes: u8, column: u32) -> u64
+    requires { (4 ≤ nodes) × (nodes ≤ 24) }
+    ensures value { result ≡ chart_x nodes column }
+    ensures within { (72 ≤ result) × (result ≤ 1300) }
+{
+    72 + 24 * u64::from(column % columns(nodes))
+}
+
+/// The upper edge of a row of a column.
+#[tactic(auto, using(crate::proofs::Places::bands_are_low))]
+pub(crate) fn chart_y(nodes: u8, column: u32, row: u8) -> u64
+    requires { (4 ≤ nodes) × (nodes ≤ 24) }
+    ensures value { result ≡ chart_y nodes column row }
+    ensures within { (128 ≤ result) × (result ≤ 2 ^ 43) }
+{
+    128 + chart_band(nodes) * u64::from(column / columns(nodes)) + 26 * u64::from(row)
+}
+
+/// The corner of a row of a column.
+pub(crate) fn chart_corner(nodes: u8, column: u32, row: u8) -> Corner
+    requires { (4 ≤ nodes) × (nodes ≤ 24) }
+    ensures x { result.x ≡ chart_x nodes column }
+    ensures y { result.y ≡ chart_y nodes column row }
+    ensures near { (result.x ≤ 1300) × (result.y ≤ 2 ^ 43) }
+{
+    Corner {
+        x: chart_x(nodes, column),
+        y: chart_y(nodes, column, row),
+    }
+}

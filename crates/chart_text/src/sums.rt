@@ -1,0 +1,66 @@
+//! The counts of all pieces, added up.
+#![tactic(auto)]
+
+ghost use Rattle.std.specs.Prelude.{◌≡◌, ◌+◌, ◌^◌, ◌<◌, true, map};
+ghost use Rattle.whole_campaign.specs.Due.{no_runs};
+ghost use Rattle.chart_text.specs.Chart.{counts_together, counts_sum};
+ghost use Rattle.chart_text.specs.Steps.{counts_fit};
+
+use campaign::Counts;
+use whole_campaign::Pieces;
+
+/// The sums of the counts of pieces: of the faults that the test covers, and of the others.
+#[derive(Clone, Copy)]
+pub(crate) struct Sums {
+    pub(crate) kept: Counts,
+    pub(crate) broken: Counts,
+}
+
+fn no_runs() -> Counts
+    ensures { result ≡ no_runs }
+{
+    Counts {
+        runs: 0,
+        same: 0,
+        hurt: 0,
+        split: 0,
+        torn: 0,
+        dead: 0,
+    }
+}
+
+// Two counts of the same, added up.
+fn added(sum: Counts, more: Counts) -> Counts
+    requires { counts_fit (counts_together sum more) ≡ true }
+    ensures { result ≡ counts_together sum more }
+{
+    Counts {
+        runs: sum.runs + more.runs,
+        same: sum.same + more.same,
+        hurt: sum.hurt + more.hurt,
+        split: sum.split + more.split,
+        torn: sum.torn + more.torn,
+        dead: sum.dead + more.dead,
+    }
+}
+
+/// The sums of the counts of all pieces.
+pub(crate) fn sums_of(pieces: Pieces<'_>) -> Sums
+    requires kept { counts_fit (counts_sum (map (λ piece. piece.kept) pieces)) ≡ true }
+    requires broken { counts_fit (counts_sum (map (λ piece. piece.broken) pieces)) ≡ true }
+    ensures kept { result.kept ≡ counts_sum (map (λ piece. piece.kept) pieces.entry) }
+    ensures broken { result.broken ≡ counts_sum (map (λ piece. piece.broken) pieces.entry) }
+{
+    let mut left = pieces;
+    let mut sums = Sums {
+        kept: no_runs(),
+        broken: no_runs(),
+    };
+    while let Some(piece) = left.next_piece() {
+        sums = Sums {
+            kept: added(sums.kept, piece.kept),
+            broken: added(sums.broken, piece.broken),
+        };
+    }
+    sums
+}
