@@ -1,4 +1,5 @@
-"""The rules of the bench, read a second time: from docs/PROTOCOL.md and docs/FORMATS.md, never from crates/.
+"""The rules of the bench, read a second time: from docs/PROTOCOL.md and the pages that
+it names, and from docs/FORMATS.md, never from crates/.
 
 `lines_of` tells a run line by line. Where the rules leave a choice, the number of the message that a frame carries or
 that a host reads, all legal lines are told, and whoever asked for them answers the one that was taken. Lists and scripts

@@ -1,6 +1,6 @@
 """The tests of a script for a list: the single-fault hypothesis, and whether armed nodes are owed their place again.
 
-They are read from docs/PROTOCOL.md and docs/FORMATS.md, as all of the second reading.
+They are read from docs/PROTOCOL.md, docs/RETURNS.md, docs/CLOCKS.md and docs/FORMATS.md, as all of the second reading.
 """
 
 
