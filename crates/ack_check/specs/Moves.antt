@@ -60,6 +60,7 @@ settling_move ack.Closed = Accept
 settling_move ack.First = Accept
 settling_move (ack.Doubt x) = Resolve x
 
+-- what a verdict asks for
 abbrev pub move_of : Ack → Verdict → AckMove
 move_of a verdict.Correct = settling_move a
 move_of a verdict.Tentative = Hold

@@ -22,6 +22,7 @@ entry_slot list script start k slot =
     unwrap_or (find (offers_place list script start k) (run_slots script slot (two_rounds list)))
     (slot + two_rounds list)
 
+-- the return of an arm line
 abbrev pub return_of : Medl → Script → ClusterStart → Event → Option Return
 return_of list script start (event.Arm node slot) = Some (record {
   node = node;

@@ -32,6 +32,7 @@ summary_of list script history = record {
   cost = cost_of list script history;
 }
 
+-- what the run of a script comes to
 abbrev pub summary : Medl → Script → Summary
 summary list script = summary_of list script (zeros_world list script script.slots)
 
@@ -41,6 +42,7 @@ summary list script = summary_of list script (zeros_world list script script.slo
 abbrev pub summary_words : Medl → Summary → List ℕ
 summary_words list s = s.test ++ codes " " ++ cost_words list s.cost ++ codes " fault "
 
+-- the line of the script's own run
 abbrev pub own_line : Medl → Summary → List ℕ
 own_line list s = codes "slot - node - " ++ summary_words list s ++ codes "-" ++ newline
 
@@ -51,15 +53,18 @@ fault_slot (event.Receive node channels kind from to) = from
 fault_slot (event.Jump node value slot) = slot
 fault_slot _ = 0
 
+-- the node of a fault
 abbrev pub fault_node : Event → ℕ
 fault_node (event.Send node channels kind from to) = node
 fault_node (event.Receive node channels kind from to) = node
 fault_node (event.Jump node value slot) = node
 fault_node _ = 0
 
+-- the words for where a fault begins
 abbrev pub place_words : Event → List ℕ
 place_words fault = codes "slot " ++ decimal (fault_slot fault) ++ codes " node " ++ decimal (fault_node fault) ++ codes " "
 
+-- the line of a fault
 abbrev pub fault_line : Medl → Event → Summary → List ℕ
 fault_line list fault s = place_words fault ++ summary_words list s ++ fault_words fault ++ newline
 
@@ -69,6 +74,7 @@ fault_line list fault s = place_words fault ++ summary_words list s ++ fault_wor
 abbrev pub is_same_cost : Medl → Cost → Cost → Bool
 is_same_cost list own cost = bytes_eq (cost_words list own) (cost_words list cost)
 
+-- some node was hurt
 abbrev pub has_hurt : Cost → Bool
 has_hurt cost = not (length cost.hurt == 0)
 
@@ -91,6 +97,7 @@ counts_of list own costs = record {
   dead = count_by is_dead costs;
 }
 
+-- a line of counts under a name
 abbrev pub counts_line : List ℕ → Counts → List ℕ
 counts_line name counts =
     name ++ decimal counts.runs
@@ -100,6 +107,7 @@ counts_line name counts =
     ++ codes " torn " ++ decimal counts.torn
     ++ codes " dead " ++ decimal counts.dead ++ newline
 
+-- the costs alone
 abbrev pub costs_of : List Summary → List Cost
 costs_of summaries = map (λ s. s.cost) summaries
 
@@ -122,15 +130,18 @@ head_line list script first last =
 abbrev pub summary_with : Medl → Script → Event → Summary
 summary_with list script fault = summary list (with_fault script fault)
 
+-- the line of its run
 abbrev pub run_line : Medl → Script → Event → List ℕ
 run_line list script fault = fault_line list fault (summary_with list script fault)
 
+-- all lines, by what the script's own run comes to and the faults that are tried
 abbrev pub lines_with : Medl → Script → ℕ → ℕ → Summary → List Event → Lines
 lines_with list script first last own faults =
     head_line list script first last ∷ own_line list own ∷ map (run_line list script) faults
     ++ counts_line (codes "kept ") (kept_counts list own.cost (map (summary_with list script) faults))
     ∷ counts_line (codes "broken ") (broken_counts list own.cost (map (summary_with list script) faults)) ∷ []
 
+-- the text of a campaign over a range of slots
 abbrev pub campaign_lines : Medl → Script → ℕ → ℕ → Lines
 campaign_lines list script first last =
     lines_with list script first last (summary list script)

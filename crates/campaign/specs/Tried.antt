@@ -53,12 +53,15 @@ is_timed _ = false
 -- Losses: of what the node sends, or of what it hears where somebody sends; in the slot alone, and then from it to the
 -- last one.
 
+-- channels A and B
 abbrev pub both_channels : Channels
 both_channels = record { a = true; b = true }
 
+-- channel A alone
 abbrev pub only_a : Channels
 only_a = record { a = true; b = false }
 
+-- channel B alone
 abbrev pub only_b : Channels
 only_b = record { a = false; b = true }
 
@@ -69,6 +72,7 @@ losses_between kind from to =
     ∷ kind only_a fault.Silence from to ∷ kind only_a fault.Noise from to
     ∷ kind only_b fault.Silence from to ∷ kind only_b fault.Noise from to ∷ []
 
+-- those of a slot alone, and those from it to the last one
 abbrev pub losses_from : (Channels → Fault → ℕ → ℕ → Event) → Script → ℕ → List Event
 losses_from kind script slot = losses_between kind slot slot ++ losses_between kind slot (script.slots - 1)
 
@@ -81,21 +85,26 @@ losses_of script row slot k =
 
 -- Jumps: by four windows and by one, either way, and by the most that a line may say where that is less.
 
+-- so many microticks, or the most that a line may say
 abbrev pub sized : ℤ → ℤ
 sized z = int_min z (pos JUMP_LIMIT)
 
+-- the jumps that are tried: by four windows and by one, either way, in microticks
 abbrev pub jump_sizes : Medl → List ℤ
 jump_sizes list =
     sized (four_windows list) ∷ neg_ℤ (sized (four_windows list)) ∷ sized list.window ∷ neg_ℤ (sized list.window) ∷ []
 
+-- those of node k in a slot in which others hold their clocks against its own, or it holds its own against theirs
 abbrev pub jumps_of : Medl → List Entry → ℕ → ℕ → List Event
 jumps_of list row slot k = if is_timed (entry_of row k) then map (λ z. event.Jump k z slot) (jump_sizes list) else []
 
 -- The faults of a slot, by the entries of all nodes in it, and of the slots of a range that the script has.
 
+-- the faults of node k that are tried in a slot, by the entries of all nodes in it
 abbrev pub faults_of : Medl → Script → List Entry → ℕ → ℕ → List Event
 faults_of list script row slot k = losses_of script row slot k ++ jumps_of list row slot k
 
+-- those of all nodes
 abbrev pub faults_in : Medl → Script → List Entry → ℕ → List Event
 faults_in list script row slot = flat_map (faults_of list script row slot) (nodes_of list)
 
@@ -103,6 +112,7 @@ faults_in list script row slot = flat_map (faults_of list script row slot) (node
 abbrev pub row_of : History → ℕ → List Entry
 row_of history slot = get_or history (length history - suc slot) []
 
+-- the slots of a range that a script has
 abbrev pub slots_between : Script → ℕ → ℕ → List ℕ
 slots_between script first last = filter (λ slot. nat_le first slot && nat_le slot last) (below script.slots)
 

@@ -12,7 +12,7 @@ pub struct Leave {
     pub reason: Reason,
 }
 
-/// The first and the last of some slots.
+/// The first and the last of some slots, which are counted from 0.
 #[derive(Clone, Copy, Debug, PartialEq, Eq)]
 pub struct Span {
     pub first: u32,
@@ -28,7 +28,7 @@ pub struct Cost {
     pub hurt: NodeSet,
     /// The first and the last slot after which correct nodes held two memberships or more.
     pub split: Option<Span>,
-    /// The memberships that are left.
+    /// The memberships that nodes hold in the end which are active and not in doubt, each once.
     pub end: List<NodeSet>,
 }
 

@@ -7,6 +7,21 @@
 //! (`specs/CostText.antt`, `specs/Lines.antt`), over the world and the tests of scripts that ttp_world
 //! defines. A run is that of `specs/ZerosWorld.antt`, one for all legal message numbers.
 //!
+//! A fault is an event as any other: the run with it is that of the script with this event behind the
+//! others (`with_fault`), and which are tried in a slot follows from the row of that slot in the script's
+//! own run (`faults_in`). Of a run are read the newest time that each node left, who left though not
+//! faulty by the rules of the script's test, the slots after which correct nodes that are active and not
+//! in doubt hold two memberships or more, and the memberships at the end. The sets of faulty nodes are
+//! those of the tests, and go on past a slot that breaks the rule on losses.
+//!
+//! The whole text is `campaign_lines`, which `put_campaign` of fault_runs writes. `a_quiet_run` of
+//! campaign_rows has one of its lines:
+//!
+//! ```text
+//! ensures own { own_line five (summary five quiet)
+//!     ≡ codes "slot - node - keeps yes start 10 left - hurt - split - - end 001f fault -\n" }
+//! ```
+//!
 //! It has no code but for the types of what a run costs, and promises nothing: the words are those of the
 //! contracts above it.
 #![tactic(auto)]

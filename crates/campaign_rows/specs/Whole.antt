@@ -5,6 +5,7 @@ use Rattle.std.specs.Prelude.{pos, [], ◌∷◌, replicate, Some, None, codes}
 use Rattle.ttp_base.specs.Text.{Lines}
 use Rattle.ttp_world.specs.declared.script.Script.{Script}
 
+-- nodes 0 and 1 of four are on from slot 0, for 11 slots, and no fault happens
 abbrev pub two_of_four : Script
 two_of_four = record {
   slots = 11;
@@ -13,6 +14,7 @@ two_of_four = record {
   events = [];
 }
 
+-- the lines of its campaign in slot 9, as worked out by hand
 abbrev pub two_lines : Lines
 two_lines =
     codes "ttplab campaign 1 nodes 4 slots 11 from 9 to 9\n"

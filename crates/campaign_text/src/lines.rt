@@ -133,7 +133,12 @@ fn put_run_words(
     Ok(yes)
 }
 
-/// Adds the line of the script as it is, with these words of what its run cost.
+/// Adds the line of the script as it is, with these words of what its run cost. It costs the test of
+/// the script.
+///
+/// # Errors
+///
+/// Where memory was refused; some of the line may have been added.
 pub fn put_own(text: &mut Text, list: &Medl, script: &Script, words: &[u8]) -> Result<(), Memory>
     requires valid { IsValid list.now }
     requires script { IsValidScript list.now script.now }
@@ -201,6 +206,10 @@ pub fn put_run(
 }
 
 /// Adds a line of counts under this name.
+///
+/// # Errors
+///
+/// Where memory was refused; some of the line may have been added.
 pub fn put_counts(text: &mut Text, name: &str, counts: &Counts) -> Result<(), Memory>
     ensures { OnOk result (text.new ≡ text.old ++ counts_line name.now counts.now) }
 {

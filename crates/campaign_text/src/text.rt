@@ -8,7 +8,8 @@ use std::marker::Model;
 use ttp_base::{Line, Memory};
 
 /// A growing text, which contracts see as the list of its bytes. Once it has grown to its longest, no call
-/// takes memory.
+/// takes memory. A call that adds answers `Memory` where memory was refused; some of what is due may have
+/// been added.
 #[derive(Drop)]
 pub struct Text {
     bytes: Vec<u8>,

@@ -5,6 +5,7 @@ use Rattle.cold_start.specs.declared.heard.Heard.TheVariants.{Silent, Other, Exp
 use Rattle.cold_start.specs.declared.heard.ListenMove.{ListenMove}
 use Rattle.cold_start.specs.declared.heard.ListenMove.TheVariants.{Wait, Join}
 
+-- how many silent slots a node waits for before it starts, and how many the newest ones are by now
 pub record Listening : Type 0 where
   pub limit : ℕ
   pub silent_slots : ℕ
@@ -13,6 +14,7 @@ pub record Listening : Type 0 where
 abbrev pub most_silent : ℕ
 most_silent = 65535
 
+-- both channels were silent
 abbrev pub is_silent : Heard → Bool
 is_silent Silent = true
 is_silent Other = false

@@ -1,24 +1,25 @@
-//! Listening: when a node that hears nobody starts the cluster, and on what it joins one.
+//! Listening: when a node that hears nobody starts the cluster with a cold-start frame (SAE AS6003),
+//! and on what it joins one.
 //!
-//! A [`Listener`] takes what a listening node heard in each slot, and knows when to start:
+//! A [`Listener`] takes what a listening node heard in each slot, and knows when to start. controller
+//! makes one in `listener_after`, tells it a slot in `heard_after`, and asks it in `listening_act`:
 //!
-//! ```
-//! let mut listener = Listener::new(limit);
-//! if listener.due() { /* send a cold-start frame, where the list lets the node start */ }
-//! match listener.hear(heard) {
-//!     ListenMove::Join(cstate) => { /* adopt the C-state */ }
-//!     ListenMove::Wait => { /* listen on */ }
-//! }
+//! ```text
+//! Entry::Retried => Listener::new(u16::from(list.nodes()) + u16::from(k)),
+//! Entry::Waited if silent => heard_after(listener, Heard::Silent),
+//! after.hear(heard);
+//! if may_start(list, k) && self.listener.due() {
 //! ```
 //!
 //! It counts how many of the last slots, one after the other, were slots in which the node listened and
 //! both channels were silent: each slot heard makes of the count what `silent_slots_after` of
 //! `ttp_world` makes of it by one more entry of a waiting node, but that it stops at 65535. No limit is
 //! greater, so it is due exactly where these are as many as its limit, or more, for however long it
-//! listens.
+//! listens. It answers `Join` exactly where a C-state was heard.
 //!
-//! The crate judges no frame: which are joinable, and what noise is, is for the layer above to say. It
-//! takes no memory, and answers at all arguments.
+//! A listener is two numbers of 16 bits, and a copy listens by itself. The crate judges no frame: which
+//! are joinable, and what noise is, is for the layer above to say. It takes no memory, and answers at
+//! all arguments, in a few steps.
 #![tactic(auto)]
 
 mod heard;

@@ -19,6 +19,7 @@ pub record Notice : Type 0 where
   pub status : ℕ
   pub line : List ℕ
 
+-- such a line with its status
 abbrev pub notice : ℕ → List ℕ → Notice
 notice status line = record { status = status; line = line }
 

@@ -24,9 +24,11 @@ pub record Refused (p : Program) (unfinished : Texts p.Sets) (before now : Outpu
     pub text : WroteAmong p unfinished before now
     pub none : answer.kept ≡ None
 
+-- a command ended so, or a fault of the sink cut its text short
 abbrev pub Says : (p : Program) → Ending p.Sets → Output → Output → Answer p.Kept → Type 0
 Says p ending before now answer = Showed p ending before now answer ⊎ Stopped p ending before now answer
 
+-- the same, or it was refused memory as it wrote
 abbrev pub Shows : (p : Program) → Ending p.Sets → Output → Output → Answer p.Kept → Type 0
 Shows p ending before now answer = Says p ending before now answer ⊎ Refused p ending.unfinished before now answer
 
@@ -36,6 +38,7 @@ pub record Asked (file : File) (before now : Files) : Type 0 where
   pub quiet : NoneRose before now
   pub keeps : HoldsTheSame before now
 
+-- a file was asked for, and the count of its name rose
 pub record Failed (file : File) (before now : Files) : Type 0 where
   pub load : AskedFor before now file.name file.limit
   pub risen : HasRisen (before.faults file.name) (now.faults file.name)

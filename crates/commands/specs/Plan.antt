@@ -9,6 +9,7 @@ pub record Outside : Type 0 where
   pub files : Files
   pub output : Output
 
+-- the outside of these parts
 abbrev pub outside : Files → Output → Outside
 outside files output = record { files = files; output = output }
 
@@ -26,6 +27,7 @@ whole_ending status texts = record { status = status; texts = texts; unfinished 
 abbrev pub line_ending : {Sets : Type 0} → ℕ → List ℕ → Ending Sets
 line_ending status line = whole_ending status (one (line ∷ []))
 
+-- an ending by a notice
 abbrev pub said_ending : {Sets : Type 0} → Notice → Ending Sets
 said_ending said = line_ending said.status said.line
 
@@ -47,6 +49,7 @@ load_of file = record { name = file.name; limit = file.limit }
 abbrev pub missed : File → Notice
 missed file = notice 5 file.missing
 
+-- the ending of a command whose file is not loaded, with status 5
 abbrev pub unloaded : {Sets : Type 0} → File → Ending Sets
 unloaded file = said_ending (missed file)
 

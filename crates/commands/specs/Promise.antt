@@ -25,6 +25,7 @@ pub record Unloaded {Sets : Type 0} (plan : Plan Sets) (before now : Outside) (l
   pub risen : HasRisen (before.files.faults file.name) (now.files.faults file.name)
   pub line : ending ≡ unloaded file
 
+-- an ending is due: the plan gives it, or a file was not loaded
 abbrev pub IsDue : {Sets : Type 0} → Plan Sets → Outside → Outside → List Load → Ending Sets → Type 0
 IsDue plan before now loads ending = Reached plan before now loads ending ⊎ Unloaded plan before now loads ending
 
@@ -44,6 +45,7 @@ EachName P (load ∷ loads) = P load.name × EachName P loads
 abbrev pub NoneAskedRose : Outside → Outside → List Load → Type 0
 NoneAskedRose before now loads = EachName (λ name. ¬ HasRisen (before.files.faults name) (now.files.faults name)) loads
 
+-- what a call promises that follows a plan
 pub record Promise (p : Program) (plan : Plan p.Sets) (before now : Outside) (answer : Answer p.Kept) : Type 0 where
   -- It asked for these loads, each once, and they are those of its plan in their order.
   pub loads : List Load

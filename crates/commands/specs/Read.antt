@@ -23,26 +23,32 @@ trace_limit = 134217728
 
 -- A list.
 
+-- a list, or what is wrong with its file
 abbrev pub list_read : Result Medl MedlError → Result Medl FileFault
 list_read (Ok list) = Ok list
 list_read (Err fault) = Err (wrong.List fault)
 
+-- the same of bytes that may be more than a limit
 abbrev pub list_within : ℕ → List ℕ → Result Medl FileFault
 list_within limit bytes = if nat_lt limit (length bytes) then Err wrong.TooLarge else list_read (medl_of bytes)
 
+-- the list that the bytes of a file are
 unfoldable pub list_from : List ℕ → Result Medl FileFault
 list_from bytes = list_within list_limit bytes
 
 -- A script for a list.
 
+-- a script, or what is wrong with its file
 abbrev pub script_read : Result Script ScriptError → Result Script FileFault
 script_read (Ok script) = Ok script
 script_read (Err fault) = Err (wrong.Script fault)
 
+-- the same of bytes that may be more than a limit
 abbrev pub script_within : ℕ → Medl → List ℕ → Result Script FileFault
 script_within limit list bytes =
     if nat_lt limit (length bytes) then Err wrong.TooLarge else script_read (script_of list bytes)
 
+-- the script for a list that the bytes of a file are
 unfoldable pub script_from : Medl → List ℕ → Result Script FileFault
 script_from list bytes = script_within script_limit list bytes
 

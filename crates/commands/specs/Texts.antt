@@ -20,6 +20,7 @@ pub data Texts (Sets : Type 0) : Type 0 where
 abbrev pub nothing : {Sets : Type 0} → Texts Sets
 nothing = one []
 
+-- some lines are one of the texts
 abbrev pub IsAmong : (p : Program) → Texts p.Sets → Lines → Type 0
 IsAmong p (one text) lines = lines ≡ text
 IsAmong p (those set) lines = p.IsOf set lines
@@ -46,6 +47,7 @@ pub record Answer (Kept : Type 0) : Type 0 where
   pub status : ℕ
   pub kept : Option Kept
 
+-- an answer of these parts
 abbrev pub answer : {Kept : Type 0} → ℕ → Option Kept → Answer Kept
 answer status kept = record { status = status; kept = kept }
 

@@ -123,7 +123,8 @@ fn put_script_fault(line: &mut Line, fault: ScriptError)
     }
 }
 
-/// The line that says what is wrong with a file, behind the word for the file, as `list`.
+/// The line that says what is wrong with a file, behind the word for the file, as `list`. Takes no
+/// memory.
 #[tactic(auto, unfolding(crate::specs::Faults::fault_line))]
 pub fn fault_line(file: &str, fault: FileFault) -> Line
     requires { length file.now ≤ 9 }

@@ -93,7 +93,8 @@ pub fn load_both<L: Library, K: Sink>(
 }
 
 /// The first bytes of the file of this name, one more than a trace may have, or the status of a call that
-/// got none.
+/// got none: 5 for a file that could not be loaded, 6 where the line that says so could not be written, 7 for
+/// want of memory.
 pub fn load_trace<L: Library, K: Sink>(
     alloc: Global,
     name: &str,

@@ -2,7 +2,8 @@
 ghost use Rattle.std.specs.Prelude.{◌≡◌, ◌^◌, ◌<◌, ◌≤◌, IfSome};
 ghost use Rattle.commands.specs.Words.{numeral_named};
 
-/// The number that a word of 1 to so many decimal digits is.
+/// The number that a word of 1 to so many decimal digits is; none where it has more, or another
+/// byte. Takes no memory.
 pub fn numeral_named(word: &[u8], most: usize) -> Option<u128>
     requires { most ≤ 20 }
     ensures value { result ≡ numeral_named most word.now }

@@ -32,6 +32,7 @@ pub record IsPlannedWithin (list : Medl) (k : ℕ) (past : NodePast) (does : Act
   pub chosen : Chosen
   pub carries : message ≡ message_planned list past chosen does
 
+-- what a controller knows of its slot is possible for node k with this past
 abbrev pub IsTurnWithin : Medl → ℕ → NodePast → Turn → Type 0
 IsTurnWithin list k past Ended = Unit {0}
 IsTurnWithin list k past (Begun does jump) = IsBegunWithin list k past does jump

@@ -85,6 +85,7 @@ awaited_by receiver = record {
   candidates = candidates receiver.ack receiver.number receiver.members receiver.coming.place.slot;
 }
 
+-- what an expected frame of the code stands for
 abbrev pub awaited_meant : Expected → Awaited
 awaited_meant expected = record {
   place = expected.place.place;

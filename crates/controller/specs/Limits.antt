@@ -35,11 +35,13 @@ ArrivalFits list own came error drift =
 
 -- Turns.
 
+-- a slot has begun, and its frame is not planned yet
 abbrev pub IsBegun : Turn → Type 0
 IsBegun Ended = ⊥
 IsBegun (Begun act jump) = Unit {0}
 IsBegun (Planned act jump message) = ⊥
 
+-- the frame of the slot is planned
 abbrev pub IsPlanned : Turn → Type 0
 IsPlanned Ended = ⊥
 IsPlanned (Begun act jump) = ⊥
@@ -51,6 +53,7 @@ turn_jump Ended = pos 0
 turn_jump (Begun act jump) = jump
 turn_jump (Planned act jump message) = jump
 
+-- the node's clock in the slot that was begun
 abbrev pub view_clock : ControllerView → ℤ
 view_clock view = view.past.offset +ℤ turn_jump view.turn
 
@@ -62,6 +65,7 @@ intent_by list past Start = intent.Bare
 intent_by list past Send = if carries_payload list (coming_place list past) then intent.Loaded else intent.Bare
 intent_by list past _ = intent.Quiet
 
+-- the same by the turn: nothing, where none has begun or its plan was made
 abbrev pub turn_intent : Medl → NodePast → Turn → Intent
 turn_intent list past Ended = intent.Quiet
 turn_intent list past (Begun act jump) = intent_by list past act
@@ -83,6 +87,7 @@ loaded_length list k intent.Quiet = 0
 loaded_length list k intent.Bare = 0
 loaded_length list k intent.Loaded = (plan_at list k).payload
 
+-- the same of what a controller plans
 abbrev pub payload_wanted : ControllerView → ℕ
 payload_wanted view = loaded_length view.list view.node (view_intent view)
 

@@ -51,11 +51,11 @@ pub record StandsForNode (s : BegunSlot) (k : ℕ) (now : Turn) (view : Controll
 abbrev pub jump_begun : BegunSlot → ℕ → ℤ
 jump_begun s k = jump_taken (node_of s k).act (jump_of s.script k s.number)
 
--- The first pass: each has begun the slot, with what its node does in it and its clock's jump.
-
+-- the first pass: a controller stands for node k in the slot that has begun, with what it does and its clock's jump
 abbrev pub HasBegun : BegunSlot → ℕ → ControllerView → Type 0
 HasBegun s k view = StandsForNode s k (Begun (node_of s k).act (jump_begun s k)) view
 
+-- the same of the nodes of some seats, from a first one on
 abbrev pub HaveBegun : BegunSlot → ℕ → List Seat → Type 0
 HaveBegun s first seats = EachFrom first (λ k seat. HasBegun s k seat.controller) seats
 
@@ -70,6 +70,7 @@ AreChosen s chosen =
 -- So it is by what the controllers keep, whatever they stand for: where the frame of a controller's node carries a
 -- message, the one that is chosen has as much payload as the list gives the node.
 
+-- the message that is chosen has as much payload as the list gives the node, where the node's frame carries one
 abbrev pub IsPayloadFor : ControllerView → Chosen → Type 0
 IsPayloadFor view chosen =
     view_intent view ≡ intent.Loaded → length chosen.payload ≡ (plan_at view.list view.node).payload
@@ -84,13 +85,13 @@ intent_before script slot k view =
     intent_by view.list view.past
     (act view.list view.node (is_on script k slot) (is_armed script k slot) view.past)
 
--- the same of the slot that comes
-
+-- the same before a slot, of the frame that the node will send in it
 abbrev pub IsPayloadBefore : Script → ℕ → Chosen → ℕ → ControllerView → Type 0
 IsPayloadBefore script slot chosen k view =
     intent_before script slot k view ≡ intent.Loaded
     → length chosen.payload ≡ (plan_at view.list view.node).payload
 
+-- the same of the nodes of some seats, from a first one on
 abbrev pub ArePayloadsBefore : Script → ℕ → List Chosen → ℕ → List Seat → Type 0
 ArePayloadsBefore script slot chosen first seats =
     EachFrom first (λ k seat. IsPayloadBefore script slot (chosen_of chosen k) k seat.controller) seats
@@ -101,12 +102,14 @@ payload_handed intent.Quiet chosen = []
 payload_handed intent.Bare chosen = []
 payload_handed intent.Loaded chosen = chosen.payload
 
+-- the second pass: a controller stands for node k in the slot, with its frame planned
 abbrev pub HasPlanned : BegunSlot → Chosen → ℕ → ControllerView → Type 0
 HasPlanned s chosen k view =
     StandsForNode s k
     (Planned (node_of s k).act (jump_begun s k)
     (message_planned s.list (node_of s k).past chosen (node_of s k).act)) view
 
+-- the same of the nodes of some seats, from a first one on
 abbrev pub HavePlanned : BegunSlot → List Chosen → ℕ → List Seat → Type 0
 HavePlanned s chosen first seats =
     EachFrom first (λ k seat. HasPlanned s (chosen_of chosen k) k seat.controller) seats
@@ -134,6 +137,7 @@ pub record IsLeft (list : Medl) (script : Script) (history : History) (chosen : 
       (node_past list script (row_in (slot_after list script history) chosen ∷ history) k)
       (is_some (delivered_at (slot_after list script history) chosen k))
 
+-- the same for the nodes of some seats, from a first one on
 abbrev pub AreLeft : Medl → Script → History → List Chosen → ℕ → List Seat → Type 0
 AreLeft list script history chosen first seats =
     EachFrom first (λ k seat. IsLeft list script history chosen k seat.outcome) seats

@@ -28,15 +28,19 @@ plant_of list slot seats = record { list = list; slot = slot; seats = seats }
 
 -- What is left for hosts: nothing before the first slot, and then what the newest one left.
 
+-- what is left for a host before the first slot
 abbrev pub no_outcome : Outcome
 no_outcome = record { delivered = None; status = record { words = replicate 4 0 } }
 
+-- the same for each host
 abbrev pub no_outcomes : Medl → List Outcome
 no_outcomes list = replicate (length list.slots) no_outcome
 
+-- what the newest slot left for each host
 abbrev pub outcomes_of : List Seat → List Outcome
 outcomes_of seats = map (λ (seat : Seat). seat.outcome) seats
 
+-- that for node k's host
 abbrev pub outcome_at : PlantView → ℕ → Outcome
 outcome_at plant k = get_or (outcomes_of plant.seats) k no_outcome
 

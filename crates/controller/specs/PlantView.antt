@@ -3,6 +3,7 @@ use Rattle.std.specs.Prelude.{ℕ, List}
 use Rattle.ttp_world.specs.declared.medl.Medl.{Medl}
 use Rattle.controller.specs.declared.seat.Seat.{Seat}
 
+-- a plant: its list, how many slots it has ended, and a seat for each node
 pub record PlantView : Type 0 where
   pub list : Medl
   pub slot : ℕ

@@ -38,6 +38,7 @@ most_ahead_in slot = most_ahead slot + most_jump
 
 -- Controllers.
 
+-- no slot has begun, or the newest has ended
 abbrev pub IsEnded : Turn → Type 0
 IsEnded turn = turn ≡ Ended
 
@@ -70,8 +71,7 @@ pub record IsFromWithin (carried : Carried) (script : Script) (bound : ℕ) : Ty
   pub stands : medium.StandsFor carried script carried.slot frames clock
   pub near : (p : ℕ) → unsigned_abs (clock p) ≤ bound
 
--- The plant between two slots.
-
+-- a plant between two slots: a seat for each node, and no clock further than so many slots can take it
 pub record IsPlantWithin (list : Medl) (slot : ℕ) (seats : List Seat) : Type 0 where
   pub valid : IsValid list
   pub few : slot ≤ SLOT_LIMIT

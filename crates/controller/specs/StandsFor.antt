@@ -27,6 +27,7 @@ use Rattle.controller.specs.ControllerView.{Turn, Ended, Begun, Planned, Control
 abbrev pub most_slots : ℕ
 most_slots = 2 ^ 64 - 1
 
+-- what is read of its node's past
 abbrev pub view_past : ControllerView → Diary → Surroundings → NodePast
 view_past view diary surroundings = past_of view.list view.node diary surroundings
 
@@ -47,9 +48,11 @@ pub record IsSameNode (old new : ControllerView) : Type 0 where
 
 -- The beginning of a slot: what the node does is settled, whatever diary the controller stood for.
 
+-- what the node does in a slot in which it is on or not, and armed or not
 abbrev pub act_begun : ControllerView → Diary → Surroundings → Bool → Bool → Act
 act_begun view diary surroundings on armed = act view.list view.node on armed (view_past view diary surroundings)
 
+-- the beginning of a slot: what the node does is settled, whatever diary the controller stood for
 abbrev pub Begins : ControllerView → ControllerView → Bool → Bool → ℤ → Type 0
 Begins old new on armed jump =
     (diary : Diary) (surroundings : Surroundings) → StandsFor old diary surroundings
@@ -72,6 +75,7 @@ abbrev pub payload_planned : Medl → NodePast → Chosen → Act → List ℕ
 payload_planned list past chosen Send = payload_sent list (coming_place list past) chosen
 payload_planned list past chosen _ = []
 
+-- a plan is right of one diary: its frame, and what the controller then stands for
 pub record IsPlan (old new : ControllerView) (planned : Option (List ℕ)) (diary : Diary) (surroundings : Surroundings) (a : Act)
     (jump : ℤ) (chosen : Chosen) : Type 0 where
   pub frames : frames_planned old.node planned
@@ -124,8 +128,7 @@ Ends old new outcome came_a came_b error drift =
     → Shows came_a sent_a clock → Shows came_b sent_b clock → AreSurroundings s a jump drift h
     → IsEnd old new outcome diary surroundings e s (delivery old.list old.node past h e)
 
--- What is shown of the node.
-
+-- this is what is shown of the node, whatever diary the controller stands for
 abbrev pub ShowsState : ControllerView → NodeState → Type 0
 ShowsState view state =
     (diary : Diary) (surroundings : Surroundings) (turn : Turn) → Stands view diary surroundings turn

@@ -7,6 +7,7 @@ use Rattle.ttp_world.specs.After.{cold_start_after, notes_after}
 use Rattle.ttp_world.specs.Past.{NodePast}
 use Rattle.fta_sync.specs.StandsFor.{kept_notes}
 
+-- what one more entry makes of node k's stint, where the last four notes are kept
 abbrev pub stint_after : Medl → ℕ → NodePast → Entry → NodePast
 stint_after list k past e =
     record past {

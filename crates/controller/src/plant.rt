@@ -75,7 +75,7 @@ fn step(
 
 impl Plant {
     /// The cluster of a list before the first slot: each node is off, and nothing is left for any
-    /// host. Only this call takes memory.
+    /// host. Only this call takes memory; `Memory` where that was refused.
     pub fn new(alloc: Global, list: &Medl) -> Result<Plant, Memory>
         requires { IsValid list.now }
         ensures list { IfOk result (λ plant. plant.list ≡ list.now) }

@@ -76,7 +76,7 @@ fn no_incidents() -> Incidents {
 }
 
 /// The seats of a list's nodes before the first slot: each node is off, and nothing is left for any
-/// host.
+/// host. `Memory` where memory was refused.
 pub fn seats_of(alloc: Global, list: &Medl) -> Result<Vec<Seat>, Memory>
     requires { IsValid list.now }
     ensures count { IfOk result (λ seats. length seats.items ≡ length list.now.slots) }

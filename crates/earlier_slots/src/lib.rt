@@ -5,7 +5,17 @@
 //! has one fault more, from the next slot on.
 //!
 //! The crate has no code that runs. The functions of [`laws`] do nothing, and their contracts are the laws,
-//! over the world's histories. It says nothing of what hosts read, which changes no history.
+//! over the world's histories. It says nothing of what hosts read, which changes no history. Which slots two
+//! scripts say the same of is `AgreeBelow` of `specs/Agreement.antt`: that is what a caller has to know, and
+//! for a script with one event more [`laws::a_later_event_changes_nothing`] gives it.
+//!
+//! `laws_of_two_scripts_that_say_the_same` of law_tests calls both laws, and controller cites
+//! `proofs/SameWorlds.antt` for what plants stand for:
+//!
+//! ```text
+//! earlier_slots::laws::histories_are_the_same();
+//! earlier_slots::laws::a_later_event_changes_nothing();
+//! ```
 #![tactic(auto)]
 
 pub mod laws;

@@ -5,6 +5,7 @@ use Rattle.std.specs.List.{list_any}
 use Rattle.ttp_base.specs.NodeSet.{below, has_node}
 use Rattle.fault_plan.specs.Plan.{Change, Incident, Return, Plan, sender, incident_at, is_armed_by, enters}
 
+-- what has become of a node by a plan; slots are counted from the start
 pub data Fate : Type 0 where
   -- it was not sound at the start
   Absent : Fate
@@ -16,6 +17,7 @@ pub data Fate : Type 0 where
   -- armed after it was lost: it listens from the beginning of a slot on, and has not entered yet
   Listening : (since : ℕ) → Fate
 
+-- the fate of node k at the start
 abbrev pub fate_at_begin : Plan → ℕ → Fate
 fate_at_begin plan k = if has_node plan.begin k then Sound else Absent
 
@@ -37,6 +39,7 @@ abbrev pub shown_in : ℕ → Fate → Fate
 shown_in slot (Falling change since) = Fallen change since slot
 shown_in slot fate = fate
 
+-- the same, if it is its own
 abbrev pub turned : Bool → ℕ → Fate → Fate
 turned own slot fate = if own then shown_in slot fate else fate
 
@@ -46,6 +49,7 @@ changed plan slot k fate =
     entered_in (enters plan slot k)
     (struck slot k (armed_in (is_armed_by plan slot k) slot fate) (incident_at plan slot))
 
+-- the fate of node k after a slot, by that before it
 abbrev pub next_fate : Plan → ℕ → ℕ → Fate → Fate
 next_fate plan slot k fate = turned (sender plan slot == k) slot (changed plan slot k fate)
 
@@ -54,13 +58,16 @@ abbrev pub fate_of : Plan → ℕ → ℕ → Fate
 fate_of plan zero k = next_fate plan 0 k (fate_at_begin plan k)
 fate_of plan (suc slot) k = next_fate plan (suc slot) k (fate_of plan slot k)
 
+-- a fate is that of a sound node
 abbrev pub is_sound : Fate → Bool
 is_sound Sound = true
 is_sound _ = false
 
+-- node k is sound after a slot
 abbrev pub is_sound_after : Plan → ℕ → ℕ → Bool
 is_sound_after plan slot k = is_sound (fate_of plan slot k)
 
+-- a fate is that of an absent node
 abbrev pub is_absent : Fate → Bool
 is_absent Absent = true
 is_absent _ = false
@@ -89,6 +96,7 @@ may_stay nodes slot _ = false
 abbrev pub is_good_slot : Plan → ℕ → Bool
 is_good_slot plan slot = is_sound_after plan slot (sender plan slot)
 
+-- a lost node has shown it in this slot, its first own one
 abbrev pub is_shown_in : ℕ → Fate → Bool
 is_shown_in slot (Fallen change since shown) = shown == slot
 is_shown_in slot _ = false
@@ -110,6 +118,7 @@ is_new_after plan slot k = list_any (is_entry_near plan.nodes slot k) plan.retur
 abbrev pub is_lasting_after : Plan → ℕ → ℕ → Bool
 is_lasting_after plan slot k = is_sound_after plan slot k && not (is_new_after plan slot k)
 
+-- and is measured
 abbrev pub is_steady_after : Plan → ℕ → ℕ → Bool
 is_steady_after plan slot k = has_node plan.measured k && is_lasting_after plan slot k
 

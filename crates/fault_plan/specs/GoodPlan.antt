@@ -28,6 +28,7 @@ pub record IsReturn (plan : Plan) (r : Return) : Type 0 where
   pub others : (q : Return) → Contains plan.returns q
       → (q ≡ r) ⊎ ((q.entered + 2 * plan.nodes ≤ r.armed) ⊎ (r.entered + 2 * plan.nodes ≤ q.armed))
 
+-- a plan is good: incidents lie two rounds apart, each loses a sound node, and four nodes that last are measured
 pub record IsGoodPlan (plan : Plan) : Type 0 where
   pub count : (4 ≤ plan.nodes) × (plan.nodes ≤ most_nodes)
   pub starter : (plan.starter < plan.nodes) × (has_node plan.begin plan.starter ≡ true)

@@ -22,6 +22,7 @@ pub record Ledger : Type 0 where
   -- how many first own slots of lost nodes did
   pub bad : ℕ
 
+-- the ledger of a node that begins anew in a slot
 abbrev pub opened : Bool → ℕ → Ledger
 opened own slot = record { own = own; base = slot; seen = 0; bad = 0 }
 

@@ -29,6 +29,7 @@ pub record Return : Type 0 where
   pub armed : ℕ
   pub entered : ℕ
 
+-- a plan of faults; slots are counted from the start
 pub record Plan : Type 0 where
   -- how many nodes take turns
   pub nodes : ℕ
@@ -49,6 +50,7 @@ pub record Plan : Type 0 where
 abbrev pub sender : Plan → ℕ → ℕ
 sender plan slot = (plan.starter + slot) % plan.nodes
 
+-- an incident is of a slot
 abbrev pub is_in_slot : ℕ → Incident → Bool
 is_in_slot slot incident = incident.slot == slot
 
@@ -56,9 +58,11 @@ is_in_slot slot incident = incident.slot == slot
 abbrev pub incident_at : Plan → ℕ → Option Incident
 incident_at plan slot = find (is_in_slot slot) plan.incidents
 
+-- a return of node k begins in a slot
 abbrev pub is_armed_there : ℕ → ℕ → Return → Bool
 is_armed_there slot k r = (r.armed == slot) && (r.node == k)
 
+-- one of node k ends in a slot
 abbrev pub enters_there : ℕ → ℕ → Return → Bool
 enters_there slot k r = (r.entered == slot) && (r.node == k)
 
@@ -78,6 +82,7 @@ change_of list script start faulty =
     if has_jump script faulty.node faulty.slot then Jumping
     else (if expected_sender list start faulty.slot == faulty.node then Sending else Receiving)
 
+-- an incident of the plan: a node that became faulty, how, and in which slot from the start on
 abbrev pub planned_incident : Medl → Script → ClusterStart → FaultyNode → Incident
 planned_incident list script start faulty = record {
   slot = faulty.slot - start.slot;
@@ -85,6 +90,7 @@ planned_incident list script start faulty = record {
   change = change_of list script start faulty;
 }
 
+-- the plan of the nodes that the hypothesis calls faulty, of whom none returns
 abbrev pub plan_of : Medl → Script → ClusterStart → Plan
 plan_of list script start = record {
   nodes = length list.slots;

@@ -39,6 +39,7 @@ pub record IsListening (plan : Plan) (slot k since : ℕ) : Type 0 where
   pub from : since ≤ slot
   pub waits : slot < plan.slots → slot < return.entered
 
+-- what the fate of node k tells after a slot
 abbrev pub IsTold : Plan → ℕ → ℕ → Fate → Type 0
 IsTold plan slot k Absent = Unit {0}
 IsTold plan slot k Sound = Unit {0}

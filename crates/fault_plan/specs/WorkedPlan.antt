@@ -12,6 +12,7 @@ use Rattle.fault_plan.specs.Plan.{Plan, Sending, Receiving, Jumping}
 abbrev bare_slot : SlotPlan
 bare_slot = record { kinds = kind.I ∷ []; payload = 0; sync = true; start = true; requests = false; live = 1 }
 
+-- seven nodes in one round, with I-frames: each is measured and may start, the drift is 1 and the window 100 microticks
 abbrev pub seven_nodes : Medl
 seven_nodes = record {
   version = 1;
@@ -40,6 +41,7 @@ three_faults = record {
 abbrev pub first_start : ClusterStart
 first_start = record { slot = 14; node = 0 }
 
+-- the plan of the script with three faults
 abbrev pub three_losses : Plan
 three_losses = record {
   nodes = 7;

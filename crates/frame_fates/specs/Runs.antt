@@ -22,6 +22,7 @@ pub record IsRowAfter (list : Medl) (script : Script) (history : History) (row :
   pub sizes : HaveSizes (slot_after list script history) chosen
   pub made : row ≡ row_in (slot_after list script history) chosen
 
+-- each row of a history does
 abbrev pub IsRun : Medl → Script → History → Type 0
 IsRun list script [] = Unit {0}
 IsRun list script (row ∷ history) = IsRowAfter list script history row × IsRun list script history

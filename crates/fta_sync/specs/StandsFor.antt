@@ -11,6 +11,7 @@ kept_notes = 4
 abbrev pub most_deviation : ℕ
 most_deviation = 2 ^ 60
 
+-- a number is such a deviation
 abbrev pub IsDeviation : ℤ → Type 0
 IsDeviation z = (neg_ℤ (pos most_deviation) ≤ℤ z) × (z ≤ℤ pos most_deviation)
 

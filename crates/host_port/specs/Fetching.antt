@@ -4,6 +4,7 @@ use Rattle.nbw_ring.specs.Numbers.{newest_number, IsMessageOf}
 use Rattle.nbw_ring.specs.States.{WriterState, ReaderState, with_joined}
 use Rattle.host_port.specs.Rings.{PortState}
 
+-- a fetcher is a reader of the port's outgoing ring
 abbrev pub IsFetcherOf : PortState → ReaderState → Type 0
 IsFetcherOf port fetcher = Some fetcher.ring ≡ port.outgoing
 

@@ -10,6 +10,7 @@ use Rattle.host_port.specs.declared.reading.HostReaders.TheInside.{Inside}
 use Rattle.host_port.specs.Rings.{ControllerState, place_of}
 use Rattle.host_port.specs.Reading.{ReadersState, reads_at, lent, got_of}
 
+-- a reader of each ring that is read, at its source's place, and the sources of the reads that got a message
 abbrev pub readers_of : List (Option ReaderState) → List Source → ReadersState
 readers_of readers calls = record { readers = readers; calls = calls }
 

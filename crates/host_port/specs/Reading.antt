@@ -42,6 +42,7 @@ AreReadersOfEnd end r = AreTheirRings (map (option_map (λ w. w.ring)) end) (rin
 
 -- Readers are lent.
 
+-- a read is of a node's host, and of the ring at this place
 abbrev pub is_read_at : ℕ → ℕ → HostRead → Bool
 is_read_at node place read = (read.host == node) && (place_of read.source == place)
 
@@ -49,6 +50,7 @@ is_read_at node place read = (read.host == node) && (place_of read.source == pla
 abbrev pub reads_at : List HostRead → ℕ → ℕ → ℕ
 reads_at reads node place = count_by (is_read_at node place) reads
 
+-- the same by the source
 abbrev pub reads_from : List HostRead → ℕ → Source → ℕ
 reads_from reads node from = reads_at reads node (place_of from)
 
@@ -96,6 +98,7 @@ abbrev pub buffers_of : Option ReaderState → ℕ
 buffers_of (Some r) = r.ring.shape.buffers
 buffers_of None = 0
 
+-- a reader's newest attempt got a message
 abbrev pub got_one : Option ReaderState → Bool
 got_one (Some r) = is_intact r
 got_one None = false

@@ -27,6 +27,7 @@ pub record PortState : Type 0 where
   pub incoming : List (Option RingState)
   pub outgoing : Option RingState
 
+-- a port of these parts
 abbrev pub port_of : ℕ → ℕ → List (Option RingState) → Option RingState → PortState
 port_of node buffers incoming outgoing =
     record { node = node; buffers = buffers; incoming = incoming; outgoing = outgoing }
@@ -49,14 +50,17 @@ HostState = Option WriterState
 
 -- An end is of a port where it writes the port's rings.
 
+-- a controller's end is of a port where it writes the rings that the port's host reads
 abbrev pub IsControllerEndOf : PortState → ControllerState → Type 0
 IsControllerEndOf port end = map (option_map (λ w. w.ring)) end ≡ port.incoming
 
+-- a host's end is of a port where it writes the port's outgoing ring
 abbrev pub IsHostEndOf : PortState → HostState → Type 0
 IsHostEndOf port end = option_map (λ w. w.ring) end ≡ port.outgoing
 
 -- Which rings a list gives a node.
 
+-- the shape of a ring of messages of so many words
 abbrev pub shape_of : Medl → ℕ → Shape
 shape_of list width = record { width = width; buffers = list.buffers }
 

@@ -31,7 +31,8 @@ impl Model for Fetcher {
 }
 
 impl HostEnd {
-    /// A fetcher that gets no message older than the newest.
+    /// A fetcher that gets no message older than the newest. It takes memory for one message; where
+    /// that is refused, the end is as it was.
     pub fn lend_fetch(&mut self) -> Result<Fetcher, Memory>
         requires ring { IsSome self.old }
         ensures fetcher { IfOk result (λ f. IsSomeAnd self.old (λ w. f ≡ new_reader w 1)) }
@@ -78,7 +79,8 @@ impl Fetcher {
 }
 
 impl Port {
-    /// A fetcher that gets no message older than the host's newest.
+    /// A fetcher that gets no message older than the host's newest. It takes memory for one message;
+    /// where that is refused, the end is as it was.
     pub fn lend_fetch(&self, end: &mut HostEnd) -> Result<Fetcher, Memory>
         requires own { IsHostEndOf self.now end.old }
         requires ring { IsSome end.old }

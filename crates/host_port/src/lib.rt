@@ -3,27 +3,31 @@
 //! A [`Port`] has the rings, which threads share by reference: a status ring, a ring for each other node
 //! with payload, and an outgoing ring where the node itself has payload. Its [`ControllerEnd`] alone
 //! writes what the host reads, and its [`HostEnd`] alone what the host sends. To read, a [`Fetcher`] is
-//! lent by the host's end and [`HostReaders`] by the controller's; they may go to other threads, and
-//! come back to be settled, which hands out what they got as [`Pair`]s.
+//! lent by the host's end and [`HostReaders`] by the controller's; they may go to other threads, and come
+//! back to be settled, which hands out what they got as [`Pair`]s.
 //!
 //! An end stands for the messages of its rings and for what was settled in them, in the words of
-//! `nbw_ring`. Each call does to the one ring that its arguments name what that ring's call does, and
+//! `nbw_ring`: the writer of each ring at the place of its source, where place 0 is the status and place
+//! k + 1 node k. Each call does to the one ring that its arguments name what that ring's call does, and
 //! leaves every other ring as it was. An end holds its rings, so that its own calls ask nothing of whose
 //! it is; what comes back to be settled is of its rings. The calls of a [`Port`] are the same ones, with
 //! the condition that the end, the fetcher and the readers are those of its rings.
 //!
 //! A controller's turn in a slot is [`ControllerEnd::deliver`] and [`ControllerEnd::publish`], and its
-//! host's is [`HostReaders::read`] for each read line, one beside the other:
+//! host's is [`HostReaders::read`] for each read line, one beside the other. cluster_run makes these
+//! calls in `hand_on`, `lend_one`, `read_one` and `settle_one`:
 //!
 //! ```text
-//! let readers = end.lend_reads(script.reads(slot), node)?;
-//! let (mut end, readers) = join(rt, || turn(end), || reads(rt, readers));
-//! let lines = end.settle_reads(node, readers)?;
+//! desk.end.publish(&outcome.status, gate);
+//! return Ok(Some(end.lend_reads(reads, node)?));
+//! readers.read(rt, read.source, gate);
+//! let lines = end.settle_reads(host, readers)?.into_vec();
 //! ```
 //!
-//! The types of a slot's report stand here too. The crate starts no thread, takes no lock, and waits in
-//! [`HostReaders::read`] alone, where a list has one buffer. It doesn't know which slot it is, nor what a
-//! status says.
+//! The types of a slot's report stand here too. A payload goes into words by `words_of_payload` and by
+//! nothing else, and a pair that a line shows was made by settling. [`Port::new`], lending and settling
+//! alone take memory. The crate starts no thread, takes no lock, and waits in [`HostReaders::read`]
+//! alone, where a list has one buffer. It doesn't know which slot it is, nor what a status says.
 #![tactic(auto)]
 
 mod ends;

@@ -102,7 +102,8 @@ impl Port {
     /// The port of a node of a list, with both its ends. Each ring has the message of zeros.
     ///
     /// It has a status ring of four words, a ring for each other node with payload, and an outgoing
-    /// ring where the node itself has payload, each with the list's number of buffers.
+    /// ring where the node itself has payload, each with the list's number of buffers. `Memory`
+    /// where memory was refused.
     pub fn new(
         alloc: Global,
         list: &Medl,

@@ -115,7 +115,8 @@ impl ControllerEnd {
     /// Readers of the rings that a node's host reads among these reads of a slot, each with room for the
     /// reads of its source. None gets a message older than its ring's newest.
     ///
-    /// It costs a walk over the slot's reads for each ring.
+    /// It costs a walk over the slot's reads for each ring, and takes memory for the messages; where
+    /// that is refused, the end is as it was.
     pub fn lend_reads(&mut self, reads: &[HostRead], node: u8) -> Result<HostReaders, Memory>
         ensures readers { IfOk result (λ r. (source : Source) → at_source r.readers source
             ≡ lent (at_source self.old source) (reads_from reads.now node source)) }
@@ -155,7 +156,8 @@ impl Port {
     /// Readers of the rings that the node's host reads in the slot, each with room for the reads of its
     /// source that the script has for it. None gets a message older than its ring's newest.
     ///
-    /// It costs a look-up in the script, and a walk over the slot's reads for each ring.
+    /// It costs a look-up in the script, and a walk over the slot's reads for each ring, and takes
+    /// memory for the messages; where that is refused, the end is as it was.
     pub fn lend_reads(
         &self,
         end: &mut ControllerEnd,

@@ -17,6 +17,7 @@ pub struct ReadLine {
 #[derive(Clone, Copy, Debug, PartialEq, Eq)]
 pub struct WriteLine {
     pub host: u8,
+    /// Counted from 1, since message 0 is the zeros.
     pub number: u64,
 }
 
@@ -24,14 +25,18 @@ pub struct WriteLine {
 /// delivered, by its number in its ring.
 #[derive(Clone, Copy, Debug, PartialEq, Eq)]
 pub struct NodeLine {
+    /// What is shown of it.
     pub state: NodeState,
+    /// None where its frame carried no message, and it delivered none.
     pub message: Option<u64>,
 }
 
 /// A slot: each node after it, and what hosts wrote and read in it, in the order of the script.
 #[derive(Drop)]
 pub struct SlotReport {
+    /// Counted from 0.
     pub slot: u32,
+    /// The first one is of node 0.
     pub nodes: List<NodeLine>,
     pub writes: List<WriteLine>,
     pub reads: List<ReadLine>,

@@ -16,6 +16,7 @@ pub record IsKeptAt (list : Medl) (script : Script) (slot : ℕ) (walk : KeptFau
   pub jumps : walk.jumps ≡ jumps.Far → disturbance_broken list script ≡ None
   pub faulty : HaveSameNodes walk.faulty (numbers_of (faulty_nodes_before list script (told_start walk.start) slot))
 
+-- the same of the walk by the test on armed nodes
 pub record IsBackAt (list : Medl) (script : Script) (slot : ℕ) (walk : BackFaulty) : Type 0 where
   pub start : start_of list script ≡ Some (told_start walk.start)
   pub jumps : walk.jumps ≡ jumps.Far → disturbance_broken list script ≡ None

@@ -5,6 +5,7 @@ use Rattle.ttp_world.specs.declared.medl.Medl.{Medl}
 use Rattle.ttp_world.specs.declared.script.Script.{Script}
 use Rattle.ttp_world.specs.Hypothesis.{ClusterStart, nodes_of, least_of, start_slot, starts_in, only_starter}
 
+-- the start in a slot, if there is one, where one node alone starts in it
 abbrev pub sole_start_in : Medl → Script → Option ℕ → Option ClusterStart
 sole_start_in list script None = None
 sole_start_in list script (Some slot) = only_starter slot (filter (starts_in list script slot) (nodes_of list))

@@ -14,6 +14,7 @@ use Rattle.hypothesis.specs.declared.walk.Walk.{Walk}
 
 -- Courses.
 
+-- some nodes, each faulty since this slot
 abbrev pub all_in : ℕ → List ℕ → List FaultyNode
 all_in slot ks = map (λ k. record { slot = slot; node = k }) ks
 
@@ -90,6 +91,7 @@ earliest_after gap earliest (slot ∷ slots) = earliest_after gap (slot + gap) s
 abbrev pub fault_slots_before : Script → Course → ℕ → List ℕ
 fault_slots_before script course slot = reverse (map (λ f. f.slot) (course.all (min slot script.slots)))
 
+-- two rounds of a list, in slots
 abbrev pub two_rounds : Medl → ℕ
 two_rounds list = 2 * length list.slots
 
@@ -101,6 +103,7 @@ first_lack enough lacks from slot =
 abbrev pub has_four_in : Medl → Script → Course → ℕ → Bool
 has_four_in list script course slot = has_four_steady list script (course.after slot)
 
+-- too few are steady after a slot
 abbrev pub lacks_four_in : Medl → Script → Course → ℕ → Bool
 lacks_four_in list script course slot = not (has_four_in list script course (suc slot))
 

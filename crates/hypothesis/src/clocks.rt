@@ -29,7 +29,8 @@ fn drift_of(script: &Script, node: u8) -> i64
     *script.drift.get(node as usize)
 }
 
-/// Whether each node's drift is within the list's.
+/// Whether each node's drift in a slot is no further from 0 than the list's bound, in microticks.
+/// Takes no memory.
 pub fn drifts_hold(list: &Medl, script: &Script) -> bool
     requires valid { IsValid list.now }
     requires script { IsValidScript list.now script.now }

@@ -1,26 +1,34 @@
 //! The test of the single-fault hypothesis.
 //!
-//! [`keeps`] says whether a script keeps the hypothesis for a list, under which the promise of safety
-//! stands: with the slot of the start, or with the first of the seven rules that is broken and the
-//! slot that is named for it.
+//! [`keeps`] says whether a script keeps the hypothesis for a list, under which the promise of safety stands:
+//! with the slot of the start, or with the first of the seven rules that is broken and the slot that is named
+//! for it. [`returns`] says the same of what armed nodes are owed, by eight rules. `show_keep` and
+//! `show_back` of ttp_top write their lines:
 //!
 //! ```text
-//! match keeps(&list, &script) {
-//!     Keep::Yes { start } => ..
-//!     Keep::No { rule, slot } => ..
-//! }
+//! match put_keep(&keeps_of(list, script), out) {
+//! match put_back(&returns(list, script), out) {
 //! ```
 //!
-//! Beside it stand the questions that other tests of scripts ask as well: the start, the sender that is
-//! due, drifts and reading errors within their bounds, and nodes to measure clocks by.
+//! Beside it stand the questions that other tests of scripts ask as well: the start, the sender that is due,
+//! drifts and reading errors within their bounds, and nodes to measure clocks by. [`KeptFaulty`] and
+//! [`BackFaulty`] go over a run slot by slot and tell who is faulty after each, by the one test and by the
+//! other, also where a rule is broken.
 //!
-//! [`KeptFaulty`] and [`BackFaulty`] go over a run slot by slot and tell who is faulty after each, by the one
-//! test and by the other, also where a rule is broken.
+//! A rule is told only where each rule before it holds in the whole run. The rules have a file each, and
+//! `src/walk.rt` goes over the slots once for those on losses, distances and nodes to measure; it keeps the
+//! faulty nodes as a set, and stands for a list that the definitions keep whole (`HasWalked` of
+//! `specs/Walks.antt`). A jump shows in the sum of a slot's jumps, since one that keeps its rule is never 0.
+//! `src/back_walk.rt` is the same walk over another `Course` of who is faulty, and `src/arms.rt` asks about
+//! an arm line once the four rounds from its slot on have come, so that `src/newest.rt` keeps the newest six
+//! rounds and no more.
 //!
-//! It stands on ttp_world, which has the list, the script and, in `specs/Hypothesis.antt`, the rules,
-//! and on precision, which says how wide a window has to be.
-//! It promises the answer that `keeps` defines there, for each valid list and script. It runs no
-//! cluster, and says nothing of what becomes of one whose script breaks a rule.
+//! It stands on ttp_world, which has the list, the script and, in `specs/Hypothesis.antt` and
+//! `specs/Returning.antt`, the rules, and on precision, which says how wide a window has to be. It promises
+//! the answer that is defined there, for each valid list and script. A slot costs each node two look-ups in
+//! the script's index, which begin where those of the slot before ended, whatever the number of events. It
+//! takes no memory, shares nothing between threads, runs no cluster, and says nothing of what becomes of one
+//! whose script breaks a rule.
 #![tactic(auto, using(ttp_world::proofs::Lists::nodes))]
 
 ghost use Rattle.std.specs.Prelude.{◌≡◌};

@@ -237,7 +237,8 @@ pub(crate) fn united(first: NodeSet, second: NodeSet) -> NodeSet
     all
 }
 
-/// The node that is due to send in a slot from the start on. Before it, the one that starts.
+/// The node that is due to send in a slot from the start on, where slots are counted from 0. Before
+/// it, the one that starts. A few steps.
 pub fn expected_sender(list: &Medl, start: Start, slot: u32) -> u8
     requires { IsValid list.now }
     ensures value { result ≡ expected_sender list.now (told_start start) slot }

@@ -14,7 +14,7 @@ use crate::nodes::lesser;
 use ttp_base::NodeSet;
 use ttp_world::{Medl, SLOT_LIMIT, Script};
 
-/// The slot of the start, and the node that starts.
+/// The slot of the start, counted from 0, and the node that starts.
 #[derive(Clone, Copy, Debug)]
 pub struct Start {
     pub slot: u32,
@@ -115,7 +115,7 @@ fn only_starter(slot: u32, starters: NodeSet) -> Option<Start>
 }
 
 /// The first slot in which a node would start on a silent bus, and that node, where it is one alone.
-/// Others may come on after it.
+/// Others may come on after it. Takes no memory, and goes over the nodes.
 pub fn sole_start(list: &Medl, script: &Script) -> Option<Start>
     requires valid { IsValid list.now }
     requires script { IsValidScript list.now script.now }
@@ -129,7 +129,7 @@ pub fn sole_start(list: &Medl, script: &Script) -> Option<Start>
 }
 
 /// The start, where there is one that keeps the rule: one node alone starts, and each that is ever on
-/// is on by then. The slot may lie past the run's last.
+/// is on by then. The slot may lie past the run's last. Takes no memory, and goes over the nodes.
 pub fn start_of(list: &Medl, script: &Script) -> Option<Start>
     requires valid { IsValid list.now }
     requires script { IsValidScript list.now script.now }

@@ -22,7 +22,8 @@ fn is_steady(list: &Medl, script: &Script, faulty: NodeSet, node: u8) -> bool
     list.slots.get(node as usize).sync && is_ever_on(script, node) && !faulty.has(node)
 }
 
-/// Whether four nodes with `sync` are ever on and not faulty, where these are faulty.
+/// Whether four nodes with `sync` are ever on and not faulty, where these are faulty. Takes no
+/// memory, and goes over the nodes.
 pub fn has_four_steady(list: &Medl, script: &Script, faulty: NodeSet) -> bool
     requires valid { IsValid list.now }
     requires script { IsValidScript list.now script.now }

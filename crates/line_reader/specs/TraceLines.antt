@@ -24,6 +24,7 @@ use Rattle.line_text.specs.Numerals.{message_digits}
 
 -- Texts.
 
+-- the text of a word
 abbrev pub word_text : Word → List ℕ
 word_text word.Off = codes "off"
 word_text word.Wait = codes "wait"
@@ -41,10 +42,12 @@ word_text word.Denied = codes "denied"
 word_text word.Unacknowledged = codes "unacknowledged"
 word_text word.Clique = codes "clique"
 
+-- the line of the hypothesis test, without its line feed
 abbrev pub keep_text : Keep → List ℕ
 keep_text (keep.Yes start) = codes "keeps yes start " ++ decimal start
 keep_text (keep.No rule slot) = codes "keeps no H" ++ decimal rule ++ codes " " ++ decimal slot
 
+-- the line on armed nodes, without its line feed
 abbrev pub back_text : Back → List ℕ
 back_text (back.Yes start) = codes "returns yes start " ++ decimal start
 back_text (back.No rule slot) = codes "returns no Q" ++ decimal rule ++ codes " " ++ decimal slot
@@ -95,19 +98,23 @@ abbrev pub fits_word : Word → Option ℕ → Option ℕ → Bool
 fits_word w peer message =
     (if names_peer w then is_some peer else is_none peer) && (may_name_message w || is_none message)
 
+-- an answer of the hypothesis test fits into the digits of its line
 abbrev pub FitsKeep : Keep → Type 0
 FitsKeep (keep.Yes start) = start < 10 ^ slot_digits
 FitsKeep (keep.No rule slot) = (rule < 256) × (slot < 10 ^ slot_digits)
 
+-- one on armed nodes does
 abbrev pub FitsBack : Back → Type 0
 FitsBack (back.Yes start) = start < 10 ^ slot_digits
 FitsBack (back.No rule slot) = (rule < 256) × (slot < 10 ^ slot_digits)
 
+-- an acknowledgement does
 abbrev pub FitsAck : Ack → Type 0
 FitsAck ack.Closed = Unit {0}
 FitsAck ack.First = Unit {0}
 FitsAck (ack.Doubt x) = x < 256
 
+-- a clock does
 abbrev pub FitsOffset : ℤ → Type 0
 FitsOffset (pos n) = n < 10 ^ offset_digits
 FitsOffset (negsuc n) = n + 1 < 10 ^ offset_digits
@@ -122,6 +129,7 @@ pub record FitsMembers (bytes : ℕ) (members : List ℕ) : Type 0 where
   pub set : members ≡ members_in (set_bits members)
   pub few : set_bits members < 256 ^ bytes
 
+-- the numbers of the first line do
 pub record FitsHeader (v n r t number : ℕ) : Type 0 where
   pub version : v < 256
   pub nodes : n < 256
@@ -129,6 +137,7 @@ pub record FitsHeader (v n r t number : ℕ) : Type 0 where
   pub slots : t < 10 ^ slot_digits
   pub schedule : number < 256 ^ 3
 
+-- what the line of a node says does
 pub record FitsNode (t k : ℕ) (w : Word) (p m : Option ℕ) (wide : Bool) (nodes : List ℕ) (good bad : ℕ) (a : Ack)
     (z : ℤ) : Type 0 where
   pub slot : t < 10 ^ slot_digits
@@ -142,11 +151,13 @@ pub record FitsNode (t k : ℕ) (w : Word) (p m : Option ℕ) (wide : Bool) (nod
   pub ack : FitsAck a
   pub offset : FitsOffset z
 
+-- what that of a written message says does
 pub record FitsWrite (t k i : ℕ) : Type 0 where
   pub slot : t < 10 ^ slot_digits
   pub host : k < 256
   pub number : i < 10 ^ message_digits
 
+-- what that of a message that was read says does
 pub record FitsRead (t k : ℕ) (from : Source) (i : ℕ) (bytes : List ℕ) : Type 0 where
   pub slot : t < 10 ^ slot_digits
   pub host : k < 256

@@ -20,6 +20,7 @@ use Rattle.line_reader.specs.declared.trace_line.TraceLine.TheVariants as line
 use Rattle.line_reader.specs.declared.trace_line.Word.{Word}
 use Rattle.line_reader.specs.declared.trace_line.Word.TheVariants as word
 
+-- the word of a line for a verdict
 abbrev pub word_of_verdict : Verdict → Word
 word_of_verdict verdict.Null = word.Null
 word_of_verdict verdict.Invalid = word.Invalid
@@ -28,6 +29,7 @@ word_of_verdict verdict.Correct = word.Correct
 word_of_verdict verdict.Tentative = word.Tentative
 word_of_verdict verdict.Denied = word.Denied
 
+-- the word of a line for why a node left
 abbrev pub word_of_reason : Reason → Word
 word_of_reason reason.Denied = word.Denied
 word_of_reason reason.Unacknowledged = word.Unacknowledged

@@ -2,7 +2,8 @@
 use ttp_base::NodeSet;
 use ttp_world::{Ack, Back, Keep, Payload, Source};
 
-/// What a node did in a slot, as the word of its line.
+/// What a node did in a slot, as the word of its line: the verdict, where it judged another's slot,
+/// and the reason, where it left. `docs/TRACES.md` has the words.
 #[derive(Clone, Copy, Debug, PartialEq, Eq)]
 pub enum Word {
     Off,

@@ -25,12 +25,15 @@ listed_line list slot k state message = node_line (member_digits list) slot k st
 abbrev pub head_text : ℕ → List ℕ
 head_text slot = codes "slot " ++ decimal slot ++ codes " node "
 
+-- the word for what node k did, and of whom it speaks
 abbrev pub entry_text : ℕ → Entry → List ℕ
 entry_text k entry = codes " " ++ entry_word entry ++ codes " peer " ++ number_or_dash (peer_of k entry)
 
+-- the number of a message, or a dash
 abbrev pub message_text : Option ℕ → List ℕ
 message_text message = codes " msg " ++ number_or_dash message
 
+-- the members, in as many digits as the list gives them
 abbrev pub members_text : Medl → List ℕ → List ℕ
 members_text list members = codes " mem " ++ hex (member_digits list) (set_bits members)
 

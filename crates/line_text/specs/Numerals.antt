@@ -7,6 +7,7 @@ use Rattle.ttp_world.specs.TraceNumbers.{number_named}
 abbrev pub message_digits : ℕ
 message_digits = 6
 
+-- a word of two digits or more begins with 0
 abbrev pub has_leading_zero : List ℕ → Bool
 has_leading_zero word = (slice_index word 0 == 48) && nat_lt 1 (length word)
 

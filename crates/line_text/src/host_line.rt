@@ -12,6 +12,7 @@ use ttp_world::Source;
 /// A message as its ring gives it to the host that reads it.
 #[derive(Clone, Copy, Debug)]
 pub struct RingMessage<'a> {
+    /// The ring that it was read from.
     pub source: Source,
     /// Its number in the ring.
     pub number: u64,

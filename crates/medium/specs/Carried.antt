@@ -7,6 +7,7 @@ pub record OnChannel : Type 0 where
   pub signal : Signal
   pub offset : ℤ
 
+-- what is on both channels of a slot
 pub record Carried : Type 0 where
   pub slot : ℕ
   pub a : OnChannel

@@ -5,9 +5,11 @@ use Rattle.medium.specs.declared.channel_state.Content.{Content}
 use Rattle.medium.specs.declared.channel_state.Content.TheVariants as content
 use Rattle.medium.specs.Carried.{OnChannel}
 
+-- a channel on which nothing is
 abbrev pub nothing : OnChannel
 nothing = record { signal = Silence; offset = pos 0 }
 
+-- a channel with noise
 abbrev pub noise : OnChannel
 noise = record { signal = Noise; offset = pos 0 }
 

@@ -30,6 +30,7 @@ pub record StandsFor (m : Carried) (script : Script) (t : ℕ) (frames : List Se
 abbrev pub StandsAtBeginning : Carried → ℕ → Type 0
 StandsAtBeginning medium slot = (script : Script) (clock : ℕ → ℤ) → StandsFor medium script slot [] clock
 
+-- the frame of a node with these bytes
 abbrev pub sent_by : ℕ → List ℕ → SentFrame
 sent_by node bytes = record { sender = node; bytes = bytes }
 

@@ -64,10 +64,12 @@ held_at field table = get_member (key_of field.name) table
 
 -- The faults of one key. It is there, it is of its kind, and what it holds is right.
 
+-- the faults of what a key holds: it is of its kind, and right
 abbrev pub kind_faults : {X : Type 0} → Field → (X → List MedlError) → Option X → List MedlError
 kind_faults field faults None = errors.WrongKind field ∷ []
 kind_faults field faults (Some x) = faults x
 
+-- the faults of one key: it is there, it is of its kind, and what it holds is right
 abbrev pub key_faults : {X : Type 0} → Field → (Data → Option X) → (X → List MedlError) → Option Data → List MedlError
 key_faults field seen_as faults None = errors.Missing field ∷ []
 key_faults field seen_as faults (Some d) = kind_faults field faults (seen_as d)
@@ -87,17 +89,21 @@ abbrev pub is_within : ℕ → ℕ → ℤ → Bool
 is_within low high (pos n) = nat_le low n && nat_le n high
 is_within low high (negsuc n) = false
 
+-- the fault of a number out of its range
 abbrev pub range_faults : Field → ℕ → ℕ → ℤ → List MedlError
 range_faults field low high z = if is_within low high z then [] else errors.OutOfRange field z ∷ []
 
+-- the faults of a key that holds a number of a range
 unfoldable pub number_faults : Field → ℕ → ℕ → Members → List MedlError
 number_faults field low high table = key_faults field as_integer (range_faults field low high) (held_at field table)
 
+-- the faults of a key that holds `true` or `false`
 unfoldable pub flag_faults : Field → Members → List MedlError
 flag_faults field table = key_faults field as_bool none_of (held_at field table)
 
 -- The values of one key.
 
+-- a number that is not negative; of another one 0
 abbrev pub natural : ℤ → ℕ
 natural (pos n) = n
 natural (negsuc n) = 0
@@ -109,31 +115,39 @@ number_or other field table = natural (unwrap_or (option_and_then as_integer (he
 abbrev pub number_at : Field → Members → ℕ
 number_at field table = number_or 0 field table
 
+-- whether a key holds `true`
 abbrev pub flag_at : Field → Members → Bool
 flag_at field table = unwrap_or (option_and_then as_bool (held_at field table)) false
 
+-- the text at a key
 abbrev pub text_at : Field → Members → List ℕ
 text_at field table = unwrap_or (option_and_then as_str (held_at field table)) []
 
+-- the array at a key
 abbrev pub items_at : Field → Members → Items
 items_at field table = unwrap_or (option_and_then as_array (held_at field table)) no_items
 
 -- A slot. Its kinds are letters, one for each round, and only frames of kind N and X carry payload.
 
+-- a letter is `I`, `N` or `X`
 abbrev pub is_kind : ℕ → Bool
 is_kind letter = letter == 73 || (letter == 78 || letter == 88)
 
+-- the kind of frame of a letter
 abbrev pub kind_of : ℕ → Kind
 kind_of letter = if letter == 78 then kind.N else (if letter == 88 then kind.X else kind.I)
 
+-- the fault of a slot's kinds, if they have one: they are letters, one for each round
 abbrev pub letters_faults : ℕ → ℕ → List ℕ → List MedlError
 letters_faults rounds k letters =
     if length letters == rounds && list_all is_kind letters then [] else errors.Kinds k ∷ []
 
+-- the same of what a slot holds under `kinds`
 unfoldable pub kinds_faults : ℕ → ℕ → Members → List MedlError
 kinds_faults rounds k table =
     let field = at_slot k names.Kinds in key_faults field as_str (letters_faults rounds k) (held_at field table)
 
+-- the kinds of slot k
 abbrev pub kinds_at : ℕ → Members → List Kind
 kinds_at k table = map kind_of (text_at (at_slot k names.Kinds) table)
 
@@ -145,6 +159,7 @@ most_payload kinds = if list_all is_bare kinds then 0 else 240
 abbrev pub request_faults : ℕ → ℕ → Bool → List MedlError
 request_faults k payload requests = if requests && (payload == 0) then errors.NoRequestData k ∷ [] else []
 
+-- the faults of `requests` of slot k, if it has the key
 unfoldable pub requests_faults : ℕ → ℕ → Members → List MedlError
 requests_faults k payload table =
     let field = at_slot k names.Requests in
@@ -152,13 +167,16 @@ requests_faults k payload table =
 
 -- The modes in which a slot is live. They are letters, `y` or `n`, one for each mode.
 
+-- a letter is `y` or `n`
 abbrev pub is_answer : ℕ → Bool
 is_answer letter = letter == 121 || letter == 110
 
+-- the fault of a slot's modes, if they have one: they are letters, one for each mode
 abbrev pub answers_faults : ℕ → ℕ → List ℕ → List MedlError
 answers_faults modes k letters =
     if length letters == modes && list_all is_answer letters then [] else errors.Live k ∷ []
 
+-- the same of what a slot holds under `live`, if it holds something there
 unfoldable pub live_faults : ℕ → ℕ → Members → List MedlError
 live_faults modes k table =
     let field = at_slot k names.Live in optional_faults field as_str (answers_faults modes k) (held_at field table)
@@ -172,15 +190,18 @@ live_of (letter ∷ letters) = (if letter == 121 then 1 else 0) + 2 * live_of le
 abbrev pub all_live : ℕ → ℕ
 all_live modes = 2 ^ modes - 1
 
+-- the modes of some letters, or all where none are told
 abbrev pub live_or_all : ℕ → Option (List ℕ) → ℕ
 live_or_all modes None = all_live modes
 live_or_all modes (Some letters) = live_of letters
 
+-- the modes in which slot k is live
 abbrev pub live_at : ℕ → ℕ → Members → ℕ
 live_at modes k table = live_or_all modes (option_and_then as_str (held_at (at_slot k names.Live) table))
 
 -- The whole slot.
 
+-- the faults of a whole slot, key by key
 unfoldable pub slot_faults : ℕ → ℕ → ℕ → Members → List MedlError
 slot_faults rounds modes k table =
     kinds_faults rounds k table
@@ -190,6 +211,7 @@ slot_faults rounds modes k table =
     ++ (requests_faults k (number_at (at_slot k names.DataSize) table) table
     ++ live_faults modes k table))))
 
+-- the slot that a table without faults says
 unfoldable pub plan_of : ℕ → ℕ → Members → SlotPlan
 plan_of modes k table = record {
   kinds = kinds_at k table;
@@ -202,13 +224,16 @@ plan_of modes k table = record {
 
 -- The array of slots.
 
+-- all elements of an array are tables
 abbrev pub are_tables : Items → Bool
 are_tables no_items = true
 are_tables (item d ds) = is_some (as_table d) && are_tables ds
 
+-- the fault of an array whose elements are not all tables
 abbrev pub tables_faults : Field → Items → List MedlError
 tables_faults field ds = if are_tables ds then [] else errors.WrongKind field ∷ []
 
+-- the faults of the array of slots: it is there, it is an array, and its elements are tables
 unfoldable pub array_faults : Field → Members → List MedlError
 array_faults field table = key_faults field as_array (tables_faults field) (held_at field table)
 
@@ -216,10 +241,12 @@ array_faults field table = key_faults field as_array (tables_faults field) (held
 abbrev pub element_of : Data → Members
 element_of d = unwrap_or (as_table d) no_members
 
+-- the elements of an array
 abbrev pub tables_of : Items → List Members
 tables_of no_items = []
 tables_of (item d ds) = element_of d ∷ tables_of ds
 
+-- the slots of a file, as tables
 abbrev pub slots_in : Members → List Members
 slots_in file = tables_of (items_at (at_top names.Slot) file)
 
@@ -227,6 +254,7 @@ slots_in file = tables_of (items_at (at_top names.Slot) file)
 abbrev pub slot_limit : ℕ → ℕ
 slot_limit version = 8 * member_bytes (version == 2)
 
+-- the fault of a list with too few slots or too many
 unfoldable pub count_faults : ℕ → ℕ → List MedlError
 count_faults version n = if nat_le 4 n && nat_le n (slot_limit version) then [] else errors.SlotCount n ∷ []
 
@@ -236,31 +264,38 @@ slots_faults rounds modes k [] = []
 slots_faults rounds modes k (table ∷ tables) =
     slot_faults rounds modes k table ++ slots_faults rounds modes (suc k) tables
 
+-- the slots from number k on
 abbrev pub plans_of : ℕ → ℕ → List Members → List SlotPlan
 plans_of modes k [] = []
 plans_of modes k (table ∷ tables) = plan_of modes k table ∷ plans_of modes (suc k) tables
 
 -- Keys that no list has.
 
+-- a key is one of some
 abbrev pub is_among : List FieldName → List ℕ → Bool
 is_among known key = list_any (λ name. bytes_eq (key_of name) key) known
 
+-- a table has no other keys than these
 abbrev pub has_only : List FieldName → Members → Bool
 has_only known no_members = true
 has_only known (member key d table) = is_among known key && has_only known table
 
+-- the fault of a file with a key at its top that no list has
 abbrev pub unknown_at_top : Members → List MedlError
 unknown_at_top file = if has_only top_keys file then [] else errors.Unknown None ∷ []
 
+-- the same of slot k
 abbrev pub unknown_at_slot : ℕ → Members → List MedlError
 unknown_at_slot k table = if has_only slot_keys table then [] else errors.Unknown (Some k) ∷ []
 
+-- the same of all slots, the first of which has this number
 abbrev pub unknown_in_slots : ℕ → List Members → List MedlError
 unknown_in_slots k [] = []
 unknown_in_slots k (table ∷ tables) = unknown_at_slot k table ++ unknown_in_slots (suc k) tables
 
 -- Slots for clock synchronization.
 
+-- the fault of slots of which fewer than four have sync
 unfoldable pub sync_faults : List SlotPlan → List MedlError
 sync_faults plans =
     let found = count_by (λ plan. plan.sync) plans in if nat_le 4 found then [] else errors.NoSync found ∷ []
@@ -275,9 +310,11 @@ modes_faults file =
 abbrev pub modes_in : Members → ℕ
 modes_in file = number_or 1 (at_top names.Modes) file
 
+-- the faults of keys that no list has
 unfoldable pub unknown_faults : Members → List MedlError
 unknown_faults file = unknown_at_top file ++ unknown_in_slots 0 (slots_in file)
 
+-- all faults of a file, in the order of the format
 unfoldable pub file_faults : Members → List MedlError
 file_faults file =
     let slots = slots_in file in
@@ -295,6 +332,7 @@ file_faults file =
     ++ (unknown_faults file
     ++ sync_faults (plans_of (modes_in file) 0 slots))))))))))))
 
+-- the list that a file without faults says
 unfoldable pub list_in : Members → Medl
 list_in file = record {
   version = number_at (at_top names.Version) file;
@@ -313,9 +351,11 @@ abbrev pub list_unless : List MedlError → Medl → Result Medl MedlError
 list_unless [] list = Ok list
 list_unless (fault ∷ faults) list = Err fault
 
+-- the list of a file, or its first fault
 unfoldable pub medl_in : Members → Result Medl MedlError
 medl_in file = list_unless (file_faults file) (list_in file)
 
+-- the same of a text that may be no document
 abbrev pub medl_of_document : Option Members → Result Medl MedlError
 medl_of_document None = Err errors.NotToml
 medl_of_document (Some file) = medl_in file

@@ -7,15 +7,18 @@ use Rattle.ttp_world.specs.declared.medl.Kind.TheVariants as kind
 use Rattle.ttp_world.specs.declared.medl.Medl.{Medl}
 use Rattle.ttp_world.specs.Medl.{kind_at, plan_at, payload_length}
 
+-- the letter of a kind of frame
 abbrev pub letter_of : Kind → List ℕ
 letter_of kind.I = codes "I"
 letter_of kind.N = codes "N"
 letter_of kind.X = codes "X"
 
+-- the word for whether something is so
 abbrev pub yes_or_no : Bool → List ℕ
 yes_or_no true = codes "yes"
 yes_or_no false = codes "no"
 
+-- the table's first line
 unfoldable pub table_head : Medl → List ℕ
 table_head list =
     codes "ttpbench schedule " ++ decimal list.version
@@ -23,6 +26,7 @@ table_head list =
     ++ codes " rounds " ++ decimal list.rounds
     ++ codes " schedule " ++ hex 6 list.schedule ++ newline
 
+-- the line of a slot in a round: its kind of frame, its bytes of payload, whether it is measured and its node may start
 unfoldable pub slot_line : Medl → ℕ → ℕ → List ℕ
 slot_line list round slot =
     codes "round " ++ decimal round ++ codes " slot " ++ decimal slot

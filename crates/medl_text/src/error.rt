@@ -30,7 +30,7 @@ impl FieldName {
     ghost use Rattle.std.specs.Prelude.{◌≡◌, ◌≤◌, length};
     ghost use Rattle.medl_text.specs.ListFile.{key_of};
 
-    /// The key as it is spelled in the file.
+    /// The key as it is spelled in the file, of at most 8 bytes.
     pub fn key(self) -> &'static str
         ensures text { result.now ≡ key_of self }
         ensures short { length result.now ≤ 8 }
@@ -59,7 +59,7 @@ impl FieldName {
 #[derive(Clone, Copy, Debug, PartialEq, Eq)]
 pub struct Field {
     pub name: FieldName,
-    /// The number of the element, where the key stands in one.
+    /// The number of the element, counted from 0, where the key stands in one.
     pub slot: Option<u8>,
 }
 

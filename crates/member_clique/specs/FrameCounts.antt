@@ -3,6 +3,7 @@ use Rattle.std.specs.Prelude.{ℕ, ◌+◌, Bool, if◌then◌else◌}
 use Rattle.ack_check.specs.declared.moves.AckMove.{AckMove}
 use Rattle.ack_check.specs.Moves.{adds_accepted, adds_rejected}
 
+-- how many frames a node accepted and rejected since its newest own slot, its own one counted
 pub record FrameCounts : Type 0 where
   pub accepted : ℕ
   pub rejected : ℕ

@@ -2,22 +2,24 @@
 //! clique.
 //!
 //! A [`Membership`] is a set of nodes, and a [`Clique`] counts the frames that the node accepted and
-//! rejected since its newest own slot. Both are changed by the moves of `ack_check`:
+//! rejected since its newest own slot. Both are changed by the moves of `ack_check`. A node of
+//! controller enters a judged slot so, in `judge`, and before its own slot asks
+//! `self.counts.may_send()`, in `own_act`:
 //!
-//! ```
-//! let mut members = Membership::of(joined.members);
-//! let mut clique = Clique::fresh();
-//! let asked = state.step(sender, verdict);            // `state` is the acknowledgement
+//! ```text
+//! let mut members = Membership::of(self.cstate.members);
 //! members.apply(asked, sender);
-//! clique.count(asked);
-//! // in its own slot, where clique.may_send(): members.add(own), and a fresh clique
+//! self.cstate = clock.cstate(members.set());
+//! self.counts.count(asked);
 //! ```
 //!
 //! What a move makes of them is said in the words of `ack_check`, which promises that a verdict's move
 //! leads to the members and counts that `ttp_world` reads of a diary with the judged entry more.
 //!
-//! The crate decides no move and sends nothing: what a verdict asks for is `ack_check`'s to say, and
-//! leaving is the work of the layer above. It takes no memory.
+//! Membership is in the manner of Pfeifer (2000), and the clique rule with its counts is this bench's
+//! own. Each call costs a few steps; copies go on by themselves. The crate decides no move and sends
+//! nothing: what a verdict asks for is `ack_check`'s to say, and leaving is the work of the layer
+//! above. It takes no memory.
 #![tactic(auto)]
 
 mod clique;

@@ -12,15 +12,18 @@ use Rattle.ttp_world.specs.World.{Numbers, world}
 use Rattle.mode_change.specs.declared.node.Modes.{Modes}
 use Rattle.mode_change.specs.Modes.{modes_of, live_in}
 
+-- the first line of a text of modes
 abbrev pub mode_head : Medl → Script → List ℕ
 mode_head list script =
     codes "ttpbench modes 1 nodes " ++ decimal (length list.slots) ++ codes " slots " ++ decimal script.slots ++ newline
 
+-- the word for whether a delivered payload is live, or a dash where none is or the node knew no mode
 abbrev pub live_word : Option Bool → List ℕ
 live_word None = codes "-"
 live_word (Some true) = codes "yes"
 live_word (Some false) = codes "no"
 
+-- the line of node k after a slot: the mode that it runs, the next one, and whether what it delivered is live
 abbrev pub mode_line : ℕ → ℕ → Modes → Option Bool → List ℕ
 mode_line slot k modes live =
     codes "slot " ++ decimal slot ++ codes " node " ++ decimal k
@@ -42,5 +45,6 @@ mode_history_lines list script [] = []
 mode_history_lines list script (row ∷ history) =
     mode_history_lines list script history ++ mode_slot_lines list script row history
 
+-- the text of modes of a run
 abbrev pub mode_lines : Medl → Script → Numbers → Lines
 mode_lines list script numbers = mode_head list script ∷ mode_history_lines list script (world list script numbers)

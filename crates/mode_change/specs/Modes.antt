@@ -50,6 +50,7 @@ mode_requested list script row before k =
 -- `Modes`, a type of the code, is the mode that it runs, where it knows that, and the one that it runs next, where it
 -- was asked for one.
 
+-- those of a node that knows no mode and was asked for none
 abbrev pub no_modes : Modes
 no_modes = record { mode = None; next = None }
 
@@ -77,6 +78,7 @@ ends_cycle list place = ends_round list place && (suc place.round == list.rounds
 abbrev pub switched : Modes → Modes
 switched modes = record { mode = option_or modes.next modes.mode; next = None }
 
+-- the same at the end of the cluster cycle, and else no change
 abbrev pub switched_at : Bool → Modes → Modes
 switched_at ends modes = if ends then switched modes else modes
 
@@ -88,9 +90,11 @@ modes_of list script (row ∷ history) k =
     (with_request (mode_requested list script row history k)
     (modes_with (entry_of row k) (modes_of list script history k)))
 
+-- the mode that node k runs, if it knows that
 abbrev pub mode_of : Medl → Script → History → ℕ → Option ℕ
 mode_of list script history k = (modes_of list script history k).mode
 
+-- the mode that it runs next, if it was asked for one
 abbrev pub next_of : Medl → Script → History → ℕ → Option ℕ
 next_of list script history k = (modes_of list script history k).next
 
@@ -100,6 +104,7 @@ next_of list script history k = (modes_of list script history k).next
 abbrev pub is_live : Medl → ℕ → ℕ → Bool
 is_live list p mode = (plan_at list p).live / 2 ^ mode % 2 == 1
 
+-- the payload that was delivered is live in the mode that is known, where both are
 abbrev pub is_delivery_live : Medl → Option Delivered → Option ℕ → Option Bool
 is_delivery_live list None mode = None
 is_delivery_live list (Some delivered) None = None

@@ -8,6 +8,7 @@ use Rattle.ttp_world.specs.Diary.{History}
 use Rattle.precision.specs.Together.{IsIn}
 use Rattle.mode_change.specs.Modes.{mode_of, next_of}
 
+-- after a history each node of a group runs a mode, and all the same
 pub record RunsOneMode (list : Medl) (script : Script) (group : ℕ → Bool) (history : History) : Type 0 where
   -- each node of the group knows which mode it runs
   pub knows : (k : ℕ) → IsIn list group k → IsSome (mode_of list script history k)

@@ -19,6 +19,7 @@ bare = record { kinds = kind.I ∷ []; payload = 0; sync = true; start = false; 
 abbrev asking : SlotPlan
 asking = record { kinds = kind.N ∷ []; payload = 1; sync = true; start = false; requests = true; live = 1 }
 
+-- four nodes in one round and two modes: node 0 may start, and the payload of node 1 may ask for a mode
 abbrev pub two_modes : Medl
 two_modes = record {
   version = 1;
@@ -48,6 +49,7 @@ quiet = record { sent = replicate 4 None; read = [] }
 abbrev sending : ℕ → SlotNumbers
 sending i = record { sent = None ∷ Some i ∷ None ∷ None ∷ []; read = [] }
 
+-- the numbers of that run
 abbrev pub numbers : Numbers
 numbers =
     quiet ∷ quiet ∷ sending 1 ∷ quiet ∷ quiet ∷ quiet ∷ sending 1 ∷ quiet ∷ quiet ∷ quiet ∷ sending 0

@@ -2,10 +2,25 @@
 //! the cluster cycle.
 //!
 //! A list names how many modes there are, whose payloads may ask for one, and in which modes each slot's
-//! payload is live. That changes nothing of what the cluster does: what mode a node runs is read from
-//! its diary and from the payloads that it sent and delivered (`specs/Modes.antt`). By [`one_mode`] all
-//! correct nodes run one mode where a script keeps the single-fault hypothesis. [`put_modes`] writes for a
-//! trace which mode each node runs after each slot (`specs/ModeText.antt`).
+//! payload is live. That changes nothing of what the cluster does: what mode a node runs is read from its
+//! diary and from the payloads that it sent and delivered (`specs/Modes.antt`). By [`one_mode`] all
+//! correct nodes run one mode where a script keeps the single-fault hypothesis; theorems cites it as
+//! `one-mode` of `proofs/Alike.antt`. [`put_modes`] writes for a trace which mode each node runs after
+//! each slot (`specs/ModeText.antt`). `show_text` of ttp_top does so for a text that `verify` of
+//! trace_check took:
+//!
+//! ```text
+//! match put_modes(alloc, list, script, text, out) {
+//!     Ok(()) => 0,
+//!     Err(ModeFault::Failed) => 6,
+//!     Err(ModeFault::Memory) => 7,
+//! }
+//! ```
+//!
+//! A plant goes through the run, with the messages that the lines of the trace name. A slot costs its
+//! nodes, as it does a plant, and a line for each node is one write. All memory is taken before the first
+//! line is written, and none for a slot. Threads share nothing here. No crate below knows of modes but as
+//! fields of the list.
 #![tactic(auto, unfolding(ttp_base::specs::NodeSet::with_node, ttp_base::specs::NodeSet::members_in, ttp_world::specs::Trace::digits))]
 
 ghost use Rattle.std.specs.Prelude.{◌≡◌, ◌<◌, ◌≤◌, length};

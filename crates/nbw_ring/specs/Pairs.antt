@@ -3,6 +3,7 @@ use Rattle.std.specs.Prelude.{ℕ, List, [], ◌∷◌, map, take, drop}
 use Rattle.std.specs.List.{flat_map}
 use Rattle.nbw_ring.specs.declared.view.Message.{Message}
 
+-- the numbers of the messages of pairs, in their order
 abbrev pub numbers_in : List Message → List ℕ
 numbers_in pairs = map (λ p. p.number) pairs
 

@@ -9,12 +9,15 @@ use Rattle.nbw_ring.specs.declared.view.View.{View}
 use Rattle.nbw_ring.specs.declared.view.View.TheVariants.{Writer, Reader, Spent}
 use Rattle.nbw_ring.specs.States.{RingState, WriterState, ReaderState}
 
+-- the shape that is read of a value that has none
 abbrev pub no_shape : Shape
 no_shape = record { width = 0; buffers = 0 }
 
+-- what is read of a value that is no writer
 abbrev pub no_writing : Writing
 no_writing = record { shape = no_shape; messages = []; is_open = false; put = []; joined = [] }
 
+-- what is read of a value that is no reader
 abbrev pub no_reading : Reading
 no_reading = record { shape = no_shape; floor = 0; seen = 0; first = 0; tries = 0; words = []; got = [] }
 
@@ -30,6 +33,7 @@ reading_of (Writer w) = no_reading
 reading_of (Reader v) = v
 reading_of Spent = no_reading
 
+-- the seat of a thread at the table of a ring
 abbrev pub RingSeat : Type 0
 RingSeat = Seat (Unit {0}) View
 
@@ -40,6 +44,7 @@ IsWriterSeat seat = seat.me ≡ (Writer (writing_of seat.me.0), [])
 abbrev pub IsReaderSeat : RingSeat → Type 0
 IsReaderSeat seat = seat.me ≡ (Reader (reading_of seat.me.0), [])
 
+-- the ring of a table
 abbrev pub ring_of : TableId → Shape → RingState
 ring_of id shape = record { id = id; shape = shape }
 

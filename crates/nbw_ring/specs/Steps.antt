@@ -62,6 +62,7 @@ new_reading w = record {
 abbrev pub reading_settlement : Reading → Settlement
 reading_settlement v = record { pairs = v.got; seen = v.seen; tries = v.tries }
 
+-- the writer once a reader is settled
 abbrev pub with_settled : Reading → Writing → Writing
 with_settled v w = record w { joined = w.joined ++ reading_settlement v ∷ [] }
 
@@ -76,11 +77,13 @@ as_reader f (Writer w) = Writer w
 as_reader f (Reader v) = Reader (f v)
 as_reader f Spent = Spent
 
+-- what a new reader knows that a writer lends
 abbrev pub lent_view : View → View
 lent_view (Writer w) = Reader (new_reading w)
 lent_view (Reader v) = Spent
 lent_view Spent = Spent
 
+-- what the writer knows once a reader is joined
 abbrev pub joined_view : View → View → View
 joined_view (Writer w) (Reader v) = Writer (with_settled v w)
 joined_view (Writer w) (Writer u) = Writer w
@@ -94,6 +97,7 @@ pub record IsLater (counter : ℕ) (v : Reading) : Type 0 where
   pub above_seen : v.seen ≤ counter
   pub small : counter ≤ 2 * most_number + 1
 
+-- the same of a thread, if it is a reader
 abbrev pub Follows : ℕ → View → Type 0
 Follows counter (Writer w) = Unit {0}
 Follows counter (Reader v) = IsLater counter v
@@ -111,20 +115,26 @@ Confirms counter Spent = Unit {0}
 abbrev pub tells_begin : Step (Unit {0}) → Sat → ℕ → Sat → Type 0
 tells_begin st m found m' = m' ≡ (as_writer with_open m.0, m.1)
 
+-- a word is put
 abbrev pub tells_put : Step (Unit {0}) → Sat → ℕ → Sat → Type 0
 tells_put st m found m' = m' ≡ (as_writer (with_word st.first) m.0, m.1)
 
+-- a write ends
 abbrev pub tells_end : Step (Unit {0}) → Sat → ℕ → Sat → Type 0
 tells_end st m found m' = m' ≡ (as_writer with_new_message m.0, m.1)
 
+-- an attempt begins
 abbrev pub tells_first_load : Step (Unit {0}) → Sat → ℕ → Sat → Type 0
 tells_first_load st m found m' = (m' ≡ (as_reader (with_first found) m.0, m.1)) × Follows found m.0
 
+-- a word is loaded
 abbrev pub tells_word_load : Step (Unit {0}) → Sat → ℕ → Sat → Type 0
 tells_word_load st m found m' = m' ≡ (as_reader (with_loaded found) m.0, m.1)
 
+-- an attempt ends
 abbrev pub tells_last_load : Step (Unit {0}) → Sat → ℕ → Sat → Type 0
 tells_last_load st m found m' = (m' ≡ (as_reader (with_last found) m.0, m.1)) × Follows found m.0
 
+-- the counter is loaded once a reader was joined
 abbrev pub tells_settle_load : Step (Unit {0}) → Sat → ℕ → Sat → Type 0
 tells_settle_load st m found m' = (m' ≡ m) × Confirms found m.0

@@ -36,7 +36,7 @@ impl Model for Ring {
 
 impl Ring {
     /// A ring of messages of `width` words in so many buffers, with the one who writes it. Its opening
-    /// message, number 0, has zeros.
+    /// message, number 0, has zeros. `Memory` where memory was refused.
     pub fn new(alloc: Global, width: usize, buffers: usize) -> Result<(Ring, Writer), Memory>
         requires width { (0 < width) × (width ≤ 32) }
         requires buffers { (0 < buffers) × (buffers ≤ 16) }
@@ -77,7 +77,8 @@ impl Ring {
         writer.write(words, gate);
     }
 
-    /// A new reader with room for so many messages, none of them older than the writer's newest.
+    /// A new reader with room for so many messages, none of them older than the writer's newest. It takes memory
+    /// for these; where that is refused, the writer is as it was.
     pub fn lend(&self, writer: &mut Writer, reads: usize) -> Result<Reader, Memory>
         requires own { writer.old.ring ≡ self.now }
         ensures reader { IfOk result (λ r. r ≡ new_reader writer.old reads) }

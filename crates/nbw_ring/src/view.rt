@@ -3,14 +3,14 @@
 
 use std::collections::LinkedList;
 
-/// How many words a message has, and how many buffers a ring has.
+/// How many words of 64 bits a message has, and how many buffers a ring has.
 #[derive(Clone, Copy)]
 pub struct Shape {
     pub width: usize,
     pub buffers: usize,
 }
 
-/// A message with its number.
+/// A message with its number; the opening one has number 0.
 pub struct Message {
     pub number: u64,
     pub words: LinkedList<u64>,

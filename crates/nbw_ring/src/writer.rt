@@ -62,7 +62,8 @@ impl Writer {
         self.number = number;
     }
 
-    /// A new reader with room for so many messages, none of them older than the newest.
+    /// A new reader with room for so many messages, none of them older than the newest. It takes memory for
+    /// these; where that is refused, the writer is as it was.
     pub fn lend(&mut self, reads: usize) -> Result<Reader, Memory>
         ensures reader { IfOk result (λ r. r ≡ new_reader self.old reads) }
         ensures writer { self.new ≡ self.old }

@@ -56,6 +56,7 @@ texts_of_hosts trace t = map (host_text t) (slot_at trace t).hosts
 abbrev pub texts_of_slot : WholeTrace → ℕ → Lines
 texts_of_slot trace t = texts_of_nodes trace t ++ texts_of_hosts trace t
 
+-- all lines of a trace
 abbrev pub texts_of_trace : WholeTrace → Lines
 texts_of_trace trace =
     first_text trace

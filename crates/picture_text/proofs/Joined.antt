@@ -18,7 +18,7 @@ pub element_parts : (a s b d quote g n : List ℕ)
 element_parts a s b d quote g n = simp append_assoc refl
 
 -- a cell whose places are p and q
-cell_in_parts : (a b class quote g t title u r p m n q k shown e end : List ℕ)
+pub cell_in_parts : (a b class quote g t title u r p m n q k shown e end : List ℕ)
     → (a ++ b) ++ class ++ (quote ++ g ++ t) ++ title ++ (u ++ r ++ p ++ m ++ n ++ q ++ k) ++ shown ++ (e ++ end)
     ≡ a ++ (b ++ class ++ quote) ++ g ++ (t ++ title ++ u) ++ r ++ p ++ m ++ n ++ q ++ k ++ shown ++ e ++ end
 cell_in_parts a b class quote g t title u r p m n q k shown e end = simp append_assoc refl

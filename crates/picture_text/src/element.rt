@@ -10,7 +10,7 @@ use crate::frame::Corner;
 use ttp_base::Line;
 
 /// Adds a place.
-pub(crate) fn put_place(line: &mut Line, x: u64, y: u64)
+pub fn put_place(line: &mut Line, x: u64, y: u64)
     requires { length line.old ≤ 590 }
     ensures text { line.new ≡ line.old ++ place x y }
     ensures short { length line.new ≤ length line.old + 50 }
@@ -23,7 +23,7 @@ pub(crate) fn put_place(line: &mut Line, x: u64, y: u64)
 }
 
 /// Begins a cell, before its class.
-pub(crate) fn open_cell(line: &mut Line)
+pub fn open_cell(line: &mut Line)
     ensures { line.new ≡ codes "<g class=\"" }
 {
     line.clear();
@@ -31,7 +31,7 @@ pub(crate) fn open_cell(line: &mut Line)
 }
 
 /// What stands between the class of a cell or a mark and its title.
-pub(crate) fn open_title(line: &mut Line)
+pub fn open_title(line: &mut Line)
     requires { length line.old ≤ 600 }
     ensures text { line.new ≡ line.old ++ codes "\"><title>" }
     ensures size { length line.new ≡ length line.old + 9 }
@@ -54,7 +54,7 @@ pub(crate) fn close_title(line: &mut Line, at: Corner)
 }
 
 /// Ends a cell.
-pub(crate) fn close_cell(line: &mut Line)
+pub fn close_cell(line: &mut Line)
     requires { length line.old ≤ 620 }
     ensures { line.new ≡ line.old ++ (codes "</text></g>" ++ newline) }
 {
@@ -87,11 +87,11 @@ fn put_point(line: &mut Line, at: Corner)
 }
 
 /// Begins a mark, up to its title.
-pub(crate) fn open_mark(line: &mut Line, class: &str, shape: &str, at: Corner)
-    requires { (length class.now ≤ 6) × (length shape.now ≤ 8) }
+pub fn open_mark(line: &mut Line, class: &str, shape: &str, at: Corner)
+    requires { (length class.now ≤ 8) × (length shape.now ≤ 11) }
     ensures text { line.new ≡ codes "<path class=\"" ++ class.now ++ codes "\" d=\"M"
         ++ (decimal at.x ++ codes " " ++ decimal at.y) ++ shape.now ++ codes "\"><title>" }
-    ensures short { length line.new ≤ 83 }
+    ensures short { length line.new ≤ 88 }
 {
     line.clear();
     line.put_text("<path class=\"");
@@ -103,7 +103,7 @@ pub(crate) fn open_mark(line: &mut Line, class: &str, shape: &str, at: Corner)
 }
 
 /// Ends a mark.
-pub(crate) fn close_mark(line: &mut Line)
+pub fn close_mark(line: &mut Line)
     requires { length line.old ≤ 624 }
     ensures { line.new ≡ line.old ++ (codes "</title></path>" ++ newline) }
 {
@@ -111,7 +111,7 @@ pub(crate) fn close_mark(line: &mut Line)
 }
 
 /// Begins a text without a class, before what it shows.
-pub(crate) fn open_text(line: &mut Line, x: u64, y: u64)
+pub fn open_text(line: &mut Line, x: u64, y: u64)
     ensures text { line.new ≡ codes "<text" ++ place x y ++ codes ">" }
     ensures short { length line.new ≤ 56 }
 {
@@ -122,7 +122,7 @@ pub(crate) fn open_text(line: &mut Line, x: u64, y: u64)
 }
 
 /// Begins a text of a class.
-pub(crate) fn open_text_of(line: &mut Line, class: &str, x: u64, y: u64)
+pub fn open_text_of(line: &mut Line, class: &str, x: u64, y: u64)
     requires { length class.now ≤ 10 }
     ensures text { line.new ≡ codes "<text" ++ class_of class.now ++ place x y ++ codes ">" }
     ensures short { length line.new ≤ 85 }
@@ -136,7 +136,7 @@ pub(crate) fn open_text_of(line: &mut Line, class: &str, x: u64, y: u64)
 }
 
 /// Ends a text.
-pub(crate) fn close_text(line: &mut Line)
+pub fn close_text(line: &mut Line)
     requires { length line.old ≤ 630 }
     ensures { line.new ≡ line.old ++ (codes "</text>" ++ newline) }
 {

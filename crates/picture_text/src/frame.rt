@@ -15,8 +15,8 @@ pub(crate) struct Frame {
 
 /// The upper left corner of a cell.
 #[derive(Clone, Copy)]
-pub(crate) struct Corner {
-    pub(crate) x: u64,
-    pub(crate) y: u64,
-    ghost near: { (x ≤ 2 ^ 60) × (y ≤ 2 ^ 60) },
+pub struct Corner {
+    pub x: u64,
+    pub y: u64,
+    pub ghost near: { (x ≤ 2 ^ 60) × (y ≤ 2 ^ 60) },
 }

@@ -5,7 +5,7 @@ ghost use Rattle.picture_text.specs.Window.{columns, band_height, bands, legend_
 use crate::frame::{Corner, Frame};
 
 /// How many columns a picture of so many nodes has: as many as whole rounds need.
-pub(crate) fn columns(nodes: u8) -> u32
+pub fn columns(nodes: u8) -> u32
     requires { (1 ≤ nodes) × (nodes ≤ 24) }
     ensures value { result ≡ columns nodes }
     ensures some { (1 ≤ result) × (result ≤ 48) }
@@ -77,7 +77,7 @@ pub(crate) fn corner(frame: Frame, slot: u32, row: u8) -> Corner
 }
 
 /// The place so far to the right of a corner and below it.
-pub(crate) fn beside(at: Corner, right: u8, down: u8) -> Corner
+pub fn beside(at: Corner, right: u8, down: u8) -> Corner
     requires { (at.x ≤ 2 ^ 44) × (at.y ≤ 2 ^ 44) }
     ensures x { result.x ≡ at.x + right }
     ensures y { result.y ≡ at.y + down }

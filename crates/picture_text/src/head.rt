@@ -153,8 +153,8 @@ fn make_shown(line: &mut Line, frame: Frame, strange: Option<u32>)
     close_text(line);
 }
 
-// Adds what the answer of the hypothesis test means.
-fn put_keep_meaning(line: &mut Line, keep: &Keep)
+/// Adds what the answer of the hypothesis test means.
+pub fn put_keep_meaning(line: &mut Line, keep: &Keep)
     requires { length line.old ≤ 400 }
     ensures text { line.new ≡ line.old ++ keep_meaning keep.now }
     ensures short { length line.new ≤ length line.old + 130 }
@@ -182,8 +182,8 @@ fn make_keep_said(line: &mut Line, keep: &Keep)
     close_text(line);
 }
 
-// What the answer on armed nodes means.
-fn back_meaning(back: &Back) -> &'static str
+/// What the answer on armed nodes means.
+pub fn back_meaning(back: &Back) -> &'static str
     ensures text { result.now ≡ back_meaning back.now }
     ensures short { length result.now ≤ 100 }
 {

@@ -5,7 +5,8 @@
 //! `specs/Window.antt` says which slots are shown and where they stand, `specs/Cells.antt` what stands in a cell, and
 //! `specs/Tables.antt` has the letters, colours and meanings.
 //!
-//! The crate reads no text: the trace is a value of whole_trace. It takes no memory.
+//! The crate reads no text: the trace is a value of whole_trace. It takes no memory. Where the lines of a picture are
+//! formed and written ([`Sheet`]), and the elements that they are made of, are there for other pictures too.
 #![tactic(auto)]
 
 mod band;
@@ -28,5 +29,11 @@ mod titles;
 mod walk;
 mod window;
 
+pub use element::{close_mark, close_text, open_cell, open_mark, open_text, open_text_of, open_title};
+pub use element::{close_cell, put_place};
+pub use frame::Corner;
+pub use grid::{beside as place_beside, columns};
+pub use head::{back_meaning, put_keep_meaning};
 pub use picture::put_picture;
+pub use sheet::Sheet;
 pub use window::Span;

@@ -10,14 +10,14 @@ use ttp_base::{Failed, Line, Sink};
 /// After a failure nothing more is written, so that what writes several lines goes on as if it had written
 /// them, and one place at the end tells of it.
 #[derive(Drop)]
-pub(crate) struct Sheet {
-    pub(crate) line: Line,
+pub struct Sheet {
+    pub line: Line,
     pub(crate) long: LongLine,
-    pub(crate) failed: bool,
+    pub failed: bool,
 }
 
 impl Sheet {
-    pub(crate) fn new() -> Sheet
+    pub fn new() -> Sheet
         ensures { result.failed ≡ false }
     {
         Sheet {
@@ -29,7 +29,7 @@ impl Sheet {
 
     /// Writes the line.
     #[tactic(auto, using(crate::proofs::Puts::puts))]
-    pub(crate) fn write<K: Sink>(&mut self, out: &mut K)
+    pub fn write<K: Sink>(&mut self, out: &mut K)
         ensures { Puts self.old.failed (K.output out.old) self.new.failed (K.output out.new) (self.old.line ∷ []) }
     {
         if self.failed {
@@ -57,7 +57,7 @@ impl Sheet {
 
     /// Writes a line that never changes.
     #[tactic(auto, using(crate::proofs::Puts::puts))]
-    pub(crate) fn put<K: Sink>(&mut self, line: &[u8], out: &mut K)
+    pub fn put<K: Sink>(&mut self, line: &[u8], out: &mut K)
         ensures { Puts self.old.failed (K.output out.old) self.new.failed (K.output out.new) (line.now ∷ []) }
     {
         if self.failed {
@@ -70,7 +70,7 @@ impl Sheet {
     }
 
     /// Whether all was written.
-    pub(crate) fn end(self) -> Result<(), Failed>
+    pub fn end(self) -> Result<(), Failed>
         ensures { IsOk result ↔ (self.failed ≡ false) }
     {
         if self.failed { Err(Failed) } else { Ok(()) }

@@ -24,6 +24,7 @@ five_nodes = record {
   slots = replicate 5 bare_slot;
 }
 
+-- four nodes are on from slot 0, and node 4 from slot 22
 abbrev pub coming_late : Script
 coming_late = record {
   slots = 30;
@@ -54,9 +55,11 @@ late_join deviation = entry.Joined 2 (record {
 abbrev pub waiting : History
 waiting = replicate 10 (entry.Waited ∷ entry.Waited ∷ entry.Waited ∷ entry.Waited ∷ entry.Off ∷ [])
 
+-- the row in which node 0 starts
 abbrev pub starting : List Entry
 starting = entry.Started ∷ join (negsuc 19) ∷ join (pos 20) ∷ join (negsuc 19) ∷ entry.Off ∷ []
 
+-- the row in which node 4 joins
 abbrev pub joining : List Entry
 joining = correct 2 (negsuc 12) ∷ correct 2 (negsuc 26) ∷ entry.Sent None ∷ correct 2 (negsuc 26)
     ∷ late_join (negsuc 6) ∷ []

@@ -27,6 +27,7 @@ four_nodes = record {
   slots = replicate 4 bare_slot;
 }
 
+-- two clocks drift apart by two microticks in each slot
 abbrev pub drifting : Script
 drifting = record { slots = 20; on = replicate 4 (Some 0); drift = pos 1 ∷ negsuc 0 ∷ pos 0 ∷ pos 0 ∷ []; events = [] }
 
@@ -34,9 +35,11 @@ drifting = record { slots = 20; on = replicate 4 (Some 0); drift = pos 1 ∷ neg
 abbrev pub no_numbers : Numbers
 no_numbers = replicate 15 (record { sent = []; read = [] })
 
+-- a frame is judged correct that came so late
 abbrev pub correct : ℕ → ℤ → Entry
 correct sender deviation = entry.Judged sender verdict.Correct deviation
 
+-- a join on node 0's cold start that came so late
 abbrev pub join : ℤ → Entry
 join deviation = entry.Joined 0 (record { time = 0; round = 0; slot = 0; members = 0 ∷ [] }) deviation
 

@@ -1,21 +1,25 @@
-//! Reception: what an active node makes of the slot of another node, from how it sees each of the
-//! two channels.
+//! Reception: what an active node makes of the slot of another node, from how it sees each of the two
+//! channels.
 //!
 //! [`slot_verdict`] takes the views of channels A and B and the receiver's acknowledgement of its own
-//! newest frame, and answers with the verdict:
+//! newest frame, and answers with the verdict. `judged_by` of controller asks for it where channel A's
+//! view does not settle it:
 //!
-//! ```
-//! // A frame of the first candidate on one channel outweighs noise on the other.
-//! let verdict = slot_verdict(ChannelView::Bad, ChannelView::First, Ack::Closed);
-//! // verdict is Verdict::Correct
+//! ```text
+//! let on_b = see(list, expected, reading, b);
+//! let taken_from_a = is_taken_from_a(on_a.view, on_b.view);
+//! Judgement {
+//!     verdict: slot_verdict(on_a.view, on_b.view, ack),
 //! ```
 //!
 //! It promises exactly the verdict of the protocol's definition, `verdict_of` of `ttp_world`: the
-//! better view of the two decides, in the order First, Second, Other, Bad, Silent.
+//! better view of the two decides, in the order First, Second, Other, Bad, Silent. So a frame of the
+//! first candidate on one channel outweighs noise on the other (SAE AS6003).
 //!
 //! The crate neither hears nor judges a frame: how a channel is seen is for the layer above to say, and
 //! what a verdict changes of the receiver is the work of the crates on acknowledgement and membership.
-//! It keeps nothing, takes no memory, and answers at all arguments.
+//! It keeps nothing, shares nothing between threads, takes no memory, and answers at all arguments, in
+//! a few steps.
 #![tactic(auto)]
 
 ghost use Rattle.std.specs.Prelude.{◌≡◌};

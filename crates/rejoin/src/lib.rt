@@ -4,7 +4,16 @@
 //! it arms (`back_plan`). By such a plan `safety` has the induction on members and clocks, and
 //! `safety_steps` says which tests follow from it: here they are put together, with no premise left.
 //!
-//! The crate has no code that does anything: its functions are laws.
+//! A caller of [`back_safe`] has a valid list and script and that answer, with the slot of the start;
+//! what it says is of all legal message numbers. theorems cites it as `returned-safe` of
+//! `proofs/Returned.antt`. `law_of_nodes_that_are_armed_again` of law_tests calls the law:
+//!
+//! ```text
+//! rejoin::laws::stands();
+//! ```
+//!
+//! The crate has no code that does anything: its functions are laws. It proves nothing of frames,
+//! members or clocks itself.
 #![tactic(auto)]
 
 ghost use Rattle.std.specs.Prelude.{◌≡◌, ◌<◌, ◌≤◌, length};

@@ -30,6 +30,7 @@ abbrev pub payload_of_number : Medl → Script → ℕ → ℕ → Option ℕ �
 payload_of_number list script slot k None = []
 payload_of_number list script slot k (Some i) = (message_chosen list script slot k (Some i)).payload ∷ []
 
+-- the same by the entry
 abbrev pub message_given : Medl → Script → ℕ → ℕ → Entry → List (List ℕ)
 message_given list script slot k e = payload_of_number list script slot k (message_of e)
 

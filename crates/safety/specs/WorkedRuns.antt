@@ -13,6 +13,7 @@ use Rattle.ttp_world.specs.World.{Numbers, world}
 abbrev bare_slot : SlotPlan
 bare_slot = record { kinds = kind.I ∷ []; payload = 0; sync = true; start = true; requests = false; live = 1 }
 
+-- five nodes in one round, with I-frames: each is measured and may start, the drift is 1 and the window 100 microticks
 abbrev pub five_nodes : Medl
 five_nodes = record {
   version = 1;

@@ -1,13 +1,26 @@
 //! Safety under the single-fault hypothesis: membership, clocks and clock jumps, for whole runs.
 //!
 //! Members decide whose frames a node notes, what it notes moves its clock, and clocks decide whose
-//! frames come in time. `safety_steps` has the step of an induction on members, which takes the clocks
-//! of a slot as a premise, and `safety_clocks` that on clocks, which takes what the nodes noted. Here the
+//! frames come in time. `safety_steps` has the step of an induction on members, which takes the clocks of
+//! a slot as a premise, and `safety_clocks` that on clocks, which takes what the nodes noted. Here the
 //! two are one induction: [`laws::by_plan`] for every run that follows a good plan of faults, and
 //! [`safe`] for a script that keeps the single-fault hypothesis, with no premise left.
 //!
+//! A caller of [`safe`] and [`same_frames`] has a valid list and script and the answer `yes` of the test,
+//! with the slot of the start; what they say is of all legal message numbers. theorems cites both as
+//! `kept-safe`, `kept-clocks` and `kept-alike` of `proofs/Kept.antt`, the one file here that knows the
+//! hypothesis; two_faced and rejoin have a plan of their own, and cite `run-by_plan` of
+//! `proofs/Together.antt`. `one_mode` of mode_change calls the law on frames, and `laws_of_safety` of
+//! law_tests the others:
+//!
+//! ```text
+//! safety::same_frames(list, script, start);
+//! safety::laws::by_plan();
+//! safety::laws::stands();
+//! ```
+//!
 //! The crate has no code that does anything: its functions are laws, and worked cases that the check
-//! computes.
+//! computes. It proves nothing of one node's slot.
 #![tactic(auto)]
 
 ghost use Rattle.std.specs.Prelude.{◌≡◌, ℕ, ◌<◌, ◌≤◌, ◌≤ℤ◌, ◌-ℤ◌, neg_ℤ, length, IsTrue};

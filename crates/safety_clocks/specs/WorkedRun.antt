@@ -44,6 +44,7 @@ jumping = record {
 abbrev pub first_start : ClusterStart
 first_start = record { slot = 10; node = 0 }
 
+-- the plan of that script
 abbrev pub one_jump : Plan
 one_jump = record {
   nodes = 5;
@@ -94,5 +95,6 @@ older_rows =
     ∷ (entry.Started ∷ join (pos 20) ∷ join (pos 10) ∷ join (pos 10) ∷ join (pos 10) ∷ [])
     ∷ replicate 10 (replicate 5 entry.Waited)
 
+-- the rows of all these slots
 abbrev pub run_of_jumping : History
 run_of_jumping = newest_row ∷ older_rows

@@ -13,7 +13,25 @@
 //! - [`laws::jumped_outside`]: a node whose clock has jumped is outside the window at each of them
 //!   until its own slot, and they are outside its window.
 //!
-//! It says nothing of members and verdicts: that the premise holds is for others to show.
+//! Beside that premise a caller needs a script that follows a good plan, and the list's bounds on
+//! clocks (`FollowsWithin` of fault_plan). safety cites `proofs/Bounds.antt` and `OutsideWindow.antt`.
+//! `laws_of_clocks` of law_tests calls the laws:
+//!
+//! ```text
+//! safety_clocks::laws::runs_as_company();
+//! safety_clocks::laws::clocks_near();
+//! safety_clocks::laws::jumped_outside();
+//! ```
+//!
+//! `proofs/RoundNotes.antt` counts the notes of a round by the plan, `Together.antt` begins with the
+//! start, and `Company.antt` is the induction for sound nodes. For a jumped clock `Apart.antt` says
+//! over plain numbers how far it can come from another one while at most one round ends;
+//! `NearNotes.antt` and `RoundKnown.antt` show what its notes from before the jump tell, and
+//! `JumpedClock.antt` puts the two together. `src/worked_run.rt` is a run with drifts and a jump that
+//! meets the premises.
+//!
+//! It says nothing of members and verdicts: that the premise holds is for others to show. Of clocks it
+//! proves nothing again that precision proves.
 #![tactic(auto)]
 
 pub mod laws;

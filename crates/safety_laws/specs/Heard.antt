@@ -16,6 +16,7 @@ is_frameless (Bits sender bytes) = false
 abbrev pub IsUnflipped : Script → ℕ → ℕ → Type 0
 IsUnflipped script k slot = (c : Channel) → flipped_bits script k c slot ≡ []
 
+-- what is heard of a frame that comes as it was sent
 abbrev pub signal_as_sent : SentFrame → Signal
 signal_as_sent sent = Bits sent.sender sent.bytes
 

@@ -15,6 +15,7 @@ use Rattle.ttp_world.specs.Reception.{Candidates, Hearing, expected_of}
 use Rattle.ttp_world.specs.Script.{is_on, is_armed}
 use Rattle.ttp_world.specs.World.{node_past, slot_after, chosen_of, frames_in, hearing_in, row_in}
 
+-- a node of a list in one slot
 pub record NodeSlot : Type 0 where
   pub list : Medl
   pub node : ℕ
@@ -45,27 +46,34 @@ node_slot list script history chosen k =
 
 -- What the node does, and what it sends.
 
+-- what the node does in the slot
 abbrev pub act_made : NodeSlot → Act
 act_made x = act.act x.list x.node x.on x.armed x.past
 
+-- the frame that it sends, if it sends one
 abbrev pub frames_made : NodeSlot → List SentFrame
 frames_made x = node_frames x.list x.node x.past x.chosen (act_made x)
 
 -- Its entry, and its past after the slot.
 
+-- the slot's entry of the node
 abbrev pub entry_made : NodeSlot → Entry
 entry_made x = new_entry x.list x.node x.past x.chosen x.hearing (act_made x)
 
+-- the node's past after the slot
 abbrev pub next_past : NodeSlot → NodePast
 next_past x = past_after x.list x.node x.past (entry_made x) x.around
 
 -- The slot by the C-state of an active node: its place, its owner, and what is expected of the owner's frame.
 
+-- the place of the slot by the C-state of an active node
 abbrev pub coming_place : NodeSlot → Place
 coming_place x = act.coming_place x.list x.past
 
+-- the node whose slot that is
 abbrev pub owner_of : NodeSlot → ℕ
 owner_of x = (coming_place x).slot
 
+-- the memberships that are expected of that node's frame
 abbrev pub candidates_of : NodeSlot → Candidates
 candidates_of x = (expected_of x.list x.node x.past).candidates

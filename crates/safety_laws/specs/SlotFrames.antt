@@ -27,6 +27,7 @@ pub record AreCandidates (list : Medl) (c : Candidates) : Type 0 where
   pub first : AreNodes list c.first
   pub second : IfSome c.second (AreNodes list)
 
+-- members are those of the second candidate, if there is one
 abbrev pub is_second : Option (List ℕ) → List ℕ → Bool
 is_second second members = unwrap_or (option_map (bytes_eq members) second) false
 

@@ -17,6 +17,7 @@ use Rattle.ttp_world.specs.Diary.{Place, cstate_at}
 use Rattle.ttp_world.specs.Past.{NodePast}
 use Rattle.safety_laws.specs.NodeSlot.{NodeSlot, next_past, coming_place, owner_of}
 
+-- what an active node holds after a slot: its place, its members, its counts, its acknowledgement and its notes
 pub record Standing : Type 0 where
   pub place : Place
   pub members : List ℕ
@@ -47,6 +48,7 @@ pub record HasJustLeft (past : NodePast) (why : Reason) (peer : ℕ) : Type 0 wh
 
 -- A judgement: what a verdict other than Denied makes of what the node holds.
 
+-- what a verdict other than Denied makes of what the node holds
 abbrev pub judged_standing : NodeSlot → Verdict → ℤ → Standing
 judged_standing x v deviation = record {
   place = coming_place x;
@@ -77,9 +79,11 @@ sent_standing x message = record {
 
 -- A join: the entry of a node that hears of a place and of these members, so late, and what it holds.
 
+-- the entry of a node that hears of a place and of these members, so late
 abbrev pub joined_on : Place → List ℕ → ℤ → Entry
 joined_on place members deviation = entry.Joined place.slot (cstate_at place members) deviation
 
+-- what it then holds
 abbrev pub joined_standing : Medl → Place → List ℕ → ℤ → Standing
 joined_standing list place members deviation = record {
   place = place;

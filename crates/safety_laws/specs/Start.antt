@@ -33,6 +33,7 @@ slots_since slots (Some on) = slots - on
 abbrev pub slots_on : Script → ℕ → ℕ → ℕ
 slots_on script k slots = slots_since slots (on_slot script k)
 
+-- the phase of a node that was on for so many slots and waits
 abbrev pub waiting_phase : ℕ → Phase
 waiting_phase slots = if slots == 0 then phase.Off else phase.Listening
 

@@ -43,6 +43,7 @@ script_with on events = record { slots = 20; on = on; drift = replicate 4 (pos 0
 abbrev both : Channels
 both = record { a = true; b = true }
 
+-- no fault happens
 abbrev pub faultless : Script
 faultless = script_with (replicate 4 (Some 0)) []
 
@@ -78,6 +79,7 @@ alone = script_with (replicate 4 (Some 0)) (event.Send 0 both fault.Noise 8 8 �
 abbrev zeros : List (Option ℕ)
 zeros = replicate 4 (Some 0)
 
+-- these numbers in so many slots
 abbrev pub numbers_of : ℕ → Numbers
 numbers_of slots = replicate slots (record { sent = zeros; read = [] })
 
@@ -85,6 +87,7 @@ numbers_of slots = replicate slots (record { sent = zeros; read = [] })
 abbrev pub run : Script → ℕ → History
 run script slots = world four_nodes script (numbers_of slots)
 
+-- the messages that they choose in a slot
 abbrev pub chosen_in : Script → ℕ → List Chosen
 chosen_in script slot = messages_chosen four_nodes script slot zeros
 

@@ -17,7 +17,20 @@
 //!   that are on begin on that node's frame.
 //!
 //! A node in a slot is a `NodeSlot` of `specs/NodeSlot.antt`: what it is before, and what the slot
-//! brings to it. The crate says nothing of whole runs but for their start, and nothing of clocks.
+//! brings to it. Most laws speak of one alone, and of no history; what a node then holds is `StandsBy`,
+//! and that it has left `HasJustLeft`, of `specs/Standing.antt`. A caller gets the `NodeSlot` of a
+//! world's node by `one_slot`. safety_steps cites the laws from the files of `proofs` that bear their
+//! names, as `Verdicts.antt`, `OneSender.antt` and `Waiting.antt`. `laws_of_one_slot` of law_tests
+//! calls them:
+//!
+//! ```text
+//! safety_laws::laws::one_slot();
+//! safety_laws::laws::judged();
+//! ```
+//!
+//! No law asks anything of the hypothesis test but the start that it knows. The crate says nothing of
+//! whole runs but for their start, and of clocks no more than whether a deviation lies within the
+//! window, and what a node notes.
 #![tactic(auto)]
 
 pub mod laws;

@@ -17,6 +17,7 @@ use Rattle.safety_laws.specs.Groups.{IsUnanswered, HoldsGroup}
 
 -- Sound nodes.
 
+-- 1 for a node that doubts another one, and else 0
 abbrev pub doubts : Ack → ℕ
 doubts a = if is_doubt a then 1 else 0
 

@@ -14,6 +14,7 @@ bare start = record { kinds = kind.I ∷ []; payload = 0; sync = true; start = s
 abbrev pub loaded : ℕ → SlotPlan
 loaded size = record { kinds = kind.N ∷ []; payload = size; sync = true; start = false; requests = false; live = 1 }
 
+-- a list of these slots in one round
 abbrev pub list_of : ℕ → ℤ → ℤ → ℤ → List SlotPlan → Medl
 list_of buffers drift error window slots = record {
   version = 1;

@@ -30,9 +30,11 @@ number_in word = digits_value 10 word
 abbrev pub is_negative : List ℕ → Bool
 is_negative word = slice_index word 0 == 45
 
+-- a word is such a number
 abbrev pub is_value : List ℕ → Bool
 is_value word = if is_negative word then is_number (drop 1 word) else is_number word
 
+-- the number that it is
 abbrev pub value_in : List ℕ → ℤ
 value_in word = if is_negative word then neg_ℤ (pos (number_in (drop 1 word))) else pos (number_in word)
 
@@ -40,9 +42,11 @@ value_in word = if is_negative word then neg_ℤ (pos (number_in (drop 1 word)))
 abbrev pub is_hex_digit : ℕ → Bool
 is_hex_digit b = nat_lt (digit_value b) 16
 
+-- a word is of such digits
 abbrev pub is_hex : List ℕ → Bool
 is_hex word = list_all is_hex_digit word
 
+-- the bytes that it is
 abbrev pub hex_bytes_in : List ℕ → List ℕ
 hex_bytes_in [] = []
 hex_bytes_in (high ∷ []) = []

@@ -55,6 +55,7 @@ pub record HasNodes (list : Medl) (so_far : SoFar) : Type 0 where
 -- line, of a `drift` line, of one that says what happens in slots, where the run has so many, and of a `write` line,
 -- which has more.
 
+-- the faults of a `slots` line whose words are spelled as they are due, by what is kept
 unfoldable pub slots_faults : List (List ℕ) → SoFar → List LineFault
 slots_faults words so_far =
     let count = number_at words 1 in
@@ -62,6 +63,7 @@ slots_faults words so_far =
     ++ (unless (is_count count) faults.Range
     ++ when (is_some so_far.slots) faults.Repeat)
 
+-- those of an `on` line
 unfoldable pub on_faults : List (List ℕ) → Medl → SoFar → List LineFault
 on_faults words list so_far =
     let node = number_at words 1 in
@@ -71,6 +73,7 @@ on_faults words list so_far =
     ++ (unless (nat_lt slot (unwrap_or so_far.slots 0)) faults.Range
     ++ when (is_some (slice_index_or so_far.on.items node None)) faults.Repeat))
 
+-- those of a `drift` line
 unfoldable pub drift_faults : List (List ℕ) → Medl → SoFar → List LineFault
 drift_faults words list so_far =
     let node = number_at words 1 in
@@ -79,6 +82,7 @@ drift_faults words list so_far =
     ++ (unless (is_within DRIFT_LIMIT (value_in (word_at words 2))) faults.Range
     ++ when (is_some (slice_index_or so_far.drift.items node None)) faults.Repeat))
 
+-- those of a line that says what happens in slots, where the run has so many; a `write` line has more
 unfoldable pub event_faults : List (List ℕ) → Medl → ℕ → Keyword → List LineFault
 event_faults words list slots form =
     unless (has_numbers form words) faults.Number
@@ -91,6 +95,7 @@ abbrev pub buffer_faults : Medl → ℕ → List LineFault
 buffer_faults list count =
     when (list.buffers == 1) faults.NoBuffer ++ when (nat_le list.buffers (count + 1)) faults.TooMany
 
+-- the faults of a `write` line, which are also those of its buffer
 unfoldable pub write_faults : List (List ℕ) → Medl → SoFar → List LineFault
 write_faults words list so_far =
     event_faults words list (unwrap_or so_far.slots 0) keyword.Write

@@ -2,18 +2,30 @@
 //!
 //! [`read_script`] reads a script for a list from the bytes of a file. What a file means is the
 //! definition `script_of` of `specs/ScriptFile.antt`, over the list of all its lines: the script, or
-//! the first faulty line with its first fault in a fixed order.
+//! the first faulty line with its first fault in a fixed order. `specs/Lines.antt`, `Numbers.antt`
+//! and `Statement.antt` say what one line states, and `specs/Faults.antt` what is wrong with it
+//! after the lines before. `script_from` of commands reads the bytes of a file so:
 //!
 //! ```text
-//! slots 20
-//! on 0 0
-//! send 0 AB noise 12 15
-//! write 1 13 60c4
-//! read 0 15 1
+//! match read_script(alloc, list, bytes) {
+//!     Ok(script) => Ok(script),
+//!     Err(ScriptError::Memory) => Err(Refusal::Memory),
+//!     Err(fault) => Err(Refusal::Told(FileFault::Script(fault))),
+//! }
 //! ```
 //!
-//! The layer above gets a script that is valid for the list. The crate never reads a file, takes
-//! memory only for what lines say of nodes and slots, and never keeps a refused script.
+//! The layer above gets a script that is valid for the list, which `proofs/Valid.antt` and
+//! `RightFiles.antt` show of the definition, for lines without a fault. Between two lines the reader
+//! stands for what the lines so far state (`StandsFor` of `specs/SoFar.antt`). A line that says what
+//! happens in slots is read field by field first (`src/fields.rt`, `src/right.rt`), which takes it
+//! where nothing is wrong with it; every other line is cut into words, by which its first fault is
+//! found (`src/event.rt`, `src/host.rt`).
+//!
+//! The file is gone over once, and at the end its events are sorted into an index. No code counts
+//! them: a file of 1,048,576 bytes has no more than 131,072, of which at most 95,325 are of hosts,
+//! by the bytes that such lines take (`proofs/Sizes.antt`). Memory is taken for what lines say of
+//! nodes and slots, for the index, and where a host writes for a byte for each node and slot.
+//! Threads share nothing here. The crate never reads a file, and never keeps a refused script.
 #![tactic(auto)]
 
 mod error;

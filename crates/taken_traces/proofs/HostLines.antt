@@ -39,9 +39,9 @@ use Rattle.line_reader.specs.WorldLines.{bytes_of_message}
 use Rattle.line_reader.proofs.LineValues.{status-value}
 use Rattle.whole_trace.specs.Due.{is_below, source_node}
 use Rattle.whole_trace.specs.Whole.{value_of}
+use Rattle.whole_trace.proofs.Pieces.{value-again}
 use Rattle.trace_size.proofs.HostEvents.{host_events-most, host_events-next}
 use Rattle.taken_traces.specs.Taken.{IsOfBytes}
-use Rattle.taken_traces.proofs.Reading.{value-again}
 use Rattle.taken_traces.proofs.StatusWords.{AreWords, statuses-small}
 
 -- Writes.

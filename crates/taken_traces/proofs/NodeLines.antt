@@ -43,9 +43,9 @@ use Rattle.line_reader.specs.WorldLines.{line_of_node, word_of}
 use Rattle.line_reader.proofs.LineValues.{node-value}
 use Rattle.whole_trace.specs.Due.{are_members, doubted, has_digits, is_below, is_node_line}
 use Rattle.whole_trace.specs.Whole.{value_of}
+use Rattle.whole_trace.proofs.Pieces.{value-again}
 use Rattle.trace_size.proofs.SmallStates.{small_states}
 use Rattle.taken_traces.specs.Taken.{head_of_run}
-use Rattle.taken_traces.proofs.Reading.{value-again}
 use Rattle.taken_traces.proofs.Standing.{IsDoubtIn, shown-in}
 
 -- The message that a line names: only the line of a frame that was sent, or of one that was correct, names one.

@@ -1,27 +1,13 @@
 -- A line more that is read, before lines that are.
-use Rattle.std.proofs.Common.{◌≡◌, ℕ, ◌-◌, List, ◌∷◌, ◌++◌, length, Option, Some, refl, ap, ◌∙◌, arith, length-append}
+use Rattle.std.proofs.Common.{◌≡◌, ℕ, List, ◌∷◌, Option, Some, ap, ◌∙◌}
 use Rattle.std.specs.Prelude.{Ok, option_and_then}
-use Rattle.std.proofs.Math.Seq.{take-append_seam, drop-append_seam}
-use Rattle.ttp_base.specs.Text.{Lines, newline}
+use Rattle.ttp_base.specs.Text.{Lines}
 use Rattle.line_reader.specs.declared.trace_line.TraceLine.{TraceLine}
-use Rattle.line_reader.specs.Reading.{line_in}
-use Rattle.line_reader.specs.TraceLines.{text_of, Fits}
-use Rattle.line_reader.proofs.WrittenLines.{line-again}
 use Rattle.whole_trace.specs.declared.due.Due.{Due}
 use Rattle.whole_trace.specs.declared.due.Outline.{Outline}
 use Rattle.whole_trace.specs.Due.{due_after}
 use Rattle.whole_trace.specs.Whole.{SlotsFrom, value_of, judged, judged_behind, one_line_later, slots_from}
 use Rattle.whole_trace.specs.Whole.{with_line, with_value}
-
--- The value of a line with its line feed.
-
-value-fed : (x : List ℕ) → value_of (x ++ newline) ≡ line_in x
-value-fed x =
-    let front : length (x ++ newline) - 1 ≡ length x = omega (arith, length-append x newline) in
-    rw (front, drop-append_seam x newline, take-append_seam x newline) refl
-
-pub value-again : (v : TraceLine) → Fits v → value_of (text_of v ++ newline) ≡ Some v
-value-again v fits = value-fed (text_of v) ∙ line-again v fits
 
 -- Lines that a trace ends with where one is due before them: what its first line and its last ones said, and its slots.
 pub record EndsWith (at : Due) (lines : Lines) (o : Outline) (from : SlotsFrom) : Type 0 where

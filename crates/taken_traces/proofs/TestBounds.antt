@@ -16,6 +16,7 @@ use Rattle.ttp_world.specs.declared.medl.Medl.{Medl}
 use Rattle.ttp_world.specs.declared.script.Event.{Event}
 use Rattle.ttp_world.specs.declared.script.Event.TheVariants as event
 use Rattle.ttp_world.specs.declared.script.Script.{Script}
+use Rattle.ttp_world.specs.declared.script.TheConstants.{SLOT_LIMIT}
 use Rattle.ttp_world.specs.Hypothesis.{drifts_hold, errors_hold_in, clocks_broken, window_broken, outside_slot}
 use Rattle.ttp_world.specs.Hypothesis.{is_allowed_jump, lesser, least_of, outside_broken, ClusterStart, start_slot}
 use Rattle.ttp_world.specs.Hypothesis.{starts_in, are_all_on, only_starter, start_in, start_of, nodes_of, FaultyNode}
@@ -147,8 +148,18 @@ unless_back-fits : (rule : ℕ) (o : Option ℕ) (others : Back) → rule < 256 
 unless_back-fits rule None others small within is fits = fits
 unless_back-fits rule (Some slot) others small within is fits = record { fits = (small, is); is = within }
 
--- Of a valid script.
-module _ (list : Medl) (script : Script) (valid : IsValid list) (valid_script : IsValidScript list script) where
+-- Of a valid script, however many events it has.
+
+-- what the tests are asked of: some slots, and the nodes' first ones and the events lie among them
+pub record HasSlots (list : Medl) (script : Script) : Type 0 where
+  pub slots : (1 ≤ script.slots) × (script.slots ≤ SLOT_LIMIT)
+  pub on : All (IsWithinRun script) script.on
+  pub events : All (IsValidEvent list script) script.events
+
+pub valid-slots : (list : Medl) (script : Script) → IsValidScript list script → HasSlots list script
+valid-slots list script valid = record { slots = valid.slots; on = valid.on; events = valid.events }
+
+module _ (list : Medl) (script : Script) (valid : IsValid list) (valid_script : HasSlots list script) where
   run_in : (o : Option ℕ) → IsIn script.slots o → IsIn five_digits o
   run_in o is = wider script.slots five_digits o (omega (arith, valid_script.slots)) is
 

@@ -26,11 +26,12 @@ use Rattle.whole_trace.specs.declared.due.Due.TheVariants as due
 use Rattle.whole_trace.specs.declared.due.Outline.{Outline}
 use Rattle.whole_trace.specs.Due.{is_head, is_within}
 use Rattle.whole_trace.specs.Whole.{SlotsFrom, WholeTrace, judged, no_slots, value_of, whole_in, whole_or_line}
+use Rattle.whole_trace.proofs.Pieces.{value-again}
 use Rattle.taken_traces.specs.Taken.{IsOfBytes, back_if, head_of_run, slot_listed, slots_listed}
 use Rattle.taken_traces.specs.Taken.{trace_of_run}
-use Rattle.taken_traces.proofs.Reading.{EndsWith, one_line, value-again}
+use Rattle.taken_traces.proofs.Reading.{EndsWith, one_line}
 use Rattle.taken_traces.proofs.SlotsTaken.{behind, fronted, history-end}
-use Rattle.taken_traces.proofs.TestBounds.{keeps-fits, returns-fits}
+use Rattle.taken_traces.proofs.TestBounds.{keeps-fits, returns-fits, valid-slots}
 
 -- The first line.
 
@@ -78,7 +79,7 @@ module _ (list : Medl) (script : Script) (valid : IsValid list) (valid_script : 
       let head = head_of_run list script in
       let k = keeps list script in
       let b = returns list script in
-      let fits = returns-fits list script valid valid_script in
+      let fits = returns-fits list script valid (valid-slots list script valid_script) in
       one_line (due.Back head k) (due.Nothing head k b) (line.Back b) (back_line b) [] (outline true) no_slots
       (ap value_of (back-value b) ∙ value-again (line.Back b) fits.fits)
       (ap (λ (c : Bool). cond c (Some (due.Nothing head k b)) None) fits.is) (record { judges = refl; slots = refl })
@@ -90,7 +91,7 @@ module _ (list : Medl) (script : Script) (valid : IsValid list) (valid_script : 
   tests-end last has_read all =
       let head = head_of_run list script in
       let k = keeps list script in
-      let fits = keeps-fits list script valid valid_script in
+      let fits = keeps-fits list script valid (valid-slots list script valid_script) in
       one_line (due.Host head last has_read) (due.Back head k) (line.Keep k) (keep_line k)
       (back_lines_if list script (has_arm script)) (outline (has_arm script)) no_slots
       (ap value_of (keep-value k) ∙ value-again (line.Keep k) fits.fits)

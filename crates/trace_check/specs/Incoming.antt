@@ -22,6 +22,7 @@ abbrev pub floor_place : ℕ → ℕ → Source → ℕ
 floor_place nodes host source.Status = host * (nodes + 1)
 floor_place nodes host (source.Node p) = host * (nodes + 1) + (1 + p)
 
+-- the floor itself
 abbrev pub floor_of : Incoming → ℕ → Source → ℕ
 floor_of incoming host from = get_or incoming.floors.items (floor_place incoming.nodes host from) 0
 

@@ -58,7 +58,8 @@ pub struct Outgoing {
 }
 
 impl Outgoing {
-    /// Each host has written nothing but the zeros.
+    /// Each host has written nothing but the zeros. Only this call takes memory; `Memory` where that was
+    /// refused.
     pub fn new(alloc: Global, list: &Medl) -> Result<Outgoing, Memory>
         requires { IsValid list.now }
         ensures { (script : Said) → IfOk result (λ o. HoldsNewest o list.now script 0) }

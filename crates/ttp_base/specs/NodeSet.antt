@@ -11,6 +11,7 @@ most_nodes = 24
 abbrev pub below : ℕ → List ℕ
 below n = range_with_len 0 n
 
+-- a node is a member
 abbrev pub has_node : List ℕ → ℕ → Bool
 has_node members k = list_any (λ j. j == k) members
 

@@ -12,6 +12,7 @@ Lines = List (List ℕ)
 abbrev pub newline : List ℕ
 newline = 10 ∷ []
 
+-- a byte is a line feed
 abbrev pub is_newline : ℕ → Bool
 is_newline b = b == 10
 

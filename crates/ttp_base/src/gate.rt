@@ -13,6 +13,7 @@ pub trait Gate: Sync {
 pub struct OpenGate;
 
 impl OpenGate {
+    /// The gate.
     pub fn new() -> OpenGate {
         OpenGate
     }

@@ -48,7 +48,8 @@ impl MemoryLibrary {
         }
     }
 
-    /// Holds these bytes under a name, in place of what it held there.
+    /// Holds these bytes under a name, in place of what it held there. Where memory is refused it
+    /// holds what it held before.
     pub fn add(&mut self, name: &str, bytes: &[u8]) -> Result<(), Memory>
         ensures ok { OnOk result (HoldsOneMore self.old self.new name.now bytes.now) }
         ensures err { OnErr result (HoldsTheSame (library_files self.old) (library_files self.new)) }

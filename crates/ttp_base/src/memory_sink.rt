@@ -29,8 +29,8 @@ impl MemorySink {
     ghost use Rattle.ttp_base.specs.MemorySink.{sink_bytes, sink_room, sink_fail, sink_calls};
     ghost use Rattle.ttp_base.specs.MemorySink.{sink_faults, sink_output};
 
-    /// An empty sink with room for `room` bytes. The numbers in `fail` are those of the calls of
-    /// [`Sink::write`] that are to fail, counted from 1.
+    /// An empty sink with room for `room` bytes; `Memory` where that was refused. The numbers in
+    /// `fail` are those of the calls of [`Sink::write`] that are to fail, counted from 1.
     pub fn new(alloc: Global, room: usize, fail: List<u32>) -> Result<MemorySink, Memory>
         ensures empty { IfOk result (λ sink. sink_bytes sink ≡ []) }
         ensures room { IfOk result (λ sink. sink_room sink ≡ room) }

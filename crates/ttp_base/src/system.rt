@@ -30,6 +30,7 @@ pub struct FileLibrary<'a, R> {
 impl<'a, R: Files> FileLibrary<'a, R> {
     ghost use Rattle.ttp_base.specs.System.{library_files};
 
+    /// A library of all files, whose count of faults is 0.
     pub fn new(rt: &'a R) -> FileLibrary<'a, R>
         ensures count { (name : _) → (library_files result).faults name ≡ 0 }
         ensures asked { (library_files result).loads ≡ [] }
@@ -109,6 +110,7 @@ pub struct StreamSink<W> {
 impl<W: Write> StreamSink<W> {
     ghost use Rattle.ttp_base.specs.System.{sink_output};
 
+    /// A sink over a writer, with what that has written and no faults.
     pub fn new(writer: W) -> StreamSink<W>
         ensures { sink_output W.contents result ≡ record { written = W.contents writer; pieces = []; faults = 0 } }
     {

@@ -5,6 +5,7 @@ use Rattle.ttp_world.specs.Medl.{member_bytes}
 use Rattle.ttp_check.specs.Bytes.{xor_bytes}
 use Rattle.ttp_frame.specs.declared.frame.FrameIn.{FrameIn}
 
+-- the bytes of a frame, where check words go from this start
 abbrev pub bytes_of : FrameIn → ℕ → List ℕ
 bytes_of f start = frame (member_bytes f.wide) f.header f.cstate f.payload.now start
 

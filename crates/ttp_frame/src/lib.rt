@@ -17,11 +17,26 @@
 //! [`encode`] makes the bytes of a frame. [`judge`] tells whether bytes are the frame that a receiver
 //! expects from its own C-state, and [`read_explicit`] gives the C-state on which a listening node
 //! joins; [`is_joinable_state`] is the part of that which looks at the C-state alone. Each is exactly
-//! what `ttp_world`'s definitions say. [`laws`] has what later proofs rest on.
+//! what `ttp_world`'s definitions say. controller makes a frame in `outgoing`, and judges one in
+//! `match_with`:
 //!
-//! The crate keeps no state, takes no memory and copies no payload but into a sender's buffer, and
-//! none of its calls can fail. It knows no slots, channels or windows: when a frame is looked at is
-//! for the layers above.
+//! ```text
+//! judge(
+//!     bytes,
+//!     list.schedule,
+//!     &expected.form,
+//!     &expected.place.cstate(members),
+//! )
+//! ```
+//!
+//! By [`laws::members_told`] bytes tell their sender's members also where they carry no C-state,
+//! since the word goes over it; by [`laws::flipped`] flipped bits are judged alike whatever the
+//! payload is.
+//!
+//! A call costs one check word over the bytes and the C-state, [`read_explicit`] two at most. The
+//! crate keeps no state, shares nothing between threads, takes no memory and copies no payload but
+//! into a sender's buffer, and none of its calls can fail. It knows no slots, channels or windows:
+//! when a frame is looked at is for the layers above.
 #![tactic(auto)]
 
 mod frame;

@@ -5,7 +5,30 @@
 //! function of the words and of what the library tells, and the outside is blamed only where it is
 //! at fault.
 //!
-//! The crate never opens a file and never prints: that is the library's and the sink's part.
+//! What a form asks for and how it may end stands in its plan (`specs/Calls/Forms.antt`) and
+//! nowhere else; a command that is added gets a plan, and no clause of `bench`.
+//! `specs/Calls/Words.antt` has the forms of the words and `Promise.antt` what they add to the
+//! promise of every call, which is that of commands. `specs/Scripts`, `specs/Samples`,
+//! `specs/Traces` and `specs/Tests` have the promises of commands in their own words. `verify` and
+//! `modes` speak of the whole text however much of it is loaded, since no trace is longer than a
+//! load may be (trace_size), and `proofs/Traces/Fronts.antt` shows that the bytes that are loaded
+//! decide. `main` of ttpbench calls it, and so does `run_bench` of bench_tests, over a library and
+//! a sink in memory:
+//!
+//! ```text
+//! bench(rt, rt.alloc(), words, library, out, gate, kept)
+//! ```
+//!
+//! `run` goes through a cluster in `src/trace.rt`: it is made before the first line, and between
+//! two slots it stands for legal message numbers whose lines were written (`HasWritten`). Each text
+//! is written a line at a time, each line as one piece; after a failed write nothing more is
+//! written. `sample` does all slots in `src/totals.rt` before its first line, and forms no text of
+//! a slot. `src/kept.rt` is the one function that lets a cluster go, since each that may do so is
+//! proved part by part of what a cluster holds.
+//!
+//! `run` and `sample` alone start threads and wait, in slots in which hosts write or read. A slot
+//! of theirs costs its nodes and takes memory for its report. The crate never opens a file and
+//! never prints: that is the library's and the sink's part.
 #![tactic(auto)]
 
 mod call;

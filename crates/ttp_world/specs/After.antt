@@ -23,6 +23,7 @@ use Rattle.ttp_world.specs.Past.{NodePast}
 abbrev pub is_active_entry : Entry → Bool
 is_active_entry e = is_active_phase (phase_after e)
 
+-- the place after an entry
 abbrev pub place_after : Medl → ℕ → Place → Entry → Place
 place_after list k place entry.Started = start_place k
 place_after list k place (entry.Joined sender cstate deviation) = joined_place cstate
@@ -35,6 +36,7 @@ abbrev pub opined_members : Medl → ℕ → List ℕ → Ack → Entry → List
 opined_members list k members a e =
     filter (λ j. unwrap_or (opinion k j e a) (has_node members j)) (below (length list.slots))
 
+-- the members after an entry
 abbrev pub members_after : Medl → ℕ → List ℕ → Ack → Entry → List ℕ
 members_after list k members a e = if is_active_entry e then opined_members list k members a e else []
 
@@ -48,6 +50,7 @@ judged_members members a verdict.Correct sender = with_node (settled_members mem
 judged_members members a verdict.Tentative sender = with_node members sender
 judged_members members a _ sender = without_node members sender
 
+-- the accepted frames after an entry
 abbrev pub accepted_after : ℕ → Entry → ℕ
 accepted_after count entry.Started = 1
 accepted_after count (entry.Sent message) = 1
@@ -55,6 +58,7 @@ accepted_after count (entry.Joined sender cstate deviation) = 1
 accepted_after count (entry.Judged sender v deviation) = (if is_correct v then 1 else 0) + count
 accepted_after count _ = 0
 
+-- the rejected frames after an entry
 abbrev pub rejected_after : ℕ → Ack → Entry → ℕ
 rejected_after count a (entry.Judged sender v deviation) = (if is_rejection a v then 1 else 0) + count
 rejected_after count a _ = 0
@@ -66,23 +70,27 @@ ack_answered a verdict.Correct sender = ack.Closed
 ack_answered a verdict.Tentative sender = ack.Doubt sender
 ack_answered a _ sender = a
 
+-- the acknowledgement after an entry
 abbrev pub ack_after : Ack → Entry → Ack
 ack_after a entry.Started = ack.First
 ack_after a (entry.Sent message) = ack.First
 ack_after a (entry.Judged sender v deviation) = ack_answered a v sender
 ack_after a _ = ack.Closed
 
+-- whether the newest own frame is a cold start, after an entry
 abbrev pub cold_start_after : Bool → Entry → Bool
 cold_start_after cold entry.Started = true
 cold_start_after cold (entry.Judged sender v deviation) = cold
 cold_start_after cold _ = false
 
+-- how many silent slots node k waits for, after an entry
 abbrev pub limit_after : Medl → ℕ → ℕ → Entry → ℕ
 limit_after list k limit entry.Retried = length list.slots + k
 limit_after list k limit (entry.Left reason peer) = 2 * length list.slots + k
 limit_after list k limit entry.Gone = 2 * length list.slots + k
 limit_after list k limit _ = limit
 
+-- how many of the newest slots it waited in silence, after an entry
 abbrev pub silent_slots_after : ℕ → Entry → Bool → ℕ
 silent_slots_after count entry.Waited silent = if silent then 1 + count else 0
 silent_slots_after count _ silent = 0
@@ -96,6 +104,7 @@ notes_after list notes place e =
 abbrev pub correction_after : Medl → Place → List ℤ → Entry → ℤ
 correction_after list place notes e = if is_corrected list (phase_after e) place then fta notes else pos 0
 
+-- the clock after an entry, in microticks
 abbrev pub offset_after : Medl → ℤ → Place → List ℤ → Entry → SlotSurroundings → ℤ
 offset_after list offset place notes e s = offset +ℤ slot_change e s (correction_after list place notes e)
 

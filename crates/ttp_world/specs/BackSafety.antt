@@ -19,10 +19,12 @@ use Rattle.ttp_world.specs.Safety.{newest_slot, is_settled, are_same_members, ha
 use Rattle.ttp_world.specs.Safety.{agree_among, is_in_among, is_out_among}
 use Rattle.ttp_world.specs.Script.{is_armed}
 
+-- the nodes that the test with armed nodes calls correct after the newest slot
 abbrev pub back_correct_nodes : Medl → Script → History → List ℕ
 back_correct_nodes list script history =
     filter (is_back_correct_after list script (newest_slot history)) (nodes_of list)
 
+-- those of them that do not wait for a second successor
 abbrev pub back_settled_nodes : Medl → Script → History → List ℕ
 back_settled_nodes list script history = filter (is_settled history) (back_correct_nodes list script history)
 
@@ -33,6 +35,7 @@ abbrev pub has_sent_since_begin : Diary → Bool
 has_sent_since_begin [] = false
 has_sent_since_begin (e ∷ diary) = is_sending e || (not (begins_stint e) && has_sent_since_begin diary)
 
+-- an active node has started or sent in its stint
 abbrev pub has_sent_in_stint : Diary → Bool
 has_sent_in_stint diary = is_active diary && has_sent_since_begin diary
 
@@ -56,6 +59,7 @@ abbrev pub since_slot : Option ℕ → Diary → Diary
 since_slot None diary = diary
 since_slot (Some slot) diary = take (length diary - slot) diary
 
+-- by an entry its node has left
 abbrev pub is_left_after : Entry → Bool
 is_left_after e = is_left_phase (phase_after e)
 
@@ -66,13 +70,16 @@ has_left_since_arm script history k =
 
 -- The tests.
 
+-- correct nodes that do not wait for a second successor hold one membership
 abbrev pub back_members_agree : Medl → Script → History → Bool
 back_members_agree list script history = agree_among list history (back_settled_nodes list script history)
 
+-- each correct node that has started or sent in its stint is held for a member by all of them
 abbrev pub back_senders_are_members : Medl → Script → History → Bool
 back_senders_are_members list script history =
     list_all (is_in_among list history (back_correct_nodes list script history)) (back_senders list script history)
 
+-- no correct node has left since it was armed last
 abbrev pub none_has_left_since_arm : Medl → Script → History → Bool
 none_has_left_since_arm list script history =
     list_all (λ k. not (has_left_since_arm script history k)) (back_correct_nodes list script history)
@@ -85,6 +92,7 @@ is_back_gone list script history faulty =
     || (has_left history faulty.node
     && is_out_among list history (back_correct_nodes list script history) faulty.node))
 
+-- that is so of each faulty node
 abbrev pub back_faulty_are_gone : Medl → Script → History → Bool
 back_faulty_are_gone list script history =
     list_all (is_back_gone list script history) (back_faulty_after list script (newest_slot history))
@@ -101,6 +109,7 @@ abbrev pub is_due : Medl → Script → History → ℕ → Bool
 is_due list script history k =
     nat_le (four_rounds list) (length history) && is_armed script k (length history - four_rounds list)
 
+-- each node that was armed four rounds ago has its place again
 abbrev pub armed_have_returned : Medl → Script → History → Bool
 armed_have_returned list script history =
     list_all (has_returned list script history) (filter (is_due list script history) (nodes_of list))

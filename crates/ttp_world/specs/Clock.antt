@@ -15,6 +15,7 @@ use Rattle.ttp_world.specs.Script.{sum_ℤ}
 -- The notes of a round: the deviation of each correct frame, and 0 for its own frame and for a join,
 -- in slots with sync.
 
+-- what an entry notes in a slot with sync: the deviation of a correct frame, and 0 for an own frame or a join
 abbrev pub deviation_noted : Entry → Option ℤ
 deviation_noted entry.Started = Some (pos 0)
 deviation_noted (entry.Sent message) = Some (pos 0)
@@ -37,15 +38,18 @@ stint_notes list k (e ∷ diary) =
     notes_in list (stint_place list k (e ∷ diary)) e
     ++ elim (begins_round (stint_place list k (e ∷ diary)) e) [ true ↦ [] | false ↦ stint_notes list k diary ]
 
+-- the notes of a node, none where it is not active
 abbrev pub notes_of : Medl → ℕ → Diary → List ℤ
 notes_of list k diary = elim (is_active diary) [ true ↦ stint_notes list k diary | false ↦ [] ]
 
 -- The fault-tolerant average: of the last four notes the smallest and the largest are dropped.
 
+-- a number put in its place among ascending ones
 abbrev pub insert_sorted : ℤ → List ℤ → List ℤ
 insert_sorted z [] = z ∷ []
 insert_sorted z (y ∷ ys) = if int_le z y then z ∷ y ∷ ys else y ∷ insert_sorted z ys
 
+-- some numbers in ascending order
 abbrev pub sorted : List ℤ → List ℤ
 sorted [] = []
 sorted (z ∷ zs) = insert_sorted z (sorted zs)

@@ -30,15 +30,19 @@ use Rattle.ttp_world.specs.Reception.{heard_deviation, entry_deviation, payload_
 abbrev pub carries_payload : Medl → Place → Bool
 carries_payload list place = not (payload_length list place.round place.slot == 0)
 
+-- the payload that goes into the frame of a place, of the message that is chosen
 abbrev pub payload_sent : Medl → Place → Chosen → List ℕ
 payload_sent list place chosen = if carries_payload list place then chosen.payload else []
 
+-- that message's number, where the frame carries payload
 abbrev pub message_sent : Medl → Place → Chosen → Option ℕ
 message_sent list place chosen = if carries_payload list place then Some chosen.number else None
 
+-- the C-state of node k's cold start, of which it is the only member
 abbrev pub cold_start_cstate : ℕ → CState
 cold_start_cstate k = record { time = 0; round = 0; slot = k; members = k ∷ [] }
 
+-- the cold-start frame of node k
 abbrev pub cold_start_frame : Medl → ℕ → List ℕ
 cold_start_frame list k = frame (member_width list) cold_start_header (cold_start_cstate k) [] list.schedule
 
@@ -46,6 +50,7 @@ cold_start_frame list k = frame (member_width list) cold_start_header (cold_star
 abbrev pub own_cstate : Medl → ℕ → NodePast → CState
 own_cstate list k past = cstate_at (coming_place list past) (with_node past.members k)
 
+-- the frame of node k in its own slot
 abbrev pub own_frame : Medl → ℕ → NodePast → Chosen → List ℕ
 own_frame list k past chosen =
     let place = coming_place list past in
@@ -61,25 +66,30 @@ node_frames list k past chosen _ = []
 -- Joining: on channel A or else on B. The sender is the owner of the carried slot, the deviation that to the node
 -- that sent the bits.
 
+-- the join on a C-state, if there is one, that came so late: the sender is the owner of the slot that it carries
 abbrev pub join_entry : ℤ → Option CState → Option Entry
 join_entry deviation None = None
 join_entry deviation (Some c) = Some (entry.Joined c.slot c deviation)
 
+-- the join on what a channel carried, with the deviation to the node that sent the bits
 abbrev pub channel_join : Medl → (ℕ → ℤ) → Signal → Option Entry
 channel_join list deviation Silence = None
 channel_join list deviation Noise = None
 channel_join list deviation (Bits sender bytes) = join_entry (deviation sender) (joinable list bytes)
 
+-- the entry of a listening node: it joins on channel A, or else on B, or waits
 abbrev pub listening_entry : Medl → Hearing → Entry
 listening_entry list h =
     unwrap_or (option_or (channel_join list h.deviation h.a) (channel_join list h.deviation h.b)) entry.Waited
 
 -- Judging: the entry of a verdict on a sender. A node that is denied leaves.
 
+-- the entry of a verdict on a sender: a node that is denied leaves
 abbrev pub verdict_entry : ℕ → Verdict → ℤ → Entry
 verdict_entry sender verdict.Denied deviation = entry.Left reason.Denied sender
 verdict_entry sender v deviation = entry.Judged sender v deviation
 
+-- the entry of an active node in the slot of another, by what it hears on both channels
 abbrev pub judging_entry : Medl → ℕ → NodePast → Hearing → Entry
 judging_entry list k past h =
     let view_a = view_of list (expected_of list k past) h.deviation h.a in
@@ -101,6 +111,7 @@ new_entry list k past chosen h Judge = judging_entry list k past h
 
 -- Delivery: the payload of a correct frame, from channel A where A's view was of the first candidate, and else from B.
 
+-- the payload that is taken: from channel A where A's view was of the first candidate, and else from B
 abbrev pub payload_taken : Medl → Expected → Hearing → List ℕ
 payload_taken list expected h =
     if is_first_view (view_of list expected h.deviation h.a) then payload_heard list expected.place h.a

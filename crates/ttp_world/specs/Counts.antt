@@ -24,10 +24,12 @@ is_rejection a verdict.Null = false
 is_rejection a verdict.Tentative = false
 is_rejection a verdict.Denied = false
 
+-- by an entry a frame is rejected
 abbrev pub is_rejecting : Entry → Ack → Bool
 is_rejecting (entry.Judged sender v deviation) a = is_rejection a v
 is_rejecting _ a = false
 
+-- how many frames a node rejected since it sent or joined last
 abbrev pub rejected_since : Diary → ℕ
 rejected_since [] = 0
 rejected_since (e ∷ diary) =
@@ -36,5 +38,6 @@ rejected_since (e ∷ diary) =
       | false ↦ (if is_rejecting e (ack_of diary) then 1 else 0) + rejected_since diary
     ]
 
+-- the rejected frames of a node, 0 where it is not active
 abbrev pub rejected_of : Diary → ℕ
 rejected_of diary = elim (is_active diary) [ true ↦ rejected_since diary | false ↦ 0 ]

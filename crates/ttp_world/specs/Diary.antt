@@ -14,12 +14,15 @@ use Rattle.ttp_world.specs.declared.node.Entry.TheVariants as entry
 use Rattle.ttp_world.specs.declared.node.Phase.{Phase}
 use Rattle.ttp_world.specs.declared.node.Phase.TheVariants as phase
 
+-- the entries of one node, one for each slot, the newest first
 abbrev pub Diary : Type 0
 Diary = List Entry
 
+-- the rows of a cluster, one for each slot, the newest first: in a row the entry of each node, node 0 first
 abbrev pub History : Type 0
 History = List (List Entry)
 
+-- the entry of node k in a row; of a node that the row lacks, that it was off
 abbrev pub entry_of : List Entry → ℕ → Entry
 entry_of row k = get_or row k entry.Off
 
@@ -40,6 +43,7 @@ Surroundings = List SlotSurroundings
 
 -- What a node is after its newest entry.
 
+-- what a node is after an entry
 abbrev pub phase_after : Entry → Phase
 phase_after entry.Off = phase.Off
 phase_after entry.Waited = phase.Listening
@@ -51,24 +55,29 @@ phase_after (entry.Sent message) = phase.Active
 phase_after (entry.Joined sender cstate deviation) = phase.Active
 phase_after (entry.Judged sender verdict deviation) = phase.Active
 
+-- the newest entry of a diary; of an empty one, that the node was off
 abbrev pub newest_entry : Diary → Entry
 newest_entry [] = entry.Off
 newest_entry (e ∷ diary) = e
 
+-- what a node is after its newest entry
 abbrev pub phase_of : Diary → Phase
 phase_of diary = phase_after (newest_entry diary)
 
+-- a phase is that of an active node
 abbrev pub is_active_phase : Phase → Bool
 is_active_phase phase.Active = true
 is_active_phase phase.Off = false
 is_active_phase phase.Listening = false
 is_active_phase phase.Left = false
 
+-- a node is active after its newest entry
 abbrev pub is_active : Diary → Bool
 is_active diary = is_active_phase (phase_of diary)
 
 -- A stint begins with a start or a join, and lasts while the node is active.
 
+-- an entry begins a stint, which lasts while the node is active: a start or a join
 abbrev pub begins_stint : Entry → Bool
 begins_stint entry.Started = true
 begins_stint (entry.Joined sender cstate deviation) = true
@@ -84,13 +93,13 @@ continues_stint _ = false
 abbrev pub may_follow : Diary → Entry → Bool
 may_follow diary e = not (continues_stint e) || is_active diary
 
--- Where a node stands in the cluster cycle.
-
+-- where a node stands in the cluster cycle: its time in slots, its round and its slot
 pub record Place : Type 0 where
   pub time : ℕ
   pub round : ℕ
   pub slot : ℕ
 
+-- the place that is read of a node that is not active
 abbrev pub no_place : Place
 no_place = record { time = 0; round = 0; slot = 0 }
 

@@ -20,13 +20,16 @@ arms k slot _ = false
 
 -- Faults on a channel.
 
+-- a slot lies between two others, which count
 abbrev pub covers : ℕ → ℕ → ℕ → Bool
 covers from to slot = nat_le from slot && nat_le slot to
 
+-- a channel is one of some
 abbrev pub is_among : Channel → Channels → Bool
 is_among channel.A channels = channels.a
 is_among channel.B channels = channels.b
 
+-- two faults make the same of what they strike
 abbrev pub is_same_fault : Fault → Fault → Bool
 is_same_fault fault.Silence fault.Silence = true
 is_same_fault fault.Silence fault.Noise = false
@@ -50,8 +53,7 @@ flipped_bit k c slot (event.Flip node channels bit at) =
     if (node == k) && (is_among c channels && (at == slot)) then Some bit else None
 flipped_bit k c slot _ = None
 
--- Flipped bits that are told with the channels on which they are flipped.
-
+-- the bit that is flipped, where it is so on this channel
 abbrev pub bit_on : Channel → FlippedBit → Option ℕ
 bit_on c flipped = if is_among c flipped.channels then Some flipped.bit else None
 
@@ -61,6 +63,7 @@ bits_on c flips = filter_map (bit_on c) flips
 
 -- Clocks.
 
+-- the sum of some numbers
 abbrev pub sum_ℤ : List ℤ → ℤ
 sum_ℤ [] = pos 0
 sum_ℤ (z ∷ zs) = z +ℤ sum_ℤ zs
@@ -78,13 +81,16 @@ jump_in k slot _ = None
 -- What happens to a node in a slot, all but what its host does: the faults on each channel, whether a bit of its frame
 -- is flipped, whether it is armed, and the sums of its reading errors and of its clock's jumps.
 
+-- the channels of which something is so
 abbrev pub channels_where : (Channel → Bool) → Channels
 channels_where p = record { a = p channel.A; b = p channel.B }
 
+-- there is a bit among some
 abbrev pub has_bits : List ℕ → Bool
 has_bits [] = false
 has_bits (bit ∷ bits) = true
 
+-- what some events say of node k in a slot, all but what its host does
 abbrev pub incidents_in : List Event → ℕ → ℕ → Incidents
 incidents_in events k slot = record {
   send_silence = channels_where (λ c. list_any (is_send_fault fault.Silence k c slot) events);

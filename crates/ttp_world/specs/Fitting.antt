@@ -11,6 +11,7 @@ use Rattle.ttp_world.specs.Frame.{cstate_length, cold_start_header, header_of, i
 
 -- What stands where in the bytes of a frame.
 
+-- the header of a frame: its first byte
 abbrev pub header_in : List ℕ → ℕ
 header_in bytes = slice_index bytes 0
 
@@ -22,9 +23,11 @@ carried_length width header = if is_explicit header then cstate_length width els
 abbrev pub payload_in : ℕ → ℕ → ℕ → List ℕ → List ℕ
 payload_in width header size bytes = take size (drop (1 + carried_length width header) bytes)
 
+-- a number with one byte more
 abbrev pub append_byte : ℕ → ℕ → ℕ
 append_byte v byte = 256 * v + byte
 
+-- the number that bytes are, the most significant first
 abbrev pub number_in : List ℕ → ℕ
 number_in bytes = fold append_byte 0 bytes
 
@@ -63,16 +66,19 @@ is_joinable_state list c =
     && (list_all (λ k. nat_lt k (length list.slots)) c.members
     && has_node c.members c.slot))
 
+-- bytes are the cold-start frame of a slot that may start
 abbrev pub is_cold_start : Medl → List ℕ → CState → Bool
 is_cold_start list bytes c =
     is_formed (member_width list) bytes cold_start_header 0 list.schedule && may_start list c.slot
 
+-- bytes are an explicit frame where the list gives its kind for the round and slot of its C-state
 abbrev pub is_listed_explicit : Medl → List ℕ → CState → Bool
 is_listed_explicit list bytes c =
     is_explicit (header_of (kind_at list c.round c.slot))
     && is_formed (member_width list) bytes (header_of (kind_at list c.round c.slot))
     (payload_length list c.round c.slot) list.schedule
 
+-- the C-state that bytes carry, where a node may join on it
 abbrev pub joinable_cstate : Medl → List ℕ → CState → Option CState
 joinable_cstate list bytes c =
     if is_joinable_state list c && (is_cold_start list bytes c || is_listed_explicit list bytes c) then Some c else None

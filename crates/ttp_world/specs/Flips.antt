@@ -7,6 +7,7 @@ use Rattle.ttp_world.specs.declared.script.Event.TheVariants as event
 use Rattle.ttp_world.specs.declared.sorted.Keyed.{Keyed}
 use Rattle.ttp_world.specs.Sorted.{key_of}
 
+-- a flip with the key of its node and slot; of another event nothing
 abbrev pub keyed_flip : Event → Option (Keyed FlippedBit)
 keyed_flip (event.Flip node channels bit slot) =
     Some (record { key = key_of node slot; value = record { channels = channels; bit = bit } })

@@ -6,11 +6,13 @@ use Rattle.ttp_world.specs.declared.script.Event.{Event}
 use Rattle.ttp_world.specs.declared.script.Event.TheVariants as event
 use Rattle.ttp_world.specs.declared.sorted.Keyed.{Keyed}
 
+-- what a host reads, with its slot as the key; of another event nothing
 abbrev pub keyed_read : Event → Option (Keyed HostRead)
 keyed_read (event.Read node slot from) =
     Some (record { key = slot; value = record { host = node; source = from } })
 keyed_read _ = None
 
+-- the place of a write among the events, with its slot as the key; of another event nothing
 abbrev pub keyed_write : ℕ → Event → Option (Keyed ℕ)
 keyed_write place (event.Write node slot payload) = Some (record { key = slot; value = place })
 keyed_write place _ = None

@@ -15,9 +15,11 @@ use Rattle.ttp_world.specs.Flips.{keyed_flip, HasFlipKey}
 use Rattle.ttp_world.specs.HostLines.{keyed_read, keyed_writes}
 use Rattle.ttp_world.specs.Sorted.{key_of, SplitsAt, AreSorted}
 
+-- neither channel
 abbrev pub no_channels : Channels
 no_channels = record { a = false; b = false }
 
+-- nothing happens to a node in a slot
 abbrev pub no_incidents : Incidents
 no_incidents = record {
   send_silence = no_channels;
@@ -30,6 +32,7 @@ no_incidents = record {
   jump = pos 0;
 }
 
+-- the step that is read where an index has none: nothing happens from key 0 on
 abbrev pub first_step : Step
 first_step = record { key = 0; incidents = no_incidents }
 
@@ -38,6 +41,7 @@ abbrev pub incidents_before : List Step → ℕ → Incidents
 incidents_before steps zero = no_incidents
 incidents_before steps (suc place) = (get_or steps place first_step).incidents
 
+-- a step is at this key or before it
 abbrev pub step_is_by : ℕ → Step → Bool
 step_is_by key step = nat_le step.key key
 

@@ -22,6 +22,7 @@ pub data Signal : Type 0 where
   Noise : Signal
   Bits : (sender : ℕ) (bytes : List ℕ) → Signal
 
+-- a signal is silence
 abbrev pub is_silence : Signal → Bool
 is_silence Silence = true
 is_silence Noise = false
@@ -29,14 +30,17 @@ is_silence (Bits sender bytes) = false
 
 -- Flipped bits. Bit 0 is the first byte's most significant; a bit past the end has no effect.
 
+-- a byte with the bit at a place turned, counted from the least significant
 abbrev pub flip_in_byte : ℕ → ℕ → ℕ
 flip_in_byte place byte = if byte / 2 ^ place % 2 == 1 then byte - 2 ^ place else byte + 2 ^ place
 
+-- bytes with one bit turned, where bit 0 is the first byte's most significant; a bit past the end has no effect
 abbrev pub flip_bit : List ℕ → ℕ → List ℕ
 flip_bit [] bit = []
 flip_bit (byte ∷ bytes) bit =
     if nat_lt bit 8 then flip_in_byte (7 - bit) byte ∷ bytes else byte ∷ flip_bit bytes (bit - 8)
 
+-- bytes with some bits turned, one after another
 abbrev pub flip_bits : List ℕ → List ℕ → List ℕ
 flip_bits bytes bits = fold flip_bit bytes bits
 
@@ -46,6 +50,7 @@ flip_bits bytes bits = fold flip_bit bytes bits
 abbrev pub remains : Script → ℕ → Channel → SentFrame → Bool
 remains script slot c sent = not (has_send_fault script fault.Silence sent.sender c slot)
 
+-- those of some frames
 abbrev pub remaining_frames : Script → ℕ → Channel → List SentFrame → List SentFrame
 remaining_frames script slot c frames = filter (remains script slot c) frames
 
@@ -66,6 +71,7 @@ channel_signal script slot c frames = combined_signal script slot c (remaining_f
 
 -- The receiver.
 
+-- what a receiver hears of a signal where its channel is noisy or not: no frame through noise
 abbrev pub with_noise : Bool → Signal → Signal
 with_noise noisy Silence = Silence
 with_noise noisy Noise = Noise
@@ -77,17 +83,20 @@ heard script slot r c frames =
     if has_receive_fault script fault.Silence r c slot then Silence
     else with_noise (has_receive_fault script fault.Noise r c slot) (channel_signal script slot c frames)
 
+-- both channels are silent to node r
 abbrev pub is_silent_to : Script → ℕ → ℕ → List SentFrame → Bool
 is_silent_to script slot r frames =
     is_silence (heard script slot r channel.A frames) && is_silence (heard script slot r channel.B frames)
 
 -- What the history tells of the medium: silence does not depend on what the frames held.
 
+-- in an entry its node put a frame on the bus
 abbrev pub is_sending : Entry → Bool
 is_sending entry.Started = true
 is_sending (entry.Sent message) = true
 is_sending _ = false
 
+-- a frame of node k without its bytes
 abbrev pub sender_only : ℕ → SentFrame
 sender_only k = record { sender = k; bytes = [] }
 

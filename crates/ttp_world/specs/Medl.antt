@@ -7,8 +7,7 @@ use Rattle.ttp_world.specs.declared.medl.Kind.TheVariants as kind
 use Rattle.ttp_world.specs.declared.medl.SlotPlan.{SlotPlan}
 use Rattle.ttp_world.specs.declared.medl.Medl.{Medl}
 
--- Lists of version 2 are wide: they have up to 24 nodes, and their frames carry as many members.
-
+-- a list is wide, as of version 2: it has up to 24 nodes, and its frames carry as many members
 abbrev pub is_wide : Medl → Bool
 is_wide list = list.version == 2
 

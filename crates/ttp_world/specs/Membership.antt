@@ -11,6 +11,7 @@ use Rattle.ttp_world.specs.declared.node.Verdict.TheVariants as verdict
 use Rattle.ttp_world.specs.Acknowledgement.{is_correct, ack_of, is_doubt_about}
 use Rattle.ttp_world.specs.Diary.{Diary, is_active}
 
+-- the verdicts after which the sender of a frame counts as a member
 abbrev pub is_accepted : Verdict → Bool
 is_accepted verdict.Correct = true
 is_accepted verdict.Tentative = true

@@ -45,6 +45,7 @@ delivered_of list script history row r =
 abbrev pub payload_of_sender : ℕ → Delivered → List (List ℕ)
 payload_of_sender p delivered = if delivered.sender == p then delivered.payload ∷ [] else []
 
+-- the same of what was delivered, if anything was
 abbrev pub new_messages : ℕ → Option Delivered → List (List ℕ)
 new_messages p None = []
 new_messages p (Some delivered) = payload_of_sender p delivered
@@ -57,13 +58,16 @@ in_messages list script (row ∷ history) k p =
 
 -- Status: the slot, the flags, the C-state of the slot with the members after it, and the counts.
 
+-- the value of a flag where it stands, and else 0
 abbrev pub flag : ℕ → Bool → ℕ
 flag value stands = if stands then value else 0
 
+-- a phase is that of a listening node
 abbrev pub is_listening_phase : Phase → Bool
 is_listening_phase phase.Listening = true
 is_listening_phase _ = false
 
+-- a phase is that of a node that has left
 abbrev pub is_left_phase : Phase → Bool
 is_left_phase phase.Left = true
 is_left_phase _ = false
@@ -84,11 +88,13 @@ flags_of list past delivers =
     + (flag 64 (is_doubt past.ack)
     + flag 128 (has_averaged list past)))))))
 
+-- the C-state of an active node as a number, and else 0
 abbrev pub cstate_word : Medl → NodePast → ℕ
 cstate_word list past =
     if is_active_phase past.phase then number_in (cstate_bytes (member_width list) (cstate_at past.place past.members))
     else 0
 
+-- the four words of a status message
 abbrev pub status_words : Medl → ℕ → NodePast → Bool → List ℕ
 status_words list slot past delivers =
     slot ∷ flags_of list past delivers ∷ cstate_word list past ∷ (256 * past.accepted + past.rejected) ∷ []

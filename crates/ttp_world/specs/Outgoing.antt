@@ -21,9 +21,11 @@ out_messages list script k slot = messages_before list script k (suc slot)
 
 -- The message that a node is to send in a slot, by its number, if one is told.
 
+-- what is chosen for a node that sends no message
 abbrev pub nothing_chosen : Chosen
 nothing_chosen = record { number = 0; payload = [] }
 
+-- the message of node k that has this number by the end of a slot, if one is told
 abbrev pub message_chosen : Medl → Script → ℕ → ℕ → Option ℕ → Chosen
 message_chosen list script slot k None = nothing_chosen
 message_chosen list script slot k (Some i) =

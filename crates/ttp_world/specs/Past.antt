@@ -43,8 +43,7 @@ silent_slots_of (entry.Waited ∷ diary) (s ∷ surroundings) =
     elim s.is_silent [ true ↦ 1 + silent_slots_of diary surroundings | false ↦ 0 ]
 silent_slots_of _ _ = 0
 
--- The record.
-
+-- what the rules ask of a node's past: all that is read of its diary and of what came from outside
 pub record NodePast : Type 0 where
   pub phase : Phase
   -- what the node did in the newest slot

@@ -30,6 +30,7 @@ candidate_sets ack.First own members =
 candidate_sets (ack.Doubt x) own members =
     record { first = without_node (with_node members own) x; second = Some (with_node (without_node members own) x) }
 
+-- the same for the frame of a sender, which is a member of each
 abbrev pub candidates : Ack → ℕ → List ℕ → ℕ → Candidates
 candidates a own members sender = candidate_sets a own (with_node members sender)
 
@@ -53,30 +54,37 @@ pub record Hearing : Type 0 where
   pub b : Signal
   pub deviation : ℕ → ℤ
 
+-- the header of the frame that a list gives for a place
 abbrev pub expected_header : Medl → Place → ℕ
 expected_header list place = header_of (kind_at list place.round place.slot)
 
+-- how many bytes of payload it has
 abbrev pub expected_length : Medl → Place → ℕ
 expected_length list place = payload_length list place.round place.slot
 
+-- a deviation lies within the list's window
 abbrev pub is_within_window : Medl → ℤ → Bool
 is_within_window list deviation = int_le (neg_ℤ list.window) deviation && int_le deviation list.window
 
+-- bytes are a frame of the expected header and length
 abbrev pub is_expected_form : Medl → Expected → List ℕ → Bool
 is_expected_form list expected bytes =
     is_formed (member_width list) bytes (expected_header list expected.place)
     (expected_length list expected.place) list.schedule
 
+-- they are the expected frame, with these members
 abbrev pub fits_members : Medl → Expected → List ℕ → List ℕ → Bool
 fits_members list expected bytes members =
     fits (member_width list) bytes (expected_header list expected.place)
     (expected_length list expected.place) list.schedule
     (cstate_at expected.place members)
 
+-- they are that of the second candidate, if there is one
 abbrev pub fits_second : Medl → Expected → List ℕ → Bool
 fits_second list expected bytes =
     unwrap_or (option_map (fits_members list expected bytes) expected.candidates.second) false
 
+-- how bytes of the expected form are seen
 abbrev pub view_of_frame : Medl → Expected → List ℕ → ChannelView
 view_of_frame list expected bytes =
     elim (fits_members list expected bytes expected.candidates.first) [
@@ -84,6 +92,7 @@ view_of_frame list expected bytes =
       | false ↦ if fits_second list expected bytes then view.Second else view.Other
     ]
 
+-- how bits are seen that came so late: Bad outside the window, and where they are not of the expected form
 abbrev pub view_of_bits : Medl → Expected → List ℕ → ℤ → ChannelView
 view_of_bits list expected bytes deviation =
     if is_within_window list deviation
@@ -97,6 +106,7 @@ view_of list expected deviation (Bits sender bytes) = view_of_bits list expected
 
 -- The better view of two, in the order First, Second, Other, Bad, Silent.
 
+-- the place of a view in the order from the best to the worst: First, Second, Other, Bad, Silent
 abbrev pub rank_of : ChannelView → ℕ
 rank_of view.First = 0
 rank_of view.Second = 1
@@ -104,19 +114,23 @@ rank_of view.Other = 2
 rank_of view.Bad = 3
 rank_of view.Silent = 4
 
+-- the view of channel A is taken: it is the better one, or they are equal
 abbrev pub is_taken_from_a : ChannelView → ChannelView → Bool
 is_taken_from_a a b = nat_le (rank_of a) (rank_of b)
 
+-- the better view of two
 abbrev pub better_view : ChannelView → ChannelView → ChannelView
 better_view a b = if is_taken_from_a a b then a else b
 
 -- The verdict. With a closed acknowledgement there is no second candidate, and a view of it counts as another frame.
 
+-- the verdict on a frame of the second candidate; a closed acknowledgement has none
 abbrev pub verdict_of_second : Ack → Verdict
 verdict_of_second ack.Closed = verdict.Incorrect
 verdict_of_second ack.First = verdict.Tentative
 verdict_of_second (ack.Doubt x) = verdict.Denied
 
+-- the verdict on a slot that is seen so, with this acknowledgement
 abbrev pub verdict_of_view : ChannelView → Ack → Verdict
 verdict_of_view view.First a = verdict.Correct
 verdict_of_view view.Second a = verdict_of_second a
@@ -124,17 +138,20 @@ verdict_of_view view.Other a = verdict.Incorrect
 verdict_of_view view.Bad a = verdict.Invalid
 verdict_of_view view.Silent a = verdict.Null
 
+-- the verdict on a slot by the views of channels A and B: the better one decides
 abbrev pub verdict_of : ChannelView → ChannelView → Ack → Verdict
 verdict_of a b acknowledgement = verdict_of_view (better_view a b) acknowledgement
 
 -- The deviation that an entry tells: 0 where no channel carried bits, and that of the channel whose view is taken where
 -- both did.
 
+-- the deviation to the sender of the bits that a channel carried, if it carried bits, in microticks
 abbrev pub heard_deviation : (ℕ → ℤ) → Signal → Option ℤ
 heard_deviation deviation Silence = None
 heard_deviation deviation Noise = None
 heard_deviation deviation (Bits sender bytes) = Some (deviation sender)
 
+-- the deviation that an entry tells: 0 where no channel carried bits, and of two that of the view that is taken
 abbrev pub entry_deviation : Bool → Option ℤ → Option ℤ → ℤ
 entry_deviation from_a None None = pos 0
 entry_deviation from_a (Some a) None = a
@@ -143,12 +160,14 @@ entry_deviation from_a (Some a) (Some b) = if from_a then a else b
 
 -- What is handed to the host: the payload of a correct frame, from the first channel on which it was so.
 
+-- the bytes in the payload's place of what a channel carried
 abbrev pub payload_heard : Medl → Place → Signal → List ℕ
 payload_heard list place Silence = []
 payload_heard list place Noise = []
 payload_heard list place (Bits sender bytes) =
     payload_in (member_width list) (expected_header list place) (expected_length list place) bytes
 
+-- a view is that of a frame of the first candidate
 abbrev pub is_first_view : ChannelView → Bool
 is_first_view view.First = true
 is_first_view _ = false

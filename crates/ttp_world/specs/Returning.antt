@@ -33,17 +33,20 @@ use Rattle.ttp_world.specs.Script.{is_on, is_armed, has_receive_fault}
 abbrev pub needed_back : Medl → ℤ
 needed_back list = list.drift *ℤ pos (8 * length list.slots) +ℤ (list.error *ℤ pos 6 +ℤ pos 2)
 
+-- the window (Q2): slot 0 where it is narrower than a deviation needs between nodes of which one came back
 abbrev pub back_window_broken : Medl → Option ℕ
 back_window_broken list = if int_le (needed_back list) list.window then None else Some 0
 
 -- What stands outside (Q3): no bit is flipped, and a clock jumps at most once, by four windows or more.
 
+-- the slot of an event that breaks the rule on what stands outside: a flipped bit, or a jump that is not allowed
 abbrev pub disturbed_slot : Medl → Script → Event → Option ℕ
 disturbed_slot list script (event.Flip node channels bit slot) = Some slot
 disturbed_slot list script (event.Jump node value slot) =
     if is_allowed_jump list script node slot then None else Some slot
 disturbed_slot list script _ = None
 
+-- what stands outside (Q3): no bit is flipped, and a clock jumps at most once, by four windows or more
 abbrev pub disturbance_broken : Medl → Script → Option ℕ
 disturbance_broken list script = least_of (filter_map (disturbed_slot list script) script.events)
 
@@ -57,6 +60,7 @@ pub record FaultySlot : Type 0 where
   pub stayed : List FaultyNode
   pub joined : List FaultyNode
 
+-- the slot that is read where a run has none: nobody is faulty in it
 abbrev pub no_slot : FaultySlot
 no_slot = record { stayed = []; joined = [] }
 
@@ -65,6 +69,7 @@ abbrev pub faulty_since : List FaultySlot → List FaultyNode
 faulty_since [] = []
 faulty_since (s ∷ before) = s.joined ++ s.stayed
 
+-- four rounds of a list, in slots
 abbrev pub four_rounds : Medl → ℕ
 four_rounds list = 4 * length list.slots
 
@@ -77,10 +82,12 @@ abbrev pub is_forgiven : Medl → Script → List FaultySlot → ℕ → ℕ →
 is_forgiven list script before slot k =
     has_node (faulty_then list before) k && is_armed script k (slot - four_rounds list)
 
+-- the nodes that are still faulty at the beginning of a slot, each with the slot since when
 abbrev pub stayed_in : Medl → Script → List FaultySlot → ℕ → List FaultyNode
 stayed_in list script before slot =
     filter (λ f. not (is_forgiven list script before slot f.node)) (faulty_since before)
 
+-- a slot with those and with the nodes that become faulty in it, as in the hypothesis
 abbrev pub faulty_slot : Medl → Script → ClusterStart → ℕ → List FaultyNode → FaultySlot
 faulty_slot list script start slot stayed =
     record { stayed = stayed; joined = faulty_nodes_in list script start slot stayed }
@@ -96,10 +103,12 @@ slots_before list script start (suc slot) =
 abbrev pub faulty_at : Medl → Script → ClusterStart → ℕ → List FaultyNode
 faulty_at list script start slot = stayed_in list script (slots_before list script start slot) slot
 
+-- the losses of a slot break the rule on them
 abbrev pub breaks_back_in : Medl → Script → ClusterStart → ℕ → Bool
 breaks_back_in list script start slot =
     is_breaking (loss_in list script start (numbers_of (faulty_at list script start slot)) slot)
 
+-- losses (Q5): as in the hypothesis, but a node is faulty no longer four rounds after it was armed
 abbrev pub back_loss_broken : Medl → Script → ClusterStart → Option ℕ
 back_loss_broken list script start = find (breaks_back_in list script start) (below script.slots)
 
@@ -114,19 +123,23 @@ abbrev pub back_fault_slots : Medl → Script → ClusterStart → List ℕ
 back_fault_slots list script start =
     reverse (map (λ f. f.slot) (joinings (slots_before list script start script.slots)))
 
+-- distances (Q6): as in the hypothesis, for each time that a node becomes faulty
 abbrev pub back_distance_broken : Medl → Script → ClusterStart → Option ℕ
 back_distance_broken list script start =
     first_too_early (2 * length list.slots) (start.slot + 2 * length list.slots) (back_fault_slots list script start)
 
 -- Nodes to measure (Q7): as in the hypothesis, of the nodes that are not faulty now.
 
+-- four nodes or more are steady that are not faulty at the beginning of a slot
 abbrev pub has_four_before : Medl → Script → ClusterStart → ℕ → Bool
 has_four_before list script start slot =
     has_four_steady list script (faulty_since (slots_before list script start slot))
 
+-- fewer than four are so after it
 abbrev pub lacks_four_after : Medl → Script → ClusterStart → ℕ → Bool
 lacks_four_after list script start slot = not (has_four_before list script start (suc slot))
 
+-- nodes to measure (Q7): the first slot, from that of the start on, after which fewer than four are steady
 abbrev pub back_sync_broken : Medl → Script → ClusterStart → Option ℕ
 back_sync_broken list script start =
     if has_four_before list script start start.slot
@@ -134,6 +147,7 @@ back_sync_broken list script start =
 
 -- Arm lines (Q8). Each is asked about the four rounds from its slot on, as far as the run goes.
 
+-- two rounds of a list, in slots
 abbrev pub two_rounds : Medl → ℕ
 two_rounds list = 2 * length list.slots
 
@@ -171,6 +185,7 @@ is_line_of list k slot (event.Receive node channels f from to) = (node == k) && 
 is_line_of list k slot (event.Jump node value at) = (node == k) && touches list slot at at
 is_line_of list k slot _ = false
 
+-- no line speaks so of the node
 abbrev pub is_left_alone : Medl → Script → ℕ → ℕ → Bool
 is_left_alone list script k slot = not (list_any (is_line_of list k slot) script.events)
 
@@ -198,6 +213,7 @@ is_missed_in list script start k slot =
 abbrev pub run_slots : Script → ℕ → ℕ → List ℕ
 run_slots script slot count = range_with_len slot (min (slot + count) script.slots - slot)
 
+-- each node that is not faulty hears the frames of the node in those four rounds, on one channel at least
 abbrev pub is_heard : Medl → Script → ClusterStart → ℕ → ℕ → Bool
 is_heard list script start k slot =
     not (list_any (is_missed_in list script start k) (run_slots script slot (four_rounds list)))
@@ -244,24 +260,29 @@ abbrev pub breaks_arm_in : Medl → Script → ClusterStart → ℕ → Bool
 breaks_arm_in list script start slot =
     list_any (λ k. fails_if_armed list script start k slot (is_armed script k slot)) (nodes_of list)
 
+-- arm lines (Q8): the first slot in which a node is armed that does not meet them
 abbrev pub arms_broken : Medl → Script → ClusterStart → Option ℕ
 arms_broken list script start = find (breaks_arm_in list script start) (below script.slots)
 
 -- Where no node is armed, none is owed anything.
 
+-- an event arms a node
 abbrev pub is_arm : Event → Bool
 is_arm (event.Arm node slot) = true
 is_arm _ = false
 
+-- some event of a script arms a node; where none does, no node is owed anything
 abbrev pub has_arm : Script → Bool
 has_arm script = list_any is_arm script.events
 
 -- The test.
 
+-- the answer is this rule with its slot, where it is broken, and else what the others say
 abbrev pub unless_back : ℕ → Option ℕ → Back → Back
 unless_back rule None others = others
 unless_back rule (Some slot) others = back.No rule slot
 
+-- the answer of the rules behind the start, by the start, if there is one
 abbrev pub started_back : Medl → Script → Option ClusterStart → Back
 started_back list script None = back.No 4 0
 started_back list script (Some start) =
@@ -279,6 +300,7 @@ returns list script =
 
 -- Faulty nodes, and those that are correct by this test.
 
+-- the nodes that are faulty after a slot, each with the slot since when, by the start, if there is one
 abbrev pub started_since : Medl → Script → ℕ → Option ClusterStart → List FaultyNode
 started_since list script slot None = []
 started_since list script slot (Some start) = faulty_since (slots_before list script start (suc slot))

@@ -29,6 +29,7 @@ use Rattle.ttp_world.specs.Medl.{plan_at}
 abbrev pub on_slot : Script → ℕ → Option ℕ
 on_slot script k = unwrap_or (slice_get script.on k) None
 
+-- node k is ever switched on
 abbrev pub is_ever_on : Script → ℕ → Bool
 is_ever_on script k = is_some (on_slot script k)
 
@@ -46,9 +47,11 @@ is_armed script k slot = list_any (arms k slot) script.events
 
 -- Faults on a channel.
 
+-- a fault of this kind strikes what node k sends on a channel in a slot
 abbrev pub has_send_fault : Script → Fault → ℕ → Channel → ℕ → Bool
 has_send_fault script kind k c slot = list_any (is_send_fault kind k c slot) script.events
 
+-- and one strikes what it hears
 abbrev pub has_receive_fault : Script → Fault → ℕ → Channel → ℕ → Bool
 has_receive_fault script kind k c slot = list_any (is_receive_fault kind k c slot) script.events
 
@@ -58,6 +61,7 @@ flipped_bits script k c slot = filter_map (flipped_bit k c slot) script.events
 
 -- Clocks.
 
+-- how far the clock of node k drifts in each slot, in microticks
 abbrev pub drift_of : Script → ℕ → ℤ
 drift_of script k = get_or script.drift k (pos 0)
 
@@ -73,8 +77,7 @@ jump_of script k slot = sum_ℤ (filter_map (jump_in k slot) script.events)
 abbrev pub has_jump : Script → ℕ → ℕ → Bool
 has_jump script k slot = list_any (λ e. is_some (jump_in k slot e)) script.events
 
--- All that happens to a node in a slot but what its host does.
-
+-- what a script says of node k in a slot, all but what its host does
 abbrev pub incidents_of : Script → ℕ → ℕ → Incidents
 incidents_of script k slot = incidents_in script.events k slot
 
@@ -89,11 +92,13 @@ pub record HostWrite : Type 0 where
 abbrev pub host_write : Written → HostWrite
 host_write written = record { host = written.host; payload = written.payload.now }
 
+-- the message that an event writes in a slot
 abbrev pub write_in : ℕ → Event → Option HostWrite
 write_in slot (event.Write node at payload) =
     if at == slot then Some (record { host = node; payload = payload }) else None
 write_in slot _ = None
 
+-- what an event reads in a slot
 abbrev pub read_in : ℕ → Event → Option HostRead
 read_in slot (event.Read node at from) = if at == slot then Some (record { host = node; source = from }) else None
 read_in slot _ = None
@@ -113,6 +118,7 @@ writes_in script slot = filter_map (write_in slot) script.events
 abbrev pub reads_in : Script → ℕ → List HostRead
 reads_in script slot = filter_map (read_in slot) script.events
 
+-- a message, where it is of this host
 abbrev pub payload_of_host : ℕ → HostWrite → Option (List ℕ)
 payload_of_host k write = if write.host == k then Some write.payload else None
 
@@ -131,6 +137,7 @@ abbrev pub IsSource : Medl → ℕ → Source → Type 0
 IsSource list host source.Status = Unit {0}
 IsSource list host (source.Node k) = (k < length list.slots) × (1 ≤ (plan_at list k).payload) × (k ≢ host)
 
+-- an event is valid: its node exists, its slots are those of the run, and what it says is within its limits
 abbrev pub IsValidEvent : Medl → Script → Event → Type 0
 IsValidEvent list script (event.Send node channels f from to) = (node < length list.slots) × IsSpan script from to
 IsValidEvent list script (event.Receive node channels f from to) = (node < length list.slots) × IsSpan script from to
@@ -147,11 +154,13 @@ IsValidEvent list script (event.Write node slot payload) =
 IsValidEvent list script (event.Read node slot from) =
     (node < length list.slots) × (slot < script.slots) × IsSource list node from
 
+-- an event is of a host
 abbrev pub is_host_event : Event → Bool
 is_host_event (event.Write node slot payload) = true
 is_host_event (event.Read node slot from) = true
 is_host_event _ = false
 
+-- a slot that may be there is one of the run
 abbrev pub IsWithinRun : Script → Option ℕ → Type 0
 IsWithinRun script on = IfSome on (λ slot. slot < script.slots)
 

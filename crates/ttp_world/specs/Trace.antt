@@ -40,8 +40,7 @@ abbrev pub number_or_dash : Option ℕ → List ℕ
 number_or_dash None = codes "-"
 number_or_dash (Some n) = decimal n
 
--- The first line.
-
+-- the first line of a trace
 abbrev pub trace_head : Medl → Script → List ℕ
 trace_head list script =
     codes "ttpbench trace " ++ decimal list.version
@@ -52,6 +51,7 @@ trace_head list script =
 
 -- Node lines.
 
+-- the word of a line for a verdict
 abbrev pub verdict_word : Verdict → List ℕ
 verdict_word verdict.Null = codes "null"
 verdict_word verdict.Invalid = codes "invalid"
@@ -60,11 +60,13 @@ verdict_word verdict.Correct = codes "correct"
 verdict_word verdict.Tentative = codes "tentative"
 verdict_word verdict.Denied = codes "denied"
 
+-- the word for why a node left
 abbrev pub reason_word : Reason → List ℕ
 reason_word reason.Denied = codes "denied"
 reason_word reason.Unacknowledged = codes "unacknowledged"
 reason_word reason.Clique = codes "clique"
 
+-- the word for what a node did in a slot: the verdict where it judged another, and the reason where it left
 abbrev pub entry_word : Entry → List ℕ
 entry_word entry.Off = codes "off"
 entry_word entry.Waited = codes "wait"
@@ -76,6 +78,7 @@ entry_word (entry.Joined sender cstate deviation) = codes "join"
 entry_word (entry.Judged sender v deviation) = verdict_word v
 entry_word (entry.Left why peer) = reason_word why
 
+-- the node of which that word speaks, if it speaks of one
 abbrev pub peer_of : ℕ → Entry → Option ℕ
 peer_of k entry.Off = None
 peer_of k entry.Waited = None
@@ -87,6 +90,7 @@ peer_of k (entry.Joined sender cstate deviation) = Some sender
 peer_of k (entry.Judged sender v deviation) = Some sender
 peer_of k (entry.Left why peer) = Some peer
 
+-- the word for an acknowledgement
 abbrev pub ack_word : Ack → List ℕ
 ack_word ack.Closed = codes "none"
 ack_word ack.First = codes "first"
@@ -124,6 +128,7 @@ node_line_of list script row before k =
 
 -- Host lines.
 
+-- how each line of a host begins
 abbrev pub host_head : ℕ → ℕ → List ℕ
 host_head slot k = codes "slot " ++ decimal slot ++ codes " host " ++ decimal k
 
@@ -132,15 +137,18 @@ abbrev pub write_line : Medl → Script → ℕ → ℕ → ℕ → List ℕ
 write_line list script slot k earlier =
     host_head slot k ++ codes " write " ++ decimal (length (messages_before list script k slot) + earlier) ++ newline
 
+-- the lines of some writes of a slot, behind earlier ones of it
 abbrev pub more_write_lines : Medl → Script → ℕ → List HostWrite → List HostWrite → Lines
 more_write_lines list script slot earlier [] = []
 more_write_lines list script slot earlier (w ∷ ws) =
     write_line list script slot w.host (count_by (λ e. e.host == w.host) earlier)
     ∷ more_write_lines list script slot (w ∷ earlier) ws
 
+-- the lines of what hosts write in a slot
 abbrev pub write_lines : Medl → Script → ℕ → Lines
 write_lines list script slot = more_write_lines list script slot [] (writes_in script slot)
 
+-- a word of 64 bits in its digits
 abbrev pub word_hex : ℕ → List ℕ
 word_hex word = hex 16 word
 
@@ -153,6 +161,7 @@ abbrev pub message_hex : Source → List ℕ → List ℕ
 message_hex source.Status message = flat_map word_hex message
 message_hex (source.Node p) message = hex_bytes message
 
+-- the line of a read
 abbrev pub read_line : Medl → Script → ℕ → History → ReadMessage → List ℕ
 read_line list script slot after r =
     host_head slot r.read.host ++ codes " read " ++ source_word r.read.source ++ codes " " ++ decimal r.number
@@ -160,12 +169,14 @@ read_line list script slot after r =
     ++ message_hex r.read.source (get_or (ring_messages list script after r.read.host r.read.source) r.number [])
     ++ newline
 
+-- the lines of what hosts read in a slot
 abbrev pub read_lines : Medl → Script → ℕ → History → List ℕ → Lines
 read_lines list script slot after numbers =
     map (read_line list script slot after) (read_messages (reads_in script slot) numbers)
 
 -- A slot: the nodes, what hosts wrote, and what they read.
 
+-- the lines of a slot: of the nodes, of what hosts wrote, and of what they read
 abbrev pub slot_lines : Medl → Script → List Entry → History → SlotNumbers → Lines
 slot_lines list script row before new =
     map (node_line_of list script row before) (below (length list.slots))
@@ -179,14 +190,12 @@ history_lines list script (row ∷ history) [] = []
 history_lines list script (row ∷ history) (new ∷ numbers) =
     history_lines list script history numbers ++ slot_lines list script row history new
 
--- The line of the hypothesis test.
-
+-- the line of the hypothesis test
 abbrev pub keep_line : Keep → List ℕ
 keep_line (keep.Yes start) = codes "keeps yes start " ++ decimal start ++ newline
 keep_line (keep.No rule slot) = codes "keeps no H" ++ decimal rule ++ codes " " ++ decimal slot ++ newline
 
--- The line on armed nodes.
-
+-- the line on armed nodes
 abbrev pub back_line : Back → List ℕ
 back_line (back.Yes start) = codes "returns yes start " ++ decimal start ++ newline
 back_line (back.No rule slot) = codes "returns no Q" ++ decimal rule ++ codes " " ++ decimal slot ++ newline
@@ -196,6 +205,7 @@ abbrev pub back_lines_if : Medl → Script → Bool → Lines
 back_lines_if list script true = back_line (returns list script) ∷ []
 back_lines_if list script false = []
 
+-- the line on armed nodes, where a script arms one
 abbrev pub back_lines : Medl → Script → Lines
 back_lines list script = back_lines_if list script (has_arm script)
 

@@ -14,12 +14,15 @@ use Rattle.ttp_world.specs.World.{SlotNumbers, Numbers}
 abbrev pub words_of : List ℕ → List (List ℕ)
 words_of line = slice_split (λ c. c == 32) line
 
+-- the word at a place
 abbrev pub word_in : List (List ℕ) → ℕ → List ℕ
 word_in words i = get_or words i []
 
+-- a byte is a decimal digit
 abbrev pub is_digit : ℕ → Bool
 is_digit c = nat_le 48 c && nat_le c 57
 
+-- a number with one decimal digit more
 abbrev pub append_digit : ℕ → ℕ → ℕ
 append_digit v c = 10 * v + (c - 48)
 
@@ -61,5 +64,6 @@ abbrev pub numbers_below : Medl → List (List (List ℕ)) → ℕ → Numbers
 numbers_below list lines zero = []
 numbers_below list lines (suc slot) = slot_numbers list lines slot ∷ numbers_below list lines slot
 
+-- the numbers that the lines of a text name, in a run of all slots
 abbrev pub numbers_in : Medl → Script → Lines → Numbers
 numbers_in list script lines = numbers_below list (map words_of lines) script.slots

@@ -11,9 +11,11 @@ use Rattle.ttp_world.specs.declared.weights.Sums.{Sums}
 use Rattle.ttp_world.specs.declared.weights.Weights.{Weights}
 use Rattle.ttp_world.specs.Events.{is_same_fault, IsWithinSpan}
 
+-- 1 where something is so, and else 0
 abbrev pub one_if : Bool → ℤ
 one_if is = if is then pos 1 else pos 0
 
+-- a number is 1 or more
 abbrev pub is_positive : ℤ → Bool
 is_positive (pos zero) = false
 is_positive (pos (suc n)) = true
@@ -21,6 +23,7 @@ is_positive (negsuc n) = false
 
 -- Counts on both channels.
 
+-- nothing counted on either channel
 abbrev pub no_counts : Counts
 no_counts = record { a = pos 0; b = pos 0 }
 
@@ -28,9 +31,11 @@ no_counts = record { a = pos 0; b = pos 0 }
 abbrev pub chosen_counts : Bool → Channels → Counts
 chosen_counts meant channels = record { a = one_if (meant && channels.a); b = one_if (meant && channels.b) }
 
+-- counts together
 abbrev pub added_counts : Counts → Counts → Counts
 added_counts c d = record { a = c.a +ℤ d.a; b = c.b +ℤ d.b }
 
+-- what takes counts away again
 abbrev pub negated_counts : Counts → Counts
 negated_counts c = record { a = neg_ℤ c.a; b = neg_ℤ c.b }
 
@@ -40,17 +45,21 @@ counted c = record { a = is_positive c.a; b = is_positive c.b }
 
 -- Sums.
 
+-- nothing summed up
 abbrev pub no_sums : Sums
 no_sums = record { arms = pos 0; error = pos 0; jump = pos 0 }
 
+-- two sums together
 abbrev pub added_sums : Sums → Sums → Sums
 added_sums s t = record { arms = s.arms +ℤ t.arms; error = s.error +ℤ t.error; jump = s.jump +ℤ t.jump }
 
+-- what takes sums away again
 abbrev pub negated_sums : Sums → Sums
 negated_sums s = record { arms = neg_ℤ s.arms; error = neg_ℤ s.error; jump = neg_ℤ s.jump }
 
 -- Weights.
 
+-- the weights of no event
 abbrev pub no_weights : Weights
 no_weights = record {
   send_silence = no_counts;
@@ -78,6 +87,7 @@ weights_of (event.Arm node slot) = record no_weights { sums = record no_sums { a
 weights_of (event.Write node slot payload) = no_weights
 weights_of (event.Read node slot from) = no_weights
 
+-- weights together
 abbrev pub added : Weights → Weights → Weights
 added v w = record {
   send_silence = added_counts v.send_silence w.send_silence;
@@ -88,6 +98,7 @@ added v w = record {
   sums = added_sums v.sums w.sums;
 }
 
+-- what takes weights away again
 abbrev pub negated : Weights → Weights
 negated w = record {
   send_silence = negated_counts w.send_silence;
@@ -135,11 +146,14 @@ pub record AreWithin (bound : ℕ) (w : Weights) : Type 0 where
   pub flips : AreWithinCounts bound w.flips
   pub sums : AreWithinSums bound w.sums
 
+-- counts of which two can be added
 abbrev pub AreSummableCounts : Counts → Type 0
 AreSummableCounts c = AreWithinCounts summable_limit c
 
+-- sums of which two can be added
 abbrev pub AreSummableSums : Sums → Type 0
 AreSummableSums s = AreWithinSums summable_limit s
 
+-- weights of which two can be added
 abbrev pub AreSummable : Weights → Type 0
 AreSummable w = AreWithin summable_limit w

@@ -11,5 +11,6 @@ word_count bytes = (bytes + 7) / 8
 abbrev pub payload_word : List ℕ → ℕ → ℕ
 payload_word bytes i = number_in (map (λ j. get_or bytes (8 * i + j) 0) (below 8))
 
+-- the words of a payload
 abbrev pub words_of_payload : List ℕ → List ℕ
 words_of_payload bytes = map (payload_word bytes) (below (word_count (length bytes)))

@@ -65,9 +65,11 @@ slot_after list script history = record {
   nodes = map (node_after list script history) (below (length list.slots));
 }
 
+-- the node that is read of a slot that has none
 abbrev pub no_node : Medl → BegunNode
 no_node list = record { past = no_past list 0; act = Off; clock = pos 0 }
 
+-- node k of a slot that has begun
 abbrev pub node_of : BegunSlot → ℕ → BegunNode
 node_of s k = get_or s.nodes k (no_node s.list)
 
@@ -82,12 +84,15 @@ is_loaded s k = sends_payload s.list (node_of s k).past (node_of s k).act
 
 -- Frames are sent, by the messages that are chosen, and heard.
 
+-- the message that is chosen for node k
 abbrev pub chosen_of : List Chosen → ℕ → Chosen
 chosen_of chosen k = get_or chosen k nothing_chosen
 
+-- the frame that node k sends in a slot that has begun, if it sends one, by the messages that are chosen
 abbrev pub frames_of : BegunSlot → List Chosen → ℕ → List SentFrame
 frames_of s chosen k = node_frames s.list k (node_of s k).past (chosen_of chosen k) (node_of s k).act
 
+-- the frames that all nodes send in it, in the order of the nodes
 abbrev pub frames_in : BegunSlot → List Chosen → List SentFrame
 frames_in s chosen = flat_map (frames_of s chosen) (below (length s.list.slots))
 
@@ -111,6 +116,7 @@ entry_in s chosen frames k =
     let node = node_of s k in
     new_entry s.list k node.past (chosen_of chosen k) (hearing_in s frames k) node.act
 
+-- the entries of all nodes
 abbrev pub entries_in : BegunSlot → List Chosen → List SentFrame → List Entry
 entries_in s chosen frames = map (entry_in s chosen frames) (below (length s.list.slots))
 
@@ -122,6 +128,7 @@ row_in s chosen = entries_in s chosen (frames_in s chosen)
 abbrev pub delivered_in : BegunSlot → List SentFrame → ℕ → Entry → Option Delivered
 delivered_in s frames r e = delivery s.list r (node_of s r).past (hearing_in s frames r) e
 
+-- a history with the row of one slot more
 abbrev pub step : Medl → Script → History → List Chosen → History
 step list script history chosen = row_in (slot_after list script history) chosen ∷ history
 
@@ -137,6 +144,7 @@ pub record SlotNumbers : Type 0 where
 abbrev pub Numbers : Type 0
 Numbers = List SlotNumbers
 
+-- the messages of all nodes that have these numbers by the end of a slot
 abbrev pub messages_chosen : Medl → Script → ℕ → List (Option ℕ) → List Chosen
 messages_chosen list script slot sent =
     map (λ k. message_chosen list script slot k (get_or sent k None)) (below (length list.slots))

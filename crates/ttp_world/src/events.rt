@@ -91,7 +91,7 @@ impl Events {
     }
 
     /// These events, with their index. Takes time as a sort of the events does, and memory that
-    /// grows with their number.
+    /// grows with their number; `Memory` where that was refused.
     pub fn index(alloc: Global, items: List<Event>) -> Result<Events, Memory>
         requires count { length items ≤ EVENT_LIMIT }
         requires values { All IsBounded items }

@@ -40,7 +40,7 @@ impl Kind {
 pub struct SlotPlan {
     /// The kind of the slot's frame in each round of the cluster cycle.
     pub kinds: List<Kind>,
-    /// How many bytes of payload the slot's N and X frames carry.
+    /// How many bytes of payload the slot's N and X frames carry, up to 240.
     pub payload: u8,
     /// Whether the slot's frame is measured for clock synchronization.
     pub sync: bool,
@@ -52,26 +52,28 @@ pub struct SlotPlan {
     pub live: u8,
 }
 
-/// A message descriptor list, which all nodes of a cluster share.
+/// A message descriptor list (MEDL, SAE AS6003), which all nodes of a cluster share. The ranges are
+/// those of a valid one.
 #[derive(Debug, Drop)]
 pub struct Medl {
     /// 1 for up to 16 nodes, and 2 for up to 24, whose frames carry one byte of members more.
     pub version: u8,
-    /// How many TDMA rounds a cluster cycle has.
+    /// How many TDMA rounds a cluster cycle has, 1 to 64.
     pub rounds: u8,
     /// The schedule's number, 24 bits, from which each check word starts.
     pub schedule: u32,
-    /// How many buffers each ring of the host interface has.
+    /// How many buffers each ring of the host interface has, 1 to 16.
     pub buffers: u8,
-    /// The largest drift of a clock in one slot, in microticks.
+    /// The largest drift of a clock in one slot, in microticks, 0 to 1,000.
     pub drift: i64,
-    /// The largest reading error of a measured deviation, in microticks.
+    /// The largest reading error of a measured deviation, in microticks, 0 to 1,000.
     pub error: i64,
-    /// How far a frame may lie from its receiver's clock and still be accepted, in microticks.
+    /// How far a frame may lie from its receiver's clock, either way, and still be accepted, in
+    /// microticks, 1 to 1,000,000.
     pub window: i64,
-    /// How many modes the cluster's hosts can agree on.
+    /// How many modes the cluster's hosts can agree on, 1 to 8.
     pub modes: u8,
-    /// The slots of the round, in order.
+    /// The slots of the round, in order, 4 to 16 or in version 2 to 24. Four or more have `sync`.
     pub slots: List<SlotPlan>,
 }
 
@@ -100,7 +102,8 @@ impl Medl {
     ghost use Rattle.std.specs.Prelude.{◌≡◌, ◌<◌, length, IfOk};
     ghost use Rattle.ttp_world.specs.Medl.{IsValid, kind_at, payload_length, is_wide};
 
-    /// A copy of the list.
+    /// A copy of the list. Takes memory for its slots and their kinds; `Memory` where that was
+    /// refused.
     pub fn copy(&self, alloc: Global) -> Result<Medl, Memory>
         ensures { IfOk result (λ copy. copy ≡ self.now) }
     {

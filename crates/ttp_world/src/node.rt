@@ -3,7 +3,8 @@
 use crate::script::Payload;
 use ttp_base::NodeSet;
 
-/// The controller state that explicit frames carry and over which each check word is computed.
+/// The controller state (C-state, SAE AS6003) that explicit frames carry and over which each check
+/// word is computed.
 #[derive(Clone, Copy, Debug, PartialEq, Eq)]
 pub struct CState {
     /// Slots since the cold start, modulo 65536.
@@ -73,9 +74,13 @@ pub enum Reason {
 /// What a node is after a slot.
 #[derive(Clone, Copy, Debug, PartialEq, Eq)]
 pub enum Phase {
+    /// It is not switched on yet.
     Off,
+    /// It is on, and waits for a frame to join on, or for its time to start.
     Listening,
+    /// It started or joined, and sends in its own slots.
     Active,
+    /// It was active, and has left.
     Left,
 }
 
@@ -151,6 +156,7 @@ pub struct NodeState {
     pub accepted: u8,
     /// The frames that it rejected since then.
     pub rejected: u8,
+    /// What it knows of its own newest frame.
     pub ack: Ack,
     /// How far its clock is ahead, in microticks.
     pub offset: i64,
@@ -161,12 +167,14 @@ pub struct NodeState {
 pub struct Chosen {
     /// Its number in the node's outgoing ring.
     pub number: u64,
+    /// As many bytes as the list gives the node.
     pub payload: Payload,
 }
 
 /// What a receiver hands to its host.
 #[derive(Debug, Drop)]
 pub struct Delivered {
+    /// The node whose frame carried it.
     pub sender: u8,
     pub payload: Payload,
 }

@@ -64,7 +64,9 @@ pub enum Fault {
 /// What a host reads: its own node's status, or the messages of a node that sends payload.
 #[derive(Clone, Copy, Debug, PartialEq, Eq)]
 pub enum Source {
+    /// The status ring of the host's own node.
     Status,
+    /// The ring of the messages that this node sent.
     Node(u8),
 }
 

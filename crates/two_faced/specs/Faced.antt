@@ -16,29 +16,27 @@ use Rattle.two_faced.specs.declared.faced.Faced.TheVariants as faced
 
 -- Each rule gives the slot that is named where it is broken, and nothing where it holds.
 
--- The node (F0): it is one of the list's.
-
+-- the node (F0): it is one of the list's
 abbrev pub node_broken : Medl → ℕ → Option ℕ
 node_broken list z = if nat_lt z (length list.slots) then None else Some 0
 
 -- Clocks (F1): each drift and each sum of reading errors is within its bound, which is wider where the two-faced node
 -- sends.
 
+-- the reading errors of a slot are within their bound, which is wider where the two-faced node sends
 abbrev pub errors_allowed_in : Medl → Script → ℕ → Option ClusterStart → ℕ → Bool
 errors_allowed_in list script z start slot = errors_hold_within list script (allowed_error list z start slot) slot
 
+-- clocks (F1): slot 0 where a drift is past its bound, and else the first slot with reading errors that are
 abbrev pub clocks_broken : Medl → Script → ℕ → Option ClusterStart → Option ℕ
 clocks_broken list script z start =
     if drifts_hold list script
     then find (λ slot. not (errors_allowed_in list script z start slot)) (below script.slots)
     else Some 0
 
--- The window (F2): it is as wide as a deviation between two other nodes needs, 12 D n + 7 E + 2.
-
+-- the window (F2): it is as wide as a deviation between two other nodes needs, 12 D n + 7 E + 2
 abbrev pub window_broken : Medl → Option ℕ
 window_broken list = if int_le (bound list +ℤ list.error) list.window then None else Some 0
-
--- Faults (F3): no send or receive fault, no flipped bit and no jump.
 
 -- the slot of a fault, the first where it has two
 abbrev pub fault_slot : Event → Option ℕ
@@ -48,11 +46,11 @@ fault_slot (event.Flip node channels bit slot) = Some slot
 fault_slot (event.Jump node value slot) = Some slot
 fault_slot _ = None
 
+-- faults (F3): no send or receive fault, no flipped bit and no jump
 abbrev pub faults_broken : Script → Option ℕ
 faults_broken script = least_of (filter_map fault_slot script.events)
 
--- The start (F4) is that of the single-fault hypothesis. Nodes to measure (F5): four nodes with `sync` are ever on.
-
+-- the start (F4) is that of the single-fault hypothesis, and four nodes with `sync` are ever on (F5)
 abbrev pub started_faced : Medl → Script → Option ClusterStart → Faced
 started_faced list script None = faced.No 4 0
 started_faced list script (Some start) =
@@ -60,6 +58,7 @@ started_faced list script (Some start) =
 
 -- The test.
 
+-- the answer is this rule with its slot, where it is broken, and else what the others say
 abbrev pub unless : ℕ → Option ℕ → Faced → Faced
 unless rule None others = others
 unless rule (Some slot) others = faced.No rule slot

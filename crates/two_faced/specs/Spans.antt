@@ -12,5 +12,6 @@ with_clock (Some span) z = record { least = int_min span.least z; greatest = int
 abbrev pub IsNearClock : ℤ → Type 0
 IsNearClock z = unsigned_abs z ≤ 2 ^ 53
 
+-- the least and the greatest of some clocks are so
 abbrev pub IsNearSpan : Span → Type 0
 IsNearSpan span = IsNearClock span.least × IsNearClock span.greatest

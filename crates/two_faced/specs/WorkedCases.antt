@@ -16,6 +16,7 @@ starter = record { kinds = kind.I ∷ []; payload = 0; sync = true; start = true
 abbrev follower : SlotPlan
 follower = record { kinds = kind.I ∷ []; payload = 0; sync = true; start = false; requests = false; live = 1 }
 
+-- a list of these slots in one round with this window, where the drift is 1 microtick and reading errors are 0
 abbrev pub list_of : ℤ → List SlotPlan → Medl
 list_of window slots = record {
   version = 1;
@@ -46,6 +47,7 @@ script_on on events =
 abbrev pub script_of : List Event → Script
 script_of events = script_on (replicate 4 (Some 0)) events
 
+-- channels A and B
 abbrev pub both : Channels
 both = record { a = true; b = true }
 

@@ -10,9 +10,11 @@ use Rattle.ttp_world.specs.World.{step}
 use Rattle.controller.specs.PlantStands.{PlantStandsFor}
 use Rattle.two_faced.specs.declared.run.Run.{Run}
 
+-- message 0 of node k, the zeros
 abbrev pub zeros_chosen : Medl → ℕ → Chosen
 zeros_chosen list k = record { number = 0; payload = zeros_of list k }
 
+-- that of each node
 abbrev pub all_zeros : Medl → List Chosen
 all_zeros list = map (zeros_chosen list) (below (length list.slots))
 

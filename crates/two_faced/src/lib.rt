@@ -1,21 +1,34 @@
 //! The test for one two-faced sender.
 //!
-//! A sender whose clock looks different to different receivers is what clock synchronization finds
-//! hardest to stand. A script says it by reading errors: those of the receivers, in slots of that
-//! sender. [`find_faced`] says whether a script has no other fault and keeps these errors in bounds
-//! within which the other nodes' clocks are to stay together, and [`bound`] how far apart they may come:
+//! A sender whose clock looks different to different receivers is what clock synchronization finds hardest
+//! to stand. A script says it by reading errors: those of the receivers, in slots of that sender.
+//! [`find_faced`] says whether a script has no other fault and keeps these errors in bounds within which
+//! the other nodes' clocks are to stay together, and [`bound`] how far apart they may come, in microticks.
+//! [`find_seen`] runs the cluster through its controllers, and says how far apart the clocks of the other
+//! nodes came. `show_precision` of ttp_top asks both:
 //!
 //! ```text
-//! match find_faced(&list, &script, 3) {
-//!     Faced::Yes { start } => ..          // node 3 may be two-faced, from two rounds after the start on
-//!     Faced::No { rule, slot } => ..
-//! }
+//! match find_faced(list, script, node) {
+//!     Faced::Yes { start } => match find_seen(alloc, list, script, node) {
+//!         Ok(seen) => say(out, faced_line(list, node, start, seen).bytes(), 0),
+//!         Err(_) => 7,
+//!     },
+//!     Faced::No { rule, slot } => say(out, broken_line(rule, slot).bytes(), 0),
 //! ```
 //!
-//! The rules are those of `specs/Faced.antt`; what they share with the single-fault hypothesis is
-//! asked of the crate hypothesis. [`halved`] is the law that a script which keeps them is owed: every frame
-//! is judged correct, and the clocks stay within the bound. [`find_seen`] runs the cluster through its
-//! controllers, and says how far apart the clocks of the other nodes came.
+//! The rules are those of `specs/Faced.antt`; what they share with the single-fault hypothesis is asked of
+//! the crate hypothesis. [`halved`] is the law that a script which keeps them is owed: every frame is
+//! judged correct, and the clocks stay within the bound. Its proof is safety's induction, with a plan
+//! without incidents (`proofs/QuietPlan.antt`) and the clocks of faced_clocks; theorems cites it from
+//! `proofs/Judged.antt`.
+//!
+//! In the run of `find_seen` each frame carries zeros (`specs/ZerosRun.antt`), and by frame_fates the
+//! clocks are those of every run by legal numbers, whatever hosts write and read (`proofs/SeenAlike.antt`).
+//! `src/worked_cases.rt` has cases of the rules, and a run, that the check computes.
+//!
+//! `find_faced` costs a binary search for each node and slot, runs no cluster and takes no memory.
+//! `find_seen` takes the memory of a plant, a slot costs its nodes, and of what was seen it keeps one
+//! difference and its slot. Threads share nothing here.
 #![tactic(auto, using(ttp_world::proofs::Lists::nodes))]
 
 ghost use Rattle.std.specs.Prelude.{◌≡◌};

@@ -47,7 +47,8 @@ fn all_zeros(alloc: Global, list: &Medl) -> Result<List<Chosen>, Memory>
 }
 
 impl Run {
-    /// The run of a list before its first slot. Only this call takes memory.
+    /// The run of a list before its first slot. Only this call takes memory; `Memory` where that
+    /// was refused.
     pub fn new(alloc: Global, list: &Medl) -> Result<Run, Memory>
         requires { IsValid list.now }
         ensures { (script : Script) → IfOk result (λ run. StandsAfter run list.now script 0) }

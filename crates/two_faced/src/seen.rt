@@ -14,7 +14,7 @@ use std::alloc::Global;
 use ttp_base::Memory;
 use ttp_world::{Medl, Script};
 
-/// How far apart clocks came, in microticks, and after which slot.
+/// How far apart clocks came, in microticks, and after which slot, counted from 0.
 #[derive(Clone, Copy, Debug, PartialEq, Eq)]
 pub struct Seen {
     pub value: i64,
@@ -105,7 +105,7 @@ fn seen_in(run: Run, list: &Medl, script: &Script, node: u8, start: u32) -> Seen
 /// It is the same for all legal message numbers, whatever hosts write and read. Where the script breaks
 /// the rule on the start, the answer is 0 with slot 0. The cluster is run through its controllers, with
 /// zeros for the payload of every frame: memory is taken before the first slot, and a slot costs its
-/// nodes, whatever its number.
+/// nodes, whatever its number. `Memory` where memory was refused.
 pub fn find_seen(alloc: Global, list: &Medl, script: &Script, node: u8) -> Result<Seen, Memory>
     requires valid { IsValid list.now }
     requires script { IsValidScript list.now script.now }

@@ -2,6 +2,7 @@
 use Rattle.std.specs.Prelude.{ℕ, List, [], ◌∷◌, ◌++◌, map, codes}
 use Rattle.ttp_base.specs.Text.{Lines, newline}
 
+-- a line with its line feed
 abbrev pub ended : List ℕ → List ℕ
 ended text = text ++ newline
 

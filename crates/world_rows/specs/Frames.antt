@@ -8,9 +8,11 @@ use Rattle.ttp_world.specs.Medium.{SentFrame}
 use Rattle.ttp_world.specs.Medl.{member_bytes}
 use Rattle.world_rows.specs.Cases.{list_with}
 
+-- a C-state of these parts
 abbrev pub cstate : ℕ → ℕ → ℕ → List ℕ → CState
 cstate time round slot members = record { time = time; round = round; slot = slot; members = members }
 
+-- four nodes in one round: node 0 sends X-frames and node 2 N-frames, each of two bytes, and the others I-frames
 abbrev pub mixed_list : Medl
 mixed_list = list_with (pos 0) (pos 0) (pos 1) (
     record { kinds = kind.X ∷ []; payload = 2; sync = true; start = true; requests = false; live = 1 }

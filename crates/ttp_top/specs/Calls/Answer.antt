@@ -41,6 +41,7 @@ IsBeside (precisions list script node) lines kept = kept ≡ None
 IsBeside (samples list slots number) lines kept =
     IsSomeAnd kept (λ c. HasRunLegally list (generated list slots number) c)
 
+-- the program
 abbrev pub ttpbench : Program
 ttpbench = record { Sets = Sets; Kept = ClusterView; IsOf = IsOf; Beside = IsBeside }
 
@@ -48,9 +49,11 @@ ttpbench = record { Sets = Sets; Kept = ClusterView; IsOf = IsOf; Beside = IsBes
 abbrev pub Answer : Type 0
 Answer = AnswerOf ClusterView
 
+-- how a command of it may end
 abbrev pub Ending : Type 0
 Ending = EndingOf Sets
 
+-- how one goes on
 abbrev pub Plan : Type 0
 Plan = PlanOf Sets
 
@@ -58,5 +61,6 @@ Plan = PlanOf Sets
 abbrev pub WroteOf : Sets → Output → Output → Type 0
 WroteOf set before now = WroteAmong ttpbench (those set) before now
 
+-- a text of a set was cut short
 abbrev pub CutOf : Sets → Output → Output → Type 0
 CutOf set before now = CutAmong ttpbench (those set) before now

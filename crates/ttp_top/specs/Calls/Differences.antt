@@ -5,9 +5,11 @@ use Rattle.ttp_world.specs.declared.medl.Medl.{Medl}
 use Rattle.ttp_world.specs.declared.script.Script.{Script}
 use Rattle.trace_check.specs.Answer.{IsFirstWrong}
 
+-- the line on a text that is a trace of its list and script
 abbrev pub same_line : List ℕ
 same_line = codes "same\n"
 
+-- the line that names the first wrong line of a text, counted from 1
 abbrev pub differs_line : ℕ → List ℕ
 differs_line line = codes "differs at line " ++ decimal line ++ newline
 

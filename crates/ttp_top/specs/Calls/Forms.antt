@@ -16,11 +16,13 @@ use Rattle.ttp_top.specs.Calls.Differences.{same_line}
 use Rattle.ttp_top.specs.Calls.Texts.{traces, fronts, differences, precisions, samples}
 use Rattle.ttp_top.specs.Calls.Words.{Form, schedule, run, keeps, verify, precision, sample, modes}
 
+-- the line on words of no form
 abbrev pub usage_line : List ℕ
 usage_line =
     codes "usage: schedule MEDL | run MEDL SCRIPT | keeps MEDL SCRIPT | verify MEDL SCRIPT TRACE"
     ++ codes " | sample MEDL SLOTS NUMBER | precision MEDL SCRIPT NODE | modes MEDL SCRIPT TRACE\n"
 
+-- how a command of such words ends: with status 2 and this line
 abbrev pub usage_ending : Ending
 usage_ending = line_ending 2 usage_line
 

@@ -23,6 +23,7 @@ faced_line list node start seen =
 abbrev pub broken_line : ℕ → ℕ → List ℕ
 broken_line rule slot = codes "precision no F" ++ decimal rule ++ codes " " ++ decimal slot ++ newline
 
+-- the line on a node, by what the test says of it
 abbrev pub answer_line : Medl → ℕ → Faced → Seen → List ℕ
 answer_line list node (faced.Yes start) seen = faced_line list node start seen
 answer_line list node (faced.No rule slot) seen = broken_line rule slot

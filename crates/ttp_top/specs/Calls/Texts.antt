@@ -42,10 +42,12 @@ pub record IsFront (list : Medl) (script : Script) (lines : Lines) : Type 0 wher
   pub rest : Lines
   pub text : whole ≡ lines ++ next ∷ rest
 
+-- the line on a node, whatever legal numbers a run has
 abbrev pub IsPrecision : Medl → Script → ℕ → Lines → Type 0
 IsPrecision list script node lines =
     (numbers : Numbers) → IsLegalRun list script numbers → lines ≡ precision_line list script node numbers ∷ []
 
+-- the lines on a generated run, whatever legal numbers it has
 abbrev pub IsSample : Medl → ℕ → ℕ → Lines → Type 0
 IsSample list slots number lines =
     (numbers : Numbers) → IsLegalRun list (generated list slots number) numbers

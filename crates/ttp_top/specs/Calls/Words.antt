@@ -27,10 +27,12 @@ pub data Form : Type 0 where
   -- list of this name
   modes : (list script trace : List ℕ) → Form
 
+-- a form is that of `run`
 abbrev pub is_run : Option Form → Bool
 is_run (Some (run list script)) = true
 is_run _ = false
 
+-- a form takes the text of a trace: `verify` and `modes`
 abbrev pub takes_trace : Option Form → Bool
 takes_trace (Some (verify list script trace)) = true
 takes_trace (Some (modes list script trace)) = true
@@ -54,6 +56,7 @@ number_digits = 20
 abbrev pub slots_within : ℕ → Option ℕ
 slots_within slots = if nat_le 1 slots && nat_le slots SLOT_LIMIT then Some slots else None
 
+-- the number that a word names, if it is one of those
 abbrev pub slots_named : List ℕ → Option ℕ
 slots_named word = option_and_then slots_within (numeral_named number_digits word)
 
@@ -61,6 +64,7 @@ slots_named word = option_and_then slots_within (numeral_named number_digits wor
 abbrev pub draw_named : List ℕ → Option ℕ
 draw_named word = option_and_then (number_below (2 ^ 64)) (numeral_named number_digits word)
 
+-- the form of `sample`, where both words are right
 abbrev pub sample_of : List ℕ → Option ℕ → Option ℕ → Option Form
 sample_of list (Some slots) (Some number) = Some (sample list slots number)
 sample_of list _ _ = None

@@ -19,6 +19,7 @@ pub record WroteTable (list : List ℕ) (before now : Outside) : Type 0 where
   pub right : medl_of bytes ≡ Ok medl
   pub wrote : WroteLines before.output now.output (slot_table medl)
 
+-- what `schedule` promises in its own words
 pub record SchedulePromise (list : List ℕ) (before now : Outside) (answer : Answer) : Type 0 where
   -- Status 0 says that the slot table of the list was written.
   pub table : answer.status ≡ 0 → WroteTable list before now

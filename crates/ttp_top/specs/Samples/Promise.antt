@@ -42,6 +42,7 @@ pub record IsTold (list : List ℕ) (before now : Outside) (medl : Medl) : Type 
   pub right : medl_of bytes ≡ Ok medl
   pub quiet : ¬ HasRisen (before.files.faults list) (now.files.faults list)
 
+-- what `sample` promises in its own words
 pub record SamplePromise (list : List ℕ) (slots number : ℕ) (before now : Outside) (answer : Answer) : Type 0 where
   -- Status 0 says that the lines on the generated run for the list were written.
   pub sample : answer.status ≡ 0 → WroteSample list slots number before now answer.kept

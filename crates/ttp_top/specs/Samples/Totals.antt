@@ -27,6 +27,7 @@ abbrev pub is_leaving : Entry → Bool
 is_leaving (entry.Left why peer) = true
 is_leaving _ = false
 
+-- what is shown of a node says so
 abbrev pub shows_left : NodeState → Bool
 shows_left state = is_leaving state.entry
 

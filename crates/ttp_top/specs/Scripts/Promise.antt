@@ -50,6 +50,7 @@ pub record WroteTrace (list script : List ℕ) (before now : Outside) (kept : Op
   pub are : AreRight bytes script_bytes medl right
   pub text : WroteTraceOf medl right before.output now.output kept
 
+-- what `run` promises in its own words
 pub record RunPromise (list script : List ℕ) (before now : Outside) (answer : Answer) : Type 0 where
   -- Status 0 says that a trace of the world's run for the list and the script was written.
   pub trace : answer.status ≡ 0 → WroteTrace list script before now answer.kept

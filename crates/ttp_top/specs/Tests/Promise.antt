@@ -40,6 +40,7 @@ pub record WroteFor (such : Medl → Script → Lines → Type 0) (list script :
     pub are : AreRight bytes script_bytes medl right
     pub text : WroteSuch (such medl right) before.output now.output
 
+-- what a command promises that writes the lines of a test
 pub record TestPromise (such : Medl → Script → Lines → Type 0) (list script : List ℕ) (before now : Outside)
     (answer : Answer) : Type 0 where
   -- Status 0 says that the lines of the test were written.
@@ -58,6 +59,7 @@ pub record TestPromise (such : Medl → Script → Lines → Type 0) (list scrip
 abbrev pub AreTestLines : Medl → Script → Lines → Type 0
 AreTestLines medl right lines = lines ≡ test_lines medl right
 
+-- what `keeps` promises in its own words
 abbrev pub KeepsPromise : (list script : List ℕ) (before now : Outside) (answer : Answer) → Type 0
 KeepsPromise list script before now answer = TestPromise AreTestLines list script before now answer
 
@@ -77,6 +79,7 @@ pub record IsPrecisionLine (node : ℕ) (medl : Medl) (right : Script) (lines : 
   pub together : (start : ℕ) → faced_of medl right node ≡ faced.Yes start → (numbers : Numbers)
       → IsLegalRun medl right numbers → IsFacedRun medl right start (world medl right numbers)
 
+-- what `precision` promises in its own words
 abbrev pub PrecisionPromise : (list script : List ℕ) (node : ℕ) (before now : Outside) (answer : Answer) → Type 0
 PrecisionPromise list script node before now answer =
     TestPromise (IsPrecisionLine node) list script before now answer

@@ -70,6 +70,7 @@ pub record AreAllTold (list script trace : List ℕ) (before now : Outside) (med
   pub trace_file : before.files.held trace ≡ holds text
   pub trace_quiet : ¬ HasRisen (before.files.faults trace) (now.files.faults trace)
 
+-- what a command promises that judges a text
 pub record TextPromise (said : OfTrace) (list script trace : List ℕ) (before now : Outside) (answer : Answer) : Type 0
   where
     -- Status 0 says that the text is a trace, and status 1 that it is none, and what belongs to that was written.
@@ -85,6 +86,7 @@ pub record TextPromise (said : OfTrace) (list script trace : List ℕ) (before n
         → AreAllTold list script trace before now medl right text → answer.status ≡ 6
         → CutVerdict said medl right text before.output now.output
 
+-- what `verify` promises in its own words
 abbrev pub VerifyPromise : (list script trace : List ℕ) (before now : Outside) (answer : Answer) → Type 0
 VerifyPromise list script trace before now answer = TextPromise said_same list script trace before now answer
 
@@ -95,6 +97,7 @@ ShowOneMode medl right lines =
     (start : ℕ) → keeps medl right ≡ keep.Yes start → (slot : ℕ) → start ≤ slot → slot < right.slots
     → ShowsOneMode medl right lines slot
 
+-- what `modes` promises in its own words
 pub record ModesPromise (list script trace : List ℕ) (before now : Outside) (answer : Answer) : Type 0 where
   pub text : TextPromise said_modes list script trace before now answer
   pub open text use *
