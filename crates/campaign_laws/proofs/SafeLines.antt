@@ -74,9 +74,9 @@ unharmed-stands list cost before test tail unharmed =
       rest = end ++ codes " fault " ++ tail ++ newline;
       whole =
           (λ i. before ++ (test ++ codes " " ++ (codes "left " ++ left
-              ++ codes " hurt " ++ listed (map decimal (unharmed.hurt i))
-              ++ codes " split " ++ span_words (unharmed.split i) ++ codes " end " ++ end) ++ codes " fault ") ++ tail
-              ++ newline)
+          ++ codes " hurt " ++ listed (map decimal (unharmed.hurt i))
+          ++ codes " split " ++ span_words (unharmed.split i) ++ codes " end " ++ end) ++ codes " fault ") ++ tail
+          ++ newline)
           ∙ between before test (codes " ") (codes "left ") left (codes " hurt ") (codes "-") (codes " split ") (codes "- -")
           (codes " end ") end (codes " fault ") tail newline;
     }
@@ -149,8 +149,8 @@ module _ (list : Medl) (valid : IsValid list) where
           rest = decimal counts.torn ++ codes " dead " ++ decimal counts.dead ++ newline;
           whole =
               (λ i. codes "kept " ++ decimal counts.runs ++ codes " same " ++ decimal counts.same
-                  ++ codes " hurt " ++ no_hurt i ++ codes " split " ++ no_split i
-                  ++ codes " torn " ++ decimal counts.torn ++ codes " dead " ++ decimal counts.dead ++ newline)
+              ++ codes " hurt " ++ no_hurt i ++ codes " split " ++ no_split i
+              ++ codes " torn " ++ decimal counts.torn ++ codes " dead " ++ decimal counts.dead ++ newline)
               ∙ counted (codes "kept ") (decimal counts.runs) (codes " same ") (decimal counts.same) (codes " hurt ")
               (codes "0") (codes " split ") (codes "0") (codes " torn ") (decimal counts.torn) (codes " dead ")
               (decimal counts.dead) newline;
@@ -164,8 +164,8 @@ module _ (list : Medl) (valid : IsValid list) where
           yes = λ yes. absurd (no_yes _ (counts-yless (codes "kept ") counts refl) yes);
           kept = λ rest is.
               kept-stands counts
-                  (none-counted list script valid script_valid room has_hurt unharmed-unhurt faults stand)
-                  (none-counted list script valid script_valid room (λ cost. is_some cost.split) unharmed-unsplit faults stand);
+              (none-counted list script valid script_valid room has_hurt unharmed-unhurt faults stand)
+              (none-counted list script valid script_valid room (λ cost. is_some cost.split) unharmed-unsplit faults stand);
         }
 
     broken-safe : (counts : Counts) → IsSafeLine (counts_line (codes "broken ") counts)

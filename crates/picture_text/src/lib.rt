@@ -29,8 +29,10 @@ mod titles;
 mod walk;
 mod window;
 
-pub use element::{close_mark, close_text, open_cell, open_mark, open_text, open_text_of, open_title};
-pub use element::{close_cell, put_place};
+pub use element::{
+    close_cell, close_mark, close_text, open_cell, open_mark, open_text, open_text_of, open_title,
+    put_place,
+};
 pub use frame::Corner;
 pub use grid::{beside as place_beside, columns};
 pub use head::{back_meaning, put_keep_meaning};

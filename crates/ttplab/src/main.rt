@@ -34,7 +34,11 @@ fn main(rt: HostRuntime) -> ExitCode {
             };
             let mut out = WatchedSink::new(&rt, StreamSink::new(buffered));
             let status = lab(&rt, rt.alloc(), &words, &mut library, &mut out);
-            ExitCode::from(if out.into_inner().end().is_ok() { status } else { 6 })
+            ExitCode::from(if out.into_inner().end().is_ok() {
+                status
+            } else {
+                6
+            })
         }
         Err(error) if error.kind() == io::ErrorKind::OutOfMemory => ExitCode::from(7),
         Err(_) => ExitCode::from(8),
