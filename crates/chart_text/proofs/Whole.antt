@@ -4,10 +4,11 @@ use Rattle.std.specs.Result.{OnOk, IfErr}
 use Rattle.ttp_base.specs.Outside.{Output, WroteLines}
 use Rattle.ttp_base.specs.Text.{Lines}
 use Rattle.whole_campaign.specs.Whole.{WholeCampaign}
+use Rattle.whole_campaign.specs.Readable.{counts_sum}
 use Rattle.picture_text.specs.declared.window.Span.{Span}
 use Rattle.chart_text.specs.declared.chart.ChartFault.{ChartFault}
 use Rattle.chart_text.specs.declared.size.Size.{Size}
-use Rattle.chart_text.specs.Chart.{chart_of, chart_lines, counts_sum}
+use Rattle.chart_text.specs.Chart.{chart_of, chart_lines}
 use Rattle.chart_text.specs.Columns.{size_of_campaign, slots_shown}
 use Rattle.chart_text.specs.Walks.{LeftOfChart}
 

@@ -6,8 +6,8 @@ use Rattle.ttp_base.specs.Text.{Lines, lines_below}
 use Rattle.campaign.specs.declared.cost.Counts.{Counts}
 use Rattle.whole_campaign.specs.declared.shown.Test.{Test}
 use Rattle.whole_campaign.specs.declared.shown.Test.TheVariants as test
-use Rattle.whole_campaign.specs.Due.{no_runs}
 use Rattle.whole_campaign.specs.Own.{OwnShown}
+use Rattle.whole_campaign.specs.Readable.{counts_sum}
 use Rattle.whole_campaign.specs.Whole.{FaultTold, WholeCampaign}
 use Rattle.picture_text.specs.declared.window.Span.{Span}
 use Rattle.picture_text.specs.Cells.{attribute, title_element}
@@ -82,22 +82,6 @@ test_slot (test.Back b) = back_slot b
 abbrev pub test_name : Test → List ℕ
 test_name (test.Keep k) = keep_name k
 test_name (test.Back b) = back_name b
-
--- Counts of pieces, added up.
-
-abbrev pub counts_together : Counts → Counts → Counts
-counts_together one other = record {
-  runs = one.runs + other.runs;
-  same = one.same + other.same;
-  hurt = one.hurt + other.hurt;
-  split = one.split + other.split;
-  torn = one.torn + other.torn;
-  dead = one.dead + other.dead;
-}
-
-abbrev pub counts_sum : List Counts → Counts
-counts_sum [] = no_runs
-counts_sum (one ∷ others) = counts_together one (counts_sum others)
 
 -- as a line of a campaign has them
 abbrev pub counts_told : Counts → List ℕ

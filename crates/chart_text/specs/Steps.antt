@@ -2,11 +2,9 @@
 use Rattle.std.specs.Prelude.{◌≡◌, ℕ, ◌+◌, ◌*◌, ◌^◌, ◌<◌, ◌≤◌, ◌==◌, max, nat_le, nat_lt, Bool, true, false, ◌&&◌}
 use Rattle.std.specs.Prelude.{List, [], ◌∷◌, ◌++◌, length, filter, count_by, get_or, map, Option, Some, None}
 use Rattle.ttp_base.specs.NodeSet.{below}
-use Rattle.campaign.specs.declared.cost.Counts.{Counts}
 use Rattle.whole_campaign.specs.declared.shown.FaultLine.{FaultLine}
 use Rattle.whole_campaign.specs.Whole.{FaultTold, WholeCampaign}
 use Rattle.chart_text.specs.declared.size.Size.{Size}
-use Rattle.chart_text.specs.Chart.{counts_sum}
 use Rattle.chart_text.specs.Column.{faults_told_in}
 
 -- A text in a room of so many bytes.
@@ -35,27 +33,6 @@ AreFaultsCounted number counts left all =
     (i : ℕ) → i < length counts
     → get_or counts i 0 + count_by (λ x. number x == i) left ≡ count_by (λ x. number x == i) all
 
--- Faults in their order.
-
--- none is of a slot before this one, or before that of the fault in front of it
-abbrev pub in_order_from : ℕ → List FaultTold → Bool
-in_order_from t [] = true
-in_order_from t (fault ∷ faults) = nat_le t fault.shown.slot && in_order_from fault.shown.slot faults
-
 -- of slot t and those behind it, these have the same faults
 abbrev pub SameFrom : ℕ → List FaultTold → List FaultTold → Type 0
 SameFrom t these those = (s : ℕ) → t ≤ s → faults_told_in s these ≡ faults_told_in s those
-
--- What every campaign that was read keeps.
-
-abbrev pub counts_fit : Counts → Bool
-counts_fit counts =
-    nat_lt counts.runs (2 ^ 64) && nat_lt counts.same (2 ^ 64) && nat_lt counts.hurt (2 ^ 64)
-    && nat_lt counts.split (2 ^ 64) && nat_lt counts.torn (2 ^ 64) && nat_lt counts.dead (2 ^ 64)
-
--- its faults stand by their slots, and what is counted fits its words
-pub record IsReadable (campaign : WholeCampaign) : Type 0 where
-  pub order : in_order_from 0 campaign.faults ≡ true
-  pub few : length campaign.faults < 2 ^ 63
-  pub kept : counts_fit (counts_sum (map (λ piece. piece.kept) campaign.pieces)) ≡ true
-  pub broken : counts_fit (counts_sum (map (λ piece. piece.broken) campaign.pieces)) ≡ true

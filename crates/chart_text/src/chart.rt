@@ -4,13 +4,14 @@
 ghost use Rattle.std.specs.Prelude.{◌≡◌, ◌+◌, ◌-◌, ◌^◌, ◌<◌, ◌≤◌, [], ◌∷◌, ◌++◌, codes, decimal, length, map, IfOk, OnOk};
 ghost use Rattle.std.specs.Prelude.{ℕ, false, Err, IfErr, IfSome};
 ghost use Rattle.ttp_base.specs.Outside.{WroteLines, CutShort};
+ghost use Rattle.whole_campaign.specs.Readable.{counts_sum, IsReadable};
 ghost use Rattle.picture_text.specs.Sheet.{Puts};
 ghost use Rattle.picture_text.specs.Picture.{ended, text_line};
-ghost use Rattle.chart_text.specs.Chart.{slots_shown_text, counts_sum, chart_head, chart_body, chart_end, chart_of, chart_lines};
+ghost use Rattle.chart_text.specs.Chart.{slots_shown_text, chart_head, chart_body, chart_end, chart_of, chart_lines};
 ghost use Rattle.chart_text.specs.Columns.{size_of_campaign, first_told_slot, slots_shown, chosen_slots, tried_slots, place_of_harm, shown_among, key_top};
 ghost use Rattle.chart_text.specs.Key.{all_counts};
 ghost use Rattle.chart_text.specs.Looks.{does_harm};
-ghost use Rattle.chart_text.specs.Steps.{has_mark, marked_slots, longest_text, IsReadable};
+ghost use Rattle.chart_text.specs.Steps.{has_mark, marked_slots, longest_text};
 ghost use Rattle.chart_text.specs.Walks.{LeftOfChart};
 ghost use Rattle.chart_text.specs.declared.chart.ChartFault.TheVariants as fault;
 
@@ -289,8 +290,8 @@ fn shown_marks(
 /// with both nothing was written. `Failed` is the sink's: some first lines were written, or none, and some first bytes of
 /// the next one. The campaign is gone over a few times. Memory is taken for a mark for each slot and the longest line.
 ///
-/// Its faults have to stand by their slots, and their number and the counts of its pieces to fit 64 bits. A campaign that
-/// was read from a text is so, which no clause of `read_campaign` says yet.
+/// Its faults have to stand by their slots, and their number and the counts of its pieces to fit 64 bits, as in each
+/// campaign that `read_campaign` gives (`readable` of it).
 pub fn put_chart<K: Sink>(
     alloc: Global,
     campaign: &Campaign<'_>,

@@ -4,6 +4,7 @@
 ghost use Rattle.std.specs.Prelude.{◌≡◌, ℕ, ◌+◌, ◌-◌, ◌*◌, ◌^◌, ◌<◌, ◌≤◌, true, [], ◌∷◌, ◌++◌, length, flat_map, codes, decimal};
 ghost use Rattle.ttp_base.specs.NodeSet.{below};
 ghost use Rattle.ttp_base.specs.Text.{lines_below};
+ghost use Rattle.whole_campaign.specs.Readable.{in_order_from};
 ghost use Rattle.picture_text.specs.Sheet.{Puts};
 ghost use Rattle.picture_text.specs.Picture.{class_of, text_line};
 ghost use Rattle.chart_text.specs.Column.{is_gap, has_number, number_line, gap_line, tally_cells, look_counts, most_hurt, faults_told_in, look_told, slot_told, worst_cell};
@@ -11,7 +12,7 @@ ghost use Rattle.chart_text.specs.Column.{hurt_shown, hurt_cell, column_of, colu
 ghost use Rattle.chart_text.specs.Column.{worst_below, worst_class, worst_letter};
 ghost use Rattle.chart_text.specs.Columns.{chart_x, chart_y};
 ghost use Rattle.chart_text.specs.Elements.{pole};
-ghost use Rattle.chart_text.specs.Steps.{in_order_from, SameFrom, longest_text, marked_slots};
+ghost use Rattle.chart_text.specs.Steps.{SameFrom, longest_text, marked_slots};
 
 use crate::ahead::Ahead;
 use crate::buffer::Buffer;

@@ -3,8 +3,7 @@
 
 ghost use Rattle.std.specs.Prelude.{◌≡◌, ◌+◌, ◌^◌, ◌<◌, true, map};
 ghost use Rattle.whole_campaign.specs.Due.{no_runs};
-ghost use Rattle.chart_text.specs.Chart.{counts_together, counts_sum};
-ghost use Rattle.chart_text.specs.Steps.{counts_fit};
+ghost use Rattle.whole_campaign.specs.Readable.{counts_together, counts_sum, counts_fit};
 
 use campaign::Counts;
 use whole_campaign::Pieces;

@@ -1,9 +1,10 @@
 //! A campaign as a whole.
 ghost use Rattle.whole_campaign.specs.Own.{own_of, common_of};
-ghost use Rattle.std.specs.Prelude.{◌≡◌, ◌+◌, ◌≤◌, length, Some, IfSome, IsTrue, option_map};
+ghost use Rattle.std.specs.Prelude.{◌≡◌, ◌+◌, ◌≤◌, length, Some, IfSome, IfOk, IsTrue, option_map};
 ghost use Rattle.ttp_base.specs.Text.{lines_of};
 ghost use Rattle.whole_campaign.specs.Runs.{is_campaign_head};
 ghost use Rattle.whole_campaign.specs.Steps.{IsFrame, HasRoomBehind};
+ghost use Rattle.whole_campaign.specs.Readable.{IsReadable};
 ghost use Rattle.whole_campaign.specs.Whole.{wrong_line, behind_own, behind_first, campaign_in};
 
 use crate::due::{may_end, piece_begun};
@@ -147,11 +148,8 @@ fn read_behind<'a>(head: &CampaignHead, text: &'a [u8]) -> Result<Campaign<'a>, 
     }
 }
 
-/// The campaign that a text is. `Err` is the number, counted from 1, of the first line that is not one that is due behind
-/// the lines before it, is missing, or has no line feed.
-///
-/// Whether a line is right is not asked. The text is gone over once, and no memory is taken.
-pub fn read_campaign<'a>(text: &'a [u8]) -> Result<Campaign<'a>, u64>
+// The campaign that a text is, or its first line that is not due.
+fn read_text<'a>(text: &'a [u8]) -> Result<Campaign<'a>, u64>
     ensures { result ≡ campaign_in text.now }
 {
     let (line, rest) = cut_line(text);
@@ -159,4 +157,16 @@ pub fn read_campaign<'a>(text: &'a [u8]) -> Result<Campaign<'a>, u64>
         Some(head) => read_behind(&head, rest),
         None => Err(1),
     }
+}
+
+/// The campaign that a text is. `Err` is the number, counted from 1, of the first line that is not one that is due behind
+/// the lines before it, is missing, or has no line feed.
+///
+/// Whether a line is right is not asked. The faults of a campaign that was read stand by their slots, and its counts, added
+/// up, fit 64 bits (`readable`). The text is gone over once, and no memory is taken.
+pub fn read_campaign<'a>(text: &'a [u8]) -> Result<Campaign<'a>, u64>
+    ensures value { result ≡ campaign_in text.now }
+    ensures readable { IfOk result (λ campaign. IsReadable campaign) }
+{
+    read_text(text)
 }

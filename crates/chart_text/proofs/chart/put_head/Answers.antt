@@ -1,9 +1,10 @@
 use Rattle.std.proofs.Common.{◌∙◌, ◌&&◌, [], ap, ℕ, List, length, map}
 use Rattle.campaign.specs.declared.cost.Counts.{Counts}
 use Rattle.whole_campaign.specs.declared.shown.Piece.{Piece}
+use Rattle.whole_campaign.specs.Readable.{counts_sum}
 use Rattle.picture_text.specs.Picture.{text_line}
 use Rattle.picture_text.proofs.Pairs.{puts_both, puts_first}
-use Rattle.chart_text.specs.Chart.{chart_front, slots_shown_text, own_lines, counted_lines, counts_sum}
+use Rattle.chart_text.specs.Chart.{chart_front, slots_shown_text, own_lines, counted_lines}
 use Rattle.chart_text.specs.Columns.{chart_height, first_told_slot, is_hidden}
 use Rattle.chart_text.specs.Looks.{does_harm}
 use Rattle.chart_text.specs.Steps.{marked_slots}

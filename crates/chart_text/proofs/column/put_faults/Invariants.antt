@@ -1,9 +1,10 @@
 use Rattle.std.proofs.Common.{◌≡◌, ◌+◌, ◌≤◌, true, Bool, length}
 use Rattle.std.specs.List.{flat_map}
 use Rattle.ttp_base.specs.Outside.{Output}
+use Rattle.whole_campaign.specs.Readable.{in_order_from}
 use Rattle.picture_text.specs.Sheet.{Puts}
 use Rattle.chart_text.specs.Column.{faults_told_in, shown_fault}
-use Rattle.chart_text.specs.Steps.{in_order_from, SameFrom, longest_text}
+use Rattle.chart_text.specs.Steps.{SameFrom, longest_text}
 use Rattle.chart_text.specs.Walks.{IsSlotTally}
 use Rattle.chart_text.proofs.column.put_faults.Given as goal
 
