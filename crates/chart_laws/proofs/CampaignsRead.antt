@@ -14,8 +14,9 @@ use Rattle.whole_campaign.specs.Due.{piece_begun}
 use Rattle.whole_campaign.specs.Own.{OwnShown, own_in, own_of_line, Common}
 use Rattle.whole_campaign.specs.Whole.{WholeCampaign, one_further, wrong_line, campaign_from, or_wrong}
 use Rattle.whole_campaign.specs.Whole.{behind_own, behind_first, whole_of, campaign_in}
+use Rattle.whole_campaign.specs.Readable.{counts_sum}
 use Rattle.picture_text.specs.declared.window.Span.{Span}
-use Rattle.chart_text.specs.Chart.{counts_sum, chart_lines}
+use Rattle.chart_text.specs.Chart.{chart_lines}
 use Rattle.chart_text.specs.Columns.{size_of_campaign, is_tried, first_told_slot, slots_shown, tried_slots}
 use Rattle.chart_text.specs.Looks.{does_harm}
 use Rattle.chart_laws.specs.Squares.{lines_drawn}

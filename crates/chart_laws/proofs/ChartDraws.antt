@@ -19,8 +19,7 @@ use Rattle.picture_text.specs.Cells.{attribute, title_element, mark}
 use Rattle.picture_text.specs.Picture.{class_of, ended, text_line, row_line}
 use Rattle.picture_text.specs.Window.{columns}
 use Rattle.picture_text.proofs.PlainTexts.{Plain, parts, plain-append, plain-decimal}
-use Rattle.picture_laws.specs.Titles.{titles_in, titles}
-use Rattle.picture_laws.proofs.TitlesIn.{◌▸◌, tag, plain, title, titles_of, attribute-adds, place-adds, feed}
+use Rattle.picture_laws.proofs.TitlesIn.{◌▸◌, tag, plain, title, IsLineWith, line_of, attribute-adds, place-adds, bare-lines}
 use Rattle.picture_laws.proofs.TitlesIn.{text-titles, classed-titles, mark-titles}
 use Rattle.chart_text.specs.declared.look.Look.{Look}
 use Rattle.chart_text.specs.declared.look.Look.TheVariants as look
@@ -55,15 +54,15 @@ classed-draws class x y shown c s =
     untitled-line (text_line (class_of class) x y shown) (classed-titles class x y shown c s)
 
 wide-titles : (class : List ℕ) (x y : ℕ) (name shown : List ℕ) → Plain class → Plain name → Plain shown
-    → titles_in (wide_cell class x y name shown) ≡ name ∷ []
+    → IsLineWith (wide_cell class x y name shown) (name ∷ [])
 wide-titles class x y name shown c n s =
     let all =
-    tag (codes "<g") (λ rest. refl) ▸ attribute-adds (codes "class") class refl c ▸ tag (codes ">") (λ rest. refl)
-    ▸ title name n ▸ tag (codes "<rect") (λ rest. refl) ▸ place-adds x y
-    ▸ tag (codes " width=\"19\" height=\"17\"/>") (λ rest. refl) ▸ tag (codes "<text") (λ rest. refl)
-    ▸ place-adds (x + 9) (y + 13) ▸ tag (codes ">") (λ rest. refl) ▸ plain shown s
-    ▸ tag (codes "</text></g>") (λ rest. refl) ▸ feed in
-    titles_of all
+    tag (codes "<g") (λ rest. refl) refl ▸ attribute-adds (codes "class") class refl c ▸ tag (codes ">") (λ rest. refl) refl
+    ▸ title name n ▸ tag (codes "<rect") (λ rest. refl) refl ▸ place-adds x y
+    ▸ tag (codes " width=\"19\" height=\"17\"/>") (λ rest. refl) refl ▸ tag (codes "<text") (λ rest. refl) refl
+    ▸ place-adds (x + 9) (y + 13) ▸ tag (codes ">") (λ rest. refl) refl ▸ plain shown s
+    ▸ tag (codes "</text></g>") (λ rest. refl) refl in
+    line_of all
 
 wide-draws : (class : List ℕ) (x y : ℕ) (name shown : List ℕ) → Plain class → Plain name → Plain shown
     → Draws (wide_cell class x y name shown ∷ []) []
@@ -77,9 +76,9 @@ pole-draws : (class : List ℕ) (x y height : ℕ) → Plain class → Draws (po
 pole-draws class x y height c =
     let shape = codes "M" ++ decimal x ++ codes " " ++ decimal y ++ codes "v" ++ decimal height in
     let all =
-    tag (codes "<path") (λ rest. refl) ▸ attribute-adds (codes "class") class refl c
-    ▸ plain (attribute (codes "d") shape) (simp parts) ▸ tag (codes "/>") (λ rest. refl) ▸ feed in
-    untitled-line (pole class x y height) (titles_of all)
+    tag (codes "<path") (λ rest. refl) refl ▸ attribute-adds (codes "class") class refl c
+    ▸ plain (attribute (codes "d") shape) (simp parts) ▸ tag (codes "/>") (λ rest. refl) refl in
+    untitled-line (pole class x y height) (line_of all)
 
 -- the ground of a word is no square
 word-other : (d : Doing) (shape : List ℕ) (x y : ℕ) (name : List ℕ) → is_square (mark (doing_word d) shape x y name) ≡ false
@@ -120,41 +119,33 @@ size-plain h = simp parts
 svg-draws : (h : ℕ) → Draws (chart_svg h ∷ []) []
 svg-draws h =
     let all =
-    tag (codes "<svg") (λ rest. refl)
-    ▸ tag (attribute (codes "xmlns") (codes "http://www.w3.org/2000/svg")) (λ rest. refl)
+    tag (codes "<svg") (λ rest. refl) refl
+    ▸ tag (attribute (codes "xmlns") (codes "http://www.w3.org/2000/svg")) (λ rest. refl) refl
     ▸ plain (chart_size h) (size-plain h)
-    ▸ plain (attribute (codes "viewBox") (codes "0 0 1236 " ++ decimal h)) (simp parts) ▸ tag (codes ">") (λ rest. refl)
-    ▸ feed in
-    untitled-line (chart_svg h) (titles_of all)
+    ▸ plain (attribute (codes "viewBox") (codes "0 0 1236 " ++ decimal h)) (simp parts) ▸ tag (codes ">") (λ rest. refl) refl in
+    untitled-line (chart_svg h) (line_of all)
 
 title-draws : (size : Size) → Draws (chart_title size ∷ []) []
 title-draws size =
     let name = codes "ttplab campaign 1 nodes " ++ decimal size.nodes ++ codes " slots " ++ decimal size.slots in
     let is : Plain name = simp parts in
-    let all = title name is ▸ feed in
-    titled-line (chart_title size) name (titles_of all) refl is
+    let all = title name is in
+    titled-line (chart_title size) name (line_of all) refl is
 
-parts-nil : (a b : Lines) → a ++ b ≡ [] → (a ≡ []) × (b ≡ [])
-parts-nil [] b e = (refl, e)
-parts-nil (x ∷ a) b e = cc
-
--- lines without titles, by computing
-bare-lines : (lines : Lines) → titles lines ≡ [] → Draws lines []
-bare-lines [] is = nothing
-bare-lines (text ∷ lines) is =
-    let both = parts-nil (titles_in text) (titles lines) is in
-    untitled-line text both.0 ◃ bare-lines lines both.1
+bare-draws : (lines : Lines) → AllByRecursion (λ text. IsLineWith text []) lines → Draws lines []
+bare-draws [] are = nothing
+bare-draws (text ∷ lines) are = untitled-line text are.0 ◃ bare-draws lines are.1
 
 styles-draws : Draws chart_styles []
-styles-draws = bare-lines chart_styles refl
+styles-draws = bare-draws chart_styles (bare-lines chart_styles refl refl)
 
 front-draws : (size : Size) (h : ℕ) → Draws (chart_front size h) []
 front-draws size h =
     let rect = ended (codes "<rect" ++ chart_size h ++ codes " fill=\"#ffffff\"/>") in
     let all =
-    tag (codes "<rect") (λ rest. refl) ▸ plain (chart_size h) (size-plain h)
-    ▸ tag (codes " fill=\"#ffffff\"/>") (λ rest. refl) ▸ feed in
-    svg-draws h ◃ title-draws size ◃ styles-draws ◃ untitled-line rect (titles_of all)
+    tag (codes "<rect") (λ rest. refl) refl ▸ plain (chart_size h) (size-plain h)
+    ▸ tag (codes " fill=\"#ffffff\"/>") (λ rest. refl) refl in
+    svg-draws h ◃ title-draws size ◃ styles-draws ◃ untitled-line rect (line_of all)
 
 -- the script's own line can be drawn
 pub record IsOwnPlain (own : OwnShown) : Type 0 where
@@ -168,10 +159,10 @@ own-draws own is =
     let line = text_line [] 12 38 (title_element own.text ++ codes "without any of them: " ++ own.cost) in
     let shown : Plain said = plain-append (codes "without any of them: ") own.cost refl is.cost in
     let all =
-    tag (codes "<text") (λ rest. refl) ▸ place-adds 12 38 ▸ tag (codes ">") (λ rest. refl)
-    ▸ (title own.text is.text ▸ tag (codes "without any of them: ") (λ rest. refl) ▸ plain own.cost is.cost)
-    ▸ tag (codes "</text>") (λ rest. refl) ▸ feed in
-    titled-line line own.text (titles_of all) refl is.text
+    tag (codes "<text") (λ rest. refl) refl ▸ place-adds 12 38 ▸ tag (codes ">") (λ rest. refl) refl
+    ▸ (title own.text is.text ▸ tag (codes "without any of them: ") (λ rest. refl) refl ▸ plain own.cost is.cost)
+    ▸ tag (codes "</text>") (λ rest. refl) refl in
+    titled-line line own.text (line_of all) refl is.text
     ◃ classed-draws (codes "said") 12 56 (own.test_text ++ codes ": " ++ test_meaning own.test) refl
     (plain-append (own.test_text ++ codes ": ") (test_meaning own.test)
     (plain-append own.test_text (codes ": ") is.test_text refl) (plain-test own.test))
@@ -304,11 +295,11 @@ body-draws size own shown faults are =
 key_square-draws : (top p : ℕ) → Draws (key_square top p ∷ []) []
 key_square-draws top p =
     let all =
-    tag (codes "<g") (λ rest. refl) ▸ tag (class_of (codes "key")) (λ rest. refl) ▸ tag (codes "><rect") (λ rest. refl)
-    ▸ place-adds (key_x p) (key_y top p) ▸ tag (codes " width=\"59\" height=\"19\"/><text") (λ rest. refl)
-    ▸ place-adds (key_x p + 29) (key_y top p + 13) ▸ tag (codes ">") (λ rest. refl) ▸ plain (key_said p) (plain-key p)
-    ▸ tag (codes "</text></g>") (λ rest. refl) ▸ feed in
-    untitled-line (key_square top p) (titles_of all)
+    tag (codes "<g") (λ rest. refl) refl ▸ tag (class_of (codes "key")) (λ rest. refl) refl ▸ tag (codes "><rect") (λ rest. refl) refl
+    ▸ place-adds (key_x p) (key_y top p) ▸ tag (codes " width=\"59\" height=\"19\"/><text") (λ rest. refl) refl
+    ▸ place-adds (key_x p + 29) (key_y top p + 13) ▸ tag (codes ">") (λ rest. refl) refl ▸ plain (key_said p) (plain-key p)
+    ▸ tag (codes "</text></g>") (λ rest. refl) refl in
+    untitled-line (key_square top p) (line_of all)
 
 key_row-draws : (top y : ℕ) (name : List ℕ) → Plain name → Draws (key_row top y name ∷ []) []
 key_row-draws top y name is = classed-draws (codes "row") 116 (top + y) name refl is
@@ -351,7 +342,7 @@ below-draws top counts =
     key-draws top ◃ flat-nothing (look_entry top) (below (length looks)) (entry-draws top) ◃ sender-draws top
     ◃ (part-draws counts top 12 doing.Send ◃ part-draws counts top 422 doing.Receive
     ◃ part-draws counts top 832 doing.Jump)
-    ◃ untitled-line (ended (codes "</svg>")) refl
+    ◃ untitled-line (ended (codes "</svg>")) (record { titled = refl; one = refl })
 
 -- The whole.
 

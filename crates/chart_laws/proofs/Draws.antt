@@ -1,38 +1,28 @@
 -- Lines of a chart with their squares.
-use Rattle.std.proofs.Common.{◌≡◌, ℕ, Bool, true, false, cond, ◌||◌, List, [], ◌∷◌, ◌++◌, map, filter}
+use Rattle.std.proofs.Common.{◌≡◌, Bool, true, false, cond, ℕ, List, [], ◌∷◌, ◌++◌, map, filter}
 use Rattle.std.proofs.Common.{refl, sym, ap, ◌∙◌, subst}
-use Rattle.std.specs.Prelude.{◌==◌}
-use Rattle.std.specs.List.{AllByRecursion, list_any, flat_map}
-use Rattle.std.proofs.lemmas.Bool.{or_parts, or_from}
+use Rattle.std.specs.List.{AllByRecursion, flat_map}
 use Rattle.std.proofs.lemmas.List.{append-nil}
 use Rattle.std.proofs.lemmas.List.Concat.{flat_map-append}
 use Rattle.std.proofs.lemmas.List.Elements.{filter-append}
 use Rattle.ttp_base.specs.Text.{Lines}
 use Rattle.ttp_world.proofs.LineLists.{each-append}
-use Rattle.picture_laws.specs.Titles.{titles_in, titles, is_markup}
-use Rattle.picture_laws.proofs.TitlesIn.{HasOne, untitled, titled, no-lines}
-use Rattle.picture_text.proofs.PlainTexts.{is_special, Plain}
+use Rattle.ttp_world.proofs.TraceLines.{IsLine}
+use Rattle.picture_text.proofs.PlainTexts.{Plain}
+use Rattle.picture_laws.specs.Titles.{titles_in, titles}
+use Rattle.picture_laws.proofs.LinesAndTitles.{Unmarked, unmarked}
+use Rattle.picture_laws.proofs.TitlesIn.{IsLineWith, HasOne, untitled, titled, no-lines}
 use Rattle.chart_laws.specs.Squares.{is_square}
 
--- a title that needs no escape
-abbrev pub NeedsNone : List ℕ → Type 0
-NeedsNone title = list_any is_markup title ≡ false
-
-pub plain-needs_none : (text : List ℕ) → Plain text → NeedsNone text
-plain-needs_none [] is = refl
-plain-needs_none (c ∷ text) is =
-    let parts = or_parts (is_special c) (list_any is_special text) is in
-    let marks = or_parts (c == 10) ((60 == c) || (38 == c)) parts.0 in
-    or_from (is_markup c) (list_any is_markup text) marks.1 (plain-needs_none text parts.1)
-
--- these lines have these squares, by their titles; none has two titles, and no title needs an escape
+-- these are lines that have these squares, by their titles; none has two titles, and no title needs an escape
 pub record Draws (lines squares : Lines) : Type 0 where
   pub are : titles (filter is_square lines) ≡ squares
   pub once : AllByRecursion HasOne lines
-  pub plain : AllByRecursion NeedsNone (titles lines)
+  pub plain : AllByRecursion Unmarked (titles lines)
+  pub each : AllByRecursion IsLine lines
 
 pub nothing : Draws [] []
-nothing = record { are = refl; once = tt; plain = tt }
+nothing = record { are = refl; once = tt; plain = tt; each = tt }
 
 infixl 20 ◌◃◌
 pub ◌◃◌ : {xs ys : Lines} {a b : Lines} → Draws xs a → Draws ys b → Draws (xs ++ ys) (a ++ b)
@@ -40,8 +30,9 @@ pub ◌◃◌ : {xs ys : Lines} {a b : Lines} → Draws xs a → Draws ys b → 
   are = ap titles (filter-append is_square xs ys)
       ∙ flat_map-append titles_in (filter is_square xs) (filter is_square ys) ∙ (λ i. p.are i ++ q.are i);
   once = each-append HasOne xs ys p.once q.once;
-  plain = subst (AllByRecursion NeedsNone) (sym (flat_map-append titles_in xs ys))
-      (each-append NeedsNone (titles xs) (titles ys) p.plain q.plain);
+  plain = subst (AllByRecursion Unmarked) (sym (flat_map-append titles_in xs ys))
+      (each-append Unmarked (titles xs) (titles ys) p.plain q.plain);
+  each = each-append IsLine xs ys p.each q.each;
 }
 
 -- a line without a title, one with a title that is no square, and a square
@@ -50,27 +41,30 @@ kept-none : (b : Bool) (text : List ℕ) → titles_in text ≡ [] → titles (c
 kept-none true text is = append-nil (titles_in text) ∙ is
 kept-none false text is = refl
 
-pub untitled-line : (text : List ℕ) → titles_in text ≡ [] → Draws (text ∷ []) []
+pub untitled-line : (text : List ℕ) → IsLineWith text [] → Draws (text ∷ []) []
 untitled-line text is = record {
-  are = kept-none (is_square text) text is;
+  are = kept-none (is_square text) text is.titled;
   once = (untitled text [] [] is no-lines).once;
-  plain = subst (AllByRecursion NeedsNone) (sym (append-nil (titles_in text) ∙ is)) tt;
+  plain = subst (AllByRecursion Unmarked) (sym (append-nil (titles_in text) ∙ is.titled)) tt;
+  each = (is.one, tt);
 }
 
-pub titled-line : (text name : List ℕ) → titles_in text ≡ name ∷ [] → is_square text ≡ false → Plain name
+pub titled-line : (text name : List ℕ) → IsLineWith text (name ∷ []) → is_square text ≡ false → Plain name
     → Draws (text ∷ []) []
 titled-line text name is other plain = record {
   are = ap (λ (b : Bool). titles (cond b (text ∷ []) [])) other;
   once = (titled text [] name [] is no-lines).once;
-  plain = subst (AllByRecursion NeedsNone) (sym (append-nil (titles_in text) ∙ is)) (plain-needs_none name plain, tt);
+  plain = subst (AllByRecursion Unmarked) (sym (append-nil (titles_in text) ∙ is.titled)) (unmarked name plain, tt);
+  each = (is.one, tt);
 }
 
-pub square-line : (text name : List ℕ) → titles_in text ≡ name ∷ [] → is_square text ≡ true → Plain name
+pub square-line : (text name : List ℕ) → IsLineWith text (name ∷ []) → is_square text ≡ true → Plain name
     → Draws (text ∷ []) (name ∷ [])
 square-line text name is square plain = record {
-  are = ap (λ (b : Bool). titles (cond b (text ∷ []) [])) square ∙ append-nil (titles_in text) ∙ is;
+  are = ap (λ (b : Bool). titles (cond b (text ∷ []) [])) square ∙ append-nil (titles_in text) ∙ is.titled;
   once = (titled text [] name [] is no-lines).once;
-  plain = subst (AllByRecursion NeedsNone) (sym (append-nil (titles_in text) ∙ is)) (plain-needs_none name plain, tt);
+  plain = subst (AllByRecursion Unmarked) (sym (append-nil (titles_in text) ∙ is.titled)) (unmarked name plain, tt);
+  each = (is.one, tt);
 }
 
 -- many lines, and lines that are there or not

@@ -27,10 +27,10 @@ use Rattle.campaign.specs.ZerosWorld.{zeros_world}
 use Rattle.whole_campaign.specs.declared.shown.Piece.{Piece}
 use Rattle.whole_campaign.specs.Due.{no_runs}
 use Rattle.whole_campaign.specs.Whole.{FaultTold, WholeCampaign, campaign_in}
+use Rattle.whole_campaign.specs.Readable.{counts_together, counts_sum}
 use Rattle.taken_campaigns.specs.Ranges.{IsRange, AreRanges, lines_over}
 use Rattle.taken_campaigns.specs.Taken.{told_in_slot, piece_over, faults_over, campaign_over}
 use Rattle.taken_campaigns.proofs.Pieces.{ranges-taken}
-use Rattle.chart_text.specs.Chart.{counts_together, counts_sum}
 use Rattle.chart_text.specs.Columns.{is_of_piece, is_tried}
 use Rattle.chart_laws.specs.Alike.{AreAlike}
 use Rattle.chart_laws.specs.Joined.{AreJoined, whole_range}

@@ -1,7 +1,7 @@
 -- When two campaigns have one chart.
 use Rattle.std.specs.Prelude.{ℕ, ◌≡◌, map}
 use Rattle.whole_campaign.specs.Whole.{WholeCampaign}
-use Rattle.chart_text.specs.Chart.{counts_sum}
+use Rattle.whole_campaign.specs.Readable.{counts_sum}
 use Rattle.chart_text.specs.Columns.{is_tried}
 
 -- they have the same own run and the same faults, their pieces have the same slots, and their counts add up to the same

@@ -1,6 +1,7 @@
 //! Laws over the definitions. The functions do nothing; their contracts are the laws.
-ghost use Rattle.std.specs.Prelude.{◌≡◌, ℕ, ◌≤◌, false, List, [], ◌∷◌, length, map, filter, Option, Ok};
+ghost use Rattle.std.specs.Prelude.{◌≡◌, ℕ, ◌≤◌, true, false, List, [], ◌∷◌, length, map, filter, Option, Ok};
 ghost use Rattle.std.specs.List.{AllByRecursion, concat, list_any};
+ghost use Rattle.ttp_base.specs.Text.{is_line};
 ghost use Rattle.ttp_world.specs.declared.medl.Medl.{Medl};
 ghost use Rattle.ttp_world.specs.declared.script.Script.{Script};
 ghost use Rattle.ttp_world.specs.Medl.{IsValid};
@@ -37,6 +38,12 @@ pub fn cut_charts()
         → campaign_in (concat (campaign_lines list script (whole_range range ranges).first (whole_range range ranges).last))
         ≡ Ok other
         → chart_lines one asked ≡ chart_lines other asked }
+{}
+
+/// Each line of the chart of a text that is a campaign is one line: its one line feed is its last byte.
+pub fn lines_of_charts()
+    ensures { (text : List ℕ) (campaign : WholeCampaign) (asked : Option Slots) → campaign_in text ≡ Ok campaign
+        → AllByRecursion (λ line. is_line line ≡ true) (chart_lines campaign asked) }
 {}
 
 /// The squares of the chart of a text that is a campaign, which are its paths whose class is a look: their titles are the

@@ -7,6 +7,7 @@ use Rattle.std.proofs.lemmas.Bool.{and_parts, or_parts, or_from, leb-true, not-t
 use Rattle.ttp_base.specs.NodeSet.{below}
 use Rattle.ttp_base.specs.Text.{Lines}
 use Rattle.ttp_world.proofs.LineLists.{each-append}
+use Rattle.ttp_world.proofs.TraceLines.{IsLine}
 use Rattle.whole_trace.specs.declared.shown.Head.{Head}
 use Rattle.whole_trace.specs.Whole.{SlotLines, WholeTrace, whole_in}
 use Rattle.shown_slot.specs.Nodes.{clock_range}
@@ -31,13 +32,16 @@ picture_lines-titles trace asked = (picture_of-titles trace (span_shown trace.he
 pub picture_lines-once : (trace : WholeTrace) (asked : Option Span) → AllByRecursion HasOne (picture_lines trace asked)
 picture_lines-once trace asked = (picture_of-titles trace (span_shown trace.head.nodes trace.slots asked)).once
 
+pub picture_lines-each : (trace : WholeTrace) (asked : Option Span) → AllByRecursion IsLine (picture_lines trace asked)
+picture_lines-each trace asked = (picture_of-titles trace (span_shown trace.head.nodes trace.slots asked)).each
+
 -- The titles need no escapes.
 
-abbrev Unmarked : List ℕ → Type 0
+abbrev pub Unmarked : List ℕ → Type 0
 Unmarked text = list_any is_markup text ≡ false
 
 -- as plain texts do not
-unmarked : (text : List ℕ) → Plain text → Unmarked text
+pub unmarked : (text : List ℕ) → Plain text → Unmarked text
 unmarked [] is = refl
 unmarked (c ∷ text) is =
     let parts = or_parts (is_special c) (list_any is_special text) is in

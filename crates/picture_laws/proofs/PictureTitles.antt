@@ -37,35 +37,34 @@ use Rattle.picture_text.proofs.PlainTexts.{plain-head, plain-keep, plain-back, p
 use Rattle.picture_text.proofs.PlainTexts.{plain-keep_meaning, plain-back_meaning, plain-class, plain-members}
 use Rattle.picture_text.proofs.PlainTexts.{plain-no_members, plain-count, plain-clocks, plain-apart_shown, plain-keep_name}
 use Rattle.picture_text.proofs.PlainTexts.{plain-back_name}
-use Rattle.picture_laws.proofs.TitlesIn.{◌▸◌, tag, plain, title, titles_of, place-adds, feed, text-titles, classed-titles}
-use Rattle.picture_laws.proofs.TitlesIn.{cell-titles, mark-titles, HasOne, Have, ◌▹◌, untitled, titled, no-lines, map-none, map-each}
-use Rattle.picture_laws.proofs.TitlesIn.{flat-none, flat-each, if-none}
+use Rattle.picture_laws.proofs.TitlesIn.{◌▸◌, tag, plain, title, IsLineWith, line_of, place-adds, text-titles, classed-titles}
+use Rattle.picture_laws.proofs.TitlesIn.{cell-titles, mark-titles, Have, ◌▹◌, untitled, titled, no-lines, bare-lines, bare, map-none}
+use Rattle.picture_laws.proofs.TitlesIn.{map-each, flat-none, flat-each, if-none}
 
 -- The head.
 
 size-plain : (h : ℕ) → Plain (size h)
 size-plain h = simp parts
 
-svg-titles : (h : ℕ) → titles_in (svg_line h) ≡ []
+svg-titles : (h : ℕ) → IsLineWith (svg_line h) []
 svg-titles h =
     let all =
-    tag (codes "<svg") (λ rest. refl)
-    ▸ tag (attribute (codes "xmlns") (codes "http://www.w3.org/2000/svg")) (λ rest. refl) ▸ plain (size h) (size-plain h)
-    ▸ plain (attribute (codes "viewBox") (codes "0 0 1036 " ++ decimal h)) (simp parts) ▸ tag (codes ">") (λ rest. refl)
-    ▸ feed in
-    titles_of all
+    tag (codes "<svg") (λ rest. refl) refl
+    ▸ tag (attribute (codes "xmlns") (codes "http://www.w3.org/2000/svg")) (λ rest. refl) refl ▸ plain (size h) (size-plain h)
+    ▸ plain (attribute (codes "viewBox") (codes "0 0 1036 " ++ decimal h)) (simp parts) ▸ tag (codes ">") (λ rest. refl) refl in
+    line_of all
 
 abbrev ground : ℕ → List ℕ
 ground h = ended (codes "<rect" ++ size h ++ attribute (codes "fill") (codes "#ffffff") ++ codes "/>")
 
-ground-titles : (h : ℕ) → titles_in (ground h) ≡ []
+ground-titles : (h : ℕ) → IsLineWith (ground h) []
 ground-titles h =
     let all =
-    tag (codes "<rect") (λ rest. refl) ▸ plain (size h) (size-plain h)
-    ▸ tag (attribute (codes "fill") (codes "#ffffff")) (λ rest. refl) ▸ tag (codes "/>") (λ rest. refl) ▸ feed in
-    titles_of all
+    tag (codes "<rect") (λ rest. refl) refl ▸ plain (size h) (size-plain h)
+    ▸ tag (attribute (codes "fill") (codes "#ffffff")) (λ rest. refl) refl ▸ tag (codes "/>") (λ rest. refl) refl in
+    line_of all
 
-said-titles : (y : ℕ) (said meaning : List ℕ) → Plain said → Plain meaning → titles_in (said_line y said meaning) ≡ []
+said-titles : (y : ℕ) (said meaning : List ℕ) → Plain said → Plain meaning → IsLineWith (said_line y said meaning) []
 said-titles y said meaning s m =
     classed-titles (codes "said") 12 y (said ++ codes ": " ++ meaning) refl (simp (parts, s, m))
 
@@ -75,16 +74,8 @@ back_said-titles (Some b) =
     untitled (said_line 58 (back_text b) (back_meaning b)) [] []
     (said-titles 58 (back_text b) (back_meaning b) (plain-back b) (plain-back_meaning b)) no-lines
 
--- lines that all have no title, by computing
-each-untitled : (lines : Lines) → list_all (λ text. nat_le (length (titles_in text)) 0) lines ≡ true
-    → AllByRecursion HasOne lines
-each-untitled [] are = tt
-each-untitled (text ∷ lines) are =
-    let parts = and_parts (nat_le (length (titles_in text)) 0) (list_all (λ other. nat_le (length (titles_in other)) 0) lines) are in
-    let none = leb-true (length (titles_in text)) 0 parts.0 in (omega (arith, none), each-untitled lines parts.1)
-
 styles-titles : Have style_lines []
-styles-titles = record { are = refl; once = each-untitled style_lines refl }
+styles-titles = bare style_lines (bare-lines style_lines refl refl)
 
 head-titles : (trace : WholeTrace) (span : Span) → Have (head_lines trace span) (first_text trace ∷ [])
 head-titles trace span =
@@ -92,21 +83,21 @@ head-titles trace span =
     let first = first_text trace in
     let said = said_line 40 (keep_text trace.keep) (keep_meaning trace.keep) in
     let back = back_said trace.back in
-    let name = title first (plain-head trace.head) ▸ feed in
+    let name = title first (plain-head trace.head) in
     let all =
     untitled (svg_line h) (ended (title_element first) ∷ style_lines) (first ∷ []) (svg-titles h)
-    (titled (ended (title_element first)) style_lines first [] (titles_of name) styles-titles)
+    (titled (ended (title_element first)) style_lines first [] (line_of name) styles-titles)
     ▹ untitled (ground h) (text_line [] 12 20 (shown_text trace span) ∷ said ∷ back) [] (ground-titles h)
     (untitled (text_line [] 12 20 (shown_text trace span)) (said ∷ back) []
     (text-titles [] 12 20 (shown_text trace span) refl (plain-shown trace span))
     (untitled said back []
     (said-titles 40 (keep_text trace.keep) (keep_meaning trace.keep) (plain-keep trace.keep) (plain-keep_meaning trace.keep))
     (back_said-titles trace.back))) in
-    record { are = all.are; once = all.once }
+    record { are = all.are; once = all.once; each = all.each }
 
 -- Bands.
 
-row-titles : (y : ℕ) (name : List ℕ) → Plain name → titles_in (row_line y name) ≡ []
+row-titles : (y : ℕ) (name : List ℕ) → Plain name → IsLineWith (row_line y name) []
 row-titles y name is = classed-titles (codes "row") 64 y name refl is
 
 band-titles : (n : ℕ) (span : Span) (band : ℕ) → Have (band_lines n span band) []
@@ -119,7 +110,7 @@ band-titles n span band =
     map-none row (below n) (λ k. row-titles (row_y n span t k + 13) (codes "node " ++ decimal k) (simp parts))
     ▹ untitled members (clocks ∷ []) [] (row-titles (row_y n span t n + 17) (codes "members") refl)
     (untitled clocks [] [] (row-titles (row_y n span t (n + 1) + 17) (codes "clocks") refl) no-lines) in
-    record { are = all.are; once = all.once }
+    record { are = all.are; once = all.once; each = all.each }
 
 -- Cells.
 
@@ -132,13 +123,13 @@ number-titles n span t =
     (classed-titles (codes "slot") x y (decimal t) refl (plain-decimal t)) no-lines)
 
 node-titles : (head : Head) (t k : ℕ) (node : NodeShown) (most : Option ℕ) (x y : ℕ)
-    → titles_in (node_cell head t k node most x y) ≡ node_text head t k node ∷ []
+    → IsLineWith (node_cell head t k node most x y) (node_text head t k node ∷ [])
 node-titles head t k node most x y =
     cell-titles (node_class node most) x y (node_text head t k node) (letter node.word) (plain-class node most)
     (plain-node head t k node) (plain-letter node.word)
 
 members-titles : (head : Head) (slot : SlotLines) (held : List ℕ) (t x y : ℕ)
-    → titles_in (members_cell_of held slot.nodes t x y (members_title head t slot)) ≡ members_said head t slot held ∷ []
+    → IsLineWith (members_cell_of held slot.nodes t x y (members_title head t slot)) (members_said head t slot held ∷ [])
 members-titles head slot [] t x y =
     cell-titles (codes "none") x y (codes "slot " ++ decimal t ++ codes " members -") (codes "-") refl (plain-no_members t) refl
 members-titles head slot (one ∷ []) t x y =
@@ -147,7 +138,7 @@ members-titles head slot (one ∷ []) t x y =
 members-titles head slot (one ∷ other ∷ more) t x y =
     cell-titles (codes "differ") x y (members_title head t slot) (codes "!") refl (plain-members head t slot) refl
 
-clocks-titles : (t : ℕ) (slot : SlotLines) (x y : ℕ) → titles_in (clocks_cell t slot x y) ≡ clocks_said t slot ∷ []
+clocks-titles : (t : ℕ) (slot : SlotLines) (x y : ℕ) → IsLineWith (clocks_cell t slot x y) (clocks_said t slot ∷ [])
 clocks-titles t slot x y =
     let range = clock_range slot.nodes in
     cell-titles (codes "none") x y (codes "slot " ++ decimal t ++ codes " clocks apart " ++ apart_text range)
@@ -173,17 +164,17 @@ slot-titles trace span t =
     ▹ titled members (clocks ∷ []) said (apart ∷ [])
     (members-titles head slot (memberships slot.nodes) t x (row_y n span t n + 4))
     (titled clocks [] apart [] (clocks-titles t slot x (row_y n span t (n + 1) + 4)) no-lines) in
-    record { are = all.are; once = all.once }
+    record { are = all.are; once = all.once; each = all.each }
 
 -- What stands beside the cells.
 
-why_box-titles : (w : Word) (x y : ℕ) → titles_in (why_box w x y) ≡ []
+why_box-titles : (w : Word) (x y : ℕ) → IsLineWith (why_box w x y) []
 why_box-titles w x y =
     let all =
-    tag (codes "<rect") (λ rest. refl) ▸ tag (class_of (codes "why")) (λ rest. refl) ▸ place-adds x y
+    tag (codes "<rect") (λ rest. refl) refl ▸ tag (class_of (codes "why")) (λ rest. refl) refl ▸ place-adds x y
     ▸ plain (attribute (codes "width") (decimal (7 * length (word_text w) + 6))) (simp parts)
-    ▸ tag (codes " height=\"17\"/>") (λ rest. refl) ▸ feed in
-    titles_of all
+    ▸ tag (codes " height=\"17\"/>") (λ rest. refl) refl in
+    line_of all
 
 why-titles : (n : ℕ) (span : Span) (t : ℕ) (slot : SlotLines) (k : ℕ) → Have (why_lines n span t slot k) []
 why-titles n span t slot k =
@@ -196,7 +187,7 @@ why-titles n span t slot k =
     (untitled box (word ∷ []) [] (why_box-titles w (x + 18) y)
     (untitled word [] [] (classed-titles (codes "why") (x + 21) (y + 13) (word_text w) refl (plain-word w)) no-lines))
 
-host-titles : (t : ℕ) (by : HostLine) (x y : ℕ) → titles_in (host_mark t by x y) ≡ host_text t by ∷ []
+host-titles : (t : ℕ) (by : HostLine) (x y : ℕ) → IsLineWith (host_mark t by x y) (host_text t by ∷ [])
 host-titles t (by_host.Write host number) x y =
     let by = by_host.Write host number in
     mark-titles (codes "write") write_shape x (y + 17) (host_text t by) refl refl (plain-host t by)
@@ -217,18 +208,18 @@ beside-titles trace span t =
     flat-none (why_lines n span t slot) (below n) (why-titles n span t slot)
     ▹ map-each shown (host_text t) slot.hosts (λ by.
     host-titles t by (column_x n span t) (row_y n span t (host_of by))) in
-    record { are = all.are; once = all.once }
+    record { are = all.are; once = all.once; each = all.each }
 
 -- Flags.
 
-pole-titles : (n : ℕ) (span : Span) (t : ℕ) → titles_in (flag_pole n span t) ≡ []
+pole-titles : (n : ℕ) (span : Span) (t : ℕ) → IsLineWith (flag_pole n span t) []
 pole-titles n span t =
     let shape = codes "M" ++ decimal (column_x n span t - 1) ++ codes " " ++ decimal (row_y n span t 0 - 26) ++ codes "v"
     ++ decimal (18 * n + 26) in
     let all =
-    tag (codes "<path") (λ rest. refl) ▸ tag (class_of (codes "flag")) (λ rest. refl)
-    ▸ plain (attribute (codes "d") shape) (simp parts) ▸ tag (codes "/>") (λ rest. refl) ▸ feed in
-    titles_of all
+    tag (codes "<path") (λ rest. refl) refl ▸ tag (class_of (codes "flag")) (λ rest. refl) refl
+    ▸ plain (attribute (codes "d") shape) (simp parts) ▸ tag (codes "/>") (λ rest. refl) refl in
+    line_of all
 
 flag-titles : (n : ℕ) (span : Span) (t : ℕ) (class : List ℕ) (x : ℕ) (name : List ℕ) → Plain class → Plain name
     → Have (flag_lines n span t class x name) []
@@ -250,11 +241,11 @@ back-titles n span (Some b) =
 
 -- The legend.
 
-legend-titles : (x y : ℕ) (meaning : List ℕ) → Plain meaning → titles_in (legend_text x y meaning) ≡ []
+legend-titles : (x y : ℕ) (meaning : List ℕ) → Plain meaning → IsLineWith (legend_text x y meaning) []
 legend-titles x y meaning is = text-titles [] (x + 23) (y + 13) meaning refl is
 
 -- an entry: a line with a title, and a text
-entry : (first : List ℕ) (x y : ℕ) (name meaning : List ℕ) → titles_in first ≡ name ∷ [] → Plain meaning
+entry : (first : List ℕ) (x y : ℕ) (name meaning : List ℕ) → IsLineWith first (name ∷ []) → Plain meaning
     → Have (first ∷ legend_text x y meaning ∷ []) (name ∷ [])
 entry first x y name meaning is m =
     titled first (legend_text x y meaning ∷ []) name [] is
@@ -270,7 +261,7 @@ words-titles top i (w ∷ ws) =
     entry (cell (word_text w) x y (word_text w) (letter w)) x y (word_text w) (word_text w ++ codes ": " ++ word_meaning w)
     name (plain-meaning w)
     ▹ words-titles top (i + 1) ws in
-    record { are = all.are; once = all.once }
+    record { are = all.are; once = all.once; each = all.each }
 
 cell_entry-titles : (top i : ℕ) (class shown meaning : List ℕ) → Plain class → Plain shown → Plain meaning
     → Have (cell_entry top i class shown meaning) (meaning ∷ [])
@@ -298,7 +289,7 @@ classes-titles top =
     ▹ mark_entry-titles top 6 (codes "write") write_shape 11 (codes "its host writes a message") refl refl refl
     ▹ mark_entry-titles top 7 (codes "read") read_shape 6 (codes "its host reads a node's message") refl refl refl
     ▹ mark_entry-titles top 8 (codes "status") status_shape 6 (codes "its host reads its status") refl refl refl in
-    record { are = all.are; once = all.once }
+    record { are = all.are; once = all.once; each = all.each }
 
 -- The whole.
 
@@ -318,9 +309,10 @@ picture_of-titles trace span =
     ▹ flat-each cells (cell_titles trace) (slots_in span) (slot-titles trace span)
     ▹ flat-each beside (texts_of_hosts trace) (slots_in span) (beside-titles trace span)
     ▹ keep-titles n span trace.keep ▹ back-titles n span trace.back ▹ words-titles top 0 words
-    ▹ classes-titles (top + 118) ▹ untitled (ended (codes "</svg>")) [] [] refl no-lines in record {
+    ▹ classes-titles (top + 118) ▹ untitled (ended (codes "</svg>")) [] [] (record { titled = refl; one = refl }) no-lines in record {
       are = all.are ∙ nested (first_text trace ∷ []) shown done (map word_text words) class_titles;
       once = all.once;
+      each = all.each;
     }
   where
     nested : (a b c d e : Lines) → a ++ [] ++ b ++ c ++ [] ++ [] ++ d ++ e ++ [] ≡ a ++ (b ++ (c ++ (d ++ e)))

@@ -1,14 +1,20 @@
-//! Laws of the titles of a picture. The functions have no code: their contracts are the laws.
+//! Laws of the lines of a picture, and of their titles. The functions have no code: their contracts are the laws.
 ghost use Rattle.std.specs.Prelude.{◌≡◌, ℕ, ◌<◌, ◌≤◌, ◌^◌, true, false, List, [], ◌∷◌, map, length, count_by, filter, Option, Ok};
 ghost use Rattle.std.specs.List.{AllByRecursion, list_any};
 ghost use Rattle.std.specs.Str.{bytes_eq};
-ghost use Rattle.ttp_base.specs.Text.{lines_of};
+ghost use Rattle.ttp_base.specs.Text.{lines_of, is_line};
 ghost use Rattle.whole_trace.specs.Whole.{WholeTrace, whole_in};
 ghost use Rattle.shown_slot.specs.Trace.{node_at, node_text};
 ghost use Rattle.picture_text.specs.declared.window.Span.{Span as Slots};
 ghost use Rattle.picture_text.specs.Picture.{ended, slot_at, is_shown, picture_lines};
 ghost use Rattle.picture_laws.specs.Titles.{begins_with, titles_in, titles, texts_of_trace, is_of_slot, node_start, texts_of_lines};
 ghost use Rattle.picture_laws.specs.Titles.{is_markup, shown_of, picture_titles};
+
+/// Each line of a picture is one line: its one line feed is its last byte.
+pub fn lines_of_pictures()
+    ensures { (trace : WholeTrace) (asked : Option Slots)
+        → AllByRecursion (λ line. is_line line ≡ true) (picture_lines trace asked) }
+{}
 
 /// The titles of a picture, as they are read out of its lines: the first line of the trace; of each slot shown the
 /// lines of its nodes, what members they hold, and how far clocks are apart; of each slot shown the lines of its

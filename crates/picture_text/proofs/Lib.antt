@@ -1,5 +1,4 @@
 pub mod PlainTexts
-pub mod PictureLines
 pub mod Ending
 pub mod LongCell
 pub mod Whole

@@ -17,7 +17,6 @@ mod flag;
 mod frame;
 mod grid;
 mod head;
-pub mod laws;
 mod legend;
 mod long_line;
 mod members;
