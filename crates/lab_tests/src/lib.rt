@@ -9,6 +9,8 @@ mod calls;
 #[cfg(test)]
 mod campaigns;
 #[cfg(test)]
+mod charts;
+#[cfg(test)]
 mod expected;
 #[cfg(test)]
 mod views;

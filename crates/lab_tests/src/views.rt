@@ -46,9 +46,9 @@ const CELL: &str =
     "<g class=\"wait\"><title>slot 1 node 0 wait peer - msg - mem 0000 acc 0 rej 0 ack none clock 7\
     </title><rect x=\"72\" y=\"102\" width=\"17\" height=\"17\"/><text x=\"80\" y=\"115\">w</text></g>\n";
 
-// A call answers 0 and writes a text that begins with these lines and has this part. A sink that fails at one of
-// the lines has those before it.
-fn shows<R: AllocGlobal + Abort + Threads + Sync>(
+/// A call answers 0 and writes a text that begins with these lines and has this part. A sink that fails at one of
+/// the lines has those before it.
+pub(crate) fn shows<R: AllocGlobal + Abort + Threads + Sync>(
     rt: &R,
     call: &Call<'_>,
     head: &[&str],

@@ -3,11 +3,11 @@ use crate::calls::{call_of, gives};
 use std::test::Fail;
 
 const USAGE: &str =
-    "usage: wave TRACE | picture TRACE [FIRST LAST] | campaign LIST SCRIPT FIRST LAST\n";
+    "usage: wave TRACE | picture TRACE [FIRST LAST] | campaign LIST SCRIPT FIRST LAST | chart CAMPAIGN [FIRST LAST]\n";
 
 #[test]
 fn words_of_no_form_are_told(rt: HostRuntime) -> Result<(), Fail> {
-    let none: [&[&str]; 16] = [
+    let none: [&[&str]; 19] = [
         &[],
         &["wave"],
         &["wave", "trace", "0", "1"],
@@ -23,6 +23,9 @@ fn words_of_no_form_are_told(rt: HostRuntime) -> Result<(), Fail> {
         &["campaign", "list", "script", "", "0"],
         &["campaign", "list", "script", "0", "0000000000"],
         &["campaign", "list", "script", "+0", "1"],
+        &["chart"],
+        &["chart", "campaign", "0"],
+        &["chart", "campaign", "0", "100000"],
         &["run", "list", "script", "0", "1"],
     ];
     for words in none {

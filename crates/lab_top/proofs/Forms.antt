@@ -1,13 +1,16 @@
 -- What holds of each ending of a form: what its texts are made of, and what its status and the form tell of each other.
 use Rattle.std.proofs.Common.{◌≡◌, ◌≢◌, ℕ, Bool, true, false, ◌++◌, ◌∷◌, Option, Some, None, Result, Ok, Err, refl, subst, arith}
 use Rattle.std.proofs.Common.{List}
-use Rattle.ttp_base.specs.Text.{Lines}
+use Rattle.std.specs.Prelude.{codes}
+use Rattle.ttp_base.specs.Text.{Lines, newline, is_line}
+use Rattle.ttp_base.proofs.Lines.{is_line-append}
+use Rattle.ttp_base.proofs.Numerals.{has}
 use Rattle.ttp_world.specs.declared.medl.Medl.{Medl}
 use Rattle.ttp_world.specs.declared.script.Script.{Script}
 use Rattle.campaign.specs.Lines.{campaign_lines}
-use Rattle.whole_trace.specs.Whole.{WholeTrace}
 use Rattle.wave_text.proofs.DeclaredLines.{wave_lines-each}
-use Rattle.picture_text.proofs.PictureLines.{picture_lines-each}
+use Rattle.picture_laws.proofs.LinesAndTitles.{picture_lines-each}
+use Rattle.chart_laws.proofs.CampaignsRead.{campaign-draws}
 use Rattle.commands.specs.declared.read.FileFault.{FileFault}
 use Rattle.commands.specs.Files.{refused_list, refused_script}
 use Rattle.commands.specs.Lines.{AreLines}
@@ -16,14 +19,14 @@ use Rattle.commands.specs.Texts.{those, nothing}
 use Rattle.commands.proofs.Lines.{AreOfLines, IsFinal, SaysLine, one_text, lines_front, text_final, line_final}
 use Rattle.commands.proofs.Lines.{refused_list-final, refused_script-final}
 use Rattle.commands.proofs.Plans.{Every, both_every}
-use Rattle.lab_top.specs.declared.refusal.TraceFault.{TraceFault}
+use Rattle.lab_top.specs.declared.refusal.TextFault.{TextFault}
 use Rattle.lab_top.specs.Forms.{lab_usage_line, viewed_ending, view_plan, campaign_ending, campaign_plan, lab_plan_of}
-use Rattle.lab_top.specs.Refusals.{trace_fault_line}
+use Rattle.lab_top.specs.Refusals.{text_fault_line}
 use Rattle.lab_top.specs.Texts.{begun, LabEnding, ttplab}
-use Rattle.lab_top.specs.Views.{View, wave_view, picture_view, viewed}
-use Rattle.lab_top.specs.Words.{LabForm, wave, picture, campaign, is_campaign}
+use Rattle.lab_top.specs.Views.{View, viewed, wave_view, picture_view, chart_view}
+use Rattle.lab_top.specs.Words.{LabForm, wave, picture, campaign, chart, is_campaign}
 use Rattle.lab_top.proofs.CampaignLines.{campaign_lines-each}
-use Rattle.lab_top.proofs.Refusals.{trace_fault_line-is_line}
+use Rattle.lab_top.proofs.Refusals.{text_fault_line-is_line, viewed-taken}
 
 -- an ending that a form may come to
 pub record IsOfForm (form : Option LabForm) (ending : LabEnding) : Type 0 where
@@ -36,30 +39,36 @@ pub record IsOfForm (form : Option LabForm) (ending : LabEnding) : Type 0 where
   -- but for a campaign, nothing stands where memory is refused
   pub lets : is_campaign form ≡ false → ending.unfinished ≡ nothing
 
--- each line of a view is one line
-abbrev IsOfLines : View → Type 0
-IsOfLines view = (trace : WholeTrace) → AreLines (view.lines trace)
+-- each line of a view of what a text is taken for is one line, and so is the line that refuses a text
+record IsOfLines {Value : Type 0} (view : View Value) : Type 0 where
+  plain : has 10 view.kind ≡ false
+  each : (text : List ℕ) (value : Value) → view.taken text ≡ Ok value → AreLines (view.lines value)
 
-view_ends : (form : Option LabForm) (view : View) (read : Result WholeTrace TraceFault) → IsOfLines view
-    → IsOfForm form (viewed_ending view read)
-view_ends form view (Ok trace) lines = record {
-  final = text_final ttplab 0 (view.lines trace) (omega arith) (lines trace);
+view_ends : {Value : Type 0} (form : Option LabForm) (view : View Value) (text : List ℕ) (read : Result Value TextFault)
+    → viewed view text ≡ read → IsOfLines view → IsOfForm form (viewed_ending view read)
+view_ends form view text (Ok value) is lines = record {
+  final = text_final ttplab 0 (view.lines value) (omega arith)
+      (lines.each text value (viewed-taken view text value is).whole);
   usage = λ two. absurd (omega (arith, two));
   not_1 = λ one. omega (arith, one);
   lists = λ three. absurd (omega (arith, three));
   lets = λ other. refl;
 }
-view_ends form view (Err fault) lines = record {
-  final = line_final ttplab 4 (trace_fault_line fault) (omega arith) (trace_fault_line-is_line fault);
+view_ends form view text (Err fault) is lines = record {
+  final = line_final ttplab 4 (text_fault_line view.kind fault) (omega arith)
+      (text_fault_line-is_line view.kind fault lines.plain);
   usage = λ two. absurd (omega (arith, two));
   not_1 = λ one. omega (arith, one);
   lists = λ three. absurd (omega (arith, three));
   lets = λ other. refl;
 }
 
-of_view : (form : Option LabForm) (view : View) (trace : List ℕ) → IsOfLines view
-    → Every (IsOfForm form) SaysLine (view_plan view trace)
-of_view form view trace lines = (refl, λ text. view_ends form view (viewed view text) lines)
+missing-line : (kind : List ℕ) → has 10 kind ≡ false → is_line (codes "load: " ++ kind ++ newline) ≡ true
+missing-line kind plain = is_line-append (codes "load: ") (kind ++ newline) refl (is_line-append kind newline plain refl)
+
+of_view : {Value : Type 0} (form : Option LabForm) (view : View Value) (name : List ℕ) → IsOfLines view
+    → Every (IsOfForm form) SaysLine (view_plan view name)
+of_view form view name lines = (missing-line view.kind lines.plain, λ text. view_ends form view text (viewed view text) refl lines)
 
 -- the endings of a list or a script that is refused are those of a campaign
 
@@ -118,8 +127,12 @@ lab_forms None = record {
   lists = λ three. absurd (omega (arith, three));
   lets = λ other. refl;
 }
-lab_forms (Some (wave trace)) = of_view (Some (wave trace)) wave_view trace wave_lines-each
+lab_forms (Some (wave trace)) =
+    of_view (Some (wave trace)) wave_view trace (record { plain = refl; each = λ text whole is. wave_lines-each whole })
 lab_forms (Some (picture trace asked)) =
     of_view (Some (picture trace asked)) (picture_view asked) trace
-    (λ whole. picture_lines-each whole asked)
+    (record { plain = refl; each = λ text whole is. picture_lines-each whole asked })
 lab_forms (Some (campaign list script first last)) = of_campaign list script first last
+lab_forms (Some (chart name asked)) =
+    of_view (Some (chart name asked)) (chart_view asked) name
+    (record { plain = refl; each = λ text whole is. (campaign-draws text whole asked is).each })

@@ -1,111 +1,109 @@
--- What a text is read as: by its first bytes, if it is longer than a trace may be. The line that refuses it is one line.
+-- What a text is read as: by its first bytes, if it is longer than a text may be. The line that refuses it is one line.
 use Rattle.std.proofs.Common.{◌≡◌, ◌⊎◌, ℕ, ◌+◌, ◌<◌, ◌≤◌, Bool, true, false, cond, List, ◌++◌, length, take, refl, ap, inl, inr}
-use Rattle.std.proofs.Common.{arith, nat_lt, Result, Ok, Err, Option, sym, ◌∙◌, IsTrue}
-use Rattle.std.specs.Prelude.{codes, decimal, ◌-◌}
+use Rattle.std.proofs.Common.{arith, nat_lt, Result, Ok, Err, sym, ◌∙◌, IsTrue}
+use Rattle.std.specs.Prelude.{codes, decimal}
 use Rattle.std.proofs.lemmas.Bool.{lt-ltb, le-ltb, ltb-false, cases_lt}
 use Rattle.std.proofs.lemmas.List.{take_all, length-take-le}
 use Rattle.ttp_base.specs.Text.{newline, is_line}
 use Rattle.ttp_base.proofs.Lines.{is_line-append}
 use Rattle.ttp_base.proofs.Numerals.{has, has-append, has-decimal}
-use Rattle.whole_trace.specs.Whole.{WholeTrace, whole_in}
-use Rattle.picture_text.specs.declared.window.Span.{Span}
 use Rattle.commands.specs.Read.{trace_limit}
-use Rattle.lab_top.specs.declared.refusal.TraceFault.{TraceFault}
-use Rattle.lab_top.specs.declared.refusal.TraceFault.TheVariants as fault
-use Rattle.lab_top.specs.Refusals.{trace_fault_text, trace_fault_line, whole_read, whole_within, whole_from, has_slots}
-use Rattle.lab_top.specs.Refusals.{with_slots_asked}
-use Rattle.lab_top.specs.ViewPromise.{CanBeShown}
-use Rattle.lab_top.specs.Views.{View, viewed}
+use Rattle.lab_top.specs.declared.refusal.TextFault.{TextFault}
+use Rattle.lab_top.specs.declared.refusal.TextFault.TheVariants as fault
+use Rattle.lab_top.specs.Refusals.{text_fault, text_fault_line, value_read, value_within, value_from}
+use Rattle.lab_top.specs.Views.{View, if_shown, viewed, CanBeShown}
 
 -- The line.
 
-trace_fault_text-lines : (f : TraceFault) → has 10 (trace_fault_text f) ≡ false
-trace_fault_text-lines fault.TooLarge = refl
-trace_fault_text-lines (fault.Line number) =
+text_fault-lines : (f : TextFault) → has 10 (text_fault f) ≡ false
+text_fault-lines fault.TooLarge = refl
+text_fault-lines (fault.Line number) =
     has-append 10 (codes "line ") (decimal number) refl (has-decimal 10 number (omega arith))
-trace_fault_text-lines (fault.Slots last) =
+text_fault-lines (fault.Slots last) =
     has-append 10 (codes "slots 0 to ") (decimal last) refl (has-decimal 10 last (omega arith))
+text_fault-lines fault.NoSlot = refl
 
-pub trace_fault_line-is_line : (f : TraceFault) → is_line (trace_fault_line f) ≡ true
-unfolding trace_fault_line
-trace_fault_line-is_line f =
-    is_line-append (codes "trace: " ++ trace_fault_text f) newline
-    (has-append 10 (codes "trace: ") (trace_fault_text f) refl (trace_fault_text-lines f)) refl
+pub text_fault_line-is_line : (kind : List ℕ) (f : TextFault) → has 10 kind ≡ false
+    → is_line (text_fault_line kind f) ≡ true
+unfolding text_fault_line
+text_fault_line-is_line kind f plain =
+    is_line-append (kind ++ codes ": " ++ text_fault f) newline
+    (has-append 10 (kind ++ codes ": ") (text_fault f) (has-append 10 kind (codes ": ") plain refl) (text_fault-lines f)) refl
 
 -- What stands past the limit doesn't matter.
 
-whole_within-front : (limit : ℕ) (text : List ℕ) → (limit < length text) ⊎ (length text ≤ limit)
-    → whole_within limit (take (limit + 1) text) ≡ whole_within limit text
-whole_within-front limit text (inr short) = ap (whole_within limit) (take_all (limit + 1) text (omega arith))
-whole_within-front limit text (inl long) =
-    let cut = length-take-le (limit + 1) text (omega arith) in
-    let before = lt-ltb limit (length (take (limit + 1) text)) (omega (arith, cut)) in
-    let after = lt-ltb limit (length text) long in
-    rw (before, after)
+module _ {Value : Type 0} (read : List ℕ → Result Value ℕ) where
+  value_within-front : (limit : ℕ) (text : List ℕ) → (limit < length text) ⊎ (length text ≤ limit)
+      → value_within read limit (take (limit + 1) text) ≡ value_within read limit text
+  value_within-front limit text (inr short) = ap (value_within read limit) (take_all (limit + 1) text (omega arith))
+  value_within-front limit text (inl long) =
+      let cut = length-take-le (limit + 1) text (omega arith) in
+      let before = lt-ltb limit (length (take (limit + 1) text)) (omega (arith, cut)) in
+      let after = lt-ltb limit (length text) long in
+      rw (before, after)
 
-whole_from-front : (text : List ℕ) → whole_from (take (trace_limit + 1) text) ≡ whole_from text
-unfolding whole_from
-whole_from-front text = whole_within-front trace_limit text (cases_lt trace_limit (length text))
+  value_from-front : (text : List ℕ) → value_from read (take (trace_limit + 1) text) ≡ value_from read text
+  unfolding value_from
+  value_from-front text = value_within-front trace_limit text (cases_lt trace_limit (length text))
 
-pub viewed-front : (view : View) (text : List ℕ) → viewed view (take (trace_limit + 1) text) ≡ viewed view text
-viewed-front view text = ap (with_slots_asked view.asked) (whole_from-front text)
+  -- a value that a text is, and what was read of it
 
--- A trace that can be shown, and what was read of it.
+  value_within-right : (limit : ℕ) (text : List ℕ) (value : Value) → length text ≤ limit → read text ≡ Ok value
+      → value_within read limit text ≡ Ok value
+  value_within-right limit text value short right = rw (le-ltb limit (length text) short, right) refl
 
-whole_within-right : (limit : ℕ) (text : List ℕ) (trace : WholeTrace) → length text ≤ limit → whole_in text ≡ Ok trace
-    → whole_within limit text ≡ Ok trace
-whole_within-right limit text trace short right = rw (le-ltb limit (length text) short, right) refl
+  value_from-right : (text : List ℕ) (value : Value) → length text ≤ trace_limit → read text ≡ Ok value
+      → value_from read text ≡ Ok value
+  unfolding value_from
+  value_from-right text value short right = value_within-right trace_limit text value short right
 
-whole_from-right : (text : List ℕ) (trace : WholeTrace) → length text ≤ trace_limit → whole_in text ≡ Ok trace
-    → whole_from text ≡ Ok trace
-unfolding whole_from
-whole_from-right text trace short right = whole_within-right trace_limit text trace short right
+  value_taken : (large : Bool) (found : Result Value ℕ) (value : Value)
+      → cond large (Err fault.TooLarge) (value_read found) ≡ Ok value → (large ≡ false) × (found ≡ Ok value)
+  value_taken false (Ok whole) value is = (refl, cc)
+  value_taken false (Err line) value is = absurd (cc)
+  value_taken true found value is = absurd (cc)
 
-with_slots-right : (asked : Option Span) (read : Result WholeTrace TraceFault) (trace : WholeTrace) → read ≡ Ok trace
-    → IsTrue (has_slots trace asked) → with_slots_asked asked read ≡ Ok trace
-with_slots-right asked read trace is slots = ap (with_slots_asked asked) is ∙ by_slots (has_slots trace asked) slots
-  where
-    by_slots : (b : Bool) → IsTrue b → cond b (Ok trace) (Err (fault.Slots (length trace.slots - 1))) ≡ Ok trace
-    by_slots true is = refl
-    by_slots false is = cc
+  value_from-taken : (text : List ℕ) (value : Value) → value_from read text ≡ Ok value
+      → (length text ≤ trace_limit) × (read text ≡ Ok value)
+  unfolding value_from
+  value_from-taken text value is =
+      let taken = value_taken (nat_lt trace_limit (length text)) (read text) value is in
+      (ltb-false trace_limit (length text) taken.0, taken.1)
 
-pub viewed-right : (view : View) (text : List ℕ) (trace : WholeTrace) → CanBeShown view.asked text trace
-    → viewed view text ≡ Ok trace
-viewed-right view text trace can =
-    with_slots-right view.asked (whole_from text) trace (whole_from-right text trace can.size can.whole) can.slots
+-- A view reads a text by its first bytes, and as a value exactly where that can be shown.
 
--- The other way round.
+module _ {Value : Type 0} (view : View Value) where
+  pub viewed-front : (text : List ℕ) → viewed view (take (trace_limit + 1) text) ≡ viewed view text
+  viewed-front text = ap (if_shown view) (value_from-front view.taken text)
 
-whole_taken : (large : Bool) (read : Result WholeTrace ℕ) (trace : WholeTrace)
-    → cond large (Err fault.TooLarge) (whole_read read) ≡ Ok trace → (large ≡ false) × (read ≡ Ok trace)
-whole_taken false (Ok whole) trace is = (refl, cc)
-whole_taken false (Err line) trace is = absurd (cc)
-whole_taken true read trace is = absurd (cc)
+  shown-right : (found : Result Value TextFault) (value : Value) → found ≡ Ok value → IsTrue (view.has value)
+      → if_shown view found ≡ Ok value
+  shown-right found value is has = ap (if_shown view) is ∙ by_has (view.has value) has
+    where
+      by_has : (b : Bool) → IsTrue b → cond b (Ok value) (Err (view.why value)) ≡ Ok value
+      by_has true is = refl
+      by_has false is = cc
 
-whole_from-taken : (text : List ℕ) (trace : WholeTrace) → whole_from text ≡ Ok trace
-    → (length text ≤ trace_limit) × (whole_in text ≡ Ok trace)
-unfolding whole_from
-whole_from-taken text trace is =
-    let taken = whole_taken (nat_lt trace_limit (length text)) (whole_in text) trace is in
-    (ltb-false trace_limit (length text) taken.0, taken.1)
+  pub viewed-right : (text : List ℕ) (value : Value) → CanBeShown view text value → viewed view text ≡ Ok value
+  viewed-right text value can =
+      shown-right (value_from view.taken text) value (value_from-right view.taken text value can.size can.whole) can.slots
 
-has-taken : (asked : Option Span) (whole trace : WholeTrace) (slots : Bool) → has_slots whole asked ≡ slots
-    → cond slots (Ok whole) (Err (fault.Slots (length whole.slots - 1))) ≡ Ok trace
-    → (whole ≡ trace) × IsTrue (has_slots trace asked)
-has-taken asked whole trace true are is =
-    let same : whole ≡ trace = cc in (same, ap (λ (w : WholeTrace). has_slots w asked) (sym same) ∙ are)
-has-taken asked whole trace false are is = absurd (cc)
+  -- the other way round
 
-with_slots-taken : (asked : Option Span) (read : Result WholeTrace TraceFault) (trace : WholeTrace)
-    → with_slots_asked asked read ≡ Ok trace → (read ≡ Ok trace) × IsTrue (has_slots trace asked)
-with_slots-taken asked (Ok whole) trace is =
-    let taken = has-taken asked whole trace (has_slots whole asked) refl is in
-    (ap (λ (w : WholeTrace). Ok w) taken.0, taken.1)
-with_slots-taken asked (Err f) trace is = absurd (cc)
+  has-taken : (found value : Value) (has : Bool) → view.has found ≡ has
+      → cond has (Ok found) (Err (view.why found)) ≡ Ok value → (found ≡ value) × IsTrue (view.has value)
+  has-taken found value true are is = let same : found ≡ value = cc in (same, ap view.has (sym same) ∙ are)
+  has-taken found value false are is = absurd (cc)
 
-pub viewed-taken : (view : View) (text : List ℕ) (trace : WholeTrace) → viewed view text ≡ Ok trace
-    → CanBeShown view.asked text trace
-viewed-taken view text trace is =
-    let read = with_slots-taken view.asked (whole_from text) trace is in
-    let whole = whole_from-taken text trace read.0 in
-    record { size = whole.0; whole = whole.1; slots = read.1 }
+  shown-taken : (found : Result Value TextFault) (value : Value) → if_shown view found ≡ Ok value
+      → (found ≡ Ok value) × IsTrue (view.has value)
+  shown-taken (Ok found) value is =
+      let taken = has-taken found value (view.has found) refl is in
+      (ap (λ (v : Value). Ok v) taken.0, taken.1)
+  shown-taken (Err f) value is = absurd (cc)
+
+  pub viewed-taken : (text : List ℕ) (value : Value) → viewed view text ≡ Ok value → CanBeShown view text value
+  viewed-taken text value is =
+      let read = shown-taken (value_from view.taken text) value is in
+      let whole = value_from-taken view.taken text value read.0 in
+      record { size = whole.0; whole = whole.1; slots = read.1 }

@@ -3,7 +3,6 @@ use Rattle.std.proofs.Common.{◌≡◌, ◌⊎◌, ℕ, ◌≤◌, List, [], �
 use Rattle.std.proofs.Common.{inl, inr, arith}
 use Rattle.ttp_base.specs.Outside.{Held, Load, Gives, HasRisen, Wrote, WroteLines, CutShort}
 use Rattle.ttp_base.specs.Text.{Lines}
-use Rattle.whole_trace.specs.Whole.{WholeTrace}
 use Rattle.commands.specs.Outcome.{Showed}
 use Rattle.commands.specs.Plan.{Outside, ends, Comes, told_ending}
 use Rattle.commands.specs.Promise.{Promise as CallPromise}
@@ -11,22 +10,22 @@ use Rattle.commands.specs.Read.{trace_limit}
 use Rattle.commands.proofs.Plans.{AllAsk, end_comes}
 use Rattle.commands.proofs.Right.{may_be}
 use Rattle.commands.proofs.Told.{Quiet, told_shows, told_cut}
-use Rattle.lab_top.specs.declared.refusal.TraceFault.{TraceFault}
+use Rattle.lab_top.specs.declared.refusal.TextFault.{TextFault}
 use Rattle.lab_top.specs.Forms.{viewed_ending, view_plan}
-use Rattle.lab_top.specs.Refusals.{trace_fault_line}
+use Rattle.lab_top.specs.Refusals.{text_fault_line}
 use Rattle.lab_top.specs.Texts.{LabEnding, LabAnswer, ttplab}
-use Rattle.lab_top.specs.ViewPromise.{CanBeShown, WroteView, ToldWhy, HoldsText, WroteOrNone, ViewPromise}
-use Rattle.lab_top.specs.Views.{View, viewed}
+use Rattle.lab_top.specs.ViewPromise.{WroteView, ToldWhy, HoldsText, WroteOrNone, ViewPromise}
+use Rattle.lab_top.specs.Views.{View, CanBeShown, viewed}
 use Rattle.lab_top.proofs.Refusals.{viewed-front, viewed-right, viewed-taken}
 
 -- the text that was loaded, and the ending that it comes to
-record Came (view : View) (held : Held) (ending : LabEnding) : Type 0 where
+record Came {Value : Type 0} (view : View Value) (held : Held) (ending : LabEnding) : Type 0 where
   text : List ℕ
   gives : Gives held trace_limit text
   same : viewed_ending view (viewed view text) ≡ ending
 
-came : (view : View) (name : List ℕ) (held : List ℕ → Held) (loads : List Load) (ending : LabEnding)
-    → Comes held (view_plan view name) loads (ends ending) → Came view (held name) ending
+came : {Value : Type 0} (view : View Value) (name : List ℕ) (held : List ℕ → Held) (loads : List Load)
+    (ending : LabEnding) → Comes held (view_plan view name) loads (ends ending) → Came view (held name) ending
 came view name held [] ending comes = absurd (cc)
 came view name held (load ∷ loads) ending comes = record {
   text = comes.1.0;
@@ -34,9 +33,9 @@ came view name held (load ∷ loads) ending comes = record {
   same = end_comes held loads (viewed_ending view (viewed view comes.1.0)) ending comes.1.2;
 }
 
-module _ (view : View) (name : List ℕ) (before now : Outside) (answer : LabAnswer)
+module _ {Value : Type 0} (view : View Value) (name : List ℕ) (before now : Outside) (answer : LabAnswer)
     (call : CallPromise ttplab (view_plan view name) before now answer) where
-  abbrev ShowedBy : Result WholeTrace TraceFault → Type 0
+  abbrev ShowedBy : Result Value TextFault → Type 0
   ShowedBy read = Showed ttplab (viewed_ending view read) before.output now.output answer
 
   -- what was read of the text, and shown by that
@@ -54,83 +53,83 @@ module _ (view : View) (name : List ℕ) (before now : Outside) (answer : LabAns
         showed = subst (λ (e : LabEnding). Showed ttplab e before.output now.output answer) (sym c.same) final.2;
       }
 
-  wrote : (trace : WholeTrace) → ShowedBy (Ok trace) → WroteLines before.output now.output (view.lines trace)
-  wrote trace showed = subst (λ (lines : Lines). WroteLines before.output now.output lines) showed.text.among showed.text.wrote
+  wrote : (value : Value) → ShowedBy (Ok value) → WroteLines before.output now.output (view.lines value)
+  wrote value showed = subst (λ (lines : Lines). WroteLines before.output now.output lines) showed.text.among showed.text.wrote
 
-  wrote_line : (fault : TraceFault) → ShowedBy (Err fault)
-      → WroteLines before.output now.output (trace_fault_line fault ∷ [])
+  wrote_line : (fault : TextFault) → ShowedBy (Err fault)
+      → WroteLines before.output now.output (text_fault_line view.kind fault ∷ [])
   wrote_line fault showed =
       subst (λ (lines : Lines). WroteLines before.output now.output lines) showed.text.among showed.text.wrote
 
   -- by the status
 
-  shown_by : (s : ShowedOf) (read : Result WholeTrace TraceFault) → viewed view s.text ≡ read → ShowedBy read
+  shown_by : (s : ShowedOf) (read : Result Value TextFault) → viewed view s.text ≡ read → ShowedBy read
       → answer.status ≡ 0 → WroteView view name before now
-  shown_by s (Ok trace) is showed zero =
-      let can = viewed-taken view s.text trace is in record {
+  shown_by s (Ok value) is showed zero =
+      let can = viewed-taken view s.text value is in record {
         text = s.text;
-        trace = trace;
+        value = value;
         file = may_be (before.files.held name) trace_limit s.text s.gives can.size;
         can = can;
-        wrote = wrote trace showed;
+        wrote = wrote value showed;
       }
   shown_by s (Err fault) is showed zero = absurd (omega (arith, showed.status, zero))
 
-  refused_by : (s : ShowedOf) (read : Result WholeTrace TraceFault) → viewed view s.text ≡ read → ShowedBy read
+  refused_by : (s : ShowedOf) (read : Result Value TextFault) → viewed view s.text ≡ read → ShowedBy read
       → answer.status ≡ 4 → ToldWhy view name before now
-  refused_by s (Ok trace) is showed four = absurd (omega (arith, showed.status, four))
+  refused_by s (Ok value) is showed four = absurd (omega (arith, showed.status, four))
   refused_by s (Err fault) is showed four =
       record { text = s.text; gives = s.gives; fault = fault; wrong = is; wrote = wrote_line fault showed }
 
   -- over a text that is told
   module _ (text : List ℕ) (file : HoldsText name before now text) where
-    told : (read : Result WholeTrace TraceFault) → viewed view text ≡ read
+    told : (read : Result Value TextFault) → viewed view text ≡ read
         → told_ending before.files.held (view_plan view name) ≡ Some (viewed_ending view read)
     told read is = rw (file.file, viewed-front view text, is) refl
 
     quiet : AllAsk (Quiet before now) (view_plan view name)
     quiet = (file.quiet, λ bytes. tt)
 
-    shows : (read : Result WholeTrace TraceFault) → viewed view text ≡ read
+    shows : (read : Result Value TextFault) → viewed view text ≡ read
         → ¬ HasRisen before.output.faults now.output.faults → ShowedBy read ⊎ (answer.status ≡ 7)
     shows read is sink =
         told_shows ttplab (view_plan view name) before now answer (viewed_ending view read) call (told read is) quiet sink
 
-    completed : (trace : WholeTrace) → (answer.status ≡ 7 → Wrote before.output now.output [])
-        → ¬ HasRisen before.output.faults now.output.faults → CanBeShown view.asked text trace
-        → WroteOrNone 0 (view.lines trace) before.output now.output answer.status
-    completed trace empty sink can =
-        elim (shows (Ok trace) (viewed-right view text trace can) sink) [
-          | inl showed ↦ inl (showed.status, wrote trace showed)
+    completed : (value : Value) → (answer.status ≡ 7 → Wrote before.output now.output [])
+        → ¬ HasRisen before.output.faults now.output.faults → CanBeShown view text value
+        → WroteOrNone 0 (view.lines value) before.output now.output answer.status
+    completed value empty sink can =
+        elim (shows (Ok value) (viewed-right view text value can) sink) [
+          | inl showed ↦ inl (showed.status, wrote value showed)
           | inr seven ↦ inr (seven, empty seven)
         ]
 
-    line_told : (fault : TraceFault) → (answer.status ≡ 7 → Wrote before.output now.output [])
+    line_told : (fault : TextFault) → (answer.status ≡ 7 → Wrote before.output now.output [])
         → ¬ HasRisen before.output.faults now.output.faults → viewed view text ≡ Err fault
-        → WroteOrNone 4 (trace_fault_line fault ∷ []) before.output now.output answer.status
+        → WroteOrNone 4 (text_fault_line view.kind fault ∷ []) before.output now.output answer.status
     line_told fault empty sink is =
         elim (shows (Err fault) is sink) [
           | inl showed ↦ inl (showed.status, wrote_line fault showed)
           | inr seven ↦ inr (seven, empty seven)
         ]
 
-    cut_view : (trace : WholeTrace) → CanBeShown view.asked text trace → answer.status ≡ 6
-        → CutShort before.output now.output (view.lines trace)
-    cut_view trace can six =
-        let cut = told_cut ttplab (view_plan view name) before now answer (viewed_ending view (Ok trace)) call
-        (told (Ok trace) (viewed-right view text trace can)) quiet six in
+    cut_view : (value : Value) → CanBeShown view text value → answer.status ≡ 6
+        → CutShort before.output now.output (view.lines value)
+    cut_view value can six =
+        let cut = told_cut ttplab (view_plan view name) before now answer (viewed_ending view (Ok value)) call
+        (told (Ok value) (viewed-right view text value can)) quiet six in
         subst (λ (lines : Lines). CutShort before.output now.output lines) cut.among cut.cut
 
-    cut_said : (fault : TraceFault) → viewed view text ≡ Err fault → answer.status ≡ 6
-        → CutShort before.output now.output (trace_fault_line fault ∷ [])
+    cut_said : (fault : TextFault) → viewed view text ≡ Err fault → answer.status ≡ 6
+        → CutShort before.output now.output (text_fault_line view.kind fault ∷ [])
     cut_said fault is six =
         let cut = told_cut ttplab (view_plan view name) before now answer (viewed_ending view (Err fault)) call
         (told (Err fault) is) quiet six in
         subst (λ (lines : Lines). CutShort before.output now.output lines) cut.among cut.cut
 
-pub view_promise : (view : View) (name : List ℕ) (before now : Outside) (answer : LabAnswer)
-    → CallPromise ttplab (view_plan view name) before now answer → (answer.status ≡ 7 → Wrote before.output now.output [])
-    → ViewPromise view name before now answer.status
+pub view_promise : {Value : Type 0} (view : View Value) (name : List ℕ) (before now : Outside) (answer : LabAnswer)
+    → CallPromise ttplab (view_plan view name) before now answer
+    → (answer.status ≡ 7 → Wrote before.output now.output []) → ViewPromise view name before now answer.status
 view_promise view name before now answer call empty = record {
   shown = λ zero.
       let s = showed_of view name before now answer call (omega (arith, zero)) in
@@ -138,8 +137,9 @@ view_promise view name before now answer call empty = record {
   refused = λ four.
       let s = showed_of view name before now answer call (omega (arith, four)) in
       refused_by view name before now answer call s (viewed view s.text) refl s.showed four;
-  complete = λ text trace file sink can. completed view name before now answer call text file trace empty sink can;
+  complete = λ text value file sink can.
+      completed view name before now answer call text file value empty sink can;
   told = λ text fault file sink is. line_told view name before now answer call text file fault empty sink is;
-  cut = λ text trace file can six. cut_view view name before now answer call text file trace can six;
+  cut = λ text value file can six. cut_view view name before now answer call text file value can six;
   cut_line = λ text fault file is six. cut_said view name before now answer call text file fault is six;
 }

@@ -3,29 +3,28 @@ use Rattle.std.specs.Prelude.{ℕ, List, Option, Some, None, Result, Ok, Err, co
 use Rattle.ttp_world.specs.declared.medl.Medl.{Medl}
 use Rattle.ttp_world.specs.declared.script.Script.{Script}
 use Rattle.campaign.specs.Lines.{campaign_lines}
-use Rattle.whole_trace.specs.Whole.{WholeTrace}
-use Rattle.commands.specs.Files.{trace_plan, both_plan}
-use Rattle.commands.specs.Plan.{whole_ending, line_ending, said_ending, ends}
+use Rattle.commands.specs.Files.{both_plan}
+use Rattle.commands.specs.Plan.{whole_ending, line_ending, said_ending, ends, asks}
 use Rattle.commands.specs.Texts.{one, those}
-use Rattle.lab_top.specs.declared.refusal.TraceFault.{TraceFault}
-use Rattle.lab_top.specs.Refusals.{refused_trace}
+use Rattle.lab_top.specs.declared.refusal.TextFault.{TextFault}
+use Rattle.lab_top.specs.Refusals.{refused_text}
 use Rattle.lab_top.specs.Texts.{begun, LabEnding, LabPlan}
-use Rattle.lab_top.specs.Views.{View, wave_view, picture_view, viewed}
-use Rattle.lab_top.specs.Words.{LabForm, wave, picture, campaign}
+use Rattle.lab_top.specs.Views.{View, text_file, viewed, wave_view, picture_view, chart_view}
+use Rattle.lab_top.specs.Words.{LabForm, wave, picture, campaign, chart}
 
 -- the line that answers words of no form
 abbrev pub lab_usage_line : List ℕ
 lab_usage_line =
-    codes "usage: wave TRACE | picture TRACE [FIRST LAST] | campaign LIST SCRIPT FIRST LAST\n"
+    codes "usage: wave TRACE | picture TRACE [FIRST LAST] | campaign LIST SCRIPT FIRST LAST | chart CAMPAIGN [FIRST LAST]\n"
 
 -- a view ends with its lines, or with the line that says why a text is not shown
-abbrev pub viewed_ending : View → Result WholeTrace TraceFault → LabEnding
-viewed_ending view (Ok trace) = whole_ending 0 (one (view.lines trace))
-viewed_ending view (Err fault) = said_ending (refused_trace fault)
+abbrev pub viewed_ending : {Value : Type 0} → View Value → Result Value TextFault → LabEnding
+viewed_ending view (Ok value) = whole_ending 0 (one (view.lines value))
+viewed_ending view (Err fault) = said_ending (refused_text view.kind fault)
 
--- a view asks for the file of its trace
-abbrev pub view_plan : View → List ℕ → LabPlan
-view_plan view trace = trace_plan trace (λ text. ends (viewed_ending view (viewed view text)))
+-- it asks for the file of its text
+abbrev pub view_plan : {Value : Type 0} → View Value → List ℕ → LabPlan
+view_plan view name = asks (text_file view.kind name) (λ text. ends (viewed_ending view (viewed view text)))
 
 -- a campaign ends with its lines, and takes memory before each
 abbrev pub campaign_ending : Medl → Script → ℕ → ℕ → LabEnding
@@ -44,3 +43,4 @@ lab_plan_of None = ends (line_ending 2 lab_usage_line)
 lab_plan_of (Some (wave trace)) = view_plan wave_view trace
 lab_plan_of (Some (picture trace asked)) = view_plan (picture_view asked) trace
 lab_plan_of (Some (campaign list script first last)) = campaign_plan list script first last
+lab_plan_of (Some (chart name asked)) = view_plan (chart_view asked) name

@@ -1,52 +1,39 @@
 -- What a text is read as, and the line that refuses one that can't be shown.
-use Rattle.std.specs.Prelude.{ℕ, ◌-◌, nat_le, nat_lt, Bool, true, ◌&&◌, List, ◌++◌, length, codes, decimal, Option, Some, None}
-use Rattle.std.specs.Prelude.{Result, Ok, Err, if◌then◌else◌}
+use Rattle.std.specs.Prelude.{ℕ, nat_lt, List, ◌++◌, length, codes, decimal, Result, Ok, Err, if◌then◌else◌}
 use Rattle.ttp_base.specs.Text.{newline}
-use Rattle.whole_trace.specs.Whole.{WholeTrace, whole_in}
-use Rattle.picture_text.specs.declared.window.Span.{Span}
 use Rattle.commands.specs.Lines.{Notice, notice}
 use Rattle.commands.specs.Read.{trace_limit}
-use Rattle.lab_top.specs.declared.refusal.TraceFault.{TraceFault}
-use Rattle.lab_top.specs.declared.refusal.TraceFault.TheVariants as fault
+use Rattle.lab_top.specs.declared.refusal.TextFault.{TextFault}
+use Rattle.lab_top.specs.declared.refusal.TextFault.TheVariants as fault
 
 -- The line.
 
 -- what is wrong with a text
-abbrev pub trace_fault_text : TraceFault → List ℕ
-trace_fault_text fault.TooLarge = codes "too large"
-trace_fault_text (fault.Line number) = codes "line " ++ decimal number
-trace_fault_text (fault.Slots last) = codes "slots 0 to " ++ decimal last
+abbrev pub text_fault : TextFault → List ℕ
+text_fault fault.TooLarge = codes "too large"
+text_fault (fault.Line number) = codes "line " ++ decimal number
+text_fault (fault.Slots last) = codes "slots 0 to " ++ decimal last
+text_fault fault.NoSlot = codes "no slot to show"
 
--- the line that says why a text is not shown
-unfoldable pub trace_fault_line : TraceFault → List ℕ
-trace_fault_line fault = codes "trace: " ++ trace_fault_text fault ++ newline
+-- the line that says why a text of this kind is not shown
+unfoldable pub text_fault_line : List ℕ → TextFault → List ℕ
+text_fault_line kind fault = kind ++ codes ": " ++ text_fault fault ++ newline
 
 -- it is said with status 4
-abbrev pub refused_trace : TraceFault → Notice
-refused_trace fault = notice 4 (trace_fault_line fault)
+abbrev pub refused_text : List ℕ → TextFault → Notice
+refused_text kind fault = notice 4 (text_fault_line kind fault)
 
 -- What is read.
 
 -- a line that is not due is a fault
-abbrev pub whole_read : Result WholeTrace ℕ → Result WholeTrace TraceFault
-whole_read (Ok trace) = Ok trace
-whole_read (Err line) = Err (fault.Line line)
+abbrev pub value_read : {Value : Type 0} → Result Value ℕ → Result Value TextFault
+value_read (Ok value) = Ok value
+value_read (Err line) = Err (fault.Line line)
 
 -- and so are more bytes than these
-abbrev pub whole_within : ℕ → List ℕ → Result WholeTrace TraceFault
-whole_within limit text = if nat_lt limit (length text) then Err fault.TooLarge else whole_read (whole_in text)
+abbrev pub value_within : {Value : Type 0} → (List ℕ → Result Value ℕ) → ℕ → List ℕ → Result Value TextFault
+value_within read limit text = if nat_lt limit (length text) then Err fault.TooLarge else value_read (read text)
 
--- the trace that a text is, unless it is too large or no trace
-unfoldable pub whole_from : List ℕ → Result WholeTrace TraceFault
-whole_from text = whole_within trace_limit text
-
--- whether a trace has the slots that are asked for: the first of them is one of its slots and not behind the last
-abbrev pub has_slots : WholeTrace → Option Span → Bool
-has_slots trace None = true
-has_slots trace (Some asked) = nat_le asked.first asked.last && nat_lt asked.first (length trace.slots)
-
--- the same, unless the trace lacks the slots that are asked for
-abbrev pub with_slots_asked : Option Span → Result WholeTrace TraceFault → Result WholeTrace TraceFault
-with_slots_asked asked (Ok trace) =
-    if has_slots trace asked then Ok trace else Err (fault.Slots (length trace.slots - 1))
-with_slots_asked asked (Err fault) = Err fault
+-- the value that a text is read as, unless it is too large or none
+unfoldable pub value_from : {Value : Type 0} → (List ℕ → Result Value ℕ) → List ℕ → Result Value TextFault
+value_from read text = value_within read trace_limit text

@@ -14,6 +14,8 @@ pub data LabForm : Type 0 where
   picture : (trace : List ℕ) (asked : Option Span) → LabForm
   -- the campaign of the script of this name for the list of this name, over the slots from the first to the last
   campaign : (list script : List ℕ) (first last : ℕ) → LabForm
+  -- the chart of the campaign of this name, of the slots that are asked for, or else of those that are chosen
+  chart : (name : List ℕ) (asked : Option Span) → LabForm
 
 abbrev pub is_campaign : Option LabForm → Bool
 is_campaign (Some (campaign list script first last)) = true
@@ -27,10 +29,10 @@ slot_digits = 5
 abbrev pub slot_named : List ℕ → Option ℕ
 slot_named word = numeral_named slot_digits word
 
--- the picture of the slots that two words name, if both name one
-abbrev pub picture_of_slots : List ℕ → Option ℕ → Option ℕ → Option LabForm
-picture_of_slots trace (Some first) (Some last) = Some (picture trace (Some (record { first = first; last = last })))
-picture_of_slots trace _ _ = None
+-- a form with the slots that two words name, if both name one
+abbrev pub form_of_slots : (Option Span → LabForm) → Option ℕ → Option ℕ → Option LabForm
+form_of_slots form (Some first) (Some last) = Some (form (Some (record { first = first; last = last })))
+form_of_slots form _ _ = None
 
 -- the most digits of a slot that ends a range
 abbrev pub bound_digits : ℕ
@@ -48,11 +50,13 @@ campaign_of_range list script _ _ = None
 
 -- the form that words have, if they have one
 abbrev pub lab_form_of : List (List ℕ) → Option LabForm
-lab_form_of (verb ∷ trace ∷ []) =
-    if bytes_eq verb (codes "wave") then Some (wave trace)
-    else (if bytes_eq verb (codes "picture") then Some (picture trace None) else None)
-lab_form_of (verb ∷ trace ∷ first ∷ last ∷ []) =
-    if bytes_eq verb (codes "picture") then picture_of_slots trace (slot_named first) (slot_named last) else None
+lab_form_of (verb ∷ text ∷ []) =
+    if bytes_eq verb (codes "wave") then Some (wave text)
+    else (if bytes_eq verb (codes "picture") then Some (picture text None)
+    else (if bytes_eq verb (codes "chart") then Some (chart text None) else None))
+lab_form_of (verb ∷ text ∷ first ∷ last ∷ []) =
+    if bytes_eq verb (codes "picture") then form_of_slots (picture text) (slot_named first) (slot_named last)
+    else (if bytes_eq verb (codes "chart") then form_of_slots (chart text) (slot_named first) (slot_named last) else None)
 lab_form_of (verb ∷ list ∷ script ∷ first ∷ last ∷ []) =
     if bytes_eq verb (codes "campaign") then campaign_of_range list script (bound_named first) (bound_named last) else None
 lab_form_of _ = None
@@ -62,4 +66,5 @@ abbrev pub lab_form_asked : Command → Option LabForm
 lab_form_asked (command.Wave trace) = Some (wave trace.now)
 lab_form_asked (command.Picture trace asked) = Some (picture trace.now asked)
 lab_form_asked (command.Campaign list script first last) = Some (campaign list.now script.now first last)
+lab_form_asked (command.Chart name asked) = Some (chart name.now asked)
 lab_form_asked command.NoForm = None

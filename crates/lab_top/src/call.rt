@@ -9,9 +9,10 @@ ghost use Rattle.lab_top.specs.CampaignPromise.{CampaignPromise};
 ghost use Rattle.lab_top.specs.Forms.{lab_plan_of};
 ghost use Rattle.lab_top.specs.Promise.{LabPromise};
 ghost use Rattle.lab_top.specs.Texts.{ttplab};
-ghost use Rattle.lab_top.specs.ViewPromise.{WavePromise, PicturePromise};
-ghost use Rattle.lab_top.specs.Words.{wave, picture, campaign, lab_form_of, lab_form_asked};
+ghost use Rattle.lab_top.specs.ViewPromise.{WavePromise, PicturePromise, ChartPromise};
+ghost use Rattle.lab_top.specs.Words.{wave, picture, campaign, chart, lab_form_of, lab_form_asked};
 
+use crate::chart::chart;
 use crate::faults::campaign;
 use crate::picture::picture;
 use crate::wave::wave;
@@ -22,7 +23,7 @@ use std::thread::Threads;
 use ttp_base::{Library, Sink};
 
 const USAGE: &str =
-    "usage: wave TRACE | picture TRACE [FIRST LAST] | campaign LIST SCRIPT FIRST LAST\n";
+    "usage: wave TRACE | picture TRACE [FIRST LAST] | campaign LIST SCRIPT FIRST LAST | chart CAMPAIGN [FIRST LAST]\n";
 
 // What the words ask for.
 fn obey<R: Threads + Sync, L: Library, K: Sink>(
@@ -46,28 +47,32 @@ fn obey<R: Threads + Sync, L: Library, K: Sink>(
             first,
             last,
         } => campaign(rt, alloc, list, script, first, last, library, out),
+        Command::Chart { campaign, asked } => chart(alloc, campaign, asked, library, out),
         Command::NoForm => say(out, USAGE.as_bytes(), 2),
     }
 }
 
 /// Does what the words spell, and answers its status. The words are those after the program's name.
 ///
-/// There are three forms. `wave TRACE` writes a waveform, a text in the format VCD that wave viewers read, and
+/// There are four forms. `wave TRACE` writes a waveform, a text in the format VCD that wave viewers read, and
 /// `picture TRACE [FIRST LAST]` a picture, a text in the format SVG that browsers show, of the slots from FIRST
 /// to LAST, or else of those that are chosen. These FIRST and LAST are 1 to 5 decimal digits. What is taken for
 /// a trace says `whole_in` of whole_trace: its form is asked for, and not whether it is right.
 /// `campaign LIST SCRIPT FIRST LAST` runs the list with the script, and with each single fault more that is
 /// tried in the slots from FIRST to LAST, and writes a line on what each run cost. These are 1 to 9 decimal
-/// digits, and FIRST is not past LAST.
+/// digits, and FIRST is not past LAST. `chart CAMPAIGN [FIRST LAST]` writes a picture of what each fault of a
+/// campaign cost, or of several that follow each other, of the slots from FIRST to LAST, or else of those that are
+/// chosen, as for `picture`. What is taken for a campaign says `campaign_in` of whole_campaign.
 ///
 /// | status | comes | what is written |
 /// |---|---|---|
-/// | 0 | the file is a trace that has the slots; the files are a list and a script for it | the view; the campaign |
+/// | 0 | the file is a trace, or for `chart` a campaign, that has the slots; the files are a list and a script for it | the view; the campaign |
 /// | 2 | exactly where the words have no form | the usage line |
 /// | 3 | for `campaign`, exactly where the list is longer than 1,048,576 bytes or refused | a line that begins `list: ` |
 /// | 4 | for a view, exactly where the text is longer than 134,217,728 bytes, is no trace, or lacks the slots | `trace: too large`, `trace: line N` with its first line that is not due or is missing, or `trace: slots 0 to L` with its last slot |
+/// | 4 | for `chart`, exactly where the text is longer than that, is no campaign, or no slot is to be shown | `campaign: too large`, `campaign: line N`, or `campaign: no slot to show` |
 /// | 4 | for `campaign`, exactly where the script is longer than 1,048,576 bytes or refused | a line that begins `script: ` |
-/// | 5 | only where the count of the file's name rose, and no earlier refusal came | `load: trace`, `load: list` or `load: script` |
+/// | 5 | only where the count of the file's name rose, and no earlier refusal came | `load: trace`, `load: campaign`, `load: list` or `load: script` |
 /// | 6 | only where the sink's count rose | so many whole lines of a text that was due, and a front of the next |
 /// | 7 | want of memory | nothing, or for `campaign` some whole lines of it, fewer than all |
 ///
@@ -106,6 +111,11 @@ pub fn lab<R: Threads + Sync, L: Library, K: Sink>(
     ensures campaign { (list script : List ℕ) (first last : ℕ)
         → lab_form_of (texts_of words.now) ≡ Some (campaign list script first last)
         → CampaignPromise list script first last (outside (L.files library.old) (K.output out.old))
+        (outside (L.files library.new) (K.output out.new)) result }
+    // For `chart`, in its own words, as for `picture`, of a campaign: status 0 is exactly the chart of the campaign that the
+    // file holds, of the slots that are asked for, or else of those that are chosen.
+    ensures chart { (name : List ℕ) (asked : Option Span) → lab_form_of (texts_of words.now) ≡ Some (chart name asked)
+        → ChartPromise name asked (outside (L.files library.old) (K.output out.old))
         (outside (L.files library.new) (K.output out.new)) result }
 {
     obey(rt, alloc, command_of(words), library, out)

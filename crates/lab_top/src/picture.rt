@@ -1,18 +1,37 @@
 //! The command `picture TRACE [FIRST LAST]`.
-ghost use Rattle.std.specs.Prelude.{Some};
+ghost use Rattle.std.specs.Prelude.{◌≡◌, Some, IfOk, IsTrue};
 ghost use Rattle.commands.specs.Outcome.{Follows, Shows};
 ghost use Rattle.commands.specs.Plan.{outside};
 ghost use Rattle.commands.specs.Texts.{alone};
 ghost use Rattle.lab_top.specs.Forms.{viewed_ending, lab_plan_of};
 ghost use Rattle.lab_top.specs.Texts.{ttplab};
-ghost use Rattle.lab_top.specs.Views.{picture_view, viewed};
+ghost use Rattle.lab_top.specs.Views.{picture_view, has_slots, viewed};
 ghost use Rattle.lab_top.specs.Words.{picture};
 
-use crate::refusal::{refuse, with_slots_asked};
+use crate::refusal::{TextFault, refuse_trace, trace_from};
 use commands::load_trace;
 use picture_text::{Span, put_picture};
 use std::alloc::Global;
 use ttp_base::{Library, Sink};
+use whole_trace::Whole;
+
+// The trace that a text is, if it has the slots that are asked for.
+fn with_slots_asked<'a>(asked: Option<Span>, text: &'a [u8]) -> Result<Whole<'a>, TextFault>
+    ensures value { result ≡ viewed (picture_view asked) text.now }
+    ensures slots { IfOk result (λ trace. IsTrue (has_slots trace asked)) }
+{
+    let trace = match trace_from(text) {
+        Ok(trace) => trace,
+        Err(fault) => return Err(fault),
+    };
+    let slots = trace.head().slots;
+    match asked {
+        Some(span) if span.last < span.first || slots <= span.first => Err(TextFault::Slots {
+            last: slots - 1,
+        }),
+        _ => Ok(trace),
+    }
+}
 
 // The picture of a text, if it is a trace with the slots that are asked for.
 fn show_picture<K: Sink>(text: &[u8], asked: Option<Span>, out: &mut K) -> u8
@@ -24,7 +43,7 @@ fn show_picture<K: Sink>(text: &[u8], asked: Option<Span>, out: &mut K) -> u8
             Ok(()) => 0,
             Err(_) => 6,
         },
-        Err(fault) => refuse(out, fault),
+        Err(fault) => refuse_trace(out, fault),
     }
 }
 

@@ -8,7 +8,7 @@ ghost use Rattle.lab_top.specs.Texts.{ttplab};
 ghost use Rattle.lab_top.specs.Views.{wave_view, viewed};
 ghost use Rattle.lab_top.specs.Words.{wave};
 
-use crate::refusal::{refuse, with_slots_asked};
+use crate::refusal::{refuse_trace, trace_from};
 use commands::load_trace;
 use std::alloc::Global;
 use ttp_base::{Library, Sink};
@@ -19,13 +19,13 @@ fn show_wave<K: Sink>(alloc: Global, text: &[u8], out: &mut K) -> u8
     ensures { Shows ttplab (viewed_ending wave_view (viewed wave_view text.now)) (K.output out.old) (K.output out.new)
         (alone result) }
 {
-    match with_slots_asked(None, text) {
+    match trace_from(text) {
         Ok(trace) => match put_wave(alloc, &trace, out) {
             Ok(()) => 0,
             Err(WaveFault::Failed) => 6,
             Err(WaveFault::Memory) => 7,
         },
-        Err(fault) => refuse(out, fault),
+        Err(fault) => refuse_trace(out, fault),
     }
 }
 

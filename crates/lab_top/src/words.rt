@@ -1,8 +1,8 @@
 //! The forms of a call's words.
 ghost use Rattle.std.specs.Prelude.{◌≡◌, [], ◌∷◌};
 ghost use Rattle.commands.specs.Words.{texts_of};
-ghost use Rattle.lab_top.specs.Words.{slot_named, picture_of_slots, bound_named, campaign_of_range};
-ghost use Rattle.lab_top.specs.Words.{lab_form_of, lab_form_asked};
+ghost use Rattle.lab_top.specs.Words.{slot_named, form_of_slots, bound_named, campaign_of_range};
+ghost use Rattle.lab_top.specs.Words.{lab_form_of, lab_form_asked, picture, chart};
 
 use commands::numeral_named;
 use picture_text::Span;
@@ -26,6 +26,11 @@ pub(crate) enum Command<'a> {
         first: u32,
         last: u32,
     },
+    /// The chart of the campaign of this name, of these slots, or of those that are chosen.
+    Chart {
+        campaign: &'a str,
+        asked: Option<Span>,
+    },
     /// Nothing: the words have no form.
     NoForm,
 }
@@ -42,19 +47,6 @@ fn slot_named(word: &[u8]) -> Option<u32>
 {
     let slot = numeral_named(word, SLOT_DIGITS)?;
     Some(slot as u32)
-}
-
-// The picture that is asked for by words for its first and its last slot.
-fn picture_of_slots<'a>(trace: &'a str, first: &str, last: &str) -> Command<'a>
-    ensures { lab_form_asked result ≡ picture_of_slots trace.now (slot_named first.now) (slot_named last.now) }
-{
-    match (slot_named(first.as_bytes()), slot_named(last.as_bytes())) {
-        (Some(first), Some(last)) => Command::Picture {
-            trace,
-            asked: Some(Span { first, last }),
-        },
-        _ => Command::NoForm,
-    }
 }
 
 // The slot that a word names, as an end of a range.
@@ -82,22 +74,56 @@ fn campaign_of_range<'a>(list: &'a str, script: &'a str, first: &str, last: &str
 }
 
 // The command of two words.
-fn trace_command<'a>(verb: &str, trace: &'a str) -> Command<'a>
-    ensures { lab_form_asked result ≡ lab_form_of (verb.now ∷ trace.now ∷ []) }
+fn text_command<'a>(verb: &str, text: &'a str) -> Command<'a>
+    ensures { lab_form_asked result ≡ lab_form_of (verb.now ∷ text.now ∷ []) }
 {
     match verb {
-        "wave" => Command::Wave { trace },
-        "picture" => Command::Picture { trace, asked: None },
+        "wave" => Command::Wave { trace: text },
+        "picture" => Command::Picture {
+            trace: text,
+            asked: None,
+        },
+        "chart" => Command::Chart {
+            campaign: text,
+            asked: None,
+        },
+        _ => Command::NoForm,
+    }
+}
+
+// The picture that is asked for by words for its first and its last slot.
+fn picture_of_slots<'a>(trace: &'a str, first: &str, last: &str) -> Command<'a>
+    ensures { lab_form_asked result ≡ form_of_slots (picture trace.now) (slot_named first.now) (slot_named last.now) }
+{
+    match (slot_named(first.as_bytes()), slot_named(last.as_bytes())) {
+        (Some(first), Some(last)) => Command::Picture {
+            trace,
+            asked: Some(Span { first, last }),
+        },
+        _ => Command::NoForm,
+    }
+}
+
+// The chart that is asked for by words for its first and its last slot.
+fn chart_of_slots<'a>(campaign: &'a str, first: &str, last: &str) -> Command<'a>
+    ensures { lab_form_asked result ≡ form_of_slots (chart campaign.now) (slot_named first.now) (slot_named last.now) }
+{
+    match (slot_named(first.as_bytes()), slot_named(last.as_bytes())) {
+        (Some(first), Some(last)) => Command::Chart {
+            campaign,
+            asked: Some(Span { first, last }),
+        },
         _ => Command::NoForm,
     }
 }
 
 // The command of four words.
-fn slots_command<'a>(verb: &str, trace: &'a str, first: &str, last: &str) -> Command<'a>
-    ensures { lab_form_asked result ≡ lab_form_of (verb.now ∷ trace.now ∷ first.now ∷ last.now ∷ []) }
+fn slots_command<'a>(verb: &str, text: &'a str, first: &str, last: &str) -> Command<'a>
+    ensures { lab_form_asked result ≡ lab_form_of (verb.now ∷ text.now ∷ first.now ∷ last.now ∷ []) }
 {
     match verb {
-        "picture" => picture_of_slots(trace, first, last),
+        "picture" => picture_of_slots(text, first, last),
+        "chart" => chart_of_slots(text, first, last),
         _ => Command::NoForm,
     }
 }
@@ -123,10 +149,10 @@ pub(crate) fn command_of(words: &[String]) -> Command<'_>
     ensures { lab_form_asked result ≡ lab_form_of (texts_of words.now) }
 {
     match words {
-        [verb, trace] => trace_command(verb.as_str(), trace.as_str()),
+        [verb, text] => text_command(verb.as_str(), text.as_str()),
         [_, _, _] => Command::NoForm,
-        [verb, trace, first, last] => {
-            slots_command(verb.as_str(), trace.as_str(), first.as_str(), last.as_str())
+        [verb, text, first, last] => {
+            slots_command(verb.as_str(), text.as_str(), first.as_str(), last.as_str())
         }
         [verb, list, script, first, last] => range_command(
             verb.as_str(),

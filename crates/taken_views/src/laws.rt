@@ -10,8 +10,7 @@ ghost use Rattle.ttp_world.specs.Trace.{trace_lines};
 ghost use Rattle.ttp_world.specs.World.{Numbers};
 ghost use Rattle.picture_text.specs.declared.window.Span.{Span as Slots};
 ghost use Rattle.taken_traces.specs.Taken.{IsOfBytes, trace_of_run};
-ghost use Rattle.lab_top.specs.Refusals.{has_slots};
-ghost use Rattle.lab_top.specs.ViewPromise.{CanBeShown};
+ghost use Rattle.lab_top.specs.Views.{picture_view, has_slots, CanBeShown};
 
 /// The text of a run can be shown, as the trace of the run, where it has the slots that are asked for. Where none
 /// are asked for it has them.
@@ -19,5 +18,5 @@ pub fn runs_can_be_shown()
     ensures { (list : Medl) (script : Script) (numbers : Numbers) (asked : Option Slots) → IsValid list
         → IsValidScript list script → All IsOfBytes script.events → IsLegalRun list script numbers
         → IsTrue (has_slots (trace_of_run list script numbers) asked)
-        → CanBeShown asked (concat (trace_lines list script numbers)) (trace_of_run list script numbers) }
+        → CanBeShown (picture_view asked) (concat (trace_lines list script numbers)) (trace_of_run list script numbers) }
 {}

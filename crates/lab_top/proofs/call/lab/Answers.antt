@@ -1,7 +1,7 @@
 use Rattle.std.proofs.Common.{Some, refl}
 use Rattle.commands.specs.Texts.{alone}
-use Rattle.lab_top.specs.Views.{wave_view, picture_view}
-use Rattle.lab_top.specs.Words.{wave, picture, campaign}
+use Rattle.lab_top.specs.Views.{wave_view, picture_view, chart_view}
+use Rattle.lab_top.specs.Words.{wave, picture, campaign, chart}
 use Rattle.lab_top.proofs.CampaignPromises.{campaign_promise}
 use Rattle.lab_top.proofs.Promises.{lab_promise}
 use Rattle.lab_top.proofs.Views.{view_promise}
@@ -32,3 +32,10 @@ returns-clause-campaign g c = λ list script first last form.
     (rw (c.command_of.ensures, form) at c.obey.ensures.follows)
     (rw (c.command_of.ensures, form) at c.obey.ensures.no_form) in
     campaign_promise list script first last _ _ (alone c.obey.result) p.call
+
+pub returns-clause-chart : goal.returns-clause-chart
+returns-clause-chart g c = λ name asked form.
+    let p = lab_promise (Some (chart name asked)) _ _ (alone c.obey.result)
+    (rw (c.command_of.ensures, form) at c.obey.ensures.follows)
+    (rw (c.command_of.ensures, form) at c.obey.ensures.no_form) in
+    view_promise (chart_view asked) name _ _ (alone c.obey.result) p.call (λ seven. p.empty seven refl)
