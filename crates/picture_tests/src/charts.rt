@@ -74,11 +74,8 @@ fn what_a_campaign_says(rt: HostRuntime) -> Result<(), Fail> {
         (22, 0, 0)
     );
     assert!(rt; fault.text.ends_with(b"fault receive 0 AB silence 22 22"));
-    let mut others: u32 = 0;
-    while faults.next_fault().is_some() {
-        others += 1;
-    }
-    assert_eq!(rt; others, 15);
+    let fault = faults.next_fault().ok_or("a second fault")?;
+    assert!(rt; fault.text.ends_with(b"fault receive 0 AB noise 22 22"));
     Ok(())
 }
 
