@@ -1,11 +1,18 @@
 //! What the lines of a campaign are worth.
 //!
-//! A line is read of one run of its script, in which frames carry zeros. [`laws::same_cost`] says that
-//! this is what every run by legal message numbers shows, and [`laws::yes_is_safe`] that a line whose test
-//! says yes shows nobody hurt and no memberships split: what safety promises, in the words of a campaign.
-//! [`laws::lines_are_safe`] says it of the text.
+//! A line is read of one run of its script, in which frames carry zeros. [`laws::same_cost`] says that this is what every run by
+//! legal message numbers shows, and [`laws::yes_is_safe`] that a line whose test says yes shows nobody hurt and no memberships
+//! split: what safety promises, in the words of a campaign. [`laws::lines_are_safe`] says it of the text, and the promise of
+//! `lab` has it from there (`safe` of `CampaignPromise`).
 //!
-//! The crate has no code that does anything: its functions are laws.
+//! A caller has a valid list and a valid script with room for one event more:
+//!
+//! ```text
+//! campaign_laws::laws::lines_are_safe(list, script);
+//! ```
+//!
+//! The crate has no code that does anything: its functions are laws. It says nothing of `end`: which memberships are left at the
+//! end of a run depends on how near its end a fault comes.
 #![tactic(auto)]
 
 pub mod laws;

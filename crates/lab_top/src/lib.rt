@@ -1,12 +1,21 @@
 //! The one call of `ttplab`: words in, bytes and a status out.
 //!
-//! [`lab`] takes the words of a command, a library that its files come from, and a sink that its output goes
-//! to. Its contract is the program's promise: the status and the bytes are a stated function of the words and
-//! of what the library tells, and the outside is blamed only where it is at fault.
+//! [`lab`] takes the words of a command, a library that its files come from, and a sink that its output goes to. Its contract is
+//! the program's promise: the status and the bytes are a stated function of the words and of what the library tells, and the
+//! outside is blamed only where it is at fault. The main function of ttplab calls it:
 //!
-//! It shows traces and campaigns, and knows nothing of what is right in one: it takes a text for one by its form.
-//! It has the crates below run campaigns, and knows nothing of what a node does. It never opens a file and never
-//! prints: that is the library's and the sink's part.
+//! ```text
+//! let mut out = WatchedSink::new(&rt, StreamSink::new(buffered));
+//! let status = lab(&rt, rt.alloc(), &words, &mut library, &mut out);
+//! ```
+//!
+//! A contract sees the call as the plan of its form (`specs/Forms.antt`), which commands carries out, and each form has a promise
+//! in its own words: the views of `specs/Views.antt` in `ViewPromise`, a campaign in `CampaignPromise`.
+//!
+//! It shows traces and campaigns, and knows nothing of what is right in one: it takes a text for one by its form. It has the
+//! crates below run campaigns, and knows nothing of what a node does. It never opens a file and never prints: that is the
+//! library's and the sink's part. The threads of a campaign are its only ones, and are gone when the call returns. Beside a text
+//! of at most 134,217,728 bytes it holds what the form needs, which doesn't grow with the text.
 #![tactic(auto)]
 
 mod call;

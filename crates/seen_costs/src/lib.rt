@@ -1,17 +1,19 @@
 //! What a run costs, from what is shown of its nodes after each slot.
 //!
-//! A [`SeenCost`] takes the states of all nodes, slot by slot, and then tells the cost:
+//! A [`SeenCost`] takes the states of all nodes, slot by slot, and then tells the cost. A contract sees what it has taken as
+//! so many slots of a script's run (`IsSeenOf` of `specs/Told.antt`). `SeenRun::step` of run_costs has it take a slot:
 //!
 //! ```text
-//! let mut seen = SeenCost::new(&list, &script);
-//! for slot in 0..script.slots {
-//!     seen.add(&list, &script, &states, slot);
-//! }
-//! let cost = seen.cost(alloc, &list, &states)?;
+//! self.run.step(list, script, slot);
+//! self.seen.add(list, script, self.run.states(list), slot);
 //! ```
 //!
-//! Beside the states goes the walk that tells the faulty nodes of each slot (hypothesis). The crate runs no
-//! cluster: whose states they are is the caller's.
+//! Beside the states goes the walk that tells the faulty nodes of each slot (hypothesis). What was taken of one script stands for
+//! another that says the same of all these slots: [`SeenCost::with_later`] takes over what was seen before one event more, and
+//! goes over who is faulty again.
+//!
+//! A slot costs its nodes. It is a plain value, which is copied where runs share their past, and takes memory for the cost that
+//! it tells alone. The crate runs no cluster: whose states they are is the caller's.
 #![tactic(auto, using(ttp_world::proofs::Lists::nodes))]
 
 mod faulty;

@@ -1,11 +1,13 @@
 //! What a trace shows of a slot, as both views of a trace speak of it.
 //!
-//! `specs/Nodes.antt` has what is said of nodes: which are active and which left, whether those whose members
-//! count agree, who sent, and how far clocks are apart. `specs/Ports.antt` has what hosts did: the newest
-//! message of each in a slot, and the most bytes of such a message in a whole trace. Each function of the
-//! crate is one of these words.
+//! `specs/Nodes.antt` has what is said of nodes: which are active and which left, whether those whose members count agree, who
+//! sent, and how far clocks are apart. `specs/Ports.antt` has what hosts did: the newest message of each in a slot, and the most
+//! bytes of such a message in a whole trace. Each function of the crate is one of these words, and a contract sees its answer as
+//! that word of a slot of whole_trace. `put_slot` of wave_text asks [`active_bits`] and [`left_bits`] of each slot, and the cells
+//! of picture_text ask [`has_left`].
 //!
-//! The crate reads no text and writes none, and takes no memory.
+//! A word costs at most its nodes and its hosts' lines. The crate reads no text and writes none, takes no memory, and shares
+//! nothing between threads.
 #![tactic(auto)]
 
 mod host;
