@@ -1,5 +1,5 @@
 -- What safety says of correct nodes after a slot, in the words of a campaign.
-use Rattle.std.proofs.Common.{◌≡◌, ℕ, suc, ◌+◌, ◌-◌, ◌<◌, ◌≤◌, Bool, true, false, cond, not, ◌&&◌, ◌||◌, List, [], ◌∷◌, ◌++◌}
+use Rattle.std.proofs.Common.{◌≡◌, ℕ, suc, ◌-◌, ◌<◌, Bool, true, false, cond, not, ◌&&◌, ◌||◌, List, [], ◌∷◌, ◌++◌}
 use Rattle.std.proofs.Common.{length, take, Option, Some, None, refl, ap, sym, ◌∙◌, subst, arith}
 use Rattle.std.specs.Prelude.{filter, find, reverse}
 use Rattle.std.specs.List.{list_all, list_any, AllByRecursion}
@@ -13,7 +13,7 @@ use Rattle.ttp_world.specs.declared.node.Entry.{Entry}
 use Rattle.ttp_world.specs.declared.script.Script.{Script}
 use Rattle.ttp_world.specs.BackSafety.{newest_arm, since_slot, is_left_after, has_left_since_arm, IsBackSafe}
 use Rattle.ttp_world.specs.Diary.{Diary, History, entry_of, diary_of}
-use Rattle.ttp_world.specs.Hypothesis.{nodes_of, numbers_of, faulty_after}
+use Rattle.ttp_world.specs.Hypothesis.{numbers_of, faulty_after}
 use Rattle.ttp_world.specs.Returning.{back_faulty_after, is_sound}
 use Rattle.ttp_world.specs.Safety.{newest_slot, is_settled, members_of_node, are_same_members, has_left, IsSafe}
 use Rattle.ttp_world.specs.Script.{is_armed}

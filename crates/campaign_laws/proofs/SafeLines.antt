@@ -1,6 +1,6 @@
 -- A line whose test says yes tells of nobody hurt and of no split.
-use Rattle.std.proofs.Common.{◌≡◌, ℕ, ◌<◌, Bool, true, false, ◌||◌, List, [], ◌∷◌, ◌++◌, map, length, get_or, Option, None}
-use Rattle.std.proofs.Common.{codes, decimal, refl, ap, sym, subst, ◌∙◌, append_assoc, arith, IsTrue}
+use Rattle.std.proofs.Common.{◌≡◌, ℕ, ◌<◌, Bool, true, false, ◌||◌, List, [], ◌∷◌, ◌++◌, map, length, get_or}
+use Rattle.std.proofs.Common.{codes, decimal, refl, ap, sym, ◌∙◌, append_assoc, arith}
 use Rattle.std.specs.Prelude.{All, ◌==◌, is_some}
 use Rattle.std.proofs.lemmas.Bool.{false≢true}
 use Rattle.std.proofs.lemmas.Fmt.{decimal_digit}
@@ -19,7 +19,6 @@ use Rattle.single_faults.proofs.Stand.{faults_from-stand}
 use Rattle.single_faults.proofs.Valid.{with_fault-valid}
 use Rattle.campaign.specs.declared.cost.Cost.{Cost}
 use Rattle.campaign.specs.declared.cost.Counts.{Counts}
-use Rattle.campaign.specs.declared.cost.Span.{Span}
 use Rattle.campaign.specs.Cost.{says_yes}
 use Rattle.campaign.specs.CostText.{test_words, listed, leave_word, span_words, members_word, cost_words, fault_words}
 use Rattle.campaign.specs.Lines.{summary, summary_with, has_hurt, head_line, own_line, fault_line, run_line, counts_line}

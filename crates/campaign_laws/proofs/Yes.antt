@@ -1,11 +1,10 @@
 -- Where the test of a script says yes, nobody is hurt and no memberships are split.
-use Rattle.std.proofs.Common.{◌≡◌, ℕ, suc, ◌+◌, ◌-◌, ◌<◌, ◌≤◌, Bool, true, false, cond, not, ◌&&◌, ◌||◌, List, [], ◌∷◌}
+use Rattle.std.proofs.Common.{◌≡◌, ℕ, suc, ◌-◌, ◌<◌, ◌≤◌, Bool, true, false, cond, not, ◌&&◌, ◌||◌, List, [], ◌∷◌}
 use Rattle.std.proofs.Common.{length, Option, Some, None, refl, ap, sym, ◌∙◌, subst, arith, inl, inr, IsTrue}
 use Rattle.std.specs.Prelude.{filter, ◌⊎◌, nat_le}
 use Rattle.std.specs.List.{filter_map, cons_option, AllByRecursion}
 use Rattle.std.specs.Str.{bytes_eq}
 use Rattle.std.proofs.lemmas.Bool.{false≢true, and_parts, leb-true, leb-false}
-use Rattle.ttp_base.specs.NodeSet.{below}
 use Rattle.ttp_base.proofs.Below.{below-lt}
 use Rattle.ttp_world.specs.declared.keep.Back.{Back}
 use Rattle.ttp_world.specs.declared.keep.Back.TheVariants as back
@@ -14,7 +13,6 @@ use Rattle.ttp_world.specs.declared.keep.Keep.TheVariants as keep
 use Rattle.ttp_world.specs.declared.medl.Medl.{Medl}
 use Rattle.ttp_world.specs.declared.node.Entry.{Entry}
 use Rattle.ttp_world.specs.declared.node.Entry.TheVariants as entry
-use Rattle.ttp_world.specs.declared.node.Phase.{Phase}
 use Rattle.ttp_world.specs.declared.node.Phase.TheVariants as phase
 use Rattle.ttp_world.specs.declared.script.Script.{Script}
 use Rattle.ttp_world.specs.Diary.{History, entry_of, diary_of, phase_after, is_active, is_active_phase}
@@ -26,10 +24,9 @@ use Rattle.ttp_world.specs.Returning.{has_arm, returns, is_sound}
 use Rattle.ttp_world.specs.Safety.{newest_slot, is_settled, members_of_node, has_left}
 use Rattle.ttp_world.specs.Script.{IsValidScript}
 use Rattle.ttp_world.specs.Starts.{StartsAlone}
-use Rattle.ttp_world.specs.World.{SlotNumbers, Numbers, node_past, world}
+use Rattle.ttp_world.specs.World.{SlotNumbers, Numbers, world}
 use Rattle.ttp_world.proofs.LegalRuns.{legal-whole, legal-none}
 use Rattle.ttp_world.proofs.LegalShapes.{legal-older}
-use Rattle.ttp_world.proofs.Worlds.{length-world}
 use Rattle.fault_plan.proofs.KeptPlan.{kept-plan}
 use Rattle.back_plan.proofs.Returned.{returned-by_plan}
 use Rattle.safety_laws.proofs.StartSlot.{first_due}
@@ -37,7 +34,7 @@ use Rattle.safety_laws.proofs.Waiting.{WaitAll, WaitAll-world}
 use Rattle.safety.proofs.Kept.{kept-safe}
 use Rattle.rejoin.proofs.Returned.{returned-safe}
 use Rattle.campaign.specs.Cost.{is_kept, is_owed, says_yes, says_yes_if, faulty_by_test, faulty_if, is_hurt_in, is_hurt}
-use Rattle.campaign.specs.Cost.{hurt_nodes, is_firm, firm_members, each_once, memberships, has_two, is_split, split_span}
+use Rattle.campaign.specs.Cost.{is_firm, firm_members, each_once, memberships, has_two, is_split, split_span}
 use Rattle.campaign.specs.Cost.{span_after, cost_of}
 use Rattle.campaign.specs.declared.cost.Cost.{Cost}
 use Rattle.campaign.specs.ZerosWorld.{zeros_world}
@@ -184,7 +181,7 @@ calm-unsplit list script history calm =
 
 -- While all wait.
 
-waiting : (none : Bool) → is_active_phase (cond none phase.Off phase.Listening) ≡ false
+pub waiting : (none : Bool) → is_active_phase (cond none phase.Off phase.Listening) ≡ false
 waiting true = refl
 waiting false = refl
 
@@ -192,7 +189,7 @@ waiting-stays : (none : Bool) → is_left_phase (cond none phase.Off phase.Liste
 waiting-stays true = refl
 waiting-stays false = refl
 
-all-inactive : (list : Medl) (history : History) (among : ℕ → Bool)
+pub all-inactive : (list : Medl) (history : History) (among : ℕ → Bool)
     → ((k : ℕ) → k < length list.slots → is_active (diary_of history k) ≡ false)
     → has_two (memberships list history among) ≡ false
 all-inactive list history among inactive =
@@ -312,7 +309,7 @@ module _ (list : Medl) (script : Script) (valid : IsValid list) (script_valid : 
       (returned-safe list script slot valid script_valid owed numbers legal
       (let from = plan.from in omega (arith, from, after)) within)))
 
-  yes-unharmed : IsTrue (says_yes list script) → (numbers : Numbers) → IsLegal list script numbers
+  pub yes-unharmed : IsTrue (says_yes list script) → (numbers : Numbers) → IsLegal list script numbers
       → length numbers ≤ script.slots → IsUnharmed (cost_of list script (world list script numbers))
   yes-unharmed says = by (has_arm script) refl says
     where

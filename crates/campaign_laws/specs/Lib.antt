@@ -1,1 +1,2 @@
 pub mod SafeLines
+pub mod Ends

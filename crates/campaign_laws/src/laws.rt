@@ -1,5 +1,5 @@
 //! The laws of the lines of a campaign. The functions do nothing; their contracts are the laws.
-ghost use Rattle.std.specs.Prelude.{◌≡◌, ℕ, ◌<◌, [], None, map, length, All, IsTrue};
+ghost use Rattle.std.specs.Prelude.{◌≡◌, ℕ, ◌<◌, ◌≤◌, [], None, map, length, All, IsTrue};
 ghost use Rattle.ttp_world.specs.declared.script.TheConstants.{EVENT_LIMIT};
 ghost use Rattle.ttp_world.specs.Diary.{History};
 ghost use Rattle.ttp_world.specs.Legal.{IsLegalRun};
@@ -10,6 +10,7 @@ ghost use Rattle.campaign.specs.declared.cost.Cost.{Cost};
 ghost use Rattle.campaign.specs.Cost.{says_yes};
 ghost use Rattle.campaign.specs.Lines.{summary, summary_of, summary_with, kept_counts, campaign_lines};
 ghost use Rattle.campaign.specs.Tried.{faults_from};
+ghost use Rattle.campaign_laws.specs.Ends.{AreOver};
 ghost use Rattle.campaign_laws.specs.SafeLines.{IsSafeLine};
 
 use ttp_world::{Medl, Script};
@@ -36,6 +37,18 @@ pub fn yes_is_safe(list: &Medl, script: &Script)
     requires yes { IsTrue (says_yes list.now script.now) }
     ensures hurt { (summary list.now script.now).cost.hurt ≡ [] }
     ensures split { (summary list.now script.now).cost.split ≡ None }
+{}
+
+/// Where besides each node that is faulty at the end of the run became so two rounds before it or earlier, and was not armed
+/// since, one membership is left at most: all active nodes that are not in doubt hold it.
+///
+/// It does nothing, and takes no memory.
+pub fn one_is_left(list: &Medl, script: &Script)
+    requires valid { IsValid list.now }
+    requires script { IsValidScript list.now script.now }
+    requires yes { IsTrue (says_yes list.now script.now) }
+    requires over { AreOver list.now script.now }
+    ensures { length (summary list.now script.now).cost.end ≤ 1 }
 {}
 
 /// So the line of counts of the runs whose test says yes counts none in which a node is hurt (`hurt`), and

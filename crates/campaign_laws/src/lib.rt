@@ -11,8 +11,10 @@
 //! campaign_laws::laws::lines_are_safe(list, script);
 //! ```
 //!
-//! The crate has no code that does anything: its functions are laws. It says nothing of `end`: which memberships are left at the
-//! end of a run depends on how near its end a fault comes.
+//! [`laws::one_is_left`] says when `end` has one membership at most: where each faulty node became so two rounds before the end
+//! or earlier.
+//!
+//! The crate has no code that does anything: its functions are laws.
 #![tactic(auto)]
 
 pub mod laws;

@@ -1,4 +1,3 @@
-use Rattle.std.proofs.Common.{ap, ◌∙◌}
 use Rattle.ttp_world.specs.World.{world}
 use Rattle.campaign.specs.Cost.{says_yes}
 use Rattle.campaign.specs.CostText.{test_words}
