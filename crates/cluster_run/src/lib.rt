@@ -11,6 +11,22 @@
 //! halves, beside the reads of hosts. Threads are started only where both sides have work. Whatever the
 //! threads do, the contract of a slot is the same. It does not say that a slot ends: with one buffer a
 //! host's read may wait.
+//!
+//! `put_next` of ttp_top takes a cluster through a slot, and writes what its report shows:
+//!
+//! ```text
+//! let Ok(()) = cluster.slot(rt, gate) else {
+//!     return Err(RunFault::Memory);
+//! };
+//! match put_slot(cluster.list(), cluster.report(), lines, out) {
+//!     Ok(()) => Ok(()),
+//!     Err(Failed) => Err(RunFault::Failed),
+//! }
+//! ```
+//!
+//! A slot costs its nodes and its hosts' lines; one with reads takes memory for what they get, and one in which hosts act
+//! beside the controllers starts and joins a thread or two. A cluster is a plain value that may go to another thread; while a
+//! slot is under way its threads share the rings alone.
 #![tactic(auto)]
 
 mod choosing;

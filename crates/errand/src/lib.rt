@@ -15,7 +15,7 @@
 //! serve ([`is_served`](ends::Giver::is_served)). So work is done without threads where there are none. That a worker
 //! ever begins, or comes back with a job, is no clause: `take` and `serve` may wait.
 //!
-//! `src/tests.rt` has a proved caller.
+//! `count_in_threads` of host_tests is a proved caller.
 #![tactic(auto)]
 
 pub mod ends;

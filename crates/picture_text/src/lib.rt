@@ -5,8 +5,19 @@
 //! `specs/Window.antt` says which slots are shown and where they stand, `specs/Cells.antt` what stands in a cell, and
 //! `specs/Tables.antt` has the letters, colours and meanings.
 //!
-//! The crate reads no text: the trace is a value of whole_trace. It takes no memory. Where the lines of a picture are
-//! formed and written ([`Sheet`]), and the elements that they are made of, are there for other pictures too.
+//! `show_picture` of lab_top calls it:
+//!
+//! ```text
+//! match put_picture(&trace, asked, out) {
+//!     Ok(()) => 0,
+//!     Err(_) => 6,
+//! }
+//! ```
+//!
+//! The crate reads no text: the trace is a value of whole_trace, which is gone over a few times where no slots are asked for. A
+//! slot that is shown costs its nodes and its hosts' lines, any other one its reading. It takes no memory, and shares nothing
+//! between threads. Where the lines of a picture are formed and written ([`Sheet`]), and the elements that they are made of, are
+//! there for other pictures too.
 #![tactic(auto)]
 
 mod band;
