@@ -45,7 +45,7 @@ use Rattle.campaign.specs.Cost.{each_once, memberships, has_two, is_split, split
 use Rattle.campaign.specs.declared.cost.Cost.{Cost}
 use Rattle.campaign.specs.Lines.{summary}
 use Rattle.campaign.specs.ZerosWorld.{zeros_world}
-use Rattle.campaign_laws.specs.Ends.{faulty_since, IsOver, AreOver}
+use Rattle.campaign_laws.specs.Ends.{faulty_nodes_if, IsOver, AreOver}
 use Rattle.campaign_laws.proofs.Alike.{cost-alike, zeros-legal}
 use Rattle.campaign_laws.proofs.Yes.{IsUnharmed, all-inactive, waiting, yes-unharmed}
 
@@ -260,7 +260,7 @@ module _ (list : Medl) (script : Script) (valid : IsValid list) (script_valid : 
         (omega (arith, whole)) in
         ap (λ b. has_node (faulty_if list script (newest_slot (world list script numbers)) b) k) unarmed
         ∙ kept-clear list script (world list script numbers) count some k active safe
-        (subst (λ b. AllByRecursion (IsOver list script) (faulty_since list script (script.slots - 1) b)) unarmed over))
+        (subst (λ b. AllByRecursion (IsOver list script) (faulty_nodes_if list script (script.slots - 1) b)) unarmed over))
 
     owed-one : (slot : ℕ) → returns list script ≡ back.Yes slot → has_arm script ≡ true
         → length (cost_of list script (world list script numbers)).end ≤ 1
@@ -274,7 +274,7 @@ module _ (list : Medl) (script : Script) (valid : IsValid list) (script_valid : 
         (omega (arith, whole)) in
         ap (λ b. has_node (faulty_if list script (newest_slot (world list script numbers)) b) k) armed
         ∙ back-clear list script (world list script numbers) count some k active safe
-        (subst (λ b. AllByRecursion (IsOver list script) (faulty_since list script (script.slots - 1) b)) armed over))
+        (subst (λ b. AllByRecursion (IsOver list script) (faulty_nodes_if list script (script.slots - 1) b)) armed over))
 
     yes-one : IsTrue (says_yes list script) → length (cost_of list script (world list script numbers)).end ≤ 1
     yes-one says = by (has_arm script) refl says
