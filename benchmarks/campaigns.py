@@ -6,7 +6,8 @@ slots, and those of slots 96 to 143 are, 18,432 of them. Both have no drift, and
 of a campaign, and how long they took by the clock and how long processors were at work, by the least of some runs on one
 processor and on four (as many as there are, if fewer); how many more runs four made by the clock; what a run cost beside
 one of `run` with the trace to /dev/null, which is taken from a longer script of the same cluster; and the most memory that
-the process held. On a machine that does other work the clock tells little, and what processors were at work still something.
+the process held; then what `ttplab chart` of its text takes. On a machine that does other work the clock tells little, and what
+processors were at work still something.
 It needs the programs that `./ttpbench` and `./ttplab` build, and prints figures alone; nothing passes or fails here.
 """
 
@@ -78,6 +79,10 @@ def main():
             print(f"  {len(several)} processors make {clocks[0] / clocks[1]:.2f} times as many runs")
             print(f"  run of the script {alone * 1e6:6.1f} us; a run of the campaign costs {work / runs / alone:.2f} of it")
             print(f"  memory {memory_of(command)} KiB")
+            drawn = [lab(), "chart", written(folder, "campaign.txt", text.decode("ascii"))]
+            clock = min(timed(drawn, several)[0] for _ in range(TIMES))
+            kib = memory_of(drawn)
+            print(f"  chart of its {len(text)} bytes {clock:6.2f} s, memory {kib} KiB, of which the text is {len(text) // 1024}")
 
 
 if __name__ == "__main__":
