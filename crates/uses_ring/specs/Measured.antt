@@ -6,11 +6,11 @@ use Rattle.uses_ring.specs.declared.newest.Seen.{Seen}
 use Rattle.uses_ring.specs.declared.newest.Seen.TheVariants as seen
 
 -- the message of a measurement: its two words
-abbrev pub words_of : Measurement → List ℕ
-words_of m = m.value ∷ m.time ∷ []
+abbrev pub measured_words : Measurement → List ℕ
+measured_words m = m.value ∷ m.time ∷ []
 
 -- it is one of those that were measured, whole, or it says that there is none
-abbrev pub IsSeenOf : List Measurement → Seen → Type 0
-IsSeenOf measured (seen.Newest m) = Contains measured m
-IsSeenOf measured seen.Nothing = Unit {0}
-IsSeenOf measured seen.Overtaken = Unit {0}
+abbrev pub SaysOneOf : List Measurement → Seen → Type 0
+SaysOneOf measured (seen.Newest m) = Contains measured m
+SaysOneOf measured seen.Nothing = Unit {0}
+SaysOneOf measured seen.Overtaken = Unit {0}

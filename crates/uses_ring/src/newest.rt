@@ -2,7 +2,7 @@
 ghost use Rattle.std.specs.Prelude.{◌≡◌, ◌+◌, ◌<◌, ◌≤◌, [], ◌∷◌, ◌++◌, ℕ, List, length, map, IfOk};
 ghost use Rattle.nbw_ring.specs.Numbers.{most_number, IsMessageOf};
 ghost use Rattle.uses_ring.specs.declared.newest.Measurement.{Measurement};
-ghost use Rattle.uses_ring.specs.Measured.{words_of, IsSeenOf};
+ghost use Rattle.uses_ring.specs.Measured.{measured_words, SaysOneOf};
 
 use nbw_ring::{Pair, Reader, Ring, Writer};
 use std::alloc::Global;
@@ -32,7 +32,7 @@ fn write_all(mut writer: Writer, measured: &[Measurement]) -> Writer
     requires width { writer.ring.shape.width ≡ 2 }
     requires room { length writer.messages + length measured.now ≤ most_number }
     ensures ring { result.ring ≡ writer.ring }
-    ensures messages { result.messages ≡ writer.messages ++ map words_of measured.now }
+    ensures messages { result.messages ≡ writer.messages ++ map measured_words measured.now }
 {
     for one in measured {
         writer.write(&[one.value, one.time], &OpenGate::new());
@@ -62,7 +62,7 @@ fn write_and_read<R: Threads + Sync>(
     requires room { length writer.messages + length measured.now ≤ most_number }
     requires reader { (reader.spare ≡ 1) × (reader.got ≡ []) }
     ensures rings { (result.0.ring ≡ writer.ring) × (result.1.ring ≡ reader.ring) }
-    ensures messages { result.0.messages ≡ writer.messages ++ map words_of measured.now }
+    ensures messages { result.0.messages ≡ writer.messages ++ map measured_words measured.now }
     ensures few { length result.1.got ≤ 1 }
 {
     join(rt, || write_all(writer, measured), || read_once(reader))
@@ -71,7 +71,7 @@ fn write_and_read<R: Threads + Sync>(
 // What a pair says that is the opening message or one of the measurements.
 fn seen_in(pair: &Pair) -> Seen
     ensures { (opening : List ℕ) (measured : List Measurement)
-        → IsMessageOf (opening ∷ map words_of measured) pair.now → IsSeenOf measured result }
+        → IsMessageOf (opening ∷ map measured_words measured) pair.now → SaysOneOf measured result }
 {
     match (pair.number(), pair.words()) {
         (0, _) => Seen::Nothing,
@@ -91,7 +91,7 @@ pub fn newest_beside<R: Threads + Sync>(
     measured: &[Measurement],
 ) -> Result<Seen, Memory>
     requires few { length measured.now < most_number }
-    ensures seen { IfOk result (IsSeenOf measured.now) }
+    ensures seen { IfOk result (SaysOneOf measured.now) }
 {
     let (_ring, mut writer) = Ring::new(alloc, 2, 2)?;
     let reader = writer.lend(1)?;
