@@ -1,10 +1,11 @@
 -- What is known of files and of output in memory.
-use Rattle.std.proofs.Common.{◌≡◌, ℕ, List, [], Option, Some, subst}
+use Rattle.std.proofs.Common.{◌≡◌, ℕ, List, [], Option, Some, subst, codes, arith}
 use Rattle.std.specs.Io.KnownBytes.{Appends}
-use Rattle.ttp_base.specs.Outside.{Held, holds}
+use Rattle.ttp_base.specs.Outside.{Held, holds, HasRisen, NoneRose}
 use Rattle.ttp_world.specs.declared.medl.Medl.{Medl}
 use Rattle.ttp_world.specs.declared.script.Script.{Script}
-use Rattle.commands.specs.Right.{MayBe, AreRight}
+use Rattle.commands.specs.Plan.{Outside}
+use Rattle.commands.specs.Right.{MayBe, AreRight, AreTold}
 
 -- bytes that may be held are those that are held
 told : (held : Held) (all bytes : List ℕ) → held ≡ holds all → MayBe held bytes → bytes ≡ all
@@ -24,3 +25,22 @@ pub appended : (before now : Option (List ℕ)) (text bytes : List ℕ) → befo
 appended before now text bytes empty full more =
     subst (λ (n : Option (List ℕ)). Appends (Some []) n bytes) full
     (subst (λ (b : Option (List ℕ)). Appends b now bytes) empty more)
+
+-- a count that stands at 0 has not risen
+pub quiet : (before now : ℕ) → before ≡ 0 → now ≡ before → ¬ HasRisen before now
+quiet before now zero same risen = omega (arith, zero, same, risen)
+
+-- files that are held are told, where no count stood above 0 or changed
+pub files_told : (list script : List ℕ) (before now : Outside) (medl : Medl) (right : Script)
+    → before.files.held (codes "list") ≡ holds list → before.files.held (codes "script") ≡ holds script
+    → AreRight list script medl right → ((name : List ℕ) → before.files.faults name ≡ 0)
+    → NoneRose before.files now.files → AreTold (codes "list") (codes "script") before now medl right
+files_told list script before now medl right l s are none same = record {
+  bytes = list;
+  script_bytes = script;
+  list_file = l;
+  script_file = s;
+  are = are;
+  list_quiet = quiet _ _ (none (codes "list")) (same (codes "list"));
+  script_quiet = quiet _ _ (none (codes "script")) (same (codes "script"));
+}

@@ -1,6 +1,6 @@
 //! The text of a run, and the headline of it.
-ghost use Rattle.std.specs.Prelude.{IfOk};
-ghost use Rattle.uses_bench.specs.SafeTrace.{IsSafeTrace};
+ghost use Rattle.std.specs.Prelude.{IfOk, IfErr};
+ghost use Rattle.uses_bench.specs.SafeTrace.{IsSafeTrace, IsMissed};
 
 use crate::memory::{Missing, holding, words_of};
 use std::alloc::Global;
@@ -19,13 +19,15 @@ pub fn safe_trace<R: Threads + Wait + Sync>(
     room: usize,
 ) -> Result<Vec<u8>, Missing>
     ensures trace { IfOk result (λ text. IsSafeTrace list.now script.now text.items) }
+    ensures missing { IfErr result (IsMissed list.now script.now) }
 {
     let words = words_of(alloc, &["run", "list", "script"])?;
     let mut library = holding(alloc, list, script, &[])?;
     let mut out = MemorySink::new(alloc, room, List::new(alloc))?;
     let gate = OpenGate::new();
-    match bench(rt, alloc, &words, &mut library, &mut out, &gate, &mut None) {
-        0 => Ok(Vec::from_slice(alloc, out.bytes())?),
-        status => Err(Missing::Status(status)),
+    let status = bench(rt, alloc, &words, &mut library, &mut out, &gate, &mut None);
+    if status != 0 {
+        return Err(Missing::Status(status));
     }
+    Ok(Vec::from_slice(alloc, out.bytes())?)
 }

@@ -17,12 +17,22 @@ pub enum Missing {
 }
 
 impl From<Memory> for Missing {
+    ghost use Rattle.std.specs.Prelude.{◌≡◌};
+    ghost use Rattle.uses_bench.specs.declared.memory.Missing.TheVariants as missing;
+
+    ghost from_gives = { λ _ m. m ≡ missing.Memory };
+
     fn from(_error: Memory) -> Missing {
         Missing::Memory
     }
 }
 
 impl From<AllocError> for Missing {
+    ghost use Rattle.std.specs.Prelude.{◌≡◌};
+    ghost use Rattle.uses_bench.specs.declared.memory.Missing.TheVariants as missing;
+
+    ghost from_gives = { λ _ m. m ≡ missing.Memory };
+
     fn from(_error: AllocError) -> Missing {
         Missing::Memory
     }

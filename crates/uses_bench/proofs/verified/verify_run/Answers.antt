@@ -1,7 +1,7 @@
 use Rattle.std.proofs.Common.{String, inl, inr, ◌≡◌, ◌∙◌, ◌≤◌, ℕ, List, Option, Some, ap, sym, codes, arith, subst}
 use Rattle.std.specs.declared.alloc.Global.{Global}
 use Rattle.std.proofs.lemmas.Bool.{true≢false}
-use Rattle.ttp_base.specs.Outside.{holds, HasRisen}
+use Rattle.ttp_base.specs.Outside.{holds}
 use Rattle.commands.specs.Plan.{Outside}
 use Rattle.commands.specs.Words.{texts_of}
 use Rattle.trace_check.proofs.OwnNumbers.{numbers-is_trace}
@@ -10,11 +10,8 @@ use Rattle.ttp_top.specs.Calls.Promise.{Promise}
 use Rattle.ttp_top.specs.Calls.Words.{Form, verify, form_of}
 use Rattle.ttp_top.specs.Traces.Promise.{VerifyPromise, AreAllTold}
 use Rattle.uses_bench.specs.SafeTrace.{IsSafeTrace}
+use Rattle.uses_bench.proofs.Held.{quiet, files_told}
 use Rattle.uses_bench.proofs.verified.verify_run.Goals as goal
-
--- a count that stands at 0 has not risen
-quiet : (before now : ℕ) → before ≡ 0 → now ≡ before → ¬ HasRisen before now
-quiet before now zero same risen = omega (arith, zero, same, risen)
 
 -- the promise of `verify` on the text of a run, where all files are held and no fault was counted before
 same : (list script text : List ℕ) (form : Option Form) (before now : Outside) (answer : Answer)
@@ -26,20 +23,10 @@ same : (list script text : List ℕ) (form : Option Form) (before now : Outside)
     → before.output.faults ≡ 0 → answer.status ≤ 4 → answer.status ≡ 0
 same list script text form before now answer w is_form every own l s t none silent low =
     let ended = (subst (λ (f : Option Form). Promise f before now answer) is_form every).ended low in
-    let rests : (name : List ℕ) → ¬ HasRisen (before.files.faults name) (now.files.faults name) =
-    λ name. quiet _ _ (none name) (ended.1.quiet name) in
     let told : AreAllTold (codes "list") (codes "script") (codes "trace") before now w.list w.script text = record {
-      files = record {
-        bytes = list;
-        script_bytes = script;
-        list_file = l;
-        script_file = s;
-        are = w.are;
-        list_quiet = rests (codes "list");
-        script_quiet = rests (codes "script");
-      };
+      files = files_told list script before now w.list w.script l s w.are none ended.1.quiet;
       trace_file = t;
-      trace_quiet = rests (codes "trace");
+      trace_quiet = quiet _ _ (none (codes "trace")) (ended.1.quiet (codes "trace"));
     } in
     let is = numbers-is_trace w.list w.script text w.valid w.valid_script
     (record { numbers = w.numbers; legal = w.legal; whole = w.whole }) in
