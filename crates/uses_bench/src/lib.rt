@@ -3,7 +3,7 @@
 //! They show what a caller outside says in words of its own. [`safe_trace`] has the text of a run and the
 //! headline of it, [`verify_run`] asks `verify` about a text that `run` wrote, and [`run_and_keeps`] compares
 //! the end of a trace with what `keeps` writes. `docs/CALLERS.md` shows their code, and what each needed of
-//! proof. They stand on public clauses alone, and nothing stands on them.
+//! proof. They stand on public contracts and lemmas alone, and nothing stands on them.
 #![tactic(auto)]
 
 mod headline;
