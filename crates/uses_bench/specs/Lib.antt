@@ -1,0 +1,2 @@
+pub mod SafeTrace
+pub mod LastLines
