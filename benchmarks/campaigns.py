@@ -1,8 +1,9 @@
 #!/usr/bin/env python3
 """Times `ttplab campaign` on one processor and on four, beside `ttpbench run` of the same cluster.
 
-The one cluster has 8 nodes and 100 slots, and the faults of its slots 32 to 83 are tried; the other has 24 nodes and 240
-slots, and those of slots 96 to 143 are, 18,432 of them. Both have no drift, and node 0 starts them. For each it prints the runs
+The first cluster has 8 nodes and 100 slots, the second 24 nodes and 200 slots, and all faults of all slots are tried; the third
+has 24 nodes and 240 slots, and the faults of slots 96 to 143 are tried, 18,432 of them. They have no drift, and node 0 starts
+them. For each it prints the runs
 of a campaign, and how long they took by the clock and how long processors were at work, by the least of some runs on one
 processor and on four (as many as there are, if fewer); how many more runs four made by the clock; what a run cost beside
 one of `run` with the trace to /dev/null, which is taken from a longer script of the same cluster; and the most memory that
@@ -23,7 +24,7 @@ from runs import list_text, processor_seconds_of, program, script_text, written
 
 LAB = os.path.join(TOP, "crates", "ttplab", "out", "ttplab")
 # Nodes, slots, the first slot of faults and the last.
-CAMPAIGNS = ((8, 100, 32, 83), (24, 240, 96, 143))
+CAMPAIGNS = ((8, 100, 0, 99), (24, 200, 0, 199), (24, 240, 96, 143))
 TIMES = 3
 # So many slots more tell what a slot of `run` costs.
 LONG = 5_000
@@ -68,16 +69,18 @@ def main():
             text = subprocess.run(command, check=True, capture_output=True).stdout
             runs = sum(int(line.split()[1]) for line in text.splitlines()[-2:])
             print(f"{nodes} nodes, {slots} slots, faults in {first} to {last}: {runs} runs")
-            clocks = []
+            clocks, works = [], []
             for chosen in ({processors[0]}, several):
                 found = [timed(command, chosen) for _ in range(TIMES)]
                 clock, work = min(clock for clock, _ in found), min(work for _, work in found)
                 clocks.append(clock)
+                works.append(work)
                 told = f"{clock:6.2f} s by the clock {work:6.2f} s at work {runs / clock:8.0f} runs a second"
                 print(f"  processors {len(chosen)} {told}   {work / runs * 1e6:6.1f} us a run")
             alone = run_costs(folder, nodes, medl, slots)
-            print(f"  {len(several)} processors make {clocks[0] / clocks[1]:.2f} times as many runs")
-            print(f"  run of the script {alone * 1e6:6.1f} us; a run of the campaign costs {work / runs / alone:.2f} of it")
+            told = f"by the clock, and {len(several) * works[0] / works[1]:.2f} by what they are at work"
+            print(f"  {len(several)} processors make {clocks[0] / clocks[1]:.2f} times as many runs {told}")
+            print(f"  run of the script {alone * 1e6:6.1f} us; a run on one processor costs {works[0] / runs / alone:.2f} of it")
             print(f"  memory {memory_of(command)} KiB")
             drawn = [lab(), "chart", written(folder, "campaign.txt", text.decode("ascii"))]
             clock = min(timed(drawn, several)[0] for _ in range(TIMES))
