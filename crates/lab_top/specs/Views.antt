@@ -15,6 +15,7 @@ use Rattle.lab_top.specs.declared.refusal.TextFault.{TextFault}
 use Rattle.lab_top.specs.declared.refusal.TextFault.TheVariants as fault
 use Rattle.lab_top.specs.Refusals.{value_from}
 
+-- what a view wants, and what it writes of the value that a text is taken for
 pub record View (Value : Type 0) : Type 0 where
   -- the word for its text where that can't be loaded or is refused
   pub kind : List ℕ
