@@ -193,13 +193,15 @@ fn wait_given<R: Wait, J, D: Errand<J>>(rt: &R, board: &Board<J, D>, seat: &mut 
 }
 
 // Does the job that lies in the slot, and gives it back.
-fn do_job<J, D: Errand<J>>(board: &Board<J, D>, seat: &mut End<J>, errand: &D)
+fn do_job<J, D: Errand<J>, F: Fn(J) -> J>(board: &Board<J, D>, seat: &mut End<J>, work: &F)
     requires seated { IsSeated board.now.table_id seat.old.table_id }
+    requires may { (j : J) → D.needs j → F.pre work.now j }
+    requires does { (j k : J) → D.needs j → F.post work.now j k → D.does j k }
     requires taken { (j : J) × (seat.old.me ≡ laden Works (Some j) (Some j)) × D.needs j }
     ensures { (seat.new.table_id ≡ seat.old.table_id) × (seat.new.me ≡ bare Works None) }
 {
     let job = board.exchange(seat, 0, None).unwrap();
-    let done = errand.run(job);
+    let done = work(job);
     match board.exchange(seat, 0, Some(done)) {
         None => {}
         Some(_) => unreachable!(),
@@ -211,15 +213,18 @@ fn do_job<J, D: Errand<J>>(board: &Board<J, D>, seat: &mut End<J>, errand: &D)
 }
 
 impl<'a, J, D: Errand<J>> Worker<'a, J, D> {
-    /// Works on each job until the giver is dropped.
-    pub fn serve<R: Wait>(self, rt: &R, errand: &D) {
+    /// Does this work on each job until the giver is dropped.
+    pub fn serve<R: Wait, F: Fn(J) -> J>(self, rt: &R, work: &F)
+        requires may { (j : J) → D.needs j → F.pre work.now j }
+        requires does { (j k : J) → D.needs j → F.post work.now j k → D.does j k }
+    {
         let Worker { board, mut seat } = self;
         board.store::<Same>(&mut seat, WORKER, AWAKE);
         for _ in rt.forever() {
             if !wait_given(rt, board, &mut seat) {
                 return;
             }
-            do_job(board, &mut seat, errand);
+            do_job(board, &mut seat, work);
         }
         unreachable!()
     }

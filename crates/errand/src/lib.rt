@@ -10,6 +10,9 @@
 //! A job costs each side a store and a load at least, all sequentially consistent, and takes no memory. Who waits
 //! looks again for a while, then yields, and then sleeps until it is woken.
 //!
+//! The work itself is a closure that is given to whoever serves. A trait's method could not make calls that want a
+//! bound `Sync` of the work's own type parameters; a closure takes that bound of the function around it.
+//!
 //! The crate starts no thread. Its caller runs `serve` in one, best by `std::thread::join_mut` with `serve` first,
 //! which runs the other closure first where no thread is to be had; and asks nothing of a worker that has not begun to
 //! serve ([`is_served`](ends::Giver::is_served)). So work is done without threads where there are none. That a worker

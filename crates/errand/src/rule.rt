@@ -7,17 +7,12 @@ use crate::note::Note;
 use atomic_table::{Play, Shared, Split, TableRule};
 use std::marker::PhantomData;
 
-/// Work on a job. `needs` is what it asks of a job, and `does` holds between the job as it was given and as it
-/// comes back.
+/// Work on a job: `needs` is what it asks of a job, and `does` holds between the job as it was given and as it
+/// comes back. Whoever serves brings the work itself.
 pub trait Errand<J> {
     ghost needs: { J → Type 0 };
 
     ghost does: { J → J → Type 0 };
-
-    /// Does the work.
-    fn run(&self, job: J) -> J
-        requires { needs job }
-        ensures { does job result };
 }
 
 /// The rule of a table for jobs of one errand.

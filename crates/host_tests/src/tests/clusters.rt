@@ -7,7 +7,8 @@ ghost use Rattle.ttp_world.specs.declared.script.TheConstants.{EVENT_LIMIT};
 ghost use Rattle.ttp_world.specs.Medl.{IsValid, plan_at};
 ghost use Rattle.ttp_world.specs.Script.{IsBounded, IsValidScript};
 
-use cluster_run::Cluster;
+use cluster_run::{Cluster, Watch};
+use host_port::SlotReport;
 use std::alloc::Global;
 use std::sync::Wait;
 use std::test::Fail;
@@ -148,6 +149,71 @@ fn a_host_polls_a_status(rt: HostRuntime) -> Result<(), Fail> {
             assert!(rt; read.pair.number() == 12);
             assert!(rt; read.pair.words() == [11u64, 41, 0x0001_0001_0003, 256].as_slice());
         }
+    }
+    Ok(())
+}
+
+// What a watcher was told: of how many slots, and of how many reads in them.
+#[derive(Clone, Copy, Debug, PartialEq, Eq)]
+struct Told {
+    slots: u32,
+    reads: usize,
+}
+
+// Counts, and ends the run after the slot that makes so many.
+#[derive(Drop)]
+struct Counter {
+    most: u32,
+}
+
+impl Watch for Counter {
+    ghost use Rattle.ttp_world.specs.declared.medl.Medl.{Medl};
+    ghost use Rattle.ttp_world.specs.declared.script.Script.{Script};
+    ghost use Rattle.cluster_run.specs.Standing.{ClusterView};
+
+    type Out = Told;
+
+    type Fault = Memory;
+
+    ghost Start = { Unit {0} };
+
+    ghost follows = { λ _ _ _. Unit {0} };
+
+    ghost leaves = { λ _ _ _ _ _. Unit {0} };
+
+    fn told(&mut self, out: &mut Told, _list: &Medl, report: &SlotReport) -> Result<(), Memory> {
+        out.slots = out.slots.wrapping_add(1);
+        out.reads = out.reads.wrapping_add(report.reads.len());
+        if out.slots == self.most {
+            return Err(Memory);
+        }
+        Ok(())
+    }
+
+    fn refused(&mut self, _out: &mut Told) -> Memory {
+        Memory
+    }
+}
+
+#[test]
+fn a_run_tells_of_each_slot(rt: HostRuntime) -> Result<(), Fail> {
+    for most in [1u32, 11, 12, 13, 20] {
+        let list = five_nodes(rt.alloc(), 2)?;
+        let script = poll(rt.alloc(), &list)?;
+        let mut cluster = Cluster::make(rt.alloc(), list, script)?;
+        let mut told = Told { slots: 0, reads: 0 };
+        // Who watches may end a run, and another one goes on.
+        let ended = cluster.run(&rt, &mut Counter { most }, &mut told, &OpenGate::new());
+        assert!(rt; ended.is_err() && told.slots == most && cluster.done() == most);
+        cluster.run(&rt, &mut Counter { most: 0 }, &mut told, &OpenGate::new())?;
+        assert_eq!(rt;
+            told,
+            Told {
+                slots: 20,
+                reads: 1
+            }
+        );
+        assert!(rt; cluster.done() == 20);
     }
     Ok(())
 }

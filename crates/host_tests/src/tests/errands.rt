@@ -19,14 +19,14 @@ impl Errand<Tally> for CountUp {
     ghost needs = { λ j. j.count < 1000 };
 
     ghost does = { λ j k. k.count ≡ j.count + 1 };
+}
 
-    fn run(&self, job: Tally) -> Tally
-        requires { job.count < 1000 }
-        ensures { result.count ≡ job.count + 1 }
-    {
-        Tally {
-            count: job.count + 1,
-        }
+fn counted_up(job: Tally) -> Tally
+    requires { job.count < 1000 }
+    ensures { result.count ≡ job.count + 1 }
+{
+    Tally {
+        count: job.count + 1,
     }
 }
 
@@ -41,14 +41,14 @@ fn count_both<'a, R: Wait>(
     ensures { (result.0.count ≡ front.count + 1) × (result.1.count ≡ back.count + 1) }
 {
     let Some(hired) = giver.take() else {
-        return (CountUp.run(front), CountUp.run(back));
+        return (counted_up(front), counted_up(back));
     };
     if !hired.is_served() {
         *giver = Some(hired);
-        return (CountUp.run(front), CountUp.run(back));
+        return (counted_up(front), counted_up(back));
     }
     let waiting = hired.ask(back);
-    let front = CountUp.run(front);
+    let front = counted_up(front);
     let (hired, back) = waiting.take(rt);
     *giver = Some(hired);
     (front, back)
@@ -74,7 +74,13 @@ fn count_up<'a, R: Wait>(
 
 fn serve<'a, R: Wait>(rt: &R, worker: &mut Option<Worker<'a, Tally, CountUp>>) {
     if let Some(worker) = worker.take() {
-        worker.serve(rt, &CountUp);
+        worker.serve(
+            rt,
+            &|job: Tally| -> Tally
+                requires { job.count < 1000 }
+                ensures { result.count ≡ job.count + 1 }
+            { counted_up(job) },
+        );
     }
 }
 
@@ -115,6 +121,12 @@ fn nobody_is_asked_who_does_not_serve(rt: HostRuntime) -> Result<(), AllocError>
     let (giver, worker) = hire(&table.shared, seat);
     assert_eq!(rt; count_up(&rt, &mut Some(giver), 10), (10, 10));
     // Its giver is gone, so it has nothing to do.
-    worker.serve(&rt, &CountUp);
+    worker.serve(
+        &rt,
+        &|job: Tally| -> Tally
+            requires { job.count < 1000 }
+            ensures { result.count ≡ job.count + 1 }
+        { counted_up(job) },
+    );
     Ok(())
 }
