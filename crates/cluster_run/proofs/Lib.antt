@@ -32,3 +32,5 @@ pub mod QuietReads
 pub mod Alone
 pub mod OwnReaders
 pub mod LentBuffers
+mod Told
+mod Sent

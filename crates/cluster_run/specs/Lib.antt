@@ -7,7 +7,10 @@ pub mod Sending
 pub mod Choosing
 pub mod Ending
 pub mod Reading
+pub mod Jobs
 pub mod Report
 pub mod Texts
 pub mod Slots
 pub mod Clusters
+pub mod Progress
+pub mod Runs

@@ -9,23 +9,26 @@ ghost use Rattle.cluster_run.specs.Report.{writes_shown};
 
 use crate::fetching::fetch_each;
 use crate::sending::{lend_fetchers, settle_fetchers, write_and_fetch};
+use crate::staff::Hired;
 use controller::Seat;
 use host_port::{HostEnd, WriteLine};
 use std::alloc::Global;
 use std::mem;
+use std::sync::Wait;
 use std::thread::Threads;
 use ttp_base::{Gate, Memory};
 use ttp_world::{Chosen, Medl, Script};
 
 // Hosts write at these places of the script, beside the fetches of controllers. The lines of the writes are
 // handed out with the ends.
-fn write_and_choose<R: Threads + Sync, G: Gate>(
+fn write_and_choose<'b, 'a, R: Threads + Wait + Sync, G: Gate>(
     rt: &R,
+    staff: &mut Option<Hired<'b, 'a>>,
     alloc: Global,
     list: &Medl,
-    script: &Script,
+    script: &'a Script,
     slot: u32,
-    places: &[usize],
+    places: &'a [usize],
     mut ends: Vec<HostEnd>,
     seats: &[Seat],
     chosen: &mut [Chosen],
@@ -52,7 +55,7 @@ fn write_and_choose<R: Threads + Sync, G: Gate>(
     let fetchers = lend_fetchers(alloc, ends.as_mut_slice(), seats)?;
     let lines = Vec::with_capacity(alloc, places.len())?;
     let (mut ends, lines, fetchers) = write_and_fetch(
-        rt, ends, fetchers, script, places, lines, gate,
+        rt, staff, ends, fetchers, script, places, lines, gate,
     );
     settle_fetchers(list, ends.as_mut_slice(), fetchers, chosen);
     Ok((ends, lines))
@@ -93,11 +96,12 @@ fn fetch_and_choose<G: Gate>(
 
 /// Hosts write what they do in the slot, and each controller whose node's frame carries a message
 /// fetches it. The lines of the writes are handed out. After `Memory` the ends may be gone.
-pub(crate) fn choose<R: Threads + Sync, G: Gate>(
+pub(crate) fn choose<'b, 'a, R: Threads + Wait + Sync, G: Gate>(
     rt: &R,
+    staff: &mut Option<Hired<'b, 'a>>,
     alloc: Global,
     list: &Medl,
-    script: &Script,
+    script: &'a Script,
     slot: u32,
     ends: &mut Vec<HostEnd>,
     seats: &[Seat],
@@ -138,7 +142,7 @@ pub(crate) fn choose<R: Threads + Sync, G: Gate>(
     // A thread has the ends by value.
     let given = mem::replace(ends, Vec::new(alloc));
     let (given, lines) = write_and_choose(
-        rt, alloc, list, script, slot, places, given, seats, chosen, gate,
+        rt, staff, alloc, list, script, slot, places, given, seats, chosen, gate,
     )?;
     *ends = given;
     Ok(lines)

@@ -1,5 +1,5 @@
 //! A cluster, slot by slot.
-ghost use Rattle.std.specs.Prelude.{◌≡◌, ◌+◌, ◌<◌, [], None, IfOk, IsErr, OnOk, OnErr};
+ghost use Rattle.std.specs.Prelude.{◌≡◌, ◌+◌, ◌<◌, [], None, IfOk, IfErr, IsErr, OnOk, OnErr};
 ghost use Rattle.ttp_world.specs.Medl.{IsValid};
 ghost use Rattle.ttp_world.specs.Script.{IsValidScript};
 ghost use Rattle.cluster_run.specs.Choosing.{AreBytesBefore};
@@ -7,12 +7,11 @@ ghost use Rattle.cluster_run.specs.Slots.{Steps};
 ghost use Rattle.cluster_run.specs.Standing.{ClusterStandsFor};
 
 use crate::making::nodes_of;
-use crate::nodes::Nodes;
-use crate::slot::slot_of;
-use host_port::{NodeLine, SlotReport};
+use crate::progress::{Course, Progress};
+use crate::run::{Watch, run_all};
+use host_port::SlotReport;
 use std::alloc::Global;
 use std::marker::Model;
-use std::mem;
 use std::sync::Wait;
 use std::thread::Threads;
 use ttp_base::{Gate, List, Memory};
@@ -24,13 +23,7 @@ pub struct Cluster {
     alloc: Global,
     list: Medl,
     script: Script,
-    // How many slots there were.
-    done: u32,
-    // None once memory was refused.
-    nodes: Option<Nodes>,
-    report: SlotReport,
-    // The lines of nodes of the report before, whose memory the next one takes.
-    spare: Vec<NodeLine>,
+    at: Progress,
 }
 
 impl Model for Cluster {
@@ -39,9 +32,9 @@ impl Model for Cluster {
 
     ghost Value = { ClusterView };
 
-    ghost view = { λ c. cluster_of c.list c.script c.done c.nodes c.report };
+    ghost view = { λ c. cluster_of c.list c.script c.at.done c.at.nodes c.at.report };
 
-    ghost invariant = { λ c. IsClusterWithin c.list c.script c.done c.nodes };
+    ghost invariant = { λ c. IsClusterWithin c.list c.script c.at.done c.at.nodes };
 }
 
 // The report of no slot.
@@ -69,10 +62,12 @@ impl Cluster {
             alloc,
             list,
             script,
-            done: 0,
-            nodes: Some(nodes),
-            report: no_report(alloc),
-            spare: Vec::new(alloc),
+            at: Progress {
+                done: 0,
+                nodes: Some(nodes),
+                report: no_report(alloc),
+                spare: Vec::new(alloc),
+            },
         })
     }
 
@@ -100,35 +95,53 @@ impl Cluster {
         ensures gone { OnErr result (self.new.nodes ≡ None) }
         ensures for_good { self.old.nodes ≡ None → IsErr result }
     {
-        let Some(nodes) = &mut self.nodes else {
-            return Err(Memory);
+        let course = Course {
+            alloc: self.alloc,
+            list: &self.list,
+            script: &self.script,
         };
-        let spare = mem::replace(&mut self.spare, Vec::new(self.alloc));
-        let Ok(report) = slot_of(
-            rt,
-            self.alloc,
-            &self.list,
-            &self.script,
-            self.done,
-            nodes,
-            spare,
-            gate,
-        ) else {
-            self.nodes = None;
-            return Err(Memory);
+        self.at.slot(rt, &mut None, &course, gate)
+    }
+
+    /// All slots that are left, as so many calls of [`slot`](Cluster::slot) would do them: who watches is told of each
+    /// once it is done.
+    ///
+    /// Two workers are hired for the slots from the first on in which a host does something: one ends each slot for
+    /// half of the nodes, and one does what hosts do. So a slot starts no thread, but while a worker has not begun to
+    /// serve; where the system gives none, all is done without.
+    ///
+    /// # Errors
+    ///
+    /// What the watcher answers, or what it says of refused memory. The slots before were done.
+    pub fn run<R: Threads + Wait + Sync, G: Gate, W: Watch>(
+        &mut self,
+        rt: &R,
+        watch: &mut W,
+        out: &mut W::Out,
+        gate: &G,
+    ) -> Result<(), W::Fault>
+        requires follows { (start : W.Start) × W.follows start out.old self.old }
+        ensures list { self.new.list ≡ self.old.list }
+        ensures script { self.new.script ≡ self.old.script }
+        ensures done { OnOk result (self.new.done ≡ self.old.script.slots) }
+        ensures ok { OnOk result ((start : W.Start) → W.follows start out.old self.old
+            → W.follows start out.new self.new) }
+        ensures fault { IfErr result (λ fault. (start : W.Start) → W.follows start out.old self.old
+            → W.leaves start out.new fault self.old.list self.old.script) }
+    {
+        let course = Course {
+            alloc: self.alloc,
+            list: &self.list,
+            script: &self.script,
         };
-        let told = mem::replace(&mut self.report.nodes, List::new(self.alloc));
-        self.report = report;
-        self.spare = told.into_vec();
-        self.done += 1;
-        Ok(())
+        run_all(rt, &course, &mut self.at, watch, out, gate)
     }
 
     /// The report of the newest slot.
     pub fn report(&self) -> &SlotReport
         ensures { result.now ≡ self.now.report }
     {
-        &self.report
+        &self.at.report
     }
 
     /// The list that it was made with.
@@ -149,7 +162,7 @@ impl Cluster {
     pub fn done(&self) -> u32
         ensures { result ≡ self.now.done }
     {
-        self.done
+        self.at.done
     }
 
     /// How many slots the run has.

@@ -80,6 +80,26 @@ pub(crate) fn end_all<G: Gate>(seats: &mut [Seat], desks: &mut [Desk], common: &
     end_part(part, common, gate);
 }
 
+/// The nodes from a first one on end the slot, one after another.
+pub(crate) fn end_from<G: Gate>(
+    first: u8,
+    seats: &mut [Seat],
+    desks: &mut [Desk],
+    common: &Common,
+    gate: &G,
+)
+    requires { IsPartReady common.now.list.now common.now.script.now common.now.medium.now first seats.old desks.old }
+    ensures { HasPartEnded common.now.list.now common.now.script.now common.now.medium.now first seats.old seats.new
+        desks.old desks.new }
+{
+    let part = Part {
+        first,
+        seats,
+        desks,
+    };
+    end_part(part, common, gate);
+}
+
 // Two parts end the slot, each in a thread.
 fn end_both<R: Threads + Sync, G: Gate>(rt: &R, front: Part, back: Part, common: &Common, gate: &G)
     requires front { IsPartReady common.now.list.now common.now.script.now common.now.medium.now front.first

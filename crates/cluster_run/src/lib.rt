@@ -12,33 +12,35 @@
 //! threads do, the contract of a slot is the same. It does not say that a slot ends: with one buffer a
 //! host's read may wait.
 //!
-//! `put_next` of ttp_top takes a cluster through a slot, and writes what its report shows:
+//! [`Cluster::slot`] is for who steps a cluster by hand, and joins all that it starts. [`Cluster::run`] does
+//! all slots that are left, and tells a [`Watch`] of each. It hires two workers that stay, for the slots from
+//! the first on in which a host does something, so that a slot starts no thread once they serve.
+//! `put_run` of ttp_top takes a cluster through its slots, and writes what each report shows:
 //!
 //! ```text
-//! let Ok(()) = cluster.slot(rt, gate) else {
-//!     return Err(RunFault::Memory);
-//! };
-//! match put_slot(cluster.list(), cluster.report(), lines, out) {
-//!     Ok(()) => Ok(()),
-//!     Err(Failed) => Err(RunFault::Failed),
-//! }
+//! cluster.run(rt, &mut writer, out, gate)
 //! ```
 //!
-//! A slot costs its nodes and its hosts' lines; one with reads takes memory for what they get, and one in which hosts act
-//! beside the controllers starts and joins a thread or two. A cluster is a plain value that may go to another thread; while a
-//! slot is under way its threads share the rings alone.
+//! A slot costs its nodes and its hosts' lines, and one with reads takes memory for what they get. A cluster is a
+//! plain value that may go to another thread; while a slot is under way its threads share the rings alone.
 #![tactic(auto)]
 
+mod beside;
 mod choosing;
 mod cluster;
 mod ending;
 mod fetching;
+mod jobs;
 pub mod laws;
 mod making;
 mod nodes;
+mod progress;
 mod reading;
 mod reporting;
+mod run;
 mod sending;
 mod slot;
+mod staff;
 
 pub use cluster::Cluster;
+pub use run::Watch;

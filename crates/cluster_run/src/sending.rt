@@ -19,9 +19,12 @@ ghost use Rattle.cluster_run.specs.Sending.{write_lines, MayWriteAll, WritesByte
 ghost use Rattle.cluster_run.specs.Sending.{Fetches, MayFetch, MayFetchAll, FetchAll, MaySettle, choice_of};
 ghost use Rattle.cluster_run.specs.Sending.{SettlesFetch};
 
+use crate::beside::write_beside;
+use crate::staff::{Hired, take_served};
 use controller::{Seat, is_loaded};
 use host_port::{Fetcher, HostEnd, WriteLine};
 use std::alloc::Global;
+use std::sync::Wait;
 use std::thread::{Threads, join};
 use ttp_base::{Gate, Memory};
 use ttp_world::{Chosen, Medl, PAYLOAD_LIMIT, Payload, Script, Written};
@@ -138,8 +141,8 @@ fn has_any(fetchers: &[Option<Fetcher>]) -> bool {
     fetchers.iter().any(|fetcher| fetcher.is_some())
 }
 
-/// Hosts write beside the fetches. A thread is started only where there are both.
-pub(crate) fn write_and_fetch<R: Threads + Sync, G: Gate>(
+// Hosts write beside the fetches, in a thread that is started.
+fn write_started<R: Threads + Sync, G: Gate>(
     rt: &R,
     ends: Vec<HostEnd>,
     fetchers: Vec<Option<Fetcher>>,
@@ -160,10 +163,6 @@ pub(crate) fn write_and_fetch<R: Threads + Sync, G: Gate>(
     ensures fetchers_count { length result.2.items ≡ length fetchers.items }
     ensures fetches { FetchAll fetchers.items result.2.items }
 {
-    if places.is_empty() || !has_any(fetchers.as_slice()) {
-        let (ends, lines) = write_all(ends, script, places, lines, gate);
-        return (ends, lines, fetch_all(fetchers, gate));
-    }
     let ((ends, lines), fetchers) = join(
         rt,
         || -> (Vec<HostEnd>, Vec<WriteLine>)
@@ -174,6 +173,44 @@ pub(crate) fn write_and_fetch<R: Threads + Sync, G: Gate>(
             requires { MayFetchAll fetchers.items }
         { fetch_all(fetchers, gate) },
     );
+    (ends, lines, fetchers)
+}
+
+/// Hosts write beside the fetches: by their worker where one serves, and else in a thread that is started. Neither is
+/// asked where there are not both.
+pub(crate) fn write_and_fetch<'b, 'a, R: Threads + Wait + Sync, G: Gate>(
+    rt: &R,
+    staff: &mut Option<Hired<'b, 'a>>,
+    ends: Vec<HostEnd>,
+    fetchers: Vec<Option<Fetcher>>,
+    script: &'a Script,
+    places: &'a [usize],
+    lines: Vec<WriteLine>,
+    gate: &G,
+) -> (Vec<HostEnd>, Vec<WriteLine>, Vec<Option<Fetcher>>)
+    requires writes { MayWriteAll script.now (length (filter_map (write_at script.now) places.now)) ends.items }
+    requires empty { lines.items ≡ [] }
+    requires room { length places.now ≤ vec_capacity lines }
+    requires fetchers { MayFetchAll fetchers.items }
+    ensures count { length result.0.items ≡ length ends.items }
+    ensures ends { (k : ℕ) → host_at result.0.items k
+        ≡ after_writes (filter_map (write_at script.now) places.now) k (host_at ends.items k) }
+    ensures lines { result.1.items ≡ write_lines ends.items [] (filter_map (write_at script.now) places.now) }
+    ensures bytes { All WritesBytes (filter_map (write_at script.now) places.now) }
+    ensures fetchers_count { length result.2.items ≡ length fetchers.items }
+    ensures fetches { FetchAll fetchers.items result.2.items }
+{
+    if places.is_empty() || !has_any(fetchers.as_slice()) {
+        let (ends, lines) = write_all(ends, script, places, lines, gate);
+        return (ends, lines, fetch_all(fetchers, gate));
+    }
+    let Some(hired) = take_served(staff) else {
+        return write_started(rt, ends, fetchers, script, places, lines, gate);
+    };
+    let (hired, (ends, lines), fetchers) = write_beside(
+        rt, hired, ends, fetchers, script, places, lines, gate,
+    );
+    *staff = Some(hired);
     (ends, lines, fetchers)
 }
 

@@ -7,6 +7,7 @@ ghost use Rattle.controller.specs.PlantStands.{outcomes_of};
 ghost use Rattle.cluster_run.specs.Choosing.{AreBytesBefore};
 ghost use Rattle.cluster_run.specs.Ending.{IsPartReady, HasPartEnded, HaveHandedOn};
 ghost use Rattle.cluster_run.specs.Ends.{desk_ends, desk_numbers};
+ghost use Rattle.cluster_run.specs.Jobs.{HaveReadBy};
 ghost use Rattle.cluster_run.specs.Nodes.{AreNodesOf};
 ghost use Rattle.cluster_run.specs.Reading.{AreReadersOfAll, AreReadersLent, MayReadAll, HaveRead};
 ghost use Rattle.cluster_run.specs.Reading.{ReadTheSame, ReadBuffers};
@@ -15,11 +16,13 @@ ghost use Rattle.cluster_run.specs.Slots.{StandsAt, StandsForSome, ArePlannedNod
 ghost use Rattle.cluster_run.specs.Slots.{HaveEndedFor, TellsReads, IsNextOf};
 ghost use Rattle.cluster_run.specs.Standing.{nodes_view};
 
+use crate::beside::end_staying;
 use crate::choosing::choose;
 use crate::ending::{Common, end_all, end_halves};
 use crate::nodes::{Desk, Nodes};
 use crate::reading::{lend_readers, read_all, read_lines};
 use crate::reporting::node_lines;
+use crate::staff::{Hired, take_served};
 use controller::{Seat, begin_all, plan_all};
 use host_port::{HostReaders, NodeLine, ReadLine, SlotReport, WriteLine};
 use std::alloc::Global;
@@ -28,8 +31,8 @@ use std::thread::{Threads, join_mut};
 use ttp_base::{Gate, List, Memory};
 use ttp_world::{HostRead, Medl, Script};
 
-// The controllers end the slot beside the reads of hosts, in threads.
-fn end_and_read<R: Threads + Wait + Sync, G: Gate>(
+// The controllers end the slot beside the reads of hosts, in threads that are started.
+fn end_started<R: Threads + Wait + Sync, G: Gate>(
     rt: &R,
     seats: &mut [Seat],
     desks: &mut [Desk],
@@ -60,13 +63,80 @@ fn end_and_read<R: Threads + Wait + Sync, G: Gate>(
     join_mut(rt, &mut end, &mut read);
 }
 
-// Controllers begin the slot, hosts write, and what is to be sent is planned and put on the medium. The
-// lines of the writes are handed out.
-fn plan<R: Threads + Sync, G: Gate>(
+// All nodes end the slot beside the reads of hosts, in threads that are started.
+fn end_with_started<R: Threads + Wait + Sync, G: Gate>(
     rt: &R,
-    alloc: Global,
     list: &Medl,
     script: &Script,
+    nodes: &mut Nodes,
+    mut readers: Vec<Option<HostReaders>>,
+    reads: &[HostRead],
+    gate: &G,
+) -> Vec<Option<HostReaders>>
+    requires ready { IsPartReady list.now script.now nodes.old.medium 0 nodes.old.seats.items nodes.old.desks.items }
+    requires left { MayReadAll reads.now readers.items }
+    ensures host_ends { nodes.new.host_ends ≡ nodes.old.host_ends }
+    ensures chosen { nodes.new.chosen ≡ nodes.old.chosen }
+    ensures ended { HasPartEnded list.now script.now nodes.old.medium 0 nodes.old.seats.items nodes.new.seats.items
+        nodes.old.desks.items nodes.new.desks.items }
+    ensures read { HaveReadBy reads.now readers.items result.items }
+{
+    let common = Common {
+        list,
+        script,
+        medium: &nodes.medium,
+    };
+    end_started(
+        rt,
+        &mut nodes.seats,
+        &mut nodes.desks,
+        readers.as_mut_slice(),
+        &common,
+        reads,
+        gate,
+    );
+    readers
+}
+
+// All nodes end the slot beside the reads of hosts: with the workers where both serve, and else in threads that are
+// started.
+fn end_and_read<'b, 'a, R: Threads + Wait + Sync, G: Gate>(
+    rt: &R,
+    staff: &mut Option<Hired<'b, 'a>>,
+    alloc: Global,
+    list: &'a Medl,
+    script: &'a Script,
+    nodes: &mut Nodes,
+    readers: Vec<Option<HostReaders>>,
+    reads: &'a [HostRead],
+    gate: &G,
+) -> Result<Vec<Option<HostReaders>>, Memory>
+    requires ready { IsPartReady list.now script.now nodes.old.medium 0 nodes.old.seats.items nodes.old.desks.items }
+    requires left { MayReadAll reads.now readers.items }
+    ensures host_ends { OnOk result (nodes.new.host_ends ≡ nodes.old.host_ends) }
+    ensures chosen { OnOk result (nodes.new.chosen ≡ nodes.old.chosen) }
+    ensures ended { OnOk result (HasPartEnded list.now script.now nodes.old.medium 0 nodes.old.seats.items
+        nodes.new.seats.items nodes.old.desks.items nodes.new.desks.items) }
+    ensures read { IfOk result (λ left. HaveReadBy reads.now readers.items left.items) }
+{
+    let Some(hired) = take_served(staff) else {
+        return Ok(end_with_started(rt, list, script, nodes, readers, reads, gate));
+    };
+    let (hired, readers) = end_staying(
+        rt, hired, alloc, list, script, nodes, readers, reads, gate,
+    )?;
+    *staff = Some(hired);
+    Ok(readers)
+}
+
+// Controllers begin the slot, hosts write, and what is to be sent is planned and put on the medium. The
+// lines of the writes are handed out.
+fn plan<'b, 'a, R: Threads + Wait + Sync, G: Gate>(
+    rt: &R,
+    staff: &mut Option<Hired<'b, 'a>>,
+    alloc: Global,
+    list: &'a Medl,
+    script: &'a Script,
     slot: u32,
     nodes: &mut Nodes,
     gate: &G,
@@ -88,6 +158,7 @@ fn plan<R: Threads + Sync, G: Gate>(
     begin_all(&mut nodes.seats, list, script, 0, slot);
     let writes = choose(
         rt,
+        staff,
         alloc,
         list,
         script,
@@ -109,47 +180,37 @@ fn plan<R: Threads + Sync, G: Gate>(
 }
 
 // Controllers end the slot, beside the reads of hosts by these readers.
-fn end<R: Threads + Wait + Sync, G: Gate>(
+fn end<'b, 'a, R: Threads + Wait + Sync, G: Gate>(
     rt: &R,
-    list: &Medl,
-    script: &Script,
+    staff: &mut Option<Hired<'b, 'a>>,
+    alloc: Global,
+    list: &'a Medl,
+    script: &'a Script,
     slot: u32,
     nodes: &mut Nodes,
-    readers: &mut [Option<HostReaders>],
-    reads: &[HostRead],
+    readers: Vec<Option<HostReaders>>,
+    reads: &'a [HostRead],
     gate: &G,
-)
+) -> Result<Vec<Option<HostReaders>>, Memory>
     requires list { IsValid list.now }
     requires script { IsValidScript list.now script.now }
     requires slot { slot < script.now.slots }
     requires nodes { ArePlannedNodes list.now script.now slot nodes.old }
-    requires own { AreReadersOfAll (desk_ends nodes.old.desks.items) readers.old }
-    requires lent { AreReadersLent (reads_in script.now slot) (desk_ends nodes.old.desks.items) readers.old }
+    requires own { AreReadersOfAll (desk_ends nodes.old.desks.items) readers.items }
+    requires lent { AreReadersLent (reads_in script.now slot) (desk_ends nodes.old.desks.items) readers.items }
     requires may { MayEndSlot list.now script.now slot nodes.old }
     requires reads { reads.now ≡ reads_in script.now slot }
-    ensures nodes { AreNodesOf list.now (slot + 1) nodes.new }
-    ensures host_ends { nodes.new.host_ends ≡ nodes.old.host_ends }
-    ensures own { AreReadersOfAll (desk_ends nodes.new.desks.items) readers.new }
-    ensures reads { HaveRead list.now.buffers (reads_in script.now slot) readers.old readers.new }
-    ensures handed { HaveHandedOn (outcomes_of nodes.new.seats.items) (desk_ends nodes.old.desks.items)
-        (desk_ends nodes.new.desks.items) (desk_numbers nodes.new.desks.items) }
-    ensures ends { (numbers : Numbers) → HavePlannedSlot list.now script.now numbers nodes.old
-        → HaveEndedFor list.now script.now numbers nodes.old nodes.new }
+    ensures nodes { OnOk result (AreNodesOf list.now (slot + 1) nodes.new) }
+    ensures host_ends { OnOk result (nodes.new.host_ends ≡ nodes.old.host_ends) }
+    ensures own { IfOk result (λ left. AreReadersOfAll (desk_ends nodes.new.desks.items) left.items) }
+    ensures reads { IfOk result (λ left. HaveRead list.now.buffers (reads_in script.now slot) readers.items left.items) }
+    ensures handed { OnOk result (HaveHandedOn (outcomes_of nodes.new.seats.items) (desk_ends nodes.old.desks.items)
+        (desk_ends nodes.new.desks.items) (desk_numbers nodes.new.desks.items)) }
+    ensures ends { OnOk result ((numbers : Numbers) → HavePlannedSlot list.now script.now numbers nodes.old
+        → HaveEndedFor list.now script.now numbers nodes.old nodes.new) }
 {
-    let common = Common {
-        list,
-        script,
-        medium: &nodes.medium,
-    };
-    end_and_read(
-        rt,
-        &mut nodes.seats,
-        &mut nodes.desks,
-        readers,
-        &common,
-        reads,
-        gate,
-    );
+    let left = end_and_read(rt, staff, alloc, list, script, nodes, readers, reads, gate)?;
+    Ok(left)
 }
 
 // Controllers end the slot, and no host reads in it.
@@ -175,14 +236,15 @@ fn end_unread<G: Gate>(list: &Medl, script: &Script, slot: u32, nodes: &mut Node
 }
 
 // Controllers end the slot, and hosts read in it. The lines of the reads are the answer.
-fn end_read<R: Threads + Wait + Sync, G: Gate>(
+fn end_read<'b, 'a, R: Threads + Wait + Sync, G: Gate>(
     rt: &R,
+    staff: &mut Option<Hired<'b, 'a>>,
     alloc: Global,
-    list: &Medl,
-    script: &Script,
+    list: &'a Medl,
+    script: &'a Script,
     slot: u32,
     nodes: &mut Nodes,
-    reads: &[HostRead],
+    reads: &'a [HostRead],
     gate: &G,
 ) -> Result<List<ReadLine>, Memory>
     requires list { IsValid list.now }
@@ -192,32 +254,26 @@ fn end_read<R: Threads + Wait + Sync, G: Gate>(
     requires may { MayEndSlot list.now script.now slot nodes.old }
     requires reads { reads.now ≡ reads_in script.now slot }
     ensures nodes { OnOk result (AreNodesOf list.now (slot + 1) nodes.new) }
-    ensures host_ends { nodes.new.host_ends ≡ nodes.old.host_ends }
+    ensures host_ends { OnOk result (nodes.new.host_ends ≡ nodes.old.host_ends) }
     ensures ends { OnOk result ((numbers : Numbers) → HavePlannedSlot list.now script.now numbers nodes.old
         → HaveEndedFor list.now script.now numbers nodes.old nodes.new) }
     ensures tells { IfOk result (TellsReads list.now script.now slot nodes.old nodes.new) }
 {
-    let mut readers = lend_readers(alloc, &mut nodes.desks, reads)?;
-    end(
-        rt,
-        list,
-        script,
-        slot,
-        nodes,
-        readers.as_mut_slice(),
-        reads,
-        gate,
-    );
+    let lent = lend_readers(alloc, &mut nodes.desks, reads)?;
+    let readers = end(
+        rt, staff, alloc, list, script, slot, nodes, lent, reads, gate,
+    )?;
     let lines = read_lines(alloc, &mut nodes.desks, readers, reads)?;
     Ok(lines)
 }
 
 // Controllers end the slot. Readers are lent only where a host reads.
-fn end_slot<R: Threads + Wait + Sync, G: Gate>(
+fn end_slot<'b, 'a, R: Threads + Wait + Sync, G: Gate>(
     rt: &R,
+    staff: &mut Option<Hired<'b, 'a>>,
     alloc: Global,
-    list: &Medl,
-    script: &Script,
+    list: &'a Medl,
+    script: &'a Script,
     slot: u32,
     nodes: &mut Nodes,
     gate: &G,
@@ -228,7 +284,7 @@ fn end_slot<R: Threads + Wait + Sync, G: Gate>(
     requires nodes { ArePlannedNodes list.now script.now slot nodes.old }
     requires may { MayEndSlot list.now script.now slot nodes.old }
     ensures nodes { OnOk result (AreNodesOf list.now (slot + 1) nodes.new) }
-    ensures host_ends { nodes.new.host_ends ≡ nodes.old.host_ends }
+    ensures host_ends { OnOk result (nodes.new.host_ends ≡ nodes.old.host_ends) }
     ensures ends { OnOk result ((numbers : Numbers) → HavePlannedSlot list.now script.now numbers nodes.old
         → HaveEndedFor list.now script.now numbers nodes.old nodes.new) }
     ensures tells { IfOk result (TellsReads list.now script.now slot nodes.old nodes.new) }
@@ -238,15 +294,16 @@ fn end_slot<R: Threads + Wait + Sync, G: Gate>(
         end_unread(list, script, slot, nodes, gate);
         return Ok(List::new(alloc));
     }
-    end_read(rt, alloc, list, script, slot, nodes, reads, gate)
+    end_read(rt, staff, alloc, list, script, slot, nodes, reads, gate)
 }
 
 /// Takes all nodes through a slot, and answers its report, whose lines of nodes are written over `spare`.
-pub(crate) fn slot_of<R: Threads + Wait + Sync, G: Gate>(
+pub(crate) fn slot_of<'b, 'a, R: Threads + Wait + Sync, G: Gate>(
     rt: &R,
+    staff: &mut Option<Hired<'b, 'a>>,
     alloc: Global,
-    list: &Medl,
-    script: &Script,
+    list: &'a Medl,
+    script: &'a Script,
     slot: u32,
     nodes: &mut Nodes,
     spare: Vec<NodeLine>,
@@ -264,8 +321,8 @@ pub(crate) fn slot_of<R: Threads + Wait + Sync, G: Gate>(
         → StandsAt list.now script.now slot (nodes_view nodes.old) numbers
         → IsNextOf list.now script.now numbers (nodes_view nodes.new) report) }
 {
-    let writes = plan(rt, alloc, list, script, slot, nodes, gate)?;
-    let reads = end_slot(rt, alloc, list, script, slot, nodes, gate)?;
+    let writes = plan(rt, staff, alloc, list, script, slot, nodes, gate)?;
+    let reads = end_slot(rt, staff, alloc, list, script, slot, nodes, gate)?;
     let lines = node_lines(alloc, spare, &nodes.seats, &nodes.desks)?;
     Ok(SlotReport {
         slot,

@@ -6,7 +6,7 @@ use Rattle.controller.specs.PlantStands.{outcomes_of}
 use Rattle.cluster_run.specs.declared.nodes.Desk.{Desk}
 use Rattle.cluster_run.specs.Ending.{HaveHandedOn}
 use Rattle.cluster_run.specs.Ends.{desk_ends, desk_numbers}
-use Rattle.cluster_run.specs.Reading.{AllGot, AreLinesOf, AreReadersLent, AreReadersOfAll, HaveRead, SettlesReads}
+use Rattle.cluster_run.specs.Reading.{AllGot, AreLinesOf, AreReadersLent, AreReadersOfAll, SettlesReads}
 use Rattle.cluster_run.specs.Standing.{HoldsRead}
 use Rattle.cluster_run.proofs.MayRead.{hosts_within}
 use Rattle.cluster_run.proofs.slot.end_read.Goals as goal
@@ -35,8 +35,7 @@ end-requires-clause-own g c κs within =
     let lent = with_items_is nodes.desks c.lend_readers.new.desks
     (omega (arith, ap length c.lend_readers.ensures.desks, c.deref_mut.ensures.len))
     ∙ c.lend_readers.ensures.desks in
-    rw c.as_mut_slice.ensures.value
-    (subst (λ ds. AreReadersOfAll (desk_ends ds) c.in_ok-readers.readers.items) (sym lent) c.in_ok-readers.ensures.own)
+    (subst (λ ds. AreReadersOfAll (desk_ends ds) c.in_ok-lent.lent.items) (sym lent) c.in_ok-lent.ensures.own)
 
 pub end-requires-clause-lent : goal.end-requires-clause-lent
 end-requires-clause-lent g c κs within =
@@ -45,9 +44,9 @@ end-requires-clause-lent g c κs within =
     let lent = with_items_is nodes.desks c.lend_readers.new.desks
     (omega (arith, ap length c.lend_readers.ensures.desks, c.deref_mut.ensures.len))
     ∙ c.lend_readers.ensures.desks in
-    rw (c.as_mut_slice.ensures.value, ← c.requires.reads)
-    (subst (λ ds. AreReadersLent reads (desk_ends ds) c.in_ok-readers.readers.items) (sym lent)
-    c.in_ok-readers.ensures.lent)
+    rw (← c.requires.reads)
+    (subst (λ ds. AreReadersLent reads (desk_ends ds) c.in_ok-lent.lent.items) (sym lent)
+    c.in_ok-lent.ensures.lent)
 
 pub end-requires-clause-may : goal.end-requires-clause-may
 end-requires-clause-may g c κs within =
@@ -68,21 +67,19 @@ end-requires-clause-may g c κs within =
 
 pub read_lines-requires-clause-own : goal.read_lines-requires-clause-own
 read_lines-requires-clause-own g c =
-    let readers = with_items_is c.in_ok-readers.readers c.end.new.readers
-    (omega (arith, c.end.auto.readers, c.as_mut_slice.ensures.len)) in
-    rw (c.deref_mut-2.ensures.value, readers) c.end.ensures.own
+    rw c.deref_mut-2.ensures.value c.in_ok-readers.ensures.own
 
 pub read_lines-requires-clause-hosts : goal.read_lines-requires-clause-hosts
 read_lines-requires-clause-hosts g c =
     let list = c.args.list.now in
-    let count = ap length c.deref_mut-2.ensures.value ∙ c.end.ensures.nodes.desks in
+    let count = ap length c.deref_mut-2.ensures.value ∙ c.in_ok-readers.ensures.nodes.desks in
     subst (λ n. All (λ (read : HostRead). read.host < n) c.args.reads.now) (sym count)
     (subst (All (λ (read : HostRead). read.host < length list.slots)) (sym c.requires.reads)
     (hosts_within list c.args.script.now c.args.slot c.requires.script))
 
 pub returns-clause-nodes : goal.returns-clause-nodes
 returns-clause-nodes g c =
-    let are = c.end.ensures.nodes in
+    let are = c.in_ok-readers.ensures.nodes in
     let settled = with_items_is c.end.new.nodes.desks c.read_lines.new.desks
     (omega (arith, c.read_lines.ensures.count, c.deref_mut-2.ensures.len)) in
     record {
@@ -101,7 +98,7 @@ returns-clause-nodes g c =
 
 pub returns-clause-ends : goal.returns-clause-ends
 returns-clause-ends g c = λ numbers planned.
-    c.end.ensures.ends numbers
+    c.in_ok-readers.ensures.ends numbers
     (record { chosen = planned.chosen; planned = planned.planned; carries = planned.carries })
 
 pub returns-clause-tells : goal.returns-clause-tells
@@ -111,12 +108,10 @@ returns-clause-tells g c =
     let nodes = c.args.nodes.now in
     let reads = reads_in script c.args.slot in
     let done = c.end.new.nodes in
-    let last = c.end.new.readers in
+    let last = c.in_ok-readers.readers.items in
     let lent = with_items_is nodes.desks c.lend_readers.new.desks
     (omega (arith, ap length c.lend_readers.ensures.desks, c.deref_mut.ensures.len))
     ∙ c.lend_readers.ensures.desks ∙ c.deref_mut.ensures.value in
-    let readers = with_items_is c.in_ok-readers.readers last
-    (omega (arith, c.end.auto.readers, c.as_mut_slice.ensures.len)) in
     let handed = desk_ends done.desks.items in
     let settled = with_items_is done.desks c.read_lines.new.desks
     (omega (arith, c.read_lines.ensures.count, c.deref_mut-2.ensures.len)) in
@@ -124,28 +119,26 @@ returns-clause-tells g c =
     let done_many = length-map done.desks.items (λ (d : Desk). d.end) in
     record {
       handed = handed;
-      first = c.in_ok-readers.readers.items;
+      first = c.in_ok-lent.lent.items;
       last = last;
-      first_count = c.in_ok-readers.ensures.own.count ∙ ap (λ ds. length (desk_ends ds)) c.deref_mut.ensures.value
+      first_count = c.in_ok-lent.ensures.own.count ∙ ap (λ ds. length (desk_ends ds)) c.deref_mut.ensures.value
           ∙ many ∙ c.requires.nodes.desks;
-      last_count = c.end.ensures.own.count ∙ done_many ∙ c.end.ensures.nodes.desks;
+      last_count = c.in_ok-readers.ensures.own.count ∙ done_many ∙ c.in_ok-readers.ensures.nodes.desks;
       handed_are =
           rw (settled, c.read_lines.ensures.numbers, c.deref_mut-2.ensures.value)
           (subst (λ ds. HaveHandedOn (outcomes_of done.seats.items) (desk_ends ds) handed (desk_numbers done.desks.items))
-          lent c.end.ensures.handed);
+          lent c.in_ok-readers.ensures.handed);
       lent =
-          subst (λ ds. AreReadersLent reads (desk_ends ds) c.in_ok-readers.readers.items) c.deref_mut.ensures.value
-          (subst (λ rs. AreReadersLent rs (desk_ends c.deref_mut.result.now) c.in_ok-readers.readers.items)
-          c.requires.reads c.in_ok-readers.ensures.lent);
+          subst (λ ds. AreReadersLent reads (desk_ends ds) c.in_ok-lent.lent.items) c.deref_mut.ensures.value
+          (subst (λ rs. AreReadersLent rs (desk_ends c.deref_mut.result.now) c.in_ok-lent.lent.items)
+          c.requires.reads c.in_ok-lent.ensures.lent);
       read =
-          subst (λ rs. HaveRead list.buffers reads rs last) c.as_mut_slice.ensures.value c.end.ensures.reads;
+          c.in_ok-readers.ensures.reads;
       settles =
           subst (λ ds. SettlesReads handed last (desk_ends ds)) (sym settled)
           (subst (λ ds. SettlesReads (desk_ends ds) last (desk_ends c.read_lines.new.desks)) c.deref_mut-2.ensures.value
-          (subst (λ rs. SettlesReads (desk_ends c.deref_mut-2.result.now) rs (desk_ends c.read_lines.new.desks)) readers
-          c.in_ok-lines.ensures.settles));
+          c.in_ok-lines.ensures.settles);
       told =
           subst (λ rs. AllGot rs last → AreLinesOf rs last c.in_ok-lines.lines) c.requires.reads
-          (subst (λ rs. AllGot c.args.reads.now rs → AreLinesOf c.args.reads.now rs c.in_ok-lines.lines) readers
-          c.in_ok-lines.ensures.lines);
+          c.in_ok-lines.ensures.lines;
     }

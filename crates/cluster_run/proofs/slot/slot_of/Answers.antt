@@ -37,7 +37,7 @@ returns-clause-steps g c = λ numbers at.
       first_count = reads.first_count;
       last_count = reads.last_count;
       chosen_are =
-          subst (HaveChosen list script numbers mid.chosen.items) (sym (ap (λ v. v.items) c.end_slot.ensures.host_ends))
+          subst (HaveChosen list script numbers mid.chosen.items) (sym (ap (λ v. v.items) c.in_ok-reads.ensures.host_ends))
           planned.chosen;
       ended = c.in_ok-reads.ensures.ends numbers planned;
       handed_are =

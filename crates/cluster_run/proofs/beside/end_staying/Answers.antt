@@ -1,0 +1,54 @@
+use Rattle.std.proofs.Common.{◌≡◌, ◌++◌, ap, subst, ◌∙◌, arith}
+use Rattle.std.proofs.lemmas.List.{with_items_is}
+use Rattle.std.specs.Arc.{arc_value}
+use Rattle.cluster_run.specs.Ending.{HasPartEnded}
+use Rattle.cluster_run.proofs.Halves.{front_ready, back_ready, both_ended}
+use Rattle.cluster_run.proofs.beside.end_staying.Goals as goal
+
+pub end_beside-hired-requires-clause-front : goal.end_beside-hired-requires-clause-front
+end_beside-hired-requires-clause-front g c κs within =
+    let b = c.in_ok-back.ensures in
+    rw (c.deref_mut.ensures.value, c.deref_mut-2.ensures.value, c.deref.ensures ∙ c.in_ok-medium.ensures ∙ b.medium)
+    (front_ready (record { is = b.seats; count = b.first }) (record { is = b.desks; count = b.desks_count ∙ b.first })
+    c.requires.ready)
+
+pub end_beside-hired-requires-clause-back : goal.end_beside-hired-requires-clause-back
+end_beside-hired-requires-clause-back g c κs within =
+    let b = c.in_ok-back.ensures in
+    rw (b.list, b.script, b.medium)
+    (back_ready (record { is = b.seats; count = b.first }) (record { is = b.desks; count = b.desks_count ∙ b.first })
+    c.requires.ready)
+
+pub returns-clause-ended : goal.returns-clause-ended
+returns-clause-ended g c =
+    let list = c.args.list.now in
+    let script = c.args.script.now in
+    let medium = c.args.nodes.now.medium in
+    let half = c.back_half.new.nodes in
+    let back = c.in_ok-back.back in
+    let b = c.in_ok-back.ensures in
+    let e = c.end_beside-hired.ensures in
+    let left = c.end_beside-hired.result.1 in
+    let ss1 = c.end_beside-hired.new.seats in
+    let ds1 = c.end_beside-hired.new.desks in
+    let front : HasPartEnded list script medium 0 half.seats.items ss1 half.desks.items ds1 =
+    subst (λ m. HasPartEnded list script m 0 half.seats.items ss1 half.desks.items ds1)
+    (c.deref.ensures ∙ c.in_ok-medium.ensures ∙ b.medium)
+    (subst (λ old. HasPartEnded list script c.deref.result.now 0 old ss1 half.desks.items ds1) c.deref_mut.ensures.value
+    (subst (λ old. HasPartEnded list script c.deref.result.now 0 c.deref_mut.result.now ss1 old ds1)
+    c.deref_mut-2.ensures.value e.front)) in
+    let ended : HasPartEnded list script medium back.first back.seats.items left.seats.items back.desks.items left.desks.items =
+    subst (λ m. HasPartEnded list script m back.first back.seats.items left.seats.items back.desks.items left.desks.items)
+    b.medium
+    (subst (λ s. HasPartEnded list s (arc_value back.medium) back.first back.seats.items left.seats.items back.desks.items
+    left.desks.items) b.script
+    (subst (λ l. HasPartEnded l back.script.now (arc_value back.medium) back.first back.seats.items left.seats.items
+    back.desks.items left.desks.items) b.list e.back)) in
+    let seats : c.append.new.self.items ≡ ss1 ++ left.seats.items =
+    c.in_ok-append.ensures.items ∙ ap (λ xs. xs ++ left.seats.items) (with_items_is half.seats ss1
+    (omega (arith, c.end_beside-hired.auto.seats, c.deref_mut.ensures.len))) in
+    let desks : c.append-2.new.self.items ≡ ds1 ++ left.desks.items =
+    c.in_ok-append-2.ensures.items ∙ ap (λ xs. xs ++ left.desks.items) (with_items_is half.desks ds1
+    (omega (arith, c.end_beside-hired.auto.desks, c.deref_mut-2.ensures.len))) in
+    both_ended (record { is = b.seats; count = b.first }) (record { is = b.desks; count = b.desks_count ∙ b.first })
+    seats desks front ended

@@ -1,0 +1,12 @@
+use Rattle.std.proofs.Common.{◌≡◌, ◌+◌}
+use Rattle.cluster_run.specs.Progress.{cluster_at, IsOnCourse}
+use Rattle.cluster_run.proofs.run.run_slots.Given as goal
+
+-- so many slots were done, and the watcher was told of them
+abbrev pub invariant-loop : goal.invariant-loop
+invariant-loop g l = record {
+  within : IsOnCourse l.course l.at;
+  done : l.at.done ≡ l.fn.at.done + l.counter;
+  follows : (start : g.W.Watch.Start) → g.W.Watch.follows start l.fn.out (cluster_at l.course l.fn.at)
+      → g.W.Watch.follows start l.out (cluster_at l.course l.at);
+}

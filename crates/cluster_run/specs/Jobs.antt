@@ -1,0 +1,56 @@
+-- Work of a slot that is given to a worker, and what the worker makes of it.
+use Rattle.std.specs.Prelude.{◌≡◌, ℕ, ◌≤◌, List, [], length, vec_capacity, All, Option}
+use Rattle.std.specs.Arc.{arc_value}
+use Rattle.std.specs.List.{filter_map}
+use Rattle.ttp_world.specs.declared.host_lines.HostRead.{HostRead}
+use Rattle.ttp_world.specs.declared.script.Script.{Script}
+use Rattle.ttp_world.specs.Script.{write_at}
+use Rattle.host_port.specs.Reading.{ReadersState}
+use Rattle.host_port.specs.Rings.{HostState}
+use Rattle.host_port.specs.declared.report.WriteLine.{WriteLine}
+use Rattle.cluster_run.specs.declared.jobs.EndJob.{EndJob}
+use Rattle.cluster_run.specs.declared.jobs.HostJob.{HostJob}
+use Rattle.cluster_run.specs.declared.jobs.HostJob.TheVariants as job
+use Rattle.cluster_run.specs.Ending.{IsPartReady, HasPartEnded}
+use Rattle.cluster_run.specs.Ends.{host_at}
+use Rattle.cluster_run.specs.Reading.{HaveRead, MayReadAll, ReadBuffers, ReadTheSame}
+use Rattle.cluster_run.specs.Sending.{MayWriteAll, WritesBytes, after_writes, write_lines}
+
+-- the part of a job may end the slot
+abbrev pub IsJobReady : EndJob → Type 0
+IsJobReady j =
+    IsPartReady j.list.now j.script.now (arc_value j.medium) j.first j.seats.items j.desks.items
+
+-- it has ended the slot
+abbrev pub HasJobEnded : EndJob → EndJob → Type 0
+HasJobEnded j k =
+    HasPartEnded j.list.now j.script.now (arc_value j.medium) j.first j.seats.items k.seats.items j.desks.items
+    k.desks.items
+
+-- what hosts write at these places is in their rings, and these are its lines
+pub record HaveWrittenAt (script : Script) (places : List ℕ) (old new : List HostState) (lines : List WriteLine)
+    : Type 0 where
+  pub count : length new ≡ length old
+  pub ends : (k : ℕ) → host_at new k ≡ after_writes (filter_map (write_at script) places) k (host_at old k)
+  pub lines_are : lines ≡ write_lines old [] (filter_map (write_at script) places)
+  pub bytes : All WritesBytes (filter_map (write_at script) places)
+
+-- hosts have made these reads, by readers of the same rings
+pub record HaveReadBy (reads : List HostRead) (old new : List (Option ReadersState)) : Type 0 where
+  pub rings : ReadTheSame old new
+  pub read : (buffers : ℕ) → ReadBuffers buffers old → HaveRead buffers reads old new
+
+-- hosts may do what a job says
+abbrev pub MayHostsDo : HostJob → Type 0
+MayHostsDo (job.Write script places ends lines) =
+    MayWriteAll script.now (length (filter_map (write_at script.now) places.now)) ends.items × (lines.items ≡ [])
+    × (length places.now ≤ vec_capacity lines)
+MayHostsDo (job.Read reads readers) = MayReadAll reads.now readers.items
+
+-- they have done it
+abbrev pub HaveHostsDone : HostJob → HostJob → Type 0
+HaveHostsDone (job.Write script places ends lines) (job.Write script' places' ends' lines') =
+    HaveWrittenAt script.now places.now ends.items ends'.items lines'.items
+HaveHostsDone (job.Write script places ends lines) (job.Read reads' readers') = ⊥
+HaveHostsDone (job.Read reads readers) (job.Write script' places' ends' lines') = ⊥
+HaveHostsDone (job.Read reads readers) (job.Read reads' readers') = HaveReadBy reads.now readers.items readers'.items

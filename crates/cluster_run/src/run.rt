@@ -1,0 +1,295 @@
+//! A cluster taken through all its slots, with workers that stay.
+ghost use Rattle.std.specs.Prelude.{◌≡◌, ◌+◌, ◌<◌, ◌≤◌, IfErr, OnOk};
+ghost use Rattle.cluster_run.specs.Progress.{cluster_at, IsOnCourse};
+
+use crate::jobs::{EndJob, HostJob};
+use crate::progress::{Course, Progress};
+use crate::staff::{Ends, Hired, Hosts, serve_ends, serve_hosts};
+use errand::ends::{Worker, hire, open};
+use host_port::SlotReport;
+use std::sync::Wait;
+use std::thread::{Threads, join_mut};
+use ttp_base::Gate;
+use ttp_world::{Event, Medl, Script};
+
+/// Who is told what each slot of a run was.
+///
+/// What it makes of that is in a value apart: of a reference that it held itself, no clause of a run could say what
+/// becomes of it.
+pub trait Watch {
+    ghost use Rattle.ttp_world.specs.declared.medl.Medl.{Medl};
+    ghost use Rattle.ttp_world.specs.declared.script.Script.{Script};
+    ghost use Rattle.cluster_run.specs.Runs.{IsToldOf, IsInRun};
+    ghost use Rattle.cluster_run.specs.Standing.{ClusterView};
+
+    /// What it makes of the slots.
+    type Out;
+
+    /// Why it ends a run.
+    type Fault: Drop;
+
+    // What is known of a run before its first slot.
+    ghost Start: { Type 0 };
+
+    // This was made of all slots that a cluster has done.
+    ghost follows: { Start → Self.Out → ClusterView → Type 0 };
+
+    // This was left where a run of a list and a script was ended so.
+    ghost leaves: { Start → Self.Out → Self.Fault → Medl → Script → Type 0 };
+
+    /// The slot after those that it was told of: the list, and the slot's report.
+    fn told(
+        &mut self,
+        out: &mut Self::Out,
+        list: &Medl,
+        report: &SlotReport,
+    ) -> Result<(), Self::Fault>
+        requires { (start : Start) × (before : ClusterView) × (now : ClusterView)
+            × IsToldOf before now list.now report.now × follows start out.old before }
+        ensures ok { OnOk result ((start : Start) (before now : ClusterView)
+            → IsToldOf before now list.now report.now → follows start out.old before → follows start out.new now) }
+        ensures fault { IfErr result (λ fault. (start : Start) (before now : ClusterView)
+            → IsToldOf before now list.now report.now → follows start out.old before
+            → leaves start out.new fault before.list before.script) };
+
+    /// Memory was refused for the next slot.
+    fn refused(&mut self, out: &mut Self::Out) -> Self::Fault
+        ensures { (start : Start) (c : ClusterView) → IsInRun c → follows start out.old c
+            → leaves start out.new result c.list c.script };
+}
+
+// The first slot in which a host does something; where there is none, how many slots there are.
+fn first_busy(script: &Script) -> u32
+    ensures { result ≤ script.now.slots }
+{
+    let mut first = script.slots;
+    for event in script.events.as_slice() {
+        match event {
+            Event::Write { slot, .. } => first = first.min(*slot),
+            Event::Read { slot, .. } => first = first.min(*slot),
+            _ => {}
+        }
+    }
+    first.min(script.slots)
+}
+
+// One slot, of which the watcher is told.
+fn next_told<'b, 'a, R: Threads + Wait + Sync, G: Gate, W: Watch>(
+    rt: &R,
+    staff: &mut Option<Hired<'b, 'a>>,
+    course: &Course<'a>,
+    at: &mut Progress,
+    watch: &mut W,
+    out: &mut W::Out,
+    gate: &G,
+) -> Result<(), W::Fault>
+    requires within { IsOnCourse course.now at.old }
+    requires slot { at.old.done < course.now.script.now.slots }
+    requires follows { (start : W.Start) × W.follows start out.old (cluster_at course.now at.old) }
+    ensures within { IsOnCourse course.now at.new }
+    ensures done { OnOk result (at.new.done ≡ at.old.done + 1) }
+    ensures ok { OnOk result ((start : W.Start)
+        → W.follows start out.old (cluster_at course.now at.old)
+        → W.follows start out.new (cluster_at course.now at.new)) }
+    ensures fault { IfErr result (λ fault. (start : W.Start)
+        → W.follows start out.old (cluster_at course.now at.old)
+        → W.leaves start out.new fault course.now.list.now course.now.script.now) }
+{
+    let Ok(()) = at.slot(rt, staff, course, gate) else {
+        return Err(watch.refused(out));
+    };
+    watch.told(out, course.list, &at.report)
+}
+
+// The slots before this one that are left.
+fn run_slots<'b, 'a, R: Threads + Wait + Sync, G: Gate, W: Watch>(
+    rt: &R,
+    staff: &mut Option<Hired<'b, 'a>>,
+    course: &Course<'a>,
+    end: u32,
+    at: &mut Progress,
+    watch: &mut W,
+    out: &mut W::Out,
+    gate: &G,
+) -> Result<(), W::Fault>
+    requires within { IsOnCourse course.now at.old }
+    requires end { end ≤ course.now.script.now.slots }
+    requires follows { (start : W.Start) × W.follows start out.old (cluster_at course.now at.old) }
+    ensures within { IsOnCourse course.now at.new }
+    ensures done { OnOk result (at.old.done ≤ end → at.new.done ≡ end) }
+    ensures ok { OnOk result ((start : W.Start)
+        → W.follows start out.old (cluster_at course.now at.old)
+        → W.follows start out.new (cluster_at course.now at.new)) }
+    ensures fault { IfErr result (λ fault. (start : W.Start)
+        → W.follows start out.old (cluster_at course.now at.old)
+        → W.leaves start out.new fault course.now.list.now course.now.script.now) }
+{
+    let left = end.saturating_sub(at.done);
+    for _ in 0..left {
+        next_told(rt, staff, course, at, watch, out, gate)?;
+    }
+    Ok(())
+}
+
+// The slots that are left, with those who were hired. They may go then.
+fn run_staffed<'b, 'a, R: Threads + Wait + Sync, G: Gate, W: Watch>(
+    rt: &R,
+    staff: &mut Option<Hired<'b, 'a>>,
+    course: &Course<'a>,
+    at: &mut Progress,
+    watch: &mut W,
+    out: &mut W::Out,
+    gate: &G,
+) -> Result<(), W::Fault>
+    requires within { IsOnCourse course.now at.old }
+    requires follows { (start : W.Start) × W.follows start out.old (cluster_at course.now at.old) }
+    ensures within { IsOnCourse course.now at.new }
+    ensures done { OnOk result (at.new.done ≡ course.now.script.now.slots) }
+    ensures ok { OnOk result ((start : W.Start)
+        → W.follows start out.old (cluster_at course.now at.old)
+        → W.follows start out.new (cluster_at course.now at.new)) }
+    ensures fault { IfErr result (λ fault. (start : W.Start)
+        → W.follows start out.old (cluster_at course.now at.old)
+        → W.leaves start out.new fault course.now.list.now course.now.script.now) }
+{
+    let left = run_slots(rt, staff, course, course.script.slots, at, watch, out, gate);
+    *staff = None;
+    left
+}
+
+// The slots that are left, beside the worker for hosts.
+fn run_beside_hosts<'b, 'a, R: Threads + Wait + Sync, G: Gate, W: Watch>(
+    rt: &R,
+    worker: &mut Option<Worker<'b, HostJob<'a>, Hosts>>,
+    staff: &mut Option<Hired<'b, 'a>>,
+    course: &Course<'a>,
+    at: &mut Progress,
+    watch: &mut W,
+    out: &mut W::Out,
+    gate: &G,
+) -> Result<(), W::Fault>
+    requires within { IsOnCourse course.now at.old }
+    requires follows { (start : W.Start) × W.follows start out.old (cluster_at course.now at.old) }
+    ensures within { IsOnCourse course.now at.new }
+    ensures done { OnOk result (at.new.done ≡ course.now.script.now.slots) }
+    ensures ok { OnOk result ((start : W.Start)
+        → W.follows start out.old (cluster_at course.now at.old)
+        → W.follows start out.new (cluster_at course.now at.new)) }
+    ensures fault { IfErr result (λ fault. (start : W.Start)
+        → W.follows start out.old (cluster_at course.now at.old)
+        → W.leaves start out.new fault course.now.list.now course.now.script.now) }
+{
+    let mut serves = || serve_hosts(rt, worker, gate);
+    let mut runs = || -> Result<(), W::Fault>
+        requires within { IsOnCourse course.now at.now }
+        requires follows { (start : W.Start)
+            × W.follows start out.now (cluster_at course.now at.now) }
+        ensures within { IsOnCourse course.entry.now at.exit.now }
+        ensures done { OnOk result (at.exit.now.done ≡ course.entry.now.script.now.slots) }
+        ensures ok { OnOk result ((start : W.Start)
+            → W.follows start out.entry.now (cluster_at course.entry.now at.entry.now)
+            → W.follows start out.exit.now (cluster_at course.entry.now at.exit.now)) }
+        ensures fault { IfErr result (λ fault. (start : W.Start)
+            → W.follows start out.entry.now (cluster_at course.entry.now at.entry.now)
+            → W.leaves start out.exit.now fault course.entry.now.list.now course.entry.now.script.now) }
+    { run_staffed(rt, staff, course, at, watch, out, gate) };
+    let (_, left) = join_mut(rt, &mut serves, &mut runs);
+    left
+}
+
+// The slots that are left, beside both workers.
+fn run_beside_both<'b, 'a, R: Threads + Wait + Sync, G: Gate, W: Watch>(
+    rt: &R,
+    workers: (Worker<'b, EndJob<'a>, Ends>, Worker<'b, HostJob<'a>, Hosts>),
+    hired: Hired<'b, 'a>,
+    course: &Course<'a>,
+    at: &mut Progress,
+    watch: &mut W,
+    out: &mut W::Out,
+    gate: &G,
+) -> Result<(), W::Fault>
+    requires within { IsOnCourse course.now at.old }
+    requires follows { (start : W.Start) × W.follows start out.old (cluster_at course.now at.old) }
+    ensures within { IsOnCourse course.now at.new }
+    ensures done { OnOk result (at.new.done ≡ course.now.script.now.slots) }
+    ensures ok { OnOk result ((start : W.Start)
+        → W.follows start out.old (cluster_at course.now at.old)
+        → W.follows start out.new (cluster_at course.now at.new)) }
+    ensures fault { IfErr result (λ fault. (start : W.Start)
+        → W.follows start out.old (cluster_at course.now at.old)
+        → W.leaves start out.new fault course.now.list.now course.now.script.now) }
+{
+    let (ends, hosts) = workers;
+    let (mut ends, mut hosts, mut staff) = (Some(ends), Some(hosts), Some(hired));
+    let mut serves = || serve_ends(rt, &mut ends, gate);
+    let mut runs = || -> Result<(), W::Fault>
+        requires within { IsOnCourse course.now at.now }
+        requires follows { (start : W.Start)
+            × W.follows start out.now (cluster_at course.now at.now) }
+        ensures within { IsOnCourse course.entry.now at.exit.now }
+        ensures done { OnOk result (at.exit.now.done ≡ course.entry.now.script.now.slots) }
+        ensures ok { OnOk result ((start : W.Start)
+            → W.follows start out.entry.now (cluster_at course.entry.now at.entry.now)
+            → W.follows start out.exit.now (cluster_at course.entry.now at.exit.now)) }
+        ensures fault { IfErr result (λ fault. (start : W.Start)
+            → W.follows start out.entry.now (cluster_at course.entry.now at.entry.now)
+            → W.leaves start out.exit.now fault course.entry.now.list.now course.entry.now.script.now) }
+    { run_beside_hosts(rt, &mut hosts, &mut staff, course, at, watch, out, gate) };
+    let (_, left) = join_mut(rt, &mut serves, &mut runs);
+    left
+}
+
+/// All slots that are left. Two workers are hired for them before the first one in which a host does something, and go
+/// after the last. Where memory is refused for that, all is done without them.
+pub(crate) fn run_all<'a, R: Threads + Wait + Sync, G: Gate, W: Watch>(
+    rt: &R,
+    course: &Course<'a>,
+    at: &mut Progress,
+    watch: &mut W,
+    out: &mut W::Out,
+    gate: &G,
+) -> Result<(), W::Fault>
+    requires within { IsOnCourse course.now at.old }
+    requires follows { (start : W.Start) × W.follows start out.old (cluster_at course.now at.old) }
+    ensures within { IsOnCourse course.now at.new }
+    ensures done { OnOk result (at.new.done ≡ course.now.script.now.slots) }
+    ensures ok { OnOk result ((start : W.Start)
+        → W.follows start out.old (cluster_at course.now at.old)
+        → W.follows start out.new (cluster_at course.now at.new)) }
+    ensures fault { IfErr result (λ fault. (start : W.Start)
+        → W.follows start out.old (cluster_at course.now at.old)
+        → W.leaves start out.new fault course.now.list.now course.now.script.now) }
+{
+    let slots = course.script.slots;
+    run_slots(
+        rt,
+        &mut None,
+        course,
+        first_busy(course.script),
+        at,
+        watch,
+        out,
+        gate,
+    )?;
+    if at.done == slots {
+        return Ok(());
+    }
+    let Ok((ends_table, ends_seat)) = open::<EndJob<'a>, Ends>(course.alloc) else {
+        return run_slots(rt, &mut None, course, slots, at, watch, out, gate);
+    };
+    let Ok((hosts_table, hosts_seat)) = open::<HostJob<'a>, Hosts>(course.alloc) else {
+        return run_slots(rt, &mut None, course, slots, at, watch, out, gate);
+    };
+    let (ends, ends_worker) = hire(&ends_table.shared, ends_seat);
+    let (hosts, hosts_worker) = hire(&hosts_table.shared, hosts_seat);
+    run_beside_both(
+        rt,
+        (ends_worker, hosts_worker),
+        Hired { ends, hosts },
+        course,
+        at,
+        watch,
+        out,
+        gate,
+    )
+}

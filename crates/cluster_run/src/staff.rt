@@ -1,0 +1,149 @@
+//! Workers that stay for a run: one ends slots for the back half of the nodes, and one does what hosts do.
+ghost use Rattle.std.specs.Prelude.{◌≡◌};
+ghost use Rattle.cluster_run.specs.Jobs.{IsJobReady, HasJobEnded, MayHostsDo, HaveHostsDone};
+
+use crate::ending::{Common, end_from};
+use crate::jobs::{EndJob, HostJob};
+use crate::reading::read_all;
+use crate::sending::write_all;
+use errand::ends::{Giver, Worker};
+use errand::rule::Errand;
+use std::sync::Wait;
+use ttp_base::Gate;
+
+/// The work of ending a slot.
+pub(crate) struct Ends;
+
+impl<'a> Errand<EndJob<'a>> for Ends {
+    ghost needs = { λ j. IsJobReady j };
+
+    ghost does = { λ j k. HasJobEnded j k };
+}
+
+/// The work of hosts.
+pub(crate) struct Hosts;
+
+impl<'a> Errand<HostJob<'a>> for Hosts {
+    ghost needs = { λ j. MayHostsDo j };
+
+    ghost does = { λ j k. HaveHostsDone j k };
+}
+
+/// The ends by which both workers are given work.
+#[derive(Drop)]
+pub(crate) struct Hired<'b, 'a> {
+    pub(crate) ends: Giver<'b, EndJob<'a>, Ends>,
+    pub(crate) hosts: Giver<'b, HostJob<'a>, Hosts>,
+}
+
+impl<'b, 'a> Hired<'b, 'a> {
+    fn are_served(&self) -> bool {
+        self.ends.is_served() && self.hosts.is_served()
+    }
+}
+
+/// Takes those who were hired, where both serve.
+pub(crate) fn take_served<'b, 'a>(staff: &mut Option<Hired<'b, 'a>>) -> Option<Hired<'b, 'a>> {
+    let hired = staff.take()?;
+    if hired.are_served() {
+        return Some(hired);
+    }
+    *staff = Some(hired);
+    None
+}
+
+// A part ends the slot.
+fn end_job<'a, G: Gate>(job: EndJob<'a>, gate: &G) -> EndJob<'a>
+    requires { IsJobReady job }
+    ensures { HasJobEnded job.entry result }
+{
+    let EndJob {
+        list,
+        script,
+        medium,
+        first,
+        mut seats,
+        mut desks,
+    } = job;
+    let common = Common {
+        list,
+        script,
+        medium: &medium,
+    };
+    end_from(
+        first,
+        seats.as_mut_slice(),
+        desks.as_mut_slice(),
+        &common,
+        gate,
+    );
+    EndJob {
+        list,
+        script,
+        medium,
+        first,
+        seats,
+        desks,
+    }
+}
+
+// Hosts do what they do in a slot.
+fn do_host_job<'a, R: Wait, G: Gate>(rt: &R, job: HostJob<'a>, gate: &G) -> HostJob<'a>
+    requires { MayHostsDo job }
+    ensures { HaveHostsDone job.entry result }
+{
+    match job {
+        HostJob::Write {
+            script,
+            places,
+            ends,
+            lines,
+        } => {
+            let (ends, lines) = write_all(ends, script, places, lines, gate);
+            HostJob::Write {
+                script,
+                places,
+                ends,
+                lines,
+            }
+        }
+        HostJob::Read { reads, mut readers } => {
+            read_all(rt, readers.as_mut_slice(), reads, gate);
+            HostJob::Read { reads, readers }
+        }
+    }
+}
+
+/// Ends slots for a part of the nodes, until nobody gives work any more.
+pub(crate) fn serve_ends<'b, 'a, R: Wait, G: Gate>(
+    rt: &R,
+    worker: &mut Option<Worker<'b, EndJob<'a>, Ends>>,
+    gate: &G,
+) {
+    if let Some(worker) = worker.take() {
+        worker.serve(
+            rt,
+            &|job|
+                requires { IsJobReady job }
+                ensures { HasJobEnded job.entry result }
+            { end_job(job, gate) },
+        );
+    }
+}
+
+/// Does what hosts do, until nobody gives work any more.
+pub(crate) fn serve_hosts<'b, 'a, R: Wait, G: Gate>(
+    rt: &R,
+    worker: &mut Option<Worker<'b, HostJob<'a>, Hosts>>,
+    gate: &G,
+) {
+    if let Some(worker) = worker.take() {
+        worker.serve(
+            rt,
+            &|job|
+                requires { MayHostsDo job }
+                ensures { HaveHostsDone job.entry result }
+            { do_host_job(rt, job, gate) },
+        );
+    }
+}
