@@ -1,5 +1,5 @@
 //! What a run through a cluster counts for its summary.
-ghost use Rattle.std.specs.Prelude.{◌≡◌, ◌+◌, ◌<◌, [], count_by, IfOk, OnOk};
+ghost use Rattle.std.specs.Prelude.{◌≡◌, [], count_by, IfOk, OnOk};
 ghost use Rattle.ttp_world.specs.Medium.{is_sending};
 ghost use Rattle.ttp_world.specs.Medl.{IsValid};
 ghost use Rattle.ttp_world.specs.Script.{IsValidScript};
@@ -7,12 +7,12 @@ ghost use Rattle.cluster_run.specs.Standing.{ClusterStandsFor};
 ghost use Rattle.ttp_top.specs.Samples.Counted.{states_in, with_report, HasRoom, HasCounted};
 ghost use Rattle.ttp_top.specs.Samples.Totals.{shows_sent, is_leaving, shows_left, lowest_members, no_totals};
 
-use cluster_run::Cluster;
+use cluster_run::{Cluster, Watch};
 use host_port::{NodeLine, SlotReport};
 use std::sync::Wait;
 use std::thread::Threads;
 use ttp_base::{Gate, Memory, NodeSet};
-use ttp_world::{Entry, Phase};
+use ttp_world::{Entry, Medl, Phase};
 
 /// What the slots of a run come to.
 #[derive(Clone, Copy)]
@@ -107,29 +107,42 @@ impl Totals {
     }
 }
 
-// One slot, counted.
-fn count_next<R: Threads + Wait + Sync, G: Gate>(
-    rt: &R,
-    cluster: &mut Cluster,
-    totals: &mut Totals,
-    gate: &G,
-) -> Result<(), Memory>
-    requires valid { IsValid cluster.old.list }
-    requires script { IsValidScript cluster.old.list cluster.old.script }
-    requires slot { cluster.old.done < cluster.old.script.slots }
-    requires counted { HasCounted cluster.old totals.old }
-    ensures list { cluster.new.list ≡ cluster.old.list }
-    ensures script { cluster.new.script ≡ cluster.old.script }
-    ensures done { OnOk result (cluster.new.done ≡ cluster.old.done + 1) }
-    ensures ok { OnOk result (HasCounted cluster.new totals.new) }
-{
-    cluster.slot(rt, gate)?;
-    totals.add(cluster.report());
-    Ok(())
+// Counts each slot once it is done.
+#[derive(Drop)]
+struct SlotCounter;
+
+impl Watch for SlotCounter {
+    ghost use Rattle.cluster_run.specs.Runs.{IsToldOf, IsInRun};
+    ghost use Rattle.cluster_run.specs.Standing.{ClusterView};
+    ghost use Rattle.ttp_top.specs.Samples.Counted.{HasCounted};
+
+    type Out = Totals;
+
+    type Fault = Memory;
+
+    ghost Start = { Unit {0} };
+
+    ghost follows = { λ _ totals c. HasCounted c totals };
+
+    ghost leaves = { λ _ totals fault list script. Unit {0} };
+
+    fn told(&mut self, out: &mut Totals, _list: &Medl, report: &SlotReport) -> Result<(), Memory>
+        requires { (start : Unit {0}) × (before : ClusterView) × (now : ClusterView)
+            × IsToldOf before now _list.now report.now × HasCounted before out.old }
+        ensures ok { OnOk result ((start : Unit {0}) (before now : ClusterView)
+            → IsToldOf before now _list.now report.now → HasCounted before out.old → HasCounted now out.new) }
+    {
+        out.add(report);
+        Ok(())
+    }
+
+    fn refused(&mut self, _out: &mut Totals) -> Memory {
+        Memory
+    }
 }
 
 /// Takes a new cluster through all slots of its script, and counts what they come to. It takes no memory
-/// but the cluster's own.
+/// but the cluster's own and its workers'.
 pub(crate) fn count_run<R: Threads + Wait + Sync, G: Gate>(
     rt: &R,
     cluster: &mut Cluster,
@@ -144,8 +157,6 @@ pub(crate) fn count_run<R: Threads + Wait + Sync, G: Gate>(
     ensures ok { IfOk result (HasCounted cluster.new) }
 {
     let mut totals = Totals::new();
-    for _ in 0..cluster.slots() {
-        count_next(rt, cluster, &mut totals, gate)?;
-    }
+    cluster.run(rt, &mut SlotCounter, &mut totals, gate)?;
     Ok(totals)
 }

@@ -34,7 +34,8 @@ use Rattle.ttp_top.specs.declared.totals.Totals.{Totals}
 use Rattle.ttp_top.specs.Samples.Counted.{states_in, with_report, HasRoom, HasCounted}
 use Rattle.ttp_top.specs.Samples.Totals.{states_after, lowest_members, no_totals, with_slot, totals_of}
 use Rattle.ttp_top.proofs.Samples.Bounds.{AreSmall, totals-small}
-use Rattle.ttp_top.proofs.Scripts.Slots.{HasStepped, after, tells}
+use Rattle.cluster_run.specs.Runs.{HasDoneSlot}
+use Rattle.ttp_top.proofs.Scripts.Slots.{after, tells}
 
 -- What a report shows is what the slot adds.
 
@@ -129,7 +130,7 @@ reads-told list script new numbers legal =
 
 -- One slot more.
 
-pub slot_counted : (old new : ClusterView) → HasStepped old new → (totals : Totals) → HasCounted old totals
+pub slot_counted : (old new : ClusterView) → HasDoneSlot old new → (totals : Totals) → HasCounted old totals
     → HasCounted new (with_report totals new.report)
 slot_counted old new s totals counted =
     let numbers = counted.numbers in
@@ -158,7 +159,7 @@ slot_counted old new s totals counted =
 
 -- Its sums fit.
 
-pub slot_fits : (old new : ClusterView) → HasStepped old new → (totals : Totals) → HasCounted old totals
+pub slot_fits : (old new : ClusterView) → HasDoneSlot old new → (totals : Totals) → HasCounted old totals
     → HasRoom totals new.report
 slot_fits old new s totals counted =
     let numbers = counted.numbers in

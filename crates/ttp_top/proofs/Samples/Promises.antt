@@ -10,7 +10,6 @@ use Rattle.commands.proofs.Right.{list_from-right}
 use Rattle.commands.proofs.Told.{Quiet, told_shows}
 use Rattle.commands.specs.Outcome.{Showed}
 use Rattle.commands.specs.Plan.{Outside, ends, told_ending}
-use Rattle.commands.specs.Read.{list_from}
 use Rattle.ttp_top.specs.Calls.Answer.{Answer, Ending, Plan, ttpbench}
 use Rattle.ttp_top.specs.Calls.Forms.{sample_ending, plan_of}
 use Rattle.ttp_top.specs.Calls.Promise.{Promise}

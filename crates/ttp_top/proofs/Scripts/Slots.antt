@@ -1,5 +1,5 @@
 -- What the lines of a slot add to those that were written.
-use Rattle.std.proofs.Common.{◌≡◌, ◌+◌, ◌<◌, ◌≤◌, [], ◌∷◌, sym, subst, arith}
+use Rattle.std.proofs.Common.{◌≤◌, [], ◌∷◌, sym, subst, arith}
 use Rattle.ttp_base.specs.Outside.{Output, WroteLines, CutShort}
 use Rattle.ttp_base.proofs.Outputs.{Wrote-join, CutShort-after}
 use Rattle.ttp_world.specs.declared.medl.Medl.{Medl}
@@ -11,10 +11,9 @@ use Rattle.ttp_world.specs.Trace.{trace_head, slot_lines, run_lines}
 use Rattle.ttp_world.specs.World.{Numbers, world}
 use Rattle.ttp_world.proofs.LegalRuns.{legal-none}
 use Rattle.trace_text.specs.ReportText.{report_lines}
-use Rattle.cluster_run.specs.Choosing.{AreBytesBefore}
 use Rattle.cluster_run.specs.NextSlots.{next_row}
 use Rattle.cluster_run.specs.Report.{numbers_in}
-use Rattle.cluster_run.specs.Slots.{Steps}
+use Rattle.cluster_run.specs.Runs.{HasDoneSlot}
 use Rattle.cluster_run.specs.Standing.{ClusterView, ClusterStandsFor}
 use Rattle.cluster_run.specs.Texts.{TellsNext}
 use Rattle.cluster_run.proofs.ReportTexts.{tells_next}
@@ -23,31 +22,20 @@ use Rattle.ttp_top.specs.Calls.Texts.{fronts, traces}
 use Rattle.ttp_top.specs.Scripts.Written.{HasWritten}
 use Rattle.ttp_top.proofs.Scripts.Fronts.{wrote_front, cut_in}
 
--- a cluster did a slot, and the list and the script are as they were
-pub record HasStepped (old new : ClusterView) : Type 0 where
-  pub list : new.list ≡ old.list
-  pub script : new.script ≡ old.script
-  pub valid : IsValid old.list
-  pub valid_script : IsValidScript old.list old.script
-  pub done : new.done ≡ old.done + 1
-  pub within : old.done < old.script.slots
-  pub steps : Steps old new
-  pub bytes : AreBytesBefore new.list new.script new.done
-
 -- what is so of list and script before the slot is so after it
-pub after : {old new : ClusterView} (P : Medl → Script → Type 0) → HasStepped old new → P old.list old.script
+pub after : {old new : ClusterView} (P : Medl → Script → Type 0) → HasDoneSlot old new → P old.list old.script
     → P new.list new.script
 after {old} {new} P s before =
     subst (λ (script : Script). P new.list script) (sym s.script)
     (subst (λ (list : Medl). P list old.script) (sym s.list) before)
 
-before_it : {old new : ClusterView} (P : Medl → Script → Type 0) → HasStepped old new → P new.list new.script
+before_it : {old new : ClusterView} (P : Medl → Script → Type 0) → HasDoneSlot old new → P new.list new.script
     → P old.list old.script
 before_it {old} {new} P s now =
     subst (λ (script : Script). P old.list script) s.script (subst (λ (list : Medl). P list new.script) s.list now)
 
 -- the report may be written, and its text is the slot's
-pub tells : (old new : ClusterView) → HasStepped old new → (numbers : Numbers) → ClusterStandsFor old numbers
+pub tells : (old new : ClusterView) → HasDoneSlot old new → (numbers : Numbers) → ClusterStandsFor old numbers
     → IsLegal old.list old.script numbers → TellsNext new.list new.script numbers new.report
 tells old new s numbers stands legal =
     tells_next new numbers (after (λ list script. IsValid list) s s.valid)
@@ -55,7 +43,7 @@ tells old new s numbers stands legal =
     (after (λ list script. IsLegal list script numbers) s legal)
 
 -- once it is written, the trace is written so far
-pub slot_written : (old new : ClusterView) → HasStepped old new → (first before now : Output)
+pub slot_written : (old new : ClusterView) → HasDoneSlot old new → (first before now : Output)
     → WroteLines before now (report_lines new.list new.report) → HasWritten first before old
     → HasWritten first now new
 slot_written old new s first before now wrote w =
@@ -74,7 +62,7 @@ slot_written old new s first before now wrote w =
     }
 
 -- and where it is cut short, one of the traces is
-pub slot_cut : (old new : ClusterView) → HasStepped old new → (first before now : Output)
+pub slot_cut : (old new : ClusterView) → HasDoneSlot old new → (first before now : Output)
     → CutShort before now (report_lines new.list new.report) → HasWritten first before old
     → CutOf (traces old.list old.script) first now
 slot_cut old new s first before now cut w =

@@ -1,5 +1,5 @@
 -- A trace: the lines of a run, and then those of the tests.
-use Rattle.std.proofs.Common.{◌≡◌, ◌≢◌, ℕ, Some, refl, sym, subst, ◌∙◌, inl, inr, arith}
+use Rattle.std.proofs.Common.{◌≡◌, ℕ, refl, sym, subst, ◌∙◌, inl, inr}
 use Rattle.ttp_base.specs.Outside.{Output, WroteLines, CutShort}
 use Rattle.ttp_base.proofs.Outputs.{Wrote-join, CutShort-after}
 use Rattle.ttp_world.specs.declared.medl.Medl.{Medl}

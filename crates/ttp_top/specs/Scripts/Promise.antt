@@ -1,5 +1,5 @@
 -- The promise of `run MEDL SCRIPT` in its own words.
-use Rattle.std.specs.Prelude.{◌≡◌, ◌⊎◌, ℕ, List, [], length, Option, IsSomeAnd}
+use Rattle.std.specs.Prelude.{◌≡◌, ◌⊎◌, ℕ, List, Option, IsSomeAnd}
 use Rattle.ttp_base.specs.Outside.{HasRisen, Output, WroteLines}
 use Rattle.ttp_base.specs.Text.{Lines}
 use Rattle.ttp_world.specs.declared.keep.Back.TheVariants as back

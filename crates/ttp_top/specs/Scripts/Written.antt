@@ -11,13 +11,7 @@ use Rattle.ttp_top.specs.declared.trace.RunFault.TheVariants as fault
 use Rattle.ttp_top.specs.Calls.Answer.{WroteOf, CutOf}
 use Rattle.ttp_top.specs.Calls.Texts.{traces, fronts}
 
--- a cluster stands for legal numbers of as many slots as it has done
-pub record StandsLegally (c : ClusterView) : Type 0 where
-  pub numbers : Numbers
-  pub stands : ClusterStandsFor c numbers
-  pub legal : IsLegal c.list c.script numbers
-
--- and the trace up to there was written for them
+-- a cluster stands for legal numbers of as many slots as it has done, and the trace up to there was written for them
 pub record HasWritten (before now : Output) (c : ClusterView) : Type 0 where
   pub numbers : Numbers
   pub stands : ClusterStandsFor c numbers

@@ -1,4 +1,4 @@
-use Rattle.std.proofs.Common.{refl}
+use Rattle.std.proofs.lemmas.Result.{on_ok_weaker, IfErr-weaker}
 use Rattle.ttp_top.proofs.Scripts.Slots.{head_written, head_cut}
 use Rattle.ttp_top.proofs.trace.put_run.Goals as goal
 
@@ -8,14 +8,24 @@ returns-in_default-clause-fault g c =
     head_cut c.args.cluster.now.list c.args.cluster.now.script (g.K.Sink.output c.args.out.now)
     (g.K.Sink.output c.put_header.new.out) c.requires.valid c.requires.script cut
 
-pub loop-init : goal.loop-init
-loop-init g c =
+pub run-requires-clause-follows : goal.run-requires-clause-follows
+run-requires-clause-follows g c κs within =
+    let wrote = rw (c.list.ensures, c.script.ensures) at c.in-Ok.ensures.ok in (
+      g.K.Sink.output c.args.out.now,
+      head_written c.args.cluster.now (g.K.Sink.output c.args.out.now) (g.K.Sink.output c.put_header.new.out)
+          c.requires.new wrote,
+    )
+
+pub returns-clause-ok : goal.returns-clause-ok
+returns-clause-ok g c =
     let wrote = rw (c.list.ensures, c.script.ensures) at c.in-Ok.ensures.ok in
-    record {
-      list = refl;
-      script = refl;
-      done = c.requires.new.done;
-      written =
-          head_written c.args.cluster.now (g.K.Sink.output c.args.out.now) (g.K.Sink.output c.put_header.new.out)
-          c.requires.new wrote;
-    }
+    let begun = head_written c.args.cluster.now (g.K.Sink.output c.args.out.now) (g.K.Sink.output c.put_header.new.out)
+    c.requires.new wrote in
+    on_ok_weaker c.run.result (λ ok. ok (g.K.Sink.output c.args.out.now) begun) c.run.ensures.ok
+
+pub returns-clause-fault : goal.returns-clause-fault
+returns-clause-fault g c =
+    let wrote = rw (c.list.ensures, c.script.ensures) at c.in-Ok.ensures.ok in
+    let begun = head_written c.args.cluster.now (g.K.Sink.output c.args.out.now) (g.K.Sink.output c.put_header.new.out)
+    c.requires.new wrote in
+    IfErr-weaker c.run.result _ _ (λ fault left. left (g.K.Sink.output c.args.out.now) begun) c.run.ensures.fault
