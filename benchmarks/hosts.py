@@ -3,7 +3,7 @@
 
 A host writes in every third slot, and in each slot one reads its status and one reads another node's messages. Beside it
 stand the same list and slots without host lines, and a program that it builds, which starts and joins as many threads as
-the run does, one after another, and has them do nothing. Printed are nanoseconds a slot, by the clock and by how long processors
+a run would that started them in each slot, one after another, and has them do nothing. Printed are nanoseconds a slot, by the clock and by how long processors
 were at work, each the least of some runs with the trace to /dev/null.
 
 It prints the most memory that the process held, for 2,000 and for 20,000 slots: with the same number of host lines, which
@@ -63,7 +63,7 @@ def host_lines(slots, step=1):
 
 
 def joins_in(slots):
-    """How many threads a run with these lines starts: one for a write beside a fetch, and two where hosts read."""
+    """How many threads a run with these lines would start: one for a write beside a fetch, and two where hosts read."""
     return 2 * slots + (slots + 2) // 3
 
 
