@@ -13,23 +13,34 @@ use crate::ending::{Common, end_all};
 use crate::jobs::{EndJob, HostJob};
 use crate::nodes::{Desk, Nodes};
 use crate::sending::fetch_all;
-use crate::staff::Hired;
+use crate::staff::{Hired, Hosts};
 use controller::Seat;
+use errand::ends::Waiting;
 use host_port::{Fetcher, HostEnd, HostReaders, WriteLine};
 use medium::Medium;
 use std::alloc::Global;
 use std::sync::{Arc, Wait};
-use std::{hint, mem};
+use std::{hint, mem, thread};
 use ttp_base::{Gate, Memory};
 use ttp_world::{HostRead, Medl, Script};
 
-// How long a worker is waited for that was just asked, in turns of a spinning wait. It takes so long to see that, and a
-// few fetches less: without the wait they would be over in each slot before the first write.
-const HEAD_START: u32 = 20;
+// Looks before a yield, and at all.
+const SPINS: u32 = 400;
 
-fn wait_for_worker() {
-    for _ in 0..HEAD_START {
-        hint::spin_loop();
+const LOOKS: u32 = 450;
+
+// Waits a little for a worker that was just asked, until it has begun: else a few fetches would be over in each slot before
+// the first write. What it was asked for has to be waited for anyway.
+fn wait_for_start<'b, 'a>(waiting: &Waiting<'b, HostJob<'a>, Hosts>) {
+    for looks in 0..LOOKS {
+        if waiting.is_begun() {
+            return;
+        }
+        if looks < SPINS {
+            hint::spin_loop();
+        } else {
+            thread::yield_now();
+        }
     }
 }
 
@@ -66,7 +77,7 @@ pub(crate) fn write_beside<'b, 'a, R: Wait, G: Gate>(
         ends,
         lines,
     });
-    wait_for_worker();
+    wait_for_start(&waiting);
     let fetchers = fetch_all(fetchers, gate);
     let (hosts, job) = waiting.take(rt);
     match job {

@@ -18,12 +18,14 @@ const WORKER: usize = 1;
 
 const GIVER: usize = 2;
 
-// How it is with an end: it is not at work yet (0), it sleeps, or it is awake.
+// How it is with an end: it is not at work yet (0), it sleeps, it is awake, or it is at a job.
 const AWAY: u64 = 0;
 
 const ASLEEP: u64 = 1;
 
 const AWAKE: u64 = 2;
+
+const BUSY: u64 = 3;
 
 // What the turn's word says.
 const GIVEN: u64 = 1;
@@ -161,6 +163,11 @@ fn wait_done<R: Wait, J, D: Errand<J>>(rt: &R, board: &Board<J, D>, seat: &mut E
 }
 
 impl<'a, J, D: Errand<J>> Waiting<'a, J, D> {
+    /// Whether the worker has begun the job, or has done it. Who would have both sides at work at once looks first.
+    pub fn is_begun(&self) -> bool {
+        self.board.peek(WORKER) == BUSY || self.board.peek(TURN) != GIVEN
+    }
+
     /// Waits for the job. It comes back as the work leaves it.
     pub fn take<R: Wait>(self, rt: &R) -> (Giver<'a, J, D>, J)
         ensures { (j : J) → self.entry.seat.me.0.job ≡ Some j → D.does j result.1 }
@@ -212,6 +219,15 @@ fn do_job<J, D: Errand<J>, F: Fn(J) -> J>(board: &Board<J, D>, seat: &mut End<J>
     }
 }
 
+// Says how it is with the worker.
+fn tell<J, D: Errand<J>>(board: &Board<J, D>, seat: &mut End<J>, state: u64)
+    requires seated { IsSeated board.now.table_id seat.old.table_id }
+    requires seat { number seat.old.me.0.role ≢ 0 }
+    ensures { (seat.new.table_id ≡ seat.old.table_id) × (seat.new.me ≡ seat.old.me) }
+{
+    board.store::<Same>(seat, WORKER, state);
+}
+
 impl<'a, J, D: Errand<J>> Worker<'a, J, D> {
     /// Does this work on each job until the giver is dropped.
     pub fn serve<R: Wait, F: Fn(J) -> J>(self, rt: &R, work: &F)
@@ -224,7 +240,9 @@ impl<'a, J, D: Errand<J>> Worker<'a, J, D> {
             if !wait_given(rt, board, &mut seat) {
                 return;
             }
+            tell(board, &mut seat, BUSY);
             do_job(board, &mut seat, work);
+            tell(board, &mut seat, AWAKE);
         }
         unreachable!()
     }
