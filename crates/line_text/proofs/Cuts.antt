@@ -1,5 +1,5 @@
 -- The lines of a text: behind whole lines come those of the rest, and they make up the text.
-use Rattle.std.proofs.Common.{◌≡◌, ℕ, Bool, true, false, cond, List, [], ◌∷◌, ◌++◌, length, refl, ap, sym, ◌∙◌, arith}
+use Rattle.std.proofs.Common.{◌≡◌, ℕ, Bool, true, false, cond, List, [], ◌∷◌, ◌++◌, refl, ap, sym, ◌∙◌}
 use Rattle.std.proofs.Common.{append_assoc, take, zero, suc}
 use Rattle.std.specs.Prelude.{◌==◌}
 use Rattle.std.specs.List.{concat, AllByRecursion}
@@ -9,13 +9,6 @@ use Rattle.ttp_base.proofs.Lines.{lines_of-line}
 
 abbrev pub AreLines : Lines → Type 0
 AreLines lines = AllByRecursion (λ line. is_line line ≡ true) lines
-
-    go : (feed : Bool) → (b == 10) ≡ feed → cond feed (length line == 0) (is_line line) ≡ true
-        → (is_line line ≡ true → lines_of (line ++ more) ≡ line ∷ lines_of more)
-        → cond feed (newline ∷ lines_of (line ++ more)) (before_lines b (lines_of (line ++ more)))
-        ≡ (b ∷ line) ∷ lines_of more
-    go true feed is after = ends line (grind arith) is
-    go false feed is after = ap (before_lines b) (after is)
 
 pub lines_of-behind : (lines : Lines) (more : List ℕ) → AreLines lines
     → lines_of (concat lines ++ more) ≡ lines ++ lines_of more
