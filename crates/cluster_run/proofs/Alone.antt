@@ -20,8 +20,8 @@ use Rattle.cluster_run.specs.Rings.{pairs_sent, words_written}
 use Rattle.cluster_run.specs.Sending.{FetchesAlone, MayFetchAlone, SettlesFetch, write_steps, after_writes}
 use Rattle.cluster_run.proofs.Choices.{node_choice}
 use Rattle.cluster_run.proofs.Deliverable.{loaded-payload}
-use Rattle.cluster_run.proofs.Places.{at_any}
 use Rattle.cluster_run.proofs.Sends.{fetched_may, has_ring, may_lend}
+use Rattle.ttp_world.proofs.ListFacts.{at_any}
 
 -- The first controllers have fetched, so many, and what is of the others is as it was.
 pub record HaveFetched (list : Medl) (seats : List Seat) (k : ℕ) (old_ends ends : List HostState) (old_chosen chosen : List Chosen) : Type 0 where

@@ -187,15 +187,6 @@ taken_room h xs i x y within here is =
     (ap (filter_map h) (sym (take-append-drop (i + 1) xs)) ∙ filter_map-append h (take (i + 1) xs) (drop (i + 1) xs)) in
     omega (arith, one, whole, length-append (filter_map h (take i xs)) (y ∷ []), length-append front back)
 
-cons_option-length : {Y : Type 0} (o : Option Y) (ys : List Y) (n : ℕ) → length ys ≤ n
-    → length (cons_option o ys) ≤ suc n
-cons_option-length None ys n few = omega (arith, few)
-cons_option-length (Some y) ys n few = omega (arith, few)
-
-pub filter_map-few : {X Y : Type 0} (h : X → Option Y) (xs : List X) → length (filter_map h xs) ≤ length xs
-filter_map-few h [] = omega arith
-filter_map-few h (x ∷ xs) = cons_option-length (h x) (filter_map h xs) (length xs) (filter_map-few h xs)
-
 -- an end that takes something is there
 pub takes-within : (ends : List HostState) (k size : ℕ) → Takes (host_at ends k) size → k < length ends
 takes-within [] k size takes = absurd takes
