@@ -2,7 +2,7 @@
 use Rattle.std.proofs.Common.{◌≡◌, ℕ, ◌+◌, ◌-◌, ◌*◌, ◌/◌, ◌<◌, ◌≤◌, Bool, true, false, cond, nat_lt, sym, ap, ◌∙◌, subst, arith}
 use Rattle.std.proofs.Math.Nat.{suc-mul}
 use Rattle.std.proofs.lemmas.Bool.{ltb-false, lt-ltb}
-use Rattle.nbw_ring.specs.Attempts.{attempt_steps, HasStepped}
+use Rattle.nbw_ring.specs.Attempts.{attempt_steps, RepeatSteps}
 use Rattle.nbw_ring.specs.Numbers.{limit}
 use Rattle.nbw_ring.specs.States.{RingState, ReaderState}
 
@@ -78,7 +78,7 @@ module _ (old mid new : ReaderState) (still : StillReads old mid) (ring : new.ri
       }
 
   -- one more that got a message
-  pub has_stepped : new.first ≤ new.seen → new.seen < limit new.ring.shape (new.first / 2) → HasStepped old new
+  pub has_stepped : new.first ≤ new.seen → new.seen < limit new.ring.shape (new.first / 2) → RepeatSteps old new
   has_stepped forward intact =
       let before = still.tries in
       let below : nat_lt new.first (limit new.ring.shape (new.first / 2)) ≡ true =

@@ -48,7 +48,7 @@ attempt_steps r = if nat_lt r.first (limit r.ring.shape (r.first / 2)) then r.ri
 
 -- the steps of attempts that were repeated: `late` of them ended with their first load, which comes with one buffer
 -- alone, and the others, of which there is one, loaded all words
-pub record HasStepped (old new : ReaderState) : Type 0 where
+pub record RepeatSteps (old new : ReaderState) : Type 0 where
   pub late : ℕ
   pub full : ℕ
   pub some : 0 < full
