@@ -47,7 +47,7 @@ abbrev pub attempt_steps : ReaderState → ℕ
 attempt_steps r = if nat_lt r.first (limit r.ring.shape (r.first / 2)) then r.ring.shape.width + 2 else 1
 
 -- the steps of attempts that were repeated: `late` of them ended with their first load, which comes with one buffer
--- alone, and the others, of which there is one, loaded all words
+-- alone, and the others, one at least, loaded all words
 pub record RepeatSteps (old new : ReaderState) : Type 0 where
   pub late : ℕ
   pub full : ℕ
