@@ -3,7 +3,7 @@ use Rattle.std.specs.Prelude.{◌≡◌, ◌≢◌, ◌⊎◌, ℕ, ◌+◌, ◌
 use Rattle.std.specs.Prelude.{map, filter, count_by, length, get_or, take, Option, Some, None, option_map, nat_lt, IsSome, IsSomeAnd}
 use Rattle.std.specs.Prelude.{if◌then◌else◌}
 use Rattle.nbw_ring.specs.declared.view.Message.{Message}
-use Rattle.nbw_ring.specs.Attempts.{Gets, GetsNothing}
+use Rattle.nbw_ring.specs.Attempts.{attempt_steps, RepeatSteps, Gets, GetsNothing}
 use Rattle.nbw_ring.specs.Numbers.{limit}
 use Rattle.nbw_ring.specs.States.{RingState, WriterState, ReaderState, new_reader, with_joined}
 use Rattle.ttp_world.specs.declared.host_lines.HostRead.{HostRead}
@@ -73,6 +73,7 @@ is_intact r = nat_lt r.seen (limit r.ring.shape (r.first / 2))
 pub record Attempts (old new : ReaderState) : Type 0 where
   pub ring : new.ring ≡ old.ring
   pub tries : new.tries ≡ old.tries + 1
+  pub steps : new.steps ≡ old.steps + attempt_steps new
   pub later : old.seen ≤ new.first
   pub forward : new.first ≤ new.seen
   pub floor : old.floor ≤ new.first / 2
@@ -83,6 +84,7 @@ pub record Attempts (old new : ReaderState) : Type 0 where
 pub record Repeats (old new : ReaderState) : Type 0 where
   pub ring : new.ring ≡ old.ring
   pub tries : old.tries < new.tries
+  pub steps : RepeatSteps old new
   pub later : old.seen ≤ new.first
   pub forward : new.first ≤ new.seen
   pub floor : old.floor ≤ new.first / 2
