@@ -1,6 +1,6 @@
 -- Lines that are written one after another, and those of the nodes in a report.
 use Rattle.std.proofs.Common.{◌≡◌, ℕ, zero, suc, ◌+◌, ◌<◌, List, [], ◌∷◌, ◌++◌, length, get_or, take, drop}
-use Rattle.std.proofs.Common.{Result, Ok, Err, OnErr, refl, sym, ap, subst, ◌∙◌, arith}
+use Rattle.std.proofs.Common.{refl, sym, ap, subst, ◌∙◌, arith}
 use Rattle.std.proofs.lemmas.List.{take_more, take-append-drop}
 use Rattle.ttp_base.specs.Outside.{Output, WroteLines, CutShort}
 use Rattle.ttp_base.specs.Text.{Lines}
@@ -9,11 +9,6 @@ use Rattle.ttp_world.specs.declared.medl.Medl.{Medl}
 use Rattle.host_port.specs.declared.report.NodeLine.{NodeLine}
 use Rattle.line_text.specs.LineParts.{listed_line}
 use Rattle.trace_text.specs.ReportText.{node_texts}
-
--- what holds at an error
-pub on_err : {A E P : Type 0} (r : Result A E) → P → OnErr r P
-on_err (Ok x) p = tt
-on_err (Err e) p = p
 
 -- The first lines of a text were written, and the next one is, whole or cut short.
 
