@@ -146,14 +146,16 @@ impl Cluster {
 
     /// The list that it was made with.
     pub fn list(&self) -> &Medl
-        ensures { result.now ≡ self.now.list }
+        ensures value { result.now ≡ self.now.list }
+        ensures valid { IsValid result.now }
     {
         &self.list
     }
 
     /// The script that it was made with.
     pub fn script(&self) -> &Script
-        ensures { result.now ≡ self.now.script }
+        ensures value { result.now ≡ self.now.script }
+        ensures valid { IsValidScript self.now.list result.now }
     {
         &self.script
     }

@@ -8,3 +8,4 @@ pub mod Loads
 pub mod Promises
 pub mod Both
 pub mod Told
+pub mod Sure

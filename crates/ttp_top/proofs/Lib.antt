@@ -4,3 +4,4 @@ pub mod Samples
 pub mod Traces
 pub mod Lists
 pub mod Tests
+pub mod Callers

@@ -1,6 +1,7 @@
 -- The headline in a caller's words: a text that can be trusted.
-use Rattle.std.specs.Prelude.{◌≡◌, ◌≤◌, ℕ, List}
+use Rattle.std.specs.Prelude.{◌≡◌, ◌⊎◌, ◌<◌, ℕ, List, length}
 use Rattle.std.specs.List.{concat}
+use Rattle.ttp_base.specs.Text.{Lines}
 use Rattle.ttp_world.specs.declared.keep.Keep.TheVariants as keep
 use Rattle.ttp_world.specs.declared.medl.Medl.{Medl}
 use Rattle.ttp_world.specs.declared.script.Script.{Script}
@@ -12,7 +13,9 @@ use Rattle.ttp_world.specs.Script.{IsValidScript}
 use Rattle.ttp_world.specs.Trace.{trace_lines}
 use Rattle.ttp_world.specs.World.{Numbers, world}
 use Rattle.theorems.specs.Since.{HoldsSince}
+use Rattle.commands.specs.Read.{trace_limit}
 use Rattle.commands.specs.Right.{AreRight}
+use Rattle.ttp_top.specs.Calls.Texts.{IsTrace}
 use Rattle.uses_bench.specs.declared.memory.Missing.{Missing}
 use Rattle.uses_bench.specs.declared.memory.Missing.TheVariants as missing
 
@@ -30,8 +33,16 @@ pub record IsSafeTrace (list_bytes script_bytes text : List ℕ) : Type 0 where
   pub safe : (start : ℕ) → keeps list script ≡ keep.Yes start
       → HoldsSince (IsSafe list script) start (world list script numbers)
 
--- a list and a script that are right are missed by want of memory alone, or by a status that blames the outside
-abbrev pub IsMissed : List ℕ → List ℕ → Missing → Type 0
-IsMissed list_bytes script_bytes missing.Memory = Unit {0}
-IsMissed list_bytes script_bytes (missing.Status status) =
-    (list : Medl) (script : Script) → AreRight list_bytes script_bytes list script → 5 ≤ status
+-- a trace of a list and a script is longer than a room, which is less than the file of a trace may have
+pub record IsTooSmall (room : ℕ) (list : Medl) (script : Script) : Type 0 where
+  pub lines : Lines
+  pub trace : IsTrace list script lines
+  pub longer : room < length (concat lines)
+  pub limit : room < trace_limit
+
+-- a list and a script that are right are missed by want of memory alone, or, with status 6, for want of room
+abbrev pub IsMissed : List ℕ → List ℕ → ℕ → Missing → Type 0
+IsMissed list_bytes script_bytes room missing.Memory = Unit {0}
+IsMissed list_bytes script_bytes room (missing.Status status) =
+    (list : Medl) (script : Script) → AreRight list_bytes script_bytes list script
+    → (status ≡ 7) ⊎ ((status ≡ 6) × IsTooSmall room list script)

@@ -2,11 +2,11 @@
 ghost use Rattle.std.specs.Prelude.{IfOk, IfErr};
 ghost use Rattle.uses_bench.specs.SafeTrace.{IsSafeTrace, IsMissed};
 
-use crate::memory::{Missing, holding, words_of};
+use crate::memory::{Missing, holding, sink_of, words_of};
 use std::alloc::Global;
 use std::sync::Wait;
 use std::thread::Threads;
-use ttp_base::{List, MemorySink, OpenGate};
+use ttp_base::OpenGate;
 use ttp_top::bench;
 
 /// The text of a run of a script for a list, whose files have these bytes, where the text has no more than
@@ -19,11 +19,11 @@ pub fn safe_trace<R: Threads + Wait + Sync>(
     room: usize,
 ) -> Result<Vec<u8>, Missing>
     ensures trace { IfOk result (λ text. IsSafeTrace list.now script.now text.items) }
-    ensures missing { IfErr result (IsMissed list.now script.now) }
+    ensures missing { IfErr result (IsMissed list.now script.now room) }
 {
     let words = words_of(alloc, &["run", "list", "script"])?;
     let mut library = holding(alloc, list, script, &[])?;
-    let mut out = MemorySink::new(alloc, room, List::new(alloc))?;
+    let mut out = sink_of(alloc, room)?;
     let gate = OpenGate::new();
     let status = bench(rt, alloc, &words, &mut library, &mut out, &gate, &mut None);
     if status != 0 {

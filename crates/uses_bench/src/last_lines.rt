@@ -3,11 +3,11 @@ ghost use Rattle.std.specs.Prelude.{IfOk};
 ghost use Rattle.uses_bench.specs.LastLines.{AreTested, EndsWith};
 
 use crate::headline::safe_trace;
-use crate::memory::{Missing, holding, words_of};
+use crate::memory::{Missing, holding, sink_of, words_of};
 use std::alloc::Global;
 use std::sync::Wait;
 use std::thread::Threads;
-use ttp_base::{List, MemorySink, OpenGate};
+use ttp_base::OpenGate;
 use ttp_top::bench;
 
 // What `keeps` writes of these files.
@@ -22,7 +22,7 @@ fn tested<R: Threads + Wait + Sync>(
 {
     let words = words_of(alloc, &["keeps", "list", "script"])?;
     let mut library = holding(alloc, list, script, &[])?;
-    let mut out = MemorySink::new(alloc, room, List::new(alloc))?;
+    let mut out = sink_of(alloc, room)?;
     let gate = OpenGate::new();
     match bench(rt, alloc, &words, &mut library, &mut out, &gate, &mut None) {
         0 => Ok(Vec::from_slice(alloc, out.bytes())?),

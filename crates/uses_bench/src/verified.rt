@@ -1,16 +1,19 @@
 //! What `verify` says of a text that `run` wrote.
-ghost use Rattle.std.specs.Prelude.{◌≡◌, ◌≤◌, IfOk};
+ghost use Rattle.std.specs.Prelude.{◌≡◌, ◌⊎◌, IfOk, IfErr};
+ghost use Rattle.uses_bench.specs.SafeTrace.{IsMissed};
 
 use crate::headline::safe_trace;
-use crate::memory::{Missing, holding, words_of};
+use crate::memory::{Missing, holding, sink_of, words_of};
 use std::alloc::Global;
 use std::sync::Wait;
 use std::thread::Threads;
-use ttp_base::{List, MemorySink, OpenGate};
+use ttp_base::OpenGate;
 use ttp_top::bench;
 
-/// The status of `verify` for the text of a run: 0, or one above 4, which says that the outside failed or
-/// memory was refused.
+// More bytes than the line of a verdict has.
+const VERDICT_ROOM: usize = 256;
+
+/// The status of `verify` for the text of a run: 0, or 7 where memory was refused.
 pub fn verify_run<R: Threads + Wait + Sync>(
     rt: &R,
     alloc: Global,
@@ -18,12 +21,13 @@ pub fn verify_run<R: Threads + Wait + Sync>(
     script: &[u8],
     room: usize,
 ) -> Result<u8, Missing>
-    ensures { IfOk result (λ status. status ≤ 4 → status ≡ 0) }
+    ensures same { IfOk result (λ status. (status ≡ 0) ⊎ (status ≡ 7)) }
+    ensures missing { IfErr result (IsMissed list.now script.now room) }
 {
     let text = safe_trace(rt, alloc, list, script, room)?;
     let words = words_of(alloc, &["verify", "list", "script", "trace"])?;
     let mut library = holding(alloc, list, script, text.as_slice())?;
-    let mut out = MemorySink::new(alloc, room, List::new(alloc))?;
+    let mut out = sink_of(alloc, VERDICT_ROOM)?;
     let gate = OpenGate::new();
     Ok(bench(rt, alloc, &words, &mut library, &mut out, &gate, &mut None))
 }

@@ -6,6 +6,7 @@ use Rattle.ttp_base.proofs.Outputs.{Wrote-none}
 use Rattle.ttp_world.specs.declared.medl.Medl.{Medl}
 use Rattle.ttp_world.specs.declared.script.Script.{Script}
 use Rattle.ttp_world.specs.Legal.{IsLegal}
+use Rattle.ttp_world.specs.Medl.{IsValid}
 use Rattle.ttp_world.specs.Script.{IsValidScript}
 use Rattle.ttp_world.specs.World.{world}
 use Rattle.script_gen.specs.Generator.{generated}
@@ -27,10 +28,10 @@ pub record HasCountedAll (list : Medl) (script : Script) (c : ClusterView) (tota
   pub ran : HasRunLegally list script c
   pub totals_are : totals ≡ totals_of list script (world list script ran.numbers)
 
-pub all_counted : (list : Medl) (script : Script) (c : ClusterView) (totals : Totals) → IsValidScript list script
-    → c.list ≡ list → c.script ≡ script → c.done ≡ script.slots → HasCounted c totals
+pub all_counted : (list : Medl) (script : Script) (c : ClusterView) (totals : Totals) → IsValid list
+    → IsValidScript list script → c.list ≡ list → c.script ≡ script → c.done ≡ script.slots → HasCounted c totals
     → HasCountedAll list script c totals
-all_counted list script c totals valid list_is script_is done w = record {
+all_counted list script c totals valid_list valid list_is script_is done w = record {
   valid = valid;
   ran = record {
     numbers = w.numbers;
@@ -39,7 +40,14 @@ all_counted list script c totals valid list_is script_is done w = record {
       legal = subst (λ (s : Script). IsLegal list s w.numbers) script_is
           (subst (λ (l : Medl). IsLegal l c.script w.numbers) list_is w.legal);
     };
-    run = record { list_is = list_is; script_is = script_is; done = done; stands = w.stands };
+    run = record {
+      valid = valid_list;
+      valid_script = valid;
+      list_is = list_is;
+      script_is = script_is;
+      done = done;
+      stands = w.stands;
+    };
   };
   totals_are = w.totals_are ∙ (λ i. totals_of (list_is i) (script_is i) (world (list_is i) (script_is i) w.numbers));
 }

@@ -27,8 +27,9 @@ pub record HasWrittenAll (list : Medl) (script : Script) (before now : Output) (
   pub run : HasRun list script numbers c
 
 pub all_written : (list : Medl) (script : Script) (before now : Output) (c : ClusterView) → c.list ≡ list
-    → c.script ≡ script → c.done ≡ script.slots → HasWritten before now c → HasWrittenAll list script before now c
-all_written list script before now c list_is script_is done w = record {
+    → c.script ≡ script → c.done ≡ script.slots → IsValid list → IsValidScript list script → HasWritten before now c
+    → HasWrittenAll list script before now c
+all_written list script before now c list_is script_is done valid valid_script w = record {
   numbers = w.numbers;
   legal = record {
     count = sym w.stands.done ∙ done;
@@ -37,7 +38,14 @@ all_written list script before now c list_is script_is done w = record {
   };
   lines = subst (λ (s : Script). WroteLines before now (run_lines list s w.numbers)) script_is
       (subst (λ (l : Medl). WroteLines before now (run_lines l c.script w.numbers)) list_is w.lines);
-  run = record { list_is = list_is; script_is = script_is; done = done; stands = w.stands };
+  run = record {
+    valid = valid;
+    valid_script = valid_script;
+    list_is = list_is;
+    script_is = script_is;
+    done = done;
+    stands = w.stands;
+  };
 }
 
 -- a trace names the numbers that it was made with

@@ -5,6 +5,8 @@ use Rattle.ttp_base.specs.Text.{Lines}
 use Rattle.ttp_world.specs.declared.medl.Medl.{Medl}
 use Rattle.ttp_world.specs.declared.script.Script.{Script}
 use Rattle.ttp_world.specs.Legal.{IsLegalRun}
+use Rattle.ttp_world.specs.Medl.{IsValid}
+use Rattle.ttp_world.specs.Script.{IsValidScript}
 use Rattle.ttp_world.specs.TraceNumbers.{numbers_in}
 use Rattle.ttp_world.specs.World.{Numbers}
 use Rattle.script_gen.specs.Generator.{generated}
@@ -13,8 +15,10 @@ use Rattle.commands.specs.Plan.{Ending as EndingOf, Plan as PlanOf}
 use Rattle.commands.specs.Texts.{Program, those, Answer as AnswerOf, WroteAmong, CutAmong}
 use Rattle.ttp_top.specs.Calls.Texts.{Sets, traces, fronts, differences, precisions, samples, IsOf}
 
--- a cluster that has done all slots of a script for a list, and stands for these message numbers
+-- a cluster that has done all slots of a valid script for a valid list, and stands for these message numbers
 pub record HasRun (list : Medl) (script : Script) (numbers : Numbers) (c : ClusterView) : Type 0 where
+  pub valid : IsValid list
+  pub valid_script : IsValidScript list script
   pub list_is : c.list ≡ list
   pub script_is : c.script ≡ script
   pub done : c.done ≡ script.slots

@@ -1,50 +1,25 @@
-use Rattle.std.proofs.Common.{String, inl, inr, ◌≡◌, ◌∙◌, ◌≤◌, ℕ, List, Option, Some, ap, sym, codes, arith, subst}
-use Rattle.std.specs.declared.alloc.Global.{Global}
-use Rattle.std.proofs.lemmas.Bool.{true≢false}
+use Rattle.std.proofs.Common.{◌≡◌, ◌∙◌, refl, [], ◌∷◌, length, ap, codes, arith}
+use Rattle.std.specs.List.{concat}
 use Rattle.ttp_base.specs.Outside.{holds}
-use Rattle.commands.specs.Plan.{Outside}
 use Rattle.commands.specs.Words.{texts_of}
-use Rattle.trace_check.proofs.OwnNumbers.{numbers-is_trace}
-use Rattle.ttp_top.specs.Calls.Answer.{Answer}
-use Rattle.ttp_top.specs.Calls.Promise.{Promise}
-use Rattle.ttp_top.specs.Calls.Words.{Form, verify, form_of}
-use Rattle.ttp_top.specs.Traces.Promise.{VerifyPromise, AreAllTold}
-use Rattle.uses_bench.specs.SafeTrace.{IsSafeTrace}
-use Rattle.uses_bench.proofs.Held.{quiet, files_told}
+use Rattle.commands.proofs.Sure.{surely_in_memory}
+use Rattle.ttp_top.specs.Calls.Differences.{same_line}
+use Rattle.ttp_top.specs.Calls.Words.{form_of}
+use Rattle.ttp_top.proofs.Callers.{judged_trace, own_text}
 use Rattle.uses_bench.proofs.verified.verify_run.Goals as goal
 
--- the promise of `verify` on the text of a run, where all files are held and no fault was counted before
-same : (list script text : List ℕ) (form : Option Form) (before now : Outside) (answer : Answer)
-    → IsSafeTrace list script text → form ≡ Some (verify (codes "list") (codes "script") (codes "trace"))
-    → Promise form before now answer
-    → VerifyPromise (codes "list") (codes "script") (codes "trace") before now answer
-    → before.files.held (codes "list") ≡ holds list → before.files.held (codes "script") ≡ holds script
-    → before.files.held (codes "trace") ≡ holds text → ((name : List ℕ) → before.files.faults name ≡ 0)
-    → before.output.faults ≡ 0 → answer.status ≤ 4 → answer.status ≡ 0
-same list script text form before now answer w is_form every own l s t none silent low =
-    let ended = (subst (λ (f : Option Form). Promise f before now answer) is_form every).ended low in
-    let told : AreAllTold (codes "list") (codes "script") (codes "trace") before now w.list w.script text = record {
-      files = files_told list script before now w.list w.script l s w.are none ended.1.quiet;
-      trace_file = t;
-      trace_quiet = quiet _ _ (none (codes "trace")) (ended.1.quiet (codes "trace"));
-    } in
-    let is = numbers-is_trace w.list w.script text w.valid w.valid_script
-    (record { numbers = w.numbers; legal = w.legal; whole = w.whole }) in
-    elim (own.complete w.list w.script text told (quiet _ _ silent ended.2.text.wrote.quiet)) [
-      | inl judged ↦
-          elim judged.verdict [ inl right ↦ right.0 | inr wrong ↦ absurd (true≢false (sym is ∙ wrong.1.0)) ]
-      | inr seven ↦ omega (arith, seven.0, low)
-    ]
-
-pub returns : goal.returns
-returns g c =
-    let asked = Some (verify (codes "list") (codes "script") (codes "trace")) in
-    let form : form_of (texts_of c.deref.result.now) ≡ asked =
-    ap (λ (words : List (String Global)). form_of (texts_of words)) c.deref.ensures.value
-    ∙ ap form_of c.in_ok-words.ensures in
-    same c.args.list.now c.args.script.now c.in_ok-text.text.items _ _ _ _ c.in_ok-text.ensures.trace form
-    c.bench.ensures.promise
-    (c.bench.ensures.verify (codes "list") (codes "script") (codes "trace") form)
-    c.in_ok-library.ensures.list c.in_ok-library.ensures.script
-    (c.in_ok-library.ensures.trace ∙ ap holds c.as_slice.ensures.value) (λ name. c.in_ok-library.ensures.quiet)
-    c.in_ok-out.ensures.nothing.1
+pub returns-clause-same : goal.returns-clause-same
+returns-clause-same g c =
+    let asked = ap form_of (ap texts_of c.deref.ensures.value ∙ c.in_ok-words.ensures) in
+    let w = c.in_ok-text.ensures.trace in
+    let made = c.in_ok-library in
+    let five : length (concat (same_line ∷ [])) ≡ 5 = refl in
+    judged_trace c.bench.ensures.promise.call
+    (surely_in_memory made.library (codes "list") c.args.list.now made.ensures.never made.ensures.list)
+    (surely_in_memory made.library (codes "script") c.args.script.now made.ensures.never made.ensures.script) w.are
+    (omega (arith, c.in_ok-out.ensures.quiet))
+    (surely_in_memory made.library (codes "trace") c.in_ok-text.text.items made.ensures.never
+    (made.ensures.trace ∙ ap holds c.as_slice.ensures.value))
+    (c.bench.ensures.verify (codes "list") (codes "script") (codes "trace") asked)
+    (rw w.whole (own_text w.list w.script w.numbers w.valid w.valid_script w.legal))
+    (omega (arith, five, c.in_ok-out.ensures.takes))
