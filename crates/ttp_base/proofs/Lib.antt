@@ -10,6 +10,7 @@ pub mod NodeTests
 pub mod Numerals
 pub mod Outputs
 pub mod Room
+mod Sinks
 pub mod SetWords
 pub mod Walks
 mod Written

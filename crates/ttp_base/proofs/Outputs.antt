@@ -1,6 +1,6 @@
 -- What a sink was given, from one write to the next.
-use Rattle.std.proofs.Common.{◌≡◌, ℕ, ◌+◌, ◌<◌, ◌≤◌, List, [], ◌∷◌, ◌++◌, subst, sym, ◌∙◌, refl, ap, append_assoc, take}
-use Rattle.std.proofs.lemmas.List.{append-nil}
+use Rattle.std.proofs.Common.{◌≡◌, ℕ, ◌+◌, ◌<◌, ◌≤◌, List, [], ◌∷◌, ◌++◌, subst, sym, ◌∙◌, refl, ap, append_assoc, length, take, arith}
+use Rattle.std.proofs.lemmas.List.{append-nil, length-append}
 use Rattle.std.proofs.lemmas.List.Folds.{concat-append}
 use Rattle.std.specs.Prelude.{map}
 use Rattle.std.specs.List.{concat}
@@ -13,7 +13,7 @@ use Rattle.ttp_base.proofs.Written.{Appends-none, Appends-join}
 
 -- nothing was written
 pub Wrote-none : (o : Output) → Wrote o o []
-Wrote-none o = record { bytes = Appends-none o.written; given = sym (append-nil o.pieces); quiet = refl }
+Wrote-none o = record { bytes = Appends-none o.written; given = sym (append-nil o.pieces); quiet = refl; left = omega arith }
 
 -- pieces, and then more of them
 pub Wrote-join : (a b c : Output) (x y : List (List ℕ)) → Wrote a b x → Wrote b c y → Wrote a c (x ++ y)
@@ -23,12 +23,13 @@ Wrote-join a b c x y p q = record {
       (Appends-join a.written b.written c.written (concat x) (concat y) p.bytes q.bytes);
   given = rw (q.given, p.given, append_assoc) refl;
   quiet = q.quiet ∙ p.quiet;
+  left = rw (concat-append x y, length-append) (omega (arith, p.left, q.left));
 }
 
 -- one piece was cut short
 pub CutShort-one : (a b : Output) (piece : List ℕ) → AppendsFront a.written b.written piece → b.pieces ≡ a.pieces
-    → HasRisen a.faults b.faults → a.faults ≤ b.faults → CutShort a b (piece ∷ [])
-CutShort-one a b piece front same risen count = record {
+    → HasRisen a.faults b.faults → a.faults ≤ b.faults → a.takes ≤ length piece → CutShort a b (piece ∷ [])
+CutShort-one a b piece front same risen count short = record {
   whole = [];
   next = piece;
   rest = [];
@@ -37,6 +38,7 @@ CutShort-one a b piece front same risen count = record {
   front = front;
   risen = risen;
   count = count;
+  short = rw (append-nil piece) short;
 }
 
 -- lines were written, and those after them were cut short
@@ -54,6 +56,7 @@ CutShort-after a b c x y p q = record {
       (n, rw (concat-append x q.whole, append_assoc) joined);
   risen = subst (λ n. HasRisen n c.faults) p.quiet q.risen;
   count = subst (λ n. n ≤ c.faults) p.quiet q.count;
+  short = rw (concat-append x y, length-append) (omega (arith, p.left, q.short));
 }
 
 -- lines that were cut short are with more lines behind them
@@ -67,6 +70,7 @@ CutShort-more a c x y p = record {
   front = p.front;
   risen = p.risen;
   count = p.count;
+  short = rw (concat-append x y, length-append) (omega (arith, p.short));
 }
 
 -- Loops: a head and the lines of the numbers below k, and then those of k, whole or cut short.

@@ -1,10 +1,10 @@
 -- What a library in memory keeps.
-use Rattle.std.specs.Prelude.{◌≡◌, ◌≢◌, ℕ, List, Option, Some, None}
+use Rattle.std.specs.Prelude.{◌≡◌, ◌≢◌, ◌&&◌, if◌then◌else◌, Bool, true, false, ℕ, List, Option, Some, None}
 use Rattle.std.specs.BTreeMap.{get_by_text}
 use Rattle.std.specs.declared.alloc.Global.{Global}
 use Rattle.std.specs.declared.vec.Vec.{Vec}
 use Rattle.ttp_base.specs.declared.memory_library.MemoryLibrary.{MemoryLibrary}
-use Rattle.ttp_base.specs.Outside.{Held, absent, holds, Files}
+use Rattle.ttp_base.specs.Outside.{Held, untold, absent, holds, never_fails, Files}
 
 -- what is held under a name
 abbrev pub held_in : Option (Vec ℕ Global) → Held
@@ -25,11 +25,21 @@ library_calls library = library.calls
 abbrev pub library_faults : MemoryLibrary → ℕ
 library_faults library = library.faults
 
--- what it tells of them
+abbrev pub is_held : Held → Bool
+is_held untold = false
+is_held absent = false
+is_held (holds bytes) = true
+
+-- no call is to fail, and something is held under the name
+abbrev pub library_sure : MemoryLibrary → List ℕ → Bool
+library_sure library name = never_fails (library_fail library) && is_held (library_held library name)
+
+-- what it tells of them: no fault of a name that it is sure of, and of each other name the one count
 abbrev pub library_files : MemoryLibrary → Files
 library_files library = record {
   held = library_held library;
-  faults = λ _. library_faults library;
+  sure = library_sure library;
+  faults = λ name. if library_sure library name then 0 else library_faults library;
   loads = (library.asked).loads;
 }
 

@@ -1,7 +1,7 @@
 -- What a sink in memory keeps.
-use Rattle.std.specs.Prelude.{ℕ, List, Some}
+use Rattle.std.specs.Prelude.{ℕ, ◌+◌, ◌-◌, if◌then◌else◌, List, length, Some}
 use Rattle.ttp_base.specs.declared.memory_sink.MemorySink.{MemorySink}
-use Rattle.ttp_base.specs.Outside.{Output}
+use Rattle.ttp_base.specs.Outside.{never_fails, Output}
 
 -- what was written
 abbrev pub sink_bytes : MemorySink → List ℕ
@@ -22,10 +22,11 @@ sink_calls sink = sink.calls
 abbrev pub sink_faults : MemorySink → ℕ
 sink_faults sink = sink.faults
 
--- what it tells
+-- what it tells: where no call is to fail, it is sure to take what fits the rest of its room
 abbrev pub sink_output : MemorySink → Output
 sink_output sink = record {
   written = Some (sink_bytes sink);
   pieces = (sink.pieces).given;
   faults = sink_faults sink;
+  takes = if never_fails (sink_fail sink) then sink_room sink - length (sink_bytes sink) + 1 else 0;
 }

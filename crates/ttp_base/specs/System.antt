@@ -1,17 +1,23 @@
 -- What the real outside tells.
-use Rattle.std.specs.Prelude.{ℕ, List, Option}
+use Rattle.std.specs.Prelude.{false, ℕ, List, Option}
 use Rattle.ttp_base.specs.declared.system.FileLibrary.{FileLibrary}
 use Rattle.ttp_base.specs.declared.system.StreamSink.{StreamSink}
 use Rattle.ttp_base.specs.Outside.{untold, Files, Output}
 
--- nothing of the bytes that files hold, how many faults there were, and the loads
+-- nothing of the bytes that files hold, of no name that it is sure, how many faults there were, and the loads
 abbrev pub library_files : {R : Type 0} → FileLibrary R → Files
-library_files library = record { held = λ _. untold; faults = λ _. library.faults; loads = (library.asked).loads }
+library_files library = record {
+  held = λ _. untold;
+  sure = λ _. false;
+  faults = λ _. library.faults;
+  loads = (library.asked).loads;
+}
 
--- what the writer tells of its bytes
+-- what the writer tells of its bytes; it is sure to take nothing
 abbrev pub sink_output : {W : Type 0} → (W → Option (List ℕ)) → StreamSink W → Output
 sink_output contents sink = record {
   written = contents sink.writer;
   pieces = (sink.pieces).given;
   faults = sink.faults;
+  takes = 0;
 }

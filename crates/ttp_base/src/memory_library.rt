@@ -14,8 +14,9 @@ use std::collections::BTreeMap;
 
 /// Holds bytes under names, and tells them.
 ///
-/// Chosen calls of [`Library::load`] fail, which shows a program's answer to a failing outside. One
-/// counter stands for the faults of every name.
+/// Chosen calls of [`Library::load`] fail, which shows a program's answer to a failing outside. Where
+/// none is chosen, it is sure of each name under which it holds something. One counter stands for the
+/// faults of every name that it is not sure of.
 #[derive(Drop)]
 pub struct MemoryLibrary {
     alloc: Global,
@@ -59,6 +60,13 @@ impl MemoryLibrary {
         let value = Vec::from_slice(self.alloc, bytes)?;
         self.files.insert(key, value)?;
         Ok(())
+    }
+
+    /// How many loads failed so far, at most 2^64 - 1.
+    pub fn faults(&self) -> u64
+        ensures { result ≡ library_faults self.now }
+    {
+        self.faults
     }
 }
 

@@ -12,7 +12,8 @@ use std::alloc::Global;
 
 /// Keeps what is written, in a room that is taken when it is made. So a write takes no memory.
 ///
-/// Chosen calls of [`Sink::write`] fail, which shows a program's answer to a failing outside.
+/// Chosen calls of [`Sink::write`] fail, which shows a program's answer to a failing outside. Where none
+/// is chosen, it is sure to take what its room has place for.
 #[derive(Drop)]
 pub struct MemorySink {
     bytes: Vec<u8>,
@@ -55,6 +56,13 @@ impl MemorySink {
         ensures { result.now ≡ sink_bytes self.now }
     {
         self.bytes.as_slice()
+    }
+
+    /// How many writes failed so far, at most 2^64 - 1.
+    pub fn faults(&self) -> u64
+        ensures { result ≡ sink_faults self.now }
+    {
+        self.faults
     }
 }
 

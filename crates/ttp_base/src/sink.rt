@@ -9,9 +9,9 @@ use crate::fault::Failed;
 /// An implementation may tell what was written, as one over memory does, or leave that untold, as
 /// one over a stream whose writer does. It tells the pieces that it took whole, so that a caller's
 /// contract can say which bytes were given together, and counts its faults. The count never falls, and
-/// stands still at 2^64 - 1.
+/// stands still at 2^64 - 1. It may say that it is sure to take what is shorter than a number of bytes.
 pub trait Sink {
-    /// What was written so far, in which pieces, and the count of faults.
+    /// What was written so far, in which pieces, the count of faults, and what it is sure to take.
     ghost output: { Self → Output };
 
     /// Writes a piece after what was written before. After `Failed` some first bytes of it were
