@@ -13,36 +13,15 @@ use crate::ending::{Common, end_all};
 use crate::jobs::{EndJob, HostJob};
 use crate::nodes::{Desk, Nodes};
 use crate::sending::fetch_all;
-use crate::staff::{Hired, Hosts};
+use crate::staff::{Hired, do_host_job, end_job};
 use controller::Seat;
-use errand::ends::Waiting;
 use host_port::{Fetcher, HostEnd, HostReaders, WriteLine};
 use medium::Medium;
 use std::alloc::Global;
+use std::mem;
 use std::sync::{Arc, Wait};
-use std::{hint, mem, thread};
 use ttp_base::{Gate, Memory};
 use ttp_world::{HostRead, Medl, Script};
-
-// Looks before a yield, and at all.
-const SPINS: u32 = 400;
-
-const LOOKS: u32 = 450;
-
-// Waits a little for a worker that was just asked, until it has begun: else a few fetches would be over in each slot before
-// the first write. What it was asked for has to be waited for anyway.
-fn wait_for_start<'b, 'a>(waiting: &Waiting<'b, HostJob<'a>, Hosts>) {
-    for looks in 0..LOOKS {
-        if waiting.is_begun() {
-            return;
-        }
-        if looks < SPINS {
-            hint::spin_loop();
-        } else {
-            thread::yield_now();
-        }
-    }
-}
 
 /// The worker makes the writes of hosts beside the fetches.
 pub(crate) fn write_beside<'b, 'a, R: Wait, G: Gate>(
@@ -77,9 +56,16 @@ pub(crate) fn write_beside<'b, 'a, R: Wait, G: Gate>(
         ends,
         lines,
     });
-    wait_for_start(&waiting);
+    // Else a few fetches would be over in each slot before the first write.
+    waiting.await_start();
     let fetchers = fetch_all(fetchers, gate);
-    let (hosts, job) = waiting.take(rt);
+    let (hosts, job) = waiting.finish(
+        rt,
+        &|job|
+            requires { MayHostsDo job }
+            ensures { HaveHostsDone job.entry result }
+        { do_host_job(rt, job, gate) },
+    );
     match job {
         HostJob::Write { ends, lines, .. } => (
             Hired {
@@ -116,8 +102,20 @@ fn end_beside<'b, 'a, R: Wait, G: Gate>(
     let reading = hosts.ask(read);
     let ending = ends.ask(back);
     end_all(seats, desks, common, gate);
-    let (ends, back) = ending.take(rt);
-    let (hosts, read) = reading.take(rt);
+    let (ends, back) = ending.finish(
+        rt,
+        &|job|
+            requires { IsJobReady job }
+            ensures { HasJobEnded job.entry result }
+        { end_job(job, gate) },
+    );
+    let (hosts, read) = reading.finish(
+        rt,
+        &|job|
+            requires { MayHostsDo job }
+            ensures { HaveHostsDone job.entry result }
+        { do_host_job(rt, job, gate) },
+    );
     (Hired { ends, hosts }, back, read)
 }
 

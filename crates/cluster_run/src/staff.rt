@@ -52,8 +52,8 @@ pub(crate) fn take_served<'b, 'a>(staff: &mut Option<Hired<'b, 'a>>) -> Option<H
     None
 }
 
-// A part ends the slot.
-fn end_job<'a, G: Gate>(job: EndJob<'a>, gate: &G) -> EndJob<'a>
+/// A part ends the slot.
+pub(crate) fn end_job<'a, G: Gate>(job: EndJob<'a>, gate: &G) -> EndJob<'a>
     requires { IsJobReady job }
     ensures { HasJobEnded job.entry result }
 {
@@ -87,8 +87,8 @@ fn end_job<'a, G: Gate>(job: EndJob<'a>, gate: &G) -> EndJob<'a>
     }
 }
 
-// Hosts do what they do in a slot.
-fn do_host_job<'a, R: Wait, G: Gate>(rt: &R, job: HostJob<'a>, gate: &G) -> HostJob<'a>
+/// Hosts do what they do in a slot.
+pub(crate) fn do_host_job<'a, R: Wait, G: Gate>(rt: &R, job: HostJob<'a>, gate: &G) -> HostJob<'a>
     requires { MayHostsDo job }
     ensures { HaveHostsDone job.entry result }
 {
