@@ -36,20 +36,12 @@ pub(crate) struct Hired<'b, 'a> {
     pub(crate) hosts: Giver<'b, HostJob<'a>, Hosts>,
 }
 
-impl<'b, 'a> Hired<'b, 'a> {
-    fn are_served(&self) -> bool {
-        self.ends.is_served() && self.hosts.is_served()
+/// Looks for a while whether both begin to serve.
+pub(crate) fn await_service<'b, 'a>(staff: &Option<Hired<'b, 'a>>) {
+    if let Some(hired) = staff {
+        hired.ends.await_service();
+        hired.hosts.await_service();
     }
-}
-
-/// Takes those who were hired, where both serve.
-pub(crate) fn take_served<'b, 'a>(staff: &mut Option<Hired<'b, 'a>>) -> Option<Hired<'b, 'a>> {
-    let hired = staff.take()?;
-    if hired.are_served() {
-        return Some(hired);
-    }
-    *staff = Some(hired);
-    None
 }
 
 /// A part ends the slot.

@@ -42,6 +42,9 @@ const SPINS: u32 = 400;
 
 const YIELDS: u32 = 450;
 
+// Looks for a worker that is to begin to serve.
+const SERVICE: u32 = 4_000;
+
 // Looks for a worker that is to begin a job, before the job is taken back.
 const STARTS: u32 = 100;
 
@@ -145,10 +148,14 @@ fn rest<R: Wait, J, D: Errand<J>>(
 }
 
 impl<'a, J, D: Errand<J>> Giver<'a, J, D> {
-    /// Whether the worker has begun to serve. Until then a job that is given may lie there for good, so
-    /// whoever asks looks first, and does the work without it.
-    pub fn is_served(&self) -> bool {
-        self.board.peek(WORKER) != AWAY
+    /// Looks for a while whether the worker begins to serve, so that it has the first jobs too.
+    pub fn await_service(&self) {
+        for _ in 0..SERVICE {
+            if self.board.peek(WORKER) != AWAY {
+                return;
+            }
+            hint::spin_loop();
+        }
     }
 
     /// Gives a job to the worker. One that was late for the last ones is mostly left asleep.
@@ -238,8 +245,8 @@ impl<'a, J, D: Errand<J>> Waiting<'a, J, D> {
         Ok((giver, job))
     }
 
-    /// Waits for the worker to do the job. It comes back as the work leaves it.
-    pub fn take<R: Wait>(self, rt: &R) -> (Giver<'a, J, D>, J)
+    // Waits for the worker to do the job.
+    fn take<R: Wait>(self, rt: &R) -> (Giver<'a, J, D>, J)
         ensures { (j : J) → self.entry.seat.me.0.job ≡ Some j → D.does j result.1 }
     {
         let Waiting {
