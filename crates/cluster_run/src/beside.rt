@@ -13,8 +13,9 @@ use crate::ending::{Common, end_all};
 use crate::jobs::{EndJob, HostJob};
 use crate::nodes::{Desk, Nodes};
 use crate::sending::fetch_all;
-use crate::staff::{Hired, do_host_job, end_job};
+use crate::staff::{Hired, Hosts, finish_ends, finish_hosts};
 use controller::Seat;
+use errand::ends::Giver;
 use host_port::{Fetcher, HostEnd, HostReaders, WriteLine};
 use medium::Medium;
 use std::alloc::Global;
@@ -22,6 +23,34 @@ use std::mem;
 use std::sync::{Arc, Wait};
 use ttp_base::{Gate, Memory};
 use ttp_world::{HostRead, Medl, Script};
+
+// Fetches here, beside what hosts do.
+fn fetch_beside<'b, 'a, R: Wait, G: Gate>(
+    rt: &R,
+    hosts: Giver<'b, HostJob<'a>, Hosts>,
+    job: HostJob<'a>,
+    fetchers: Vec<Option<Fetcher>>,
+    gate: &G,
+) -> (
+    Giver<'b, HostJob<'a>, Hosts>,
+    HostJob<'a>,
+    Vec<Option<Fetcher>>,
+)
+    requires job { MayHostsDo job }
+    requires fetchers { MayFetchAll fetchers.items }
+    ensures job { HaveHostsDone job.entry result.1 }
+    ensures fetchers_count { length result.2.items ≡ length fetchers.items }
+    ensures fetches { FetchAll fetchers.items result.2.items }
+{
+    let waiting = hosts.ask(job);
+    if waiting.goes_first() {
+        let (hosts, job) = finish_hosts(rt, waiting, gate);
+        return (hosts, job, fetch_all(fetchers, gate));
+    }
+    let fetchers = fetch_all(fetchers, gate);
+    let (hosts, job) = finish_hosts(rt, waiting, gate);
+    (hosts, job, fetchers)
+}
 
 /// The worker makes the writes of hosts beside the fetches.
 pub(crate) fn write_beside<'b, 'a, R: Wait, G: Gate>(
@@ -50,22 +79,13 @@ pub(crate) fn write_beside<'b, 'a, R: Wait, G: Gate>(
         ends: ending,
         hosts,
     } = hired;
-    let waiting = hosts.ask(HostJob::Write {
+    let job = HostJob::Write {
         script,
         places,
         ends,
         lines,
-    });
-    // Else a few fetches would be over in each slot before the first write.
-    waiting.await_start();
-    let fetchers = fetch_all(fetchers, gate);
-    let (hosts, job) = waiting.finish(
-        rt,
-        &|job|
-            requires { MayHostsDo job }
-            ensures { HaveHostsDone job.entry result }
-        { do_host_job(rt, job, gate) },
-    );
+    };
+    let (hosts, job, fetchers) = fetch_beside(rt, hosts, job, fetchers, gate);
     match job {
         HostJob::Write { ends, lines, .. } => (
             Hired {
@@ -101,21 +121,15 @@ fn end_beside<'b, 'a, R: Wait, G: Gate>(
     let Hired { ends, hosts } = hired;
     let reading = hosts.ask(read);
     let ending = ends.ask(back);
+    if reading.goes_first() {
+        let (hosts, read) = finish_hosts(rt, reading, gate);
+        end_all(seats, desks, common, gate);
+        let (ends, back) = finish_ends(rt, ending, gate);
+        return (Hired { ends, hosts }, back, read);
+    }
     end_all(seats, desks, common, gate);
-    let (ends, back) = ending.finish(
-        rt,
-        &|job|
-            requires { IsJobReady job }
-            ensures { HasJobEnded job.entry result }
-        { end_job(job, gate) },
-    );
-    let (hosts, read) = reading.finish(
-        rt,
-        &|job|
-            requires { MayHostsDo job }
-            ensures { HaveHostsDone job.entry result }
-        { do_host_job(rt, job, gate) },
-    );
+    let (ends, back) = finish_ends(rt, ending, gate);
+    let (hosts, read) = finish_hosts(rt, reading, gate);
     (Hired { ends, hosts }, back, read)
 }
 

@@ -1,12 +1,14 @@
 //! Workers that stay for a run: one ends slots for the back half of the nodes, and one does what hosts do.
-ghost use Rattle.std.specs.Prelude.{◌≡◌};
+ghost use Rattle.std.specs.Prelude.{◌≡◌, Some};
+ghost use Rattle.cluster_run.specs.declared.jobs.EndJob.{EndJob};
+ghost use Rattle.cluster_run.specs.declared.jobs.HostJob.{HostJob};
 ghost use Rattle.cluster_run.specs.Jobs.{IsJobReady, HasJobEnded, MayHostsDo, HaveHostsDone};
 
 use crate::ending::{Common, end_from};
 use crate::jobs::{EndJob, HostJob};
 use crate::reading::read_all;
 use crate::sending::write_all;
-use errand::ends::{Giver, Worker};
+use errand::ends::{Giver, Waiting, Worker};
 use errand::rule::Errand;
 use std::sync::Wait;
 use ttp_base::Gate;
@@ -44,8 +46,8 @@ pub(crate) fn await_service<'b, 'a>(staff: &Option<Hired<'b, 'a>>) {
     }
 }
 
-/// A part ends the slot.
-pub(crate) fn end_job<'a, G: Gate>(job: EndJob<'a>, gate: &G) -> EndJob<'a>
+// A part ends the slot.
+fn end_job<'a, G: Gate>(job: EndJob<'a>, gate: &G) -> EndJob<'a>
     requires { IsJobReady job }
     ensures { HasJobEnded job.entry result }
 {
@@ -79,8 +81,8 @@ pub(crate) fn end_job<'a, G: Gate>(job: EndJob<'a>, gate: &G) -> EndJob<'a>
     }
 }
 
-/// Hosts do what they do in a slot.
-pub(crate) fn do_host_job<'a, R: Wait, G: Gate>(rt: &R, job: HostJob<'a>, gate: &G) -> HostJob<'a>
+// Hosts do what they do in a slot.
+fn do_host_job<'a, R: Wait, G: Gate>(rt: &R, job: HostJob<'a>, gate: &G) -> HostJob<'a>
     requires { MayHostsDo job }
     ensures { HaveHostsDone job.entry result }
 {
@@ -104,6 +106,40 @@ pub(crate) fn do_host_job<'a, R: Wait, G: Gate>(rt: &R, job: HostJob<'a>, gate: 
             HostJob::Read { reads, readers }
         }
     }
+}
+
+/// A part has ended the slot: by the worker, or here.
+pub(crate) fn finish_ends<'b, 'a, R: Wait, G: Gate>(
+    rt: &R,
+    waiting: Waiting<'b, EndJob<'a>, Ends>,
+    gate: &G,
+) -> (Giver<'b, EndJob<'a>, Ends>, EndJob<'a>)
+    ensures { (job : EndJob) → waiting.entry.seat.me.0.job ≡ Some job → HasJobEnded job result.1 }
+{
+    waiting.finish(
+        rt,
+        &|job|
+            requires { IsJobReady job }
+            ensures { HasJobEnded job.entry result }
+        { end_job(job, gate) },
+    )
+}
+
+/// Hosts have done what a job says: by their worker, or here.
+pub(crate) fn finish_hosts<'b, 'a, R: Wait, G: Gate>(
+    rt: &R,
+    waiting: Waiting<'b, HostJob<'a>, Hosts>,
+    gate: &G,
+) -> (Giver<'b, HostJob<'a>, Hosts>, HostJob<'a>)
+    ensures { (job : HostJob) → waiting.entry.seat.me.0.job ≡ Some job → HaveHostsDone job result.1 }
+{
+    waiting.finish(
+        rt,
+        &|job|
+            requires { MayHostsDo job }
+            ensures { HaveHostsDone job.entry result }
+        { do_host_job(rt, job, gate) },
+    )
 }
 
 /// Ends slots for a part of the nodes, until nobody gives work any more.

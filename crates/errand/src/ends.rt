@@ -42,14 +42,21 @@ const SPINS: u32 = 400;
 
 const YIELDS: u32 = 450;
 
-// Looks for a worker that is to begin to serve.
-const SERVICE: u32 = 4_000;
+// Looks for a worker that is to begin to serve, before a yield and at all.
+const SERVICE_SPINS: u32 = 4_000;
+
+const SERVICE: u32 = 4_020;
 
 // Looks for a worker that is to begin a job, before the job is taken back.
 const STARTS: u32 = 100;
 
 // A worker that is late for every job is woken and waited for at each of so many.
 const REMINDER: u32 = 64;
+
+// What `goes_first` multiplies by: 2^32 over the golden ratio, whose multiples lie evenly whichever of them are taken.
+const SPREAD: u32 = 2_654_435_769;
+
+const HALF: u32 = 2_147_483_648;
 
 pub type End<J> = Seat<Option<J>, Note<J>>;
 
@@ -150,11 +157,15 @@ fn rest<R: Wait, J, D: Errand<J>>(
 impl<'a, J, D: Errand<J>> Giver<'a, J, D> {
     /// Looks for a while whether the worker begins to serve, so that it has the first jobs too.
     pub fn await_service(&self) {
-        for _ in 0..SERVICE {
+        for looks in 0..SERVICE {
             if self.board.peek(WORKER) != AWAY {
                 return;
             }
-            hint::spin_loop();
+            if looks < SERVICE_SPINS {
+                hint::spin_loop();
+            } else {
+                thread::yield_now();
+            }
         }
     }
 
@@ -211,16 +222,23 @@ fn wait_done<R: Wait, J, D: Errand<J>>(rt: &R, board: &Board<J, D>, seat: &mut E
 }
 
 impl<'a, J, D: Errand<J>> Waiting<'a, J, D> {
-    /// Looks for a little while whether the worker begins the job. Who would have both sides at work at once does so first.
-    pub fn await_start(&self) {
-        if is_expected(self.late) {
-            for _ in 0..STARTS {
-                if self.board.peek(TURN) != GIVEN {
-                    return;
-                }
-                hint::spin_loop();
+    // Looks for a little while whether the worker begins the job, and once where it was late for the last ones.
+    fn is_begun(&self) -> bool {
+        let looks = if is_expected(self.late) { STARTS } else { 1 };
+        for _ in 0..looks {
+            if self.board.peek(TURN) != GIVEN {
+                return true;
             }
+            hint::spin_loop();
         }
+        false
+    }
+
+    /// Whether the job is to be finished before what else there is to do. It is not where the worker has begun it, which is
+    /// looked for a little while, so that both sides are at work at once; and else about each second time, so that neither
+    /// side is always the first one.
+    pub fn goes_first(&self) -> bool {
+        !self.is_begun() && self.late.wrapping_mul(SPREAD) >= HALF
     }
 
     // The job as it was given, unless the worker has begun it.
@@ -271,7 +289,7 @@ impl<'a, J, D: Errand<J>> Waiting<'a, J, D> {
         requires does { (j k : J) → D.needs j → F.post work.now j k → D.does j k }
         ensures { (j : J) → self.entry.seat.me.0.job ≡ Some j → D.does j result.1 }
     {
-        self.await_start();
+        self.is_begun();
         match self.take_back() {
             Ok((giver, job)) => (giver, work(job)),
             Err(waiting) => waiting.take(rt),
