@@ -7,8 +7,9 @@
 //! [`Errand`](rule::Errand), and [`Waiting::finish`](ends::Waiting::finish) passes it on, as `join` passes on what a
 //! closure ensures. No job is lost: an end that has given one can't be dropped, only finish it.
 //!
-//! On a busy machine a worker waits for a processor for milliseconds. So a job that it has not begun by then is taken back,
-//! and done by who gave it; and a worker that was late is woken less and less often, until it does a job again.
+//! On a busy machine a worker waits for a processor for milliseconds. So a job that it has not begun in time is taken
+//! back, and done by who gave it; and a worker that was late is woken less and less often, until it does a job again.
+//! [`goes_first`](ends::Waiting::goes_first) says whether to finish a job before what else there is to do.
 //!
 //! A job costs each side a few atomic steps, all sequentially consistent, and takes no memory. Who waits looks again for
 //! a while, then yields, and then sleeps until it is woken.
