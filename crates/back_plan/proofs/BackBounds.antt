@@ -17,7 +17,8 @@ use Rattle.ttp_world.specs.Returning.{needed_back, back_window_broken, disturbed
 use Rattle.ttp_world.specs.Script.{flipped_bit, flipped_bits}
 use Rattle.ttp_world.proofs.Jumps.{each-none, undisturbed-jump}
 use Rattle.fault_plan.specs.Kept.{IsWithinBounds}
-use Rattle.fault_plan.proofs.Bounds.{bounds-of, wide, le_of_test}
+use Rattle.fault_plan.proofs.Bounds.{bounds-of, wide}
+use Rattle.ttp_world.proofs.SmallTests.{le_of_test}
 
 -- Events.
 

@@ -14,12 +14,12 @@ use Rattle.ttp_world.specs.declared.script.Channel.TheVariants as channel
 use Rattle.ttp_world.specs.declared.script.Fault.{Fault}
 use Rattle.ttp_world.specs.declared.script.Fault.TheVariants as fault
 use Rattle.ttp_world.specs.declared.script.Script.{Script}
-use Rattle.ttp_world.specs.Hypothesis.{ClusterStart, Loss, Makes, nodes_of, nodes_made, is_breaking}
+use Rattle.ttp_world.specs.Hypothesis.{ClusterStart, nodes_of, is_breaking}
 use Rattle.ttp_world.specs.Hypothesis.{is_covered, loses, is_other, expected_sender, is_steady}
 use Rattle.ttp_world.specs.Medl.{plan_at}
 use Rattle.ttp_world.specs.Returning.{four_rounds, run_slots, is_deaf, is_deaf_on, is_missed_in, is_sound}
 use Rattle.ttp_world.specs.Script.{is_ever_on, is_on, has_send_fault, has_receive_fault}
-use Rattle.fault_plan.proofs.Hearing.{on-since}
+use Rattle.fault_plan.proofs.Hearing.{on-since, made-itself}
 use Rattle.fault_plan.proofs.Losses.{loser-tells}
 use Rattle.fault_plan.proofs.Sieves.{none-found}
 use Rattle.back_plan.proofs.Arms.{arm-only}
@@ -47,11 +47,6 @@ other-clear list script start slot k run from less other clear =
     (on-now list script start slot k run from less clear.ever)
     (and_from (not (has_node away k)) (not (k == e)) (not_from_false (has_node away k) clear.fallen)
     (not_from_false (k == e) (ne_eqb k e other)))
-
-made-itself : (loss : Loss) (k : ℕ) → loss ≡ Makes k → has_node (nodes_made loss) k ≡ false → ⊥
-made-itself loss k is none =
-    let same : (k == k) ≡ true = eq-eqb k k refl in
-    both_ways (has_node (nodes_made loss) k) none (ap (λ l. has_node (nodes_made l) k) is ∙ ap (λ b. b || false) same)
 
 -- a clear node that loses a clear node's frame makes one of the two faulty
 pub clear-loses : (list : Medl) (script : Script) (start : ClusterStart) (slot r : ℕ) → IsBackRun list script start

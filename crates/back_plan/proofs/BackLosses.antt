@@ -11,9 +11,9 @@ use Rattle.ttp_world.specs.Hypothesis.{ClusterStart, Loss, Harmless, Makes, Brea
 use Rattle.ttp_world.specs.Hypothesis.{expected_sender, jumps_now, jumpers_in}
 use Rattle.ttp_world.specs.Script.{is_on, has_jump}
 use Rattle.ttp_world.proofs.Filters.{each-sieve}
-use Rattle.fault_plan.proofs.FaultySets.{has_node-append}
 use Rattle.fault_plan.proofs.Losses.{IsMadeBy, made-by, each-member}
 use Rattle.back_plan.proofs.Walk.{at, made}
+use Rattle.ttp_world.proofs.WorldFacts.{has_node-append}
 
 abbrev pub jumpers : Medl → Script → ClusterStart → ℕ → List ℕ
 jumpers list script start slot = jumpers_in list script (at list script start slot) slot

@@ -18,7 +18,6 @@ use Rattle.fault_plan.specs.Fates.{fate_of, is_sound_after, is_good_slot}
 use Rattle.fault_plan.specs.Fates.{Fate, Listening, is_sound}
 use Rattle.fault_plan.specs.GoodPlan.{IsLossAfter}
 use Rattle.fault_plan.specs.Kept.{IsHeardByPlan}
-use Rattle.fault_plan.proofs.FaultySets.{has_node-append}
 use Rattle.fault_plan.proofs.Hearing.{on-ever, sending-is, receiving-is, jumping-is}
 use Rattle.fault_plan.proofs.Incidents.{incident_made}
 use Rattle.fault_plan.proofs.Losses.{IsMadeBy, each-member}
@@ -33,6 +32,7 @@ use Rattle.back_plan.proofs.Runs.{IsBackRun}
 use Rattle.back_plan.proofs.Sounds.{IsClear, IsNearArm, Soundly, BeingClear, NearArm, sound-how, listens-near}
 use Rattle.back_plan.proofs.Standing.{Standing, Clear, LostSince, ArmedSince, IsLostSince, IsNext, lost-stays, standing}
 use Rattle.back_plan.proofs.Walk.{at, made, after, at-next}
+use Rattle.ttp_world.proofs.WorldFacts.{has_node-append}
 
 pub sender-same : (list : Medl) (script : Script) (start : ClusterStart) (turn slot : ℕ) → slot ≡ start.slot + turn
     → expected_sender list start slot ≡ sender (back_plan_of list script start) turn

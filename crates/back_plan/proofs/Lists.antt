@@ -1,5 +1,5 @@
 -- What tests of lists tell.
-use Rattle.std.proofs.Common.{◌≡◌, ℕ, ◌+◌, ◌<◌, ◌≤◌, Bool, true, false, cond, ◌||◌, List, [], ◌∷◌, ◌++◌, refl, ap}
+use Rattle.std.proofs.Common.{◌≡◌, ℕ, ◌+◌, ◌<◌, ◌≤◌, Bool, true, false, cond, ◌||◌, List, [], ◌∷◌, refl, ap}
 use Rattle.std.proofs.Common.{◌∙◌, ◌⊎◌, inl, inr, arith}
 use Rattle.std.specs.Prelude.{count_by}
 use Rattle.std.specs.List.{AllByRecursion, list_any}
@@ -31,13 +31,6 @@ none-stricter p q (x ∷ xs) gives none =
     by : (b : Bool) → q x ≡ b → list_any q xs ≡ false → p x ≡ false → (b || list_any q xs) ≡ false
     by true is rest here = absurd (both_ways (p x) here (gives x is))
     by false is rest here = rest
-
-pub any-append : {X : Type 0} (P : X → Type 0) (xs ys : List X) → AllByRecursion P (xs ++ ys)
-    → AllByRecursion P xs × AllByRecursion P ys
-any-append P [] ys each = (tt, each)
-any-append P (x ∷ xs) ys each =
-    let rest = any-append P xs ys each.1 in
-    ((each.0, rest.0), rest.1)
 
 -- Where one alone passes, two that pass are that one.
 

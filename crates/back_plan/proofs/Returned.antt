@@ -1,8 +1,7 @@
 -- A script whose test says that its armed nodes are owed their places follows its plan.
-use Rattle.std.proofs.Common.{◌≡◌, ◌≢◌, ℕ, suc, ◌+◌, ◌-◌, ◌<◌, ◌≤◌, Bool, true, false, cond, length, Option, Some}
-use Rattle.std.proofs.Common.{None, refl, sym, ◌∙◌, inr, arith}
+use Rattle.std.proofs.Common.{◌≡◌, ◌≢◌, ℕ, suc, ◌+◌, ◌-◌, ◌<◌, ◌≤◌, true, false, length}
+use Rattle.std.proofs.Common.{refl, sym, ◌∙◌, inr, arith}
 use Rattle.std.proofs.lemmas.Bool.{not-false, false_from_ne_true}
-use Rattle.std.proofs.lemmas.Option.{none-some}
 use Rattle.ttp_base.specs.NodeSet.{has_node}
 use Rattle.ttp_base.proofs.NodeSets.{has_node-sieve}
 use Rattle.ttp_world.specs.declared.keep.Back.TheVariants as back
@@ -17,7 +16,7 @@ use Rattle.ttp_world.specs.Script.{is_armed, is_ever_on, is_on, IsValidScript}
 use Rattle.ttp_world.proofs.Starts.{alone-start, on-start}
 use Rattle.fault_plan.specs.Kept.{FollowsPlan}
 use Rattle.fault_plan.proofs.Hearing.{on-ever}
-use Rattle.fault_plan.proofs.KeptPlan.{on-always}
+use Rattle.fault_plan.proofs.KeptPlan.{on-always, enough}
 use Rattle.fault_plan.proofs.Members.{first-sender, first-good}
 use Rattle.fault_plan.proofs.Persists.{sound-first}
 use Rattle.fault_plan.proofs.Sieves.{none-found}
@@ -33,10 +32,6 @@ use Rattle.back_plan.proofs.Offers.{offered}
 use Rattle.back_plan.proofs.ReturnedPlan.{returned-plan}
 use Rattle.back_plan.proofs.Runs.{IsBackRun, armed-may}
 use Rattle.back_plan.proofs.Standing.{arm-late}
-
-enough : (b : Bool) (found : Option ℕ) (slot : ℕ) → cond b found (Some slot) ≡ None → (b ≡ true) × (found ≡ None)
-enough true found slot none = (refl, none)
-enough false found slot none = absurd (none-some slot (sym none))
 
 back-run : (list : Medl) (script : Script) (slot : ℕ) → IsValid list → IsValidScript list script
     → (rules : BackRulesHold list script slot) → IsBackRun list script rules.start

@@ -1,9 +1,9 @@
 -- The plan of a run whose armed nodes return is that of its faulty nodes and its arm lines.
-use Rattle.std.proofs.Common.{◌≡◌, ◌≢◌, ℕ, zero, suc, ◌+◌, ◌-◌, ◌<◌, ◌≤◌, Bool, true, false, not, ◌&&◌, ◌||◌}
+use Rattle.std.proofs.Common.{◌≡◌, ◌≢◌, ℕ, zero, suc, ◌+◌, ◌-◌, ◌<◌, ◌≤◌, true, false, not, ◌&&◌, ◌||◌}
 use Rattle.std.proofs.Common.{List, [], ◌∷◌, ◌++◌, length, Some, ◌⊎◌, refl, ap, sym, subst, ◌∙◌, inl, inr}
 use Rattle.std.proofs.Common.{mod-lt, arith}
 use Rattle.std.specs.Prelude.{◌==◌}
-use Rattle.std.specs.List.{AllByRecursion, list_any, range_with_len}
+use Rattle.std.specs.List.{AllByRecursion}
 use Rattle.std.proofs.lemmas.Bool.{and_parts, and_from, or_left, or_right, or_cases, both_ways, cases_lt, cases_eq}
 use Rattle.std.proofs.lemmas.Bool.{eq-eqb}
 use Rattle.std.proofs.lemmas.Bool.{false_from_ne_true, not-true}
@@ -30,6 +30,7 @@ use Rattle.back_plan.proofs.Entries.{entry-of}
 use Rattle.back_plan.proofs.Runs.{IsBackRun}
 use Rattle.back_plan.proofs.Standing.{Standing, Clear, LostSince, ArmedSince, standing, entry-by, arm-late}
 use Rattle.back_plan.proofs.Walk.{at, made, after, after-has, at-next}
+use Rattle.ttp_world.proofs.RangeFacts.{any-range}
 
 -- Whoever is faulty is a node of the list that is on at some time.
 
@@ -172,17 +173,6 @@ told-at list script start slot f told (suc later) from to =
     (ap not (told.kept (suc later) (omega arith) to))
 
 -- An arm line among slots.
-
-any-range : (p : ℕ → Bool) (a n slot : ℕ) → a ≤ slot → slot < a + n → p slot ≡ true
-    → list_any p (range_with_len a n) ≡ true
-any-range p a zero slot from to passes = absurd (omega arith)
-any-range p a (suc n) slot from to passes = by (cases_eq a slot) (any-range p (a + 1) n slot)
-  where
-    by : (a ≡ slot) ⊎ (a ≢ slot)
-        → (a + 1 ≤ slot → slot < a + 1 + n → p slot ≡ true → list_any p (range_with_len (a + 1) n) ≡ true)
-        → (p a || list_any p (range_with_len (a + 1) n)) ≡ true
-    by (inl same) rest = or_left (p a) _ (ap p same ∙ passes)
-    by (inr other) rest = or_right (p a) _ (rest (omega arith) (omega arith) passes)
 
 module _ (list : Medl) (script : Script) (start : ClusterStart) (run : IsBackRun list script start) where
   abbrev plan : Plan

@@ -1,6 +1,6 @@
 -- Who is sound after a slot: a node that is not faulty, or one that was armed less than four rounds ago.
 use Rattle.std.proofs.Common.{◌≡◌, ◌≢◌, ℕ, zero, suc, ◌+◌, ◌-◌, ◌<◌, ◌≤◌, Bool, true, false, cond, not, ◌&&◌}
-use Rattle.std.proofs.Common.{length, Option, Some, None, ◌⊎◌, refl, ap, sym, ◌∙◌, inl, inr, arith}
+use Rattle.std.proofs.Common.{length, Some, ◌⊎◌, refl, ap, sym, ◌∙◌, inl, inr, arith}
 use Rattle.std.specs.Prelude.{◌==◌}
 use Rattle.std.proofs.lemmas.Bool.{and_parts, or_parts, or_cases, or_from, both_ways, cases_lt, false_from_ne_true}
 use Rattle.std.proofs.lemmas.Bool.{true_from_ne_false}
@@ -12,12 +12,11 @@ use Rattle.ttp_world.specs.declared.script.Script.{Script}
 use Rattle.ttp_world.specs.Hypothesis.{ClusterStart, nodes_made, expected_sender}
 use Rattle.ttp_world.specs.Returning.{four_rounds, slots_before, is_forgiven}
 use Rattle.ttp_world.specs.Script.{is_ever_on, is_on}
-use Rattle.fault_plan.specs.Plan.{Incident, incident_at, is_armed_by, enters, sender}
+use Rattle.fault_plan.specs.Plan.{incident_at, is_armed_by, enters, sender}
 use Rattle.fault_plan.specs.Fates.{Fate, Absent, Sound, Listening, fate_of, fate_at_begin, next_fate, is_sound}
 use Rattle.fault_plan.specs.Fates.{is_sound_after}
-use Rattle.fault_plan.specs.Fates.{lost_since, struck, turned}
-use Rattle.fault_plan.proofs.FateSteps.{strikes, sound-fate, next-same}
-use Rattle.fault_plan.proofs.FaultySets.{has_node-append}
+use Rattle.fault_plan.specs.Fates.{lost_since, turned}
+use Rattle.fault_plan.proofs.FateSteps.{strikes, sound-fate, next-same, struck-missed}
 use Rattle.fault_plan.proofs.Hearing.{on-ever}
 use Rattle.back_plan.specs.BackPlan.{entry_slot, back_plan_of}
 use Rattle.back_plan.proofs.Arms.{IsArmedIn, arm-faulty}
@@ -26,6 +25,7 @@ use Rattle.back_plan.proofs.BackLosses.{Origin, ByJump, ByLoss, origin-of, jumpe
 use Rattle.back_plan.proofs.Runs.{IsBackRun}
 use Rattle.back_plan.proofs.Standing.{Standing, Clear, LostSince, ArmedSince, standing, entry-by, armed-by-line}
 use Rattle.back_plan.proofs.Walk.{at, made, after, after-has, at-next}
+use Rattle.ttp_world.proofs.WorldFacts.{has_node-append}
 
 -- Faulty nodes are ever on.
 
@@ -58,11 +58,6 @@ faulty-ever list script start (suc slot) k has =
     by (inr there) older = older there
 
 -- A node that is never on is absent.
-
-struck-missed : (slot k : ℕ) (fate : Fate) (found : Option Incident) → strikes found k ≡ false
-    → struck slot k fate found ≡ fate
-struck-missed slot k fate None missed = refl
-struck-missed slot k fate (Some incident) missed = rw missed refl
 
 turned-absent : (own : Bool) (slot : ℕ) → turned own slot Absent ≡ Absent
 turned-absent true slot = refl

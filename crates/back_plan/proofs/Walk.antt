@@ -1,5 +1,5 @@
 -- The slots of a run in which faulty nodes may be forgiven: who is faulty in them.
-use Rattle.std.proofs.Common.{◌≡◌, ℕ, zero, suc, ◌+◌, ◌-◌, ◌<◌, ◌≤◌, Bool, true, false, cond, not, ◌&&◌, ◌||◌, List, []}
+use Rattle.std.proofs.Common.{◌≡◌, ℕ, zero, suc, ◌+◌, ◌-◌, ◌<◌, Bool, true, false, cond, not, ◌&&◌, ◌||◌, List, []}
 use Rattle.std.proofs.Common.{◌∷◌, ◌++◌, get_or, refl, ap, sym, ◌∙◌, arith}
 use Rattle.std.specs.Prelude.{◌==◌}
 use Rattle.std.specs.List.{filter}
@@ -11,8 +11,8 @@ use Rattle.ttp_world.specs.Hypothesis.{ClusterStart, FaultyNode, numbers_of, nod
 use Rattle.ttp_world.specs.Returning.{no_slot, faulty_since, four_rounds, is_forgiven, faulty_slot}
 use Rattle.ttp_world.specs.Returning.{slots_before, faulty_at}
 use Rattle.ttp_world.specs.Script.{is_armed}
-use Rattle.fault_plan.proofs.FaultySets.{has_node-append}
 use Rattle.fault_plan.proofs.Spaced.{numbers-next}
+use Rattle.ttp_world.proofs.WorldFacts.{get-none, has_node-append}
 
 -- the nodes that are faulty at the beginning of a slot, those that it makes faulty, and those that are after it
 abbrev pub at : Medl → Script → ClusterStart → ℕ → List ℕ
@@ -43,12 +43,6 @@ get-slot list script start (suc slot) zero m is =
     let same : slot ≡ m = omega arith in
     ap (λ t. faulty_slot list script start t (faulty_at list script start t)) same
 get-slot list script start (suc slot) (suc i) m is = get-slot list script start slot i m (omega arith)
-
-get-none : (list : Medl) (script : Script) (start : ClusterStart) (slot i : ℕ) → slot ≤ i
-    → get_or (slots_before list script start slot) i no_slot ≡ no_slot
-get-none list script start zero i from = refl
-get-none list script start (suc slot) zero from = absurd (omega arith)
-get-none list script start (suc slot) (suc i) from = get-none list script start slot i (omega arith)
 
 -- Who is forgiven.
 

@@ -17,6 +17,8 @@ use Rattle.ttp_world.specs.Hypothesis.{numbers_of, faulty_after}
 use Rattle.ttp_world.specs.Returning.{back_faulty_after, is_sound}
 use Rattle.ttp_world.specs.Safety.{newest_slot, is_settled, members_of_node, are_same_members, has_left, IsSafe}
 use Rattle.ttp_world.specs.Script.{is_armed}
+use Rattle.ttp_world.proofs.Starts.{on-by as implied}
+use Rattle.safety_steps.proofs.Among.{not-settled as negated}
 
 -- none of the nodes that are correct where these are faulty has left, and they hold one membership unless in doubt
 pub record IsCalm (list : Medl) (script : Script) (history : History) (faulty : List ℕ) : Type 0 where
@@ -38,22 +40,11 @@ list_all-filter p q (k ∷ ks) =
     by true = refl
     by false = refl
 
-implied : (p q : Bool) → (not p || q) ≡ true → p ≡ true → q ≡ true
-implied true q holds is = holds
-implied false q holds is = absurd (false≢true is)
-
 -- a test of all that pass another is one of each
 pub kept-each : (p q : ℕ → Bool) (n k : ℕ) → list_all q (filter p (below n)) ≡ true → k < n → p k ≡ true → q k ≡ true
 kept-each p q n k all node is =
     implied (p k) (q k)
     (each-below (λ j. not (p j) || q j) n k (sym (list_all-filter p q (below n)) ∙ all) node) is
-
-negated : (b : Bool) → not b ≡ true → b ≡ false
-negated true is = absurd (false≢true is)
-negated false is = refl
-
-both : (a b : Bool) → a ≡ true → b ≡ true → (a && b) ≡ true
-both a b one other = ap (λ x. x && b) one ∙ other
 
 -- of pairs of such nodes that pass a second test
 pairs-each : (p s : ℕ → Bool) (q : ℕ → ℕ → Bool) (n j k : ℕ)

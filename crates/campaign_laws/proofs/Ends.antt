@@ -12,11 +12,10 @@ use Rattle.ttp_world.specs.declared.keep.Keep.{Keep}
 use Rattle.ttp_world.specs.declared.keep.Keep.TheVariants as keep
 use Rattle.ttp_world.specs.declared.medl.Medl.{Medl}
 use Rattle.ttp_world.specs.declared.node.Act.{Act}
-use Rattle.ttp_world.specs.declared.node.Act.TheVariants.{Off, Listen}
+use Rattle.ttp_world.specs.declared.node.Act.TheVariants.{Off}
 use Rattle.ttp_world.specs.declared.node.Phase.{Phase}
 use Rattle.ttp_world.specs.declared.node.Phase.TheVariants as phase
 use Rattle.ttp_world.specs.declared.script.Script.{Script}
-use Rattle.ttp_world.specs.Act.{phase_act}
 use Rattle.ttp_world.specs.After.{past_after}
 use Rattle.ttp_world.specs.BackSafety.{IsBackSafe, is_armed_among, is_back_gone, back_correct_nodes}
 use Rattle.ttp_world.specs.Conduct.{new_entry}
@@ -34,7 +33,7 @@ use Rattle.ttp_world.proofs.LegalRuns.{legal-whole, legal-none}
 use Rattle.ttp_world.proofs.Worlds.{length-world}
 use Rattle.fault_plan.proofs.KeptPlan.{kept-plan}
 use Rattle.back_plan.proofs.Returned.{returned-by_plan}
-use Rattle.safety_laws.specs.NodeSlot.{NodeSlot, node_slot, act_made, next_past}
+use Rattle.safety_laws.specs.NodeSlot.{NodeSlot, node_slot, next_past}
 use Rattle.safety_laws.proofs.NodeSlots.{node_past-step}
 use Rattle.safety_laws.proofs.StartSlot.{first_due}
 use Rattle.safety_laws.proofs.Waiting.{WaitAll-world}
@@ -48,12 +47,9 @@ use Rattle.campaign.specs.ZerosWorld.{zeros_world}
 use Rattle.campaign_laws.specs.Ends.{faulty_nodes_if, IsOver, AreOver}
 use Rattle.campaign_laws.proofs.Alike.{cost-alike, zeros-legal}
 use Rattle.campaign_laws.proofs.Yes.{IsUnharmed, all-inactive, waiting, yes-unharmed}
+use Rattle.safety_laws.proofs.Idle.{act-off as off-act}
 
 -- A node that is not on is off.
-
-off-act : (x : NodeSlot) → x.past.phase ≡ phase.Off → x.on ≡ false → act_made x ≡ Off
-off-act x off stays =
-    ap (λ (p : Phase). phase_act p x.list x.node x.on x.armed x.past) off ∙ ap (λ b. cond b Listen Off) stays
 
 off-next : (x : NodeSlot) → x.past.phase ≡ phase.Off → x.on ≡ false → (next_past x).phase ≡ phase.Off
 off-next x off stays =

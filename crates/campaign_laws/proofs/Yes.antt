@@ -40,6 +40,7 @@ use Rattle.campaign.specs.declared.cost.Cost.{Cost}
 use Rattle.campaign.specs.ZerosWorld.{zeros_world}
 use Rattle.campaign_laws.proofs.Alike.{cost-alike, zeros-legal}
 use Rattle.campaign_laws.proofs.Calm.{IsCalm, safe-calm, back-calm}
+use Rattle.safety_steps.proofs.Begins.{waiting-unleft as waiting-stays}
 
 -- nobody is hurt, and no memberships are split
 pub record IsUnharmed (cost : Cost) : Type 0 where
@@ -184,10 +185,6 @@ calm-unsplit list script history calm =
 pub waiting : (none : Bool) → is_active_phase (cond none phase.Off phase.Listening) ≡ false
 waiting true = refl
 waiting false = refl
-
-waiting-stays : (none : Bool) → is_left_phase (cond none phase.Off phase.Listening) ≡ false
-waiting-stays true = refl
-waiting-stays false = refl
 
 pub all-inactive : (list : Medl) (history : History) (among : ℕ → Bool)
     → ((k : ℕ) → k < length list.slots → is_active (diary_of history k) ≡ false)

@@ -1,15 +1,14 @@
 -- Words with commas between them, one more at a time.
 use Rattle.std.proofs.Common.{◌≡◌, ℕ, ◌+◌, ◌<◌, List, [], ◌∷◌, ◌++◌, length, take, refl, ap, sym, ◌∙◌, append-nil}
-use Rattle.std.proofs.Common.{append_assoc, get_or, length-append, Bool, true, false, cond, arith}
+use Rattle.std.proofs.Common.{append_assoc, get_or, Bool, true, arith}
 use Rattle.std.specs.Prelude.{map, filter, codes}
 use Rattle.std.specs.Fmt.{decimal}
 use Rattle.std.specs.List.{join_with_byte}
 use Rattle.std.proofs.lemmas.List.{map-append, length-map, length-take-le, take_more}
-use Rattle.std.proofs.lemmas.List.Elements.{filter-append}
 use Rattle.ttp_base.specs.NodeSet.{below}
-use Rattle.ttp_base.proofs.Below.{below-next}
 use Rattle.campaign.specs.CostText.{listed}
 use Rattle.campaign_text.specs.Listing.{comma_before, dash_for}
+use Rattle.ttp_world.proofs.ListFacts.{one-more}
 
 abbrev pub joined : List (List ℕ) → List ℕ
 joined words = join_with_byte 44 words
@@ -57,19 +56,6 @@ listed-step word text xs place d before comma after inside told put_comma put_wo
     (sym (ap (map word) (take_more xs place d inside) ∙ map-append word (take place xs) (get_or xs place d ∷ [])))
 
 -- Nodes of a set, in ascending order.
-
-pub node-out : (p : ℕ → Bool) (n : ℕ) → p n ≡ false → filter p (below (n + 1)) ≡ filter p (below n)
-node-out p n out =
-    ap (filter p) (below-next n) ∙ filter-append p (below n) (n ∷ [])
-    ∙ ap (λ (b : Bool). filter p (below n) ++ cond b (n ∷ []) []) out ∙ append-nil (filter p (below n))
-
-one-more : (p : ℕ → Bool) (n : ℕ) → p n ≡ true → filter p (below (n + 1)) ≡ filter p (below n) ++ n ∷ []
-one-more p n is =
-    ap (filter p) (below-next n) ∙ filter-append p (below n) (n ∷ [])
-    ∙ ap (λ (b : Bool). filter p (below n) ++ cond b (n ∷ []) []) is
-
-pub nodes-length : (p : ℕ → Bool) (n : ℕ) → p n ≡ true → length (filter p (below (n + 1))) ≡ length (filter p (below n)) + 1
-nodes-length p n is = ap length (one-more p n is) ∙ length-append (filter p (below n)) (n ∷ [])
 
 pub node-in : (p : ℕ → Bool) (n : ℕ) (text before comma after : List ℕ) (place : ℕ) → p n ≡ true
     → before ≡ text ++ joined (map decimal (filter p (below n))) → place ≡ length (filter p (below n))

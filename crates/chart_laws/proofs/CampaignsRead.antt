@@ -4,7 +4,6 @@ use Rattle.std.proofs.Common.{subst, arith, codes, bytes_eq, map}
 use Rattle.std.specs.Prelude.{Ok}
 use Rattle.ttp_base.specs.Text.{Lines, lines_of}
 use Rattle.line_text.specs.Labels.{after_label}
-use Rattle.line_text.proofs.LabelTexts.{spelled}
 use Rattle.line_text.proofs.Options.{guarded, some_same}
 use Rattle.line_reader.proofs.Options.{bound}
 use Rattle.whole_campaign.specs.declared.head.CampaignHead.{CampaignHead}
@@ -25,6 +24,7 @@ use Rattle.chart_laws.proofs.ChartDraws.{IsOwnPlain, ArePlain, chart-draws}
 use Rattle.chart_laws.proofs.PlainLines.{plain-behind, plain-is, plain-cost, plain-tested, plain-run}
 use Rattle.chart_laws.proofs.ReadLines.{line-from, lines-read}
 use Rattle.chart_laws.proofs.SlotOrder.{AreInSlotOrder, ascend-shown, ascend-tried, columns-drawn}
+use Rattle.ttp_world.proofs.SmallTests.{spelled}
 
 -- The script's own line.
 

@@ -8,7 +8,7 @@ use Rattle.ttp_base.specs.Text.{Lines, lines_of}
 use Rattle.ttp_world.specs.TraceNumbers.{is_digit, append_digit, number_named}
 use Rattle.line_text.specs.Labels.{after_label}
 use Rattle.line_text.specs.Numerals.{has_leading_zero, numeral_in}
-use Rattle.line_text.proofs.LabelTexts.{label-takes, spelled}
+use Rattle.line_text.proofs.LabelTexts.{label-takes}
 use Rattle.line_text.proofs.Options.{guarded, some_same}
 use Rattle.line_reader.specs.TraceLines.{slot_digits}
 use Rattle.line_reader.proofs.Options.{bound}
@@ -33,6 +33,7 @@ use Rattle.chart_laws.specs.Squares.{is_fault_line}
 use Rattle.chart_laws.proofs.PlainLines.{word-cut}
 use Rattle.chart_laws.proofs.ReadLines.{fed-is, told_of_line, right-behind}
 use Rattle.chart_laws.proofs.CampaignsRead.{or-drawn}
+use Rattle.ttp_world.proofs.SmallTests.{spelled}
 
 -- A numeral begins with a digit.
 

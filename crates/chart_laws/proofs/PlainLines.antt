@@ -13,7 +13,7 @@ use Rattle.ttp_world.specs.declared.script.Fault.{Fault}
 use Rattle.ttp_world.specs.declared.script.Fault.TheVariants as fault
 use Rattle.line_text.specs.Labels.{after_label}
 use Rattle.line_text.specs.Numerals.{numeral_in}
-use Rattle.line_text.proofs.LabelTexts.{label-takes, spelled}
+use Rattle.line_text.proofs.LabelTexts.{label-takes}
 use Rattle.line_text.proofs.Options.{guarded, chosen, some_same}
 use Rattle.line_reader.specs.declared.trace_line.TraceLine.{TraceLine}
 use Rattle.line_reader.specs.declared.trace_line.TraceLine.TheVariants as line
@@ -39,6 +39,7 @@ use Rattle.whole_campaign.specs.Runs.{RunWords, run_words_in, test_of, test_in, 
 use Rattle.whole_campaign.specs.Faults.{channels_at, loss_at, loss_end, doing_label, is_loss_of, signed_in, is_jump_value, jump_sign, is_above_0}
 use Rattle.whole_campaign.specs.Faults.{JumpWords, jump_words_in, is_jump_of, is_fault_of}
 use Rattle.picture_text.proofs.PlainTexts.{Plain, parts, plain-append, plain-decimal, plain-hex, plain-keep, plain-back}
+use Rattle.ttp_world.proofs.SmallTests.{spelled}
 
 -- Words.
 

@@ -17,11 +17,11 @@ use Rattle.ttp_base.proofs.NodeSets.{has_node-filter, has_node-sieve, same_sieve
 use Rattle.whole_campaign.specs.declared.shown.Piece.{Piece}
 use Rattle.whole_campaign.specs.Due.{as_count}
 use Rattle.picture_text.specs.declared.window.Span.{Span}
-use Rattle.picture_text.proofs.Holders.{passes, fails, count-passes}
 use Rattle.picture_text.proofs.Sought.{found_at, found_nowhere}
 use Rattle.chart_text.specs.Columns.{is_tried, tried_slots, is_asked, place_in}
 use Rattle.chart_text.specs.Column.{shown_before}
 use Rattle.chart_text.specs.Steps.{has_mark, marked_slots}
+use Rattle.ttp_world.proofs.ListFacts.{node-out as fails, one-more as passes, nodes-length as count-passes}
 
 -- where nothing passes, nothing stands first
 nowhere : {X : Type 0} (p : X → Bool) (xs : List X) → list_any p xs ≡ false → position_or_len p xs ≡ length xs

@@ -1,6 +1,7 @@
 -- Controllers fetch where no host writes: what each got is chosen, as it is beside writes.
 use Rattle.std.proofs.Common.{◌≡◌, ◌≢◌, ℕ, suc, ◌+◌, ◌<◌, ◌≤◌, Bool, List, [], length, set, get_or}
 use Rattle.std.proofs.Common.{Some, None, All, refl, sym, ap, subst, ◌∙◌, arith, add-one, below_more}
+use Rattle.std.specs.List.{sum_by}
 use Rattle.std.proofs.lemmas.List.{append-nil, length-set, get_or-set_same, get_or-set_other}
 use Rattle.ttp_world.specs.declared.medl.Medl.{Medl}
 use Rattle.ttp_world.specs.declared.node.Chosen.{Chosen}
@@ -16,11 +17,11 @@ use Rattle.host_port.specs.Rings.{HostState}
 use Rattle.cluster_run.specs.Choosing.{AreBytesBefore, HaveBegunFor, HaveChosen, next_slot}
 use Rattle.cluster_run.specs.Ends.{host_at}
 use Rattle.cluster_run.specs.Rings.{pairs_sent, words_written}
-use Rattle.cluster_run.specs.Sending.{FetchesAlone, MayFetchAlone, SettlesFetch, after_writes}
+use Rattle.cluster_run.specs.Sending.{FetchesAlone, MayFetchAlone, SettlesFetch, write_steps, after_writes}
 use Rattle.cluster_run.proofs.Choices.{node_choice}
 use Rattle.cluster_run.proofs.Deliverable.{loaded-payload}
-use Rattle.cluster_run.proofs.Places.{at_any}
 use Rattle.cluster_run.proofs.Sends.{fetched_may, has_ring, may_lend}
+use Rattle.ttp_world.proofs.ListFacts.{at_any}
 
 -- The first controllers have fetched, so many, and what is of the others is as it was.
 pub record HaveFetched (list : Medl) (seats : List Seat) (k : ℕ) (old_ends ends : List HostState) (old_chosen chosen : List Chosen) : Type 0 where
@@ -88,7 +89,9 @@ may_fetch_alone {list = list} {script = script} {numbers = numbers} {ends = ends
 -- No write leaves an end as it was.
 unwritten : (end : HostState) (k : ℕ) → after_writes [] k end ≡ end
 unwritten None k = refl
-unwritten (Some w) k = ap (λ ms. Some (record w { messages = ms })) (append-nil w.messages)
+unwritten (Some w) k =
+    let steps : w.steps + sum_by write_steps [] ≡ w.steps = omega arith in
+    λ i. Some (record w { messages = append-nil w.messages i; steps = steps i })
 
 -- So the messages in frames are chosen.
 pub have_chosen_alone : {list : Medl} {script : Script} {slot : ℕ} {numbers : Numbers} {seats : List Seat}

@@ -7,7 +7,7 @@ use Rattle.ttp_world.specs.declared.medl.Medl.{Medl}
 use Rattle.ttp_world.specs.declared.node.Chosen.{Chosen}
 use Rattle.ttp_world.specs.declared.script.Script.{Script}
 use Rattle.ttp_world.specs.Legal.{is_legal_message}
-use Rattle.ttp_world.specs.Medl.{IsValid, is_wide, member_bytes}
+use Rattle.ttp_world.specs.Medl.{member_bytes}
 use Rattle.ttp_world.specs.Messages.{newest_number}
 use Rattle.ttp_world.specs.Outgoing.{messages_before, out_messages}
 use Rattle.ttp_world.specs.Script.{IsValidScript}
@@ -38,6 +38,3 @@ chosen_sizes list script numbers chosen ends valid are k node loaded =
 wide_few : (wide : Bool) → 8 * member_bytes wide ≤ 24
 wide_few wide =
     cond_both wide 3 2 (λ n. 8 * n ≤ 24) (λ is. omega arith) (λ other. omega arith)
-
-pub few_nodes : (list : Medl) → IsValid list → length list.slots ≤ 24
-few_nodes list valid = omega (arith, valid.count, wide_few (is_wide list))

@@ -16,7 +16,8 @@ use Rattle.cluster_run.specs.declared.nodes.Desk.{Desk}
 use Rattle.cluster_run.specs.Ending.{delivered_to, handed_on, number_handed, outcome_of}
 use Rattle.cluster_run.specs.Ends.{ring_of, rings_of, end_at, desk_ends, desk_numbers}
 use Rattle.cluster_run.specs.Sending.{message_count}
-use Rattle.cluster_run.proofs.Places.{at_any, read_alike}
+use Rattle.cluster_run.proofs.Places.{read_alike}
+use Rattle.ttp_world.proofs.ListFacts.{at_any}
 
 -- The number of a message that was just written.
 

@@ -1,8 +1,7 @@
 -- What a controller delivers in the slot after a world it may hand on, and the number that it then has in its ring.
-use Rattle.std.proofs.Common.{◌≡◌, ◌≢◌, ℕ, ◌+◌, ◌≤◌, Bool, true, false, cond, List, [], ◌∷◌}
+use Rattle.std.proofs.Common.{◌≡◌, ◌≢◌, ℕ, ◌≤◌, cond, List, [], ◌∷◌}
 use Rattle.std.proofs.Common.{length, Option, Some, None, IfSome, IsSomeAnd, option_map, refl, sym, ap, subst}
-use Rattle.std.proofs.Common.{◌∙◌, ◌^◌, is_some, arith, length-append}
-use Rattle.std.specs.Prelude.{◌==◌}
+use Rattle.std.proofs.Common.{◌∙◌, ◌^◌, arith, length-append}
 use Rattle.std.proofs.lemmas.Bool.{eq-eqb, ne_eqb}
 use Rattle.std.proofs.lemmas.List.{length-map}
 use Rattle.nbw_ring.specs.declared.view.Message.{Message}
@@ -18,10 +17,8 @@ use Rattle.ttp_world.specs.declared.script.TheConstants.{SLOT_LIMIT}
 use Rattle.ttp_world.specs.Diary.{History}
 use Rattle.ttp_world.specs.Medl.{plan_at, IsValid}
 use Rattle.ttp_world.specs.Messages.{delivered_of, in_messages, new_messages, ring_messages}
-use Rattle.ttp_world.specs.Messages.{status_messages, status_words}
 use Rattle.ttp_world.specs.Trace.{number_delivered}
 use Rattle.ttp_world.specs.Words.{word_count}
-use Rattle.ttp_world.specs.World.{node_past}
 use Rattle.host_port.specs.Rings.{ControllerState, at_source, incoming_shape, message_shape, shape_of}
 use Rattle.host_port.specs.Writing.{HasRoom}
 use Rattle.cluster_run.specs.Ending.{MayHandOn, number_handed}
@@ -30,38 +27,11 @@ use Rattle.cluster_run.specs.Rings.{IsRing, IsRingOf, ring_words, words_read}
 use Rattle.cluster_run.specs.Sending.{message_count}
 use Rattle.cluster_run.proofs.Choices.{shape_there}
 use Rattle.cluster_run.proofs.Deliverable.{IsDeliverable}
-use Rattle.cluster_run.proofs.Sends.{plan_few, ring_count, ring_takes}
+use Rattle.cluster_run.proofs.Sends.{ring_count, ring_takes}
+use Rattle.ttp_world.proofs.LegalNumbers.{ring_messages-few as few_came}
+use Rattle.ttp_world.proofs.WorldFacts.{plan-short as plan_few}
 
 -- Messages that came: one more a slot at most.
-
-few_new : (p : ℕ) (delivered : Option Delivered) → length (new_messages p delivered) ≤ 1
-few_new p None = omega arith
-few_new p (Some d) = few (d.sender == p)
-  where
-    few : (own : Bool) → length (cond own (d.payload ∷ []) []) ≤ 1
-    few true = omega arith
-    few false = omega arith
-
-few_came : (list : Medl) (script : Script) (history : History) (k : ℕ) (from : Source)
-    → length (ring_messages list script history k from) ≤ 1 + length history
-few_came list script [] k source.Status = omega arith
-few_came list script [] k (source.Node p) = omega arith
-few_came list script (row ∷ history) k source.Status =
-    omega (
-      arith,
-      few_came list script history k source.Status,
-      length-append (status_messages list script history k)
-          (status_words list (length history) (node_past list script (row ∷ history) k)
-          (is_some (delivered_of list script history row k)) ∷ []),
-    )
-few_came list script (row ∷ history) k (source.Node p) =
-    let delivered = delivered_of list script history row k in
-    omega (
-      arith,
-      few_came list script history k (source.Node p),
-      few_new p delivered,
-      length-append (in_messages list script history k p) (new_messages p delivered),
-    )
 
 -- The ring of another node that sends payload is there.
 

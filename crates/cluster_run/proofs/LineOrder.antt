@@ -1,9 +1,8 @@
 -- Lines that wait in queues, one for each host, are brought into the order of the reads.
 use Rattle.std.proofs.Common.{◌≡◌, ◌≢◌, ℕ, ◌<◌, Bool, true, false, cond, List, [], ◌∷◌, ◌++◌, length, map, set}
-use Rattle.std.proofs.Common.{get_or, Option, Some, None, IfSome, inl, inr, refl, sym, ap, ◌∙◌}
+use Rattle.std.proofs.Common.{get_or, Option, Some, None, inl, inr, refl, sym, ap, ◌∙◌}
 use Rattle.std.proofs.Common.{arith, append_assoc}
 use Rattle.std.specs.Prelude.{◌==◌, ◌↔◌, filter, IsSome, IfNone}
-use Rattle.std.specs.Option.{option_to_list}
 use Rattle.std.proofs.lemmas.Bool.{false≢true, cases_eq, cases_lt, eq-eqb, eqb-true, false_from_ne_true}
 use Rattle.std.proofs.lemmas.List.{get_or-map, get_or-set_same, get_or-set_other, map-append, map-set, length-map}
 use Rattle.std.proofs.lemmas.List.{append_cancel_left, append-nil}
@@ -29,11 +28,6 @@ pub queue_kept : {A X : Type 0} (items : A → List X) (qs : List A) (k other : 
 queue_kept items qs k other q apart =
     ap (λ xs. get_or xs other []) (map-set items qs k q)
     ∙ get_or-set_other (map items qs) k other (items q) [] apart
-
-pub if_first : {X : Type 0} (first : Option X) (old before new after : List X) → old ≡ before → new ≡ after
-    → before ≡ option_to_list first ++ after → IfSome first (λ x. old ≡ x ∷ new)
-if_first None old before new after was is taken = tt
-if_first (Some x) old before new after was is taken = was ∙ (taken ∙ ap (λ l. x ∷ l) (sym is))
 
 nothing_left : {X : Type 0} (xs : List X) → length xs ≡ 0 → xs ≡ []
 nothing_left [] none = refl

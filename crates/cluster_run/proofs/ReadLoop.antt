@@ -15,8 +15,8 @@ use Rattle.host_port.specs.Reading.{ReadersState, Attempts, Reads, buffers_of, r
 use Rattle.host_port.specs.Reading.{IsLeft, rings_read}
 use Rattle.host_port.specs.Rings.{place_of}
 use Rattle.cluster_run.specs.Reading.{readers_at, reader_in, reader_at, rings_in, ReadTheSame, ReadBuffers, HaveRead}
-use Rattle.cluster_run.proofs.Places.{at_any}
 use Rattle.cluster_run.proofs.ReadAll.{same_place, reads_more-own, reads_more-other, IsRead, IsReadAt, have_more}
+use Rattle.ttp_world.proofs.ListFacts.{at_any}
 
 -- There is room for the reads that are left.
 

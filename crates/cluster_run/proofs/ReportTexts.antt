@@ -38,7 +38,7 @@ use Rattle.cluster_run.specs.Rings.{ring_words}
 use Rattle.cluster_run.specs.Slots.{IsNext}
 use Rattle.cluster_run.specs.Standing.{ClusterView}
 use Rattle.cluster_run.specs.Texts.{TellsNext}
-use Rattle.cluster_run.proofs.Sends.{plan_few}
+use Rattle.ttp_world.proofs.WorldFacts.{plan-short as plan_few}
 
 -- The lines.
 

@@ -2,7 +2,7 @@
 use Rattle.std.proofs.Common.{◌≡◌, ℕ, suc, ◌+◌, ◌<◌, ◌≤◌, Bool, true, false, List, [], ◌∷◌}
 use Rattle.std.proofs.Common.{length, get_or, Option, Some, None, IfSome, IsSomeAnd, All, refl, sym, ap, subst}
 use Rattle.std.proofs.Common.{◌∙◌, arith, add-one, inl, inr}
-use Rattle.std.specs.Prelude.{◌==◌, IsSome, slice_get, count_by, unwrap_or, ◌/◌}
+use Rattle.std.specs.Prelude.{◌==◌, IsSome, count_by, ◌/◌}
 use Rattle.std.specs.Option.{ForSome}
 use Rattle.std.proofs.lemmas.Bool.{cases_Bool, cases_lt, cond_both}
 use Rattle.std.proofs.lemmas.List.{get_or_past, length-map}
@@ -12,11 +12,10 @@ use Rattle.nbw_ring.specs.declared.view.Message.{Message}
 use Rattle.nbw_ring.specs.declared.view.Shape.{Shape}
 use Rattle.nbw_ring.specs.States.{WriterState, ReaderState, new_reader}
 use Rattle.ttp_world.specs.declared.medl.Medl.{Medl}
-use Rattle.ttp_world.specs.declared.medl.SlotPlan.{SlotPlan}
 use Rattle.ttp_world.specs.declared.node.Chosen.{Chosen}
 use Rattle.ttp_world.specs.declared.script.Script.{Script}
 use Rattle.ttp_world.specs.declared.script.TheConstants.{EVENT_LIMIT}
-use Rattle.ttp_world.specs.Medl.{plan_at, no_plan, IsValid}
+use Rattle.ttp_world.specs.Medl.{plan_at, IsValid}
 use Rattle.ttp_world.specs.Outgoing.{messages_before, nothing_chosen}
 use Rattle.ttp_world.specs.Script.{HostWrite, IsValidScript, messages_written, payload_of_host, write_in}
 use Rattle.ttp_world.specs.Script.{writes_in}
@@ -38,8 +37,8 @@ use Rattle.cluster_run.specs.Standing.{HoldsWritten}
 use Rattle.cluster_run.proofs.Choices.{node_choice, shape_there}
 use Rattle.cluster_run.proofs.Deliverable.{loaded-payload}
 use Rattle.ttp_world.proofs.HostMessages.{IsValidWrite, few_messages, filter_map-each, valid_write_at, valid_writes}
-use Rattle.cluster_run.proofs.Settling.{payload_few, plan_there}
-use Rattle.cluster_run.proofs.Writes.{filter_map-few}
+use Rattle.ttp_world.proofs.WorldFacts.{plan-short as plan_few}
+use Rattle.ttp_world.proofs.ListFacts.{filter_map-few}
 
 -- A node's ring, where it sends payload.
 
@@ -69,20 +68,6 @@ pub ring_takes : (shape : Shape) (messages : List (List ℕ)) (pairs : List Mess
 ring_takes shape messages pairs None size ring few wide = absurd ring
 ring_takes shape messages pairs (Some w) size ring few wide =
     (few, wide ∙ sym (ap (λ (s : Shape). s.width) ring.shape_is))
-
-plan_found : (list : Medl) (k : ℕ) (found : Option SlotPlan) → IsValid list → slice_get list.slots k ≡ found
-    → (plan_at list k).payload ≤ 240
-plan_found list k (Some plan) valid here =
-    omega (arith, payload_few list k plan valid here, ap (λ (p : SlotPlan). p.payload) (plan_there list k plan here))
-plan_found list k None valid here =
-    omega (
-      arith,
-      ap (λ (o : Option SlotPlan). (unwrap_or o no_plan).payload)
-          here,
-    )
-
-pub plan_few : (list : Medl) (k : ℕ) → IsValid list → (plan_at list k).payload ≤ 240
-plan_few list k valid = plan_found list k (slice_get list.slots k) valid refl
 
 -- Fetchers may be lent.
 

@@ -14,7 +14,8 @@ use Rattle.host_port.specs.Rings.{ControllerState, place_of, at_source}
 use Rattle.cluster_run.specs.declared.nodes.Desk.{Desk}
 use Rattle.cluster_run.specs.Ends.{end_at, desk_ends, desk_numbers}
 use Rattle.cluster_run.specs.Reading.{readers_at, SettlesReadsOf, read_of, AreLinesBy, queue_of}
-use Rattle.cluster_run.proofs.Places.{at_any, read_alike}
+use Rattle.cluster_run.proofs.Places.{read_alike}
+use Rattle.ttp_world.proofs.ListFacts.{at_any}
 
 -- One host's.
 

@@ -1,36 +1,23 @@
 -- Fetchers are settled one after another.
-use Rattle.std.proofs.Common.{◌≡◌, ◌≢◌, ℕ, zero, suc, ◌+◌, ◌<◌, ◌≤◌, List, [], ◌∷◌, length, set, get_or}
+use Rattle.std.proofs.Common.{◌≡◌, ◌≢◌, ℕ, ◌+◌, ◌<◌, ◌≤◌, List, length, set, get_or}
 use Rattle.std.proofs.Common.{Option, Some}
-use Rattle.std.proofs.Common.{None, ap, ◌∙◌, subst, below_more, arith}
+use Rattle.std.proofs.Common.{None, ap, ◌∙◌, below_more, arith}
 use Rattle.std.specs.Prelude.{slice_get, unwrap_or}
-use Rattle.std.specs.List.{AllByRecursion}
 use Rattle.std.proofs.lemmas.List.{length-set, get_or-set_same, get_or-set_other}
-use Rattle.std.proofs.lemmas.Option.{same_Some, none-some}
 use Rattle.nbw_ring.specs.States.{ReaderState}
 use Rattle.ttp_world.specs.declared.medl.Medl.{Medl}
 use Rattle.ttp_world.specs.declared.medl.SlotPlan.{SlotPlan}
 use Rattle.ttp_world.specs.declared.node.Chosen.{Chosen}
-use Rattle.ttp_world.specs.Medl.{plan_at, no_plan, IsValid, IsValidSlot}
+use Rattle.ttp_world.specs.Medl.{plan_at, no_plan}
 use Rattle.ttp_world.specs.Outgoing.{nothing_chosen}
 use Rattle.host_port.specs.Rings.{HostState}
 use Rattle.cluster_run.specs.Ends.{host_at}
 use Rattle.cluster_run.specs.Sending.{SettlesFetch}
-use Rattle.cluster_run.proofs.Places.{at_any}
+use Rattle.ttp_world.proofs.ListFacts.{at_any}
 
 -- the slot of a list's node
 pub plan_there : (list : Medl) (k : ℕ) (plan : SlotPlan) → slice_get list.slots k ≡ Some plan → plan_at list k ≡ plan
 plan_there list k plan here = ap (λ (o : Option SlotPlan). unwrap_or o no_plan) here
-
-all_there : {X : Type 0} (P : X → Type 0) (xs : List X) (k : ℕ) (x : X) → AllByRecursion P xs
-    → slice_get xs k ≡ Some x → P x
-all_there P [] k x all here = absurd (none-some x here)
-all_there P (y ∷ ys) zero x all here = subst P (same_Some _ _ here) all.0
-all_there P (y ∷ ys) (suc k) x all here = all_there P ys k x all.1 here
-
-pub payload_few : (list : Medl) (k : ℕ) (plan : SlotPlan) → IsValid list → slice_get list.slots k ≡ Some plan
-    → plan.payload ≤ 240
-payload_few list k plan valid here =
-    (all_there (IsValidSlot list.rounds list.modes) list.slots k plan valid.slots here).payload
 
 -- The first fetchers are settled, so many, and the others are as they were.
 pub record AreSettled (list : Medl) (k : ℕ) (old_fetchers fetchers : List (Option ReaderState))

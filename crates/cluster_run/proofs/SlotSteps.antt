@@ -1,11 +1,10 @@
 -- A slot takes a cluster to the world of one slot more: its numbers are those in its report, which shows that slot.
 use Rattle.std.proofs.Common.{◌≡◌, ℕ, ◌<◌, true, ◌&&◌, List, [], ◌∷◌, ◌++◌}
-use Rattle.std.proofs.Common.{length, map, get_or, Option, Some, None, IfSome, refl, sym, ap, subst, ◌∙◌}
+use Rattle.std.proofs.Common.{length, map, get_or, Option, Some, None, IfSome, sym, ap, subst, ◌∙◌}
 use Rattle.std.proofs.Common.{is_some, arith}
 use Rattle.std.specs.Prelude.{reverse}
 use Rattle.std.specs.List.{list_all}
 use Rattle.std.proofs.Math.ListN.{get_or-map}
-use Rattle.std.proofs.lemmas.Bool.{eq-eqb}
 use Rattle.std.proofs.lemmas.List.{length-map}
 use Rattle.std.proofs.lemmas.List.FromFn.{fill_by_all}
 use Rattle.ttp_base.specs.NodeSet.{below}
@@ -49,6 +48,7 @@ use Rattle.cluster_run.proofs.HandedRings.{IsHandedOf, handed_ring}
 use Rattle.cluster_run.proofs.HandsOn.{HoldsCame, number_is_told}
 use Rattle.ttp_world.proofs.LegalSlots.{legal-after}
 use Rattle.cluster_run.proofs.SlotReads.{AreReadsShown, AreSlotReads, reads_of_slot}
+use Rattle.ttp_world.proofs.LegalRuns.{are_same_numbers-refl as same_numbers}
 
 -- The numbers that a slot's node lines tell are those of its row.
 
@@ -68,11 +68,6 @@ sent_told list script row before n lines count are =
     ∙ messages_told row
 
 -- The messages of a slot are legal.
-
-same_numbers : (ns : List (Option ℕ)) → are_same_numbers ns ns ≡ true
-same_numbers [] = refl
-same_numbers (None ∷ ns) = same_numbers ns
-same_numbers (Some n ∷ ns) = λ i. eq-eqb n n refl i && same_numbers ns i
 
 -- What is known of a slot, once it has ended and is told.
 pub record IsTold (list : Medl) (script : Script) (numbers : Numbers) (chosen : List Chosen)

@@ -4,12 +4,12 @@ use Rattle.std.proofs.Common.{length, map, set, take, drop, get_or, count_by, Op
 use Rattle.std.proofs.Common.{inr, refl, sym, ap, subst}
 use Rattle.std.proofs.Common.{◌∙◌, append_assoc, arith, length-append}
 use Rattle.std.specs.Prelude.{◌==◌, IsSome}
-use Rattle.std.specs.List.{filter_map, cons_option}
+use Rattle.std.specs.List.{filter_map, cons_option, sum_by}
 use Rattle.std.proofs.lemmas.Bool.{false≢true, cases_eq, eq-eqb, eqb-true, false_from_ne_true}
 use Rattle.std.proofs.lemmas.List.{append-nil, map-append, length-map, length-set, take_more}
 use Rattle.std.proofs.lemmas.List.{take-append-drop, get_or-set_same, get_or-set_other}
 use Rattle.std.proofs.lemmas.List.Elements.{filter_map-append}
-use Rattle.std.proofs.lemmas.List.Sums.{sum_by-cons, count_by-le-length}
+use Rattle.std.proofs.lemmas.List.Sums.{sum_by-cons, sum_by_push, count_by-le-length}
 use Rattle.ttp_world.specs.Script.{HostWrite, payload_of_host}
 use Rattle.ttp_world.specs.Words.{words_of_payload}
 use Rattle.host_port.specs.declared.report.WriteLine.{WriteLine}
@@ -17,7 +17,8 @@ use Rattle.host_port.specs.Rings.{HostState}
 use Rattle.host_port.specs.Writing.{written, Takes, HasRoom}
 use Rattle.nbw_ring.specs.Numbers.{most_number}
 use Rattle.cluster_run.specs.Ends.{host_at}
-use Rattle.cluster_run.specs.Sending.{messages_by, with_messages, after_writes, message_count, write_line, write_lines}
+use Rattle.cluster_run.specs.Sending.{messages_by, write_steps, with_messages, after_writes, message_count}
+use Rattle.cluster_run.specs.Sending.{write_line, write_lines}
 
 -- the ends and the lines once these writes were made
 pub record AreWritten (old : List HostState) (writes : List HostWrite) (ends : List HostState) (lines : List WriteLine)
@@ -39,9 +40,12 @@ after_one true messages payload (Some w) =
     ≡ (w.messages ++ map words_of_payload messages) ++ words_of_payload payload ∷ [] =
     ap (λ ms. w.messages ++ ms) (map-append words_of_payload messages (payload ∷ []))
     ∙ sym (append_assoc w.messages (map words_of_payload messages) (words_of_payload payload ∷ [])) in
-    λ i. Some (record w { messages = more i })
+    let steps : w.steps + sum_by write_steps (messages ++ payload ∷ [])
+    ≡ (w.steps + sum_by write_steps messages) + write_steps payload =
+    omega (arith, sum_by_push write_steps messages payload) in
+    λ i. Some (record w { messages = more i; steps = steps i })
 after_one false messages payload (Some w) =
-    λ i. Some (record w { messages = w.messages ++ map words_of_payload (append-nil messages i) })
+    λ i. Some (with_messages w (append-nil messages i))
 
 after_more : (writes : List HostWrite) (w : HostWrite) (k : ℕ) (end : HostState)
     → after_writes (writes ++ w ∷ []) k end
@@ -182,15 +186,6 @@ taken_room h xs i x y within here is =
     ap length
     (ap (filter_map h) (sym (take-append-drop (i + 1) xs)) ∙ filter_map-append h (take (i + 1) xs) (drop (i + 1) xs)) in
     omega (arith, one, whole, length-append (filter_map h (take i xs)) (y ∷ []), length-append front back)
-
-cons_option-length : {Y : Type 0} (o : Option Y) (ys : List Y) (n : ℕ) → length ys ≤ n
-    → length (cons_option o ys) ≤ suc n
-cons_option-length None ys n few = omega (arith, few)
-cons_option-length (Some y) ys n few = omega (arith, few)
-
-pub filter_map-few : {X Y : Type 0} (h : X → Option Y) (xs : List X) → length (filter_map h xs) ≤ length xs
-filter_map-few h [] = omega arith
-filter_map-few h (x ∷ xs) = cons_option-length (h x) (filter_map h xs) (length xs) (filter_map-few h xs)
 
 -- an end that takes something is there
 pub takes-within : (ends : List HostState) (k size : ℕ) → Takes (host_at ends k) size → k < length ends

@@ -1,6 +1,6 @@
 -- What hosts write, beside what their controllers fetch of it.
 use Rattle.std.specs.Prelude.{◌≡◌, ℕ, ◌+◌, ◌<◌, ◌≤◌, ◌==◌, Bool, true, List, [], ◌∷◌, ◌++◌, length, map}
-use Rattle.std.specs.Prelude.{get_or, count_by}
+use Rattle.std.specs.Prelude.{get_or, count_by, sum_by}
 use Rattle.std.specs.Prelude.{slice_get, All, Option, Some, None, option_map, IsSome, IsSomeAnd, if◌then◌else◌}
 use Rattle.std.specs.List.{filter_map}
 use Rattle.std.specs.Option.{ForSome}
@@ -45,9 +45,16 @@ pub record MayLend (seats : List Seat) (ends : List HostState) : Type 0 where
 abbrev pub messages_by : ℕ → List HostWrite → List (List ℕ)
 messages_by k writes = filter_map (payload_of_host k) writes
 
+-- the steps of writing a message of a payload: one for each word, and two for the counter
+abbrev pub write_steps : List ℕ → ℕ
+write_steps payload = length (words_of_payload payload) + 2
+
 -- a writer with these messages more
 abbrev pub with_messages : WriterState → List (List ℕ) → WriterState
-with_messages w messages = record w { messages = w.messages ++ map words_of_payload messages }
+with_messages w messages = record w {
+  messages = w.messages ++ map words_of_payload messages;
+  steps = w.steps + sum_by write_steps messages;
+}
 
 -- node k's end once these writes were made
 abbrev pub after_writes : List HostWrite → ℕ → HostState → HostState

@@ -1,5 +1,5 @@
 -- What refuses a file is one line.
-use Rattle.std.proofs.Common.{◌≡◌, ℕ, ◌<◌, true, false, List, ◌++◌, Option, Some, None, refl, arith}
+use Rattle.std.proofs.Common.{◌≡◌, ℕ, true, false, List, ◌++◌, Option, Some, None, refl}
 use Rattle.std.specs.Prelude.{codes}
 use Rattle.std.specs.Fmt.{decimal, signed_decimal}
 use Rattle.ttp_base.specs.Text.{newline, is_line}
@@ -19,9 +19,7 @@ use Rattle.commands.specs.declared.read.FileFault.{FileFault}
 use Rattle.commands.specs.declared.read.FileFault.TheVariants as wrong
 use Rattle.commands.specs.Faults.{place_text, field_text, unknown_text, list_fault_text, line_fault_text}
 use Rattle.commands.specs.Faults.{script_fault_text, fault_text, fault_line}
-
-low : 10 < 45
-low = omega arith
+use Rattle.ttp_world.proofs.TraceLines.{feed_is_low as low}
 
 key_lines : (name : FieldName) → has 10 (key_of name) ≡ false
 key_lines names.Version = refl

@@ -21,6 +21,20 @@ none_fell_after a b c p q = λ name. subst (λ n. n ≤ c.faults name) (p name) 
 none_fell : (a b : Files) → NoneRose a b → NoneFell a b
 none_fell a b quiet = λ name. omega (arith, quiet name)
 
+same_then : (a b c : Files) → HoldsTheSame a b → HoldsTheSame b c → HoldsTheSame a c
+same_then a b c p q = record {
+  held = λ name. q.held name ∙ p.held name;
+  sure = λ name. q.sure name ∙ p.sure name;
+  calm = λ name is. q.calm name (p.sure name ∙ is) ∙ p.calm name is;
+}
+
+same_files : (a b : Files) → b ≡ a → HoldsTheSame a b
+same_files a b same = record {
+  held = λ name. ap (λ (f : Files). f.held name) same;
+  sure = λ name. ap (λ (f : Files). f.sure name) same;
+  calm = λ name is. ap (λ (f : Files). f.faults name) same;
+}
+
 -- what may be given before is given after, where the library holds the same
 comes_held : {Sets : Type 0} (held later : List ℕ → Held) → ((name : List ℕ) → later name ≡ held name)
     → (plan : Plan Sets) (loads : List Load) (rest : Plan Sets)
@@ -122,13 +136,13 @@ module _ (p : Program) where
             ∙ append_assoc before.files.loads (load_of file ∷ []) rest.loads;
         in_order =
             asks_more held file next bytes rest.loads gives
-            (asks_held held files.held one.keeps (next bytes) rest.loads rest.in_order);
-        keeps = λ name. rest.keeps name ∙ one.keeps name;
+            (asks_held held files.held one.keeps.held (next bytes) rest.loads rest.in_order);
+        keeps = same_then before.files files now.files one.keeps rest.keeps;
         count = none_fell_after before.files files now.files one.quiet rest.count;
         how =
             elim rest.how [
               | inl r ↦
-                  let later = comes_held held files.held one.keeps (next bytes) rest.loads (ends r.0) r.1.comes in
+                  let later = comes_held held files.held one.keeps.held (next bytes) rest.loads (ends r.0) r.1.comes in
                   let quiet = none_rose_then before.files files now.files one.quiet r.1.quiet in
                   inl (r.0, record { comes = (refl, (bytes, gives, later)); quiet = quiet }, r.2)
               | inr other ↦
@@ -144,7 +158,7 @@ module _ (p : Program) where
                           (
                             bytes,
                             gives,
-                            comes_held held files.held one.keeps (next bytes) u.1.earlier (asks u.1.file u.1.next)
+                            comes_held held files.held one.keeps.held (next bytes) u.1.earlier (asks u.1.file u.1.next)
                                 u.1.comes,
                           ),
                         );
@@ -168,7 +182,7 @@ module _ (p : Program) where
         loads = [];
         asked = ap (λ (f : Files). f.loads) same ∙ sym (append-nil before.files.loads);
         in_order = tt;
-        keeps = λ name. ap (λ (f : Files). f.held name) same;
+        keeps = same_files before.files now.files same;
         count = λ name. omega (arith, ap (λ (f : Files). f.faults name) same);
         how = inl (ending, record { comes = refl; quiet = λ name. ap (λ (f : Files). f.faults name) same }, follows.1);
       }

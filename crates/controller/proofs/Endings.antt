@@ -3,7 +3,7 @@ use Rattle.std.proofs.Common.{◌≡◌, ◌≢◌, arith, ℕ, Bool, true, fals
 use Rattle.std.proofs.Common.{inr, ◌+◌, ◌≤◌, ℤ, pos, neg_ℤ, ◌≤ℤ◌, ◌+ℤ◌, ◌-ℤ◌, ◌&&◌, Option, Some, None, IfSome, IsTrue}
 use Rattle.std.proofs.Common.{unwrap_or, unsigned_abs, ◌<◌, max, FitsSigned, w64, to_z, of_z, length}
 use Rattle.std.specs.Option.{option_or}
-use Rattle.std.specs.Prelude.{◌==◌, nat_le, int_le}
+use Rattle.std.specs.Prelude.{◌==◌, nat_le}
 use Rattle.std.proofs.lemmas.Bool.Decides.{nat_tests}
 use Rattle.std.proofs.lemmas.Bool.{cond_both, eqb-true, eqb-false, and_parts}
 use Rattle.std.proofs.lemmas.Int.{ints, to_z-of_z}
@@ -53,6 +53,9 @@ use Rattle.controller.specs.Within.{IsEntryWithin, IsNearEnough, IsWithin}
 use Rattle.controller.proofs.Heard.{signal_from, clock_from, shows_a, shows_b}
 use Rattle.controller.proofs.Sets.{joinable-within}
 use Rattle.controller.proofs.Stints.{correction_after-take, kept_after-within, zero_near}
+use Rattle.ttp_world.proofs.DeliveredSizes.{of_form as not_bad}
+use Rattle.ttp_world.proofs.WorldFacts.{first_of_correct}
+use Rattle.ttp_world.proofs.SmallTests.{near_of_test}
 
 -- A node that sends its frame is at its own slot.
 
@@ -156,23 +159,10 @@ taken-view ack.Closed _ = refl
 taken-view _ view.First = refl
 taken-view _ _ = refl
 
--- only the first candidate is correct
-first_of_correct : (v : ChannelView) (a : Ack) → is_correct (verdict_of_view v a) ≡ true → v ≡ view.First
-first_of_correct view.First a is = refl
-first_of_correct view.Second ack.Closed is = cc
-first_of_correct _ _ is = cc
-
 -- bits came, and within the window
 IsHeardNear : Medl → Option ℤ → Type 0
 IsHeardNear list None = ⊥
 IsHeardNear list (Some deviation) = IsNearEnough list deviation
-
-near_of_test : (w d : ℤ) → (int_le (neg_ℤ w) d && int_le d w) ≡ true → (neg_ℤ w ≤ℤ d) × (d ≤ℤ w)
-near_of_test w d is = (grind (arith, ints), grind (arith, ints))
-
-not_bad : (b : Bool) (v : ChannelView) → cond b v view.Bad ≡ view.First → b ≡ true
-not_bad true v is = refl
-not_bad false v is = cc
 
 first_is_near : (list : Medl) (e : Expected) (late : ℕ → ℤ) (sent : Signal) → view_of list e late sent ≡ view.First
     → IsHeardNear list (heard_deviation late sent)

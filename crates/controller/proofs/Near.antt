@@ -26,10 +26,7 @@ use Rattle.controller.specs.PlantWithin.{most_ahead, most_ahead_in, most_error, 
 use Rattle.controller.specs.PlantWithin.{IsFromWithin, IsIncidentsOf}
 use Rattle.controller.specs.StandsFor.{IsSameNode, StandsFor}
 use Rattle.controller.specs.ControllerView.{Ended, ControllerView}
-
--- a number within a span is small
-span-abs : (bound : ℕ) (z : ℤ) → IsWithinSpan bound z → unsigned_abs z ≤ bound
-span-abs bound z within = omega (arith, ints, within.0, within.1)
+use Rattle.ttp_world.proofs.SmallTests.{span-abs}
 
 -- and stays the same as 64 bits
 same_number : (bound : ℕ) (z : ℤ) → IsWithinSpan bound z → bound ≤ 2 ^ 62 → to_z w64 (of_z w64 z) ≡ z

@@ -1,16 +1,12 @@
 -- What an entry makes of an active node's past: it stays within the numbers of the list.
 use Rattle.std.proofs.Common.{◌≡◌, ◌≢◌, ℕ, ◌+◌, ◌*◌, ◌<◌, ◌≤◌, ℤ, pos, Bool, true, false, cond, List, []}
 use Rattle.std.proofs.Common.{◌∷◌, ◌++◌, length, take, Option, Some, None, refl, sym, subst, ◌∙◌, ap, arith}
-use Rattle.std.specs.List.{filter}
 use Rattle.std.specs.Option.{option_to_list}
 use Rattle.std.specs.Prelude.{All, IfSome}
 use Rattle.std.proofs.lemmas.Bool.Decides.{nat_tests}
 use Rattle.std.proofs.lemmas.Int.{ints}
 use Rattle.std.proofs.lemmas.List.{length-take}
 use Rattle.std.proofs.lemmas.List.Elements.{All-nil, All-cons, All-take}
-use Rattle.ttp_base.proofs.NodeLists.{filter-none}
-use Rattle.ttp_base.proofs.NodeSets.{same_sieve, has_node-sieve}
-use Rattle.ttp_base.specs.NodeSet.{below, has_node}
 use Rattle.ttp_world.specs.declared.medl.Medl.{Medl}
 use Rattle.ttp_world.specs.declared.node.Ack.{Ack}
 use Rattle.ttp_world.specs.declared.node.Ack.TheVariants as ack
@@ -34,6 +30,8 @@ use Rattle.fta_sync.specs.StandsFor.{kept_notes}
 use Rattle.controller.specs.Kept.{kept}
 use Rattle.controller.specs.Within.{slots_to_own, IsAckWithin, IsNearEnough, IsWithin, IsEntryWithin, IsJudgedWithin}
 use Rattle.ttp_world.proofs.Averages.{fta-take}
+use Rattle.ttp_world.proofs.WorldFacts.{AreNodes-filter, AreNodes-nil}
+use Rattle.ttp_world.proofs.ListFacts.{IfSome-cond}
 
 -- How far a node's own slot is.
 
@@ -48,14 +46,6 @@ nearer : (list : Medl) (k : ℕ) (place : Place) → place.slot < length list.sl
 nearer list k place within node other = grind (arith, nat_tests)
 
 -- Sets.
-
-AreNodes-filter : (list : Medl) (p : ℕ → Bool) → AreNodes list (filter p (below (length list.slots)))
-AreNodes-filter list p =
-    let n = length list.slots in
-    same_sieve p (has_node (filter p (below n))) n (λ j within. sym (has_node-sieve p n j within))
-
-AreNodes-nil : (list : Medl) → AreNodes list []
-AreNodes-nil list = sym (filter-none (has_node []) 0 (length list.slots) (λ j _. refl))
 
 -- Acknowledgements.
 
@@ -85,11 +75,6 @@ All-noted P true true None notes here before = All-nil P
 All-noted P true false None notes here before = before
 All-noted P false true noted notes here before = All-nil P
 All-noted P false false noted notes here before = before
-
--- what is noted where a verdict is correct
-IfSome-cond : (P : ℤ → Type 0) (b : Bool) (z : ℤ) → (b ≡ true → P z) → IfSome (cond b (Some z) None) P
-IfSome-cond P true z holds = holds refl
-IfSome-cond P false z holds = tt
 
 pub zero_near : (list : Medl) → IsValid list → IsNearEnough list (pos 0)
 zero_near list valid = (omega (arith, ints, valid.window), omega (arith, ints, valid.window))

@@ -1,6 +1,6 @@
 -- The clocks of the nodes of a plan that loses none, where one sender may be two-faced: after each slot, and what they
 -- measure in the next.
-use Rattle.std.proofs.Common.{◌≡◌, ℕ, zero, suc, ◌+◌, ◌-◌, ◌<◌, ◌≤◌, ℤ, pos, negsuc, ◌+ℤ◌, ◌-ℤ◌, ◌*ℤ◌, ◌≤ℤ◌}
+use Rattle.std.proofs.Common.{◌≡◌, ℕ, zero, suc, ◌+◌, ◌-◌, ◌<◌, ◌≤◌, ℤ, pos, ◌+ℤ◌, ◌-ℤ◌, ◌*ℤ◌, ◌≤ℤ◌}
 use Rattle.std.proofs.Common.{Bool, true, false, cond, ◌&&◌, List, [], ◌∷◌, length, inl, inr, refl, ap, sym}
 use Rattle.std.proofs.Common.{subst, ◌∙◌, arith}
 use Rattle.std.specs.Prelude.{◌==◌, int_le, neg_ℤ}
@@ -25,7 +25,7 @@ use Rattle.precision.specs.Together.{measured}
 use Rattle.precision.proofs.Averages.{IsUpTo}
 use Rattle.precision.proofs.Entries.{begun_active, offset_corrected, notes_anew, begun_round_first, clock_at-still}
 use Rattle.precision.proofs.Frames.{frame_of, frame_of-node}
-use Rattle.precision.proofs.Rounds.{drift_in, product_up, AreWithin, correction, plus_none, same_apart}
+use Rattle.precision.proofs.Rounds.{drift_in, product_up, AreWithin, correction, same_apart, product_once as one_drift}
 use Rattle.precision.proofs.Runs.{clock_after, round_notes}
 use Rattle.fault_plan.specs.Plan.{Plan, sender}
 use Rattle.fault_plan.specs.Fates.{is_measured, tally}
@@ -43,6 +43,8 @@ use Rattle.faced_clocks.proofs.Rounds.{after_pull, width, in_round, Round, round
 use Rattle.faced_clocks.proofs.Rounds.{round_within, in_round_bound}
 use Rattle.faced_clocks.proofs.Slots.{IsFacing, Group, to_sound, of_sound, drifts, errors, errors_first, still}
 use Rattle.faced_clocks.proofs.Slots.{stay, frame_is, have_drifted, slot_notes}
+use Rattle.fta_sync.proofs.Sorted.{le_trans as below_too}
+use Rattle.ttp_world.proofs.SmallTests.{plus_none}
 
 -- The correction.
 
@@ -90,10 +92,6 @@ after_slot list group z s t m clock after notes up some later r enough is false 
 
 -- The start.
 
-one_drift : (d : ℤ) (m : ℕ) → pos 0 ≤ℤ d → d ≤ℤ (d *ℤ pos (suc m))
-one_drift (pos a) m up = omega (arith, ints)
-one_drift (negsuc a) m up = absurd (omega (arith, ints, up))
-
 started_near : (e o v x y r : ℤ) → v ≡ (x -ℤ y) +ℤ r → y ≡ o → IsUpTo e r → IsUpTo e ((o +ℤ v) -ℤ x)
 started_near e o v x y r is was error = (
   omega (arith, ints, is, was, error.0, error.1),
@@ -123,9 +121,6 @@ start_note e o j d v q w b x still h wide near is = (
 )
 
 -- What follows for the bound and the window.
-
-below_too : (z a b : ℤ) → z ≤ℤ a → a ≤ℤ b → z ≤ℤ b
-below_too z a b h g = omega (arith, ints, h, g)
 
 in_window : (b w n x y u v r : ℤ) → x ≡ u → y ≡ v → (u -ℤ v) ≤ℤ n → (v -ℤ u) ≤ℤ n → n ≤ℤ b → IsUpTo (w -ℤ b) r
     → (int_le (neg_ℤ w) ((x -ℤ y) +ℤ r) && int_le ((x -ℤ y) +ℤ r) w) ≡ true

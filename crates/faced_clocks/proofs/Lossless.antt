@@ -14,6 +14,7 @@ use Rattle.fault_plan.specs.Told.{IsTold}
 use Rattle.fault_plan.proofs.FateSteps.{next-same}
 use Rattle.fault_plan.proofs.FateTells.{fate-told}
 use Rattle.fault_plan.proofs.Returns.{none-armed, none-enters}
+use Rattle.fault_plan.proofs.FaultySets.{sound-begin as begin-sound}
 
 pub none-at : (plan : Plan) (slot : ℕ) → plan.incidents ≡ [] → incident_at plan slot ≡ None
 none-at plan slot none = ap (find (is_in_slot slot)) none
@@ -38,10 +39,6 @@ pub fate-always : (plan : Plan) (slot k : ℕ) → plan.incidents ≡ [] → pla
 fate-always plan zero k none stay = fate-same plan 0 k (fate_at_begin plan k) none stay refl
 fate-always plan (suc slot) k none stay =
     fate-same plan (suc slot) k (fate_of plan slot k) none stay (fate-always plan slot k none stay)
-
-begin-sound : (begins : Bool) → is_sound (cond begins Sound Absent) ≡ begins
-begin-sound true = refl
-begin-sound false = refl
 
 -- the nodes that begin are sound always
 pub sound-always : (plan : Plan) (slot k : ℕ) → plan.incidents ≡ [] → plan.returns ≡ []

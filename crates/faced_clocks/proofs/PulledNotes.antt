@@ -10,7 +10,7 @@ use Rattle.fta_sync.specs.Pull.{without, are_near, are_within, pulled}
 use Rattle.fta_sync.proofs.Pull.{pull}
 use Rattle.precision.proofs.Averages.{IsUpTo}
 use Rattle.precision.proofs.Rounds.{AreWithin}
-use Rattle.fault_plan.proofs.Bounds.{le_of_test}
+use Rattle.ttp_world.proofs.SmallTests.{le_of_test}
 
 -- each note but of z's frames tells where its sender's clock was when the round began, within w
 abbrev pub Locate : ℕ → ℤ → (ℕ → ℤ) → ℤ → List ℤ → List ℕ → Type 0

@@ -3,12 +3,12 @@
 --
 -- The group began in slot s, and t slots are over, of which the last q are those of the round so far.
 use Rattle.std.proofs.Common.{◌≡◌, ℕ, suc, ◌+◌, ◌*◌, ◌<◌, ◌≤◌, ℤ, pos, negsuc, ◌+ℤ◌, ◌-ℤ◌, ◌*ℤ◌, ◌≤ℤ◌, inl, inr}
-use Rattle.std.proofs.Common.{List, [], ◌++◌, length, sym, subst, ◌∙◌, ◌⊎◌, arith}
+use Rattle.std.proofs.Common.{List, [], ◌++◌, length, sym, subst, ◌∙◌, arith}
 use Rattle.std.proofs.lemmas.Int.{ints}
 use Rattle.ttp_world.specs.declared.medl.Medl.{Medl}
 use Rattle.ttp_world.specs.Clock.{fta}
 use Rattle.precision.proofs.Averages.{IsUpTo, fta-few}
-use Rattle.precision.proofs.Rounds.{drift_in, product_more, product_upto, product_up, AreWithin}
+use Rattle.precision.proofs.Rounds.{drift_in, product_more, product_upto, product_up, AreWithin, add_drift as wider, few_or_many, early_or_late}
 use Rattle.precision.proofs.Rounds.{HaveDrifted}
 use Rattle.faced_clocks.specs.Errors.{bound}
 use Rattle.faced_clocks.proofs.PulledNotes.{Locate, AreTurns, Pulled, averages_pull, Locate-append, Locate-moved}
@@ -64,9 +64,6 @@ round_begins list group z s t clock up later apart = record {
 moved_more : (p q d b c e : ℤ) → IsUpTo p (b -ℤ c) → IsUpTo d (e -ℤ b) → q ≡ p +ℤ d → IsUpTo q (e -ℤ c)
 moved_more p q d b c e h g is = (omega (arith, ints, h.0, g.0, is), omega (arith, ints, h.1, g.1, is))
 
-wider : (e p q d : ℤ) → q ≡ p +ℤ d → e +ℤ q ≡ (e +ℤ p) +ℤ d
-wider e p q d is = omega (arith, ints, is)
-
 pub round_goes : (list : Medl) (group : ℕ → Type 0) (z s t q : ℕ) (clock later : ℕ → ℤ) (notes added all : ℕ → List ℤ)
     → pos 0 ≤ℤ list.drift → (r : Round list group z s t q clock notes) → HaveDrifted list group clock later
     → SlotNotes list group z q r.began later added → ((k : ℕ) → group k → all k ≡ added k ++ notes k)
@@ -100,12 +97,6 @@ unaveraged : (n e b c x y p q : ℤ) → (b -ℤ c) ≤ℤ (e +ℤ e) → IsUpTo
     → ((x +ℤ p) -ℤ (y +ℤ q)) ≤ℤ (n *ℤ pos 6 +ℤ (e *ℤ pos 6 +ℤ pos 2))
 unaveraged n e b c x y p q near h g is was up some =
     omega (arith, ints, near, h.0, h.1, g.0, g.1, is, was, up, some)
-
-few_or_many : (n : ℕ) → (n < 4) ⊎ (4 ≤ n)
-few_or_many n = grind arith
-
-early_or_late : (t n : ℕ) → (t ≤ n) ⊎ (n < t)
-early_or_late t n = grind arith
 
 -- each takes its average, of four notes or more, but in the round in which the group began
 pub round_ends : (list : Medl) (group : ℕ → Type 0) (z s t q : ℕ) (clock : ℕ → ℤ) (notes : ℕ → List ℤ)

@@ -13,14 +13,14 @@ use Rattle.ttp_world.specs.declared.node.Entry.TheVariants as entry
 use Rattle.ttp_world.specs.declared.script.Script.{Script}
 use Rattle.ttp_world.specs.Clock.{notes_in}
 use Rattle.ttp_world.specs.Diary.{History, Place, entry_of}
-use Rattle.ttp_world.specs.Hypothesis.{ClusterStart, expected_sender, is_within_bound}
+use Rattle.ttp_world.specs.Hypothesis.{ClusterStart, expected_sender}
 use Rattle.ttp_world.specs.Medl.{IsValid, plan_at}
 use Rattle.ttp_world.specs.Script.{drift_of, jump_of, reading_error}
 use Rattle.precision.specs.Together.{IsIn, TellsOf, measured}
 use Rattle.precision.proofs.Averages.{IsUpTo}
 use Rattle.precision.proofs.Entries.{clock_at-still}
 use Rattle.precision.proofs.Frames.{frame_of, frame_of-node}
-use Rattle.precision.proofs.Rounds.{drift_in, product_more, HaveDrifted}
+use Rattle.precision.proofs.Rounds.{drift_in, product_more, HaveDrifted, wider_of as wider_upto}
 use Rattle.precision.proofs.Runs.{clock_after}
 use Rattle.fault_plan.specs.Plan.{Plan, sender}
 use Rattle.fault_plan.specs.Fates.{is_good_slot}
@@ -28,12 +28,13 @@ use Rattle.fault_plan.specs.Kept.{FollowsPlan}
 use Rattle.fault_plan.specs.Places.{planned_place}
 use Rattle.fault_plan.proofs.Returns.{none-enters}
 use Rattle.safety_clocks.specs.NotedByPlan.{IsSoundIn, NotedInSlot}
-use Rattle.safety_clocks.proofs.NearNotes.{clock_moved}
+use Rattle.safety_clocks.proofs.NearNotes.{clock_moved, drift-moves as drift_moves}
 use Rattle.safety_clocks.proofs.RoundNotes.{none-silent, sender-in}
 use Rattle.faced_clocks.specs.Errors.{bound, is_faced_slot, allowed_error, HasFacedClocks}
 use Rattle.faced_clocks.proofs.Lossless.{sound-always, none-returns}
 use Rattle.faced_clocks.proofs.PulledNotes.{Locate, AreTurns, AreTurns-later}
 use Rattle.faced_clocks.proofs.Rounds.{width, Round, SlotNotes}
+use Rattle.precision.proofs.ClockBounds.{within_bound as upto_of_test}
 
 -- what the law asks of list, script and plan
 pub record IsFacing (list : Medl) (script : Script) (start : ClusterStart) (z : ℕ) (plan : Plan) : Type 0 where
@@ -48,18 +49,12 @@ Group list plan k = IsIn list (has_node plan.begin) k
 
 -- Errors.
 
-upto_of_test : (bound z : ℤ) → is_within_bound bound z ≡ true → IsUpTo bound z
-upto_of_test bound z h = (grind (arith, ints), grind (arith, ints))
-
 max_within : (e w : ℤ) → e ≤ℤ w → int_max e w ≤ℤ w
 max_within e w h = grind (arith, ints)
 
 allowed_within : (faced : Bool) (e w : ℤ) → e ≤ℤ w → cond faced (int_max e w) e ≤ℤ w
 allowed_within true e w h = max_within e w h
 allowed_within false e w h = h
-
-wider_upto : (v w z : ℤ) → v ≤ℤ w → IsUpTo v z → IsUpTo w z
-wider_upto v w z wide h = (omega (arith, ints, wide, h.0), omega (arith, ints, wide, h.1))
 
 beside_error : (b e w : ℤ) → (b +ℤ e) ≤ℤ w → e ≤ℤ (w -ℤ b)
 beside_error b e w h = omega (arith, ints, h)
@@ -163,9 +158,6 @@ other_near e q v o j d b n x y r u still drift error moved note sends hears = (
   omega (arith, ints, still, drift.0, drift.1, error.0, error.1, moved.0, moved.1, note, sends, hears),
   omega (arith, ints, still, drift.0, drift.1, error.0, error.1, moved.0, moved.1, note, sends, hears),
 )
-
-drift_moves : (o j d q : ℤ) → j ≡ pos 0 → IsUpTo q d → IsUpTo q ((o +ℤ (j +ℤ (d +ℤ pos 0))) -ℤ o)
-drift_moves o j d q still h = (omega (arith, ints, still, h.0, h.1), omega (arith, ints, still, h.0, h.1))
 
 -- The slot of the turn after this one.
 

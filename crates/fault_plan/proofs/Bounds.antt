@@ -1,5 +1,5 @@
 -- Clocks and bits of a script that keeps the rules on them.
-use Rattle.std.proofs.Common.{◌≡◌, ℕ, ◌<◌, ℤ, ◌≤ℤ◌, Bool, true, false, cond, not, List, [], ◌∷◌, length}
+use Rattle.std.proofs.Common.{◌≡◌, ℕ, ◌<◌, ◌≤ℤ◌, Bool, true, false, cond, not, List, [], ◌∷◌, length}
 use Rattle.std.proofs.Common.{Option, Some, None, inl, inr, refl, sym, arith}
 use Rattle.std.specs.Prelude.{int_le, is_some, find}
 use Rattle.std.specs.List.{AllByRecursion, list_any, filter_map}
@@ -21,6 +21,7 @@ use Rattle.ttp_world.specs.Script.{drift_of, reading_error, flipped_bits}
 use Rattle.ttp_world.proofs.Jumps.{each-none, allowed-jump, no_jump-sum}
 use Rattle.fault_plan.specs.Kept.{IsWithinBounds}
 use Rattle.fault_plan.proofs.Sieves.{none-found}
+use Rattle.ttp_world.proofs.SmallTests.{le_of_test}
 
 -- Clocks.
 
@@ -32,9 +33,6 @@ both-hold false found none = absurd (none-some 0 (sym none))
 pub wide : (fits : Bool) → cond {A = Option ℕ} fits None (Some 0) ≡ None → fits ≡ true
 wide true none = refl
 wide false none = absurd (none-some 0 (sym none))
-
-pub le_of_test : (x y : ℤ) → int_le x y ≡ true → x ≤ℤ y
-le_of_test x y holds = grind arith
 
 -- Events.
 

@@ -5,12 +5,18 @@ use Rattle.std.specs.Prelude.{◌==◌}
 use Rattle.fault_plan.specs.Plan.{Change, Incident, Plan, sender, incident_at, is_armed_by, enters}
 use Rattle.fault_plan.specs.Fates.{Fate, Absent, Sound, Falling, Fallen, Listening, armed_in, entered_in, struck, turned}
 use Rattle.fault_plan.specs.Fates.{next_fate, is_sound, is_lost, lost_since}
-use Rattle.fault_plan.proofs.Tests.{and-true}
+use Rattle.ttp_world.proofs.SmallTests.{and-true}
 
 -- an incident is that of a node
 abbrev pub strikes : Option Incident → ℕ → Bool
 strikes None k = false
 strikes (Some incident) k = incident.node == k
+
+-- a fault of another node leaves it as it is
+pub struck-missed : (slot k : ℕ) (fate : Fate) (found : Option Incident) → strikes found k ≡ false
+    → struck slot k fate found ≡ fate
+struck-missed slot k fate None missed = refl
+struck-missed slot k fate (Some incident) missed = rw missed refl
 
 -- what is read alike of a lost node, whether its own slot has come or not, is the same once it has
 pub turned-same : {X : Type 0} (read : Fate → X) (own : Bool) (slot : ℕ) (fate : Fate)

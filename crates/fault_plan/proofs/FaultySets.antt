@@ -1,9 +1,8 @@
 -- The fates of the plan of the single-fault hypothesis: lost are those that the hypothesis holds for faulty.
 use Rattle.std.proofs.Common.{◌≡◌, ℕ, zero, suc, ◌+◌, ◌*◌, ◌<◌, ◌≤◌, Bool, true, false, cond, not, ◌&&◌, ◌||◌, List, []}
-use Rattle.std.proofs.Common.{◌++◌, length, ◌⊎◌, refl, ap, sym, subst, ◌∙◌, inl, inr, arith}
+use Rattle.std.proofs.Common.{length, ◌⊎◌, refl, ap, sym, subst, ◌∙◌, inl, inr, arith}
 use Rattle.std.specs.Prelude.{◌==◌}
 use Rattle.std.specs.List.{filter}
-use Rattle.std.proofs.lemmas.List.Folds.{list_any-append}
 use Rattle.ttp_base.specs.NodeSet.{has_node, below}
 use Rattle.ttp_base.proofs.NodeSets.{has_node-sieve}
 use Rattle.ttp_world.specs.declared.medl.Medl.{Medl}
@@ -19,7 +18,9 @@ use Rattle.fault_plan.specs.Kept.{IsWithinBounds}
 use Rattle.fault_plan.proofs.FateSteps.{strikes, sound-next, lost-next}
 use Rattle.fault_plan.proofs.Incidents.{incident_among, incident_made, late-found, some-before}
 use Rattle.fault_plan.proofs.Spaced.{IsSpaced, IsOneMade, made_in, numbers-next, slot-makes, none-early}
-use Rattle.fault_plan.proofs.Tests.{or-false, and-true, never-found}
+use Rattle.fault_plan.proofs.Tests.{or-false, never-found}
+use Rattle.ttp_world.proofs.WorldFacts.{has_node-append}
+use Rattle.ttp_world.proofs.SmallTests.{and-true}
 
 abbrev pub two_rounds : Medl → ℕ
 two_rounds list = 2 * length list.slots
@@ -103,9 +104,6 @@ strikes-slot list script start turn slot k run is within =
     ap (λ found. strikes found k) (incident-slot list script start turn slot run is within)
     ∙ strikes-made list script start slot k run within
 
-pub has_node-append : (xs ys : List ℕ) (k : ℕ) → has_node (xs ++ ys) k ≡ (has_node xs k || has_node ys k)
-has_node-append xs ys k = list_any-append (λ j. j == k) xs ys
-
 pub faulty-next : (list : Medl) (script : Script) (start : ClusterStart) (slot k : ℕ)
     → has_node (faulty_before list script start (suc slot)) k
     ≡ (has_node (made_in list script start slot) k || has_node (faulty_before list script start slot) k)
@@ -116,11 +114,11 @@ faulty-next list script start slot k =
 
 -- The fates after a slot.
 
-sound-begin : (b : Bool) → is_sound (cond b Sound Absent) ≡ b
+pub sound-begin : (b : Bool) → is_sound (cond b Sound Absent) ≡ b
 sound-begin true = refl
 sound-begin false = refl
 
-lost-begin : (b : Bool) → is_lost (cond b Sound Absent) ≡ false
+pub lost-begin : (b : Bool) → is_lost (cond b Sound Absent) ≡ false
 lost-begin true = refl
 lost-begin false = refl
 

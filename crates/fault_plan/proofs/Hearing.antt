@@ -21,10 +21,10 @@ use Rattle.fault_plan.specs.Plan.{change_of, plan_of}
 use Rattle.fault_plan.specs.Fates.{is_sound_after}
 use Rattle.fault_plan.proofs.FaultySets.{AreOnBy, IsSingleFault, faulty_before, makes-slot, incident-slot, faulty-next}
 use Rattle.fault_plan.proofs.FaultySets.{fates-known}
-use Rattle.fault_plan.proofs.FaultySets.{has_node-append}
 use Rattle.fault_plan.proofs.Incidents.{incident_made}
 use Rattle.fault_plan.proofs.Losses.{IsMadeBy, made-by, loser-tells}
 use Rattle.fault_plan.proofs.Spaced.{made_in}
+use Rattle.ttp_world.proofs.WorldFacts.{has_node-append}
 
 -- Nodes are switched on for good.
 
@@ -140,7 +140,7 @@ other-untouched list script start slot k run after less other clear =
 
 -- The frame of a sound sender.
 
-made-itself : (loss : Loss) (k : ℕ) → loss ≡ Makes k → has_node (nodes_made loss) k ≡ false → ⊥
+pub made-itself : (loss : Loss) (k : ℕ) → loss ≡ Makes k → has_node (nodes_made loss) k ≡ false → ⊥
 made-itself loss k is none =
     let same : (k == k) ≡ true = eq-eqb k k refl in
     both_ways (has_node (nodes_made loss) k) none (ap (λ l. has_node (nodes_made l) k) is ∙ ap (λ b. b || false) same)

@@ -38,7 +38,7 @@ use Rattle.fault_plan.proofs.Rules.{RulesHold, rules-hold}
 use Rattle.fault_plan.proofs.Sieves.{none-found}
 use Rattle.fault_plan.proofs.SlotFacts.{heard-slot, loss-slot, was-sound}
 use Rattle.fault_plan.proofs.Spaced.{made_in, all_in, spaced-all}
-use Rattle.fault_plan.proofs.Tests.{and-true}
+use Rattle.ttp_world.proofs.SmallTests.{and-true}
 
 -- Faulty nodes since when.
 
@@ -211,7 +211,7 @@ good-plan list script start run =
 
 -- The rules on faults.
 
-enough : (b : Bool) (found : Option ℕ) (slot : ℕ) → cond b found (Some slot) ≡ None → (b ≡ true) × (found ≡ None)
+pub enough : (b : Bool) (found : Option ℕ) (slot : ℕ) → cond b found (Some slot) ≡ None → (b ≡ true) × (found ≡ None)
 enough true found slot none = (refl, none)
 enough false found slot none = absurd (none-some slot (sym none))
 

@@ -1,5 +1,5 @@
 -- What the loss of a slot tells of the other nodes.
-use Rattle.std.proofs.Common.{◌≡◌, ℕ, suc, ◌<◌, ◌≤◌, Bool, true, false, cond, not, ◌||◌, List, []}
+use Rattle.std.proofs.Common.{◌≡◌, ℕ, ◌<◌, Bool, true, false, cond, not, ◌||◌, List, []}
 use Rattle.std.proofs.Common.{◌∷◌, length, ◌⊎◌, refl, ap, sym, subst, ◌∙◌, inl, inr, arith}
 use Rattle.std.specs.Prelude.{◌==◌, if◌then◌else◌}
 use Rattle.std.specs.List.{AllByRecursion, filter}
@@ -13,6 +13,7 @@ use Rattle.ttp_world.specs.Hypothesis.{Loss, Harmless, Makes, Breaks, is_breakin
 use Rattle.ttp_world.specs.Hypothesis.{others_in, receivers_loss, sender_loss}
 use Rattle.ttp_world.specs.Script.{is_ever_on}
 use Rattle.ttp_world.proofs.Filters.{each-sieve}
+use Rattle.ttp_world.proofs.ListFacts.{few-left}
 
 -- a node of a list, of which each has a property, has it
 member-step : (P : ℕ → Type 0) (x r : ℕ) (rest b : Bool) → (x == r) ≡ b → P x → (rest ≡ true → P r)
@@ -29,14 +30,6 @@ one-member : (k r : ℕ) → has_node (k ∷ []) r ≡ true → k ≡ r
 one-member k r has = each-member (λ j. k ≡ j) (k ∷ []) r (refl, tt) has
 
 -- Where a filter keeps as many as there are, all pass.
-
-few-left : (p : ℕ → Bool) (xs : List ℕ) → length (filter p xs) ≤ length xs
-few-left p [] = omega arith
-few-left p (x ∷ xs) = left-step x (length xs) (filter p xs) (p x) (few-left p xs)
-  where
-    left-step : (x m : ℕ) (ys : List ℕ) (b : Bool) → length ys ≤ m → length (cond b (x ∷ ys) ys) ≤ suc m
-    left-step x m ys true fits = omega arith
-    left-step x m ys false fits = omega arith
 
 all-step : (p : ℕ → Bool) (x : ℕ) (xs : List ℕ) (b : Bool) → p x ≡ b
     → length (x ∷ xs) ≡ length (cond b (x ∷ filter p xs) (filter p xs))

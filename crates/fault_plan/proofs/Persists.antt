@@ -17,7 +17,7 @@ use Rattle.fault_plan.proofs.FateTells.{none-first}
 use Rattle.fault_plan.proofs.FateSteps.{strikes, turned-same, next-same, next-entered, next-armed, sound-next, sound-from}
 use Rattle.fault_plan.proofs.Returns.{entry-is, entry-from, armed-lost, armed-late, enters-late, armed-quiet}
 use Rattle.fault_plan.proofs.Returns.{of-any, none-enters}
-use Rattle.fault_plan.proofs.Tests.{and-true}
+use Rattle.ttp_world.proofs.SmallTests.{and-true}
 
 pub lost-unsound : (fate : Fate) → is_lost fate ≡ true → is_sound fate ≡ false
 lost-unsound Absent lost = refl

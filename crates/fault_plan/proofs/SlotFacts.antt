@@ -15,7 +15,7 @@ use Rattle.fault_plan.specs.Plan.{Incident, sender, incident_at, plan_of}
 use Rattle.fault_plan.specs.Fates.{is_sound_after}
 use Rattle.fault_plan.specs.GoodPlan.{IsLossAfter}
 use Rattle.fault_plan.specs.Kept.{IsHeardByPlan}
-use Rattle.fault_plan.proofs.FaultySets.{IsSingleFault, faulty_before, has_node-append}
+use Rattle.fault_plan.proofs.FaultySets.{IsSingleFault, faulty_before}
 use Rattle.fault_plan.proofs.Hearing.{on-ever, on-since, jumpers, fallen_in, loss_of, sender_in, sender-same}
 use Rattle.fault_plan.proofs.Hearing.{sender-less}
 use Rattle.fault_plan.proofs.Hearing.{IsUntouched, untouched, sound-before, other-untouched, heard-by, IsMadeIn}
@@ -25,6 +25,7 @@ use Rattle.fault_plan.proofs.Hearing.{unless_jumping}
 use Rattle.fault_plan.proofs.Losses.{each-member, IsMadeBy}
 use Rattle.fault_plan.proofs.Returns.{never-listens}
 use Rattle.fault_plan.proofs.Spaced.{made_in}
+use Rattle.ttp_world.proofs.WorldFacts.{has_node-append}
 
 -- a node that is untouched is not the one that is made faulty
 untouched-made : (list : Medl) (script : Script) (start : ClusterStart) (slot k r : ℕ)

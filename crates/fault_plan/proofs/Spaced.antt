@@ -37,7 +37,7 @@ last-late gap earliest x (y ∷ ys) none =
     let here : nat_lt y earliest ≡ false = parts.0 in
     (rw here rest.0, omega (arith, from, rest.1), (rest.1, rest.2))
 
-each-split : {X : Type 0} (P : X → Type 0) (xs ys : List X) → AllByRecursion P (xs ++ ys)
+pub each-split : {X : Type 0} (P : X → Type 0) (xs ys : List X) → AllByRecursion P (xs ++ ys)
     → AllByRecursion P xs × AllByRecursion P ys
 each-split P [] ys each = (tt, each)
 each-split P (x ∷ xs) ys each =

@@ -30,6 +30,7 @@ use Rattle.frame_fates.proofs.Unnumbered.{unnumbered_node, unnumbered_slot, begu
 use Rattle.frame_fates.proofs.Unnumbered.{is_loaded-unnumbered, row_in-unnumbered, past_after-unnumbered}
 use Rattle.frame_fates.proofs.Unnumbered.{is_sending-unnumbered}
 use Rattle.frame_fates.proofs.Unnumbered.{entry_of-unnumbered, surroundings_in-unnumbered, delivery-unnumbered}
+use Rattle.ttp_world.proofs.LineLists.{map_of_map as map-map}
 
 -- histories of as many slots, after which each node has the same past, but for the number in it
 pub record HavePasts (list : Medl) (script : Script) (one other : History) : Type 0 where
@@ -46,10 +47,6 @@ node_after-alike list script one other k same node =
     begun_node-unnumbered list script (length one) (node_past list script one k) k
     ∙ (λ i. begun_node list script (same.slots i) (same.pasts k node i) k)
     ∙ sym (begun_node-unnumbered list script (length other) (node_past list script other k) k)
-
-map-map : {X Y Z : Type 0} (f : Y → Z) (g : X → Y) (xs : List X) → map f (map g xs) ≡ map (λ x. f (g x)) xs
-map-map f g [] = refl
-map-map f g (x ∷ xs) = ap (λ ys. f (g x) ∷ ys) (map-map f g xs)
 
 slot_after-alike : (list : Medl) (script : Script) (one other : History) → HavePasts list script one other
     → unnumbered_slot (slot_after list script one) ≡ unnumbered_slot (slot_after list script other)

@@ -6,7 +6,8 @@ use Rattle.std.proofs.lemmas.Bool.{cond_both}
 use Rattle.std.proofs.lemmas.Int.{ints, clamps}
 use Rattle.ttp_world.specs.Clock.{insert_sorted, sorted, middle_half}
 use Rattle.ttp_world.specs.Script.{sum_ℤ}
-use Rattle.fta_sync.proofs.Sorted.{le_of_test, ge_of_test}
+use Rattle.fta_sync.proofs.Sorted.{ge_of_test}
+use Rattle.ttp_world.proofs.SmallTests.{le_of_test}
 
 -- the sum of the second and the third
 abbrev pub middle_sum : List ℤ → ℤ

@@ -13,7 +13,8 @@ use Rattle.fta_sync.specs.Pull.{without, are_near, are_within, twice_off, pulled
 use Rattle.fta_sync.proofs.MiddleTwo.{middle_sum}
 use Rattle.fta_sync.proofs.Rounding.{IsAboutTwice, half_about}
 use Rattle.fta_sync.proofs.Sorted.{AreBelow, AreBelow-sorted, IsAscending, IsAscending-sorted, sorted-without}
-use Rattle.fta_sync.proofs.Sorted.{length-sorted, AreWithin, IsWithinOf, AreWithin-sorted, le_of_test, ge_of_test}
+use Rattle.fta_sync.proofs.Sorted.{length-sorted, AreWithin, IsWithinOf, AreWithin-sorted, ge_of_test}
+use Rattle.ttp_world.proofs.SmallTests.{le_of_test, test_of_both}
 
 -- The middle two of three in order and a fourth.
 
@@ -89,9 +90,6 @@ three_apart c d w p q (x ∷ y ∷ z ∷ []) (u ∷ v ∷ t ∷ s ∷ ys) three 
 
 both_of_test : (bound z : ℤ) → is_within_bound bound z ≡ true → (neg_ℤ bound ≤ℤ z) × (z ≤ℤ bound)
 both_of_test bound z h = (grind (arith, ints), grind (arith, ints))
-
-test_of_both : (bound z : ℤ) → neg_ℤ bound ≤ℤ z → z ≤ℤ bound → is_within_bound bound z ≡ true
-test_of_both bound z p q = grind (arith, ints)
 
 below_of : (shift near x y : ℤ) → (neg_ℤ near ≤ℤ ((x -ℤ y) -ℤ shift)) × (((x -ℤ y) -ℤ shift) ≤ℤ near)
     → x ≤ℤ (y +ℤ (near +ℤ shift))

@@ -1,11 +1,8 @@
 -- Half a number, rounded towards zero: twice that is the number, within one.
-use Rattle.std.proofs.Common.{◌≡◌, ◌<◌, ℤ, pos, negsuc, ◌+ℤ◌, ◌*ℤ◌, ◌≤ℤ◌, arith}
-use Rattle.std.specs.Prelude.{int_div, int_rem, unsigned_abs}
+use Rattle.std.proofs.Common.{◌≡◌, ℤ, pos, negsuc, ◌+ℤ◌, ◌*ℤ◌, ◌≤ℤ◌, arith}
+use Rattle.std.specs.Prelude.{int_div, int_rem}
 use Rattle.std.proofs.lemmas.Int.{ints, quot-rem, rem_below}
-
-small_rem : (r : ℤ) → unsigned_abs r < 2 → (negsuc 0 ≤ℤ r) × (r ≤ℤ pos 1)
-small_rem (pos n) small = (omega (arith, ints, small), omega (arith, ints, small))
-small_rem (negsuc n) small = (omega (arith, ints, small), omega (arith, ints, small))
+use Rattle.ttp_world.proofs.Averages.{rem_small as small_rem}
 
 -- a number is about twice another
 abbrev pub IsAboutTwice : ℤ → ℤ → Type 0

@@ -7,6 +7,7 @@ use Rattle.std.proofs.lemmas.Bool.{cond_both}
 use Rattle.std.proofs.lemmas.Int.{ints}
 use Rattle.ttp_world.specs.Clock.{insert_sorted, sorted}
 use Rattle.fta_sync.specs.Pull.{without}
+use Rattle.ttp_world.proofs.SmallTests.{le_of_test}
 
 -- a list has as many numbers as another, and each exceeds that beside it by no more than c
 abbrev pub AreBelow : ℤ → List ℤ → List ℤ → Type 0
@@ -16,9 +17,6 @@ AreBelow c (x ∷ xs) [] = ⊥
 AreBelow c (x ∷ xs) (y ∷ ys) = (x ≤ℤ (y +ℤ c)) × AreBelow c xs ys
 
 -- Tests.
-
-pub le_of_test : (x y : ℤ) → int_le x y ≡ true → x ≤ℤ y
-le_of_test x y h = grind (arith, ints)
 
 pub ge_of_test : (x y : ℤ) → int_le x y ≡ false → y ≤ℤ x
 ge_of_test x y h = grind (arith, ints)
@@ -133,7 +131,7 @@ insert-second x y zs order first =
 later_test : (x y z : ℤ) → int_le y z ≡ false → x ≤ℤ z → int_le y x ≡ false
 later_test x y z after before = grind (arith, ints)
 
-le_trans : (x y z : ℤ) → x ≤ℤ y → y ≤ℤ z → x ≤ℤ z
+pub le_trans : (x y z : ℤ) → x ≤ℤ y → y ≤ℤ z → x ≤ℤ z
 le_trans x y z p q = omega (arith, ints, p, q)
 
 insert-turns-le : (x y : ℤ) (zs : List ℤ) → x ≤ℤ y

@@ -1,9 +1,9 @@
 -- How a host reads: by a reader of each ring that it reads in a slot, with room for its reads.
-use Rattle.std.specs.Prelude.{◌≡◌, ◌≢◌, ℕ, ◌+◌, ◌/◌, ◌<◌, ◌≤◌, ◌==◌, ◌&&◌, Bool, true, false, List, [], ◌∷◌, ◌++◌}
-use Rattle.std.specs.Prelude.{map, filter, count_by, length, get_or, Option, Some, None, option_map, nat_lt, IsSomeAnd}
+use Rattle.std.specs.Prelude.{◌≡◌, ◌≢◌, ◌⊎◌, ℕ, ◌+◌, ◌/◌, ◌<◌, ◌≤◌, ◌==◌, ◌&&◌, Bool, true, false, List, [], ◌∷◌, ◌++◌}
+use Rattle.std.specs.Prelude.{map, filter, count_by, length, get_or, take, Option, Some, None, option_map, nat_lt, IsSome, IsSomeAnd}
 use Rattle.std.specs.Prelude.{if◌then◌else◌}
 use Rattle.nbw_ring.specs.declared.view.Message.{Message}
-use Rattle.nbw_ring.specs.Attempts.{Gets, GetsNothing}
+use Rattle.nbw_ring.specs.Attempts.{attempt_steps, RepeatSteps, Gets, GetsNothing}
 use Rattle.nbw_ring.specs.Numbers.{limit}
 use Rattle.nbw_ring.specs.States.{RingState, WriterState, ReaderState, new_reader, with_joined}
 use Rattle.ttp_world.specs.declared.host_lines.HostRead.{HostRead}
@@ -73,6 +73,7 @@ is_intact r = nat_lt r.seen (limit r.ring.shape (r.first / 2))
 pub record Attempts (old new : ReaderState) : Type 0 where
   pub ring : new.ring ≡ old.ring
   pub tries : new.tries ≡ old.tries + 1
+  pub steps : new.steps ≡ old.steps + attempt_steps new
   pub later : old.seen ≤ new.first
   pub forward : new.first ≤ new.seen
   pub floor : old.floor ≤ new.first / 2
@@ -83,6 +84,7 @@ pub record Attempts (old new : ReaderState) : Type 0 where
 pub record Repeats (old new : ReaderState) : Type 0 where
   pub ring : new.ring ≡ old.ring
   pub tries : old.tries < new.tries
+  pub steps : RepeatSteps old new
   pub later : old.seen ≤ new.first
   pub forward : new.first ≤ new.seen
   pub floor : old.floor ≤ new.first / 2
@@ -119,6 +121,14 @@ abbrev pub all_settled : ControllerState → List (Option ReaderState) → Contr
 all_settled [] readers = []
 all_settled (w ∷ ws) [] = w ∷ ws
 all_settled (w ∷ ws) (r ∷ rs) = settled w r ∷ all_settled ws rs
+
+-- The readers of some first writers were settled, until one wanted memory: none at all, or those before a writer that has
+-- a reader.
+pub record HaveSomeSettled (before : ControllerState) (readers : List (Option ReaderState)) (now : ControllerState) : Type 0
+  where
+    pub count : ℕ
+    pub settled_so : now ≡ all_settled before (take count readers)
+    pub wanted : (count ≡ 0) ⊎ IsSome (get_or readers count None)
 
 -- what the reader got is the writer's messages, and it loaded no counter above twice the writer's number
 abbrev pub IsSettled : Option WriterState → Option ReaderState → Type 0

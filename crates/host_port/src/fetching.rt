@@ -1,6 +1,6 @@
 //! How a controller takes its host's newest message.
 ghost use Rattle.std.specs.Prelude.{◌≡◌, ◌+◌, ◌/◌, ◌≤◌, length, slice_get, IsSome, IsSomeAnd, IfOk, IsOk, OnOk};
-ghost use Rattle.nbw_ring.specs.Attempts.{number_of, OnGot, OnOverrun};
+ghost use Rattle.nbw_ring.specs.Attempts.{number_of, attempt_steps, OnGot, OnOverrun};
 ghost use Rattle.nbw_ring.specs.States.{new_reader};
 ghost use Rattle.host_port.specs.Rings.{IsHostEndOf};
 ghost use Rattle.host_port.specs.Fetching.{IsFetcherOf, IsWhole, HasSeen, joined};
@@ -67,6 +67,7 @@ impl Fetcher {
         requires room { 1 ≤ self.old.spare }
         ensures ring { self.new.ring ≡ self.old.ring }
         ensures tries { self.new.tries ≡ self.old.tries + 1 }
+        ensures steps { self.new.steps ≡ self.old.steps + attempt_steps self.new }
         ensures later { self.old.seen ≤ self.new.first }
         ensures forward { self.new.first ≤ self.new.seen }
         ensures number { number_of result ≡ self.new.first / 2 }
@@ -98,6 +99,7 @@ impl Port {
         ensures own { IsFetcherOf self.now f.new }
         ensures ring { f.new.ring ≡ f.old.ring }
         ensures tries { f.new.tries ≡ f.old.tries + 1 }
+        ensures steps { f.new.steps ≡ f.old.steps + attempt_steps f.new }
         ensures later { f.old.seen ≤ f.new.first }
         ensures forward { f.new.first ≤ f.new.seen }
         ensures number { number_of result ≡ f.new.first / 2 }

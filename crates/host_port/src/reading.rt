@@ -1,6 +1,6 @@
 //! How a host reads: readers are lent, read, and are settled.
-ghost use Rattle.std.specs.Prelude.{◌≡◌, ◌≢◌, ◌<◌, [], sum_by};
-ghost use Rattle.std.specs.Prelude.{IfOk, IfSome};
+ghost use Rattle.std.specs.Prelude.{◌≡◌, ◌≢◌, ◌^◌, ◌<◌, ◌≤◌, [], sum_by};
+ghost use Rattle.std.specs.Prelude.{IfOk, IfSome, IsNone};
 ghost use Rattle.ttp_world.specs.declared.script.Source.{Source};
 ghost use Rattle.ttp_world.specs.Script.{reads_in};
 ghost use Rattle.host_port.specs.Rings.{at_source, place_of, IsControllerEndOf};
@@ -82,9 +82,10 @@ fn lend_all(
     Ok(readers)
 }
 
-// For how many messages the readers have room.
+// For how many messages the readers have room; nothing where no number of a machine is so large.
 fn room_of(readers: &[Option<Reader>]) -> Option<usize>
-    ensures { IfSome result (λ room. room ≡ sum_by spare_of readers.now) }
+    ensures some { IfSome result (λ room. room ≡ sum_by spare_of readers.now) }
+    ensures none { IsNone result → 2 ^ 64 ≤ sum_by spare_of readers.now }
 {
     let mut room = 0usize;
     for reader in readers {

@@ -1,9 +1,9 @@
 //! How the readers of a slot are settled, and their pairs become lines.
-ghost use Rattle.std.specs.Prelude.{◌≡◌, ◌≢◌, ◌+◌, ◌≤◌, ◌<◌, ℕ, [], ◌∷◌, length, map, take, get_or, All};
+ghost use Rattle.std.specs.Prelude.{◌≡◌, ◌≢◌, ◌+◌, ◌≤◌, ◌<◌, ℕ, [], ◌∷◌, length, map, get_or, All};
 ghost use Rattle.std.specs.Prelude.{vec_len, vec_capacity, option_map, IfOk, IfSome, IsSome, OnOk, OnErr};
 ghost use Rattle.ttp_world.specs.declared.script.Source.{Source};
 ghost use Rattle.host_port.specs.Rings.{at_source, IsControllerEndOf};
-ghost use Rattle.host_port.specs.Reading.{AreReadersOf, AreReadersOfEnd, AreTheirRings, IsItsRing, rings_read, settled, all_settled, IsSettled, got_of, pairs_from};
+ghost use Rattle.host_port.specs.Reading.{AreReadersOf, AreReadersOfEnd, AreTheirRings, IsItsRing, rings_read, settled, all_settled, HaveSomeSettled, IsSettled, got_of, pairs_from};
 ghost use Rattle.std.specs.Vec.Iter.{into_iter_items};
 ghost use Rattle.host_port.specs.Queues.{pairs_at, queue_at, AreQueued};
 
@@ -29,6 +29,7 @@ fn settle_one(
     ensures whole { OnOk result (IsSettled writer.old reader) }
     ensures settled { OnOk result (writer.new ≡ settled writer.old reader) }
     ensures err { OnErr result (writer.new ≡ writer.old) }
+    ensures cause { OnErr result (IsSome reader) }
 {
     if let Some(writer) = writer {
         if let Some(reader) = reader {
@@ -50,7 +51,7 @@ fn settle_all(
     ensures whole { OnOk result ((place : ℕ)
         → IsSettled (get_or writers.old place None) (get_or readers.items place None)) }
     ensures settled { OnOk result (writers.new ≡ all_settled writers.old readers.items) }
-    ensures err { OnErr result ((count : ℕ) × (writers.new ≡ all_settled writers.old (take count readers.items))) }
+    ensures err { OnErr result (HaveSomeSettled writers.old readers.items writers.new) }
 {
     let mut queues = Vec::with_capacity(alloc, writers.len())?;
     for place in 0..writers.len() {
@@ -105,7 +106,8 @@ impl ControllerEnd {
     /// message, in the order of these reads.
     ///
     /// Where memory is refused the readers are gone, and of the writers none has another message: those
-    /// of some first rings have their reader joined, and the others are as they were.
+    /// of some first rings have their reader joined, up to one that has a reader, and the others are as
+    /// they were.
     pub fn settle_reads(&mut self, host: u8, r: HostReaders) -> Result<List<ReadLine>, Memory>
         requires own { AreReadersOfEnd self.old r }
         ensures rings { map (option_map (λ w. w.ring)) self.new ≡ map (option_map (λ w. w.ring)) self.old }
@@ -116,7 +118,7 @@ impl ControllerEnd {
         ensures whole { OnOk result ((source : Source)
             → IsSettled (at_source self.old source) (at_source r.readers source)) }
         ensures joined { OnOk result (self.new ≡ all_settled self.old r.readers) }
-        ensures err { OnErr result ((count : ℕ) × (self.new ≡ all_settled self.old (take count r.readers))) }
+        ensures err { OnErr result (HaveSomeSettled self.old r.readers self.new) }
     {
         let HostReaders { readers, calls } = r;
         let lines = Vec::with_capacity(self.alloc, calls.len())?;
@@ -131,7 +133,8 @@ impl Port {
     /// order of these reads.
     ///
     /// Where memory is refused the readers are gone, and of the writers none has another message: those
-    /// of some first rings have their reader joined, and the others are as they were.
+    /// of some first rings have their reader joined, up to one that has a reader, and the others are as
+    /// they were.
     pub fn settle_reads(
         &self,
         end: &mut ControllerEnd,
@@ -147,7 +150,7 @@ impl Port {
         ensures whole { OnOk result ((source : Source)
             → IsSettled (at_source end.old source) (at_source r.readers source)) }
         ensures joined { OnOk result (end.new ≡ all_settled end.old r.readers) }
-        ensures err { OnErr result ((count : ℕ) × (end.new ≡ all_settled end.old (take count r.readers))) }
+        ensures err { OnErr result (HaveSomeSettled end.old r.readers end.new) }
     {
         end.settle_reads(self.node, r)
     }

@@ -1,5 +1,5 @@
 -- The slots of a run in which nodes come back, the newest first.
-use Rattle.std.proofs.Common.{◌≡◌, ◌≢◌, ℕ, zero, suc, ◌+◌, ◌-◌, ◌%◌, ◌<◌, ◌≤◌, List, length, get_or, set, refl, ap, sym}
+use Rattle.std.proofs.Common.{◌≡◌, ◌≢◌, ℕ, zero, suc, ◌+◌, ◌-◌, ◌%◌, ◌<◌, List, length, get_or, set, ap, sym}
 use Rattle.std.proofs.Common.{subst, ◌∙◌, inl, inr, not, ◌&&◌, filter, arith}
 use Rattle.std.proofs.lemmas.Bool.{cases_eq}
 use Rattle.std.proofs.lemmas.List.{length-set, get_or-set_same, get_or-set_other}
@@ -25,14 +25,6 @@ slots_before-at list script start (suc slot) zero t is =
     let same : slot ≡ t = omega arith in
     ap (faulty_at list script start) same
 slots_before-at list script start (suc slot) (suc i) t is = slots_before-at list script start slot i t (omega arith)
-
--- one that has not
-pub slots_before-past : (list : Medl) (script : Script) (start : ClusterStart) (slot i : ℕ) → slot ≤ i
-    → get_or (slots_before list script start slot) i no_slot ≡ no_slot
-slots_before-past list script start zero i past = refl
-slots_before-past list script start (suc slot) zero past = absurd (omega arith)
-slots_before-past list script start (suc slot) (suc i) past =
-    slots_before-past list script start slot i (omega arith)
 
 -- one slot more is kept
 pub newest-more : (list : Medl) (script : Script) (start : ClusterStart) (newest next : NewestSlots) (s : FaultySlot)

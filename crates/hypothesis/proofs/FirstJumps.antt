@@ -1,5 +1,5 @@
 -- The first jumps of nodes, one event more.
-use Rattle.std.proofs.Common.{◌≡◌, ◌≢◌, ℕ, ◌+◌, ◌<◌, ◌≤◌, ℤ, Bool, true, false, ◌&&◌, ◌||◌, List, length, get_or, take}
+use Rattle.std.proofs.Common.{◌≡◌, ◌≢◌, ℕ, ◌+◌, ◌<◌, ◌≤◌, ℤ, true, false, ◌&&◌, ◌||◌, List, length, get_or, take}
 use Rattle.std.proofs.Common.{set, refl, ap, sym, ◌∙◌, inl, inr, arith}
 use Rattle.std.specs.Prelude.{◌==◌, nat_lt}
 use Rattle.std.proofs.lemmas.Bool.{cases_eq, cases_lt, eq-eqb, ne_eqb, lt-ltb, le-ltb}
@@ -9,6 +9,7 @@ use Rattle.ttp_world.specs.declared.script.Event.{Event}
 use Rattle.ttp_world.specs.declared.script.Event.TheVariants as event
 use Rattle.ttp_world.specs.Hypothesis.{is_jump_before}
 use Rattle.hypothesis.specs.Jumps.{AreFirstJumps}
+use Rattle.ttp_world.proofs.MemberSets.{or-false}
 
 earlier : (new old slot : ℕ) → new < old → (nat_lt old slot || nat_lt new slot) ≡ nat_lt new slot
 earlier new old slot less = elim (cases_lt old slot) [
@@ -31,10 +32,6 @@ later new old slot from = elim (cases_lt old slot) [
       let neither : nat_lt new slot ≡ false = le-ltb new slot (omega arith) in
       rw (none, neither)
 ]
-
-or-false : (b : Bool) → (b || false) ≡ b
-or-false true = refl
-or-false false = refl
 
 no_jump-before : (e : Event) → ((node : ℕ) (value : ℤ) (at : ℕ) → e ≢ event.Jump node value at) → (k slot : ℕ)
     → is_jump_before k slot e ≡ false

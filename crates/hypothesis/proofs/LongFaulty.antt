@@ -13,10 +13,8 @@ use Rattle.ttp_world.specs.Returning.{slots_before, faulty_since, is_forgiven, f
 use Rattle.ttp_world.specs.Returning.{two_rounds, four_rounds, is_near_fault, is_apart, is_long_faulty}
 use Rattle.hypothesis.specs.Walks.{all_in, joined_in}
 use Rattle.hypothesis.proofs.Ranges.{or-true}
-
-or_parts : (a b : Bool) → (a || b) ≡ false → (a ≡ false) × (b ≡ false)
-or_parts true b e = grind arith
-or_parts false b e = (refl, e)
+use Rattle.ttp_base.proofs.NodeSets.{and-true}
+use Rattle.ttp_world.proofs.SmallTests.{or_parts}
 
 -- a slot of one of these
 abbrev lies_in : (ℕ → Bool) → List FaultyNode → Bool
@@ -127,10 +125,6 @@ at-none list script start p slot none =
     (faulty_since (slots_before list script start slot)) (since-none list script start p slot none)
 
 -- All of them for long.
-
-and-true : (b : Bool) → (b && true) ≡ b
-and-true true = refl
-and-true false = refl
 
 not-false : (b : Bool) → not b ≡ false → b ≡ true
 not-false true e = refl

@@ -5,12 +5,13 @@ use Rattle.std.specs.Prelude.{◌==◌}
 use Rattle.std.proofs.lemmas.Bool.{eqb-true, eqb-false}
 use Rattle.std.proofs.lemmas.List.Elements.{All-filter}
 use Rattle.std.proofs.lemmas.List.FromFn.{length-range_with_len, get_or-range_with_len}
-use Rattle.std.specs.List.{All, filter, list_all, list_any, find, range_with_len}
+use Rattle.std.specs.List.{All, filter, list_all, find, range_with_len}
 use Rattle.ttp_base.specs.NodeSet.{below}
+use Rattle.ttp_world.proofs.RangeFacts.{none-range}
 
 -- Where one fails, not all pass.
 
-and-false : (b : Bool) → (b && false) ≡ false
+pub and-false : (b : Bool) → (b && false) ≡ false
 and-false true = refl
 and-false false = refl
 
@@ -31,12 +32,6 @@ pub one-fails : (p : ℕ → Bool) (n k : ℕ) → k < n → p k ≡ false → l
 one-fails p n k less fails = fails-range p 0 n k (omega arith) (omega arith) fails
 
 -- The first that passes.
-
-none-range : (p : ℕ → Bool) (a n : ℕ) → ((k : ℕ) → a ≤ k → k < a + n → p k ≡ false) → find p (range_with_len a n) ≡ None
-none-range p a zero each = refl
-none-range p a (suc n) each =
-    ap (λ b. cond b (Some a) (find p (range_with_len (a + 1) n))) (each a (omega arith) (omega arith))
-    ∙ none-range p (a + 1) n (λ k from to. each k (omega arith) (omega arith))
 
 pub none-below : (p : ℕ → Bool) (n : ℕ) → ((k : ℕ) → k < n → p k ≡ false) → find p (below n) ≡ None
 none-below p n each = none-range p 0 n (λ k from to. each k (omega arith))
@@ -83,17 +78,3 @@ passes-step p a k rest true same passes from later = ap (λ b. b || rest) (ap p 
 passes-step p a k rest false other passes from later =
     let apart : a ≢ k = eqb-false a k other in
     ap (λ b. p a || b) (later (omega (arith, apart))) ∙ or-true (p a)
-
-pub one-passes : (p : ℕ → Bool) (a n k : ℕ) → a ≤ k → k < a + n → p k ≡ true
-    → list_any p (range_with_len a n) ≡ true
-one-passes p a zero k from to passes = absurd (omega arith)
-one-passes p a (suc n) k from to passes =
-    passes-step p a k (list_any p (range_with_len (a + 1) n)) (a == k) refl passes from
-    (λ less. one-passes p (a + 1) n k (omega arith) (omega arith) passes)
-
-pub none-passes : (p : ℕ → Bool) (a n : ℕ) → ((k : ℕ) → a ≤ k → k < a + n → p k ≡ false)
-    → list_any p (range_with_len a n) ≡ false
-none-passes p a zero each = refl
-none-passes p a (suc n) each =
-    ap (λ b. b || list_any p (range_with_len (a + 1) n)) (each a (omega arith) (omega arith))
-    ∙ none-passes p (a + 1) n (λ k from to. each k (omega arith) (omega arith))

@@ -5,7 +5,6 @@ use Rattle.std.specs.Prelude.{◌==◌, map, nat_lt, if◌then◌else◌}
 use Rattle.std.specs.List.{filter}
 use Rattle.std.proofs.lemmas.List.{append_assoc, length-append}
 use Rattle.std.proofs.lemmas.List.FromFn.{length-range_with_len}
-use Rattle.std.proofs.lemmas.List.Folds.{list_any-append}
 use Rattle.ttp_base.specs.NodeSet.{most_nodes, has_node, below}
 use Rattle.ttp_base.proofs.NodeSets.{same_sieve}
 use Rattle.ttp_world.specs.declared.medl.Medl.{Medl}
@@ -17,6 +16,8 @@ use Rattle.ttp_world.specs.Medl.{plan_at}
 use Rattle.ttp_world.specs.Script.{is_on, is_ever_on, has_jump}
 use Rattle.hypothesis.specs.Standing.{HaveSameNodes}
 use Rattle.hypothesis.specs.Walks.{made_in}
+use Rattle.ttp_world.proofs.WorldFacts.{has_node-append}
+use Rattle.ttp_world.proofs.ListFacts.{few-left as few_left}
 
 pub same_jumpers : (list : Medl) (script : Script) (s t : List ℕ) (slot : ℕ) → length list.slots ≤ most_nodes
     → HaveSameNodes s t
@@ -41,9 +42,6 @@ same_sender_loss list script s t slot sender few small same =
     ∙ ap (λ others. if not (is_ever_on script sender) || has_node t sender then Harmless
     else receivers_loss script sender slot others)
     (same_others list script s t sender slot few same)
-
-has_node-append : (xs ys : List ℕ) (k : ℕ) → has_node (xs ++ ys) k ≡ (has_node xs k || has_node ys k)
-has_node-append xs ys k = list_any-append (λ j. j == k) xs ys
 
 same-append : (s t xs ys : List ℕ) → s ≡ t → HaveSameNodes xs ys → HaveSameNodes (s ++ xs) (t ++ ys)
 same-append s t xs ys is same k small =
@@ -116,10 +114,6 @@ few_made Breaks = omega arith
 left-step : (x m : ℕ) (xs : List ℕ) (b : Bool) → length xs ≤ m → length (cond b (x ∷ xs) xs) ≤ suc m
 left-step x m xs true fits = omega arith
 left-step x m xs false fits = omega arith
-
-few_left : (p : ℕ → Bool) (xs : List ℕ) → length (filter p xs) ≤ length xs
-few_left p [] = omega arith
-few_left p (x ∷ xs) = left-step x (length xs) (filter p xs) (p x) (few_left p xs)
 
 pub count-fits : (list : Medl) (script : Script) (s made jumpers : List ℕ) (slot : ℕ) (loss : Loss)
     → length list.slots ≤ most_nodes → made ≡ nodes_made loss

@@ -1,11 +1,12 @@
 -- The number that hexadecimal digits write, one digit after another.
-use Rattle.std.proofs.Common.{◌≡◌, ℕ, suc, ◌+◌, ◌*◌, ◌^◌, ◌<◌, ◌≤◌, Bool, true, ◌&&◌, List, [], ◌∷◌, ◌++◌}
-use Rattle.std.proofs.Common.{length, get_or, drop, arith, ap, sym, ◌∙◌, lit<, drop-cons}
+use Rattle.std.proofs.Common.{◌≡◌, ℕ, ◌+◌, ◌*◌, ◌^◌, ◌<◌, ◌≤◌, Bool, true, ◌&&◌, List, [], ◌∷◌, ◌++◌}
+use Rattle.std.proofs.Common.{length, get_or, drop, arith, ap, sym, ◌∙◌, lit<}
 use Rattle.std.specs.List.{list_all}
 use Rattle.std.proofs.Math.Nat.{pow-le-pow_right}
 use Rattle.std.proofs.lemmas.Grind.{pow_more}
 use Rattle.std.proofs.lemmas.List.{append_assoc}
 use Rattle.line_reader.specs.Reading.{is_hex, hex_value, hex_bytes_in}
+use Rattle.ttp_world.proofs.ListFacts.{next_pair}
 
 pub below_power_16 : (i number digit : ℕ) → number < 16 ^ i → digit < 16 → number * 16 + digit < 16 ^ (i + 1)
 below_power_16 i number digit small one = omega (arith, pow_more 16 i)
@@ -14,17 +15,6 @@ pub within_word_16 : (i number : ℕ) → number < 16 ^ i → i < 6 → number *
 within_word_16 i number small few =
     let most : 16 ^ (i + 1) ≤ 16 ^ 6 = pow-le-pow_right {n = 16} (lit< tt) {i = i + 1} {j = 6} (omega arith) in
     omega (arith, pow_more 16 i, most)
-
--- the next two digits of what is left
-next_pair : (word : List ℕ) (i : ℕ) → 2 * i + 1 < length word
-    → drop (2 * i) word ≡ get_or word (2 * i) 0 ∷ get_or word (2 * i + 1) 0 ∷ drop (2 * (i + 1)) word
-next_pair word i within =
-    let more : suc (suc (2 * i)) ≡ 2 * (i + 1) = omega arith in
-    let one : suc (2 * i) ≡ 2 * i + 1 = omega arith in
-    drop-cons word (2 * i) 0 (omega arith)
-    ∙ ap (λ (l : List ℕ). get_or word (2 * i) 0 ∷ l) (drop-cons word (suc (2 * i)) 0 (omega arith)
-    ∙ ap (λ (n : ℕ). get_or word n 0 ∷ drop (suc (suc (2 * i))) word) one
-    ∙ ap (λ (n : ℕ). get_or word (2 * i + 1) 0 ∷ drop n word) more)
 
 pub hex_bytes-next : (front word : List ℕ) (i byte : ℕ) → 2 * i + 1 < length word
     → byte ≡ 16 * hex_value (get_or word (2 * i) 0) + hex_value (get_or word (2 * i + 1) 0)

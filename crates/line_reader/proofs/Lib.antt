@@ -4,6 +4,5 @@ pub mod LineValues
 pub mod Options
 pub mod ReadLines
 pub mod ReadWords
-pub mod WordList
 pub mod WrittenLines
 pub mod WrittenWords

@@ -28,7 +28,6 @@ use Rattle.ttp_world.specs.TraceNumbers.{is_digit, append_digit, number_named}
 use Rattle.line_reader.specs.declared.trace_line.Word.{Word}
 use Rattle.line_reader.specs.declared.trace_line.Word.TheVariants as word
 use Rattle.line_text.specs.HostLines.{AreBytes}
-use Rattle.line_text.proofs.LabelTexts.{spelled}
 use Rattle.line_reader.specs.Reading.{◌>>=◌, byte_in, offset_in, byte_or_dash_in}
 use Rattle.line_text.specs.Numerals.{has_leading_zero, numeral_in}
 use Rattle.line_reader.specs.Reading.{message_or_dash_in}
@@ -41,6 +40,7 @@ use Rattle.line_reader.specs.TraceLines.{FitsSource}
 use Rattle.line_reader.proofs.HexDigits.{below_power_16}
 use Rattle.line_reader.proofs.Options.{bound}
 use Rattle.line_text.proofs.Options.{guarded, barred, chosen, some_same}
+use Rattle.ttp_world.proofs.SmallTests.{spelled}
 
 pub equal : (a b : ℕ) → (a == b) ≡ true → a ≡ b
 equal a b same = grind (arith, nat_tests)

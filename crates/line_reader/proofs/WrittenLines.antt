@@ -1,5 +1,5 @@
 -- The line of a value that fits is read as that value.
-use Rattle.std.proofs.Common.{◌≡◌, ℕ, ◌*◌, ◌^◌, ◌<◌, ◌≤◌, Bool, true, false, cond, ◌||◌, ℤ, List, []}
+use Rattle.std.proofs.Common.{◌≡◌, ℕ, ◌*◌, ◌^◌, ◌<◌, ◌≤◌, Bool, true, false, cond, ℤ, List, []}
 use Rattle.std.proofs.Common.{◌∷◌, ◌++◌, length}
 use Rattle.std.proofs.Common.{take, drop, Option, Some, None, refl, sym, ap, ◌∙◌, arith, codes, decimal}
 use Rattle.std.proofs.Common.{length-append}
@@ -43,6 +43,8 @@ use Rattle.line_text.proofs.WrittenNumbers.{numeral-again}
 use Rattle.line_reader.proofs.WrittenWords.{offset-again, word-again, ack-again, status-again, node-again}
 use Rattle.line_reader.proofs.WrittenWords.{schedule-again}
 use Rattle.line_reader.proofs.WrittenWords.{is_six-again, members-again, payload-again}
+use Rattle.ttp_world.proofs.LineWords.{space_is_low}
+use Rattle.ttp_world.proofs.SmallTests.{or_parts}
 
 -- Words after labels.
 
@@ -60,10 +62,6 @@ begins-append : (label bytes : List ℕ) → starts label ≡ true → begins (l
 unfolding begins
 begins-append [] bytes e = cc
 begins-append (b ∷ label) bytes e = e
-
-or_parts : (a b : Bool) → (a || b) ≡ false → (a ≡ false) × (b ≡ false)
-or_parts true b e = cc
-or_parts false b e = (refl, e)
 
 space_at : (word rest : List ℕ) → has 32 word ≡ false → begins rest ≡ true
     → position_or_len is_space (word ++ rest) ≡ length word
@@ -132,9 +130,6 @@ fields-again label (other ∷ labels) word (next ∷ words) count later none =
     (begins-append other (next ++ labelled labels words) later.0)
     ∙ ap (λ (r : Option (List (List ℕ))). r >>= λ ws. Some (word ∷ ws))
     (fields-again other labels next words (omega (arith, count)) later.1 none.1)
-
-space_is_low : 32 < 45
-space_is_low = omega arith
 
 has-word_text : (w : Word) → has 32 (word_text w) ≡ false
 has-word_text word.Off = refl

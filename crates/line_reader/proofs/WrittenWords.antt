@@ -34,7 +34,8 @@ use Rattle.line_reader.specs.Reading.{is_hex, hex_value, append_hex, hex_in, sch
 use Rattle.line_reader.specs.Reading.{payload_in, hex_bytes_in, is_even, word_in, ack_in, source_in}
 use Rattle.line_reader.specs.TraceLines.{word_text, offset_digits, FitsAck, FitsOffset, FitsMembers}
 use Rattle.line_text.specs.Numerals.{message_digits}
-use Rattle.line_text.proofs.WordTexts.{length-hex_bytes}
+use Rattle.ttp_base.proofs.Hex.{length-hex_bytes}
+use Rattle.ttp_world.proofs.SmallTests.{not_zero}
 
 -- Numbers.
 
@@ -73,9 +74,6 @@ no_minus zero small = let e = decimal_digit 0 (omega arith) in rw e refl
 no_minus (suc n) small =
     let high = first_decimal (suc n) (omega arith) small in
     grind (arith, nat_tests, high)
-
-not_zero : (n : ℕ) → (suc n == 0) ≡ false
-not_zero n = grind (arith, nat_tests)
 
 pub offset-again : (z : ℤ) → FitsOffset z → offset_in (signed_decimal z) ≡ Some z
 unfolding offset_in

@@ -1,29 +1,14 @@
 -- The lines of a text: behind whole lines come those of the rest, and they make up the text.
-use Rattle.std.proofs.Common.{◌≡◌, ℕ, Bool, true, false, cond, List, [], ◌∷◌, ◌++◌, length, refl, ap, sym, ◌∙◌, arith}
+use Rattle.std.proofs.Common.{◌≡◌, ℕ, Bool, true, false, cond, List, [], ◌∷◌, ◌++◌, refl, ap, sym, ◌∙◌}
 use Rattle.std.proofs.Common.{append_assoc, take, zero, suc}
 use Rattle.std.specs.Prelude.{◌==◌}
 use Rattle.std.specs.List.{concat, AllByRecursion}
 use Rattle.std.proofs.lemmas.Bool.{eqb-true}
 use Rattle.ttp_base.specs.Text.{Lines, newline, is_line, before_lines, lines_of}
+use Rattle.ttp_base.proofs.Lines.{lines_of-line}
 
 abbrev pub AreLines : Lines → Type 0
 AreLines lines = AllByRecursion (λ line. is_line line ≡ true) lines
-
-lines_of-line : (line more : List ℕ) → is_line line ≡ true → lines_of (line ++ more) ≡ line ∷ lines_of more
-lines_of-line [] more is = absurd (cc)
-lines_of-line (b ∷ line) more is = go (b == 10) refl is (lines_of-line line more)
-  where
-    ends : (rest : List ℕ) → b ≡ 10 → (length rest == 0) ≡ true
-        → newline ∷ lines_of (rest ++ more) ≡ (b ∷ rest) ∷ lines_of more
-    ends [] feed none = rw feed refl
-    ends (c ∷ rest) feed none = absurd (grind arith)
-
-    go : (feed : Bool) → (b == 10) ≡ feed → cond feed (length line == 0) (is_line line) ≡ true
-        → (is_line line ≡ true → lines_of (line ++ more) ≡ line ∷ lines_of more)
-        → cond feed (newline ∷ lines_of (line ++ more)) (before_lines b (lines_of (line ++ more)))
-        ≡ (b ∷ line) ∷ lines_of more
-    go true feed is after = ends line (grind arith) is
-    go false feed is after = ap (before_lines b) (after is)
 
 pub lines_of-behind : (lines : Lines) (more : List ℕ) → AreLines lines
     → lines_of (concat lines ++ more) ≡ lines ++ lines_of more

@@ -1,14 +1,11 @@
 -- What stands behind a label.
-use Rattle.std.proofs.Common.{◌≡◌, ℕ, true, List, ◌++◌, length, take, drop, Some, refl, sym, ap, ◌∙◌}
+use Rattle.std.proofs.Common.{◌≡◌, ℕ, List, ◌++◌, length, take, drop, Some, refl, sym, ap, ◌∙◌}
 use Rattle.std.proofs.Common.{bytes_eq}
 use Rattle.std.proofs.lemmas.List.{take-append-drop, take_at, drop_at}
-use Rattle.std.proofs.lemmas.Slice.Eq.{bytes_eq-Decides}
 use Rattle.ttp_world.proofs.NumberWords.{bytes_eq-same}
 use Rattle.line_text.specs.Labels.{after_label}
 use Rattle.line_text.proofs.Options.{guarded, some_same}
-
-pub spelled : (w text : List ℕ) → bytes_eq w text ≡ true → w ≡ text
-spelled w text same = (bytes_eq-Decides w text).0 same
+use Rattle.ttp_world.proofs.SmallTests.{spelled}
 
 pub label-takes : (label bytes rest : List ℕ) → after_label label bytes ≡ Some rest → bytes ≡ label ++ rest
 label-takes label bytes rest e =

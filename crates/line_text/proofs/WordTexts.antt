@@ -7,9 +7,10 @@ use Rattle.std.proofs.lemmas.Bool.{cases_lt}
 use Rattle.std.proofs.lemmas.List.{append_assoc, append-nil, length-take, take_all, take_more}
 use Rattle.std.proofs.lemmas.List.Concat.{flat_map-append}
 use Rattle.ttp_base.specs.Text.{byte_hex, hex_bytes}
-use Rattle.ttp_base.proofs.Room.{length-hex}
 use Rattle.ttp_world.specs.Trace.{word_hex}
 use Rattle.line_text.specs.HostLines.{bytes_in}
+use Rattle.ttp_base.proofs.Hex.{length-hex_bytes}
+use Rattle.ttp_world.proofs.ListFacts.{length-word_hexes}
 
 flat_map-next : {A : Type 0} (f : ℕ → List A) (words : List ℕ) (i : ℕ) → i < length words
     → flat_map f (take (i + 1) words) ≡ flat_map f (take i words) ++ f (get_or words i 0)
@@ -19,20 +20,11 @@ flat_map-next f words i within =
 
 -- Words as digits.
 
-pub length-word_hexes : (words : List ℕ) → length (flat_map word_hex words) ≡ 16 * length words
-length-word_hexes [] = refl
-length-word_hexes (word ∷ words) =
-    omega (arith, length-append (word_hex word) (flat_map word_hex words), length-hex 16 word, length-word_hexes words)
-
 pub word_hexes-next : (words : List ℕ) (i : ℕ) → i < length words
     → flat_map word_hex (take (i + 1) words) ≡ flat_map word_hex (take i words) ++ word_hex (get_or words i 0)
 word_hexes-next words i within = flat_map-next word_hex words i within
 
 -- The first bytes of words.
-
-pub length-hex_bytes : (bytes : List ℕ) → length (hex_bytes bytes) ≡ 2 * length bytes
-length-hex_bytes [] = refl
-length-hex_bytes (byte ∷ bytes) = omega (arith, length-hex_bytes bytes)
 
 take-append : (n : ℕ) (xs ys : List ℕ) → take n (xs ++ ys) ≡ take n xs ++ take (n - length xs) ys
 take-append zero [] ys = refl

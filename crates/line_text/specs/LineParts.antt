@@ -65,6 +65,11 @@ text_of j =
     codes " " ++ verdict_word j.verdict ++ codes " peer " ++ decimal j.sender ++ codes " msg "
     ++ number_or_dash j.message ++ codes " mem " ++ hex (2 * member_bytes j.wide) j.bits ++ codes " acc "
 
+-- a judgement, if there is one, and the text that tells it
+pub record ToldState : Type 0 where
+  pub judged : Option Judged
+  pub text : List ℕ
+
 -- a text tells a judgement, if there is one
 pub record IsTold (judged : Option Judged) (text : List ℕ) : Type 0 where
   pub tells : IfSome judged (λ j. text ≡ text_of j)

@@ -1,5 +1,5 @@
 //! The lines of the nodes after a slot.
-ghost use Rattle.std.specs.Prelude.{◌≡◌, ◌+◌, ◌≤◌, [], ◌∷◌, ◌++◌, length, IsTrue, OnOk, OnErr, option_map};
+ghost use Rattle.std.specs.Prelude.{◌≡◌, ◌≢◌, ◌+◌, ◌≤◌, [], ◌∷◌, ◌++◌, length, MatchBool, Some, IfSome, OnOk, OnErr, option_map};
 ghost use Rattle.ttp_base.specs.Outside.{WroteLines, CutShort};
 ghost use Rattle.ttp_world.specs.declared.node.Ack.TheVariants as ack;
 ghost use Rattle.ttp_world.specs.Trace.{number_or_dash, ack_word};
@@ -24,8 +24,8 @@ pub(crate) struct Judged {
     bits: u32,
 }
 
-/// What the newest line of a node that judged its slot shows between the node's number and its counts.
-/// Contracts see it as that text.
+/// The newest judgement that a line showed, and what that shows between the node's number and its counts.
+/// Contracts see both.
 #[derive(Drop)]
 struct Told {
     judged: Option<Judged>,
@@ -33,12 +33,11 @@ struct Told {
 }
 
 impl Model for Told {
-    ghost use Rattle.std.specs.Prelude.{List, ℕ};
-    ghost use Rattle.line_text.specs.LineParts.{IsTold};
+    ghost use Rattle.line_text.specs.LineParts.{ToldState, IsTold};
 
-    ghost Value = { List ℕ };
+    ghost Value = { ToldState };
 
-    ghost view = { λ t. t.text };
+    ghost view = { λ t. record { judged = t.judged; text = t.text } };
 
     ghost invariant = { λ t. IsTold t.judged t.text };
 }
@@ -146,7 +145,7 @@ fn put_ack_word(line: &mut Line, ack: Ack)
 }
 
 fn is_same_message(one: Option<u64>, other: Option<u64>) -> bool
-    ensures { IsTrue result → one ≡ other }
+    ensures { MatchBool result (one ≡ other) (one ≢ other) }
 {
     match (one, other) {
         (None, None) => true,
@@ -155,9 +154,9 @@ fn is_same_message(one: Option<u64>, other: Option<u64>) -> bool
     }
 }
 
-// Whether lines show the same of both.
-fn are_told_alike(one: &Judged, other: &Judged) -> bool
-    ensures { IsTrue result → text_of one.now ≡ text_of other.now }
+// Whether both are the same, so that lines show the same of them.
+fn is_same_judgement(one: &Judged, other: &Judged) -> bool
+    ensures { MatchBool result (one.now ≡ other.now) (one.now ≢ other.now) }
 {
     one.bits == other.bits
         && one.sender == other.sender
@@ -174,12 +173,12 @@ impl Told {
         }
     }
 
-    // Whether this judgement is the newest that was told, or is told as that was.
+    // Whether this judgement is the newest that was told.
     fn tells(&self, judged: &Judged) -> bool
-        ensures { IsTrue result → self.now ≡ text_of judged.now }
+        ensures { MatchBool result (self.now.judged ≡ Some judged.now) (self.now.judged ≢ Some judged.now) }
     {
         match &self.judged {
-            Some(told) => are_told_alike(told, judged),
+            Some(told) => is_same_judgement(told, judged),
             None => false,
         }
     }
@@ -188,7 +187,7 @@ impl Told {
     fn tell(&mut self, judged: Judged, list: &Medl, node: u8, state: &NodeState)
         requires digits { HasDigits list.now state.now }
         requires judged { shown_text list.now node state.now judged.message ≡ text_of judged }
-        ensures { self.new ≡ text_of judged }
+        ensures { self.new.judged ≡ Some judged }
     {
         self.text.clear();
         put_shown(&mut self.text, list, node, state, judged.message);
@@ -196,7 +195,7 @@ impl Told {
     }
 
     fn bytes(&self) -> &[u8]
-        ensures text { result.now ≡ self.now }
+        ensures text { IfSome self.now.judged (λ j. result.now ≡ text_of j) }
         ensures short { length result.now ≤ 115 }
     {
         self.text.bytes()

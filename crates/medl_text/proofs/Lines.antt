@@ -1,5 +1,5 @@
 -- Each line of the slot table is one line.
-use Rattle.std.proofs.Common.{◌≡◌, ℕ, ◌<◌, Bool, true, false, List, [], ◌∷◌, ◌++◌, length, refl, arith}
+use Rattle.std.proofs.Common.{◌≡◌, ℕ, Bool, true, false, List, [], ◌∷◌, ◌++◌, length, refl}
 use Rattle.std.specs.Prelude.{◌==◌, codes}
 use Rattle.std.specs.Fmt.{decimal}
 use Rattle.std.specs.List.{AllByRecursion, flat_map}
@@ -15,12 +15,10 @@ use Rattle.ttp_world.specs.declared.medl.Medl.{Medl}
 use Rattle.ttp_world.specs.Medl.{kind_at, plan_at, payload_length}
 use Rattle.ttp_world.proofs.LineLists.{each-append}
 use Rattle.medl_text.specs.Schedule.{letter_of, yes_or_no, table_head, slot_line, round_lines, slot_table}
+use Rattle.ttp_world.proofs.TraceLines.{feed_is_low as low}
 
 abbrev IsLine : List ℕ → Type 0
 IsLine line = is_line line ≡ true
-
-low : 10 < 45
-low = omega arith
 
 letter_none : (k : Kind) → has 10 (letter_of k) ≡ false
 letter_none kind.I = refl

@@ -1,5 +1,5 @@
 -- One slot of a run by the numbers that its trace names.
-use Rattle.std.proofs.Common.{◌≡◌, ℕ, zero, suc, ◌+◌, ◌-◌, ◌<◌, ◌≤◌, Bool, true, false, List, [], ◌∷◌, ◌++◌, length, get_or}
+use Rattle.std.proofs.Common.{◌≡◌, ℕ, suc, ◌+◌, ◌-◌, ◌<◌, ◌≤◌, Bool, true, false, List, [], ◌∷◌, ◌++◌, length, get_or}
 use Rattle.std.proofs.Common.{drop, Option, Some, None, IfSome, IsTrue, if◌then◌else◌, refl, ap, sym, subst, ◌∙◌}
 use Rattle.std.proofs.Common.{length-append, length-drop, arith}
 use Rattle.std.specs.Option.{option_or}
@@ -37,7 +37,7 @@ use Rattle.trace_check.specs.Outgoing.{Chooses, HoldsNewest, number_in, number_n
 use Rattle.trace_check.proofs.Counts.{lines_in, length-legal_slot}
 use Rattle.trace_check.proofs.NodesDepart.{legal-small, line-names, node-at, taken-named}
 use Rattle.trace_check.proofs.SlotChosen.{chosen-of_hosts, chosen-sizes, taken-legal}
-use Rattle.trace_check.proofs.Wholes.{trace-cut}
+use Rattle.trace_check.proofs.Wholes.{trace-cut, legal-drop as legal-first}
 use Rattle.mode_change.specs.declared.run.Run.{Run}
 use Rattle.mode_change.specs.Knowing.{IsJoinOfList, mode_by, KnowAll, IsPast, StandsFor, first_numbers}
 use Rattle.mode_change.specs.Knowing.{first_lines, IsAt}
@@ -62,13 +62,6 @@ module _ (script : Script) (whole : Numbers) (slot : ℕ) (count : length whole 
         drop_more whole later nothing_told (omega (arith, less, count))
             ∙ ap (λ (n : ℕ). get_or whole later nothing_told ∷ drop n whole) one,
       )
-
-pub legal-first : (list : Medl) (script : Script) (whole : Numbers) (later : ℕ) → IsLegal list script whole
-    → IsLegal list script (drop later whole)
-legal-first list script whole zero legal = legal
-legal-first list script [] (suc later) legal = legal
-legal-first list script (new ∷ numbers) (suc later) legal =
-    legal-first list script numbers later (legal-older list script new numbers legal)
 
 -- One entry.
 

@@ -1,6 +1,6 @@
 -- Each line of the text of modes is one line: its one line feed is its last byte.
-use Rattle.std.proofs.Common.{◌≡◌, ℕ, ◌<◌, Bool, true, false, List, [], ◌∷◌, ◌++◌, length, Option, Some, None, refl}
-use Rattle.std.proofs.Common.{codes, decimal, arith}
+use Rattle.std.proofs.Common.{◌≡◌, ℕ, Bool, true, false, List, [], ◌∷◌, ◌++◌, length, Option, Some, None, refl}
+use Rattle.std.proofs.Common.{codes, decimal}
 use Rattle.std.specs.Prelude.{◌==◌}
 use Rattle.std.specs.List.{AllByRecursion}
 use Rattle.std.proofs.lemmas.List.Folds.{list_any-append}
@@ -14,14 +14,11 @@ use Rattle.ttp_world.specs.Diary.{History}
 use Rattle.ttp_world.specs.Trace.{number_or_dash}
 use Rattle.ttp_world.specs.World.{Numbers, world}
 use Rattle.ttp_world.proofs.LineLists.{each-append}
-use Rattle.ttp_world.proofs.TraceLines.{IsLine}
+use Rattle.ttp_world.proofs.TraceLines.{IsLine, feed_is_low}
 use Rattle.ttp_world.proofs.TraceWords.{has-number_or_dash}
 use Rattle.mode_change.specs.declared.node.Modes.{Modes}
 use Rattle.mode_change.specs.ModeText.{mode_head, live_word, mode_line, mode_line_of, mode_slot_lines}
 use Rattle.mode_change.specs.ModeText.{mode_history_lines, mode_lines}
-
-feed_is_low : 10 < 45
-feed_is_low = omega arith
 
 head-by_words : (nodes slots : List ℕ) → has 10 nodes ≡ false → has 10 slots ≡ false
     → IsLine (codes "ttpbench modes 1 nodes " ++ nodes ++ codes " slots " ++ slots ++ newline)

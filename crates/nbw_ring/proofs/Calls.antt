@@ -51,14 +51,14 @@ place_from_start shape key number start k n j same begins count long =
     here ∙ sym moved
 
 pub put_next : (shape key : Shape) (slots id : ℕ) (me : Sat) (w : Writing) (words : List ℕ) (number start k x : ℕ)
-    → key ≡ shape → me ≡ (Writer (record w { put = take k words }), [])
+    → key ≡ shape → me ≡ (Writer (record w { put = take k words; steps = w.steps + k }), [])
     → w.is_open ≡ true → length w.messages ≡ number → length words ≡ shape.width → k < length words
     → start ≡ place shape number 0
     → Allows (Kept key) slots id me (start + k) (λ _. x) (λ _. tells_put (step slots (start + k) x 0 none) me x)
 put_next shape key slots id me w words number start k x same is opened count wide inside begins =
     let long : length (take k words) ≡ k = length-take-le k words (omega arith) in
     let width : key.width ≡ shape.width = ap (λ (z : Shape). z.width) same in
-    puts key slots id me (record w { put = take k words }) (start + k) x (view_is me _ is) opened (omega arith)
+    puts key slots id me (record w { put = take k words; steps = w.steps + k }) (start + k) x (view_is me _ is) opened (omega arith)
     (place_from_start shape key number start k (length w.messages) (length (take k words)) same begins count long)
 
 pub load_next : (shape key : Shape) (slots id : ℕ) (me : Sat) (y : Reading) (number start k : ℕ) → key ≡ shape
@@ -79,26 +79,31 @@ at_ring id mine shape known r held own ring is =
 
 -- below the limit the last load gets the attempt's message
 pub got_last : (counter : ℕ) (y : Reading) → counter < limit y.shape (y.first / 2)
-    → with_last counter y ≡ record y { seen = counter; floor = y.first / 2; got = y.got ++ attempt_of y ∷ [] }
+    → with_last counter y
+    ≡ record y { seen = counter; floor = y.first / 2; got = y.got ++ attempt_of y ∷ []; steps = y.steps + 1 }
 got_last counter y below =
-    ap (λ (b : Bool). cond b (record y { seen = counter; floor = y.first / 2; got = y.got ++ attempt_of y ∷ [] })
-    (record y { seen = counter })) (lt-ltb counter (limit y.shape (y.first / 2)) below)
+    ap (λ (b : Bool). cond b
+    (record y { seen = counter; floor = y.first / 2; got = y.got ++ attempt_of y ∷ []; steps = y.steps + 1 })
+    (record y { seen = counter; steps = y.steps + 1 })) (lt-ltb counter (limit y.shape (y.first / 2)) below)
 
 -- a write whose words were put
 pub filled_next : (m m' m'' : Sat) (w : Writing) (words : List ℕ) → m ≡ (Writer w, [])
-    → m' ≡ (as_writer with_open m.0, m.1) → m'' ≡ (Writer (record (writing_of m'.0) { put = words }), [])
-    → m'' ≡ (Writer (record (with_open w) { put = words }), [])
+    → m' ≡ (as_writer with_open m.0, m.1)
+    → m'' ≡ (Writer (record (writing_of m'.0) { put = words; steps = (writing_of m'.0).steps + length words }), [])
+    → m'' ≡ (Writer (record (with_open w) { put = words; steps = w.steps + 1 + length words }), [])
 filled_next m m' m'' w words is begun filled =
     let opened : m' ≡ (Writer (with_open w), []) = writer_next with_open m m' w is begun in
-    filled ∙ ap (λ (z : Writing). (Writer (record z { put = words }), [])) (ap (λ (z : Sat). writing_of z.0) opened)
+    filled
+    ∙ ap (λ (z : Writing). (Writer (record z { put = words; steps = z.steps + length words }), [])) (ap (λ (z : Sat). writing_of z.0) opened)
 
 -- an attempt whose words were loaded
-pub loaded_next : (begin : ℕ) (m m' m'' : Sat) (y : Reading) (words : List ℕ) → m ≡ (Reader y, [])
-    → m' ≡ (as_reader (with_first begin) m.0, m.1) → m'' ≡ (Reader (record (reading_of m'.0) { words = words }), [])
-    → m'' ≡ (Reader (record (with_first begin y) { words = words }), [])
-loaded_next begin m m' m'' y words is begun loaded =
+pub loaded_next : (begin : ℕ) (m m' m'' : Sat) (y : Reading) (words : List ℕ) (n : ℕ) → m ≡ (Reader y, [])
+    → m' ≡ (as_reader (with_first begin) m.0, m.1)
+    → m'' ≡ (Reader (record (reading_of m'.0) { words = words; steps = (reading_of m'.0).steps + n }), [])
+    → m'' ≡ (Reader (record (with_first begin y) { words = words; steps = y.steps + 1 + n }), [])
+loaded_next begin m m' m'' y words n is begun loaded =
     let first : m' ≡ (Reader (with_first begin y), []) = reader_next (with_first begin) m m' y is begun in
-    loaded ∙ ap (λ (v : Reading). (Reader (record v { words = words }), [])) (ap (λ (z : Sat). reading_of z.0) first)
+    loaded ∙ ap (λ (v : Reading). (Reader (record v { words = words; steps = v.steps + n }), [])) (ap (λ (z : Sat). reading_of z.0) first)
 
 -- the writer's view once a reader was joined
 pub joined_next : (m n m' : Sat) (w : Writing) (y : Reading) → m ≡ (Writer w, []) → n ≡ (Reader y, [])

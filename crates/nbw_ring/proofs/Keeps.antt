@@ -23,7 +23,7 @@ use Rattle.nbw_ring.specs.declared.view.View.TheVariants.{Writer, Reader, Spent}
 use Rattle.nbw_ring.specs.Numbers.{most_number, newest_number, limit, place, message_at, IsMessageOf, odd_part}
 use Rattle.nbw_ring.specs.Rule.{IsSettled, ReaderKnows, Knows, Kept, first_writing, first_view}
 use Rattle.nbw_ring.specs.Steps.{Sat, with_open, with_word, with_new_message, with_first, with_loaded, attempt_of}
-use Rattle.nbw_ring.specs.Steps.{with_last, new_reading, reading_settlement, with_settled, as_writer, as_reader}
+use Rattle.nbw_ring.specs.Steps.{with_last, new_reading, reading_settlement, with_settled, writer_stepped, as_writer, as_reader}
 use Rattle.nbw_ring.specs.Steps.{lent_view, joined_view, Follows, Confirms, tells_begin, tells_put, tells_end}
 use Rattle.nbw_ring.specs.Steps.{tells_first_load, tells_word_load, tells_last_load, tells_settle_load}
 use Rattle.nbw_ring.proofs.Places.{odd_part_small, place_inside, places_apart, words_apart, message-before}
@@ -205,7 +205,8 @@ module _ (shape : Shape) where
       → length (message_at messages (y.first / 2)) ≡ shape.width
       → (b : Bool) → nat_lt c (limit shape (y.first / 2)) ≡ b
       → ReaderKnows shape c messages
-      (cond b (record y { seen = c; floor = y.first / 2; got = y.got ++ attempt_of y ∷ [] }) (record y { seen = c }))
+      (cond b (record y { seen = c; floor = y.first / 2; got = y.got ++ attempt_of y ∷ []; steps = y.steps + 1 })
+      (record y { seen = c; steps = y.steps + 1 }))
   knows_last c messages y known whole there long true below =
       let number : ℕ = y.first / 2 in
       let m : List ℕ = message_at messages number in
@@ -255,8 +256,9 @@ module _ (shape : Shape) where
         tt,
         unmoved s r 0 id me.1 (Reader (with_last c y))
             (subst (λ (z : Shape). ReaderKnows shape c r.writing.messages
-            (cond (nat_lt c (limit z number)) (record y { seen = c; floor = number; got = y.got ++ attempt_of y ∷ [] })
-            (record y { seen = c })))
+            (cond (nat_lt c (limit z number))
+            (record y { seen = c; floor = number; got = y.got ++ attempt_of y ∷ []; steps = y.steps + 1 })
+            (record y { seen = c; steps = y.steps + 1 })))
             (sym known.shaped)
             (knows_last c r.writing.messages y known whole there long (nat_lt c (limit shape number)) refl))
             (writer_beside s r id me.0 (Reader (with_last c y)) y is at),
@@ -534,12 +536,30 @@ module _ (shape : Shape) where
       let known = writer_at s r id me.0 w is at in
       let counted : c + 2 ≡ 2 * length w.messages + odd_part w.is_open =
       r.counted ∙ ap (λ (z : Writing). 2 * length z.messages + odd_part z.is_open) (sym known.1) in (
-        me.0,
+        Writer (writer_stepped w),
         keeps,
         tt,
-        unmoved s r 0 id me.1 me.0 (r.each_seat id me.0 at)
-            (ap (λ l. get_elem? l r.writer) (set_again s.views id me.0 at) ∙ r.present),
-        (refl, subst (Confirms c) (sym is) (counted, known.2)),
+        subst (λ (ws : List ℕ).
+            Rule record { words = ws; homes = s.homes; views = set s.views id (Writer (writer_stepped w)) })
+            (sym (set-get_or s.words 0 0)) record {
+              writer = r.writer;
+              writing = writer_stepped r.writing;
+              present = writer_there s r.writer id me.0 (writer_stepped w) (writer_stepped r.writing) known.0
+                  (ap writer_stepped known.1) at;
+              shaped = r.shaped;
+              buffered = r.buffered;
+              long = r.long;
+              counted = r.counted;
+              few = r.few;
+              wide = r.wide;
+              stored = r.stored;
+              putting = r.putting;
+              each_seat = seats_stay (Knows shape c r.writer (writer_stepped r.writing)) s.views id
+                  (Writer (writer_stepped w)) (known.0, ap writer_stepped known.1, known.2)
+                  (λ j d other there. others_stay c c r.writer r.writing (writer_stepped r.writing) j
+                  (λ e. other (e ∙ sym known.0)) (λ x k. k) d (r.each_seat j d there));
+            },
+        ((λ k. (as_writer writer_stepped (sym is k), me.1)), subst (Confirms c) (sym is) (counted, known.2)),
       )
 
   -- a new ring

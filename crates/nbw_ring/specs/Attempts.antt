@@ -1,5 +1,5 @@
 -- What an attempt to read answers.
-use Rattle.std.specs.Prelude.{◌≡◌, ℕ, ◌+◌, ◌<◌, ◌≤◌, List, [], ◌∷◌, ◌++◌, length}
+use Rattle.std.specs.Prelude.{◌≡◌, ℕ, ◌+◌, ◌*◌, ◌/◌, ◌<◌, ◌≤◌, List, [], ◌∷◌, ◌++◌, length, nat_lt, if◌then◌else◌}
 use Rattle.nbw_ring.specs.declared.reader.Try.{Try}
 use Rattle.nbw_ring.specs.declared.reader.Try.TheVariants.{Got, Overrun}
 use Rattle.nbw_ring.specs.Numbers.{limit}
@@ -40,3 +40,18 @@ OnGot old new (Overrun number begin end) = Unit {0}
 abbrev pub OnOverrun : ReaderState → ReaderState → Try → Type 0
 OnOverrun old new (Got number) = Unit {0}
 OnOverrun old new (Overrun number begin end) = GetsNothing old new number begin end
+
+-- the steps of the newest attempt: a load for each word and two of the counter, but one alone where the first load shows
+-- that it is too late
+abbrev pub attempt_steps : ReaderState → ℕ
+attempt_steps r = if nat_lt r.first (limit r.ring.shape (r.first / 2)) then r.ring.shape.width + 2 else 1
+
+-- the steps of attempts that were repeated: `late` of them ended with their first load, which comes with one buffer
+-- alone, and the others, one at least, loaded all words
+pub record RepeatSteps (old new : ReaderState) : Type 0 where
+  pub late : ℕ
+  pub full : ℕ
+  pub some : 0 < full
+  pub none_late : 1 < new.ring.shape.buffers → late ≡ 0
+  pub tries : new.tries ≡ old.tries + (late + full)
+  pub steps : new.steps ≡ old.steps + (late + full * (new.ring.shape.width + 2))

@@ -61,7 +61,7 @@ pub record Kept (shape : Shape) (s : State (Unit {0}) View) : Type 0 where
 -- what the writer of a new ring knows: the message of zeros is there
 abbrev pub first_writing : Shape → Writing
 first_writing shape =
-    record { shape = shape; messages = replicate shape.width 0 ∷ []; is_open = false; put = []; joined = [] }
+    record { shape = shape; messages = replicate shape.width 0 ∷ []; is_open = false; put = []; joined = []; steps = 0 }
 
 abbrev pub first_view : Shape → View
 first_view shape = Writer (first_writing shape)

@@ -15,11 +15,11 @@ no_shape = record { width = 0; buffers = 0 }
 
 -- what is read of a value that is no writer
 abbrev pub no_writing : Writing
-no_writing = record { shape = no_shape; messages = []; is_open = false; put = []; joined = [] }
+no_writing = record { shape = no_shape; messages = []; is_open = false; put = []; joined = []; steps = 0 }
 
 -- what is read of a value that is no reader
 abbrev pub no_reading : Reading
-no_reading = record { shape = no_shape; floor = 0; seen = 0; first = 0; tries = 0; words = []; got = [] }
+no_reading = record { shape = no_shape; floor = 0; seen = 0; first = 0; tries = 0; words = []; got = []; steps = 0 }
 
 -- what the writer knows
 abbrev pub writing_of : View → Writing
@@ -54,6 +54,7 @@ writer_state seat = let w : Writing = writing_of seat.me.0 in record {
   ring = ring_of seat.table_id w.shape;
   messages = w.messages;
   joined = w.joined;
+  steps = w.steps;
 }
 
 abbrev pub reader_state : RingSeat → ℕ → ReaderState
@@ -64,6 +65,7 @@ reader_state seat spare = let v : Reading = reading_of seat.me.0 in record {
   first = v.first;
   tries = v.tries;
   got = v.got;
+  steps = v.steps;
   spare = spare;
 }
 

@@ -15,25 +15,36 @@ use Rattle.nbw_ring.specs.Rule.{IsSettled}
 abbrev pub Sat : Type 0
 Sat = Me (Unit {0}) View
 
+-- Each step is counted.
+
+-- a step that does nothing else
+abbrev pub writer_stepped : Writing → Writing
+writer_stepped w = record w { steps = w.steps + 1 }
+
+abbrev pub reader_stepped : Reading → Reading
+reader_stepped v = record v { steps = v.steps + 1 }
+
 -- 1 begin: a write is open, with no words
 abbrev pub with_open : Writing → Writing
-with_open w = record w { is_open = true; put = [] }
+with_open w = record w { is_open = true; put = []; steps = w.steps + 1 }
 
 -- 2 put: a word more
 abbrev pub with_word : ℕ → Writing → Writing
-with_word x w = record w { put = w.put ++ x ∷ [] }
+with_word x w = record w { put = w.put ++ x ∷ []; steps = w.steps + 1 }
 
 -- 3 end: the words become a message
 abbrev pub with_new_message : Writing → Writing
-with_new_message w = record w { messages = w.messages ++ w.put ∷ []; is_open = false; put = [] }
+with_new_message w =
+    record w { messages = w.messages ++ w.put ∷ []; is_open = false; put = []; steps = w.steps + 1 }
 
 -- 4 first load: an attempt begins
 abbrev pub with_first : ℕ → Reading → Reading
-with_first counter v = record v { seen = counter; first = counter; tries = v.tries + 1; words = [] }
+with_first counter v =
+    record v { seen = counter; first = counter; tries = v.tries + 1; words = []; steps = v.steps + 1 }
 
 -- 5 word load
 abbrev pub with_loaded : ℕ → Reading → Reading
-with_loaded x v = record v { words = v.words ++ x ∷ [] }
+with_loaded x v = record v { words = v.words ++ x ∷ []; steps = v.steps + 1 }
 
 -- the message of the newest attempt, as it was loaded
 abbrev pub attempt_of : Reading → Message
@@ -43,8 +54,8 @@ attempt_of v = record { number = v.first / 2; words = v.words }
 abbrev pub with_last : ℕ → Reading → Reading
 with_last counter v =
     if nat_lt counter (limit v.shape (v.first / 2))
-    then record v { seen = counter; floor = v.first / 2; got = v.got ++ attempt_of v ∷ [] }
-    else record v { seen = counter }
+    then record v { seen = counter; floor = v.first / 2; got = v.got ++ attempt_of v ∷ []; steps = v.steps + 1 }
+    else record v { seen = counter; steps = v.steps + 1 }
 
 -- a new reader, whose floor is the writer's number
 abbrev pub new_reading : Writing → Reading
@@ -56,24 +67,25 @@ new_reading w = record {
   tries = 0;
   words = [];
   got = [];
+  steps = 0;
 }
 
 -- what is settled of a reader
 abbrev pub reading_settlement : Reading → Settlement
 reading_settlement v = record { pairs = v.got; seen = v.seen; tries = v.tries }
 
--- the writer once a reader is settled
+-- the writer once a reader is joined, which is a load of a word
 abbrev pub with_settled : Reading → Writing → Writing
-with_settled v w = record w { joined = w.joined ++ reading_settlement v ∷ [] }
+with_settled v w = record w { joined = w.joined ++ reading_settlement v ∷ []; steps = w.steps + 1 }
 
--- a change of what the writer knows, and one of what a reader knows
+-- a change of what the writer knows, and one of what a reader knows: a step of another is counted all the same
 abbrev pub as_writer : (Writing → Writing) → View → View
 as_writer f (Writer w) = Writer (f w)
-as_writer f (Reader v) = Reader v
+as_writer f (Reader v) = Reader (reader_stepped v)
 as_writer f Spent = Spent
 
 abbrev pub as_reader : (Reading → Reading) → View → View
-as_reader f (Writer w) = Writer w
+as_reader f (Writer w) = Writer (writer_stepped w)
 as_reader f (Reader v) = Reader (f v)
 as_reader f Spent = Spent
 
@@ -86,9 +98,9 @@ lent_view Spent = Spent
 -- what the writer knows once a reader is joined
 abbrev pub joined_view : View → View → View
 joined_view (Writer w) (Reader v) = Writer (with_settled v w)
-joined_view (Writer w) (Writer u) = Writer w
-joined_view (Writer w) Spent = Writer w
-joined_view (Reader v) other = Reader v
+joined_view (Writer w) (Writer u) = Writer (writer_stepped w)
+joined_view (Writer w) Spent = Writer (writer_stepped w)
+joined_view (Reader v) other = Reader (reader_stepped v)
 joined_view Spent other = Spent
 
 -- a load of the counter is not below what the reader knows of it, and twice a number near it fits a word
@@ -137,4 +149,4 @@ tells_last_load st m found m' = (m' ≡ (as_reader (with_last found) m.0, m.1)) 
 
 -- the counter is loaded once a reader was joined
 abbrev pub tells_settle_load : Step (Unit {0}) → Sat → ℕ → Sat → Type 0
-tells_settle_load st m found m' = (m' ≡ m) × Confirms found m.0
+tells_settle_load st m found m' = (m' ≡ (as_writer writer_stepped m.0, m.1)) × Confirms found m.0

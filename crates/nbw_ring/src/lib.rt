@@ -23,8 +23,10 @@
 //! writer.settle_one(reader)
 //! ```
 //!
-//! A write and an attempt to read cost a step for each word of a message, and two more. Memory is taken
-//! by [`Ring::new`], by lending, for as many messages as are asked for, and by [`Writer::settle`].
+//! A write and an attempt to read cost a step for each word of a message, and two more. The steps are
+//! counted in what a writer and a reader stand for, but for loads that need no seat at the words, or
+//! make one, as lending does. Memory is taken by [`Ring::new`], by lending, for as many messages as are
+//! asked for, and by [`Writer::settle`].
 //!
 //! The crate never takes a lock, and only [`Reader::read`] may wait: it repeats attempts, as
 //! [`Ring::read`] does, which is the same call. The crate doesn't say that a reader which repeats

@@ -1,6 +1,6 @@
 //! The one who reads a ring.
 ghost use Rattle.std.specs.Prelude.{◌≡◌, ◌+◌, ◌-◌, ◌*◌, ◌/◌, ◌<◌, ◌≤◌, length, slice_get, IsSomeAnd};
-ghost use Rattle.nbw_ring.specs.Attempts.{number_of, Gets, OnGot, OnOverrun};
+ghost use Rattle.nbw_ring.specs.Attempts.{number_of, attempt_steps, RepeatSteps, Gets, OnGot, OnOverrun};
 
 use crate::plays::{FirstLoad, LastLoad};
 use crate::shared::RingWords;
@@ -76,6 +76,7 @@ impl Reader {
         requires room { 1 ≤ self.old.spare }
         ensures ring { self.new.ring ≡ self.old.ring }
         ensures tries { self.new.tries ≡ self.old.tries + 1 }
+        ensures steps { self.new.steps ≡ self.old.steps + attempt_steps self.new }
         ensures later { self.old.seen ≤ self.new.first }
         ensures forward { self.new.first ≤ self.new.seen }
         ensures number { number_of result ≡ self.new.first / 2 }
@@ -111,6 +112,7 @@ impl Reader {
         requires room { 1 ≤ self.old.spare }
         ensures ring { self.new.ring ≡ self.old.ring }
         ensures tries { self.old.tries < self.new.tries }
+        ensures steps { RepeatSteps self.old self.new }
         ensures later { self.old.seen ≤ self.new.first }
         ensures forward { self.new.first ≤ self.new.seen }
         ensures number { result ≡ self.new.first / 2 }

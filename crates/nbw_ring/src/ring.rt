@@ -3,7 +3,7 @@ ghost use Rattle.std.specs.Prelude.{◌≡◌, ◌+◌, ◌*◌, ◌/◌, ◌<�
 ghost use Rattle.std.specs.Prelude.{slice_get};
 ghost use Rattle.nbw_ring.specs.Numbers.{most_number, newest_number, IsMessageOf};
 ghost use Rattle.nbw_ring.specs.States.{new_writer, new_reader, with_message, with_joined};
-ghost use Rattle.nbw_ring.specs.Attempts.{number_of, Gets, OnGot, OnOverrun};
+ghost use Rattle.nbw_ring.specs.Attempts.{number_of, attempt_steps, RepeatSteps, Gets, OnGot, OnOverrun};
 
 use crate::reader::{Reader, Try};
 use crate::receipts::{Pair, Receipts};
@@ -93,6 +93,7 @@ impl Ring {
         requires room { 1 ≤ reader.old.spare }
         ensures ring { reader.new.ring ≡ reader.old.ring }
         ensures tries { reader.new.tries ≡ reader.old.tries + 1 }
+        ensures steps { reader.new.steps ≡ reader.old.steps + attempt_steps reader.new }
         ensures later { reader.old.seen ≤ reader.new.first }
         ensures forward { reader.new.first ≤ reader.new.seen }
         ensures number { number_of result ≡ reader.new.first / 2 }
@@ -109,6 +110,7 @@ impl Ring {
         requires room { 1 ≤ reader.old.spare }
         ensures ring { reader.new.ring ≡ reader.old.ring }
         ensures tries { reader.old.tries < reader.new.tries }
+        ensures steps { RepeatSteps reader.old reader.new }
         ensures later { reader.old.seen ≤ reader.new.first }
         ensures forward { reader.new.first ≤ reader.new.seen }
         ensures number { result ≡ reader.new.first / 2 }

@@ -4,7 +4,7 @@ ghost use Rattle.nbw_ring.specs.declared.view.View.TheVariants.{Writer, Reader};
 ghost use Rattle.nbw_ring.specs.Numbers.{place, newest_number, IsMessageOf};
 ghost use Rattle.nbw_ring.specs.Seats.{writing_of, reading_of, IsWriterSeat, IsReaderSeat, IsShape, IsTableOf};
 ghost use Rattle.nbw_ring.specs.Seats.{IsWriting, IsAttempting};
-ghost use Rattle.nbw_ring.specs.Steps.{with_settled};
+ghost use Rattle.nbw_ring.specs.Steps.{with_settled, writer_stepped};
 
 use crate::plays::{Put, RingRule, Settle, SettleLoad, WordLoad};
 use crate::view::{Shape, View};
@@ -44,7 +44,8 @@ pub(crate) fn put_words<G: Gate>(
     requires open { IsWriting (writing_of seat.old.me.0) number }
     requires width { length words.now ≡ shape.width }
     ensures table { seat.new.table_id ≡ seat.old.table_id }
-    ensures seat { seat.new.me ≡ (Writer (record (writing_of seat.old.me.0) { put = words.now }), []) }
+    ensures seat { let old = writing_of seat.old.me.0 in
+        seat.new.me ≡ (Writer (record old { put = words.now; steps = old.steps + length words.now }), []) }
 {
     let start = start_of(shape, number);
     for k in 0..words.len() {
@@ -68,8 +69,8 @@ pub(crate) fn load_words<G: Gate>(
     requires begun { IsAttempting (reading_of seat.old.me.0) number }
     requires room { vec_len words.old + shape.width ≤ vec_capacity words.old }
     ensures table { seat.new.table_id ≡ seat.old.table_id }
-    ensures seat { let words = (reading_of seat.new.me.0).words in
-        seat.new.me ≡ (Reader (record (reading_of seat.old.me.0) { words = words }), []) }
+    ensures seat { let old = reading_of seat.old.me.0 in let words = (reading_of seat.new.me.0).words in
+        seat.new.me ≡ (Reader (record old { words = words; steps = old.steps + shape.width }), []) }
     ensures loaded { words.new.items ≡ words.old.items ++ (reading_of seat.new.me.0).words }
     ensures wide { length (reading_of seat.new.me.0).words ≡ shape.width }
     ensures more { vec_len words.new ≡ vec_len words.old + shape.width }
@@ -93,7 +94,8 @@ pub(crate) fn join_reader(cells: &Cells, writer: &mut Seat, reader: Seat)
     requires closed { (writing_of writer.old.me.0).is_open ≡ false }
     requires reads { IsReaderSeat reader }
     ensures table { writer.new.table_id ≡ writer.old.table_id }
-    ensures seat { writer.new.me ≡ (Writer (with_settled (reading_of reader.me.0) (writing_of writer.old.me.0)), []) }
+    ensures seat { let both = with_settled (reading_of reader.me.0) (writing_of writer.old.me.0) in
+        writer.new.me ≡ (Writer (writer_stepped both), []) }
     ensures whole { let written = (writing_of writer.old.me.0).messages in
         All (IsMessageOf written) (reading_of reader.me.0).got }
     ensures seen { let newest = newest_number (writing_of writer.old.me.0).messages in

@@ -35,6 +35,8 @@ pub struct Writing {
     pub put: LinkedList<u64>,
     /// What was settled, reader after reader.
     pub joined: LinkedList<Settlement>,
+    /// How many steps on shared words it made.
+    pub steps: u64,
 }
 
 /// What a reader knows.
@@ -52,6 +54,8 @@ pub struct Reading {
     pub words: LinkedList<u64>,
     /// The pairs that it got.
     pub got: LinkedList<Message>,
+    /// How many steps on shared words it made.
+    pub steps: u64,
 }
 
 /// What one thread knows.

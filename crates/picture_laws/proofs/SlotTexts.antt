@@ -14,7 +14,6 @@ use Rattle.ttp_world.specs.declared.keep.Back.TheVariants as back
 use Rattle.ttp_world.specs.declared.keep.Keep.{Keep}
 use Rattle.ttp_world.specs.declared.keep.Keep.TheVariants as keep
 use Rattle.line_reader.specs.TraceLines.{keep_text, back_text}
-use Rattle.line_text.proofs.LabelTexts.{spelled}
 use Rattle.whole_trace.specs.Whole.{WholeTrace}
 use Rattle.shown_slot.specs.Trace.{first_text}
 use Rattle.picture_text.specs.Picture.{ended}
@@ -22,6 +21,7 @@ use Rattle.picture_laws.specs.Titles.{texts_of_nodes, texts_of_hosts, texts_of_s
 use Rattle.picture_laws.proofs.LineStarts.{of-other}
 use Rattle.picture_laws.proofs.SlotTitles.{filter-flat, one-alone, left_out, nodes-own, nodes-other, hosts-own, hosts-other}
 use Rattle.picture_laws.proofs.TextLines.{IsTextOf}
+use Rattle.ttp_world.proofs.SmallTests.{spelled}
 
 -- Without their line feeds.
 

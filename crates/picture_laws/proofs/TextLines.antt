@@ -12,7 +12,6 @@ use Rattle.ttp_base.specs.Text.{Lines, newline, lines_of}
 use Rattle.ttp_world.specs.declared.keep.Back.{Back}
 use Rattle.ttp_world.specs.declared.keep.Keep.{Keep}
 use Rattle.ttp_world.specs.declared.node.Ack.{Ack}
-use Rattle.line_text.proofs.LabelTexts.{spelled}
 use Rattle.line_text.proofs.Options.{guarded, some_same}
 use Rattle.line_reader.specs.declared.trace_line.TraceLine.{TraceLine}
 use Rattle.line_reader.specs.declared.trace_line.TraceLine.TheVariants as line
@@ -37,6 +36,7 @@ use Rattle.whole_trace.proofs.SlotCounts.{slot_count}
 use Rattle.shown_slot.specs.Trace.{no_node, head_text, first_text, node_text, host_text}
 use Rattle.picture_text.specs.Picture.{ended, no_slot, slot_at}
 use Rattle.picture_laws.specs.Titles.{texts_of_hosts, texts_of_slot, texts_of_trace}
+use Rattle.ttp_world.proofs.SmallTests.{spelled}
 
 -- A line.
 

@@ -22,6 +22,3 @@ hex-two v = hex-next 1 4 v (hex-next 0 0 (v / 16) refl)
 
 pub hex_four : (v : ℕ) → hex 4 (v % 65536) ≡ hex 4 v
 hex_four v = hex-next 3 12 v (hex-next 2 8 (v / 16) (hex-two (v / 16 / 16)))
-
-pub hex_six : (v : ℕ) → hex 6 (v % 16777216) ≡ hex 6 v
-hex_six v = hex-next 5 20 v (hex-next 4 16 (v / 16) (hex_four (v / 16 / 16)))

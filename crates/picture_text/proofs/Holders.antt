@@ -1,6 +1,6 @@
 -- Of the numbers below one more number those that pass a test.
-use Rattle.std.proofs.Common.{◌≡◌, ℕ, ◌+◌, Bool, true, false, cond, List, [], ◌∷◌, ◌++◌, length, sym, ap, ◌∙◌}
-use Rattle.std.proofs.Common.{◌<◌, length-append, decimal, codes, get_or}
+use Rattle.std.proofs.Common.{◌≡◌, ℕ, ◌+◌, Bool, true, cond, List, [], ◌∷◌, ◌++◌, length, sym, ap, ◌∙◌}
+use Rattle.std.proofs.Common.{◌<◌, decimal, codes, get_or}
 use Rattle.std.specs.Prelude.{filter}
 use Rattle.std.proofs.lemmas.List.{append-nil, get_or_default}
 use Rattle.std.proofs.lemmas.List.Concat.{flat_map-append}
@@ -11,23 +11,10 @@ use Rattle.whole_trace.specs.declared.shown.NodeShown.{NodeShown}
 use Rattle.whole_trace.specs.Whole.{SlotLines}
 use Rattle.shown_slot.specs.Trace.{no_node, node_at}
 use Rattle.picture_text.specs.Cells.{each_node}
+use Rattle.ttp_world.proofs.ListFacts.{one-more as passes}
 
 filter-next : (p : ℕ → Bool) (n : ℕ) → filter p (below (n + 1)) ≡ filter p (below n) ++ cond (p n) (n ∷ []) []
 filter-next p n = ap (filter p) (below-next n) ∙ filter-append p (below n) (n ∷ [])
-
--- it passes
-pub passes : (p : ℕ → Bool) (n : ℕ) → p n ≡ true → filter p (below (n + 1)) ≡ filter p (below n) ++ n ∷ []
-passes p n good = filter-next p n ∙ ap (λ (b : Bool). filter p (below n) ++ cond b (n ∷ []) []) good
-
--- it does not
-pub fails : (p : ℕ → Bool) (n : ℕ) → p n ≡ false → filter p (below (n + 1)) ≡ filter p (below n)
-fails p n bad =
-    filter-next p n ∙ ap (λ (b : Bool). filter p (below n) ++ cond b (n ∷ []) []) bad ∙ append-nil (filter p (below n))
-
--- how many they are
-pub count-passes : (p : ℕ → Bool) (n : ℕ) → p n ≡ true
-    → length (filter p (below (n + 1))) ≡ length (filter p (below n)) + 1
-count-passes p n good = ap length (passes p n good) ∙ length-append (filter p (below n)) (n ∷ [])
 
 -- their numbers as a text
 pub text-passes : (p : ℕ → Bool) (n : ℕ) → p n ≡ true

@@ -27,7 +27,7 @@ all_pass p (k ∷ ks) none = pass_first (p k) (list_all p ks) k (find (λ j. not
 
 -- The rule.
 
-within_bound : (bound z : ℤ) → is_within_bound bound z ≡ true → IsUpTo bound z
+pub within_bound : (bound z : ℤ) → is_within_bound bound z ≡ true → IsUpTo bound z
 within_bound bound z h = (grind (arith, ints), grind (arith, ints))
 
 broken_by_drifts : (b : Bool) (errors : Option ℕ) → cond b errors (Some 0) ≡ None → b ≡ true

@@ -22,7 +22,8 @@ use Rattle.ttp_world.specs.Script.{jump_of}
 use Rattle.ttp_world.specs.World.{jump_taken, node_after}
 use Rattle.ttp_world.proofs.Pasts.{elim-cond}
 use Rattle.precision.specs.Together.{clock_at}
-use Rattle.precision.proofs.Rounds.{plus_none, correction}
+use Rattle.precision.proofs.Rounds.{correction}
+use Rattle.ttp_world.proofs.SmallTests.{not_zero as suc_not_zero, plus_none}
 
 -- Entries of active nodes: those that begin or continue a stint.
 
@@ -95,9 +96,6 @@ begun_round_first place e h = ap (λ b. (place.slot == 0) || b) h ∙ or-true (p
 
 pub first_slot_first : (place : Place) (e : Entry) → place.slot ≡ 0 → begins_round place e ≡ true
 first_slot_first place e h = ap (λ n. (n == 0) || begins_stint e) h
-
-suc_not_zero : (m : ℕ) → (suc m == 0) ≡ false
-suc_not_zero m = grind arith
 
 pub later_slot_later : (place : Place) (e : Entry) (m : ℕ) → place.slot ≡ suc m → continues_stint e ≡ true
     → begins_round place e ≡ false

@@ -13,6 +13,8 @@ use Rattle.ttp_world.specs.Clock.{fta}
 use Rattle.precision.specs.Spread.{spread, spread_rejoining}
 use Rattle.precision.proofs.Averages.{IsUpTo, Locate, LocateNewest, AreNear, length-located, fta-few, corrected_apart}
 use Rattle.precision.proofs.Averages.{corrected_near}
+use Rattle.fta_sync.proofs.Sorted.{le_trans as over_of}
+use Rattle.ttp_world.proofs.SmallTests.{plus_none}
 
 -- How far a clock drifts in some slots.
 
@@ -74,7 +76,7 @@ pub product_twice : (d : ℤ) (n : ℕ) → pos 0 ≤ℤ d → pos 0 ≤ℤ (d *
 product_twice (pos a) n up = omega (arith, ints)
 product_twice (negsuc a) n up = absurd (omega (arith, ints, up))
 
-product_once : (d : ℤ) (m : ℕ) → pos 0 ≤ℤ d → d ≤ℤ (d *ℤ pos (suc m))
+pub product_once : (d : ℤ) (m : ℕ) → pos 0 ≤ℤ d → d ≤ℤ (d *ℤ pos (suc m))
 product_once (pos a) m up = omega (arith, ints)
 product_once (negsuc a) m up = absurd (omega (arith, ints, up))
 
@@ -172,9 +174,6 @@ average_over e n up = omega (arith, ints, up)
 round_up : (list : Medl) → pos 0 ≤ℤ list.drift → pos 0 ≤ℤ drift_in list (length list.slots)
 round_up list up = product_up list.drift (length list.slots) up
 
-over_of : (a b c : ℤ) → a ≤ℤ b → b ≤ℤ c → a ≤ℤ c
-over_of a b c h g = omega (arith, ints, h, g)
-
 begun_width : (list : Medl) (may_grow : Bool) → pos 0 ≤ℤ list.drift → pos 0 ≤ℤ list.error
     → (list.error +ℤ list.error) ≤ℤ entry_width list may_grow
 begun_width list true up some = entry_over list.error (drift_in list (length list.slots)) (round_up list up) some
@@ -233,7 +232,7 @@ LocateNewest-later w d v b c (n ∷ ds) [] h is p = absurd p
 LocateNewest-later w d v b c (n ∷ ds) (x ∷ xs) h is p =
     (located_later w d v b c n x p.0 h is, LocateNewest-later w d v b c ds xs h is p.1)
 
-wider_of : (w v z : ℤ) → w ≤ℤ v → IsUpTo w z → IsUpTo v z
+pub wider_of : (w v z : ℤ) → w ≤ℤ v → IsUpTo w z → IsUpTo v z
 wider_of w v z wide p = (omega (arith, ints, wide, p.0), omega (arith, ints, wide, p.1))
 
 -- the notes of the slot, and those that there were
@@ -245,7 +244,7 @@ LocateNewest-append w v b (d ∷ ds) [] es ys wide p q = absurd p
 LocateNewest-append w v b (d ∷ ds) (x ∷ xs) es ys wide p q =
     (wider_of w v ((b +ℤ d) -ℤ x) wide p.0, LocateNewest-append w v b ds xs es ys wide p.1 q)
 
-add_drift : (e p q d : ℤ) → q ≡ p +ℤ d → e +ℤ q ≡ (e +ℤ p) +ℤ d
+pub add_drift : (e p q d : ℤ) → q ≡ p +ℤ d → e +ℤ q ≡ (e +ℤ p) +ℤ d
 add_drift e p q d is = omega (arith, ints, is)
 
 add_below : (e p q : ℤ) → p ≤ℤ q → (e +ℤ p) ≤ℤ (e +ℤ q)
@@ -467,9 +466,6 @@ held_grown list before group older l t q p width clock seen notes carried now up
 
 -- The correction.
 
-pub plus_none : (z : ℤ) → z +ℤ pos 0 ≡ z
-plus_none z = omega (arith, ints)
-
 -- what the end of a slot corrects: the average of the notes in the last slot of a round
 abbrev pub correction : Medl → ℕ → List ℤ → ℤ
 correction list m notes = cond (suc m == length list.slots) (fta notes) (pos 0)
@@ -486,10 +482,10 @@ averaged_bound : (w v e n b : ℤ) → w ≡ (e +ℤ n) → b ≡ (n +ℤ n) +�
     → v ≤ℤ b
 averaged_bound w v e n b is was h = omega (arith, ints, is, was, h)
 
-few_or_many : (n : ℕ) → (n < 4) ⊎ (4 ≤ n)
+pub few_or_many : (n : ℕ) → (n < 4) ⊎ (4 ≤ n)
 few_or_many n = grind arith
 
-early_or_late : (t n : ℕ) → (t ≤ n) ⊎ (n < t)
+pub early_or_late : (t n : ℕ) → (t ≤ n) ⊎ (n < t)
 early_or_late t n = grind arith
 
 -- both noted enough

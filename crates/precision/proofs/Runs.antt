@@ -31,10 +31,12 @@ use Rattle.precision.proofs.ClockBounds.{drift_within, error_within}
 use Rattle.precision.proofs.Rounds.{Held, Slot, IsSame, Comes, WasThere, IsNew, held_part, held_begun, held_next}
 use Rattle.precision.proofs.Rounds.{held_grown, held_corrected, frame_come, correction, corrected_last}
 use Rattle.precision.proofs.Rounds.{corrected_inside}
-use Rattle.precision.proofs.Rounds.{drift_in, drifted, entry_width, product_twice, plus_none, same_apart}
+use Rattle.precision.proofs.Rounds.{drift_in, drifted, entry_width, product_twice, same_apart}
 use Rattle.precision.proofs.Rounds.{settled_within, company_within}
 use Rattle.precision.proofs.Entries.{begun_active, continued_active, place_of-active, notes_of-active, place_continued}
 use Rattle.precision.proofs.Entries.{begins_no_stint, notes_next, begun_round_first, offset_corrected, clock_at-still}
+use Rattle.ttp_world.proofs.MemberSets.{or-false as or_none}
+use Rattle.ttp_world.proofs.SmallTests.{not_zero as suc_some, plus_none}
 
 -- node k's clock after a history, and its notes of the newest slot's round
 abbrev pub clock_after : Medl → Script → History → ℕ → ℤ
@@ -120,9 +122,6 @@ next_inside list place inside =
     less_of other =
         let apart : suc place.slot ≢ length list.slots = eqb-false (suc place.slot) (length list.slots) other in
         omega (arith, inside, apart)
-
-suc_some : (m : ℕ) → (suc m == 0) ≡ false
-suc_some m = grind arith
 
 before_first : (list : Medl) (history : History) (place : Place) (k : ℕ) → place.slot ≡ 0
     → notes_before list history place k ≡ []
@@ -305,9 +304,6 @@ began_kept list script may_grow group l row history first on began =
 
 same_test : (m n : ℕ) → m ≡ n → (m == n) ≡ true
 same_test m n is = grind arith
-
-or_none : (b : Bool) → (b || false) ≡ b
-or_none b = grind arith
 
 -- a node that goes on is as it was
 goes_same : (list : Medl) (script : Script) (before : ℕ → Bool) (row : List Entry) (history : History) (place : Place)

@@ -17,7 +17,7 @@ use Rattle.fault_plan.specs.Plan.{Plan, sender, enters}
 use Rattle.fault_plan.specs.Fates.{Fate, Sound, fate_of, is_sound_after, is_good_slot, is_first_slot}
 use Rattle.fault_plan.specs.Ledger.{with_slot, ledger_of}
 use Rattle.fault_plan.specs.Places.{planned_place}
-use Rattle.fault_plan.proofs.FateSteps.{sound-from}
+use Rattle.fault_plan.proofs.FateSteps.{sound-from, sound-fate}
 use Rattle.fault_plan.proofs.Returns.{entry-good, none-enters}
 use Rattle.fault_plan.proofs.SlotKinds.{sender-stays}
 use Rattle.safety_laws.specs.NodeSlot.{entry_made, next_past}
@@ -33,7 +33,7 @@ use Rattle.safety_steps.proofs.Arrivals.{sound-owner}
 use Rattle.safety_steps.proofs.Begins.{starter-begun, joiner-begun, on-begun}
 use Rattle.safety_steps.proofs.JumpedNodes.{jumped-wrong}
 use Rattle.safety_steps.proofs.OwnTurns.{sound-sends}
-use Rattle.safety_steps.proofs.PlanSteps.{ledger-other, sound-fate}
+use Rattle.safety_steps.proofs.PlanSteps.{ledger-other}
 use Rattle.safety_steps.proofs.Receivers.{sound-judge, judges-good}
 use Rattle.safety_steps.proofs.Steps.{node-next}
 use Rattle.safety_steps.proofs.Turns.{slot_of}

@@ -12,20 +12,21 @@ use Rattle.ttp_world.specs.Legal.{IsLegal}
 use Rattle.ttp_world.specs.World.{Numbers, node_past, world}
 use Rattle.ttp_world.proofs.LegalShapes.{legal-older}
 use Rattle.ttp_world.proofs.Worlds.{length-world}
-use Rattle.precision.specs.Together.{TellsOf}
 use Rattle.fault_plan.specs.Plan.{Plan, sender, enters}
 use Rattle.fault_plan.specs.Fates.{Fate, is_sound_after, is_good_slot}
 use Rattle.fault_plan.specs.Places.{planned_place}
 use Rattle.fault_plan.proofs.Persists.{sound-earlier}
 use Rattle.fault_plan.proofs.Returns.{none-enters}
-use Rattle.safety_clocks.specs.NotedByPlan.{IsSoundIn, StartedByPlan, NotesNothing, NotedInSlot}
+use Rattle.safety_clocks.specs.NotedByPlan.{IsSoundIn, StartedByPlan, NotedInSlot}
 use Rattle.safety_steps.specs.ByFate.{IsSoundAt, IsByFate}
 use Rattle.safety_steps.specs.Run.{IsBegun}
-use Rattle.safety_steps.proofs.PlanSteps.{sound-fate}
 use Rattle.safety.specs.ByPlan.{IsByPlan}
 use Rattle.safety.specs.SameFrames.{begins_at_zero, StandsAlikeSince}
 use Rattle.safety.proofs.Accepted.{IsAmong}
 use Rattle.safety.proofs.Together.{KeepsClocks, run-by_plan}
+use Rattle.fault_plan.proofs.FateSteps.{sound-fate}
+use Rattle.precision.proofs.Frames.{told_goes as tells-on}
+use Rattle.safety_clocks.proofs.RoundNotes.{goes-silent as nothing-on}
 
 -- One entry.
 
@@ -36,16 +37,6 @@ begun-zero list script start plan row history k started sound = elim (cases_eq k
   | inl same ↦ ap begins_at_zero (ap (entry_of row) same ∙ started.starter)
   | inr other ↦ ap begins_at_zero (started.joins k sound other)
 ]
-
-tells-on : (list : Medl) (script : Script) (history : History) (p k : ℕ) (e : Entry)
-    → TellsOf list script history p k e → continues_stint e ≡ true
-tells-on list script history p k (entry.Sent message) tells = refl
-tells-on list script history p k (entry.Judged sender v deviation) tells = refl
-tells-on list script history p k _ tells = absurd tells
-
-nothing-on : (e : Entry) → NotesNothing e → continues_stint e ≡ true
-nothing-on (entry.Judged sender v deviation) none = refl
-nothing-on _ none = absurd none
 
 noted-on : (list : Medl) (script : Script) (plan : Plan) (slot : ℕ) (row : List Entry) (history : History) (k : ℕ)
     → NotedInSlot list script plan slot row history → IsSoundIn list plan slot k → enters plan slot k ≡ false

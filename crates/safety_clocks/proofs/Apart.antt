@@ -15,8 +15,9 @@ use Rattle.ttp_world.specs.Clock.{fta}
 use Rattle.ttp_world.specs.Hypothesis.{needed}
 use Rattle.ttp_world.proofs.Averages.{fta-between}
 use Rattle.precision.proofs.Averages.{IsUpTo, AreNear, fta-near}
-use Rattle.precision.proofs.Rounds.{drift_in, plus_none, correction, product_more, product_upto}
+use Rattle.precision.proofs.Rounds.{drift_in, correction, product_more, product_upto, wider_of as wider-still}
 use Rattle.precision.proofs.Rounds.{product_up}
+use Rattle.ttp_world.proofs.SmallTests.{plus_none}
 
 -- how far a frame that is noted in a round can lie from another clock after slot m, by the clock and the note together
 abbrev pub noted_width : Medl → ℕ → ℤ
@@ -227,9 +228,6 @@ still-after list m c k notes index q then_c then_k all now s is less few here =
 
 fresh-fits : (n a d : ℤ) → pos 0 ≤ℤ d → a ≡ d → (n +ℤ (d +ℤ d)) ≤ℤ (n +ℤ (a +ℤ a))
 fresh-fits n a d up is = omega (arith, ints, up, is)
-
-wider-still : (w v z : ℤ) → w ≤ℤ v → IsUpTo w z → IsUpTo v z
-wider-still w v z wide h = (omega (arith, ints, wide, h.0), omega (arith, ints, wide, h.1))
 
 first-drift : (d : ℤ) → pos 0 ≤ℤ d → d *ℤ pos 1 ≡ d
 first-drift d up = product_more d 0 up ∙ plus-first d

@@ -28,6 +28,7 @@ use Rattle.safety_clocks.proofs.Company.{sound-calm, ran-company}
 use Rattle.safety_clocks.proofs.RoundNotes.{place-slot}
 use Rattle.safety_clocks.proofs.SmallerGroups.{company-in}
 use Rattle.safety_clocks.proofs.Together.{number-of, counted-run}
+use Rattle.fta_sync.proofs.Sorted.{le_trans as no-more}
 
 -- a node that is sound before the coming slot and after it
 abbrev stays_sound : Plan → ℕ → ℕ → Bool
@@ -170,9 +171,6 @@ tight-deviations {list = list} {script = script} {start = start} {plan = plan} {
 
 in-window : (w b z : ℤ) → b ≤ℤ w → IsUpTo b z → (int_le (neg_ℤ w) z && int_le z w) ≡ true
 in-window w b z wide near = grind (arith, ints, near.0, near.1)
-
-no-more : (a b c : ℤ) → a ≤ℤ b → b ≤ℤ c → a ≤ℤ c
-no-more a b c h g = omega (arith, ints, h, g)
 
 pub sound-inside : {list : Medl} {script : Script} {start : ClusterStart} {plan : Plan} {slot : ℕ} {history : History}
     → GoesOnByPlan list script start plan slot history

@@ -22,7 +22,7 @@ use Rattle.precision.proofs.ClockBounds.{drift_within, error_within}
 use Rattle.precision.proofs.Entries.{continued_active, notes_anew, notes_more, first_slot_first, later_slot_later}
 use Rattle.precision.proofs.Entries.{offset_corrected, clock_at-still}
 use Rattle.precision.proofs.Frames.{frame_of, frame_of-node, joins_nothing}
-use Rattle.precision.proofs.Rounds.{drift_in, correction, product_more, product_up}
+use Rattle.precision.proofs.Rounds.{drift_in, correction, product_up, product_once as once}
 use Rattle.precision.proofs.Runs.{clock_after, round_notes}
 use Rattle.fault_plan.specs.Plan.{Plan, sender}
 use Rattle.fault_plan.specs.Fates.{is_good_slot}
@@ -180,7 +180,7 @@ runs-in {list = list} {script = script} {start = start} {plan = plan} {slot = sl
           (omega (arith, number, s.before.within)) p.0;
     }
 
-drift-moves : (o j d q : ℤ) → j ≡ pos 0 → IsUpTo q d → IsUpTo q ((o +ℤ (j +ℤ (d +ℤ pos 0))) -ℤ o)
+pub drift-moves : (o j d q : ℤ) → j ≡ pos 0 → IsUpTo q d → IsUpTo q ((o +ℤ (j +ℤ (d +ℤ pos 0))) -ℤ o)
 drift-moves o j d q still h = (omega (arith, ints, still, h.0, h.1), omega (arith, ints, still, h.0, h.1))
 
 pub sound-moved : {list : Medl} {script : Script} {start : ClusterStart} {plan : Plan} {slot : ℕ} {row : List Entry}
@@ -225,9 +225,6 @@ same-bound a b c d w is was h = omega (arith, ints, is, was, h)
 
 above-of : (a b d : ℤ) → a ≡ b +ℤ d → pos 0 ≤ℤ b → d ≤ℤ a
 above-of a b d is up = omega (arith, ints, is, up)
-
-once : (d : ℤ) (m : ℕ) → pos 0 ≤ℤ d → d ≤ℤ (d *ℤ pos (suc m))
-once d m up = above-of (d *ℤ pos (suc m)) (d *ℤ pos m) d (product_more d m up) (product_up d m up)
 
 pub near-new : {list : Medl} {script : Script} {start : ClusterStart} {plan : Plan} {slot : ℕ} {row : List Entry}
     {history : History} → NextSlot list script start plan slot row history

@@ -40,6 +40,7 @@ use Rattle.safety_clocks.proofs.JumpedFates.{IsJumpTold, jump-told, jumped-back,
 use Rattle.safety_clocks.proofs.NearNotes.{needed-up, still-of}
 use Rattle.safety_clocks.proofs.RoundNotes.{sound-goes, tight-stays}
 use Rattle.safety_clocks.proofs.Together.{number-of}
+use Rattle.ttp_world.proofs.SmallTests.{le_of_test}
 
 -- An active node's clock takes the jump of a slot.
 
@@ -91,9 +92,6 @@ below-window w z less = grind (arith, ints, less)
 
 above-window : (w z : ℤ) → (w +ℤ pos 1) ≤ℤ z → (int_le (neg_ℤ w) z && int_le z w) ≡ false
 above-window w z more = grind (arith, ints, more)
-
-le_of_test : (x y : ℤ) → int_le x y ≡ true → x ≤ℤ y
-le_of_test x y h = grind (arith, ints)
 
 is-far : (list : Medl) (jump : ℤ) → is_far_jump list jump ≡ true
     → ((list.window *ℤ pos 4) ≤ℤ jump) ⊎ (jump ≤ℤ neg_ℤ (list.window *ℤ pos 4))

@@ -15,7 +15,7 @@ use Rattle.ttp_world.specs.Diary.{History, entry_of, diary_of, continues_stint, 
 use Rattle.ttp_world.specs.Hypothesis.{ClusterStart}
 use Rattle.ttp_world.specs.Medl.{plan_at}
 use Rattle.precision.specs.Together.{TellsOf}
-use Rattle.precision.proofs.Frames.{begun_place}
+use Rattle.precision.proofs.Frames.{begun_place, told_goes as goes-telling}
 use Rattle.precision.proofs.Entries.{place_continued, notes_anew, notes_more, first_slot_first, later_slot_later}
 use Rattle.fault_plan.specs.Plan.{Plan, sender, enters}
 use Rattle.fault_plan.specs.Fates.{fate_of, is_good_slot, is_measured, tally}
@@ -26,12 +26,6 @@ use Rattle.fault_plan.proofs.Places.{place-sender}
 use Rattle.safety_clocks.specs.NotedByPlan.{IsSoundIn, NotesNothing, NotedInSlot, IsTight}
 
 -- One entry.
-
-pub goes-telling : (list : Medl) (script : Script) (history : History) (p k : ℕ) (e : Entry)
-    → TellsOf list script history p k e → continues_stint e ≡ true
-goes-telling list script history p k (entry.Sent message) tells = refl
-goes-telling list script history p k (entry.Judged sender v deviation) tells = refl
-goes-telling list script history p k _ tells = absurd tells
 
 pub goes-silent : (e : Entry) → NotesNothing e → continues_stint e ≡ true
 goes-silent (entry.Judged sender v deviation) none = refl

@@ -14,7 +14,7 @@ use Rattle.safety_laws.proofs.Verdicts.{act-judging}
 pub frames_made-judging : (x : NodeSlot) → IsJudging x → frames_made x ≡ []
 frames_made-judging x is = ap (node_frames x.list x.node x.past x.chosen) (act-judging x is)
 
-act-off : (x : NodeSlot) → x.past.phase ≡ phase.Off → x.on ≡ false → act_made x ≡ Off
+pub act-off : (x : NodeSlot) → x.past.phase ≡ phase.Off → x.on ≡ false → act_made x ≡ Off
 act-off x off never =
     ap (λ (p : Phase). phase_act p x.list x.node x.on x.armed x.past) off ∙ ap (λ b. cond b Listen Off) never
 

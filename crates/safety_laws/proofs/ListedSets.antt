@@ -1,12 +1,11 @@
 -- Sets of a list's nodes: putting in and taking out gives such sets, and their members tell them apart.
-use Rattle.std.proofs.Common.{◌≡◌, ◌≢◌, ℕ, ◌<◌, Bool, true, false, not, ◌&&◌, ◌||◌, List, length, refl, ap, sym, ◌∙◌}
+use Rattle.std.proofs.Common.{◌≡◌, ◌≢◌, ℕ, ◌<◌, true, false, not, ◌&&◌, ◌||◌, List, length, refl, ap, sym, ◌∙◌}
 use Rattle.std.proofs.Common.{subst}
 use Rattle.std.specs.Prelude.{◌==◌}
-use Rattle.std.specs.List.{filter}
 use Rattle.std.proofs.lemmas.Bool.{eq-eqb, false≢true}
-use Rattle.ttp_base.specs.NodeSet.{most_nodes, below, has_node, with_node, without_node}
+use Rattle.ttp_base.specs.NodeSet.{most_nodes, has_node, with_node, without_node}
 use Rattle.ttp_base.proofs.NodeLists.{with_node-filter, without_node-filter}
-use Rattle.ttp_base.proofs.NodeSets.{has_node-sieve, has_node-with, has_node-without, same_sieve}
+use Rattle.ttp_base.proofs.NodeSets.{has_node-with, has_node-without, same_sieve}
 use Rattle.ttp_world.specs.declared.medl.Medl.{Medl}
 use Rattle.ttp_world.specs.declared.node.Ack.{Ack}
 use Rattle.ttp_world.specs.declared.node.Ack.TheVariants as ack
@@ -16,12 +15,7 @@ use Rattle.ttp_world.specs.Reception.{candidates, candidate_sets}
 use Rattle.ttp_world.proofs.Lists.{nodes-most}
 use Rattle.safety_laws.specs.SlotFrames.{AreCandidates}
 use Rattle.safety_laws.specs.Turns.{IsAboutListed}
-
--- those of a list's nodes that pass a test
-pub AreNodes-filter : (list : Medl) (p : ℕ → Bool) → AreNodes list (filter p (below (length list.slots)))
-AreNodes-filter list p =
-    let n = length list.slots in
-    same_sieve p (has_node (filter p (below n))) n (λ j less. sym (has_node-sieve p n j less))
+use Rattle.ttp_world.proofs.WorldFacts.{AreNodes-filter}
 
 pub AreNodes-with : (list : Medl) (members : List ℕ) (k : ℕ) → IsValid list → AreNodes list members
     → k < length list.slots → AreNodes list (with_node members k)

@@ -1,7 +1,6 @@
 -- In a run of legal numbers each frame carries as much payload as the list gives it.
-use Rattle.std.proofs.Common.{◌≡◌, ℕ, ◌<◌, Bool, true, false, cond, not, List, ◌∷◌, length, get_or, Option, Some, None}
-use Rattle.std.proofs.Common.{refl, ap, sym, ◌∙◌, arith}
-use Rattle.std.specs.Prelude.{◌==◌}
+use Rattle.std.proofs.Common.{◌≡◌, ℕ, ◌<◌, true, cond, List, ◌∷◌, length, get_or, Option, Some, None}
+use Rattle.std.proofs.Common.{ap, sym, ◌∙◌, arith}
 use Rattle.std.proofs.lemmas.List.FromFn.{get_or-map-range_with_len}
 use Rattle.std.proofs.Math.ListN.{get_or-map}
 use Rattle.ttp_world.specs.declared.medl.Medl.{Medl}
@@ -24,12 +23,9 @@ use Rattle.ttp_world.proofs.Worlds.{row_of_world}
 use Rattle.safety_laws.specs.NodeSlot.{NodeSlot, node_slot, act_made, coming_place, owner_of}
 use Rattle.safety_laws.specs.Turns.{HasPayload}
 use Rattle.safety_laws.proofs.NodeSlots.{entry_of-made}
+use Rattle.ttp_world.proofs.DeliveredSizes.{carried_size as size_carried}
 
 -- The frame of a node that sends.
-
-size_carried : (bare : Bool) (size : ℕ) → not (cond bare 0 size == 0) ≡ true → cond bare 0 size ≡ size
-size_carried true size carries = cc
-size_carried false size carries = refl
 
 pub HasPayload-world : (list : Medl) (script : Script) (new : SlotNumbers) (numbers : Numbers) (k : ℕ)
     → IsValidScript list script → IsLegal list script (new ∷ numbers) → k < length list.slots →

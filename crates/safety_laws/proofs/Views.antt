@@ -24,6 +24,7 @@ use Rattle.ttp_world.specs.Reception.{Candidates, Expected, expected_header, exp
 use Rattle.ttp_world.specs.Reception.{is_expected_form, fits_members, fits_second, view_of_frame, view_of_bits}
 use Rattle.ttp_frame.proofs.Undisturbed.{HavePlaces-AreNodes, is_formed-frame, is_formed-other, fits-same_place}
 use Rattle.safety_laws.specs.SlotFrames.{slot_frame, IsSlotFrame, AreCandidates, is_second, view_of_members}
+use Rattle.ttp_world.proofs.SmallTests.{near_of_test as within-bounds}
 
 -- C-states of one place are the same exactly where their members are
 Decides-members : (fits : Bool) (place : Place) (one other : List ℕ)
@@ -119,9 +120,6 @@ view_of_bits-cold_start list expected k deviation =
     (expected_header list place) (expected_length list place) (cold_start≢ (kind_at list place.round place.slot)))
 
 -- What the window is.
-
-within-bounds : (w d : ℤ) → (int_le (neg_ℤ w) d && int_le d w) ≡ true → (neg_ℤ w ≤ℤ d) × (d ≤ℤ w)
-within-bounds w d within = (grind (arith, ints), grind (arith, ints))
 
 bounds-within : (w d : ℤ) → (neg_ℤ w ≤ℤ d) × (d ≤ℤ w) → (int_le (neg_ℤ w) d && int_le d w) ≡ true
 bounds-within w d bounds =

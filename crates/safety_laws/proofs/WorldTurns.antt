@@ -1,11 +1,8 @@
 -- An active node of a world is judging in the slot after it, or in its own.
 use Rattle.std.proofs.Common.{◌≡◌, ◌≢◌, ℕ, ◌<◌, Bool, true, false, List, [], ◌∷◌, length, Option}
-use Rattle.std.proofs.Common.{Some, None, IfSome, refl}
-use Rattle.std.proofs.Common.{sym}
+use Rattle.std.proofs.Common.{Some, None, IfSome}
 use Rattle.std.specs.Prelude.{if◌then◌else◌}
 use Rattle.std.specs.List.{AllByRecursion, list_any}
-use Rattle.ttp_base.specs.NodeSet.{has_node}
-use Rattle.ttp_base.proofs.NodeLists.{filter-none}
 use Rattle.ttp_world.specs.declared.medl.Medl.{Medl}
 use Rattle.ttp_world.specs.declared.node.Ack.{Ack}
 use Rattle.ttp_world.specs.declared.node.Ack.TheVariants as ack
@@ -26,12 +23,9 @@ use Rattle.ttp_world.proofs.Places.{IsOfList, AreOfList, entry_of-of_list}
 use Rattle.ttp_world.proofs.Worlds.{world-of_list, coming_place-world}
 use Rattle.safety_laws.specs.NodeSlot.{node_slot, owner_of}
 use Rattle.safety_laws.specs.Turns.{IsAboutListed, IsJudging, IsAtOwnSlot}
-use Rattle.safety_laws.proofs.ListedSets.{AreNodes-filter}
+use Rattle.ttp_world.proofs.WorldFacts.{AreNodes-filter, AreNodes-nil}
 
 -- Its members are nodes of the list.
-
-AreNodes-nil : (list : Medl) → AreNodes list []
-AreNodes-nil list = sym (filter-none (has_node []) 0 (length list.slots) (λ j from. refl))
 
 AreNodes-members_of : (list : Medl) (k : ℕ) (diary : Diary) → AreNodes list (members_of list k diary)
 AreNodes-members_of list k diary =

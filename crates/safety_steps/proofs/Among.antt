@@ -32,7 +32,8 @@ use Rattle.safety_laws.specs.Groups.{held_with}
 use Rattle.safety_laws.proofs.GroupSets.{has_node-with_member, has_node-with_other}
 use Rattle.safety_steps.specs.ByFate.{IsSoundAt, IsFallenAt, IsByFate}
 use Rattle.safety_steps.specs.Run.{StandsAt}
-use Rattle.safety_steps.proofs.PlanSteps.{sound-fate, told-falling, told-fallen}
+use Rattle.safety_steps.proofs.PlanSteps.{told-falling, told-fallen}
+use Rattle.fault_plan.proofs.FateSteps.{sound-fate}
 
 -- Tests of lists.
 
@@ -68,7 +69,7 @@ held-none group ack.First j small none apart = none
 held-none group (ack.Doubt y) j small none apart =
     has_node-with_other group y j small (λ same. apart y refl (sym same)) ∙ none
 
-not-settled : (b : Bool) → not b ≡ true → b ≡ false
+pub not-settled : (b : Bool) → not b ≡ true → b ≡ false
 not-settled true is = absurd (false≢true is)
 not-settled false is = refl
 

@@ -38,7 +38,7 @@ use Rattle.safety_steps.specs.ByFate.{doubts, is_there, IsCounted, IsSoundAt, Is
 use Rattle.safety_steps.specs.Run.{IsBegun}
 use Rattle.safety_steps.specs.Turn.{HoldsAfter}
 use Rattle.safety_steps.proofs.LeftSince.{left_since-next}
-use Rattle.safety_steps.proofs.PlanSteps.{sound-fate}
+use Rattle.fault_plan.proofs.FateSteps.{sound-fate}
 
 -- Nobody has sent while all wait.
 
@@ -46,7 +46,7 @@ waiting-off : (none : Bool) → cond none phase.Off phase.Listening ≢ phase.Ac
 waiting-off true is = cc
 waiting-off false is = cc
 
-waiting-unleft : (none : Bool) → is_left_phase (cond none phase.Off phase.Listening) ≡ false
+pub waiting-unleft : (none : Bool) → is_left_phase (cond none phase.Off phase.Listening) ≡ false
 waiting-unleft true = refl
 waiting-unleft false = refl
 

@@ -19,9 +19,10 @@ use Rattle.safety_steps.proofs.Arrivals.{at-fate, sound-alone, silent-absent, si
 use Rattle.safety_steps.proofs.Awaited.{IsAwaited, awaited-armed, awaited-listening, fate-awaited}
 use Rattle.safety_steps.proofs.LostNodes.{IsJudgedWrong, HearsLate, NoFrame, Outside, late-wrong}
 use Rattle.safety_steps.proofs.PlanSteps.{struck-known, absent-stays, fallen-stays, sound-stays, falling-stays}
-use Rattle.safety_steps.proofs.PlanSteps.{falling-shown, struck-shown, told-falling, sender-unentered}
+use Rattle.safety_steps.proofs.PlanSteps.{falling-shown, struck-shown, told-falling}
 use Rattle.safety_steps.proofs.Silence.{frameless-silent}
 use Rattle.safety_steps.proofs.Turns.{slot_of, within-plan, e-node, judges}
+use Rattle.fault_plan.proofs.SlotKinds.{sender-stays as sender-unentered}
 
 module _ (list : Medl) (script : Script) (start : ClusterStart) (plan : Plan) (turn : ℕ) (new : SlotNumbers)
     (numbers : Numbers) (t : IsTurn list script start plan turn new numbers) (k : ℕ) (node : k < length list.slots)

@@ -31,10 +31,11 @@ use Rattle.safety_steps.proofs.Arrivals.{silent-fallen}
 use Rattle.safety_steps.proofs.LostNodes.{deaf-judges, jumped-judges, fallen-judges, deaf-falls, jumped-falls}
 use Rattle.safety_steps.proofs.JumpedNodes.{jumped-wrong}
 use Rattle.safety_steps.proofs.Silence.{frameless-silent}
-use Rattle.safety_steps.proofs.PlanSteps.{IsStruck, falling-stays, struck-falls, round-turn, sound-fate}
+use Rattle.safety_steps.proofs.PlanSteps.{IsStruck, falling-stays, struck-falls, round-turn}
 use Rattle.safety_steps.proofs.PlanSteps.{told-falling, told-fallen}
 use Rattle.safety_steps.proofs.Receivers.{sound-judge}
 use Rattle.safety_steps.proofs.Turns.{slot_of, slot_number, owner-is, judges, armed-planned, unarmed-falling}
+use Rattle.fault_plan.proofs.FateSteps.{sound-fate}
 
 module _ (list : Medl) (script : Script) (start : ClusterStart) (plan : Plan) (turn : ℕ) (new : SlotNumbers)
     (numbers : Numbers) (t : IsTurn list script start plan turn new numbers) (k : ℕ) (node : k < length list.slots)

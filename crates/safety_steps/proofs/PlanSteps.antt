@@ -2,7 +2,7 @@
 use Rattle.std.proofs.Common.{◌≡◌, ◌≢◌, ℕ, suc, ◌+◌, ◌<◌, ◌≤◌, Bool, true, false, cond, Option, Some, None}
 use Rattle.std.proofs.Common.{refl, ap, sym, subst, ◌∙◌, inl, inr, arith}
 use Rattle.std.specs.Prelude.{◌==◌}
-use Rattle.std.proofs.lemmas.Bool.{eq-eqb, eqb-true, ne_eqb, both_ways, false≢true, false_from_ne_true, lt-ltb}
+use Rattle.std.proofs.lemmas.Bool.{eq-eqb, eqb-true, ne_eqb, both_ways, false_from_ne_true, lt-ltb}
 use Rattle.ttp_base.specs.NodeSet.{with_node, without_node}
 use Rattle.fault_plan.specs.Plan.{Change, Receiving, Incident, Plan, sender, incident_at, is_armed_by, enters}
 use Rattle.fault_plan.specs.Fates.{Fate, Absent, Sound, Falling, Fallen, Listening, struck, shown_in, turned, fate_of}
@@ -10,12 +10,13 @@ use Rattle.fault_plan.specs.Fates.{is_sound, is_sound_after, is_lost, is_good_sl
 use Rattle.fault_plan.specs.GoodPlan.{IsGoodPlan}
 use Rattle.fault_plan.specs.Ledger.{opened, with_slot, planned_members, ledger_of}
 use Rattle.fault_plan.specs.Told.{IsFalling, IsFallen, IsTold}
-use Rattle.fault_plan.proofs.FateSteps.{strikes, next-same, sound-from}
+use Rattle.fault_plan.proofs.FateSteps.{strikes, next-same, sound-from, struck-missed as missed-same}
 use Rattle.fault_plan.proofs.FateTells.{fate-told}
 use Rattle.fault_plan.proofs.Ledgers.{ledger-told}
-use Rattle.fault_plan.proofs.Returns.{armed-quiet, entry-quiet, entry-good, armed-lost, entry-from}
+use Rattle.fault_plan.proofs.Returns.{armed-quiet, entry-quiet, armed-lost, entry-from}
 use Rattle.fault_plan.proofs.Turns.{next_turn, turns_apart}
 use Rattle.safety_steps.proofs.Awaited.{awaited-armed, gone-awaited}
+use Rattle.fault_plan.proofs.SlotKinds.{sender-stays as sender-unentered}
 
 -- Members.
 
@@ -78,11 +79,6 @@ struck-known plan turn k is = by (incident_at plan turn) refl
       node = eqb-true incident.node k (sym (ap (λ o. strikes o k) found) ∙ is);
     }
 
-missed-same : (slot k : ℕ) (fate : Fate) (found : Option Incident) → strikes found k ≡ false
-    → struck slot k fate found ≡ fate
-missed-same slot k fate None missed = refl
-missed-same slot k fate (Some incident) missed = ap (λ b. cond b (Falling incident.change slot) fate) missed
-
 struck-same : (slot k : ℕ) (fate : Fate) (found : Option Incident) (incident : Incident) → found ≡ Some incident
     → incident.node ≡ k
     → struck slot k fate found ≡ Falling incident.change slot
@@ -144,12 +140,6 @@ pub sound-unentered : (plan : Plan) (turn k : ℕ) → IsGoodPlan plan → fate_
 sound-unentered plan turn k good is =
     unentered plan turn k good (unlost-unarmed plan turn k good (ap is_lost is))
     (λ since listens. let both = sym is ∙ listens in cc)
-
--- the sender of a slot does not enter in it
-pub sender-unentered : (plan : Plan) (turn : ℕ) → IsGoodPlan plan → enters plan turn (sender plan turn) ≡ false
-sender-unentered plan turn good =
-    false_from_ne_true (enters plan turn (sender plan turn)) (λ entered.
-    (entry-good plan turn (sender plan turn) good entered).1 refl)
 
 -- so in a good slot it was sound before, and the slot is not good where it was not
 pub good-sender : (plan : Plan) (turn : ℕ) → IsGoodPlan plan → is_good_slot plan (suc turn) ≡ true
@@ -317,13 +307,6 @@ round-turn plan turn k some less own =
     let to = next.1.1 in
     let same : next.0 ≡ turn + plan.nodes = omega (arith, from, to, apart) in
     ap (sender plan) (sym same) ∙ next.1.2
-
-pub sound-fate : (fate : Fate) → is_sound fate ≡ true → fate ≡ Sound
-sound-fate Sound sound = refl
-sound-fate Absent sound = absurd (false≢true sound)
-sound-fate (Falling change since) sound = absurd (false≢true sound)
-sound-fate (Fallen change since shown) sound = absurd (false≢true sound)
-sound-fate (Listening since) sound = absurd (false≢true sound)
 
 -- a node that lost a frame less than a round ago, and has had a slot since, may still stay
 pub doubted-stays : (plan : Plan) (turn k y shown : ℕ) → IsGoodPlan plan → k < plan.nodes

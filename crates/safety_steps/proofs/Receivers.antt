@@ -31,9 +31,10 @@ use Rattle.safety_laws.proofs.Verdicts.{judged-outside, judged-none, judged-sile
 use Rattle.safety_steps.specs.ByFate.{IsSoundAt, IsFallingAt}
 use Rattle.safety_steps.specs.Turn.{IsTurn}
 use Rattle.safety_steps.proofs.Arrivals.{at-fate, hears-planned}
-use Rattle.safety_steps.proofs.PlanSteps.{doubted-stays, sound-unentered, sender-unentered}
+use Rattle.safety_steps.proofs.PlanSteps.{doubted-stays, sound-unentered}
 use Rattle.safety_steps.proofs.SoundNodes.{IsSoundJudge, not_about, sound-correct, sound-wrong, sound-tentative}
 use Rattle.safety_steps.proofs.Turns.{slot_of, slot_number, owner-is, judges, e-node}
+use Rattle.fault_plan.proofs.SlotKinds.{sender-stays as sender-unentered}
 
 -- A sound node that judges, where the slot is not good: what leaves it sound.
 

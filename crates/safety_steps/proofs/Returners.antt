@@ -23,7 +23,7 @@ use Rattle.fault_plan.specs.Fates.{may_stay}
 use Rattle.fault_plan.specs.Kept.{kind_in}
 use Rattle.fault_plan.specs.Ledger.{Ledger, opened, planned_members}
 use Rattle.fault_plan.specs.Places.{planned_place}
-use Rattle.fault_plan.proofs.FateSteps.{strikes, next-entered}
+use Rattle.fault_plan.proofs.FateSteps.{strikes, next-entered, sound-fate}
 use Rattle.fault_plan.proofs.Returns.{entry-is, entry-good}
 use Rattle.safety_laws.specs.Groups.{held_with, IsAboutOther, HoldsGroup}
 use Rattle.safety_laws.specs.Listening.{HearsPlace}
@@ -38,7 +38,7 @@ use Rattle.safety_steps.proofs.Arrivals.{sound-owner, sound-alone, sound-members
 use Rattle.safety_steps.proofs.Arrivals.{silent-fallen}
 use Rattle.safety_steps.proofs.Awaited.{IsAwaited, quiet-awaited, gone-awaited, listens-on}
 use Rattle.safety_steps.proofs.Listeners.{ListensSince, waits-on}
-use Rattle.safety_steps.proofs.PlanSteps.{members-good, ledger-entered, sound-stays, sound-fate, good-sender}
+use Rattle.safety_steps.proofs.PlanSteps.{members-good, ledger-entered, sound-stays, good-sender}
 use Rattle.safety_steps.proofs.Silence.{frameless-silent}
 use Rattle.safety_steps.proofs.Turns.{slot_of, slot_number, within-plan}
 

@@ -32,7 +32,8 @@ use Rattle.safety_steps.specs.ByFate.{IsSoundAt, is_there}
 use Rattle.safety_steps.specs.Run.{StandsBack}
 use Rattle.safety_steps.proofs.Among.{all-by, each-of, newest, IsSoundNode, at-sound, same-settled, agree-settled}
 use Rattle.safety_steps.proofs.Among.{in-sound, gone-lost}
-use Rattle.safety_steps.proofs.PlanSteps.{sound-fate, told-fallen}
+use Rattle.safety_steps.proofs.PlanSteps.{told-fallen}
+use Rattle.fault_plan.proofs.FateSteps.{sound-fate}
 
 module _ (list : Medl) (script : Script) (start : ClusterStart) (plan : Plan) (turn : ℕ) (history : History)
     (is : StandsBack list script start plan turn history) where

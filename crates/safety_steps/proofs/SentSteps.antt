@@ -15,14 +15,14 @@ use Rattle.ttp_world.specs.World.{SlotNumbers, Numbers, slot_after, messages_cho
 use Rattle.fault_plan.specs.Plan.{Plan, sender, enters}
 use Rattle.fault_plan.specs.Fates.{fate_of, is_sound_after}
 use Rattle.fault_plan.specs.Ledger.{Ledger, ledger_of}
-use Rattle.fault_plan.proofs.FateSteps.{sound-from}
+use Rattle.fault_plan.proofs.FateSteps.{sound-from, sound-fate}
 use Rattle.safety_laws.specs.NodeSlot.{NodeSlot, entry_made}
 use Rattle.safety_laws.specs.Turns.{IsJudging}
 use Rattle.safety_laws.proofs.NodeSlots.{entry_of-made}
 use Rattle.safety_laws.proofs.Verdicts.{judged-whatever}
 use Rattle.safety_steps.specs.Turn.{IsTurn}
 use Rattle.safety_steps.proofs.Arming.{entered-joins}
-use Rattle.safety_steps.proofs.PlanSteps.{ledger-other, ledger-own, sound-fate}
+use Rattle.safety_steps.proofs.PlanSteps.{ledger-other, ledger-own}
 use Rattle.safety_steps.proofs.Receivers.{sound-judge}
 use Rattle.safety_steps.proofs.SoundNodes.{IsSoundJudge}
 use Rattle.safety_steps.proofs.Turns.{slot_of}

@@ -10,6 +10,7 @@ use Rattle.std.proofs.lemmas.List.Sums.{length-filter}
 use Rattle.std.proofs.lemmas.Option.{unwrap_or-slice_get}
 use Rattle.ttp_base.specs.NodeSet.{below, has_node}
 use Rattle.ttp_base.proofs.NodeSets.{same_sieve}
+use Rattle.ttp_world.proofs.SmallTests.{and-true}
 
 agree-from : (p q : ℕ → Bool) (a n : ℕ) → ((k : ℕ) → a ≤ k → p k ≡ q k)
     → filter p (range_with_len a n) ≡ filter q (range_with_len a n)
@@ -18,10 +19,6 @@ agree-from p q a (suc n) agree =
     let rest = agree-from p q (a + 1) n (λ k from. agree k (omega arith)) in
     let here = agree a (omega arith) in
     λ i. cond (here i) (a ∷ rest i) (rest i)
-
-and-true : (b : Bool) → b ≡ (b && true)
-and-true true = refl
-and-true false = refl
 
 -- without one number, at most one less is kept
 kept-here : (b : Bool) (a : ℕ) (ks : List ℕ)

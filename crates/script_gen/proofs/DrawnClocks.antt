@@ -22,7 +22,10 @@ use Rattle.script_gen.specs.Draws.{drawn}
 use Rattle.script_gen.specs.Generator.{spread_over, drift_by, error_by, error_events, fault_events}
 use Rattle.script_gen.specs.Generator.{host_events}
 use Rattle.script_gen.proofs.Parts.{IsGenerated, each-fault, each-host}
-use Rattle.script_gen.proofs.Ranges.{filter_map-flat_map, flat_map-one, find-none, nothing-each, each-append}
+use Rattle.script_gen.proofs.Ranges.{filter_map-flat_map, flat_map-one}
+use Rattle.ttp_world.proofs.LineLists.{each-append, filter_map-none as nothing-each}
+use Rattle.ttp_world.proofs.SmallTests.{test_of_both as test-within, plus_none as plus-zero}
+use Rattle.ttp_world.proofs.RangeFacts.{none-range as find-none}
 
 -- a draw lies within its bound
 pub spread-within : (bound : ℤ) (draw : ℕ) → pos 0 ≤ℤ bound
@@ -31,9 +34,6 @@ spread-within (pos b) draw from =
     let less : draw % (2 * b + 1) < 2 * b + 1 = mod-lt draw (omega arith) in
     (omega (arith, ints), omega (arith, ints))
 spread-within (negsuc b) draw from = absurd (omega arith)
-
-test-within : (bound z : ℤ) → neg_ℤ bound ≤ℤ z → z ≤ℤ bound → is_within_bound bound z ≡ true
-test-within bound z low high = grind arith
 
 pub drift-is : (list : Medl) (number : ℕ) (script : Script) (k : ℕ) → IsGenerated list number script
     → k < length list.slots → drift_of script k ≡ drift_by list number k
@@ -85,9 +85,6 @@ no-errors list slots number k slot =
       statuses = λ t less. refl;
       reads = λ t less loaded. refl;
     })))
-
-plus-zero : (z : ℤ) → z +ℤ pos 0 ≡ z
-plus-zero z = omega (arith, ints)
 
 pub error-is : (list : Medl) (number : ℕ) (script : Script) (k slot : ℕ) → IsGenerated list number script
     → k < length list.slots → slot < script.slots

@@ -22,7 +22,9 @@ use Rattle.script_gen.specs.Generator.{most_faults, fault_slot, both_channels, f
 use Rattle.script_gen.specs.Generator.{all_events}
 use Rattle.script_gen.proofs.Parts.{IsGenerated, OfHosts, sender_at, receiver_at, is_even, each-event}
 use Rattle.script_gen.proofs.Parts.{any-fault}
-use Rattle.script_gen.proofs.Ranges.{any-each, any-none, any-one, nothing-each}
+use Rattle.script_gen.proofs.Ranges.{any-each, any-none, any-one}
+use Rattle.ttp_base.proofs.NodeSets.{and-true}
+use Rattle.ttp_world.proofs.LineLists.{filter_map-none as nothing-each}
 
 -- Nothing stands outside the hypothesis, and no clock jumps.
 
@@ -68,10 +70,6 @@ covers-other at slot other =
 among-both : (c : Channel) → is_among c both_channels ≡ true
 among-both channel.A = refl
 among-both channel.B = refl
-
-and-true : (b : Bool) → (b && true) ≡ b
-and-true true = refl
-and-true false = refl
 
 -- a fault of either kind at a slot
 abbrev fault_at : Bool → ℕ → ℕ → ℕ → Event

@@ -23,10 +23,10 @@ use Rattle.script_gen.proofs.DrawnClocks.{clocks-hold}
 use Rattle.script_gen.proofs.Counts.{without-some, count-places}
 use Rattle.script_gen.proofs.FaultEvents.{faults-apart, outside-holds}
 use Rattle.script_gen.proofs.Parts.{IsGenerated, generated-is}
-use Rattle.script_gen.proofs.Ranges.{find-none}
 use Rattle.script_gen.proofs.Starter.{IsFirst, start_at, on-is, starter-first, start_of-generated}
 use Rattle.script_gen.proofs.Struck.{struck, length-struck, AreShown, reached}
 use Rattle.script_gen.proofs.Struck.{never-breaks}
+use Rattle.ttp_world.proofs.RangeFacts.{none-range as find-none}
 
 -- Losses.
 

@@ -18,7 +18,8 @@ use Rattle.script_gen.specs.Draws.{drawn}
 use Rattle.script_gen.specs.Generator.{starter_of, drift_by, error_by, most_faults, fault_slot, both_channels, fault_by}
 use Rattle.script_gen.specs.Generator.{fault_within, has_payload, write_by, reads_by, host_events_in, error_events}
 use Rattle.script_gen.specs.Generator.{fault_events, host_events, all_events, generated}
-use Rattle.script_gen.proofs.Ranges.{each-append, each-flat_map, any-each, any-flat_map}
+use Rattle.script_gen.proofs.Ranges.{each-flat_map, any-each, any-flat_map}
+use Rattle.ttp_world.proofs.LineLists.{each-append}
 
 -- a script is the one that a number gives
 pub record IsGenerated (list : Medl) (number : ℕ) (script : Script) : Type 0 where

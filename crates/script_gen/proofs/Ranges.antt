@@ -1,20 +1,18 @@
 -- Tests and lists over the numbers of a range, of which one alone tells something.
 use Rattle.std.proofs.Common.{◌≡◌, ℕ, zero, suc, ◌+◌, ◌*◌, ◌<◌, ◌≤◌, Bool, true, false, cond, ◌||◌, List, [], ◌∷◌, ◌++◌}
-use Rattle.std.proofs.Common.{length, Option, Some, None, refl, ap, ◌∙◌, inl, inr, arith, length-append}
-use Rattle.std.specs.List.{AllByRecursion, filter, filter_map, flat_map, find, list_any, range_with_len}
+use Rattle.std.proofs.Common.{length, Option, refl, ap, ◌∙◌, inl, inr, arith, length-append}
+use Rattle.std.specs.List.{AllByRecursion, filter, filter_map, flat_map, list_any, range_with_len}
 use Rattle.std.proofs.lemmas.Bool.{cases_eq}
 use Rattle.std.proofs.lemmas.List.{append-nil}
 use Rattle.std.proofs.lemmas.List.Elements.{filter_map-append}
 use Rattle.std.proofs.lemmas.List.Folds.{list_any-append}
 use Rattle.ttp_base.specs.NodeSet.{below}
 use Rattle.ttp_base.proofs.Below.{below-lt}
+use Rattle.ttp_world.proofs.MemberSets.{or-false}
+use Rattle.ttp_world.proofs.LineLists.{each-append}
+use Rattle.ttp_world.proofs.RangeFacts.{none-passes as any-past}
 
 -- Facts of all elements.
-
-pub each-append : {X : Type 0} (P : X → Type 0) (xs ys : List X) → AllByRecursion P xs → AllByRecursion P ys
-    → AllByRecursion P (xs ++ ys)
-each-append P [] ys first second = second
-each-append P (x ∷ xs) ys first second = (first.0, each-append P xs ys first.1 second)
 
 pub each-flat_map : {X : Type 0} (P : X → Type 0) (f : ℕ → List X) (n : ℕ)
     → ((k : ℕ) → k < n → AllByRecursion P (f k)) → AllByRecursion P (flat_map f (below n))
@@ -27,11 +25,6 @@ each-flat_map P f n each = on (below n) (below-lt n)
 pub any-each : {X : Type 0} (p : X → Bool) (xs : List X) → AllByRecursion (λ x. p x ≡ false) xs → list_any p xs ≡ false
 any-each p [] each = refl
 any-each p (x ∷ xs) each = ap (λ b. b || list_any p xs) each.0 ∙ any-each p xs each.1
-
-pub nothing-each : {X Y : Type 0} (h : X → Option Y) (xs : List X) → AllByRecursion (λ x. h x ≡ None) xs
-    → filter_map h xs ≡ []
-nothing-each h [] each = refl
-nothing-each h (x ∷ xs) each = let here : h x ≡ None = each.0 in rw here (nothing-each h xs each.1)
 
 -- One after another.
 
@@ -92,19 +85,8 @@ flat_map-most f n t m others few = on 0 n
           omega (arith, ap length all, on (a + 1) n)
     ]
 
-any-past : (p : ℕ → Bool) (a n : ℕ) → ((k : ℕ) → a ≤ k → k < a + n → p k ≡ false)
-    → list_any p (range_with_len a n) ≡ false
-any-past p a zero none = refl
-any-past p a (suc n) none =
-    ap (λ b. b || list_any p (range_with_len (a + 1) n)) (none a (omega arith) (omega arith))
-    ∙ any-past p (a + 1) n (λ k from to. none k (omega arith) (omega arith))
-
 pub any-none : (p : ℕ → Bool) (n : ℕ) → ((k : ℕ) → k < n → p k ≡ false) → list_any p (below n) ≡ false
 any-none p n none = any-past p 0 n (λ k from to. none k (omega arith))
-
-or-false : (b : Bool) → (b || false) ≡ b
-or-false true = refl
-or-false false = refl
 
 any-range : (p : ℕ → Bool) (a n t : ℕ) → ((k : ℕ) → (k ≡ t → ⊥) → p k ≡ false) → a ≤ t → t < a + n
     → list_any p (range_with_len a n) ≡ p t
@@ -154,13 +136,6 @@ filter-only p n t passes others less =
     filter-range p 0 n t passes (λ k small other. others k (omega arith) other) (omega arith) (omega arith)
 
 -- Where none fails a test, none is found.
-
-pub find-none : (p : ℕ → Bool) (a n : ℕ) → ((k : ℕ) → a ≤ k → k < a + n → p k ≡ false)
-    → find p (range_with_len a n) ≡ None
-find-none p a zero each = refl
-find-none p a (suc n) each =
-    ap (λ b. cond b (Some a) (find p (range_with_len (a + 1) n))) (each a (omega arith) (omega arith))
-    ∙ find-none p (a + 1) n (λ k from to. each k (omega arith) (omega arith))
 
 pub length-flat_map : {X : Type 0} (f : ℕ → List X) (m n : ℕ) → ((k : ℕ) → length (f k) ≤ m)
     → length (flat_map f (below n)) ≤ n * m

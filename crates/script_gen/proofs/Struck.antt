@@ -24,6 +24,7 @@ use Rattle.script_gen.proofs.Parts.{IsGenerated, sender_at, receiver_at, is_even
 use Rattle.script_gen.proofs.Ranges.{filter-only}
 use Rattle.script_gen.proofs.Starter.{start_at, on-is, on-always}
 use Rattle.script_gen.proofs.Turns.{turns-differ}
+use Rattle.ttp_world.proofs.MemberSets.{eqb_comm as turned}
 
 -- whom a fault strikes
 abbrev pub struck_at : Medl → ℕ → ℕ → ℕ
@@ -95,12 +96,6 @@ same-test true among false on = and-not-false among
     and-not-false true = refl
     and-not-false false = refl
 same-test false among sender on = absurd (false≢true on)
-
-turned : (a b : ℕ) → (a == b) ≡ (b == a)
-turned a b = elim (cases_eq a b) [
-  | inl same ↦ eq-eqb a b same ∙ sym (eq-eqb b a (sym same))
-  | inr other ↦ ne_eqb a b other ∙ sym (ne_eqb b a (λ same. other (sym same)))
-]
 
 two-others : (list : Medl) (number : ℕ) (script : Script) (sender slot c : ℕ) → IsValid list
     → IsGenerated list number script → c < most_faults list

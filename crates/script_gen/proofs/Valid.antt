@@ -1,9 +1,9 @@
 -- A script of the generator is valid.
-use Rattle.std.proofs.Common.{◌≡◌, ℕ, suc, ◌+◌, ◌*◌, ◌/◌, ◌%◌, ◌<◌, ◌≤◌, ℤ, pos, neg_ℤ, ◌≤ℤ◌, Bool}
-use Rattle.std.proofs.Common.{true, false, cond, ◌&&◌, List, [], ◌∷◌, ◌++◌, length, replicate, get_or, Option, Some}
+use Rattle.std.proofs.Common.{◌≡◌, ℕ, ◌+◌, ◌*◌, ◌/◌, ◌%◌, ◌<◌, ◌≤◌, ℤ, pos, neg_ℤ, ◌≤ℤ◌, Bool}
+use Rattle.std.proofs.Common.{true, false, cond, ◌&&◌, List, [], ◌∷◌, ◌++◌, length, replicate, get_or, Some}
 use Rattle.std.proofs.Common.{None, refl, ap, ◌∙◌, inl, inr, mod-lt, length-append, arith}
 use Rattle.std.specs.Prelude.{◌==◌, All, nat_le, nat_lt}
-use Rattle.std.specs.List.{AllByRecursion, filter_map, flat_map, cons_option}
+use Rattle.std.specs.List.{AllByRecursion, filter_map, flat_map}
 use Rattle.std.proofs.lemmas.Bool.{leb-true, lt-leb, le-leb, ne_eqb, eq-eqb, cases_lt}
 use Rattle.std.proofs.lemmas.Int.{ints}
 use Rattle.std.proofs.lemmas.List.{length-replicate, append-nil}
@@ -31,7 +31,10 @@ use Rattle.script_gen.specs.Generator.{host_events, all_events, generated}
 use Rattle.script_gen.proofs.DrawnClocks.{spread-within}
 use Rattle.script_gen.proofs.Parts.{IsGenerated, generated-is, each-fault, each-event}
 use Rattle.script_gen.proofs.Turns.{turns-differ}
-use Rattle.script_gen.proofs.Ranges.{nothing-each, filter_map-flat_map, flat_map-most, length-flat_map}
+use Rattle.script_gen.proofs.Ranges.{filter_map-flat_map, flat_map-most, length-flat_map}
+use Rattle.ttp_world.proofs.LineLists.{filter_map-none as nothing-each}
+use Rattle.ttp_world.proofs.WorldFacts.{event-bounded}
+use Rattle.ttp_world.proofs.ListFacts.{filter_map-few as length-filter_map}
 
 -- Each event is valid.
 
@@ -63,16 +66,6 @@ events-valid list number script valid some =
           let other = turns-differ n slot (slot + 1) (omega arith) (omega (arith, valid.count)) in
           (node (slot + 1), less, (node slot, leb-true 1 _ loaded, other));
     })
-
-event-bounded : (list : Medl) (script : Script) (e : Event) → IsValidEvent list script e → IsBounded e
-event-bounded list script (event.Error node value from to) valid = valid.1
-event-bounded list script (event.Jump node value slot) valid = valid.1
-event-bounded list script (event.Send node channels kind from to) valid = tt
-event-bounded list script (event.Receive node channels kind from to) valid = tt
-event-bounded list script (event.Flip node channels bit slot) valid = tt
-event-bounded list script (event.Arm node slot) valid = tt
-event-bounded list script (event.Write node slot payload) valid = tt
-event-bounded list script (event.Read node slot from) valid = tt
 
 -- How many events there are.
 
@@ -161,15 +154,6 @@ few-written list slots slot =
     ∙ written-elsewhere (nat_le 2 list.buffers && has_payload list (at % n)) at slot (at % n)
     (replicate (plan_at list (at % n)).payload (at % 256)) other) here in
     omega (arith, ap length whole, most)
-
-length-option : {X : Type 0} (found : Option X) (xs : List X) (m : ℕ) → length xs ≤ m
-    → length (cons_option found xs) ≤ suc m
-length-option None xs m few = omega arith
-length-option (Some x) xs m few = omega arith
-
-length-filter_map : {X Y : Type 0} (h : X → Option Y) (xs : List X) → length (filter_map h xs) ≤ length xs
-length-filter_map h [] = omega arith
-length-filter_map h (x ∷ xs) = length-option (h x) (filter_map h xs) (length xs) (length-filter_map h xs)
 
 room-below : (buffers : ℕ) → 1 ≤ buffers → cond (nat_le 2 buffers) 1 0 < buffers
 room-below buffers some = elim (cases_lt 1 buffers) [

@@ -21,10 +21,6 @@ number_in-more word i within digit =
 pub digit-small : (b : ℕ) → is_ascii_digit b ≡ true → b - 48 < 10
 digit-small b digit = grind (arith, nat_tests)
 
--- a number of so many digits stays below the power of ten
-pub below_power : (i number digit : ℕ) → number < 10 ^ i → digit < 10 → number * 10 + digit < 10 ^ (i + 1)
-below_power i number digit small one = omega (arith, pow_more 10 i)
-
 pub within_word : (i number : ℕ) → number < 10 ^ i → i < 9 → number * 10 + 9 < 2 ^ 32
 within_word i number small few =
     let most : 10 ^ (i + 1) ≤ 10 ^ 9 = pow-le-pow_right {n = 10} (lit< tt) {i = i + 1} {j = 9} (omega arith) in

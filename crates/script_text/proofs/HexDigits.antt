@@ -1,6 +1,6 @@
 -- Messages of hexadecimal digits, two for each byte.
-use Rattle.std.proofs.Common.{◌≡◌, ℕ, suc, ◌+◌, ◌-◌, ◌*◌, ◌<◌, ◌≤◌, Bool, true, false, ◌&&◌, List, [], ◌∷◌, ◌++◌}
-use Rattle.std.proofs.Common.{length, get_or, take, drop, map, arith, refl, ap, sym, ◌∙◌, drop-cons, zero-add}
+use Rattle.std.proofs.Common.{◌≡◌, ℕ, ◌+◌, ◌-◌, ◌*◌, ◌<◌, ◌≤◌, Bool, true, false, ◌&&◌, List, [], ◌∷◌, ◌++◌}
+use Rattle.std.proofs.Common.{length, get_or, take, drop, map, arith, refl, ap, sym, ◌∙◌, zero-add}
 use Rattle.std.specs.Char.{digit_value}
 use Rattle.std.specs.List.{list_all, range_with_len}
 use Rattle.std.proofs.lemmas.Bool.{lt-ltb, le-ltb}
@@ -11,6 +11,7 @@ use Rattle.std.proofs.lemmas.List.FromFn.{get_or-map-range_with_len}
 use Rattle.script_text.specs.declared.hex.TheConstants.{DIGITS}
 use Rattle.script_text.specs.Lines.{is_part}
 use Rattle.script_text.specs.Numbers.{is_hex_digit, is_hex, hex_bytes_in}
+use Rattle.ttp_world.proofs.ListFacts.{next_pair}
 
 -- each entry of the table is computed
 DIGITS_are : DIGITS ≡ map digit_value (range_with_len 0 256)
@@ -20,17 +21,6 @@ pub get_or-DIGITS : (byte : ℕ) → byte < 256 → get_or DIGITS byte 0 ≡ dig
 get_or-DIGITS byte fits =
     ap (λ (digits : List ℕ). get_or digits byte 0) DIGITS_are
     ∙ get_or-map-range_with_len digit_value 0 256 byte byte 0 fits (zero-add byte)
-
--- the next two digits of what is left
-next_pair : (word : List ℕ) (i : ℕ) → 2 * i + 1 < length word
-    → drop (2 * i) word ≡ get_or word (2 * i) 0 ∷ get_or word (2 * i + 1) 0 ∷ drop (2 * (i + 1)) word
-next_pair word i within =
-    let more : suc (suc (2 * i)) ≡ 2 * (i + 1) = omega arith in
-    let one : suc (2 * i) ≡ 2 * i + 1 = omega arith in
-    drop-cons word (2 * i) 0 (omega arith)
-    ∙ ap (λ (l : List ℕ). get_or word (2 * i) 0 ∷ l) (drop-cons word (suc (2 * i)) 0 (omega arith)
-    ∙ ap (λ (n : ℕ). get_or word n 0 ∷ drop (suc (suc (2 * i))) word) one
-    ∙ ap (λ (n : ℕ). get_or word (2 * i + 1) 0 ∷ drop n word) more)
 
 hex_bytes-next : (front word : List ℕ) (i byte : ℕ) → 2 * i + 1 < length word
     → byte ≡ 16 * digit_value (get_or word (2 * i) 0) + digit_value (get_or word (2 * i + 1) 0)

@@ -1,5 +1,4 @@
 pub mod Cuts
-pub mod WordList
 pub mod Digits
 pub mod Spelling
 pub mod HexDigits

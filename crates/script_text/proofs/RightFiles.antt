@@ -19,7 +19,7 @@ use Rattle.ttp_world.specs.declared.script.TheConstants.{SLOT_LIMIT, DRIFT_LIMIT
 use Rattle.ttp_world.specs.declared.script.TheConstants.{HOST_EVENT_LIMIT}
 use Rattle.ttp_world.specs.declared.script.TheConstants.{EVENT_LIMIT}
 use Rattle.ttp_world.specs.Medl.{IsValid}
-use Rattle.ttp_world.specs.Script.{IsValidEvent, IsValidScript, IsWithinSpan, IsWithinRun, IsBounded}
+use Rattle.ttp_world.specs.Script.{IsValidScript, IsWithinSpan, IsWithinRun, IsBounded}
 use Rattle.ttp_world.specs.Script.{HostWrite, is_host_event, write_in, payload_of_host}
 use Rattle.script_text.specs.declared.error.LineFault.{LineFault}
 use Rattle.script_text.specs.declared.error.ScriptError.{ScriptError}
@@ -41,6 +41,7 @@ use Rattle.script_text.proofs.Valid.{AreValid, AreValid-none, AreValid-form}
 use Rattle.script_text.proofs.ValidEvents.{within_span}
 use Rattle.script_text.proofs.Kept.{count_one}
 use Rattle.script_text.proofs.Sizes.{is_host_form, with_end, size_of, size-lines_of, size-event_line, size-host_line}
+use Rattle.ttp_world.proofs.WorldFacts.{event-bounded as event_bounded}
 
 -- a line without a fault
 record IsRightLine (list : Medl) (said : List Statement) (words : List (List ℕ)) (form : Keyword) : Type 0 where
@@ -318,17 +319,6 @@ script_of-valid list text script right size is =
     let file = right_file list 1 [] lines both.0 (AreValid-none list right) in
     rw (← both.1) (valid_script list said file.valid file.slots (omega (arith, file.size, size-lines_of text))
     (omega (arith, file.host_size, size-lines_of text)))
-
--- an event of a valid script is as the index of events wants it
-event_bounded : (list : Medl) (script : Script) (e : Event) → IsValidEvent list script e → IsBounded e
-event_bounded list script (event.Send node channels kind from to) valid = tt
-event_bounded list script (event.Receive node channels kind from to) valid = tt
-event_bounded list script (event.Flip node channels bit slot) valid = tt
-event_bounded list script (event.Error node value from to) valid = valid.1
-event_bounded list script (event.Jump node value slot) valid = valid.1
-event_bounded list script (event.Arm node slot) valid = tt
-event_bounded list script (event.Write node slot payload) valid = tt
-event_bounded list script (event.Read node slot from) valid = tt
 
 pub events_bounded : (list : Medl) (said : List Statement) → AreValid list said → All IsBounded (events_of said)
 unfolding stated_script

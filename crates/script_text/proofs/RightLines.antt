@@ -1,5 +1,5 @@
 -- A right line that says what happens in slots.
-use Rattle.std.proofs.Common.{◌≡◌, Bool, true, false, not, ◌&&◌, ℕ, ◌+◌, ◌*◌, ◌≤◌, ◌==◌, nat_le, nat_lt, ℤ}
+use Rattle.std.proofs.Common.{◌≡◌, Bool, true, false, not, ℕ, ◌+◌, ◌*◌, ◌≤◌, ◌==◌, nat_le, nat_lt, ℤ}
 use Rattle.std.proofs.Common.{List, [], ◌∷◌, ◌++◌, length}
 use Rattle.std.proofs.Common.{Option, Some, None, Result, Ok, Err, unwrap_or, is_some, option_to_list, arith, refl}
 use Rattle.std.proofs.Common.{ap, sym, ◌∙◌}
@@ -32,6 +32,7 @@ use Rattle.script_text.specs.SoFar.{TakesForm, TakesLine}
 use Rattle.script_text.specs.Fields.{Begins, is_message, IsRight, IsTaken, IsKept, KeepsMessage}
 use Rattle.script_text.proofs.Kept.{takes_form, stated_faults-event, event_stated, event_form, not_write}
 use Rattle.script_text.proofs.Kept.{StandsFor-event, TakesForm-write}
+use Rattle.ttp_world.proofs.SmallTests.{both as and}
 
 -- Nothing is wrong.
 
@@ -42,11 +43,6 @@ event_faults-none : (words : List (List ℕ)) (list : Medl) (slots : ℕ) (form 
     → event_faults words list slots form ≡ []
 unfolding event_faults
 event_faults-none words list slots form numbers nodes payload range = grind (arith, common_steps)
-
-and : (a b : Bool) → a ≡ true → b ≡ true → (a && b) ≡ true
-and true true first second = refl
-and true false first second = second
-and false b first second = first
 
 pub IsRight-send : (list : Medl) (slots : ℕ) (line a b c d e : List ℕ)
     (node : ℕ) (channels : Channels) (fault : Fault) (from : ℕ) (to : ℕ)

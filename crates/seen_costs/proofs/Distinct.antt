@@ -15,6 +15,7 @@ use Rattle.ttp_base.proofs.Below.{below-next}
 use Rattle.campaign.specs.Cost.{each_once}
 use Rattle.seen_costs.specs.States.{IsHeld}
 use Rattle.seen_costs.specs.declared.sets.Held.{Held}
+use Rattle.ttp_world.proofs.SmallTests.{spelled as same_bytes}
 
 -- Items, one more at a time.
 
@@ -33,9 +34,6 @@ pub item-out : {X : Type 0} (h : ℕ → Option X) (n : ℕ) → h n ≡ None
 item-out h n is = items-next h n None is ∙ append-nil (filter_map h (below n))
 
 -- The same bytes.
-
-same_bytes : (a b : List ℕ) → bytes_eq a b ≡ true → a ≡ b
-same_bytes a b same = (bytes_eq-Decides a b).0 same
 
 pub bytes_eq-sym : (a b : List ℕ) → bytes_eq a b ≡ bytes_eq b a
 bytes_eq-sym a b =

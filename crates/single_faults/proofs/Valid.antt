@@ -1,6 +1,6 @@
 -- A script with one fault more is valid.
 use Rattle.std.proofs.Common.{◌≡◌, ℕ, ◌+◌, ◌-◌, ◌<◌, Bool, false, List, [], ◌∷◌, ◌++◌, length, Option}
-use Rattle.std.proofs.Common.{None, refl, ap, ◌∙◌, cond, arith, length-append, append-nil}
+use Rattle.std.proofs.Common.{ap, ◌∙◌, cond, arith, length-append, append-nil}
 use Rattle.std.specs.Prelude.{All, count_by, sum_by}
 use Rattle.std.specs.List.{filter_map, cons_option}
 use Rattle.std.proofs.lemmas.List.Elements.{All-nil, All-cons, All-head, All-tail, All-push, filter_map-append}
@@ -14,6 +14,8 @@ use Rattle.ttp_world.specs.Script.{HostWrite, write_in, messages_written, payloa
 use Rattle.ttp_world.specs.Script.{IsValidScript, IsBounded}
 use Rattle.campaign.specs.Tried.{with_fault}
 use Rattle.single_faults.specs.Tried.{MayStand}
+use Rattle.ttp_world.proofs.Unhosted.{write_in-none as unwritten}
+use Rattle.ttp_world.proofs.WorldFacts.{event-bounded as bounded}
 
 -- whatever events stand beside it
 same-valid : (list : Medl) (script : Script) (fault e : Event) → IsValidEvent list script e
@@ -34,17 +36,6 @@ all-valid list script fault (e ∷ events) all =
     All-cons (IsValidEvent list (with_fault script fault)) e events
     (same-valid list script fault e (All-head (IsValidEvent list script) e events all))
     (all-valid list script fault events (All-tail (IsValidEvent list script) e events all))
-
--- no host writes by it
-unwritten : (slot : ℕ) (e : Event) → is_host_event e ≡ false → write_in slot e ≡ None
-unwritten slot (event.Send node channels f from to) none = refl
-unwritten slot (event.Receive node channels f from to) none = refl
-unwritten slot (event.Flip node channels bit at) none = refl
-unwritten slot (event.Error node value from to) none = refl
-unwritten slot (event.Jump node value at) none = refl
-unwritten slot (event.Arm node at) none = refl
-unwritten slot (event.Write node at payload) none = absurd cc
-unwritten slot (event.Read node at from) none = refl
 
 same-messages : (script : Script) (fault : Event) (k slot : ℕ) → is_host_event fault ≡ false
     → messages_written (with_fault script fault) k slot ≡ messages_written script k slot
@@ -86,16 +77,6 @@ with_fault-valid list script fault valid may room = record {
 }
 
 -- A valid event is within its bounds.
-
-bounded : (list : Medl) (script : Script) (e : Event) → IsValidEvent list script e → IsBounded e
-bounded list script (event.Send node channels f from to) valid = tt
-bounded list script (event.Receive node channels f from to) valid = tt
-bounded list script (event.Flip node channels bit slot) valid = tt
-bounded list script (event.Error node value from to) valid = valid.1
-bounded list script (event.Jump node value slot) valid = valid.1
-bounded list script (event.Arm node slot) valid = tt
-bounded list script (event.Write node slot payload) valid = tt
-bounded list script (event.Read node slot from) valid = tt
 
 pub all-bounded : (list : Medl) (script : Script) (events : List Event) → All (IsValidEvent list script) events
     → All IsBounded events

@@ -10,7 +10,8 @@ use Rattle.ttp_base.specs.NodeSet.{below}
 use Rattle.ttp_base.specs.Text.{Lines}
 use Rattle.line_text.specs.Labels.{after_label}
 use Rattle.trace_check.specs.Following.{Begins, Departs}
-use Rattle.trace_check.proofs.Labels.{behind-line, no_line}
+use Rattle.trace_check.proofs.Labels.{no_line}
+use Rattle.line_text.proofs.LabelTexts.{label-takes as behind-line}
 
 pub begins-more : (text rest line more : List ℕ) (lines : Lines) → Begins text lines rest → rest ≡ line ++ more
     → Begins text (lines ++ line ∷ []) more

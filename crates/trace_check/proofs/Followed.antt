@@ -9,8 +9,8 @@ use Rattle.ttp_world.proofs.LegalRuns.{legal-none}
 use Rattle.line_text.specs.Labels.{after_label}
 use Rattle.trace_check.specs.declared.follow.Follower.{Follower}
 use Rattle.trace_check.specs.Following.{Begins, StandsFor, StandsAt, GoesOnTo}
-use Rattle.trace_check.proofs.Labels.{behind-line}
 use Rattle.trace_check.proofs.Wholes.{lines_so_far, goes_on-begins}
+use Rattle.line_text.proofs.LabelTexts.{label-takes as behind-line}
 
 pub record HasFollowed (f : Follower) (list : Medl) (script : Script) (slot : ℕ) (text rest : List ℕ) : Type 0 where
   pub numbers : Numbers

@@ -1,10 +1,9 @@
 -- What is left of a text behind a line that is due, and what `?` hands on where there is none.
-use Rattle.std.proofs.Common.{◌≡◌, List, ◌++◌, ℕ, Some, None, Result, Ok, Err, subst, sym, ap, ◌∙◌}
+use Rattle.std.proofs.Common.{◌≡◌, List, ◌++◌, ℕ, None, Result, Ok, Err, subst, sym, ap, ◌∙◌}
 use Rattle.std.specs.Prelude.{IfErr}
 use Rattle.std.specs.Result.{IsErrAnd}
 use Rattle.std.proofs.lemmas.Option.{none-some}
 use Rattle.line_text.specs.Labels.{after_label}
-use Rattle.line_text.proofs.LabelTexts.{label-takes}
 use Rattle.line_text.proofs.LabelTexts.{label-again}
 
 pub passed_up : {T E : Type 0} (r : Result T E) (e : E) (P : E → Type 0) → IsErrAnd r (λ y. y ≡ e) → P e → IfErr r P
@@ -15,9 +14,6 @@ pub err_by_both : {T E : Type 0} (r : Result T E) (P Q R : E → Type 0) → ((e
     → IfErr r Q → IfErr r R
 err_by_both (Ok x) P Q R by p q = tt
 err_by_both (Err e) P Q R by p q = by e p q
-
-pub behind-line : (line text rest : List ℕ) → after_label line text ≡ Some rest → text ≡ line ++ rest
-behind-line = label-takes
 
 pub no_line : (line text : List ℕ) → after_label line text ≡ None → (more : List ℕ) → ¬ (text ≡ line ++ more)
 no_line line text none more = λ is.

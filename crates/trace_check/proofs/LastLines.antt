@@ -11,7 +11,8 @@ use Rattle.ttp_world.specs.Returning.{has_arm, returns}
 use Rattle.ttp_world.specs.Trace.{keep_line, back_line, back_lines, back_lines_if, test_lines}
 use Rattle.line_text.specs.Labels.{after_label}
 use Rattle.trace_check.specs.Following.{Begins, Departs}
-use Rattle.trace_check.proofs.Labels.{behind-line, no_line}
+use Rattle.trace_check.proofs.Labels.{no_line}
+use Rattle.line_text.proofs.LabelTexts.{label-takes as behind-line}
 
 module _ (list : Medl) (script : Script) (keep : Keep) (kept : keep ≡ keeps list script) where
   -- no line of the hypothesis test

@@ -37,6 +37,7 @@ use Rattle.line_text.proofs.WrittenNumbers.{numeral-again}
 use Rattle.trace_check.specs.Following.{lines_of_slot}
 use Rattle.trace_check.specs.Outgoing.{number_in, number_named, number_taken, oldest_number}
 use Rattle.line_text.proofs.Cuts.{AreLines, lines_of-behind}
+use Rattle.ttp_world.proofs.LineLists.{each-append as both_parts}
 
 -- The lines of a slot are lines.
 
@@ -47,11 +48,6 @@ right_part P (x ∷ xs) ys all = right_part P xs ys all.1
 left_part : {X : Type 0} (P : X → Type 0) (xs ys : List X) → AllByRecursion P (xs ++ ys) → AllByRecursion P xs
 left_part P [] ys all = tt
 left_part P (x ∷ xs) ys all = (all.0, left_part P xs ys all.1)
-
-both_parts : {X : Type 0} (P : X → Type 0) (xs ys : List X) → AllByRecursion P xs → AllByRecursion P ys
-    → AllByRecursion P (xs ++ ys)
-both_parts P [] ys all others = others
-both_parts P (x ∷ xs) ys all others = (all.0, both_parts P xs ys all.1 others)
 
 one_of : {X : Type 0} (P : X → Type 0) (xs : List X) (i : ℕ) (d : X) → i < length xs → AllByRecursion P xs
     → P (get_or xs i d)

@@ -1,10 +1,10 @@
 -- One read of a slot after others: which number is legal, and what the floors then tell.
 use Rattle.std.proofs.Common.{◌≡◌, ℕ, ◌+◌, ◌*◌, ◌<◌, ◌≤◌, ◌↔◌, Bool, true, false, ◌&&◌, ◌||◌, not, List, [], ◌∷◌, ◌++◌}
 use Rattle.std.proofs.Common.{length, get_or, set, Some, None, inl, inr, refl, ap, sym, ◌∙◌, subst, arith}
-use Rattle.std.specs.Prelude.{◌==◌, nat_le}
+use Rattle.std.specs.Prelude.{nat_le}
 use Rattle.std.specs.List.{AllByRecursion, list_all}
 use Rattle.std.proofs.Math.Nat.{mul_comm}
-use Rattle.std.proofs.lemmas.Bool.{and_parts, cases_eq, eq-eqb, eqb-true, false≢true, le-leb, leb-true}
+use Rattle.std.proofs.lemmas.Bool.{and_parts, cases_eq, eq-eqb, false≢true, le-leb, leb-true}
 use Rattle.std.proofs.lemmas.List.{get_or-set_other, get_or-set_same}
 use Rattle.std.proofs.lemmas.Nat.{mul-add-lt, same_from_place}
 use Rattle.std.proofs.lemmas.Option.{none-some}
@@ -21,8 +21,10 @@ use Rattle.trace_check.specs.declared.incoming.Incoming.{Incoming}
 use Rattle.trace_check.specs.Following.{KnowsReads, MayRead, ReadsNone, ReadsOne, behind_new_read, behind_read}
 use Rattle.trace_check.specs.Following.{line_of_read, row_after}
 use Rattle.trace_check.specs.Incoming.{HasPlaces, IsRing, floor_of, floor_place, newest_before}
-use Rattle.trace_check.proofs.Labels.{behind-line, no_line}
+use Rattle.trace_check.proofs.Labels.{no_line}
 use Rattle.trace_check.proofs.Rings.{after-few, new_read-none, new_read-some}
+use Rattle.line_text.proofs.LabelTexts.{label-takes as behind-line}
+use Rattle.ttp_world.proofs.LegalReads.{same_read, not_older_if}
 
 -- Where floors are.
 
@@ -82,21 +84,6 @@ source_refl (source.Node p) = eq-eqb p p refl
 
 ring_refl : (r : HostRead) → is_same_ring r r ≡ true
 ring_refl r = λ i. eq-eqb r.host r.host refl i && source_refl r.source i
-
-same_source : (a b : Source) → is_same_source a b ≡ true → a ≡ b
-same_source source.Status source.Status is = refl
-same_source source.Status (source.Node k) is = absurd (false≢true is)
-same_source (source.Node j) source.Status is = absurd (false≢true is)
-same_source (source.Node j) (source.Node k) is = ap source.Node (eqb-true j k is)
-
-same_read : (a b : HostRead) → is_same_ring a b ≡ true → a ≡ b
-same_read a b is =
-    let parts = and_parts (a.host == b.host) (is_same_source a.source b.source) is in
-    λ i. record { host = eqb-true a.host b.host parts.0 i; source = same_source a.source b.source parts.1 i }
-
-not_older_if : (same : Bool) (old new : ℕ) → (same ≡ true → old ≤ new) → (not same || nat_le old new) ≡ true
-not_older_if true old new up = le-leb old new (up refl)
-not_older_if false old new up = refl
 
 older_if : (same : Bool) (old new : ℕ) → same ≡ true → (not same || nat_le old new) ≡ true → old ≤ new
 older_if true old new is up = leb-true old new up

@@ -19,6 +19,7 @@ use Rattle.ttp_world.specs.TraceNumbers.{number_named, word_in, words_of}
 use Rattle.ttp_world.proofs.LineWords.{read_line-words}
 use Rattle.ttp_world.proofs.NumberWords.{number_named-decimal}
 use Rattle.trace_check.specs.Following.{MayRead, row_after}
+use Rattle.ttp_world.proofs.LegalShapes.{never_fall-older as falls-next}
 
 -- The newest messages for the reads that are left.
 
@@ -104,11 +105,6 @@ has-next list script slot after (read ∷ reads) (m ∷ first) (o ∷ others) mo
     }
 
 -- That read is legal after those before it.
-
-falls-next : (later older : List ReadMessage) → never_fall (later ++ older) ≡ true → never_fall older ≡ true
-falls-next [] older falls = falls
-falls-next (r ∷ later) older falls =
-    falls-next later older (and_parts (list_all (is_not_older r) (later ++ older)) _ falls).1
 
 middle : {X : Type 0} (p : X → Bool) (xs : List X) (x : X) (ys : List X) → list_all p (xs ++ x ∷ ys) ≡ true → p x ≡ true
 middle p [] x ys all = (and_parts (p x) (list_all p ys) all).0

@@ -22,11 +22,7 @@ use Rattle.ttp_world.specs.World.{node_past}
 use Rattle.trace_check.specs.declared.incoming.Incoming.{Incoming}
 use Rattle.trace_check.specs.Incoming.{HasPlaces, IsNewest, TellsRings, newest_message}
 use Rattle.trace_check.proofs.Ended.{delivered-none, delivered-number, delivered-other, delivered-own}
-
-set_same : {X : Type 0} (xs : List X) (i : ℕ) (x : X) → i < length xs → slice_get (set xs i x) i ≡ Some x
-set_same [] i x within = absurd (omega (arith, within))
-set_same (y ∷ xs) zero x within = refl
-set_same (y ∷ xs) (suc i) x within = set_same xs i x (omega (arith, within))
+use Rattle.ttp_world.proofs.ListFacts.{slice_get-set_same as set_same}
 
 set_other : {X : Type 0} (xs : List X) (i j : ℕ) (x : X) → (j ≡ i → ⊥) → slice_get (set xs i x) j ≡ slice_get xs j
 set_other [] i j x other = refl

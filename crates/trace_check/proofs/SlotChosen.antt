@@ -17,7 +17,7 @@ use Rattle.ttp_world.specs.declared.node.Delivered.{Delivered}
 use Rattle.ttp_world.specs.declared.node.Entry.{Entry}
 use Rattle.ttp_world.specs.declared.script.Script.{Script}
 use Rattle.ttp_world.specs.Diary.{History, entry_of}
-use Rattle.ttp_world.specs.Legal.{IsLegal, ReadMessage, are_legal_messages, are_legal_reads, are_same_numbers}
+use Rattle.ttp_world.specs.Legal.{IsLegal, ReadMessage, are_legal_messages, are_legal_reads}
 use Rattle.ttp_world.specs.Legal.{is_legal_message, is_legal_read, is_legal_slot, never_fall}
 use Rattle.ttp_world.specs.Legal.{read_messages}
 use Rattle.ttp_world.specs.Medl.{IsValid}
@@ -40,6 +40,7 @@ use Rattle.trace_check.specs.Following.{Begins, DepartsAfter, HasEnded, MayReadA
 use Rattle.trace_check.specs.Incoming.{TellsRings}
 use Rattle.trace_check.specs.Outgoing.{number_taken, oldest_number}
 use Rattle.ttp_world.proofs.LegalSlots.{legal-after}
+use Rattle.ttp_world.proofs.LegalRuns.{are_same_numbers-refl as same_refl}
 
 pub begins-append : (text one rest : List ℕ) (lines more : Lines) → Begins text lines one → Begins one more rest
     → Begins text (lines ++ more) rest
@@ -64,11 +65,6 @@ taken-legal list script slot k (Some i) =
     cond_both (is_legal_message list script slot k (Some i)) i (oldest_number list script slot k)
     (λ (n : ℕ). IsTrue (is_legal_message list script slot k (Some n))) (λ legal. legal)
     (λ other. oldest_legal list script slot k)
-
-same_refl : (ns : List (Option ℕ)) → are_same_numbers ns ns ≡ true
-same_refl [] = refl
-same_refl (None ∷ ns) = same_refl ns
-same_refl (Some n ∷ ns) = λ i. eq-eqb n n refl i && same_refl ns i
 
 legal_if : (list : Medl) (script : Script) (slot k number : ℕ) (loaded : Bool)
     → is_legal_message list script slot k (Some number) ≡ true

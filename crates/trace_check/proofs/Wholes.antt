@@ -61,7 +61,7 @@ trace-cut list script whole more new numbers older =
 
 -- Numbers of a whole run.
 
-legal-drop : (list : Medl) (script : Script) (whole : Numbers) (more : ℕ) → IsLegal list script whole
+pub legal-drop : (list : Medl) (script : Script) (whole : Numbers) (more : ℕ) → IsLegal list script whole
     → IsLegal list script (drop more whole)
 legal-drop list script whole zero legal = legal
 legal-drop list script [] (suc more) legal = legal

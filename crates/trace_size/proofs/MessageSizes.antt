@@ -1,14 +1,10 @@
 -- How long the messages are that hosts read, as bytes and as hexadecimal digits.
-use Rattle.std.proofs.Common.{◌≡◌, ℕ, zero, suc, ◌+◌, ◌*◌, ◌≤◌, List, [], ◌∷◌, ◌++◌}
-use Rattle.std.proofs.Common.{length, get_or, Option, Some, None, IfSome, arith, length-append, is_some, drop}
-use Rattle.std.specs.Prelude.{◌==◌, replicate, slice_get, unwrap_or}
-use Rattle.std.specs.List.{AllByRecursion, flat_map}
+use Rattle.std.proofs.Common.{ℕ, zero, suc, ◌+◌, ◌≤◌, List, [], ◌∷◌, ◌++◌}
+use Rattle.std.proofs.Common.{length, get_or, Option, Some, None, IfSome, arith, is_some, drop}
+use Rattle.std.specs.Prelude.{◌==◌, replicate}
 use Rattle.std.proofs.lemmas.Bool.{cond_both}
 use Rattle.std.proofs.lemmas.List.{length-replicate, length-take}
-use Rattle.ttp_base.specs.Text.{hex_bytes}
-use Rattle.ttp_base.proofs.Room.{length-hex}
 use Rattle.ttp_world.specs.declared.medl.Medl.{Medl}
-use Rattle.ttp_world.specs.declared.medl.SlotPlan.{SlotPlan}
 use Rattle.ttp_world.specs.declared.node.Delivered.{Delivered}
 use Rattle.ttp_world.specs.declared.node.Entry.{Entry}
 use Rattle.ttp_world.specs.declared.node.Entry.TheVariants as entry
@@ -19,26 +15,20 @@ use Rattle.ttp_world.specs.Conduct.{delivery, payload_taken}
 use Rattle.ttp_world.specs.Diary.{History, Place, entry_of}
 use Rattle.ttp_world.specs.Fitting.{carried_length}
 use Rattle.ttp_world.specs.Medium.{Signal, Silence, Noise, Bits}
-use Rattle.ttp_world.specs.Medl.{IsValid, IsValidSlot, is_bare, kind_at, member_width, no_plan, payload_length, plan_at}
+use Rattle.ttp_world.specs.Medl.{IsValid, is_bare, kind_at, member_width, payload_length, plan_at}
 use Rattle.ttp_world.specs.Messages.{delivered_of, in_messages, new_messages, ring_messages, status_messages}
 use Rattle.ttp_world.specs.Messages.{messages_of, status_words}
 use Rattle.ttp_world.specs.Outgoing.{zeros_of}
 use Rattle.ttp_world.specs.Past.{NodePast}
 use Rattle.ttp_world.specs.Reception.{Expected, Hearing, expected_header, expected_of, is_first_view, payload_heard}
 use Rattle.ttp_world.specs.Reception.{view_of}
-use Rattle.ttp_world.specs.Trace.{message_hex, word_hex}
+use Rattle.ttp_world.specs.Trace.{message_hex}
 use Rattle.ttp_world.specs.World.{frames_in, hearing_in, node_of, node_past, slot_after}
+use Rattle.ttp_base.proofs.Hex.{length-hex_bytes as length-bytes}
+use Rattle.ttp_world.proofs.ListFacts.{length-word_hexes as length-words}
+use Rattle.ttp_world.proofs.WorldFacts.{plan-short}
 
 -- A payload is no longer than a list gives one.
-
-slot-short : (rounds modes : ℕ) (plans : List SlotPlan) (k : ℕ) → AllByRecursion (IsValidSlot rounds modes) plans
-    → (unwrap_or (slice_get plans k) no_plan).payload ≤ 240
-slot-short rounds modes [] k valid = omega arith
-slot-short rounds modes (plan ∷ plans) zero valid = valid.0.payload
-slot-short rounds modes (plan ∷ plans) (suc k) valid = slot-short rounds modes plans k valid.1
-
-plan-short : (list : Medl) (k : ℕ) → IsValid list → (plan_at list k).payload ≤ 240
-plan-short list k valid = slot-short list.rounds list.modes list.slots k valid.slots
 
 expected-short : (list : Medl) (place : Place) → IsValid list → payload_length list place.round place.slot ≤ 240
 expected-short list place valid =
@@ -134,15 +124,6 @@ status_messages-short list script (row ∷ history) k =
     (short-one 4 _ (omega arith))
 
 -- As digits.
-
-length-words : (words : List ℕ) → length (flat_map word_hex words) ≡ 16 * length words
-length-words [] = omega arith
-length-words (word ∷ words) =
-    omega (arith, length-append (word_hex word) (flat_map word_hex words), length-hex 16 word, length-words words)
-
-length-bytes : (bytes : List ℕ) → length (hex_bytes bytes) ≡ 2 * length bytes
-length-bytes [] = omega arith
-length-bytes (byte ∷ bytes) = omega (arith, length-bytes bytes)
 
 pub message-short : (list : Medl) (script : Script) (history : History) (k : ℕ) (from : Source) (i : ℕ) → IsValid list
     → length (message_hex from (get_or (ring_messages list script history k from) i [])) ≤ 480

@@ -7,7 +7,6 @@ use Rattle.std.specs.Option.{option_or}
 use Rattle.std.proofs.lemmas.Bool.{and_parts}
 use Rattle.std.proofs.lemmas.Int.{ints}
 use Rattle.ttp_world.specs.declared.medl.Medl.{Medl}
-use Rattle.ttp_world.specs.declared.node.Ack.{Ack}
 use Rattle.ttp_world.specs.declared.node.Ack.TheVariants as ack
 use Rattle.ttp_world.specs.declared.node.Act.{Act}
 use Rattle.ttp_world.specs.declared.node.Act.TheVariants.{Off, Gone, Listen, Start, Retry, Leave, Send, Judge}
@@ -26,9 +25,11 @@ use Rattle.ttp_world.specs.Fitting.{joinable}
 use Rattle.ttp_world.specs.Medium.{Signal, Silence, Noise, Bits}
 use Rattle.ttp_world.specs.Past.{NodePast}
 use Rattle.ttp_world.specs.Reception.{Hearing, Expected, expected_of, is_within_window, is_expected_form, view_of_frame}
-use Rattle.ttp_world.specs.Reception.{view_of, is_taken_from_a, better_view, verdict_of_view, verdict_of}
+use Rattle.ttp_world.specs.Reception.{view_of, is_taken_from_a, better_view, verdict_of}
 use Rattle.ttp_world.specs.Reception.{heard_deviation, entry_deviation}
 use Rattle.ttp_world.proofs.Averages.{Between}
+use Rattle.ttp_world.proofs.DeliveredSizes.{of_form as not_bad}
+use Rattle.ttp_world.proofs.WorldFacts.{first_of_correct}
 
 -- a deviation is within the list's window
 abbrev pub IsNear : Medl → ℤ → Type 0
@@ -64,11 +65,6 @@ of_first P (Some e) y waits p q = p
 
 -- Judging: of the views only the first candidate's makes a frame correct, and it is of bits within the window.
 
-first_of_correct : (v : ChannelView) (a : Ack) → is_correct (verdict_of_view v a) ≡ true → v ≡ view.First
-first_of_correct view.First a is = refl
-first_of_correct view.Second ack.Closed is = cc
-first_of_correct _ _ is = cc
-
 -- bits came, and within the window
 abbrev IsHeardNear : Medl → Option ℤ → Type 0
 IsHeardNear list None = ⊥
@@ -76,10 +72,6 @@ IsHeardNear list (Some deviation) = IsNear list deviation
 
 near_of_test : (w d : ℤ) → (int_le (neg_ℤ w) d && int_le d w) ≡ true → Between (neg_ℤ w) w d
 near_of_test w d is = (grind (arith, ints), grind (arith, ints))
-
-not_bad : (b : Bool) (v : ChannelView) → cond b v view.Bad ≡ view.First → b ≡ true
-not_bad true v is = refl
-not_bad false v is = cc
 
 first-near : (list : Medl) (e : Expected) (late : ℕ → ℤ) (signal : Signal) → view_of list e late signal ≡ view.First
     → IsHeardNear list (heard_deviation late signal)

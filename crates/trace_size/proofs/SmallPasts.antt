@@ -1,7 +1,7 @@
 -- What one slot more makes of a node's past: it counts one frame more at most, doubts a node of the list, notes only
 -- what is within the window, and its clock comes no further from 0 than a slot may take it.
-use Rattle.std.proofs.Common.{◌≡◌, ℕ, ◌+◌, ◌*◌, ◌^◌, ◌<◌, ◌≤◌, ℤ, pos, neg_ℤ, ◌+ℤ◌, Bool, true, false, cond, List, []}
-use Rattle.std.proofs.Common.{◌++◌, Option, Some, None, IfSome, unsigned_abs, refl, arith}
+use Rattle.std.proofs.Common.{ℕ, ◌+◌, ◌*◌, ◌^◌, ◌<◌, ◌≤◌, ℤ, pos, neg_ℤ, ◌+ℤ◌, Bool, true, false, cond, List, []}
+use Rattle.std.proofs.Common.{◌++◌, Option, Some, None, IfSome, unsigned_abs, arith}
 use Rattle.std.specs.Prelude.{All}
 use Rattle.std.specs.Option.{option_to_list}
 use Rattle.std.proofs.lemmas.Bool.{cond_both}
@@ -28,6 +28,7 @@ use Rattle.ttp_world.proofs.Averages.{fta-between}
 use Rattle.ttp_world.proofs.Lists.{nodes-most}
 use Rattle.ttp_world.proofs.Places.{IsOfList}
 use Rattle.trace_size.proofs.SmallEntries.{IsNear, IsEntryNear}
+use Rattle.ttp_world.proofs.ListFacts.{IfSome-cond as if-noted}
 
 -- A slot takes a clock no further than this, in microticks: its jumps and reading errors are within theirs, and with a
 -- drift and a correction they come to less.
@@ -109,10 +110,6 @@ ack-small list a _ valid of_list small = tt
 
 zero-near : (list : Medl) → IsValid list → IsNear list (pos 0)
 zero-near list valid = (omega (arith, ints, valid.window.0), omega (arith, ints, valid.window.0))
-
-if-noted : (P : ℤ → Type 0) (b : Bool) (z : ℤ) → (b ≡ true → P z) → IfSome (cond b (Some z) None) P
-if-noted P true z holds = holds refl
-if-noted P false z holds = tt
 
 noted-near : (list : Medl) (own : ℤ) (reach : ℕ) (e : Entry) → IsValid list → IsEntryNear list own reach e
     → IfSome (deviation_noted e) (IsNear list)

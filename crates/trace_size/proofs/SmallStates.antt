@@ -9,7 +9,6 @@ use Rattle.ttp_world.specs.declared.node.Act.{Act}
 use Rattle.ttp_world.specs.declared.node.Act.TheVariants.{Off, Listen}
 use Rattle.ttp_world.specs.declared.node.Chosen.{Chosen}
 use Rattle.ttp_world.specs.declared.node.Entry.{Entry}
-use Rattle.ttp_world.specs.declared.script.Event.{Event}
 use Rattle.ttp_world.specs.declared.script.Event.TheVariants as event
 use Rattle.ttp_world.specs.declared.script.Script.{Script}
 use Rattle.ttp_world.specs.declared.script.TheConstants.{DRIFT_LIMIT}
@@ -30,21 +29,10 @@ use Rattle.trace_size.proofs.Small.{IsSmall}
 use Rattle.trace_size.proofs.SmallEntries.{IsEntryNear, new_entry-near}
 use Rattle.trace_size.proofs.SmallPasts.{slot_reach, most_jump, most_error, joined_reach, AreSmall, IsDoubtSmall}
 use Rattle.trace_size.proofs.SmallPasts.{IsSmallPast, past_after-small}
+use Rattle.ttp_world.proofs.WorldFacts.{event-bounded as event_bounded}
+use Rattle.ttp_world.proofs.SmallTests.{span-abs}
 
 -- A script's numbers.
-
-span-abs : (bound : ℕ) (z : ℤ) → IsWithinSpan bound z → unsigned_abs z ≤ bound
-span-abs bound z within = omega (arith, ints, within.0, within.1)
-
-event_bounded : (list : Medl) (script : Script) (e : Event) → IsValidEvent list script e → IsBounded e
-event_bounded list script (event.Error node value from to) valid = valid.1
-event_bounded list script (event.Jump node value slot) valid = valid.1
-event_bounded list script (event.Send node channels f from to) valid = tt
-event_bounded list script (event.Receive node channels f from to) valid = tt
-event_bounded list script (event.Flip node channels bit slot) valid = tt
-event_bounded list script (event.Arm node slot) valid = tt
-event_bounded list script (event.Write node slot payload) valid = tt
-event_bounded list script (event.Read node slot from) valid = tt
 
 incidents-bounded : (list : Medl) (script : Script) (k slot : ℕ) → IsValidScript list script
     → AreBounded (incidents_of script k slot)

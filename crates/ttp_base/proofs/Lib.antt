@@ -1,6 +1,6 @@
 pub mod Below
 mod Decimal
-mod Hex
+pub mod Hex
 mod Known
 mod Told
 pub mod Lines

@@ -16,7 +16,7 @@ is_line-append (b ∷ x) line none is = go (b == 10) none (λ rest. is_line-appe
     go false none more = more none
 
 -- the lines of a line and more bytes
-lines_of-line : (line more : List ℕ) → is_line line ≡ true → lines_of (line ++ more) ≡ line ∷ lines_of more
+pub lines_of-line : (line more : List ℕ) → is_line line ≡ true → lines_of (line ++ more) ≡ line ∷ lines_of more
 lines_of-line [] more is = absurd (cc)
 lines_of-line (b ∷ line) more is = go (b == 10) refl is (lines_of-line line more)
   where

@@ -31,7 +31,7 @@ has_node-below n j within =
     (eq-eqb _ j (omega (arith, get_or-range_with_len 0 n j 0 within)))
 
 -- a test and true are the test
-and-true : (b : Bool) → (b && true) ≡ b
+pub and-true : (b : Bool) → (b && true) ≡ b
 and-true true = refl
 and-true false = refl
 

@@ -1,11 +1,11 @@
 -- Frames as they were sent: what they carry, and when they fit another C-state.
-use Rattle.std.proofs.Common.{◌≡◌, ◌≢◌, ℕ, suc, ◌+◌, ◌*◌, ◌%◌, ◌<◌, ◌≤◌, Bool, true, false, List, [], ◌∷◌, ◌++◌, length}
+use Rattle.std.proofs.Common.{◌≡◌, ◌≢◌, ℕ, suc, ◌+◌, ◌*◌, ◌%◌, ◌<◌, Bool, true, false, List, [], ◌∷◌, ◌++◌, length}
 use Rattle.std.proofs.Common.{take, drop, if◌then◌else◌, refl, ap, sym, subst, ◌∙◌, arith, append_assoc}
 use Rattle.std.specs.Bool.{Decides}
 use Rattle.std.proofs.lemmas.Bool.{and_left, and_right, ne_eqb}
 use Rattle.std.proofs.lemmas.List.{drop_at, take_at}
 use Rattle.std.proofs.lemmas.Slice.Eq.{bytes_eq-Decides}
-use Rattle.ttp_base.specs.NodeSet.{most_nodes, has_node, set_bits, members_in}
+use Rattle.ttp_base.specs.NodeSet.{has_node, set_bits, members_in}
 use Rattle.ttp_base.proofs.SetWords.{HasWord, HasWord-filter, set_bits-small, members_in-set_bits}
 use Rattle.ttp_world.specs.declared.medl.Medl.{Medl}
 use Rattle.ttp_world.specs.declared.node.CState.{CState}
@@ -14,16 +14,12 @@ use Rattle.ttp_world.specs.Fitting.{carried_length, payload_in, number_in, carri
 use Rattle.ttp_world.specs.Frame.{big_endian, is_explicit, cstate_bytes, word_bytes, frame}
 use Rattle.ttp_world.specs.Medl.{is_wide, member_bytes, IsValid}
 use Rattle.ttp_world.specs.Membership.{AreNodes}
-use Rattle.ttp_world.proofs.Lists.{nodes-most}
+use Rattle.ttp_world.proofs.Lists.{nodes-most, limit_of_bytes as bits_of_members-most}
 use Rattle.ttp_frame.specs.Shape.{HavePlaces, sent, unsent}
 use Rattle.ttp_frame.proofs.FrameLaws.{parts_of, is_formed-fits, members_told, number_in-members}
 use Rattle.ttp_frame.proofs.Frames.{front, frame-pieces, length-sent}
 
 -- Members with places.
-
-bits_of_members-most : (wide : Bool) → 8 * member_bytes wide ≤ most_nodes
-bits_of_members-most true = omega arith
-bits_of_members-most false = omega arith
 
 -- a set with a word of a membership's bits has its places in the C-state
 pub HavePlaces-HasWord : (wide : Bool) (members : List ℕ) → HasWord (8 * member_bytes wide) members

@@ -23,7 +23,7 @@ fta-take (a ∷ b ∷ c ∷ d ∷ rest) =
 abbrev pub Between : ℤ → ℤ → ℤ → Type 0
 Between low high z = (low ≤ℤ z) × (z ≤ℤ high)
 
-rem_small : (r : ℤ) → unsigned_abs r < 2 → (negsuc 0 ≤ℤ r) × (r ≤ℤ pos 1)
+pub rem_small : (r : ℤ) → unsigned_abs r < 2 → (negsuc 0 ≤ℤ r) × (r ≤ℤ pos 1)
 rem_small (pos n) small = (omega (arith, ints, small), omega (arith, ints, small))
 rem_small (negsuc n) small = (omega (arith, ints, small), omega (arith, ints, small))
 

@@ -44,7 +44,7 @@ pub record Carries (list : Medl) (place : Place) : Type 0 where
   pub size : payload_length list place.round place.slot ≡ (plan_at list place.slot).payload
   pub some : 1 ≤ (plan_at list place.slot).payload
 
-carried_size : (bare : Bool) (size : ℕ) → not (cond bare 0 size == 0) ≡ true → cond bare 0 size ≡ size
+pub carried_size : (bare : Bool) (size : ℕ) → not (cond bare 0 size == 0) ≡ true → cond bare 0 size ≡ size
 carried_size true size carries = absurd cc
 carried_size false size carries = refl
 
@@ -67,7 +67,7 @@ formed_size width header size start bytes formed =
     (and_parts (length bytes == n + size + 3) _ formed).0 in
     omega (arith, length-take size (drop n bytes), length-drop n bytes, whole)
 
-of_form : (ok : Bool) (x : ChannelView) → cond ok x view.Bad ≡ view.First → ok ≡ true
+pub of_form : (ok : Bool) (x : ChannelView) → cond ok x view.Bad ≡ view.First → ok ≡ true
 of_form true x is = refl
 of_form false x is = absurd cc
 

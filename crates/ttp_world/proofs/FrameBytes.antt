@@ -142,7 +142,7 @@ flip_in_byte-small place byte there fits =
     ltb-true (flip_in_byte place byte) 256
     (each-below (λ b. nat_lt (flip_in_byte place b) 256) 256 byte (each-below flips_small 8 place all_small there) fits)
 
-flip_bit-bytes : (bytes : List ℕ) (bit : ℕ) → AreBytes bytes → AreBytes (flip_bit bytes bit)
+pub flip_bit-bytes : (bytes : List ℕ) (bit : ℕ) → AreBytes bytes → AreBytes (flip_bit bytes bit)
 flip_bit-bytes [] bit are = no_bytes
 flip_bit-bytes (b ∷ bs) bit are =
     let first = All-head IsByte b bs are in
@@ -151,7 +151,7 @@ flip_bit-bytes (b ∷ bs) bit are =
     (λ here. All-cons IsByte (flip_in_byte (7 - bit) b) bs (flip_in_byte-small (7 - bit) b (omega arith) first) rest)
     (λ later. All-cons IsByte b (flip_bit bs (bit - 8)) first (flip_bit-bytes bs (bit - 8) rest))
 
-flip_bits-bytes : (bits bytes : List ℕ) → AreBytes bytes → AreBytes (flip_bits bytes bits)
+pub flip_bits-bytes : (bits bytes : List ℕ) → AreBytes bytes → AreBytes (flip_bits bytes bits)
 flip_bits-bytes [] bytes are = are
 flip_bits-bytes (bit ∷ bits) bytes are = flip_bits-bytes bits (flip_bit bytes bit) (flip_bit-bytes bytes bit are)
 

@@ -90,7 +90,7 @@ reads-up_to list script (new ∷ numbers) legal =
 
 -- Reads of one ring.
 
-same_source : (a b : Source) → is_same_source a b ≡ true → a ≡ b
+pub same_source : (a b : Source) → is_same_source a b ≡ true → a ≡ b
 same_source source.Status source.Status is = refl
 same_source source.Status (source.Node k) is = absurd (false≢true is)
 same_source (source.Node j) source.Status is = absurd (false≢true is)

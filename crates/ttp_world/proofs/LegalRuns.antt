@@ -65,7 +65,7 @@ is_legal_message-if list script slot k number true is =
     ap (λ i. is_legal_message list script slot k (Some i)) (is refl) ∙ is_legal_message-newest list script slot k
 is_legal_message-if list script slot k number false is = refl
 
-are_same_numbers-refl : (ns : List (Option ℕ)) → are_same_numbers ns ns ≡ true
+pub are_same_numbers-refl : (ns : List (Option ℕ)) → are_same_numbers ns ns ≡ true
 are_same_numbers-refl [] = refl
 are_same_numbers-refl (None ∷ ns) = are_same_numbers-refl ns
 are_same_numbers-refl (Some n ∷ ns) = λ i. eq-eqb n n refl i && are_same_numbers-refl ns i

@@ -141,7 +141,7 @@ legal-reads list script new numbers legal =
 
 -- The numbers of the older slots are legal too.
 
-never_fall-older : (rs earlier : List ReadMessage) → never_fall (rs ++ earlier) ≡ true → never_fall earlier ≡ true
+pub never_fall-older : (rs earlier : List ReadMessage) → never_fall (rs ++ earlier) ≡ true → never_fall earlier ≡ true
 never_fall-older [] earlier falls = falls
 never_fall-older (r ∷ rs) earlier falls =
     never_fall-older rs earlier (and_parts (list_all (is_not_older r) (rs ++ earlier)) _ falls).1

@@ -46,3 +46,8 @@ pub mod TraceWords
 pub mod Unhosted
 pub mod WeightBounds
 pub mod Worlds
+pub mod WorldFacts
+pub mod ListFacts
+pub mod SmallTests
+pub mod RangeFacts
+pub mod WordList

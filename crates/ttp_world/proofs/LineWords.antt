@@ -21,7 +21,7 @@ use Rattle.ttp_world.specs.TraceNumbers.{words_of, word_in}
 use Rattle.ttp_base.proofs.Numerals.{has, has-decimal}
 use Rattle.ttp_world.proofs.TraceWords.{has-entry_word, has-number_or_dash, has-source_word}
 
-space_is_low : 32 < 45
+pub space_is_low : 32 < 45
 space_is_low = omega arith
 
 no_space : (word : List ℕ) → has 32 word ≡ false → All (λ c. (c == 32) ≡ false) word

@@ -15,7 +15,7 @@ use Rattle.ttp_world.specs.Medl.{payload_length, IsValid}
 
 -- How many nodes.
 
-limit_of_bytes : (wide : Bool) → 8 * member_bytes wide ≤ most_nodes
+pub limit_of_bytes : (wide : Bool) → 8 * member_bytes wide ≤ most_nodes
 limit_of_bytes true = omega arith
 limit_of_bytes false = omega arith
 

@@ -18,7 +18,7 @@ use Rattle.ttp_world.specs.Membership.{AreNodes}
 
 -- What an opinion makes of what was held before.
 
-or-false : (b : Bool) → (b || false) ≡ b
+pub or-false : (b : Bool) → (b || false) ≡ b
 or-false true = refl
 or-false false = refl
 
@@ -38,7 +38,7 @@ doubt_settled true doubted held = refl
 doubt_settled false doubted held = taken_out doubted held
 
 -- a number's test, the other way round
-eqb_comm : (a b : ℕ) → (a == b) ≡ (b == a)
+pub eqb_comm : (a b : ℕ) → (a == b) ≡ (b == a)
 eqb_comm a b = elim (cases_eq a b) [
   | inl same ↦ eq-eqb a b same ∙ sym (eq-eqb b a (sym same))
   | inr other ↦ ne_eqb a b other ∙ sym (ne_eqb b a (λ same. other (sym same)))

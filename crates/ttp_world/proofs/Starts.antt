@@ -119,7 +119,7 @@ alone-start list script start is =
           omega arith;
     }
 
-on-by : (ever on : Bool) → (not ever || on) ≡ true → ever ≡ true → on ≡ true
+pub on-by : (ever on : Bool) → (not ever || on) ≡ true → ever ≡ true → on ≡ true
 on-by true on either ever = either
 on-by false on either ever = absurd (both_ways false refl ever)
 

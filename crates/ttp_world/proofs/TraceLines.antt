@@ -41,7 +41,7 @@ IsLine line = is_line line ≡ true
 ends : (x : List ℕ) → has 10 x ≡ false → IsLine (x ++ newline)
 ends x none = is_line-append x newline none refl
 
-feed_is_low : 10 < 45
+pub feed_is_low : 10 < 45
 feed_is_low = omega arith
 
 -- The first line.

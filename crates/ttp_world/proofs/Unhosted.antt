@@ -24,7 +24,7 @@ filter_map-none p f (x ∷ xs) agree none =
     let split = none_passes (p x) (count_by p xs) (sym (sum_by-cons (λ y. cond (p y) 1 0) x xs) ∙ none) in
     λ i. cons_option (agree x split.0 i) (filter_map-none p f xs agree split.1 i)
 
-write_in-none : (slot : ℕ) (e : Event) → is_host_event e ≡ false → write_in slot e ≡ None
+pub write_in-none : (slot : ℕ) (e : Event) → is_host_event e ≡ false → write_in slot e ≡ None
 write_in-none slot (event.Write node at payload) other = absurd (false≢true (sym other))
 write_in-none slot (event.Read node at from) other = refl
 write_in-none slot (event.Send node channels f from to) other = refl

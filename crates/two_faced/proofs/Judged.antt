@@ -1,7 +1,7 @@
 -- A run of a script in which one sender may be two-faced, after each slot from the start on.
 use Rattle.std.proofs.Common.{◌≡◌, ◌≢◌, ℕ, suc, ◌+◌, ◌-◌, ◌<◌, ◌≤◌, ◌-ℤ◌, ◌≤ℤ◌, Bool, true, false, cond, List, []}
 use Rattle.std.proofs.Common.{◌∷◌, length, refl, ap, sym, subst, ◌∙◌, inl, inr, arith}
-use Rattle.std.proofs.lemmas.Bool.{both_ways, cases_eq, false≢true}
+use Rattle.std.proofs.lemmas.Bool.{both_ways, cases_eq}
 use Rattle.ttp_base.specs.NodeSet.{has_node}
 use Rattle.ttp_world.specs.declared.medl.Medl.{Medl}
 use Rattle.ttp_world.specs.declared.node.Ack.{Ack}
@@ -38,14 +38,11 @@ use Rattle.faced_clocks.proofs.Slots.{IsFacing}
 use Rattle.two_faced.specs.Halved.{AreJudgedCorrect, JudgedCorrectSince}
 use Rattle.two_faced.proofs.QuietPlan.{quiet_plan, follows, on-sound, begun, clocks}
 use Rattle.two_faced.proofs.Rules.{RulesHold}
+use Rattle.fault_plan.proofs.FateSteps.{sound-fate as sound-only}
 
 never-falling : (begins : Bool) (fate : Fate) → cond begins Sound Absent ≡ fate → (is_lost fate ≡ true) → ⊥
 never-falling true fate is lost = both_ways (is_lost fate) (ap is_lost (sym is)) lost
 never-falling false fate is lost = both_ways (is_lost fate) (ap is_lost (sym is)) lost
-
-sound-only : (fate : Fate) → is_sound fate ≡ true → fate ≡ Sound
-sound-only Sound sound = refl
-sound-only _ sound = absurd (false≢true sound)
 
 -- a node that doubts none holds the group
 undoubted : (group : List ℕ) (a : Ack) → ((y : ℕ) → a ≡ ack.Doubt y → ⊥) → held_with group a ≡ group

@@ -1,5 +1,5 @@
 -- The plan of a script in which no node is lost: it loses none, and the script follows it.
-use Rattle.std.proofs.Common.{◌≡◌, ℕ, ◌+◌, ◌<◌, ◌≤◌, Bool, true, false, cond, not}
+use Rattle.std.proofs.Common.{◌≡◌, ℕ, ◌+◌, ◌<◌, ◌≤◌, true, not}
 use Rattle.std.proofs.Common.{[], length, Some, None, refl, ap, sym, subst, ◌∙◌, arith}
 use Rattle.std.specs.Prelude.{◌&&◌, int_le, find, ◌+ℤ◌}
 use Rattle.std.specs.List.{filter}
@@ -19,20 +19,21 @@ use Rattle.ttp_world.proofs.Lists.{nodes-most}
 use Rattle.ttp_world.proofs.Starts.{found-start, alone-start, on-start}
 use Rattle.hypothesis.specs.SoleStart.{sole_start_in, sole_start}
 use Rattle.fault_plan.specs.Plan.{Plan, sender, plan_of}
-use Rattle.fault_plan.specs.Fates.{Absent, Sound, fate_of, is_sound_after, is_lost, is_steady_after, steady_nodes}
+use Rattle.fault_plan.specs.Fates.{fate_of, is_sound_after, is_lost, is_steady_after, steady_nodes}
 use Rattle.fault_plan.specs.GoodPlan.{IsGoodPlan}
 use Rattle.fault_plan.specs.Kept.{FollowsPlan, IsHeardByPlan}
-use Rattle.fault_plan.proofs.Bounds.{both-hold, wide, le_of_test}
+use Rattle.fault_plan.proofs.Bounds.{both-hold, wide}
 use Rattle.fault_plan.proofs.KeptPlan.{on-always, due-ever}
 use Rattle.fault_plan.proofs.Returns.{none-among, never-listens}
 use Rattle.fault_plan.proofs.Sieves.{none-found}
-use Rattle.fault_plan.proofs.Tests.{and-true}
 use Rattle.safety_steps.specs.Run.{IsBegun}
 use Rattle.faced_clocks.specs.Errors.{bound, HasFacedClocks}
 use Rattle.faced_clocks.proofs.Lossless.{fate-always, sound-always}
 use Rattle.two_faced.specs.Faced.{allowed_error, errors_allowed_in, clocks_broken}
 use Rattle.two_faced.proofs.QuietScript.{IsQuiet, quiet-script}
 use Rattle.two_faced.proofs.Rules.{RulesHold}
+use Rattle.fault_plan.proofs.FaultySets.{lost-begin as never-lost}
+use Rattle.ttp_world.proofs.SmallTests.{le_of_test, and-true}
 
 abbrev pub quiet_plan : Medl → Script → ClusterStart → Plan
 quiet_plan list script start = record (plan_of list script start) { incidents = [] }
@@ -42,10 +43,6 @@ sole-start : (list : Medl) (script : Script) (start : ClusterStart) → start_of
 sole-start list script start is =
     let found = found-start list script start is in
     ap (sole_start_in list script) found.least ∙ ap (only_starter start.slot) found.only
-
-never-lost : (begins : Bool) → is_lost (cond begins Sound Absent) ≡ false
-never-lost true = refl
-never-lost false = refl
 
 module _ (list : Medl) (script : Script) (z slot : ℕ) (valid : IsValid list) (rules : RulesHold list script z slot)
   where

@@ -31,13 +31,11 @@ use Rattle.wave_text.specs.Values.{binary, binary_number, most_digits, number_te
 use Rattle.wave_text.specs.Values.{agreement_text, sender_text, spread_text, cluster_value, phase_text, unless_off}
 use Rattle.wave_text.specs.Values.{held_text, node_value}
 use Rattle.wave_text.specs.Values.{port_value}
+use Rattle.ttp_world.proofs.TraceLines.{feed_is_low}
 
 -- a text without a line feed
 abbrev pub HasNone : List ℕ → Type 0
 HasNone text = has 10 text ≡ false
-
-feed_is_low : 10 < 45
-feed_is_low = omega arith
 
 pub none-append : (x y : List ℕ) → HasNone x → HasNone y → HasNone (x ++ y)
 none-append x y p q = has-append 10 x y p q

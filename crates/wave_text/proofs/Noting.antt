@@ -1,12 +1,11 @@
 -- Loops over lines of hosts, which take them into a table.
-use Rattle.std.proofs.Common.{◌≡◌, ℕ, ◌+◌, ◌<◌, List, [], ◌∷◌, ◌++◌, Option, Some, None, length, get_or, set}
+use Rattle.std.proofs.Common.{◌≡◌, ℕ, ◌+◌, ◌<◌, List, [], ◌∷◌, ◌++◌, Option, None, length, get_or, set}
 use Rattle.std.proofs.Common.{sym, ap, subst, ◌∙◌, arith, inl, inr, append_assoc, length-set}
 use Rattle.std.specs.Prelude.{slice_get, All}
 use Rattle.std.specs.List.{flat_map}
 use Rattle.std.proofs.lemmas.Bool.Decides.{eqb_tells}
 use Rattle.std.proofs.lemmas.List.{append-nil}
 use Rattle.std.proofs.lemmas.List.Concat.{flat_map-append}
-use Rattle.std.proofs.lemmas.Option.{slice_get-get_or}
 use Rattle.whole_trace.specs.declared.shown.HostLine.{HostLine}
 use Rattle.whole_trace.specs.Whole.{SlotLines}
 use Rattle.shown_slot.specs.declared.host.Message.{Message}
@@ -14,7 +13,8 @@ use Rattle.shown_slot.specs.declared.host.Port.{Port}
 use Rattle.shown_slot.specs.declared.host.What.{What}
 use Rattle.wave_text.specs.Places.{HasMost, HasNewest, HasPlace, table_place}
 use Rattle.wave_text.specs.Variables.{HasLetters}
-use Rattle.wave_text.proofs.Tables.{place-lt, set_elsewhere, set_there}
+use Rattle.wave_text.proofs.Tables.{place-lt, set_elsewhere}
+use Rattle.ttp_world.proofs.ListFacts.{slice_get-set_same as set_there, at_any as same_item}
 
 -- Messages.
 
@@ -49,13 +49,6 @@ pub all-noted : (ports : List Port) (messages : List (Option Message)) (all : Li
 all-noted ports messages all known =
     subst (λ (lines : List HostLine). All (λ port. HasNewest messages lines port.host port.what) ports)
     (sym (append-nil known.done) ∙ known.whole) known.newest
-
-same_item : {X : Type 0} (xs : List X) (i : ℕ) (d e : X) → i < length xs → get_or xs i d ≡ get_or xs i e
-same_item xs i d e less = some_is (get_or xs i d) (get_or xs i e)
-    (sym (slice_get-get_or xs i d less) ∙ slice_get-get_or xs i e less)
-  where
-    some_is : {X : Type 0} (x y : X) → Some x ≡ Some y → x ≡ y
-    some_is x y e = cc
 
 pub cleared-more : (ports : List Port) (messages : List (Option Message)) (i : ℕ) (e : Port) → i < length ports
     → HasLetters (get_or ports i e) → AreCleared ports messages i

@@ -1,7 +1,7 @@
 -- The ports that a table of sizes has are those of the lines that it was made of.
-use Rattle.std.proofs.Common.{◌≡◌, ℕ, ◌+◌, ◌<◌, ◌≤◌, List, [], ◌∷◌, ◌++◌, Option, Some, None, length, map, get_or, replicate}
+use Rattle.std.proofs.Common.{◌≡◌, ℕ, ◌+◌, ◌<◌, ◌≤◌, List, [], ◌∷◌, ◌++◌, Option, Some, None, length, map, replicate}
 use Rattle.std.proofs.Common.{sym, ap, ◌∙◌, arith}
-use Rattle.std.specs.Prelude.{slice_get, All}
+use Rattle.std.specs.Prelude.{All}
 use Rattle.std.specs.List.{flat_map, AllByRecursion}
 use Rattle.std.proofs.lemmas.List.{get_or-replicate, length-replicate}
 use Rattle.std.proofs.lemmas.List.Folds.{flat_map-map}
@@ -18,6 +18,7 @@ use Rattle.shown_slot.specs.Ports.{all_whats, most_bytes, port_if, ports_of}
 use Rattle.wave_text.specs.Places.{HasMost, HasPlace, ports_in, size_at, table_place}
 use Rattle.wave_text.specs.Variables.{HasLetters, HasSourceLetter}
 use Rattle.wave_text.proofs.Tables.{place-lt}
+use Rattle.ttp_world.proofs.LineLists.{each-append as all-append}
 
 -- a table with nothing
 pub none_noted : (k : ℕ) (does : What) → HasPlace k does → HasMost (replicate 624 None) [] k does
@@ -79,11 +80,6 @@ noted_ports sizes lines n are few =
     (λ k below. noted_host sizes lines n k are few (omega (arith, below, few)))
 
 -- Their letters.
-
-all-append : {X : Type 0} (P : X → Type 0) (xs ys : List X) → AllByRecursion P xs → AllByRecursion P ys
-    → AllByRecursion P (xs ++ ys)
-all-append P [] ys xs-all ys-all = ys-all
-all-append P (x ∷ xs) ys xs-all ys-all = (xs-all.0, all-append P xs ys xs-all.1 ys-all)
 
 all-flat_map : {X Y : Type 0} (P : Y → Type 0) (Q : X → Type 0) (f : X → List Y)
     → ((x : X) → Q x → AllByRecursion P (f x)) → (xs : List X) → AllByRecursion Q xs → AllByRecursion P (flat_map f xs)

@@ -1,8 +1,8 @@
 -- Tables of what hosts do, with one line more.
-use Rattle.std.proofs.Common.{◌≡◌, ◌≢◌, ℕ, ◌+◌, ◌<◌, List, [], ◌∷◌, ◌++◌, Option, Some, None, length, get_or, set}
+use Rattle.std.proofs.Common.{◌≡◌, ◌≢◌, ℕ, ◌+◌, ◌<◌, List, [], ◌∷◌, ◌++◌, Option, Some, None, length, set}
 use Rattle.std.proofs.Common.{refl, sym, ap, subst, ◌∙◌, arith, inl, inr, length-set}
 use Rattle.std.specs.Prelude.{slice_get}
-use Rattle.std.proofs.lemmas.List.{get_or-set_same, get_or-set_other}
+use Rattle.std.proofs.lemmas.List.{get_or-set_other}
 use Rattle.std.proofs.lemmas.Option.{slice_get-get_or, slice_get_within, get_or_from_slice_get}
 use Rattle.std.proofs.lemmas.Bool.Decides.{eqb_tells}
 use Rattle.line_text.proofs.Options.{some_same}
@@ -15,13 +15,9 @@ use Rattle.shown_slot.specs.Ports.{larger, later, message_of, most_bytes, newest
 use Rattle.wave_text.specs.Places.{HasMost, HasNewest, HasPlace, host_in, in_row, message_said, table_place, what_in}
 use Rattle.wave_text.specs.Variables.{HasSourceLetter}
 use Rattle.wave_text.proofs.HostLines.{its_message, its_port, most-append, most-other, newest-append, newest-other}
+use Rattle.ttp_world.proofs.ListFacts.{slice_get-set_same as set_there}
 
 -- Lists as tables.
-
-pub set_there : {X : Type 0} (xs : List X) (i : ℕ) (v : X) → i < length xs → slice_get (set xs i v) i ≡ Some v
-set_there xs i v less =
-    let within : i < length (set xs i v) = omega (arith, less, length-set xs i v) in
-    slice_get-get_or (set xs i v) i v within ∙ ap (λ (x : _). Some x) (get_or-set_same xs i v v less)
 
 pub set_elsewhere : {X : Type 0} (xs : List X) (i j : ℕ) (v x : X) → j ≢ i → slice_get xs j ≡ Some x
     → slice_get (set xs i v) j ≡ Some x

@@ -33,6 +33,7 @@ use Rattle.ttp_top.specs.Calls.Words.{takes_trace, runs_cluster}
 use Rattle.ttp_top.proofs.Calls.Differences.{differences-each}
 use Rattle.ttp_top.proofs.Calls.Precision.{precisions-each}
 use Rattle.ttp_top.proofs.Samples.Lines.{samples-each}
+use Rattle.hypothesis.proofs.Ranges.{and-false as and_false}
 
 -- an ending that a form may come to
 pub record IsOfForm (form : Option Form) (ending : Ending) : Type 0 where
@@ -46,10 +47,6 @@ pub record IsOfForm (form : Option Form) (ending : Ending) : Type 0 where
   -- what is kept beside a text tells whether a cluster ran
   pub keeps : (lines : Lines) (kept : Option ClusterView) → IsKeptBeside ttpbench ending.texts lines kept
       → is_some kept ≡ (runs_cluster form && (ending.status == 0))
-
-and_false : (b : Bool) → (b && false) ≡ false
-and_false true = refl
-and_false false = refl
 
 -- where no cluster is kept, the status is not 0
 pub none_kept : (form : Option Form) (status : ℕ) (kept : Option ClusterView) → kept ≡ None → status ≢ 0

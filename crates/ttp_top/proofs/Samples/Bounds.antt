@@ -10,9 +10,9 @@ use Rattle.ttp_world.specs.Diary.{History}
 use Rattle.ttp_world.specs.Past.{state_of}
 use Rattle.ttp_world.specs.Script.{write_in, read_in}
 use Rattle.ttp_world.specs.World.{node_past}
-use Rattle.cluster_run.proofs.Writes.{filter_map-few}
 use Rattle.ttp_top.specs.declared.totals.Totals.{Totals}
 use Rattle.ttp_top.specs.Samples.Totals.{states_after, shows_sent, shows_left, totals_of}
+use Rattle.ttp_world.proofs.ListFacts.{filter_map-few}
 
 -- of so many slots: a line for each of 24 nodes at most, and for each of 131,072 events at most
 pub record AreSmall (totals : Totals) (slots : ℕ) : Type 0 where

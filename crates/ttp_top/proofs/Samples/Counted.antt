@@ -8,7 +8,6 @@ use Rattle.std.proofs.lemmas.List.Elements.{recursion_from_All}
 use Rattle.std.proofs.lemmas.List.FromFn.{length-range_with_len}
 use Rattle.std.proofs.lemmas.List.Sums.{sum_by-cons}
 use Rattle.ttp_base.specs.NodeSet.{below, set_bits}
-use Rattle.ttp_world.specs.declared.host_lines.HostRead.{HostRead}
 use Rattle.ttp_world.specs.declared.medl.Medl.{Medl}
 use Rattle.ttp_world.specs.declared.node.Entry.{Entry}
 use Rattle.ttp_world.specs.declared.node.NodeState.{NodeState}
@@ -29,13 +28,14 @@ use Rattle.line_text.specs.LineParts.{HasDigits}
 use Rattle.cluster_run.specs.NextSlots.{next_row}
 use Rattle.cluster_run.specs.Report.{numbers_in, node_shown, writes_shown, read_shown, ShowsSlot}
 use Rattle.cluster_run.specs.Standing.{ClusterView, ClusterStandsFor}
-use Rattle.cluster_run.proofs.Writes.{filter_map-few}
 use Rattle.ttp_top.specs.declared.totals.Totals.{Totals}
 use Rattle.ttp_top.specs.Samples.Counted.{states_in, with_report, HasRoom, HasCounted}
 use Rattle.ttp_top.specs.Samples.Totals.{states_after, lowest_members, no_totals, with_slot, totals_of}
 use Rattle.ttp_top.proofs.Samples.Bounds.{AreSmall, totals-small}
 use Rattle.cluster_run.specs.Runs.{HasDoneSlot}
 use Rattle.ttp_top.proofs.Scripts.Slots.{after, tells}
+use Rattle.trace_check.proofs.Counts.{length-read_messages}
+use Rattle.ttp_world.proofs.ListFacts.{filter_map-few}
 
 -- What a report shows is what the slot adds.
 
@@ -60,13 +60,6 @@ length-writes_shown : (list : Medl) (script : Script) (slot : ℕ) (earlier writ
 length-writes_shown list script slot earlier [] = refl
 length-writes_shown list script slot earlier (w ∷ ws) =
     ap suc (length-writes_shown list script slot (w ∷ earlier) ws)
-
-length-read_messages : (reads : List HostRead) (numbers : List ℕ) → length numbers ≡ length reads
-    → length (read_messages reads numbers) ≡ length reads
-length-read_messages [] numbers same = refl
-length-read_messages (read ∷ reads) [] same = absurd (omega (arith, same))
-length-read_messages (read ∷ reads) (number ∷ numbers) same =
-    ap suc (length-read_messages reads numbers (omega (arith, same)))
 
 report-adds : (list : Medl) (script : Script) (row : List Entry) (before : History) (new : SlotNumbers)
     (report : SlotReport) (totals : Totals) → ShowsSlot list script row before new report

@@ -20,10 +20,7 @@ use Rattle.ttp_world.proofs.LegalShapes.{legal-shapes, legal-message, legal-olde
 use Rattle.ttp_world.proofs.Unhosted.{writes_in-none, reads_in-none}
 use Rattle.ttp_world.proofs.Worlds.{row_of_world}
 use Rattle.ttp_top.specs.Scripts.Unhosted.{IsUnhosted}
-
-nothing_in : (ns : List ℕ) → length ns ≡ 0 → ns ≡ []
-nothing_in [] none = refl
-nothing_in (n ∷ ns) none = absurd (omega (arith, none))
+use Rattle.ttp_world.proofs.ListFacts.{nothing_in}
 
 -- message 0 is the only one that there is
 messages_before-only : (list : Medl) (script : Script) (k slot : ℕ) → IsUnhosted script

@@ -5,7 +5,8 @@ use Rattle.std.proofs.lemmas.List.{length-map}
 use Rattle.ttp_base.specs.NodeSet.{most_nodes, below, has_node}
 use Rattle.campaign.specs.CostText.{listed}
 use Rattle.campaign_text.specs.Listing.{dash_for}
-use Rattle.campaign_text.proofs.Listing.{joined, listed-behind, node-in, node-out, nodes-length}
+use Rattle.campaign_text.proofs.Listing.{joined, listed-behind, node-in}
+use Rattle.ttp_world.proofs.ListFacts.{node-out, nodes-length}
 use Rattle.campaign_text.proofs.cost_words.put_nodes.Goals as goal
 use Rattle.campaign_text.proofs.cost_words.put_nodes.Goals.{then-has+in_ok-put_comma+in_ok-put_number, else-has}
 

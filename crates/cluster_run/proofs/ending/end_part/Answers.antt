@@ -8,7 +8,7 @@ use Rattle.cluster_run.specs.declared.nodes.Desk.{Desk}
 use Rattle.cluster_run.specs.Ending.{handed_on, number_handed}
 use Rattle.cluster_run.specs.Ends.{end_at, desk_ends}
 use Rattle.cluster_run.proofs.HandingOn.{handed_more}
-use Rattle.cluster_run.proofs.Places.{at_any}
+use Rattle.ttp_world.proofs.ListFacts.{at_any}
 use Rattle.cluster_run.proofs.ending.end_part.Goals as goal
 
 pub hand_on-requires-clause-room : goal.hand_on-requires-clause-room

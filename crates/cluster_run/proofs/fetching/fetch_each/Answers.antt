@@ -5,8 +5,9 @@ use Rattle.ttp_world.specs.World.{is_loaded}
 use Rattle.controller.proofs.Parts.{each-of}
 use Rattle.cluster_run.specs.Sending.{MaySettleAfter}
 use Rattle.cluster_run.proofs.Alone.{fetched_more}
-use Rattle.cluster_run.proofs.Places.{at_any}
-use Rattle.cluster_run.proofs.Settling.{plan_there, payload_few}
+use Rattle.cluster_run.proofs.Settling.{plan_there}
+use Rattle.ttp_world.proofs.ListFacts.{at_any}
+use Rattle.ttp_world.proofs.WorldFacts.{payload_few}
 use Rattle.cluster_run.proofs.fetching.fetch_each.Goals as goal
 
 pub fetch_for-requires-clause-ring : goal.fetch_for-requires-clause-ring

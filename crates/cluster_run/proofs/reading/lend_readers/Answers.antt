@@ -6,7 +6,7 @@ use Rattle.cluster_run.specs.declared.nodes.Desk.{Desk}
 use Rattle.cluster_run.specs.Ends.{end_at, desk_ends}
 use Rattle.cluster_run.specs.Reading.{readers_at}
 use Rattle.cluster_run.proofs.LentReaders.{IsLentAt, lent_at, lent_more, all_lent, all_own}
-use Rattle.cluster_run.proofs.Places.{at_any}
+use Rattle.ttp_world.proofs.ListFacts.{at_any}
 use Rattle.cluster_run.proofs.reading.lend_readers.Goals as goal
 
 pub loop-k-preserved : goal.loop-k-preserved

@@ -3,8 +3,8 @@ use Rattle.ttp_world.specs.declared.host_lines.HostRead.{HostRead}
 use Rattle.ttp_world.specs.declared.script.Source.TheVariants as source
 use Rattle.host_port.specs.Reading.{IsLeft}
 use Rattle.cluster_run.specs.Reading.{reader_in}
-use Rattle.cluster_run.proofs.Places.{at_any}
 use Rattle.cluster_run.proofs.ReadLoop.{left_at, within_at, read_next}
+use Rattle.ttp_world.proofs.ListFacts.{at_any}
 use Rattle.cluster_run.proofs.reading.read_all.Goals as goal
 
 pub bounds-readers-k : goal.bounds-readers-k

@@ -7,8 +7,9 @@ use Rattle.host_port.specs.Rings.{ControllerState}
 use Rattle.cluster_run.specs.declared.nodes.Desk.{Desk}
 use Rattle.cluster_run.specs.Ends.{end_at, desk_ends}
 use Rattle.cluster_run.specs.Reading.{SettlesReadsOf}
-use Rattle.cluster_run.proofs.Places.{at_any, read_alike}
+use Rattle.cluster_run.proofs.Places.{read_alike}
 use Rattle.cluster_run.proofs.SettledReaders.{AreReadersSettled, readers_settled}
+use Rattle.ttp_world.proofs.ListFacts.{at_any}
 use Rattle.cluster_run.proofs.reading.settle_readers.Goals as goal
 
 pub settle_one-requires : goal.settle_one-requires

@@ -8,7 +8,7 @@ use Rattle.host_port.proofs.ReaderLists.{set_back}
 use Rattle.controller.proofs.Parts.{each-of}
 use Rattle.cluster_run.specs.Ends.{host_at}
 use Rattle.cluster_run.specs.Sending.{fetcher_lent}
-use Rattle.cluster_run.proofs.Places.{at_any}
+use Rattle.ttp_world.proofs.ListFacts.{at_any}
 use Rattle.cluster_run.proofs.sending.lend_fetchers.Goals as goal
 
 pub lend_one-requires : goal.lend_one-requires

@@ -3,8 +3,9 @@ use Rattle.ttp_world.specs.Medl.{plan_at}
 use Rattle.host_port.specs.Reading.{settled, IsSettled}
 use Rattle.host_port.specs.Rings.{HostState}
 use Rattle.cluster_run.specs.Sending.{MaySettle, choice_of}
-use Rattle.cluster_run.proofs.Places.{at_any}
-use Rattle.cluster_run.proofs.Settling.{plan_there, payload_few, settled_more}
+use Rattle.cluster_run.proofs.Settling.{plan_there, settled_more}
+use Rattle.ttp_world.proofs.ListFacts.{at_any}
+use Rattle.ttp_world.proofs.WorldFacts.{payload_few}
 use Rattle.cluster_run.proofs.sending.settle_fetchers.Goals as goal
 
 pub settle_one-requires-clause-limit : goal.settle_one-requires-clause-limit

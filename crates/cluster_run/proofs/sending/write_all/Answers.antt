@@ -10,9 +10,9 @@ use Rattle.host_port.specs.Writing.{written, Takes, HasRoom}
 use Rattle.ttp_world.specs.Words.{words_of_payload}
 use Rattle.cluster_run.specs.Ends.{host_at}
 use Rattle.cluster_run.specs.Sending.{WritesBytes, write_line}
-use Rattle.cluster_run.proofs.Places.{at_any}
 use Rattle.cluster_run.proofs.Writes.{written_more, takes_after, room_after, takes-some, takes-within}
 use Rattle.cluster_run.proofs.Writes.{taken_some, taken_none, taken_room, written_along}
+use Rattle.ttp_world.proofs.ListFacts.{at_any}
 use Rattle.cluster_run.proofs.sending.write_all.Goals as goal
 use Rattle.cluster_run.proofs.sending.write_all.Goals.{in-Some, in_default}
 

@@ -1,4 +1,4 @@
-use Rattle.std.proofs.Common.{◌++◌, ◌∷◌, [], None, map, take, refl, sym, ap, ◌∙◌, arith}
+use Rattle.std.proofs.Common.{◌++◌, ◌∷◌, [], None, inl, map, take, refl, sym, ap, ◌∙◌, arith}
 use Rattle.std.proofs.lemmas.List.{map-append, map_more, get_or-set_other, length-set}
 use Rattle.std.specs.Vec.Iter.{into_iter_items}
 use Rattle.host_port.specs.Reading.{settled, got_of}
@@ -8,7 +8,9 @@ use Rattle.host_port.proofs.SettledRings.{same_ring, settled_along, on_err}
 use Rattle.host_port.proofs.settling.settle_all.Goals as goal
 
 pub returns-in_err-queues-clause-err : goal.returns-in_err-queues-clause-err
-returns-in_err-queues-clause-err c = on_err c.from_residual.result (0, sym (all_settled-none c.args.writers.now))
+returns-in_err-queues-clause-err c =
+    on_err c.from_residual.result
+    (record { count = 0; settled_so = sym (all_settled-none c.args.writers.now); wanted = inl refl })
 
 pub loop-place-init : goal.loop-place-init
 loop-place-init c = record {

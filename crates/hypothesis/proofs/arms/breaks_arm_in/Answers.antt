@@ -2,7 +2,7 @@ use Rattle.std.proofs.Common.{◌≡◌, true, false, length, ap, sym, below_mor
 use Rattle.ttp_world.specs.Returning.{fails_if_armed}
 use Rattle.ttp_world.specs.Script.{is_armed}
 use Rattle.hypothesis.specs.Standing.{told_start}
-use Rattle.hypothesis.proofs.Ranges.{one-passes, none-passes}
+use Rattle.ttp_world.proofs.RangeFacts.{any-range as one-passes, none-passes}
 use Rattle.hypothesis.proofs.arms.breaks_arm_in.Goals as goal
 
 pub loop-node-preserved : goal.loop-node-preserved

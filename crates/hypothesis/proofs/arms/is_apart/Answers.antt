@@ -1,4 +1,4 @@
-use Rattle.std.proofs.Common.{◌≡◌, ℕ, ◌+◌, ◌-◌, ◌<◌, ◌≤◌, ◌⊎◌, inl, inr, Bool, true, false, not, ◌&&◌, length, refl, ap, sym, ◌∙◌}
+use Rattle.std.proofs.Common.{◌≡◌, ℕ, ◌+◌, ◌-◌, ◌<◌, ◌≤◌, ◌⊎◌, inl, inr, true, false, not, ◌&&◌, length, ap, sym, ◌∙◌}
 use Rattle.std.proofs.Common.{below_more, rules, arith}
 use Rattle.std.specs.Prelude.{nat_lt}
 use Rattle.std.proofs.lemmas.Bool.{cases_lt, lt-ltb, le-ltb}
@@ -6,11 +6,8 @@ use Rattle.ttp_world.specs.Returning.{two_rounds, four_rounds, is_near_fault}
 use Rattle.ttp_world.proofs.Lists.{nodes-most}
 use Rattle.hypothesis.specs.Walks.{joined_in}
 use Rattle.hypothesis.proofs.LongFaulty.{joined-none, joined-some, few-zero, some-many}
+use Rattle.hypothesis.proofs.Ranges.{and-false}
 use Rattle.hypothesis.proofs.arms.is_apart.Goals as goal
-
-and-false : (b : Bool) → (b && false) ≡ false
-and-false true = refl
-and-false false = refl
 
 pub joins_in-requires-clause-come : goal.joins_in-requires-clause-come
 joins_in-requires-clause-come c = omega arith

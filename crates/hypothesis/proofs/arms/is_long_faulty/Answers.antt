@@ -1,18 +1,12 @@
-use Rattle.std.proofs.Common.{◌≡◌, ◌<◌, Bool, true, false, ◌&&◌, refl, ap, sym, ◌∙◌, rules, arith}
+use Rattle.std.proofs.Common.{◌≡◌, ◌<◌, true, false, ◌&&◌, ap, sym, ◌∙◌, rules, arith}
 use Rattle.ttp_base.specs.NodeSet.{most_nodes}
 use Rattle.ttp_world.specs.Returning.{is_long_faulty, is_apart}
 use Rattle.ttp_world.proofs.Lists.{nodes-most}
 use Rattle.hypothesis.specs.Standing.{told_start}
 use Rattle.hypothesis.proofs.LongFaulty.{long-faulty}
+use Rattle.ttp_base.proofs.NodeSets.{and-true}
+use Rattle.hypothesis.proofs.Ranges.{and-false}
 use Rattle.hypothesis.proofs.arms.is_long_faulty.Goals as goal
-
-and-false : (b : Bool) → (b && false) ≡ false
-and-false true = refl
-and-false false = refl
-
-and-true : (b : Bool) → (b && true) ≡ b
-and-true true = refl
-and-true false = refl
 
 pub returns-then-not-is_apart : goal.returns-then-not-is_apart
 returns-then-not-is_apart c =

@@ -5,7 +5,8 @@ use Rattle.std.proofs.lemmas.Bool.{le-ltb}
 use Rattle.ttp_world.specs.Returning.{two_rounds, offers_place, run_slots}
 use Rattle.ttp_world.proofs.Lists.{nodes-most}
 use Rattle.hypothesis.specs.Standing.{told_start}
-use Rattle.hypothesis.proofs.Ranges.{one-passes, none-passes, or-true}
+use Rattle.hypothesis.proofs.Ranges.{or-true}
+use Rattle.ttp_world.proofs.RangeFacts.{any-range as one-passes, none-passes}
 use Rattle.hypothesis.proofs.arms.is_offered.Goals as goal
 
 pub slot_at-requires-clause-come : goal.slot_at-requires-clause-come

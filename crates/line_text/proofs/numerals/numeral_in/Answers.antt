@@ -1,7 +1,8 @@
 use Rattle.std.proofs.Common.{◌≡◌, true, ◌-◌, get_or, arith, sym, ◌∙◌}
 use Rattle.std.proofs.lemmas.Grind.{common_steps}
 use Rattle.ttp_world.specs.TraceNumbers.{is_digit, append_digit}
-use Rattle.line_text.proofs.DecimalDigits.{fold-next, digit-small, below_power, within_word, within_most}
+use Rattle.line_text.proofs.DecimalDigits.{fold-next, digit-small, within_word, within_most}
+use Rattle.ttp_world.proofs.SmallTests.{below_power}
 use Rattle.line_text.proofs.numerals.numeral_in.Goals as goal
 
 pub overflow_mul-number : goal.overflow_mul-number

@@ -1,4 +1,4 @@
-use Rattle.std.proofs.Common.{◌<◌, ◌∙◌}
+use Rattle.std.proofs.Common.{◌+◌, ◌<◌, ◌∙◌}
 use Rattle.nbw_ring.specs.Seats.{reading_of}
 use Rattle.nbw_ring.proofs.Calls.{load_next, word_inside}
 use Rattle.nbw_ring.proofs.steps.load_words.Goals as goal
@@ -11,7 +11,10 @@ load-word-requires g c =
       word_inside shape c.args.cells.now.key c.args.cells.now.table_id c.args.number c.start_of-start.result c.loop-k.k
           c.requires.table c.start_of-start.ensures inside,
       load_next shape c.args.cells.now.key c.args.cells.now.table_id.slots c.loop-k.seat.id c.loop-k.seat.me
-          (record (reading_of c.args.seat.now.me.0) { words = (reading_of c.loop-k.seat.me.0).words })
+          (record (reading_of c.args.seat.now.me.0) {
+            words = (reading_of c.loop-k.seat.me.0).words;
+            steps = (reading_of c.args.seat.now.me.0).steps + c.loop-k.k;
+          })
           c.args.number c.start_of-start.result c.loop-k.k c.requires.table.1 c.loop-k.invariant.1 c.requires.begun.half
           c.loop-k.invariant.2 inside c.start_of-start.ensures,
     )

@@ -1,7 +1,8 @@
 use Rattle.std.proofs.Common.{◌∙◌, ap, sym, length, arith}
 use Rattle.shown_slot.specs.Trace.{node_at}
 use Rattle.picture_text.specs.Cells.{holds}
-use Rattle.picture_text.proofs.Holders.{count-passes, fails, read_node}
+use Rattle.picture_text.proofs.Holders.{read_node}
+use Rattle.ttp_world.proofs.ListFacts.{node-out as fails, nodes-length as count-passes}
 use Rattle.picture_text.proofs.members.count_holders.Goals as goal
 use Rattle.picture_text.proofs.members.count_holders.Goals.{then-holds, else-holds}
 

@@ -3,7 +3,8 @@ use Rattle.std.proofs.Common.{append_assoc, length-append, decimal}
 use Rattle.std.proofs.lemmas.Fmt.{length-decimal-le}
 use Rattle.shown_slot.specs.Trace.{node_at}
 use Rattle.picture_text.specs.Cells.{holds, each_node}
-use Rattle.picture_text.proofs.Holders.{text-passes, fails, read_node}
+use Rattle.picture_text.proofs.Holders.{text-passes, read_node}
+use Rattle.ttp_world.proofs.ListFacts.{node-out as fails}
 use Rattle.picture_text.proofs.members_cell.put_holders.Goals as goal
 use Rattle.picture_text.proofs.members_cell.put_holders.Goals.{then-holds, else-holds}
 

@@ -2,7 +2,8 @@ use Rattle.std.proofs.Common.{◌≡◌, true, ◌+◌, ◌*◌, ◌-◌, ℕ, g
 use Rattle.std.specs.Char.{is_ascii_digit}
 use Rattle.std.proofs.lemmas.Grind.{common_steps}
 use Rattle.std.proofs.lemmas.List.{length-take}
-use Rattle.script_text.proofs.Digits.{number_in-more, digit-small, below_power, within_word}
+use Rattle.script_text.proofs.Digits.{number_in-more, digit-small, within_word}
+use Rattle.ttp_world.proofs.SmallTests.{below_power}
 use Rattle.script_text.proofs.number.front_digits.Goals as goal
 
 pub overflow_mul-number : goal.overflow_mul-number

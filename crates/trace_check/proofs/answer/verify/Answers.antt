@@ -1,16 +1,13 @@
-use Rattle.std.proofs.Common.{◌≡◌, ℕ, ◌+◌, ◌<◌, ◌^◌, List, [], ◌∷◌, length, Bor, ap, sym, subst, ◌∙◌, refl, arith}
+use Rattle.std.proofs.Common.{◌≡◌, ℕ, ◌+◌, ◌<◌, ◌^◌, List, [], Bor, ap, sym, subst, ◌∙◌, refl, arith}
 use Rattle.trace_check.specs.declared.answer.Outcome.TheVariants.{Differs}
 use Rattle.trace_check.specs.Answer.{IsFirstWrong}
 use Rattle.trace_check.specs.Following.{IsTraceAnd}
 use Rattle.trace_check.proofs.FewLines.{IsWrongBehind, amiss-counted, more-counted}
 use Rattle.trace_check.proofs.Outcomes.{whole-trace, first_wrong-no_trace, one_first_wrong}
 use Rattle.trace_check.proofs.OwnNumbers.{is_trace-numbers, numbers-is_trace}
+use Rattle.ttp_world.proofs.ListFacts.{nothing_in as empty_rest}
 use Rattle.trace_check.proofs.answer.verify.Goals as goal
 use Rattle.trace_check.proofs.answer.verify.Goals.{in-Ok, in-Err}
-
-empty_rest : (rest : List ℕ) → length rest ≡ 0 → rest ≡ []
-empty_rest [] none = refl
-empty_rest (b ∷ rest) none = absurd (omega (arith, none))
 
 pub returns-in-Ok-empty-clause-same : goal.returns-in-Ok-empty-clause-same
 returns-in-Ok-empty-clause-same c =

@@ -1,4 +1,4 @@
-use Rattle.std.proofs.Common.{None, length, get_or, sym, ap, ◌∙◌}
+use Rattle.std.proofs.Common.{None, inl, refl, length, get_or, sym, ap, ◌∙◌}
 use Rattle.host_port.specs.Reading.{ReadersState, got_of, pairs_from}
 use Rattle.host_port.specs.Rings.{place_of}
 use Rattle.host_port.specs.Queues.{calls_at, queue_at}
@@ -7,7 +7,9 @@ use Rattle.host_port.proofs.SettledRings.{all_settled-none, on_err}
 use Rattle.host_port.proofs.ends.ControllerEnd.settle_reads.Goals as goal
 
 pub returns-in_err-lines-clause-err : goal.returns-in_err-lines-clause-err
-returns-in_err-lines-clause-err c = on_err c.from_residual.result (0, sym (all_settled-none c.args.self.now))
+returns-in_err-lines-clause-err c =
+    on_err c.from_residual.result
+    (record { count = 0; settled_so = sym (all_settled-none c.args.self.now); wanted = inl refl })
 
 pub lines_of-lines-requires-clause-queued : goal.lines_of-lines-requires-clause-queued
 lines_of-lines-requires-clause-queued c =

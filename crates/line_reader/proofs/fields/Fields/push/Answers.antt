@@ -1,5 +1,5 @@
 use Rattle.std.proofs.Common.{◌<◌, ◌++◌, ◌∷◌, [], List, ℕ, length, arith, ap, ◌∙◌}
-use Rattle.line_reader.proofs.WordList.{length-held, held-push}
+use Rattle.ttp_world.proofs.WordList.{length-held, held-push}
 use Rattle.line_reader.proofs.fields.Fields.push.Goals as goal
 
 pub returns : goal.returns

@@ -10,7 +10,8 @@ use Rattle.trace_check.proofs.SlotFollowed.{has-chosen}
 use Rattle.mode_change.specs.declared.node.NodeModes.{NodeModes}
 use Rattle.mode_change.specs.declared.run.Run.{Run}
 use Rattle.mode_change.specs.Knowing.{KnowAll, first_numbers}
-use Rattle.mode_change.proofs.Slots.{at-next, first-length, is-past, legal-first, may-step}
+use Rattle.mode_change.proofs.Slots.{at-next, first-length, is-past, may-step}
+use Rattle.trace_check.proofs.Wholes.{legal-drop as legal-first}
 use Rattle.mode_change.proofs.run.Run.step.Goals as goal
 
 pub choose-requires-clause-holds : goal.choose-requires-clause-holds

@@ -38,10 +38,13 @@ load-end-requires g c =
     c.ring.view_is c.deref-ring.ensures in
     let words = c.ring.invariant.2 in
     let begin : ℕ = c.load-begin.result in
-    let z : Reading = record (with_first begin y) { words = (reading_of after.me.0).words } in
+    let z : Reading = record (with_first begin y) {
+      words = (reading_of after.me.0).words;
+      steps = y.steps + 1 + ring.shape.width;
+    } in
     let loaded =
     loaded_next begin seat.me c.load-begin.new.seat.me after.me y
-    (reading_of after.me.0).words c.self.invariant.seated c.load-begin.ensures.2.0 c.load_words.ensures.seat in (
+    (reading_of after.me.0).words ring.shape.width c.self.invariant.seated c.load-begin.ensures.2.0 c.load_words.ensures.seat in (
       c.load_words.ensures.table ∙ (c.load-begin.ensures.0 ∙ at.0),
       omega arith,
       last_loads table.key table.table_id.slots after.id after.me z (view_is after.me (Reader z) loaded)
@@ -58,9 +61,9 @@ invariant_of-self-2 g c =
     at_ring ring.table.shared.table_id seat.table_id ring.shape y.shape _ _ c.self.invariant.own
     c.ring.view_is c.deref-ring.ensures in
     let begin : ℕ = c.load-begin.result in
-    let z : Reading = record (with_first begin y) { words = after.words } in
+    let z : Reading = record (with_first begin y) { words = after.words; steps = y.steps + 1 + ring.shape.width } in
     let loaded =
-    loaded_next begin seat.me c.load-begin.new.seat.me c.load_words.new.seat.me y after.words c.self.invariant.seated
+    loaded_next begin seat.me c.load-begin.new.seat.me c.load_words.new.seat.me y after.words ring.shape.width c.self.invariant.seated
     c.load-begin.ensures.2.0 c.load_words.ensures.seat in
     let ended =
     reader_next (with_last c.load-end.result) c.load_words.new.seat.me c.load-end.new.seat.me z loaded
@@ -73,7 +76,13 @@ invariant_of-self-2 g c =
     let room = c.requires.room in
     let spare : c.self.inside.spare ≡ c.args.self.now.spare = ap (λ r. r.spare) c.self.view_is in
     shelved_more c.self.inside c.load-end.new.seat c.push_reserved.new.self c.load_words.new.words
-    (record z { seen = c.load-end.result; floor = z.first / 2; got = z.got ++ attempt_of z ∷ [] }) (attempt_of z)
+    (record z {
+      seen = c.load-end.result;
+      floor = z.first / 2;
+      got = z.got ++ attempt_of z ∷ [];
+      steps = z.steps + 1;
+    })
+    (attempt_of z)
     c.self.invariant (omega arith) (c.load-end.ensures.0 ∙ (c.load_words.ensures.table ∙ c.load-begin.ensures.0)) refl refl
     (ended ∙ ap (λ v. (Reader v, [])) (got_last c.load-end.result z below))
     (c.load_words.ensures.wide ∙ width)

@@ -1,5 +1,5 @@
 use Rattle.std.proofs.Common.{◌<◌, ◌++◌, ◌∷◌, [], List, ℕ, length, arith, ap, ◌∙◌}
-use Rattle.script_text.proofs.WordList.{length-held, held-push}
+use Rattle.ttp_world.proofs.WordList.{length-held, held-push}
 use Rattle.script_text.proofs.lines.Words.push.Goals as goal
 
 pub returns : goal.returns

@@ -1,0 +1,74 @@
+-- What lists, scripts and worlds have at their places.
+use Rattle.std.proofs.Common.{◌≡◌, ℕ, zero, suc, ◌-◌, ◌≤◌, get_or, refl, arith, Some, true, Bool, length, sym, [], ◌∷◌, ◌+◌, ◌||◌, List, ◌++◌}
+use Rattle.std.proofs.lemmas.List.Folds.{list_any-append}
+use Rattle.std.specs.List.{AllByRecursion, filter}
+use Rattle.std.specs.Prelude.{slice_get, unwrap_or, ◌==◌}
+use Rattle.ttp_base.proofs.NodeLists.{filter-none}
+use Rattle.ttp_base.proofs.NodeSets.{same_sieve, has_node-sieve}
+use Rattle.ttp_base.specs.NodeSet.{below, has_node}
+use Rattle.ttp_world.proofs.ListFacts.{all_there}
+use Rattle.ttp_world.specs.Acknowledgement.{is_correct}
+use Rattle.ttp_world.specs.Events.{IsBounded}
+use Rattle.ttp_world.specs.Hypothesis.{ClusterStart}
+use Rattle.ttp_world.specs.Medl.{IsValid, IsValidSlot, no_plan, plan_at}
+use Rattle.ttp_world.specs.Membership.{AreNodes}
+use Rattle.ttp_world.specs.Reception.{verdict_of_view}
+use Rattle.ttp_world.specs.Returning.{no_slot, slots_before}
+use Rattle.ttp_world.specs.Script.{IsValidEvent}
+use Rattle.ttp_world.specs.declared.medl.Medl.{Medl}
+use Rattle.ttp_world.specs.declared.medl.SlotPlan.{SlotPlan}
+use Rattle.ttp_world.specs.declared.node.Ack.{Ack}
+use Rattle.ttp_world.specs.declared.node.Ack.TheVariants as ack
+use Rattle.ttp_world.specs.declared.node.ChannelView.{ChannelView}
+use Rattle.ttp_world.specs.declared.node.ChannelView.TheVariants as view
+use Rattle.ttp_world.specs.declared.script.Event.{Event}
+use Rattle.ttp_world.specs.declared.script.Event.TheVariants as event
+use Rattle.ttp_world.specs.declared.script.Script.{Script}
+
+pub event-bounded : (list : Medl) (script : Script) (e : Event) → IsValidEvent list script e → IsBounded e
+event-bounded list script (event.Error node value from to) valid = valid.1
+event-bounded list script (event.Jump node value slot) valid = valid.1
+event-bounded list script (event.Send node channels kind from to) valid = tt
+event-bounded list script (event.Receive node channels kind from to) valid = tt
+event-bounded list script (event.Flip node channels bit slot) valid = tt
+event-bounded list script (event.Arm node slot) valid = tt
+event-bounded list script (event.Write node slot payload) valid = tt
+event-bounded list script (event.Read node slot from) valid = tt
+
+pub get-none : (list : Medl) (script : Script) (start : ClusterStart) (slot i : ℕ) → slot ≤ i
+    → get_or (slots_before list script start slot) i no_slot ≡ no_slot
+get-none list script start zero i from = refl
+get-none list script start (suc slot) zero from = absurd (omega arith)
+get-none list script start (suc slot) (suc i) from = get-none list script start slot i (omega arith)
+
+pub payload_few : (list : Medl) (k : ℕ) (plan : SlotPlan) → IsValid list → slice_get list.slots k ≡ Some plan
+    → plan.payload ≤ 240
+payload_few list k plan valid here =
+    (all_there (IsValidSlot list.rounds list.modes) list.slots k plan valid.slots here).payload
+
+-- only the first candidate is correct
+pub first_of_correct : (v : ChannelView) (a : Ack) → is_correct (verdict_of_view v a) ≡ true → v ≡ view.First
+first_of_correct view.First a is = refl
+first_of_correct view.Second ack.Closed is = cc
+first_of_correct _ _ is = cc
+
+pub AreNodes-filter : (list : Medl) (p : ℕ → Bool) → AreNodes list (filter p (below (length list.slots)))
+AreNodes-filter list p =
+    let n = length list.slots in
+    same_sieve p (has_node (filter p (below n))) n (λ j within. sym (has_node-sieve p n j within))
+
+pub AreNodes-nil : (list : Medl) → AreNodes list []
+AreNodes-nil list = sym (filter-none (has_node []) 0 (length list.slots) (λ j _. refl))
+
+pub has_node-append : (xs ys : List ℕ) (k : ℕ) → has_node (xs ++ ys) k ≡ (has_node xs k || has_node ys k)
+has_node-append xs ys k = list_any-append (λ j. j == k) xs ys
+
+slot-short : (rounds modes : ℕ) (plans : List SlotPlan) (k : ℕ) → AllByRecursion (IsValidSlot rounds modes) plans
+    → (unwrap_or (slice_get plans k) no_plan).payload ≤ 240
+slot-short rounds modes [] k valid = omega arith
+slot-short rounds modes (plan ∷ plans) zero valid = valid.0.payload
+slot-short rounds modes (plan ∷ plans) (suc k) valid = slot-short rounds modes plans k valid.1
+
+-- a payload is no longer than a list gives one
+pub plan-short : (list : Medl) (k : ℕ) → IsValid list → (plan_at list k).payload ≤ 240
+plan-short list k valid = slot-short list.rounds list.modes list.slots k valid.slots
