@@ -13,7 +13,6 @@ use Rattle.std.proofs.Math.Pow.{pow-lt}
 use Rattle.ttp_check.specs.Bytes.{xor_bytes}
 use Rattle.ttp_frame.proofs.Flips.{AreBytes}
 use Rattle.ttp_world.specs.Medium.{flip_in_byte, flip_bit, flip_bits}
-use Rattle.ttp_world.proofs.FrameBytes.{flip_bits-bytes as flip_bits-AreBytes}
 
 -- A bit.
 
@@ -105,6 +104,20 @@ flip_in_byte-small place byte there small =
 AreBytes-cons : (byte : ℕ) (bytes : List ℕ) → byte < 2 ^ 8 → AreBytes bytes → AreBytes (byte ∷ bytes)
 AreBytes-cons byte bytes first rest zero = first
 AreBytes-cons byte bytes first rest (suc i) = rest i
+
+flip_bit-AreBytes : (bytes : List ℕ) (bit : ℕ) → AreBytes bytes → AreBytes (flip_bit bytes bit)
+flip_bit-AreBytes [] bit small = small
+flip_bit-AreBytes (byte ∷ bytes) bit small =
+    cond_both (nat_lt bit 8) (flip_in_byte (7 - bit) byte ∷ bytes) (byte ∷ flip_bit bytes (bit - 8)) AreBytes
+    (λ near. AreBytes-cons (flip_in_byte (7 - bit) byte) bytes
+    (flip_in_byte-small (7 - bit) byte (omega arith) (small 0)) (λ i. small (suc i)))
+    (λ behind. AreBytes-cons byte (flip_bit bytes (bit - 8)) (small 0)
+    (flip_bit-AreBytes bytes (bit - 8) (λ i. small (suc i))))
+
+flip_bits-AreBytes : (bits bytes : List ℕ) → AreBytes bytes → AreBytes (flip_bits bytes bits)
+flip_bits-AreBytes [] bytes small = small
+flip_bits-AreBytes (bit ∷ bits) bytes small =
+    flip_bits-AreBytes bits (flip_bit bytes bit) (flip_bit-AreBytes bytes bit small)
 
 zeros-AreBytes : (size : ℕ) → AreBytes (replicate size 0)
 zeros-AreBytes zero i = omega arith

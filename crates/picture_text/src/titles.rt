@@ -41,7 +41,7 @@ fn put_ack(line: &mut Line, ack: Ack)
 }
 
 /// Adds members in the digits of the trace's version.
-#[tactic(auto, using(ttp_base::proofs::Room::room, crate::proofs::Digits::hex_four, crate::proofs::Digits::hex_six))]
+#[tactic(auto, using(ttp_base::proofs::Room::room, crate::proofs::Digits::hex_four, shown_slot::proofs::Texts::six_digits))]
 pub(crate) fn put_members(line: &mut Line, head: &Head, members: u32)
     requires { length line.old ≤ 600 }
     ensures text { line.new ≡ line.old ++ hex (member_digits head.now) members }
