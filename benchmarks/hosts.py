@@ -1,10 +1,11 @@
 #!/usr/bin/env python3
 """Times `run` where hosts write and read: 20,000 slots of 8 nodes whose frames carry 16 bytes.
 
-A host writes in every third slot, and in each slot one reads its status and one reads another node's messages. Beside it
-stand the same list and slots without host lines, and a program that it builds, which starts and joins as many threads as
-a run would that started them in each slot, one after another, and has them do nothing. Printed are nanoseconds a slot, by the clock and by how long processors
-were at work, each the least of some runs with the trace to /dev/null.
+A host writes in every third slot, and in each slot one reads its status and one reads another node's messages. It is timed
+on all processors, on two and on one, and beside twice as many busy programs as there are processors. Beside it stand the
+same list and slots without host lines, and a program that it builds, which starts and joins as many threads as a run would
+that started them in each slot, one after another, and has them do nothing. Printed are nanoseconds a slot, by the clock and
+by how long processors were at work, each the least of some runs with the trace to /dev/null.
 
 It prints the most memory that the process held, for 2,000 and for 20,000 slots: with the same number of host lines, which
 shows what slots cost, and with as many in each slot, which shows what lines do. Last come scripts at the limit: as many
@@ -13,8 +14,10 @@ host lines as a file of 1,048,576 bytes can have, and the same with one more byt
 It needs the program that `./ttpbench` builds, and prints figures alone; nothing passes or fails here.
 """
 
+import contextlib
 import os
 import subprocess
+import sys
 import tempfile
 import time
 
@@ -85,6 +88,31 @@ def least(command):
     return min(clock for clock, _ in taken), min(work for _, work in taken)
 
 
+@contextlib.contextmanager
+def busy_programs(count):
+    """So many programs that do nothing else than keep a processor at work."""
+    running = [subprocess.Popen([sys.executable, "-c", "while True: pass"]) for _ in range(count)]
+    try:
+        time.sleep(1)
+        yield
+    finally:
+        for one in running:
+            one.kill()
+        for one in running:
+            one.wait()
+
+
+@contextlib.contextmanager
+def processors(count):
+    """What is started meanwhile has so many processors."""
+    all_of_them = os.sched_getaffinity(0)
+    os.sched_setaffinity(0, sorted(all_of_them)[:count])
+    try:
+        yield
+    finally:
+        os.sched_setaffinity(0, all_of_them)
+
+
 def told(name, seconds):
     clock, work = (value * 1e9 / SLOTS for value in seconds)
     return f"{name:32s} {clock:9.0f} ns a slot by the clock   {work:9.0f} ns of processors"
@@ -116,6 +144,12 @@ def main():
         quiet = script("quiet.script", SLOTS, [])
         print(f"{NODES} nodes, {SLOTS} slots, {len(host_lines(SLOTS))} host lines")
         print(told("with hosts", least([program(), "run", medl, hosts])))
+        for count in (2, 1):
+            with processors(count):
+                print(told(f"with hosts, {count} processors", least([program(), "run", medl, hosts])))
+        busy = 2 * len(os.sched_getaffinity(0))
+        with busy_programs(busy):
+            print(told(f"with hosts, {busy} busy programs", least([program(), "run", medl, hosts])))
         print(told("without", least([program(), "run", medl, quiet])))
         bare = rattle_program(folder, "bare_joins", "", BARE)
         print(told(f"{joins_in(SLOTS)} bare joins", least([bare, str(joins_in(SLOTS))])))

@@ -13,35 +13,43 @@ use crate::ending::{Common, end_all};
 use crate::jobs::{EndJob, HostJob};
 use crate::nodes::{Desk, Nodes};
 use crate::sending::fetch_all;
-use crate::staff::{Hired, Hosts};
+use crate::staff::{Hired, Hosts, finish_ends, finish_hosts};
 use controller::Seat;
-use errand::ends::Waiting;
+use errand::ends::Giver;
 use host_port::{Fetcher, HostEnd, HostReaders, WriteLine};
 use medium::Medium;
 use std::alloc::Global;
+use std::mem;
 use std::sync::{Arc, Wait};
-use std::{hint, mem, thread};
 use ttp_base::{Gate, Memory};
 use ttp_world::{HostRead, Medl, Script};
 
-// Looks before a yield, and at all.
-const SPINS: u32 = 400;
-
-const LOOKS: u32 = 450;
-
-// Waits a little for a worker that was just asked, until it has begun: else a few fetches would be over in each slot before
-// the first write. What it was asked for has to be waited for anyway.
-fn wait_for_start<'b, 'a>(waiting: &Waiting<'b, HostJob<'a>, Hosts>) {
-    for looks in 0..LOOKS {
-        if waiting.is_begun() {
-            return;
-        }
-        if looks < SPINS {
-            hint::spin_loop();
-        } else {
-            thread::yield_now();
-        }
+// Fetches here, beside what hosts do.
+fn fetch_beside<'b, 'a, R: Wait, G: Gate>(
+    rt: &R,
+    hosts: Giver<'b, HostJob<'a>, Hosts>,
+    job: HostJob<'a>,
+    fetchers: Vec<Option<Fetcher>>,
+    gate: &G,
+) -> (
+    Giver<'b, HostJob<'a>, Hosts>,
+    HostJob<'a>,
+    Vec<Option<Fetcher>>,
+)
+    requires job { MayHostsDo job }
+    requires fetchers { MayFetchAll fetchers.items }
+    ensures job { HaveHostsDone job.entry result.1 }
+    ensures fetchers_count { length result.2.items ≡ length fetchers.items }
+    ensures fetches { FetchAll fetchers.items result.2.items }
+{
+    let waiting = hosts.ask(job);
+    if waiting.goes_first() {
+        let (hosts, job) = finish_hosts(rt, waiting, gate);
+        return (hosts, job, fetch_all(fetchers, gate));
     }
+    let fetchers = fetch_all(fetchers, gate);
+    let (hosts, job) = finish_hosts(rt, waiting, gate);
+    (hosts, job, fetchers)
 }
 
 /// The worker makes the writes of hosts beside the fetches.
@@ -71,15 +79,13 @@ pub(crate) fn write_beside<'b, 'a, R: Wait, G: Gate>(
         ends: ending,
         hosts,
     } = hired;
-    let waiting = hosts.ask(HostJob::Write {
+    let job = HostJob::Write {
         script,
         places,
         ends,
         lines,
-    });
-    wait_for_start(&waiting);
-    let fetchers = fetch_all(fetchers, gate);
-    let (hosts, job) = waiting.take(rt);
+    };
+    let (hosts, job, fetchers) = fetch_beside(rt, hosts, job, fetchers, gate);
     match job {
         HostJob::Write { ends, lines, .. } => (
             Hired {
@@ -115,9 +121,15 @@ fn end_beside<'b, 'a, R: Wait, G: Gate>(
     let Hired { ends, hosts } = hired;
     let reading = hosts.ask(read);
     let ending = ends.ask(back);
+    if reading.goes_first() {
+        let (hosts, read) = finish_hosts(rt, reading, gate);
+        end_all(seats, desks, common, gate);
+        let (ends, back) = finish_ends(rt, ending, gate);
+        return (Hired { ends, hosts }, back, read);
+    }
     end_all(seats, desks, common, gate);
-    let (ends, back) = ending.take(rt);
-    let (hosts, read) = reading.take(rt);
+    let (ends, back) = finish_ends(rt, ending, gate);
+    let (hosts, read) = finish_hosts(rt, reading, gate);
     (Hired { ends, hosts }, back, read)
 }
 

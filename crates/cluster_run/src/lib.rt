@@ -14,7 +14,8 @@
 //!
 //! [`Cluster::slot`] is for who steps a cluster by hand, and joins all that it starts. [`Cluster::run`] does
 //! all slots that are left, and tells a [`Watch`] of each. It hires two workers that stay, for the slots from
-//! the first on in which a host does something, so that a slot starts no thread once they serve.
+//! the first on in which a host does something, so that a slot starts no thread; what a worker has not begun in time
+//! is done without it.
 //! `put_run` of ttp_top takes a cluster through its slots, and writes what each report shows:
 //!
 //! ```text

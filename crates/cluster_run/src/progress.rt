@@ -36,7 +36,7 @@ pub(crate) struct Progress {
 }
 
 impl Progress {
-    /// One slot, the first that was not done yet: with those who were hired, where both serve.
+    /// One slot, the first that was not done yet: with those who were hired.
     ///
     /// # Errors
     ///

@@ -4,7 +4,7 @@ ghost use Rattle.cluster_run.specs.Progress.{cluster_at, IsOnCourse};
 
 use crate::jobs::{EndJob, HostJob};
 use crate::progress::{Course, Progress};
-use crate::staff::{Ends, Hired, Hosts, serve_ends, serve_hosts};
+use crate::staff::{Ends, Hired, Hosts, await_service, serve_ends, serve_hosts};
 use errand::ends::{Worker, hire, open};
 use host_port::SlotReport;
 use std::sync::Wait;
@@ -152,6 +152,7 @@ fn run_staffed<'b, 'a, R: Threads + Wait + Sync, G: Gate, W: Watch>(
         → W.follows start out.old (cluster_at course.now at.old)
         → W.leaves start out.new fault course.now.list.now course.now.script.now) }
 {
+    await_service(staff);
     let left = run_slots(rt, staff, course, course.script.slots, at, watch, out, gate);
     *staff = None;
     left

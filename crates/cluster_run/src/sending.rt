@@ -20,7 +20,7 @@ ghost use Rattle.cluster_run.specs.Sending.{Fetches, MayFetch, MayFetchAll, Fetc
 ghost use Rattle.cluster_run.specs.Sending.{SettlesFetch};
 
 use crate::beside::write_beside;
-use crate::staff::{Hired, take_served};
+use crate::staff::Hired;
 use controller::{Seat, is_loaded};
 use host_port::{Fetcher, HostEnd, WriteLine};
 use std::alloc::Global;
@@ -176,7 +176,7 @@ fn write_started<R: Threads + Sync, G: Gate>(
     (ends, lines, fetchers)
 }
 
-/// Hosts write beside the fetches: by their worker where one serves, and else in a thread that is started. Neither is
+/// Hosts write beside the fetches: by their worker where one is hired, and else in a thread that is started. Neither is
 /// asked where there are not both.
 pub(crate) fn write_and_fetch<'b, 'a, R: Threads + Wait + Sync, G: Gate>(
     rt: &R,
@@ -204,7 +204,7 @@ pub(crate) fn write_and_fetch<'b, 'a, R: Threads + Wait + Sync, G: Gate>(
         let (ends, lines) = write_all(ends, script, places, lines, gate);
         return (ends, lines, fetch_all(fetchers, gate));
     }
-    let Some(hired) = take_served(staff) else {
+    let Some(hired) = staff.take() else {
         return write_started(rt, ends, fetchers, script, places, lines, gate);
     };
     let (hired, (ends, lines), fetchers) = write_beside(

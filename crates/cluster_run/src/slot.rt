@@ -22,7 +22,7 @@ use crate::ending::{Common, end_all, end_halves};
 use crate::nodes::{Desk, Nodes};
 use crate::reading::{lend_readers, read_all, read_lines};
 use crate::reporting::node_lines;
-use crate::staff::{Hired, take_served};
+use crate::staff::Hired;
 use controller::{Seat, begin_all, plan_all};
 use host_port::{HostReaders, NodeLine, ReadLine, SlotReport, WriteLine};
 use std::alloc::Global;
@@ -98,7 +98,7 @@ fn end_with_started<R: Threads + Wait + Sync, G: Gate>(
     readers
 }
 
-// All nodes end the slot beside the reads of hosts: with the workers where both serve, and else in threads that are
+// All nodes end the slot beside the reads of hosts: with the workers where they are hired, and else in threads that are
 // started.
 fn end_and_read<'b, 'a, R: Threads + Wait + Sync, G: Gate>(
     rt: &R,
@@ -119,7 +119,7 @@ fn end_and_read<'b, 'a, R: Threads + Wait + Sync, G: Gate>(
         nodes.new.seats.items nodes.old.desks.items nodes.new.desks.items) }
     ensures read { IfOk result (λ left. HaveReadBy reads.now readers.items left.items) }
 {
-    let Some(hired) = take_served(staff) else {
+    let Some(hired) = staff.take() else {
         return Ok(end_with_started(rt, list, script, nodes, readers, reads, gate));
     };
     let (hired, readers) = end_staying(

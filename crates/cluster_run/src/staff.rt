@@ -1,12 +1,14 @@
 //! Workers that stay for a run: one ends slots for the back half of the nodes, and one does what hosts do.
-ghost use Rattle.std.specs.Prelude.{◌≡◌};
+ghost use Rattle.std.specs.Prelude.{◌≡◌, Some};
+ghost use Rattle.cluster_run.specs.declared.jobs.EndJob.{EndJob};
+ghost use Rattle.cluster_run.specs.declared.jobs.HostJob.{HostJob};
 ghost use Rattle.cluster_run.specs.Jobs.{IsJobReady, HasJobEnded, MayHostsDo, HaveHostsDone};
 
 use crate::ending::{Common, end_from};
 use crate::jobs::{EndJob, HostJob};
 use crate::reading::read_all;
 use crate::sending::write_all;
-use errand::ends::{Giver, Worker};
+use errand::ends::{Giver, Waiting, Worker};
 use errand::rule::Errand;
 use std::sync::Wait;
 use ttp_base::Gate;
@@ -36,20 +38,12 @@ pub(crate) struct Hired<'b, 'a> {
     pub(crate) hosts: Giver<'b, HostJob<'a>, Hosts>,
 }
 
-impl<'b, 'a> Hired<'b, 'a> {
-    fn are_served(&self) -> bool {
-        self.ends.is_served() && self.hosts.is_served()
+/// Looks for a while whether both begin to serve.
+pub(crate) fn await_service<'b, 'a>(staff: &Option<Hired<'b, 'a>>) {
+    if let Some(hired) = staff {
+        hired.ends.await_service();
+        hired.hosts.await_service();
     }
-}
-
-/// Takes those who were hired, where both serve.
-pub(crate) fn take_served<'b, 'a>(staff: &mut Option<Hired<'b, 'a>>) -> Option<Hired<'b, 'a>> {
-    let hired = staff.take()?;
-    if hired.are_served() {
-        return Some(hired);
-    }
-    *staff = Some(hired);
-    None
 }
 
 // A part ends the slot.
@@ -112,6 +106,40 @@ fn do_host_job<'a, R: Wait, G: Gate>(rt: &R, job: HostJob<'a>, gate: &G) -> Host
             HostJob::Read { reads, readers }
         }
     }
+}
+
+/// A part has ended the slot: by the worker, or here.
+pub(crate) fn finish_ends<'b, 'a, R: Wait, G: Gate>(
+    rt: &R,
+    waiting: Waiting<'b, EndJob<'a>, Ends>,
+    gate: &G,
+) -> (Giver<'b, EndJob<'a>, Ends>, EndJob<'a>)
+    ensures { (job : EndJob) → waiting.entry.seat.me.0.job ≡ Some job → HasJobEnded job result.1 }
+{
+    waiting.finish(
+        rt,
+        &|job|
+            requires { IsJobReady job }
+            ensures { HasJobEnded job.entry result }
+        { end_job(job, gate) },
+    )
+}
+
+/// Hosts have done what a job says: by their worker, or here.
+pub(crate) fn finish_hosts<'b, 'a, R: Wait, G: Gate>(
+    rt: &R,
+    waiting: Waiting<'b, HostJob<'a>, Hosts>,
+    gate: &G,
+) -> (Giver<'b, HostJob<'a>, Hosts>, HostJob<'a>)
+    ensures { (job : HostJob) → waiting.entry.seat.me.0.job ≡ Some job → HaveHostsDone job result.1 }
+{
+    waiting.finish(
+        rt,
+        &|job|
+            requires { MayHostsDo job }
+            ensures { HaveHostsDone job.entry result }
+        { do_host_job(rt, job, gate) },
+    )
 }
 
 /// Ends slots for a part of the nodes, until nobody gives work any more.

@@ -1,14 +1,15 @@
 -- Each step keeps the rule.
-use Rattle.std.proofs.Common.{◌≡◌, ◌≢◌, ℕ, zero, suc, ◌<◌, List, [], ◌∷◌, ◌++◌, set, get_or, replicate, refl, sym, ap, ◌∙◌, subst, inl, inr, ⊎_elim, arith, Option, Some, None}
+use Rattle.std.proofs.Common.{◌≡◌, ◌≢◌, ℕ, zero, suc, ◌<◌, List, [], ◌∷◌, ◌++◌, set, get_or, eqb, replicate, refl, sym, ap, ◌∙◌, subst, inl, inr, ⊎_elim, arith, Option, Some, None}
 use mathlib.Core.Option.{none, some, some-ne-none, some-injective}
 use mathlib.Core.Option as maybe
 use lib.ListN.{get_elem?}
-use Rattle.atomic_table.proofs.Lists.{set_again}
+use prog.Atomic.{either}
+use Rattle.atomic_table.proofs.Lists.{set_again, exchanged}
 use Rattle.atomic_table.specs.Table.{State, Me, Act, keeps, takes, gives, Valid, stepped, carried_after, Allows, Splits, opening}
 use Rattle.errand.specs.declared.note.Note.{Note}
 use Rattle.errand.specs.declared.note.Role.{Role}
 use Rattle.errand.specs.declared.note.Role.TheVariants.{Alone, Fresh, Gives, Works}
-use Rattle.errand.specs.Turns.{number, note, paired, alone, bare, laden, Given, Stage, Turns, fetched, began, asked, took, gave}
+use Rattle.errand.specs.Turns.{number, note, paired, alone, bare, laden, Given, Stage, Turns, fetched, began, asked, took, brought, gave}
 
 module _ {J : Type 0} where
   abbrev pub job_or : J → Option J → J
@@ -32,9 +33,21 @@ module _ {J : Type 0} where
     abbrev S : Type 0
     S = State (Option J) (Note J)
 
+    -- what a step owes in the state s that makes x of the word i
+    abbrev GoesTo : S → ℕ → ℕ → Me (Option J) (Note J) → ℕ → (ℕ → Me (Option J) (Note J) → Type 0) → Type 0
+    GoesTo s id i me x then = (w : Note J) × (a : Act (Option J)) × Valid s.homes me.1 a × Turns needs does (stepped s i x id me.1 w a) × then (get_or s.words i 0) (w, carried_after me.1 a)
+
     -- what a step at the word i owes in the state s
     abbrev Goes : S → ℕ → ℕ → Me (Option J) (Note J) → (ℕ → ℕ) → (ℕ → Me (Option J) (Note J) → Type 0) → Type 0
-    Goes s id i me f then = (w : Note J) × (a : Act (Option J)) × Valid s.homes me.1 a × Turns needs does (stepped s i (f (get_or s.words i 0)) id me.1 w a) × then (get_or s.words i 0) (w, carried_after me.1 a)
+    Goes s id i me f then = GoesTo s id i me (f (get_or s.words i 0)) then
+
+    -- a change of the turn's word from 1 that finds another number
+    finds_other : (s : S) (id x : ℕ) (me : Me (Option J) (Note J)) (then : ℕ → Me (Option J) (Note J) → Type 0) → get_or s.words 0 0 ≢ 1 → GoesTo s id 0 me (get_or s.words 0 0) then → Goes s id 0 me (λ n. either (eqb n 1) x n) then
+    finds_other s id x me then other goes = exchanged (get_or s.words 0 0) 1 x (λ n. GoesTo s id 0 me n then) (λ one. absurd (other one)) (λ _. goes)
+
+    -- one that finds 1
+    finds_one : (s : S) (id x : ℕ) (me : Me (Option J) (Note J)) (then : ℕ → Me (Option J) (Note J) → Type 0) → get_or s.words 0 0 ≡ 1 → GoesTo s id 0 me x then → Goes s id 0 me (λ n. either (eqb n 1) x n) then
+    finds_one s id x me then one goes = exchanged (get_or s.words 0 0) 1 x (λ n. GoesTo s id 0 me n then) (λ _. goes) (λ other. absurd (other one))
 
     -- a step owes it at both forms of the table
     allowed : (n id i : ℕ) (me : Me (Option J) (Note J)) (f : ℕ → ℕ) (then : ℕ → Me (Option J) (Note J) → Type 0) → (get_elem? (note Alone None ∷ []) id ≡ some me.0 → Goes alone id i me f then)
@@ -112,7 +125,7 @@ module _ {J : Type 0} where
           ((λ _. (x.1.0, refl, λ i e. subst (λ (y : J). does y x.1.0) (inside j i e) x.1.2)), (λ other. absurd (other x.0))),
         ))
         given
-    fetch_given j m p q h (Some y) given = (note Gives (Some j), keeps, tt, inr (m, p, q, h, Gives, Some j, Some y, refl, given), ((λ two. let one = given.0 in absurd (omega arith)), (λ _. refl)))
+    fetch_given j m p q h (Some y) given = (note Gives (Some j), keeps, tt, inr (m, p, q, h, Gives, Some j, Some y, refl, given), ((λ two. let four = given.0 in absurd (omega arith)), (λ _. refl)))
 
     fetch_at : (j : J) (id m p q : ℕ) (h : maybe.Option (Option J)) (r : Role) (a b : Option J) → Stage needs does m h r a b → get_elem? (note r a ∷ note Works b ∷ []) id ≡ some (note Gives (Some j))
         → Goes (paired m p q h r a b) id 0 (bare Gives (Some j)) (λ x. x) (fetched needs does (bare Gives (Some j)))
@@ -128,30 +141,69 @@ module _ {J : Type 0} where
     fetches n id me j is = subst (λ (u : Me (Option J) (Note J)). Allows (Turns needs does) n id u 0 (λ x. x) (fetched needs does u)) (sym is)
         (allowed n id 0 (bare Gives (Some j)) (λ x. x) (fetched needs does (bare Gives (Some j))) (λ at. absurd (not_alone id _ (λ e. omega arith) at)) (fetch_at j id))
 
-    -- the worker looks for a job
-    take_given : (j : J) (m p q : ℕ) (h : maybe.Option (Option J)) → Given needs does m h j None → Goes (paired m p q h Gives (Some j) None) 1 0 (bare Works None) (λ x. x) (took needs does (bare Works None))
-    take_given j m p q h given = ⊎_elim
-        (λ (x : (m ≡ 1) × (h ≡ some (Some j)) × needs j). (note Works (Some j), takes 0 (Some j), ap (λ (l : maybe.Option (Option J)). some l) x.1, inr (m, p, q, none, Gives, Some j, Some j, refl, (x.0, refl)), ((λ _. (j, refl, x.2)), (λ other. absurd (other x.0)))))
-        (λ (x : (m ≡ 2) × ((k : J) × (h ≡ some (Some k)) × does j k)). (note Works None, keeps, tt, inr (m, p, q, h, Gives, Some j, None, refl, inr x), ((λ one. let two = x.0 in absurd (omega arith)), (λ _. refl))))
+    -- the giver takes back the job that it gave
+    back_given : (j : J) (m p q : ℕ) (h : maybe.Option (Option J)) (b : Option J) → Given needs does m h j b
+        → Goes (paired m p q h Gives (Some j) b) 0 0 (bare Gives (Some j)) (λ x. either (eqb x 1) 0 x) (brought needs does (bare Gives (Some j)))
+    back_given j m p q h None given = ⊎_elim
+        (λ (x : (m ≡ 1) × (h ≡ some (Some j)) × needs j). finds_one (paired m p q h Gives (Some j) None) 0 0 (bare Gives (Some j)) (brought needs does (bare Gives (Some j))) x.0 (
+          note Gives None,
+          takes 0 (Some j),
+          ap (λ (l : maybe.Option (Option J)). some l) x.1,
+          inr (0, p, q, none, Gives, None, None, refl, ((λ e. omega arith), refl)),
+          ((λ _. (j, refl, refl, x.2)), (λ other. absurd (other x.0))),
+        ))
+        (λ (x : (m ≡ 2) × ((k : J) × (h ≡ some (Some k)) × does j k)). finds_other (paired m p q h Gives (Some j) None) 0 0 (bare Gives (Some j)) (brought needs does (bare Gives (Some j))) (λ one. let two = x.0 in omega arith)
+        (note Gives (Some j), keeps, tt, inr (m, p, q, h, Gives, Some j, None, refl, inr x), ((λ one. let two = x.0 in absurd (omega arith)), (λ _. refl))))
+        given
+    back_given j m p q h (Some y) given = finds_other (paired m p q h Gives (Some j) (Some y)) 0 0 (bare Gives (Some j)) (brought needs does (bare Gives (Some j))) (λ one. let four = given.0 in omega arith)
+        (note Gives (Some j), keeps, tt, inr (m, p, q, h, Gives, Some j, Some y, refl, given), ((λ one. let four = given.0 in absurd (omega arith)), (λ _. refl)))
+
+    back_at : (j : J) (id m p q : ℕ) (h : maybe.Option (Option J)) (r : Role) (a b : Option J) → Stage needs does m h r a b → get_elem? (note r a ∷ note Works b ∷ []) id ≡ some (note Gives (Some j))
+        → Goes (paired m p q h r a b) id 0 (bare Gives (Some j)) (λ x. either (eqb x 1) 0 x) (brought needs does (bare Gives (Some j)))
+    back_at j zero m p q h Alone a b stage at = absurd stage
+    back_at j zero m p q h Fresh a b stage at = let e = same_role Fresh Gives a (Some j) at in absurd (omega arith)
+    back_at j zero m p q h Gives None b stage at = absurd (vacant_job j (sym (same_job Gives Gives None (Some j) at)))
+    back_at j zero m p q h Gives (Some i) b stage at = subst (λ (y : J). Given needs does m h y b → Goes (paired m p q h Gives (Some y) b) 0 0 (bare Gives (Some j)) (λ x. either (eqb x 1) 0 x) (brought needs does (bare Gives (Some j)))) (sym (inside i j (same_job Gives Gives (Some i) (Some j) at))) (back_given j m p q h b) stage
+    back_at j zero m p q h Works a b stage at = absurd stage
+    back_at j (suc zero) m p q h r a b stage at = let e = same_role Works Gives b (Some j) at in absurd (omega arith)
+    back_at j (suc (suc id)) m p q h r a b stage at = absurd (some-ne-none _ (sym at))
+
+    brings : (n id : ℕ) (me : Me (Option J) (Note J)) (j : J) → me ≡ bare Gives (Some j) → Allows (Turns needs does) n id me 0 (λ x. either (eqb x 1) 0 x) (brought needs does me)
+    brings n id me j is = subst (λ (u : Me (Option J) (Note J)). Allows (Turns needs does) n id u 0 (λ x. either (eqb x 1) 0 x) (brought needs does u)) (sym is)
+        (allowed n id 0 (bare Gives (Some j)) (λ x. either (eqb x 1) 0 x) (brought needs does (bare Gives (Some j))) (λ at. absurd (not_alone id _ (λ e. omega arith) at)) (back_at j id))
+
+    pub brings_job : (n id : ℕ) (me : Me (Option J) (Note J)) (o : Option J) → o ≢ None → me ≡ bare Gives o → Allows (Turns needs does) n id me 0 (λ x. either (eqb x 1) 0 x) (brought needs does me)
+    brings_job n id me None there is = absurd (there refl)
+    brings_job n id me (Some j) there is = brings n id me j is
+
+    -- the worker begins a job
+    begin_given : (j : J) (m p q : ℕ) (h : maybe.Option (Option J)) → Given needs does m h j None → Goes (paired m p q h Gives (Some j) None) 1 0 (bare Works None) (λ x. either (eqb x 1) 4 x) (took needs does (bare Works None))
+    begin_given j m p q h given = ⊎_elim
+        (λ (x : (m ≡ 1) × (h ≡ some (Some j)) × needs j). finds_one (paired m p q h Gives (Some j) None) 1 4 (bare Works None) (took needs does (bare Works None)) x.0
+        (note Works (Some j), takes 0 (Some j), ap (λ (l : maybe.Option (Option J)). some l) x.1, inr (4, p, q, none, Gives, Some j, Some j, refl, (refl, refl)), ((λ _. (j, refl, x.2)), (λ other. absurd (other x.0)))))
+        (λ (x : (m ≡ 2) × ((k : J) × (h ≡ some (Some k)) × does j k)). finds_other (paired m p q h Gives (Some j) None) 1 4 (bare Works None) (took needs does (bare Works None)) (λ one. let two = x.0 in omega arith)
+        (note Works None, keeps, tt, inr (m, p, q, h, Gives, Some j, None, refl, inr x), ((λ one. let two = x.0 in absurd (omega arith)), (λ _. refl))))
         given
 
-    take_at : (id m p q : ℕ) (h : maybe.Option (Option J)) (r : Role) (a b : Option J) → Stage needs does m h r a b → get_elem? (note r a ∷ note Works b ∷ []) id ≡ some (note Works None)
-        → Goes (paired m p q h r a b) id 0 (bare Works None) (λ x. x) (took needs does (bare Works None))
-    take_at zero m p q h Alone a b stage at = absurd stage
-    take_at zero m p q h Fresh a b stage at = let e = same_role Fresh Works a None at in absurd (omega arith)
-    take_at zero m p q h Gives a b stage at = let e = same_role Gives Works a None at in absurd (omega arith)
-    take_at zero m p q h Works a b stage at = absurd stage
-    take_at (suc zero) m p q h Alone a b stage at = absurd stage
-    take_at (suc zero) m p q h Fresh a b stage at = (note Works None, keeps, tt, inr (m, p, q, h, Fresh, a, None, refl, (stage.0, stage.1, refl)), ((λ one. absurd (stage.0 one)), (λ _. refl)))
-    take_at (suc zero) m p q h Gives None b stage at = (note Works None, keeps, tt, inr (m, p, q, h, Gives, None, None, refl, (stage.0, refl)), ((λ one. absurd (stage.0 one)), (λ _. refl)))
-    take_at (suc zero) m p q h Gives (Some j) None stage at = take_given j m p q h stage
-    take_at (suc zero) m p q h Gives (Some j) (Some y) stage at = absurd (vacant_job y (same_job Works Works (Some y) None at))
-    take_at (suc zero) m p q h Works a b stage at = absurd stage
-    take_at (suc (suc id)) m p q h r a b stage at = absurd (some-ne-none _ (sym at))
+    begin_job_at : (id m p q : ℕ) (h : maybe.Option (Option J)) (r : Role) (a b : Option J) → Stage needs does m h r a b → get_elem? (note r a ∷ note Works b ∷ []) id ≡ some (note Works None)
+        → Goes (paired m p q h r a b) id 0 (bare Works None) (λ x. either (eqb x 1) 4 x) (took needs does (bare Works None))
+    begin_job_at zero m p q h Alone a b stage at = absurd stage
+    begin_job_at zero m p q h Fresh a b stage at = let e = same_role Fresh Works a None at in absurd (omega arith)
+    begin_job_at zero m p q h Gives a b stage at = let e = same_role Gives Works a None at in absurd (omega arith)
+    begin_job_at zero m p q h Works a b stage at = absurd stage
+    begin_job_at (suc zero) m p q h Alone a b stage at = absurd stage
+    begin_job_at (suc zero) m p q h Fresh a b stage at = finds_other (paired m p q h Fresh a b) 1 4 (bare Works None) (took needs does (bare Works None)) stage.0
+        (note Works None, keeps, tt, inr (m, p, q, h, Fresh, a, None, refl, (stage.0, stage.1, refl)), ((λ one. absurd (stage.0 one)), (λ _. refl)))
+    begin_job_at (suc zero) m p q h Gives None b stage at = finds_other (paired m p q h Gives None b) 1 4 (bare Works None) (took needs does (bare Works None)) stage.0
+        (note Works None, keeps, tt, inr (m, p, q, h, Gives, None, None, refl, (stage.0, refl)), ((λ one. absurd (stage.0 one)), (λ _. refl)))
+    begin_job_at (suc zero) m p q h Gives (Some j) None stage at = begin_given j m p q h stage
+    begin_job_at (suc zero) m p q h Gives (Some j) (Some y) stage at = absurd (vacant_job y (same_job Works Works (Some y) None at))
+    begin_job_at (suc zero) m p q h Works a b stage at = absurd stage
+    begin_job_at (suc (suc id)) m p q h r a b stage at = absurd (some-ne-none _ (sym at))
 
-    pub looks : (n id : ℕ) (me : Me (Option J) (Note J)) → me ≡ bare Works None → Allows (Turns needs does) n id me 0 (λ x. x) (took needs does me)
-    looks n id me is = subst (λ (u : Me (Option J) (Note J)). Allows (Turns needs does) n id u 0 (λ x. x) (took needs does u)) (sym is)
-        (allowed n id 0 (bare Works None) (λ x. x) (took needs does (bare Works None)) (λ at. absurd (not_alone id _ (λ e. omega arith) at)) (take_at id))
+    pub begins_job : (n id : ℕ) (me : Me (Option J) (Note J)) → me ≡ bare Works None → Allows (Turns needs does) n id me 0 (λ x. either (eqb x 1) 4 x) (took needs does me)
+    begins_job n id me is = subst (λ (u : Me (Option J) (Note J)). Allows (Turns needs does) n id u 0 (λ x. either (eqb x 1) 4 x) (took needs does u)) (sym is)
+        (allowed n id 0 (bare Works None) (λ x. either (eqb x 1) 4 x) (took needs does (bare Works None)) (λ at. absurd (not_alone id _ (λ e. omega arith) at)) (begin_job_at id))
 
     -- the worker gives the job back
     give_at : (j k : J) → does j k → (id m p q : ℕ) (h : maybe.Option (Option J)) (r : Role) (a b : Option J) → Stage needs does m h r a b → get_elem? (note r a ∷ note Works b ∷ []) id ≡ some (note Works (Some j))

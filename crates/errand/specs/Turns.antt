@@ -1,5 +1,5 @@
--- A job goes from the giver to the worker and back. The first word says whose turn it is: 1 the worker's, and 2 the
--- giver's again. The two others say whether an end sleeps, and the rule says nothing of them.
+-- A job goes from the giver to the worker and back. The first word says how far it is: 1 where it is given, 4 where the
+-- worker has begun it, and 2 where it is done. The two others say whether an end sleeps, and the rule says nothing of them.
 use Rattle.std.specs.Prelude.{◌≡◌, ◌≢◌, ◌⊎◌, ℕ, List, [], ◌∷◌, Option, Some, None}
 use mathlib.Core.Option.{some}
 use mathlib.Core.Option as maybe
@@ -41,10 +41,10 @@ module _ {J : Type 0} where
   -- what an errand needs of a job, and what it makes of it
   module _ (needs : J → Type 0) (does : J → J → Type 0) where
     -- the job j was given: either it lies there, and is one that the errand may do, or it lies there done, or the worker
-    -- has it
+    -- has begun it
     abbrev pub Given : ℕ → maybe.Option (Option J) → J → Option J → Type 0
     Given n h j None = ((n ≡ 1) × (h ≡ some (Some j)) × needs j) ⊎ ((n ≡ 2) × ((k : J) × (h ≡ some (Some k)) × does j k))
-    Given n h j (Some x) = (n ≡ 1) × (x ≡ j)
+    Given n h j (Some x) = (n ≡ 4) × (x ≡ j)
 
     abbrev pub Stage : ℕ → maybe.Option (Option J) → Role → Option J → Option J → Type 0
     Stage n h Alone a b = ⊥
@@ -60,7 +60,11 @@ module _ {J : Type 0} where
     abbrev pub fetched : Me (Option J) (Note J) → ℕ → Me (Option J) (Note J) → Type 0
     fetched m n m' = (n ≡ 2 → (k : J) × (m' ≡ laden Gives None (Some k)) × ((j : J) → m.0.job ≡ Some j → does j k)) × (n ≢ 2 → m' ≡ m)
 
-    -- the worker looks: at 1 it has the slot, with the job
+    -- the giver takes back a job that was not begun: at 1 it has the slot, with the job as it was given
+    abbrev pub brought : Me (Option J) (Note J) → ℕ → Me (Option J) (Note J) → Type 0
+    brought m n m' = (n ≡ 1 → (j : J) × (m.0.job ≡ Some j) × (m' ≡ laden Gives None (Some j)) × needs j) × (n ≢ 1 → m' ≡ m)
+
+    -- the worker begins a job: at 1 it has the slot, with the job
     abbrev pub took : Me (Option J) (Note J) → ℕ → Me (Option J) (Note J) → Type 0
     took m n m' = (n ≡ 1 → (j : J) × (m' ≡ laden Works (Some j) (Some j)) × needs j) × (n ≢ 1 → m' ≡ m)
 

@@ -1,11 +1,11 @@
 //! The giver's end and the worker's.
-ghost use Rattle.std.specs.Prelude.{true, ◌≡◌, ◌≢◌, ◌<◌, [], None, Some, IfOk};
+ghost use Rattle.std.specs.Prelude.{false, true, ◌≡◌, ◌≢◌, ◌<◌, [], None, Some, IfOk, IfErr};
 ghost use Rattle.errand.specs.declared.note.Role.TheVariants.{Alone, Gives, Works};
 ghost use Rattle.errand.specs.Turns.{number, bare, laden};
 ghost use Rattle.errand.specs.Ends.{IsSeated};
 
 use crate::note::Note;
-use crate::rule::{Ask, Begin, Board, ByTurns, Errand, Fetch, Give, Hire, Same, Take};
+use crate::rule::{Ask, Back, Begin, Board, ByTurns, Errand, Fetch, Give, Hire, Same, Take};
 use atomic_table::{Seat, Table};
 use std::alloc::{AllocError, Global};
 use std::sync::Wait;
@@ -18,26 +18,45 @@ const WORKER: usize = 1;
 
 const GIVER: usize = 2;
 
-// How it is with an end: it is not at work yet (0), it sleeps, it is awake, or it is at a job.
+// How it is with an end: it is not at work yet (0), it sleeps, or it is awake.
 const AWAY: u64 = 0;
 
 const ASLEEP: u64 = 1;
 
 const AWAKE: u64 = 2;
 
-const BUSY: u64 = 3;
+// What the turn's word says. A job that is given belongs to whoever changes that word first: the worker, who begins it,
+// or the giver, who takes it back.
+const NONE: u64 = 0;
 
-// What the turn's word says.
 const GIVEN: u64 = 1;
 
 const DONE: u64 = 2;
 
 const STOPPED: u64 = 3;
 
+const BEGUN: u64 = 4;
+
 // Looks before a yield, and before a sleep.
 const SPINS: u32 = 400;
 
 const YIELDS: u32 = 450;
+
+// Looks for a worker that is to begin to serve, before a yield and at all.
+const SERVICE_SPINS: u32 = 4_000;
+
+const SERVICE: u32 = 4_020;
+
+// Looks for a worker that is to begin a job, before the job is taken back.
+const STARTS: u32 = 100;
+
+// A worker that is late for every job is woken and waited for at each of so many.
+const REMINDER: u32 = 64;
+
+// What `goes_first` multiplies by: 2^32 over the golden ratio, whose multiples lie evenly whichever of them are taken.
+const SPREAD: u32 = 2_654_435_769;
+
+const HALF: u32 = 2_147_483_648;
 
 pub type End<J> = Seat<Option<J>, Note<J>>;
 
@@ -54,6 +73,8 @@ pub fn open<J: Drop, D: Errand<J>>(alloc: Global) -> Result<(Whole<J, D>, End<J>
 pub struct Giver<'a, J, D: Errand<J>> {
     board: &'a Board<J, D>,
     seat: End<J>,
+    // How many jobs there were since the last one that the worker did.
+    late: u32,
     ghost seated: { IsSeated board.now.table_id seat.table_id },
     ghost idle: { seat.me ≡ laden Gives None None },
 }
@@ -62,6 +83,7 @@ pub struct Giver<'a, J, D: Errand<J>> {
 pub struct Waiting<'a, J, D: Errand<J>> {
     board: &'a Board<J, D>,
     seat: End<J>,
+    late: u32,
     ghost seated: { IsSeated board.now.table_id seat.table_id },
     ghost given: { (seat.me ≡ bare Gives seat.me.0.job) × (seat.me.0.job ≢ None) },
 }
@@ -84,7 +106,27 @@ pub fn hire<'a, J, D: Errand<J>>(
 {
     let other = board.split_seat::<Hire>(&mut seat);
     board.load::<Begin>(&mut seat, TURN);
-    (Giver { board, seat }, Worker { board, seat: other })
+    let giver = Giver {
+        board,
+        seat,
+        late: 0,
+    };
+    (giver, Worker { board, seat: other })
+}
+
+// Whether a worker is woken and waited for that was too late for so many jobs: the next one, the second one after it, the
+// fourth one, and so on, so that one that can't come costs next to nothing.
+fn is_expected(late: u32) -> bool {
+    late % REMINDER == 0 || late.is_power_of_two()
+}
+
+// Wakes the other end if it sleeps.
+fn wake<J, D: Errand<J>>(board: &Board<J, D>, flag: usize)
+    requires { (flag < 3) × (board.now.table_id.words ≡ 3) }
+{
+    if board.peek(flag) == ASLEEP {
+        board.wake_one(TURN);
+    }
 }
 
 // Waits a little before the next look, longer from look to look.
@@ -113,33 +155,49 @@ fn rest<R: Wait, J, D: Errand<J>>(
 }
 
 impl<'a, J, D: Errand<J>> Giver<'a, J, D> {
-    /// Whether the worker has begun to serve. Until then a job that is given may lie there for good, so
-    /// whoever asks looks first, and does the work without it.
-    pub fn is_served(&self) -> bool {
-        self.board.peek(WORKER) != AWAY
+    /// Looks for a while whether the worker begins to serve, so that it has the first jobs too.
+    pub fn await_service(&self) {
+        for looks in 0..SERVICE {
+            if self.board.peek(WORKER) != AWAY {
+                return;
+            }
+            if looks < SERVICE_SPINS {
+                hint::spin_loop();
+            } else {
+                thread::yield_now();
+            }
+        }
     }
 
-    /// Gives a job to the worker.
+    /// Gives a job to the worker. One that was late for the last ones is mostly left asleep.
     pub fn ask(self, job: J) -> Waiting<'a, J, D>
         requires may { D.needs job }
         ensures { result.seat.me.0.job ≡ Some job }
     {
-        let Giver { board, mut seat } = self;
+        let Giver {
+            board,
+            mut seat,
+            late,
+        } = self;
         match board.exchange(&mut seat, 0, Some(job)) {
             None => {}
             Some(_) => unreachable!(),
         }
         board.store::<Ask>(&mut seat, TURN, GIVEN);
-        if board.peek(WORKER) == ASLEEP {
-            board.wake_one(TURN);
+        if is_expected(late) {
+            wake(board, WORKER);
         }
-        Waiting { board, seat }
+        Waiting { board, seat, late }
     }
 }
 
 impl<'a, J, D: Errand<J>> Drop for Giver<'a, J, D> {
     fn drop(self) {
-        let Self { board, mut seat } = self;
+        let Self {
+            board,
+            mut seat,
+            late: _,
+        } = self;
         board.store::<Same>(&mut seat, TURN, STOPPED);
         board.wake_one(TURN);
     }
@@ -153,30 +211,101 @@ fn wait_done<R: Wait, J, D: Errand<J>>(rt: &R, board: &Board<J, D>, seat: &mut E
 {
     let mut looks = 0u32;
     for _ in rt.forever() {
-        if board.load::<Fetch<D>>(seat, TURN) == DONE {
-            return;
+        match board.load::<Fetch<D>>(seat, TURN) {
+            DONE => return,
+            GIVEN => rest(rt, board, seat, looks, GIVER, 1),
+            _ => rest(rt, board, seat, looks, GIVER, 4),
         }
-        rest(rt, board, seat, looks, GIVER, 1);
         looks = looks.saturating_add(1);
     }
     unreachable!()
 }
 
 impl<'a, J, D: Errand<J>> Waiting<'a, J, D> {
-    /// Whether the worker has begun the job, or has done it. Who would have both sides at work at once looks first.
-    pub fn is_begun(&self) -> bool {
-        self.board.peek(WORKER) == BUSY || self.board.peek(TURN) != GIVEN
+    // Looks for a little while whether the worker begins the job, and once where it was late for the last ones.
+    fn is_begun(&self) -> bool {
+        let looks = if is_expected(self.late) { STARTS } else { 1 };
+        for _ in 0..looks {
+            if self.board.peek(TURN) != GIVEN {
+                return true;
+            }
+            hint::spin_loop();
+        }
+        false
     }
 
-    /// Waits for the job. It comes back as the work leaves it.
-    pub fn take<R: Wait>(self, rt: &R) -> (Giver<'a, J, D>, J)
+    /// Whether the job is to be finished before what else there is to do. It is not where the worker has begun it, which is
+    /// looked for a little while, so that both sides are at work at once; and else about each second time, so that neither
+    /// side is always the first one.
+    pub fn goes_first(&self) -> bool {
+        !self.is_begun() && self.late.wrapping_mul(SPREAD) >= HALF
+    }
+
+    // The job as it was given, unless the worker has begun it.
+    fn take_back(self) -> Result<(Giver<'a, J, D>, J), Waiting<'a, J, D>>
+        ensures back { IfOk result (λ r. (self.entry.seat.me.0.job ≡ Some r.1) × D.needs r.1) }
+        ensures begun { IfErr result (λ w. w.seat.me.0.job ≡ self.entry.seat.me.0.job) }
+    {
+        let Waiting {
+            board,
+            mut seat,
+            late,
+        } = self;
+        if board.compare_exchange::<Back<D>>(&mut seat, TURN, GIVEN, NONE) != GIVEN {
+            return Err(Waiting { board, seat, late });
+        }
+        let job = board.exchange(&mut seat, 0, None).unwrap();
+        let giver = Giver {
+            board,
+            seat,
+            late: late.wrapping_add(1),
+        };
+        Ok((giver, job))
+    }
+
+    // Waits for the worker to do the job.
+    fn take<R: Wait>(self, rt: &R) -> (Giver<'a, J, D>, J)
         ensures { (j : J) → self.entry.seat.me.0.job ≡ Some j → D.does j result.1 }
     {
-        let Waiting { board, mut seat } = self;
+        let Waiting {
+            board,
+            mut seat,
+            late: _,
+        } = self;
+        wake(board, WORKER);
         wait_done(rt, board, &mut seat);
         let job = board.exchange(&mut seat, 0, None).unwrap();
-        (Giver { board, seat }, job)
+        let giver = Giver {
+            board,
+            seat,
+            late: 0,
+        };
+        (giver, job)
     }
+
+    /// The job as the work leaves it: the worker's if it has begun it or begins it soon, and else it is done here.
+    pub fn finish<R: Wait, F: Fn(J) -> J>(self, rt: &R, work: &F) -> (Giver<'a, J, D>, J)
+        requires may { (j : J) → D.needs j → F.pre work.now j }
+        requires does { (j k : J) → D.needs j → F.post work.now j k → D.does j k }
+        ensures { (j : J) → self.entry.seat.me.0.job ≡ Some j → D.does j result.1 }
+    {
+        self.is_begun();
+        match self.take_back() {
+            Ok((giver, job)) => (giver, work(job)),
+            Err(waiting) => waiting.take(rt),
+        }
+    }
+}
+
+// Begins the job that lies in the slot, unless it was taken back.
+fn begin<J, D: Errand<J>>(board: &Board<J, D>, seat: &mut End<J>) -> bool
+    requires seated { IsSeated board.now.table_id seat.old.table_id }
+    requires free { seat.old.me ≡ bare Works None }
+    ensures table { seat.new.table_id ≡ seat.old.table_id }
+    ensures begun { result ≡ true → (j : J) × (seat.new.me ≡ laden Works (Some j) (Some j)) × D.needs j }
+    ensures not_begun { result ≡ false → seat.new.me ≡ seat.old.me }
+{
+    board.compare_exchange::<Take<D>>(seat, TURN, GIVEN, BEGUN) == GIVEN
 }
 
 // Waits for a job, and has the slot with it. False where the work is at its end.
@@ -188,8 +317,12 @@ fn wait_given<R: Wait, J, D: Errand<J>>(rt: &R, board: &Board<J, D>, seat: &mut 
 {
     let mut looks = 0u32;
     for _ in rt.forever() {
-        match board.load::<Take<D>>(seat, TURN) {
-            GIVEN => return true,
+        match board.peek(TURN) {
+            GIVEN => {
+                if begin(board, seat) {
+                    return true;
+                }
+            }
             STOPPED => return false,
             DONE => rest(rt, board, seat, looks, WORKER, 2),
             _ => rest(rt, board, seat, looks, WORKER, 0),
@@ -214,18 +347,7 @@ fn do_job<J, D: Errand<J>, F: Fn(J) -> J>(board: &Board<J, D>, seat: &mut End<J>
         Some(_) => unreachable!(),
     }
     board.store::<Give>(seat, TURN, DONE);
-    if board.peek(GIVER) == ASLEEP {
-        board.wake_one(TURN);
-    }
-}
-
-// Says how it is with the worker.
-fn tell<J, D: Errand<J>>(board: &Board<J, D>, seat: &mut End<J>, state: u64)
-    requires seated { IsSeated board.now.table_id seat.old.table_id }
-    requires seat { number seat.old.me.0.role ≢ 0 }
-    ensures { (seat.new.table_id ≡ seat.old.table_id) × (seat.new.me ≡ seat.old.me) }
-{
-    board.store::<Same>(seat, WORKER, state);
+    wake(board, GIVER);
 }
 
 impl<'a, J, D: Errand<J>> Worker<'a, J, D> {
@@ -240,9 +362,7 @@ impl<'a, J, D: Errand<J>> Worker<'a, J, D> {
             if !wait_given(rt, board, &mut seat) {
                 return;
             }
-            tell(board, &mut seat, BUSY);
             do_job(board, &mut seat, work);
-            tell(board, &mut seat, AWAKE);
         }
         unreachable!()
     }

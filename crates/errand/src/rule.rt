@@ -1,7 +1,7 @@
 //! The rule of the table, and what each step tells.
 ghost use Rattle.std.specs.Prelude.{None, ◌≡◌};
 ghost use Rattle.errand.specs.declared.note.Role.TheVariants.{Alone, Fresh, Works};
-ghost use Rattle.errand.specs.Turns.{note, Turns, fetched, began, asked, took, gave};
+ghost use Rattle.errand.specs.Turns.{note, Turns, fetched, began, asked, took, brought, gave};
 
 use crate::note::Note;
 use atomic_table::{Play, Shared, Split, TableRule};
@@ -55,6 +55,14 @@ pub(crate) struct Fetch<D> {
 
 impl<J, D: Errand<J>> Play<Option<J>, Note<J>> for Fetch<D> {
     ghost then = { λ s m n m'. fetched D.needs D.does m n m' };
+}
+
+pub(crate) struct Back<D> {
+    errand: PhantomData<D>,
+}
+
+impl<J, D: Errand<J>> Play<Option<J>, Note<J>> for Back<D> {
+    ghost then = { λ s m n m'. brought D.needs D.does m n m' };
 }
 
 pub(crate) struct Take<D> {

@@ -30,7 +30,7 @@ fn counted_up(job: Tally) -> Tally
     }
 }
 
-// Counts both up once, the second by the worker where it serves.
+// Counts both up once, the second one by the worker if it comes to that.
 fn count_both<'a, R: Wait>(
     rt: &R,
     giver: &mut Option<Giver<'a, Tally, CountUp>>,
@@ -43,13 +43,15 @@ fn count_both<'a, R: Wait>(
     let Some(hired) = giver.take() else {
         return (counted_up(front), counted_up(back));
     };
-    if !hired.is_served() {
-        *giver = Some(hired);
-        return (counted_up(front), counted_up(back));
-    }
     let waiting = hired.ask(back);
     let front = counted_up(front);
-    let (hired, back) = waiting.take(rt);
+    let (hired, back) = waiting.finish(
+        rt,
+        &|job: Tally| -> Tally
+            requires { job.count < 1000 }
+            ensures { result.count ≡ job.count + 1 }
+        { counted_up(job) },
+    );
     *giver = Some(hired);
     (front, back)
 }
@@ -114,9 +116,9 @@ fn all_rounds_are_counted(rt: HostRuntime) -> Result<(), AllocError> {
     Ok(())
 }
 
-// A worker that never comes is no hang: nothing is asked of it.
+// A worker that never comes is no hang: who gave it a job takes it back.
 #[test]
-fn nobody_is_asked_who_does_not_serve(rt: HostRuntime) -> Result<(), AllocError> {
+fn a_job_that_nobody_begins_is_done_all_the_same(rt: HostRuntime) -> Result<(), AllocError> {
     let (table, seat) = open::<Tally, CountUp>(rt.alloc())?;
     let (giver, worker) = hire(&table.shared, seat);
     assert_eq!(rt; count_up(&rt, &mut Some(giver), 10), (10, 10));

@@ -6,9 +6,9 @@ use Rattle.cluster_run.proofs.beside.write_beside.Goals as goal
 pub unreachable-requires : goal.unreachable-requires
 unreachable-requires g c =
     let given = job.Write c.args.script c.args.places c.args.ends c.args.lines in
-    subst (λ left. HaveHostsDone given left) c.in-Read.is (c.take-hosts.ensures given c.ask-waiting.ensures)
+    subst (λ left. HaveHostsDone given left) c.in-Read.is c.fetch_beside-hosts.ensures.job
 
 pub returns-clause-written : goal.returns-clause-written
 returns-clause-written g c =
     let given = job.Write c.args.script c.args.places c.args.ends c.args.lines in
-    subst (λ left. HaveHostsDone given left) c.in-Write.is (c.take-hosts.ensures given c.ask-waiting.ensures)
+    subst (λ left. HaveHostsDone given left) c.in-Write.is c.fetch_beside-hosts.ensures.job
