@@ -79,7 +79,7 @@ pub struct Giver<'a, J, D: Errand<J>> {
     ghost idle: { seat.me ≡ laden Gives None None },
 }
 
-/// The end that gives jobs, while one is out. It has no `Drop`, so that the job is taken back.
+/// The end that gives jobs, while one is out. It has no `Drop`, so that the job is finished.
 pub struct Waiting<'a, J, D: Errand<J>> {
     board: &'a Board<J, D>,
     seat: End<J>,
@@ -213,7 +213,6 @@ fn wait_done<R: Wait, J, D: Errand<J>>(rt: &R, board: &Board<J, D>, seat: &mut E
     for _ in rt.forever() {
         match board.load::<Fetch<D>>(seat, TURN) {
             DONE => return,
-            GIVEN => rest(rt, board, seat, looks, GIVER, 1),
             _ => rest(rt, board, seat, looks, GIVER, 4),
         }
         looks = looks.saturating_add(1);
@@ -263,7 +262,7 @@ impl<'a, J, D: Errand<J>> Waiting<'a, J, D> {
         Ok((giver, job))
     }
 
-    // Waits for the worker to do the job.
+    // Waits for the worker to do the job, which it has begun.
     fn take<R: Wait>(self, rt: &R) -> (Giver<'a, J, D>, J)
         ensures { (j : J) → self.entry.seat.me.0.job ≡ Some j → D.does j result.1 }
     {
@@ -272,7 +271,6 @@ impl<'a, J, D: Errand<J>> Waiting<'a, J, D> {
             mut seat,
             late: _,
         } = self;
-        wake(board, WORKER);
         wait_done(rt, board, &mut seat);
         let job = board.exchange(&mut seat, 0, None).unwrap();
         let giver = Giver {

@@ -24,6 +24,18 @@ Keeps-Consumes (Some xs) None c x p q = absurd p
 Keeps-Consumes (Some xs) (Some ys) None x p q = absurd q
 Keeps-Consumes (Some xs) (Some ys) (Some zs) x p q = sym p ∙ q
 
+pub Keeps-Appends : (a b c : Option (List ℕ)) (x : List ℕ) → Keeps a b → Appends b c x → Appends a c x
+Keeps-Appends None b c x p q = tt
+Keeps-Appends (Some xs) None c x p q = absurd p
+Keeps-Appends (Some xs) (Some ys) None x p q = absurd q
+Keeps-Appends (Some xs) (Some ys) (Some zs) x p q = q ∙ ap (λ (l : List ℕ). l ++ x) p
+
+-- what nothing is appended to is as it was
+pub Appends-nothing : (a b : Option (List ℕ)) → Appends a b [] → Keeps a b
+Appends-nothing None b p = tt
+Appends-nothing (Some xs) None p = absurd p
+Appends-nothing (Some xs) (Some ys) p = p ∙ append-nil xs
+
 pub Consumes-none : (a : Option (List ℕ)) → Consumes a a []
 Consumes-none None = tt
 Consumes-none (Some xs) = λ i. xs

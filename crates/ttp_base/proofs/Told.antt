@@ -35,6 +35,10 @@ one_more a b c n k is p q =
     subst (λ (l : Troubles). Tells a c l) (interruptions-join n 1)
     (Tells-join a b c (interruptions n) (interruptions 1) p one)
 
+-- one interruption
+pub interrupted : (a b : Option Troubles) (k : Trouble) → k ≡ Interrupted → Tells a b (k ∷ []) → ToldNoFault a b
+interrupted a b k is p = (1, subst (λ (t : Trouble). Tells a b (t ∷ [])) is p)
+
 -- no fault in one call, and none in the next
 pub no_fault-join : (a b c : Option Troubles) → ToldNoFault a b → ToldNoFault b c → ToldNoFault a c
 no_fault-join a b c p q = (

@@ -25,6 +25,7 @@ library_calls library = library.calls
 abbrev pub library_faults : MemoryLibrary → ℕ
 library_faults library = library.faults
 
+-- whether something is known to be held
 abbrev pub is_held : Held → Bool
 is_held untold = false
 is_held absent = false

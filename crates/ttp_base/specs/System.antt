@@ -16,7 +16,7 @@ library_files library = record {
 -- what the writer tells of its bytes; it is sure to take nothing
 abbrev pub sink_output : {W : Type 0} → (W → Option (List ℕ)) → StreamSink W → Output
 sink_output contents sink = record {
-  written = contents sink.writer;
+  written = contents sink.onto.writer;
   pieces = (sink.pieces).given;
   faults = sink.faults;
   takes = 0;

@@ -42,6 +42,7 @@ mod sink;
 mod source;
 mod streams;
 mod system;
+mod target;
 
 pub use fault::{Failed, Memory};
 pub use gate::{Gate, OpenGate};

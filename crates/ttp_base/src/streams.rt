@@ -6,11 +6,10 @@ ghost use Rattle.ttp_base.specs.declared.source.Trouble.{Trouble};
 ghost use Rattle.ttp_base.specs.Errors.{ToldNoFault, ToldFault};
 ghost use Rattle.ttp_base.specs.Outside.{AppendsFront};
 
-use crate::fault::Failed;
 use crate::library::LoadError;
 use crate::source::{Source, Trouble};
+use crate::target::Target;
 use std::alloc::Global;
-use std::io::{self, ErrorKind, Write};
 
 /// How often a read or a write is tried again that a signal interrupted.
 const MOST_TRIES: u32 = 1_000_000;
@@ -19,66 +18,65 @@ const MOST_TRIES: u32 = 1_000_000;
 const CHUNK: usize = 4096;
 
 // One write, tried again where a signal interrupts it. It answers how many bytes were taken.
-fn write_some<W: Write>(writer: &mut W, piece: &[u8]) -> Result<usize, Failed>
+fn write_some<T: Target>(target: &mut T, piece: &[u8]) -> Result<usize, Trouble>
     ensures within { IfOk result (λ n. n ≤ length piece.now) }
-    ensures ok { IfOk result (λ n. Appends (W.contents writer.old) (W.contents writer.new) (take n piece.now)) }
-    ensures err { OnErr result (Keeps (W.contents writer.old) (W.contents writer.new)) }
+    ensures some { IfOk result (λ n. 0 < length piece.now → 0 < n) }
+    ensures ok { IfOk result (λ n. Appends (T.contents target.old) (T.contents target.new) (take n piece.now)) }
+    ensures err { OnErr result (Keeps (T.contents target.old) (T.contents target.new)) }
+    ensures quiet { OnOk result (ToldNoFault (T.told target.old) (T.told target.new)) }
+    ensures told { IfErr result (λ trouble. ToldFault (T.told target.old) (T.told target.new) trouble) }
 {
     for _ in 0..MOST_TRIES {
-        match writer.write(piece) {
+        match target.write(piece) {
             Ok(count) => return Ok(count),
-            Err(error) if error.kind() == ErrorKind::Interrupted => {}
-            Err(_) => return Err(Failed),
+            Err(trouble) => {
+                if !trouble.is_interruption() {
+                    return Err(trouble);
+                }
+            }
         }
     }
-    Err(Failed)
+    Err(Trouble::Interrupted)
 }
 
 // Writes what is left of a piece, a write after another. It stands apart, so that the first write of a
 // piece is inlined.
 #[cold]
 #[inline(never)]
-fn write_rest<W: Write>(writer: &mut W, rest: &[u8]) -> Result<(), Failed>
-    ensures ok { OnOk result (Appends (W.contents writer.old) (W.contents writer.new) rest.now) }
-    ensures front { OnErr result (AppendsFront (W.contents writer.old) (W.contents writer.new) rest.now) }
+fn write_rest<T: Target>(target: &mut T, rest: &[u8]) -> Result<(), Trouble>
+    ensures ok { OnOk result (Appends (T.contents target.old) (T.contents target.new) rest.now) }
+    ensures front { OnErr result (AppendsFront (T.contents target.old) (T.contents target.new) rest.now) }
+    ensures quiet { OnOk result (ToldNoFault (T.told target.old) (T.told target.new)) }
+    ensures told { IfErr result (λ trouble. ToldFault (T.told target.old) (T.told target.new) trouble) }
 {
     let mut done = 0;
     while done < rest.len() {
-        let count = write_some(writer, &rest[done..])?;
-        if count == 0 {
-            return Err(Failed);
-        }
+        let count = match write_some(target, &rest[done..]) {
+            Ok(count) => count,
+            Err(trouble) => return Err(trouble),
+        };
         done += count;
     }
     Ok(())
 }
 
-// Goes on with a piece after a first write that failed.
-#[cold]
-#[inline(never)]
-fn write_after<W: Write>(writer: &mut W, piece: &[u8], error: io::Error) -> Result<(), Failed>
-    ensures ok { OnOk result (Appends (W.contents writer.old) (W.contents writer.new) piece.now) }
-    ensures front { OnErr result (AppendsFront (W.contents writer.old) (W.contents writer.new) piece.now) }
-{
-    if error.kind() == ErrorKind::Interrupted {
-        write_rest(writer, piece)
-    } else {
-        Err(Failed)
-    }
-}
-
 /// Writes a whole piece. A write that takes nothing of what is left is a failure, after which some first
 /// bytes of the piece were written, or none. A buffer mostly takes the piece by its first write.
+///
+/// It fails exactly where the target told an error that is no interruption, or a million interruptions of
+/// one write.
 #[inline]
-pub(crate) fn write_whole<W: Write>(writer: &mut W, piece: &[u8]) -> Result<(), Failed>
-    ensures ok { OnOk result (Appends (W.contents writer.old) (W.contents writer.new) piece.now) }
-    ensures front { OnErr result (AppendsFront (W.contents writer.old) (W.contents writer.new) piece.now) }
+pub(crate) fn write_whole<T: Target>(target: &mut T, piece: &[u8]) -> Result<(), Trouble>
+    ensures ok { OnOk result (Appends (T.contents target.old) (T.contents target.new) piece.now) }
+    ensures front { OnErr result (AppendsFront (T.contents target.old) (T.contents target.new) piece.now) }
+    ensures quiet { OnOk result (ToldNoFault (T.told target.old) (T.told target.new)) }
+    ensures told { IfErr result (λ trouble. ToldFault (T.told target.old) (T.told target.new) trouble) }
 {
-    match writer.write(piece) {
+    match target.write(piece) {
         Ok(count) if count == piece.len() => Ok(()),
-        Ok(0) => Err(Failed),
-        Ok(count) => write_rest(writer, &piece[count..]),
-        Err(error) => write_after(writer, piece, error),
+        Ok(count) => write_rest(target, &piece[count..]),
+        Err(trouble) if trouble.is_interruption() => write_rest(target, piece),
+        Err(trouble) => Err(trouble),
     }
 }
 

@@ -9,6 +9,7 @@ use crate::pieces::{Piece, Pieces};
 use crate::sink::Sink;
 use crate::source::{Trouble, Untold};
 use crate::streams::{read_front, write_whole};
+use crate::target::Onto;
 use std::alloc::Global;
 use std::fs;
 use std::io::{self, BufWriter, ErrorKind, Read, Write};
@@ -102,7 +103,7 @@ pub fn front_of<R: Read + Drop>(
 /// most 1,000,000 times.
 #[derive(Drop)]
 pub struct StreamSink<W> {
-    writer: W,
+    onto: Onto<W>,
     pieces: Pieces,
     faults: u64,
 }
@@ -115,7 +116,7 @@ impl<W: Write> StreamSink<W> {
         ensures { sink_output W.contents result ≡ record { written = W.contents writer; pieces = []; faults = 0; takes = 0 } }
     {
         StreamSink {
-            writer,
+            onto: Onto { writer },
             pieces: Pieces::nothing(),
             faults: 0,
         }
@@ -128,12 +129,12 @@ impl<W: Write> Sink for StreamSink<W> {
     ghost output = { sink_output W.contents };
 
     fn write(&mut self, piece: &[u8]) -> Result<(), Failed> {
-        match write_whole(&mut self.writer, piece) {
+        match write_whole(&mut self.onto, piece) {
             Ok(()) => {
                 self.pieces = Pieces::and(&self.pieces, &Piece { bytes: piece });
                 Ok(())
             }
-            Err(Failed) => {
+            Err(_) => {
                 self.faults = self.faults.saturating_add(1);
                 Err(Failed)
             }
@@ -151,8 +152,10 @@ impl<W: Write + Drop> StreamSink<BufWriter<W>> {
     pub fn end(self) -> Result<W, Failed>
         ensures { IfOk result (λ w. Keeps (sink_output (writer_contents W.contents) self).written (W.contents w)) }
     {
-        match self.writer.into_inner() {
-            Ok(writer) => Ok(writer),
+        let (writer, rest) = self.onto.writer.into_parts();
+        let mut onto = Onto { writer };
+        match write_whole(&mut onto, rest.as_slice()) {
+            Ok(()) => Ok(onto.writer),
             Err(_) => Err(Failed),
         }
     }

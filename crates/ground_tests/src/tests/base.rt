@@ -113,6 +113,7 @@ fn a_library_in_memory(rt: HostRuntime) -> Result<(), Fail> {
     assert_eq!(rt; bytes.as_slice(), b"three".as_slice());
     // Nothing is held there.
     assert!(rt; library.load(rt.alloc(), "b", 9).err() == Some(LoadError::Failed));
+    assert_eq!(rt; library.faults(), 2);
     Ok(())
 }
 
@@ -128,6 +129,7 @@ fn a_sink_in_memory(rt: HostRuntime) -> Result<(), Fail> {
     assert!(rt; sink.write(b"hi").err() == Some(Failed));
     assert!(rt; sink.write(b"j").is_ok());
     assert_eq!(rt; sink.bytes(), b"abefgj".as_slice());
+    assert_eq!(rt; sink.faults(), 2);
     Ok(())
 }
 
