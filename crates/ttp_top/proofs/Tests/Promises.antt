@@ -146,6 +146,7 @@ precision_promise list script node before now answer p =
     test_promise (IsPrecisionLine node) (precision_ending node) (λ medl right. refl)
     (λ medl right lines valid valid_script text. record {
       text = text;
+      run = some-run medl right;
       bound = λ start is. shows_bound medl right node start lines valid valid_script text is;
       together = λ start is numbers legal.
           faced-run medl right node start valid valid_script is numbers legal.legal (omega (arith, legal.count));

@@ -11,6 +11,7 @@ use Rattle.two_faced.specs.declared.faced.Faced.TheVariants as faced
 use Rattle.two_faced.specs.declared.seen.Seen.{Seen}
 use Rattle.two_faced.specs.Faced.{bound, faced_of}
 use Rattle.theorems.specs.FacedRun.{IsFacedRun}
+use Rattle.theorems.specs.SomeRun.{SomeRun}
 use Rattle.commands.specs.Plan.{Outside}
 use Rattle.commands.specs.Right.{MayBe, AreRight, AreTold}
 use Rattle.ttp_top.specs.Calls.Answer.{Answer}
@@ -69,12 +70,13 @@ pub record ShowsBound (medl : Medl) (node start : ℕ) (lines : Lines) : Type 0 
   pub line : lines ≡ faced_line medl node start seen ∷ []
   pub within : seen.value ≤ℤ bound medl
 
--- The line of the test for one two-faced sender, which is the same for all legal message numbers. Where the node may be
--- one, it shows the bound, and after each slot from the start on, in every run by legal numbers, all nodes that are on are
--- active, hold one membership, and have clocks within that bound.
+-- The line of the test for one two-faced sender, which is the same for all legal message numbers, and there are such.
+-- Where the node may be one, it shows the bound, and after each slot from the start on, in every run by legal numbers, all
+-- nodes that are on are active, hold one membership, and have clocks within that bound.
 pub record IsPrecisionLine (node : ℕ) (medl : Medl) (right : Script) (lines : Lines) : Type 0 where
   pub text : (numbers : Numbers) → IsLegalRun medl right numbers
       → lines ≡ precision_line medl right node numbers ∷ []
+  pub run : SomeRun medl right
   pub bound : (start : ℕ) → faced_of medl right node ≡ faced.Yes start → ShowsBound medl node start lines
   pub together : (start : ℕ) → faced_of medl right node ≡ faced.Yes start → (numbers : Numbers)
       → IsLegalRun medl right numbers → IsFacedRun medl right start (world medl right numbers)
