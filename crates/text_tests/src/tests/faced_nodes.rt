@@ -23,7 +23,7 @@ const NARROW: &str =
 // A list, a script, a node and the answer.
 type Case = (&'static str, &'static str, u8, Faced);
 
-const CASES: [Case; 9] = [
+const CASES: &[Case] = &[
     (
         WIDE,
         "slots 28\non 0 0\non 1 0\non 2 0\non 3 0\ndrift 0 1\nerror 0 14 19 19\nerror 1 -14 19 19\n",
@@ -86,7 +86,7 @@ fn rules_are_told_in_their_order(rt: HostRuntime) -> Result<(), Fail> {
         assert!(rt; script.len() <= 1_048_576);
         let list = read_medl(rt.alloc(), list.as_bytes())?;
         let read = read_script(rt.alloc(), &list, script.as_bytes())?;
-        assert_eq!(rt; find_faced(&list, &read, node), answer, "{script}");
+        assert_eq!(rt; find_faced(&list, &read, *node), *answer, "{script}");
     }
     Ok(())
 }
@@ -114,7 +114,7 @@ fn a_script_that_keeps_the_rules_is_owed_the_law(rt: HostRuntime) -> Result<(), 
 // A script, a node, and what is seen beside it. In the first one node 0 notes 0, -4, -5 and 8 over the
 // round that ends with slot 19, corrects by -2 and shows 13; after slot 22 it shows 16 and node 1 shows 8.
 // Then the run ends before the start, one node alone is on beside node 3, and nobody may start.
-const DIFFERENCES: [(&str, u8, Seen); 4] = [
+const DIFFERENCES: &[(&str, u8, Seen)] = &[
     (
         "slots 28\non 0 0\non 1 0\non 2 0\non 3 0\ndrift 0 1\nerror 0 14 19 19\nerror 1 -14 19 19\n",
         3,
@@ -144,8 +144,8 @@ fn differences_are_seen_beside_a_node(rt: HostRuntime) -> Result<(), Fail> {
         assert!(rt; script.len() <= 1_048_576);
         let read = read_script(rt.alloc(), &list, script.as_bytes())?;
         assert_eq!(rt;
-            find_seen(rt.alloc(), &list, &read, node)?,
-            seen,
+            find_seen(rt.alloc(), &list, &read, *node)?,
+            *seen,
             "{script}"
         );
     }

@@ -101,7 +101,7 @@ fn six_nodes(alloc: Global) -> Result<Medl, Memory>
 fn a_script_of_six_nodes(rt: HostRuntime) -> Result<(), Fail> {
     let list = six_nodes(rt.alloc())?;
     let script = generate(rt.alloc(), &list, 60, 5)?;
-    let lines = [
+    let lines: &[Line] = &[
         Line::Error(0, 0, 0, 59),
         Line::Error(1, 4, 0, 59),
         Line::Error(2, 5, 0, 59),
@@ -123,7 +123,13 @@ fn a_script_of_six_nodes(rt: HostRuntime) -> Result<(), Fail> {
         Line::Write(0, 6, 2, 6),
     ];
     let events = script.events.as_slice();
-    assert!(rt; events.iter().take(19).map(line_of).eq(lines));
+    assert!(rt;
+        events
+            .iter()
+            .take(19)
+            .map(line_of)
+            .eq(lines.iter().copied())
+    );
     assert_eq!(rt; script.slots, 60);
     assert_eq!(rt; script.on.as_slice(), [Some(0); 6].as_slice());
     assert_eq!(rt; script.drift.as_slice(), [-3, 1, 2, 0, 2, -2].as_slice());

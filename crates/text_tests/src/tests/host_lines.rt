@@ -40,7 +40,7 @@ fn two_senders(alloc: Global, buffers: u8, payload: u8) -> Result<Medl, Memory>
 #[test]
 fn each_line_that_is_wrong_is_found(rt: HostRuntime) -> Result<(), Fail> {
     let list = two_senders(rt.alloc(), 2, 2)?;
-    let cases: [(&[u8], LineFault); 48] = [
+    let cases: &[(&[u8], LineFault)] = &[
         (b"write", LineFault::Word),
         (b"write 1 3", LineFault::Word),
         (b"write 1 3 0102 0", LineFault::Word),
@@ -91,7 +91,7 @@ fn each_line_that_is_wrong_is_found(rt: HostRuntime) -> Result<(), Fail> {
         (b"read 0 20 3", LineFault::NoData),
         (b"read 3 3 3", LineFault::NoData),
     ];
-    for (line, fault) in &cases {
+    for (line, fault) in cases {
         let mut text = Vec::from_slice(rt.alloc(), b"slots 20\n")?;
         text.extend_from_slice(line)?;
         assert!(rt; text.len() <= LIMIT);
@@ -103,7 +103,7 @@ fn each_line_that_is_wrong_is_found(rt: HostRuntime) -> Result<(), Fail> {
 
 #[test]
 fn buffers_bound_the_writes_of_a_slot(rt: HostRuntime) -> Result<(), Fail> {
-    let cases: [(u8, &[u8], Due); 9] = [
+    let cases: &[(u8, &[u8], Due)] = &[
         (1, b"write 1 3 0102\n", Due::Fault(2, LineFault::NoBuffer)),
         (1, b"write 1 20 0102\n", Due::Fault(2, LineFault::Range)),
         (1, b"write 0 3 0102\n", Due::Fault(2, LineFault::NoData)),
@@ -138,7 +138,7 @@ fn buffers_bound_the_writes_of_a_slot(rt: HostRuntime) -> Result<(), Fail> {
             Due::Fault(5, LineFault::TooMany),
         ),
     ];
-    for (buffers, lines, due) in &cases {
+    for (buffers, lines, due) in cases {
         let list = two_senders(rt.alloc(), *buffers, 2)?;
         let mut text = Vec::from_slice(rt.alloc(), b"slots 20\n")?;
         text.extend_from_slice(lines)?;

@@ -114,7 +114,7 @@ fn active_nodes(rt: HostRuntime) -> Result<(), Fail> {
     let four = four_members();
     let all = four.with(2);
     let correct = judged(1, Verdict::Correct);
-    let rows: [(u32, u8, NodeState, Option<u64>); 10] = [
+    let rows: &[(u32, u8, NodeState, Option<u64>)] = &[
         (10, 0, active(Entry::Started, one, 1, 0, Ack::First), None),
         (10, 1, active(joined, one, 1, 0, Ack::Closed), None),
         (11, 0, active(correct, two, 2, 0, Ack::Closed), None),
@@ -151,7 +151,7 @@ fn active_nodes(rt: HostRuntime) -> Result<(), Fail> {
             None,
         ),
     ];
-    let lines = [
+    let lines: &[&str] = &[
         "slot 10 node 0 start peer 0 msg - mem 0001 acc 1 rej 0 ack first clock 0\n",
         "slot 10 node 1 join peer 0 msg - mem 0001 acc 1 rej 0 ack none clock 0\n",
         "slot 11 node 0 correct peer 1 msg - mem 0003 acc 2 rej 0 ack none clock 0\n",
@@ -187,7 +187,7 @@ fn other_nodes(rt: HostRuntime) -> Result<(), Fail> {
     let off = Phase::Off;
     let listening = Phase::Listening;
     let gone = Phase::Left;
-    let rows: [(u32, u8, NodeState); 7] = [
+    let rows: &[(u32, u8, NodeState)] = &[
         (0, 3, idle(off, Entry::Off)),
         (9, 4, idle(listening, Entry::Waited)),
         (16, 1, idle(listening, Entry::Retried)),
@@ -196,7 +196,7 @@ fn other_nodes(rt: HostRuntime) -> Result<(), Fail> {
         (31, 1, idle(gone, left(Reason::Clique, 1))),
         (32, 1, idle(gone, Entry::Gone)),
     ];
-    let lines = [
+    let lines: &[&str] = &[
         "slot 0 node 3 off peer - msg - mem 0000 acc 0 rej 0 ack none clock 0\n",
         "slot 9 node 4 wait peer - msg - mem 0000 acc 0 rej 0 ack none clock 0\n",
         "slot 16 node 1 retry peer - msg - mem 0000 acc 0 rej 0 ack none clock 0\n",
@@ -221,7 +221,7 @@ fn lines_of_one_slot(rt: HostRuntime) -> Result<(), Fail> {
     let narrow = list(&rt, 1);
     let four = four_members();
     let all = four.with(2);
-    let rows: [(u8, NodeState, Option<u64>); 7] = [
+    let rows: &[(u8, NodeState, Option<u64>)] = &[
         (0, heard(2, Verdict::Correct, all), Some(2)),
         (1, heard(2, Verdict::Correct, all), Some(2)),
         (3, heard(2, Verdict::Correct, four), Some(2)),
@@ -230,7 +230,7 @@ fn lines_of_one_slot(rt: HostRuntime) -> Result<(), Fail> {
         (6, heard(2, Verdict::Tentative, four), None),
         (7, heard(3, Verdict::Tentative, four), None),
     ];
-    let lines = [
+    let lines: &[&str] = &[
         "slot 17 node 0 correct peer 2 msg 2 mem 001f acc 3 rej 0 ack none clock 0\n",
         "slot 17 node 1 correct peer 2 msg 2 mem 001f acc 3 rej 0 ack none clock 0\n",
         "slot 17 node 3 correct peer 2 msg 2 mem 001b acc 3 rej 0 ack none clock 0\n",
@@ -378,7 +378,7 @@ fn a_line_of_a_host_is_one_piece(rt: HostRuntime) -> Result<(), Fail> {
 
 #[test]
 fn answers_of_the_hypothesis_test(rt: HostRuntime) -> Result<(), Fail> {
-    let rows = [
+    let rows: &[(Keep, &str)] = &[
         (Keep::Yes { start: 10 }, "keeps yes start 10\n"),
         (Keep::Yes { start: 20_070 }, "keeps yes start 20070\n"),
         (Keep::No { rule: 4, slot: 0 }, "keeps no H4 0\n"),
@@ -386,7 +386,7 @@ fn answers_of_the_hypothesis_test(rt: HostRuntime) -> Result<(), Fail> {
     ];
     for (keep, text) in rows {
         let mut out = MemorySink::new(rt.alloc(), 22, List::new(rt.alloc()))?;
-        assert!(rt; put_keep(&keep, &mut out).is_ok());
+        assert!(rt; put_keep(keep, &mut out).is_ok());
         assert!(rt; out.bytes() == text.as_bytes(), "{text}");
     }
     let mut narrow = MemorySink::new(rt.alloc(), 13, List::new(rt.alloc()))?;
@@ -397,14 +397,14 @@ fn answers_of_the_hypothesis_test(rt: HostRuntime) -> Result<(), Fail> {
 
 #[test]
 fn answers_on_armed_nodes(rt: HostRuntime) -> Result<(), Fail> {
-    let rows = [
+    let rows: &[(Back, &str)] = &[
         (Back::Yes { start: 12 }, "returns yes start 12\n"),
         (Back::No { rule: 8, slot: 37 }, "returns no Q8 37\n"),
         (Back::No { rule: 2, slot: 0 }, "returns no Q2 0\n"),
     ];
     for (back, text) in rows {
         let mut out = MemorySink::new(rt.alloc(), 21, List::new(rt.alloc()))?;
-        assert!(rt; put_back(&back, &mut out).is_ok());
+        assert!(rt; put_back(back, &mut out).is_ok());
         assert!(rt; out.bytes() == text.as_bytes(), "{text}");
     }
     let mut narrow = MemorySink::new(rt.alloc(), 15, List::new(rt.alloc()))?;

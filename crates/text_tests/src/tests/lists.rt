@@ -134,7 +134,7 @@ fn told_of(alloc: Global, top: &str, slot: &str) -> Result<Option<MedlError>, Al
 #[test]
 fn keys_for_modes_that_are_right(rt: HostRuntime) -> Result<(), Fail> {
     // The keys at the top and in slot 1; the number of modes, and those in which slot 1 is live.
-    let rows = [
+    let rows: &[(&str, &str, u8, u8)] = &[
         ("", "", 1, 1),
         ("", "requests = false", 1, 1),
         ("", "live = \"n\"", 1, 0),
@@ -150,8 +150,8 @@ fn keys_for_modes_that_are_right(rt: HostRuntime) -> Result<(), Fail> {
         let slot = format!(in rt.alloc(); "{BARE}{keys}")?;
         let text = list_with(rt.alloc(), top, slot.as_str())?;
         let list = read_medl(rt.alloc(), text.as_bytes())?;
-        assert_eq!(rt; list.modes, modes, "{top} {keys}");
-        assert_eq!(rt; list.slots.get(1).live, live, "{top} {keys}");
+        assert_eq!(rt; list.modes, *modes, "{top} {keys}");
+        assert_eq!(rt; list.slots.get(1).live, *live, "{top} {keys}");
         assert!(rt; !list.slots.get(1).requests);
     }
     Ok(())
@@ -189,7 +189,7 @@ fn keys_for_modes_that_are_refused(rt: HostRuntime) -> Result<(), Fail> {
     let requests = at_slot_1(FieldName::Requests);
     let live = at_slot_1(FieldName::Live);
     // The key at the top, a key of slot 1, and what is told.
-    let rows = [
+    let rows: &[(&str, &str, MedlError)] = &[
         ("modes = 0", "", out_of_range(0)),
         ("modes = 9", "", out_of_range(9)),
         ("modes = -1", "", out_of_range(-1)),
@@ -207,7 +207,7 @@ fn keys_for_modes_that_are_refused(rt: HostRuntime) -> Result<(), Fail> {
     for (top, key, error) in rows {
         let slot = format!(in rt.alloc(); "{BARE}{key}")?;
         let told = told_of(rt.alloc(), top, slot.as_str())?;
-        assert!(rt; told == Some(error), "{top} {key}");
+        assert!(rt; told == Some(*error), "{top} {key}");
     }
     Ok(())
 }
@@ -221,7 +221,7 @@ fn the_first_of_several_wrong_keys_is_told(rt: HostRuntime) -> Result<(), Fail> 
         field: at_slot_1(FieldName::DataSize),
     };
     // The key at the top, `kinds` and `data` of slot 1, its other keys, and what is told.
-    let rows = [
+    let rows: &[(&str, &str, &str, MedlError)] = &[
         ("modes = 9", BARE, "requests = true", out_of_range(9)),
         ("", "kinds = \"I\"", "requests = true", missing),
         ("", BARE, "requests = 1\nlive = 1", requests),
@@ -234,14 +234,14 @@ fn the_first_of_several_wrong_keys_is_told(rt: HostRuntime) -> Result<(), Fail> 
     for (top, data, keys, error) in rows {
         let slot = format!(in rt.alloc(); "{data}\n{keys}")?;
         let told = told_of(rt.alloc(), top, slot.as_str())?;
-        assert!(rt; told == Some(error), "{top} {data} {keys}");
+        assert!(rt; told == Some(*error), "{top} {data} {keys}");
     }
     Ok(())
 }
 
 #[test]
 fn live_of_each_length_and_letter(rt: HostRuntime) -> Result<(), Fail> {
-    let texts = [
+    let texts: &[&str] = &[
         "",
         "y",
         "yn",

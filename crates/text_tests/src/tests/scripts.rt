@@ -17,7 +17,7 @@ pub(crate) const LIMIT: usize = 1_048_576;
 /// What a script is due to give: the run's slots and when nodes are on, or the first faulty line.
 #[derive(Clone, Copy)]
 pub(crate) enum Due {
-    Script(u32, [Option<u32>; 4]),
+    Script(u32, &'static [Option<u32>]),
     Fault(u32, LineFault),
 }
 
@@ -78,7 +78,7 @@ pub(crate) fn gives(alloc: Global, list: &Medl, text: &[u8], due: Due) -> bool
     match (read_script(alloc, list, text), due) {
         (Ok(script), Due::Script(slots, on)) => {
             script.slots == slots
-                && script.on.as_slice() == on.as_slice()
+                && script.on.as_slice() == on
                 && script.drift.as_slice() == [0; 4].as_slice()
                 && script.events.as_slice().is_empty()
         }
@@ -89,12 +89,12 @@ pub(crate) fn gives(alloc: Global, list: &Medl, text: &[u8], due: Due) -> bool
     }
 }
 
-const NONE_ON: [Option<u32>; 4] = [None; 4];
+const NONE_ON: &[Option<u32>] = &[None; 4];
 
 #[test]
 fn each_script_gives_what_it_is_due_to_give(rt: HostRuntime) -> Result<(), Fail> {
     let list = four_nodes(rt.alloc())?;
-    let cases: [(&[u8], Due); 43] = [
+    let cases: &[(&[u8], Due)] = &[
         // What is read.
         (b"slots 20\n", Due::Script(20, NONE_ON)),
         (b"slots 1", Due::Script(1, NONE_ON)),
@@ -102,19 +102,19 @@ fn each_script_gives_what_it_is_due_to_give(rt: HostRuntime) -> Result<(), Fail>
         (b"slots 000000020\n", Due::Script(20, NONE_ON)),
         (
             b"slots 20\non 3 19\non 0 0\n",
-            Due::Script(20, [Some(0), None, None, Some(19)]),
+            Due::Script(20, &[Some(0), None, None, Some(19)]),
         ),
         (
             b"slots 15\non 0 0\non 1 0\non 2 0\non 3 0\n",
-            Due::Script(15, [Some(0), Some(0), Some(0), Some(0)]),
+            Due::Script(15, &[Some(0), Some(0), Some(0), Some(0)]),
         ),
         (
             b"# a run\n\n \t \n\t#x\n slots\t20 \n\ton  000000001\t\t5\t\n",
-            Due::Script(20, [None, Some(5), None, None]),
+            Due::Script(20, &[None, Some(5), None, None]),
         ),
         (
             b"slots 20\r\non 1 5\r\n",
-            Due::Script(20, [None, Some(5), None, None]),
+            Due::Script(20, &[None, Some(5), None, None]),
         ),
         (b"slots 20\r", Due::Script(20, NONE_ON)),
         (
@@ -166,7 +166,7 @@ fn each_script_gives_what_it_is_due_to_give(rt: HostRuntime) -> Result<(), Fail>
         (b"slots 20\nArm 0 0\n", Due::Fault(2, LineFault::Word)),
         (b"arm 0\n", Due::Fault(1, LineFault::Word)),
     ];
-    for (text, due) in &cases {
+    for (text, due) in cases {
         let text = *text;
         assert!(rt; text.len() <= LIMIT);
         assert!(rt; gives(rt.alloc(), &list, text, *due), "{text:?}");
@@ -177,7 +177,7 @@ fn each_script_gives_what_it_is_due_to_give(rt: HostRuntime) -> Result<(), Fail>
 #[test]
 fn each_number_that_is_wrong_is_found(rt: HostRuntime) -> Result<(), Fail> {
     let list = four_nodes(rt.alloc())?;
-    let cases: [(&[u8], Due); 44] = [
+    let cases: &[(&[u8], Due)] = &[
         // Numbers, nodes and ranges.
         (b"slots 1234567890\n", Due::Fault(1, LineFault::Number)),
         (b"slots 0000000020\n", Due::Fault(1, LineFault::Number)),
@@ -279,7 +279,7 @@ fn each_number_that_is_wrong_is_found(rt: HostRuntime) -> Result<(), Fail> {
             Due::Fault(3, LineFault::Repeat),
         ),
     ];
-    for (text, due) in &cases {
+    for (text, due) in cases {
         let text = *text;
         assert!(rt; text.len() <= LIMIT);
         assert!(rt; gives(rt.alloc(), &list, text, *due), "{text:?}");
@@ -408,14 +408,14 @@ fn filled(alloc: Global, front: &[u8], byte: u8) -> Result<Vec<u8>, Fail> {
 #[test]
 fn a_file_at_the_size_limit(rt: HostRuntime) -> Result<(), Fail> {
     let list = four_nodes(rt.alloc())?;
-    let read = Due::Script(20, [None, None, Some(19), None]);
-    let cases: [(&[u8], u8, Due); 4] = [
+    let read = Due::Script(20, &[None, None, Some(19), None]);
+    let cases: &[(&[u8], u8, Due)] = &[
         (b"slots 20\non 2 19\n#", b'x', read),
         (b"slots 20\non 2 19", b' ', read),
         (b"slots 20\non 2 ", b'1', Due::Fault(2, LineFault::Number)),
         (b"slots 20\non 2 20", b'\n', Due::Fault(2, LineFault::Range)),
     ];
-    for (front, byte, due) in &cases {
+    for (front, byte, due) in cases {
         let text = filled(rt.alloc(), front, *byte)?;
         assert!(rt; text.len() == LIMIT);
         assert!(rt; gives(rt.alloc(), &list, &text, *due), "{front:?}");

@@ -57,34 +57,34 @@ fn waits(alloc: Global) -> Result<String, Fail> {
 }
 
 // The message that is sent, what follows the line of the write, and the line that differs; 0 is none.
-const CASES: [(&str, [&str; 4], u32); 20] = [
-    ("0", [OLD, OLD, LAST, ""], 0),
-    ("0", [OLD, ZEROS, LAST, ""], 0),
-    ("1", [OLD, NEW, LAST, ""], 0),
-    ("1", [NEW, NEW, LAST, ""], 0),
+const CASES: &[(&str, &[&str], u32)] = &[
+    ("0", &[OLD, OLD, LAST, ""], 0),
+    ("0", &[OLD, ZEROS, LAST, ""], 0),
+    ("1", &[OLD, NEW, LAST, ""], 0),
+    ("1", &[NEW, NEW, LAST, ""], 0),
     // A number that no host wrote, or written otherwise.
-    ("2", [OLD, OLD, LAST, ""], 39),
-    ("-", [OLD, OLD, LAST, ""], 39),
-    ("01", [OLD, OLD, LAST, ""], 39),
+    ("2", &[OLD, OLD, LAST, ""], 39),
+    ("-", &[OLD, OLD, LAST, ""], 39),
+    ("01", &[OLD, OLD, LAST, ""], 39),
     // The words of another message.
-    ("0", [OLD, NEW, LAST, ""], 44),
-    ("1", [ZEROS, NEW, LAST, ""], 43),
+    ("0", &[OLD, NEW, LAST, ""], 44),
+    ("1", &[ZEROS, NEW, LAST, ""], 43),
     // A number that the ring doesn't have, and an older one than was read.
-    ("1", ["slot 9 host 0 read 1 2 a1b2\n", "", "", ""], 43),
-    ("1", [NEW, OLD, LAST, ""], 44),
+    ("1", &["slot 9 host 0 read 1 2 a1b2\n", "", "", ""], 43),
+    ("1", &[NEW, OLD, LAST, ""], 44),
     // A line too few, one too many, and the last one changed, unfinished or missing.
-    ("1", [NEW, LAST, "", ""], 44),
-    ("1", [NEW, NEW, NEW, LAST], 45),
-    ("1", [NEW, NEW, "keeps yes start 9\n", ""], 45),
-    ("1", [NEW, NEW, "keeps yes start 8", ""], 45),
-    ("1", [NEW, NEW, "", ""], 45),
-    ("1", [NEW, NEW, LAST, "\n"], 46),
-    ("1", [NEW, NEW, LAST, LAST], 46),
-    ("1", [NEW, NEW, LAST, "k"], 46),
-    ("1", [NEW, "slot 9 host 0 ", "", ""], 44),
+    ("1", &[NEW, LAST, "", ""], 44),
+    ("1", &[NEW, NEW, NEW, LAST], 45),
+    ("1", &[NEW, NEW, "keeps yes start 9\n", ""], 45),
+    ("1", &[NEW, NEW, "keeps yes start 8", ""], 45),
+    ("1", &[NEW, NEW, "", ""], 45),
+    ("1", &[NEW, NEW, LAST, "\n"], 46),
+    ("1", &[NEW, NEW, LAST, LAST], 46),
+    ("1", &[NEW, NEW, LAST, "k"], 46),
+    ("1", &[NEW, "slot 9 host 0 ", "", ""], 44),
 ];
 
-fn text_of(alloc: Global, sent: &str, behind: [&str; 4]) -> Result<String, Fail> {
+fn text_of(alloc: Global, sent: &str, behind: &[&str]) -> Result<String, Fail> {
     let mut text = waits(alloc)?;
     text.push_str(START)?;
     text.push_str(SENT)?;
@@ -112,7 +112,7 @@ fn choices_of_hosts(rt: HostRuntime) -> Result<(), Fail> {
     for (sent, behind, line) in CASES {
         let text = text_of(alloc, sent, behind)?;
         let answer = verify(alloc, &list, &script, text.as_bytes())?;
-        assert_eq!(rt; answer, answer_of(line), "{sent} {behind:?}");
+        assert_eq!(rt; answer, answer_of(*line), "{sent} {behind:?}");
     }
     Ok(())
 }
