@@ -28,9 +28,9 @@ const FIRST: &str = "[[slot]]\nkinds = \"I\"\ndata = 0\nsync = true\nstart = tru
 
 const SLOT: &str = "[[slot]]\nkinds = \"I\"\ndata = 0\nsync = true\nstart = false\n";
 
-const FOUR_SLOTS: [&str; 5] = [HEAD, FIRST, SLOT, SLOT, SLOT];
+const FOUR_SLOTS: &[&str] = &[HEAD, FIRST, SLOT, SLOT, SLOT];
 
-const TABLE: [&str; 5] = [
+const TABLE: &[&str] = &[
     "ttpbench schedule 1 nodes 4 rounds 1 schedule 000000\n",
     "round 0 slot 0 kind I data 0 sync yes start yes\n",
     "round 0 slot 1 kind I data 0 sync yes start no\n",
@@ -213,7 +213,7 @@ fn show_the_table<R: Threads + Wait + Sync + AllocGlobal + Abort>(
     lists: &[&[&str]],
 ) -> Result<(), Fail> {
     for parts in lists {
-        shows(rt, joined(rt, parts)?.as_bytes(), 0, &TABLE)?;
+        shows(rt, joined(rt, parts)?.as_bytes(), 0, TABLE)?;
     }
     Ok(())
 }
@@ -268,7 +268,7 @@ fn a_list_gives_its_table_in_each_spelling(rt: HostRuntime) -> Result<(), Fail> 
 
 // The list of four slots, and then this byte up to a length.
 fn padded<R: AllocGlobal>(rt: &R, byte: u8, len: usize) -> Result<Vec<u8>, Fail> {
-    let list = joined(rt, &FOUR_SLOTS)?;
+    let list = joined(rt, FOUR_SLOTS)?;
     let mut bytes = Vec::from_slice(rt.alloc(), list.as_bytes())?;
     for _ in bytes.len()..len {
         bytes.push(byte)?;
@@ -285,7 +285,7 @@ fn bytes_that_are_no_text(rt: HostRuntime) -> Result<(), Fail> {
 
 #[test]
 fn the_limit_of_a_list_file(rt: HostRuntime) -> Result<(), Fail> {
-    shows(&rt, &padded(&rt, b' ', 1_048_576)?, 0, &TABLE)?;
+    shows(&rt, &padded(&rt, b' ', 1_048_576)?, 0, TABLE)?;
     shows(
         &rt,
         &padded(&rt, b' ', 1_048_577)?,
@@ -296,7 +296,7 @@ fn the_limit_of_a_list_file(rt: HostRuntime) -> Result<(), Fail> {
 
 #[test]
 fn words_of_no_form(rt: HostRuntime) -> Result<(), Fail> {
-    let words: [&[&str]; 11] = [
+    let words: &[&[&str]] = &[
         &[],
         &["schedule"],
         &["run", "cluster.toml"],
@@ -337,5 +337,5 @@ fn a_list_that_cannot_be_loaded(rt: HostRuntime) -> Result<(), Fail> {
 fn a_sink_that_fails_at_each_line(rt: HostRuntime) -> Result<(), Fail> {
     let list = padded(&rt, b' ', 0)?;
     let words = ["schedule", "cluster.toml"];
-    gives_fronts(&rt, &call_of(&words, &list), &TABLE)
+    gives_fronts(&rt, &call_of(&words, &list), TABLE)
 }

@@ -13,7 +13,7 @@ const POLL: &str = "read 1 11 status\n";
 // Other lines of the script, how the trace is changed, and the answer.
 type Case = (&'static str, usize, &'static str, usize, &'static str);
 
-const CASES: [Case; 14] = [
+const CASES: &[Case] = &[
     ("", 77, "", 77, "same\n"),
     (
         "",
@@ -99,7 +99,7 @@ fn tells<R: Threads + Wait + Sync + AllocGlobal + Abort>(rt: &R, case: &Case) ->
 
 #[test]
 fn changes_of_a_trace(rt: HostRuntime) -> Result<(), Fail> {
-    for case in &CASES {
+    for case in CASES {
         tells(&rt, case)?;
     }
     Ok(())

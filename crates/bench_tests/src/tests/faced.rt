@@ -39,7 +39,7 @@ fn answers<R: Threads + Wait + Sync + AllocGlobal + Abort>(
 
 #[test]
 fn answers_for_one_two_faced_sender(rt: HostRuntime) -> Result<(), Fail> {
-    let cases: [(&str, &str, &str, &str); 10] = [
+    let cases: &[(&str, &str, &str, &str)] = &[
         // Node 0 notes 0, -4, -5 and 8 over the round that ends with slot 19, so it corrects by -2 and
         // shows 13. After slot 22 it shows 16, and node 1 shows 8.
         (
@@ -76,7 +76,7 @@ fn answers_for_one_two_faced_sender(rt: HostRuntime) -> Result<(), Fail> {
         ),
     ];
     for (top, lines, node, line) in cases {
-        answers(&rt, (top, lines, node), 0, 0, line)?;
+        answers(&rt, (*top, *lines, *node), 0, 0, line)?;
     }
     Ok(())
 }
@@ -84,15 +84,16 @@ fn answers_for_one_two_faced_sender(rt: HostRuntime) -> Result<(), Fail> {
 // They are no form, so that no file is looked at.
 #[test]
 fn words_that_name_no_node(rt: HostRuntime) -> Result<(), Fail> {
-    for node in ["24", "99", "003", "", "-1", "+3", "3 ", "a", "0x3", "1a"] {
-        answers(&rt, (DRIFT_HEAD, TWO_FACED, node), 1, 2, USAGE)?;
+    let nodes: &[&str] = &["24", "99", "003", "", "-1", "+3", "3 ", "a", "0x3", "1a"];
+    for node in nodes {
+        answers(&rt, (DRIFT_HEAD, TWO_FACED, *node), 1, 2, USAGE)?;
     }
     Ok(())
 }
 
 #[test]
 fn files_and_sinks_that_fail(rt: HostRuntime) -> Result<(), Fail> {
-    let cases = [
+    let cases: &[((&str, &str, &str), u32, u8, &str)] = &[
         ((DRIFT_HEAD, TWO_FACED, "3"), 1, 5, "load: list\n"),
         ((DRIFT_HEAD, TWO_FACED, "3"), 2, 5, "load: script\n"),
         // A list that is refused is told, also where the script's load would fail.
@@ -110,7 +111,7 @@ fn files_and_sinks_that_fail(rt: HostRuntime) -> Result<(), Fail> {
         ),
     ];
     for (case, bad_load, status, line) in cases {
-        answers(&rt, case, bad_load, status, line)?;
+        answers(&rt, *case, *bad_load, *status, line)?;
     }
     Ok(())
 }

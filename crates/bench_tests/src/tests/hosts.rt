@@ -27,11 +27,11 @@ fn exchange<R: AllocGlobal>(rt: &R, nodes: &[&str], read: &str) -> Result<String
     let first = ["ttpbench trace 1 nodes 5 rounds 1 slots 20 schedule 000000\n"];
     let mut trace = joined(rt, &first)?;
     add_each(&mut trace, fault_free_lines(1, 61))?;
-    add_each(&mut trace, &BEFORE)?;
+    add_each(&mut trace, BEFORE)?;
     add_each(&mut trace, nodes)?;
     trace.push_str("slot 17 host 2 write 1\n")?;
     trace.push_str(read)?;
-    add_each(&mut trace, &AFTER)?;
+    add_each(&mut trace, AFTER)?;
     Ok(trace)
 }
 
@@ -53,8 +53,8 @@ fn is_one_of<R: AllocGlobal>(
 fn exchanges<R: Threads + Wait + Sync + AllocGlobal + Abort>(rt: &R) -> Result<(), Fail> {
     let script = script_of(rt, "slots 20\n", 5, EXCHANGE)?;
     let text = trace_for(rt, (HEAD, "FSNSS"), &script)?;
-    let old = is_one_of(rt, &text, &OLD_SENT, &[READS[0], READS[1]])?;
-    let new = is_one_of(rt, &text, &NEW_SENT, &[READS[0], READS[2]])?;
+    let old = is_one_of(rt, &text, OLD_SENT, &[READS[0], READS[1]])?;
+    let new = is_one_of(rt, &text, NEW_SENT, &[READS[0], READS[2]])?;
     assert!(rt; old || new, "{}", str::from_utf8(&text)?);
     Ok(())
 }
@@ -79,7 +79,7 @@ fn the_old_message_or_the_new_one(rt: HostRuntime) -> Result<(), Fail> {
     )
 }
 
-const STATUSES: [&str; 2] = [
+const STATUSES: &[&str] = &[
     "slot 11 host 1 read status 11 000000000000000a000000000000000100000000000000010000000000000100\n",
     "slot 11 host 1 read status 12 000000000000000b000000000000002900000001000100030000000000000100\n",
 ];

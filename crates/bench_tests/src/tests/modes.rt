@@ -33,7 +33,7 @@ fn all_nodes_switch_at_the_cycles_end(rt: HostRuntime) -> Result<(), Fail> {
     };
     let text = output_of(&rt, &modes)?;
     // The line of a slot and a node, and what it says. The first line is that of the text.
-    let rows: [(usize, &str); 6] = [
+    let rows: &[(usize, &str)] = &[
         (0, "ttpbench modes 1 nodes 4 slots 20"),
         (37, "slot 9 node 0 mode 0 next - live yes"),
         (53, "slot 13 node 0 mode 0 next 1 live yes"),
@@ -41,7 +41,7 @@ fn all_nodes_switch_at_the_cycles_end(rt: HostRuntime) -> Result<(), Fail> {
         (61, "slot 15 node 0 mode 1 next - live -"),
         (69, "slot 17 node 0 mode 1 next 1 live no"),
     ];
-    has_lines(&rt, &text, &rows);
+    has_lines(&rt, &text, rows);
     // Without its last line the trace is none.
     let len = trace.len().saturating_sub(b"keeps yes start 8\n".len());
     let short = Call {

@@ -68,15 +68,15 @@ fn files_that_cannot_be_loaded(rt: HostRuntime) -> Result<(), Fail> {
     runs(&rt, ON.as_bytes(), 1, 5, &["load: list\n"])?;
     runs(&rt, ON.as_bytes(), 2, 5, &["load: script\n"])?;
     let list = five_nodes(&rt)?;
-    let cases = [
+    let cases: &[(&str, u8, &str)] = &[
         // No file of the script's name.
         ("other.script", 5, "load: script\n"),
         // One file under both names is no script.
         ("cluster.toml", 4, "script: line 1 word\n"),
     ];
     for (name, status, line) in cases {
-        let words = ["run", "cluster.toml", name];
-        gives(&rt, &call_of(&words, list.as_bytes()), status, &[line])?;
+        let words = ["run", "cluster.toml", *name];
+        gives(&rt, &call_of(&words, list.as_bytes()), *status, &[*line])?;
     }
     Ok(())
 }
@@ -110,11 +110,11 @@ fn a_starter_alone(rt: HostRuntime) -> Result<(), Fail> {
         script: Some(b"slots 21\non 0 0\n"),
         ..call_of(&words, list.as_bytes())
     };
-    let lines = [
+    let lines: &[&str] = &[
         "slot 10 node 0 start peer 0 msg - mem 0001 acc 1 rej 0 ack first clock 0\n",
         "slot 14 node 0 null peer 4 msg - mem 0001 acc 1 rej 0 ack first clock 0\n",
         "slot 15 node 0 retry peer - msg - mem 0000 acc 0 rej 0 ack none clock 0\n",
         "slot 20 node 0 wait peer - msg - mem 0000 acc 0 rej 0 ack none clock 0\n",
     ];
-    has_each(&rt, &output_of(&rt, &call)?, &lines)
+    has_each(&rt, &output_of(&rt, &call)?, lines)
 }

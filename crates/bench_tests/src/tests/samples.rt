@@ -21,7 +21,7 @@ fn samples<R: Threads + Wait + Sync + AllocGlobal + Abort>(
     gives(rt, &call_of(&words, list.as_bytes()), 0, texts)
 }
 
-const FOUR: [&str; 4] = [
+const FOUR: &[&str] = &[
     "sample slots 12 number 7\n",
     "sent 4 left 0 members 000f\n",
     "writes 0 reads 12\n",
@@ -30,8 +30,8 @@ const FOUR: [&str; 4] = [
 
 #[test]
 fn four_nodes_in_twelve_slots(rt: HostRuntime) -> Result<(), Fail> {
-    samples(&rt, (HEAD, "FSSS"), ("12", "7"), &FOUR)?;
-    samples(&rt, (HEAD, "FSSS"), ("00000000000000000012", "07"), &FOUR)
+    samples(&rt, (HEAD, "FSSS"), ("12", "7"), FOUR)?;
+    samples(&rt, (HEAD, "FSSS"), ("00000000000000000012", "07"), FOUR)
 }
 
 // The first slot of the run is the last one here, and no node is active.
@@ -53,7 +53,7 @@ fn no_node_is_active(rt: HostRuntime) -> Result<(), Fail> {
     Ok(())
 }
 
-const EIGHT: [&str; 4] = [
+const EIGHT: &[&str] = &[
     "sample slots 2000 number 1\n",
     "sent 1016 left 4 members 0066\n",
     "writes 2000 reads 4000\n",
@@ -65,7 +65,7 @@ const EIGHT: [&str; 4] = [
 #[test]
 fn eight_nodes_in_many_slots(rt: HostRuntime) -> Result<(), Fail> {
     for _ in 0..2u8 {
-        samples(&rt, (LOADED_HEAD, "GGLLLLLL"), ("2000", "1"), &EIGHT)?;
+        samples(&rt, (LOADED_HEAD, "GGLLLLLL"), ("2000", "1"), EIGHT)?;
     }
     Ok(())
 }
@@ -73,7 +73,7 @@ fn eight_nodes_in_many_slots(rt: HostRuntime) -> Result<(), Fail> {
 // They are no form, so that no file is looked at.
 #[test]
 fn words_that_are_no_numbers(rt: HostRuntime) -> Result<(), Fail> {
-    let words: [(&str, &str); 14] = [
+    let words: &[(&str, &str)] = &[
         ("0", "7"),
         ("20001", "7"),
         ("000000000000000000012", "7"),
@@ -90,7 +90,7 @@ fn words_that_are_no_numbers(rt: HostRuntime) -> Result<(), Fail> {
         ("12", "7a"),
     ];
     for (slots, number) in words {
-        let words = ["sample", "cluster.toml", slots, number];
+        let words = ["sample", "cluster.toml", *slots, *number];
         let failing = Call {
             bad_load: 1,
             ..call_of(&words, b"")
@@ -112,7 +112,7 @@ fn files_and_sinks_that_fail(rt: HostRuntime) -> Result<(), Fail> {
     gives(&rt, &failing, 5, &["load: list\n"])?;
     let refused = call_of(&words, b"version = 3\n");
     gives(&rt, &refused, 3, &["list: out of range version 3\n"])?;
-    gives_fronts(&rt, &call, &FOUR)
+    gives_fronts(&rt, &call, FOUR)
 }
 
 // Answers `sample` with this number of slots, and tells how many slots the cluster has done that is kept then.

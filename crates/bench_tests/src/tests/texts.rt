@@ -35,7 +35,7 @@ const TWO_BYTES: &str = "[[slot]]\nkinds = \"N\"\ndata = 2\nsync = true\nstart =
 
 const UNSYNCHRONIZED: &str = "[[slot]]\nkinds = \"I\"\ndata = 0\nsync = false\nstart = false\n";
 
-const ON: [&str; 24] = [
+const ON: &[&str] = &[
     "on 0 0\n",
     "on 1 0\n",
     "on 2 0\n",
@@ -64,8 +64,7 @@ const ON: [&str; 24] = [
 
 // The nodes that are on from slot 0, which are the first so many.
 fn on_lines(nodes: usize) -> &'static [&'static str] {
-    let lines: &'static [&'static str] = &ON;
-    lines.get(..nodes).unwrap_or(&[])
+    ON.get(..nodes).unwrap_or(&[])
 }
 
 // The slot that a letter stands for.

@@ -11,7 +11,7 @@ const FAULTS: &str =
     "drift 1 1\ndrift 4 -1\nerror 2 2 0 399\nerror 5 -2 0 399\nsend 0 AB noise 40 40\nreceive 3 AB silence 70 70\n";
 
 // Lines that are the same whatever the hosts read.
-const LINES: [&str; 8] = [
+const LINES: &[&str] = &[
     "slot 16 node 0 start peer 0 msg - mem 0001 acc 1 rej 0 ack first clock 0\n",
     "slot 42 node 0 denied peer 2 msg - mem 0000 acc 0 rej 0 ack none clock -2\n",
     "slot 74 node 3 incorrect peer 2 msg - mem 0038 acc 3 rej 3 ack none clock -4\n",
@@ -165,7 +165,7 @@ fn hosts_of_a_loaded_cluster(rt: HostRuntime) -> Result<(), Fail> {
         script: Some(script.as_bytes()),
         ..call_of(&words, list.as_bytes())
     };
-    has_each(&rt, &output_of(&rt, &call)?, &LINES)?;
+    has_each(&rt, &output_of(&rt, &call)?, LINES)?;
     for _ in 0..20u8 {
         has_legal_lines(&rt, &output_of(&rt, &call)?)?;
     }

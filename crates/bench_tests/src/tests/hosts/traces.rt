@@ -1,7 +1,7 @@
 //! Lines of a run of five nodes, of which node 2 sends 8 bytes, worked out from the protocol's rules.
 
 // The lines of slots 12 to 16, in the first of which node 2 sends message 0.
-pub(super) const BEFORE: [&str; 25] = [
+pub(super) const BEFORE: &[&str] = &[
     "slot 12 node 0 correct peer 2 msg 1 mem 0007 acc 3 rej 0 ack none clock 0\n",
     "slot 12 node 1 correct peer 2 msg 1 mem 0007 acc 2 rej 0 ack none clock 0\n",
     "slot 12 node 2 send peer 2 msg 0 mem 0007 acc 1 rej 0 ack first clock 0\n",
@@ -30,7 +30,7 @@ pub(super) const BEFORE: [&str; 25] = [
 ];
 
 // The lines of nodes in slot 17, where node 2 sends the message before the one that is written.
-pub(super) const OLD_SENT: [&str; 5] = [
+pub(super) const OLD_SENT: &[&str] = &[
     "slot 17 node 0 correct peer 2 msg 2 mem 001f acc 3 rej 0 ack none clock 0\n",
     "slot 17 node 1 correct peer 2 msg 2 mem 001f acc 2 rej 0 ack none clock 0\n",
     "slot 17 node 2 send peer 2 msg 0 mem 001f acc 1 rej 0 ack first clock 0\n",
@@ -39,7 +39,7 @@ pub(super) const OLD_SENT: [&str; 5] = [
 ];
 
 // The same where it sends the one that is written.
-pub(super) const NEW_SENT: [&str; 5] = [
+pub(super) const NEW_SENT: &[&str] = &[
     "slot 17 node 0 correct peer 2 msg 2 mem 001f acc 3 rej 0 ack none clock 0\n",
     "slot 17 node 1 correct peer 2 msg 2 mem 001f acc 2 rej 0 ack none clock 0\n",
     "slot 17 node 2 send peer 2 msg 1 mem 001f acc 1 rej 0 ack first clock 0\n",
@@ -48,7 +48,7 @@ pub(super) const NEW_SENT: [&str; 5] = [
 ];
 
 // The lines of slots 18 and 19, and the last one.
-pub(super) const AFTER: [&str; 11] = [
+pub(super) const AFTER: &[&str] = &[
     "slot 18 node 0 correct peer 3 msg - mem 001f acc 4 rej 0 ack none clock 0\n",
     "slot 18 node 1 correct peer 3 msg - mem 001f acc 3 rej 0 ack none clock 0\n",
     "slot 18 node 2 correct peer 3 msg - mem 001f acc 2 rej 0 ack none clock 0\n",

@@ -4,7 +4,7 @@ use super::super::{add_each, joined};
 use std::test::Fail;
 
 // Five nodes that are all on from slot 0, for 15 slots.
-const FAULT_FREE: [&str; 77] = [
+const FAULT_FREE: &[&str] = &[
     "ttpbench trace 1 nodes 5 rounds 1 slots 15 schedule 000000\n",
     "slot 0 node 0 wait peer - msg - mem 0000 acc 0 rej 0 ack none clock 0\n",
     "slot 0 node 1 wait peer - msg - mem 0000 acc 0 rej 0 ack none clock 0\n",
@@ -85,7 +85,7 @@ const FAULT_FREE: [&str; 77] = [
 ];
 
 pub(in super::super) fn fault_free() -> &'static [&'static str] {
-    &FAULT_FREE
+    FAULT_FREE
 }
 
 // Its lines from one on to before another.
