@@ -17,7 +17,7 @@ fn moves_follow_the_table(rt: HostRuntime) {
     let mut first = closed;
     first.after_send();
     let doubt = doubting();
-    let rows: [(AckState, Verdict, AckMove, Ack); 11] = [
+    let rows: &[(AckState, Verdict, AckMove, Ack)] = &[
         (closed, Verdict::Correct, AckMove::Accept, Ack::Closed),
         (first, Verdict::Correct, AckMove::Accept, Ack::Closed),
         (first, Verdict::Tentative, AckMove::Hold, Ack::Doubt(5)),

@@ -184,14 +184,25 @@ impl Read for Pieces {
     }
 }
 
+// How many bytes there are and are asked for, how many come at once, interruptions, and where it
+// fails; how many come or why none do, how many were taken, and the number of calls.
+type FrontCase = (
+    usize,
+    usize,
+    usize,
+    u32,
+    Option<(usize, io::ErrorKind)>,
+    Result<usize, LoadError>,
+    usize,
+    u32,
+);
+
 #[test]
 fn the_front_of_what_a_reader_gives(rt: HostRuntime) {
     let blocked = Some((6, io::ErrorKind::WouldBlock));
     let broken = Some((6, io::ErrorKind::BrokenPipe));
     let refused = Some((6, io::ErrorKind::OutOfMemory));
-    // How many bytes there are and are asked for, how many come at once, interruptions, and where it
-    // fails; how many come or why none do, how many were taken, and the number of calls.
-    let cases = [
+    let cases: &[FrontCase] = &[
         (10, 5, 3, 0, None, Ok(5), 5, 2),
         (10, 20, 3, 0, None, Ok(10), 10, 5),
         (10, 5, 1, 5000, None, Ok(5), 5, 5005),
@@ -205,17 +216,17 @@ fn the_front_of_what_a_reader_gives(rt: HostRuntime) {
     ];
     for (length, count, most, interrupts, fails, expected, taken, calls) in cases {
         let mut reader = Pieces {
-            length,
+            length: *length,
             at: 0,
-            most,
-            interrupts,
-            fails,
+            most: *most,
+            interrupts: *interrupts,
+            fails: *fails,
             calls: 0,
         };
-        let given = front_of(rt.alloc(), Ok(&mut reader), count).map(|bytes| bytes.len());
-        assert!(rt; given == expected);
-        assert_eq!(rt; reader.at, taken);
-        assert_eq!(rt; reader.calls, calls);
+        let given = front_of(rt.alloc(), Ok(&mut reader), *count).map(|bytes| bytes.len());
+        assert!(rt; given == *expected);
+        assert_eq!(rt; reader.at, *taken);
+        assert_eq!(rt; reader.calls, *calls);
     }
 }
 
@@ -265,7 +276,7 @@ fn a_stream_gives_each_piece_whole(rt: HostRuntime) {
     let long = [b'x'; 640];
     // The most bytes at once, the room, interrupted writes and the piece; whether it is taken, how many
     // of its bytes are, and the number of calls.
-    let cases = [
+    let cases: &[(usize, usize, u32, &[u8], bool, usize, u32)] = &[
         (2, 99, 0, b"abcde".as_slice(), true, 5, 3),
         (9, 99, 2, b"abcde".as_slice(), true, 5, 3),
         (9, 99, 1000, b"abcde".as_slice(), true, 5, 1001),
@@ -276,12 +287,13 @@ fn a_stream_gives_each_piece_whole(rt: HostRuntime) {
         (2, 3, 0, b"abcde".as_slice(), false, 3, 3),
     ];
     for (most, room, interrupts, piece, is_taken, count, calls) in cases {
-        let mut slow = Slow::new(rt.alloc(), most, room, interrupts);
+        let mut slow = Slow::new(rt.alloc(), *most, *room, *interrupts);
         let mut sink = StreamSink::new(&mut slow);
-        assert_eq!(rt; sink.write(piece).is_ok(), is_taken);
+        assert_eq!(rt; sink.write(piece).is_ok(), *is_taken);
         drop(sink);
-        assert_eq!(rt; slow.taken.as_slice(), &piece[..count]);
-        assert_eq!(rt; slow.calls, calls);
+        let front = piece.get(..*count).expect(&rt, "a front of the piece");
+        assert_eq!(rt; slow.taken.as_slice(), front);
+        assert_eq!(rt; slow.calls, *calls);
     }
 }
 

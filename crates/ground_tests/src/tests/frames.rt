@@ -292,17 +292,18 @@ fn four_nodes(alloc: Global) -> Result<Medl, Memory>
 #[test]
 fn states_on_which_nodes_may_join(rt: HostRuntime) -> Result<(), Fail> {
     let list = four_nodes(rt.alloc())?;
-    for (round, slot, members, joinable) in [
+    let rows: &[(u8, u8, u32, bool)] = &[
         (0, 0, 0b1101, true),
         (0, 3, 0b1000, true),
         (0, 3, 0b0111, false),
         (0, 3, 0b11000, false),
         (0, 4, 0b10000, false),
         (1, 3, 0b1000, false),
-    ] {
-        let cstate = state(513, round, slot, members);
+    ];
+    for (round, slot, members, joinable) in rows {
+        let cstate = state(513, *round, *slot, *members);
         assert!(rt;
-            is_joinable_state(&list, &cstate) == joinable,
+            is_joinable_state(&list, &cstate) == *joinable,
             "{round} {slot} {members}"
         );
     }
@@ -313,7 +314,7 @@ fn states_on_which_nodes_may_join(rt: HostRuntime) -> Result<(), Fail> {
 fn nodes_join_on_frames_that_the_list_gives(rt: HostRuntime) -> Result<(), Fail> {
     let list = four_nodes(rt.alloc())?;
     let mut out = [0u8; 256];
-    for (header, round, slot, members, payload, joins) in [
+    let rows: &[(u8, u8, u8, u32, &str, bool)] = &[
         (3, 0, 0, 0b0001, "", true),
         (3, 0, 3, 0b1000, "", false),
         (1, 0, 0, 0b1101, "", true),
@@ -327,15 +328,16 @@ fn nodes_join_on_frames_that_the_list_gives(rt: HostRuntime) -> Result<(), Fail>
         (2, 0, 1, 0b0011, "a", false),
         (2, 0, 2, 0b0100, "ab", false),
         (0, 0, 2, 0b0100, "ab", false),
-    ] {
+    ];
+    for (header, round, slot, members, payload, joins) in rows {
         let frame = FrameIn {
             wide: false,
-            header,
-            cstate: state(513, round, slot, members),
+            header: *header,
+            cstate: state(513, *round, *slot, *members),
             payload: payload.as_bytes(),
         };
         let len = encoded(&rt, &frame, 7, &mut out);
-        let due = if joins { Some(frame.cstate) } else { None };
+        let due = if *joins { Some(frame.cstate) } else { None };
         assert!(rt;
             read_explicit(&out[..len], &list) == due,
             "{header} {round} {slot} {members}"

@@ -167,7 +167,7 @@ fn incidents_at_the_edges_of_events(rt: HostRuntime) -> Result<(), Fail> {
         has_flip: true,
         ..NOTHING
     };
-    let rows = [
+    let rows: &[(u8, u32, Incidents)] = &[
         (0, 2, NOTHING),
         (0, 3, silenced),
         (
@@ -236,8 +236,8 @@ fn incidents_at_the_edges_of_events(rt: HostRuntime) -> Result<(), Fail> {
     let mut last = LastLookUp::none();
     for (node, slot, due) in rows {
         assert!(rt;
-            script.incidents(node, slot) == due
-                && script.incidents_after(node, slot, &mut last) == due,
+            script.incidents(*node, *slot) == *due
+                && script.incidents_after(*node, *slot, &mut last) == *due,
             "node {node} in slot {slot}"
         );
     }

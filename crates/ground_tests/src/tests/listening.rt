@@ -15,7 +15,7 @@ fn cstate() -> CState {
 #[test]
 fn noise_and_frames_begin_the_count_anew(rt: HostRuntime) {
     // What is heard in a slot, the move, and whether a listener with limit 2 is due after it.
-    let rows: [(Heard, ListenMove, bool); 9] = [
+    let rows: &[(Heard, ListenMove, bool)] = &[
         (Heard::Silent, ListenMove::Wait, false),
         (Heard::Silent, ListenMove::Wait, true),
         (Heard::Silent, ListenMove::Wait, true),

@@ -30,7 +30,7 @@ enum Line {
 enum Heard {
     Silence,
     Noise,
-    Bits([u8; 3], i64),
+    Bits(&'static [u8], i64),
 }
 
 // Whether nodes 0 and 1 send.
@@ -45,9 +45,9 @@ const EACH: [bool; 2] = [true, true];
 // What they send, and how far their clocks are ahead.
 const SENT: [([u8; 3], i64); 2] = [([0x10, 0xa5, 0xff], -7), ([0x11, 0x00, 0x3c], 40)];
 // The same as it is heard without faults.
-const ZERO: Heard = Heard::Bits([0x10, 0xa5, 0xff], -7);
+const ZERO: Heard = Heard::Bits(&[0x10, 0xa5, 0xff], -7);
 
-const ONE: Heard = Heard::Bits([0x11, 0x00, 0x3c], 40);
+const ONE: Heard = Heard::Bits(&[0x11, 0x00, 0x3c], 40);
 
 fn sending(node: u8, channels: Channels, fault: Fault) -> Event
     ensures { IsBounded result }
@@ -107,7 +107,7 @@ fn is_heard(arrival: Arrival, heard: Heard) -> bool {
     match (arrival, heard) {
         (Arrival::Silence, Heard::Silence) | (Arrival::Noise, Heard::Noise) => true,
         (Arrival::Bits { bytes, offset }, Heard::Bits(wanted, ahead)) => {
-            bytes == wanted.as_slice() && offset == ahead
+            bytes == wanted && offset == ahead
         }
         _ => false,
     }
@@ -150,7 +150,7 @@ fn a_third_node_hears_what_is_left(rt: HostRuntime) -> Result<(), Fail> {
     use Heard::{Bits, Noise, Silence};
     use Line::{Flip, None, ReceiveNoise, ReceiveSilence, SendNoise, SendSilence};
     // Two lines of the script, who sends, and what node 2 hears on channels A and B.
-    let rows: [([Line; 2], [bool; 2], Heard, Heard); 27] = [
+    let rows: &[([Line; 2], [bool; 2], Heard, Heard)] = &[
         ([None, None], NEITHER, Silence, Silence),
         ([None, None], FIRST, ZERO, ZERO),
         ([None, None], SECOND, ONE, ONE),
@@ -170,26 +170,26 @@ fn a_third_node_hears_what_is_left(rt: HostRuntime) -> Result<(), Fail> {
         (
             [Flip(0, A, 8), None],
             FIRST,
-            Bits([0x10, 0x25, 0xff], -7),
+            Bits(&[0x10, 0x25, 0xff], -7),
             ZERO,
         ),
         (
             [Flip(0, B, 23), None],
             FIRST,
             ZERO,
-            Bits([0x10, 0xa5, 0xfe], -7),
+            Bits(&[0x10, 0xa5, 0xfe], -7),
         ),
         ([Flip(0, BOTH, 24), None], FIRST, ZERO, ZERO),
         (
             [Flip(0, A, 12), Flip(0, BOTH, 12)],
             FIRST,
             ZERO,
-            Bits([0x10, 0xad, 0xff], -7),
+            Bits(&[0x10, 0xad, 0xff], -7),
         ),
         (
             [Flip(1, A, 8), Flip(1, A, 16)],
             SECOND,
-            Bits([0x11, 0x80, 0xbc], 40),
+            Bits(&[0x11, 0x80, 0xbc], 40),
             ONE,
         ),
         ([Flip(1, BOTH, 8), None], FIRST, ZERO, ZERO),

@@ -70,7 +70,7 @@ fn places_follow_one_another(rt: HostRuntime) -> Result<(), Fail> {
         },
     );
     // The time, round and slot of each place, and whether it ends a round.
-    let rows: [(u16, u8, u8, bool); 7] = [
+    let rows: &[(u16, u8, u8, bool)] = &[
         (65534, 0, 2, false),
         (65535, 0, 3, true),
         (0, 1, 0, false),

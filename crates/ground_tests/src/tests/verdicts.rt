@@ -5,7 +5,7 @@ use ttp_world::{Ack, Verdict};
 
 #[test]
 fn better_view_decides(rt: HostRuntime) {
-    let rows: [(ChannelView, ChannelView, Ack, Verdict); 10] = [
+    let rows: &[(ChannelView, ChannelView, Ack, Verdict)] = &[
         (Silent, Silent, Ack::First, Verdict::Null),
         (Silent, Bad, Ack::Closed, Verdict::Invalid),
         (Other, Bad, Ack::Closed, Verdict::Incorrect),
