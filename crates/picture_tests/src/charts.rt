@@ -29,8 +29,11 @@ kept 14 same 8 hurt 0 split 0 torn 0 dead 0
 broken 2 same 2 hurt 0 split 0 torn 0 dead 0
 ";
 
-const LINES: [&str; 5] = [
-    "<svg xmlns=\"http://www.w3.org/2000/svg\" width=\"1236\" height=\"654\" viewBox=\"0 0 1236 654\">\n",
+const HEAD: &str =
+    "<svg xmlns=\"http://www.w3.org/2000/svg\" width=\"1236\" height=\"654\" viewBox=\"0 0 1236 654\">\n";
+
+const LINES: &[&str] = &[
+    HEAD,
     "<text x=\"12\" y=\"74\">kept 14 same 8 hurt 0 split 0 torn 0 dead 0: faults that the hypothesis covers</text>\n",
     "<path class=\"receive\" d=\"M72 128h21v15h-21z\"><title>slot 22 node 0 receive</title></path>\n",
     "<path class=\"cost\" d=\"M77 144h5v5h-5z\"><title>slot 22 node 0 keeps yes start 10 left 0:25:clique hurt - split - - \
@@ -45,8 +48,8 @@ fn a_chart(rt: HostRuntime) -> Result<(), Fail> {
     let mut sink = MemorySink::new(rt.alloc(), 30_000, List::new(rt.alloc()))?;
     put_chart(rt.alloc(), &campaign, None, &mut sink)?;
     let text = str::from_utf8(sink.bytes())?;
-    assert!(rt; text.starts_with(LINES[0]));
-    for line in &LINES {
+    assert!(rt; text.starts_with(HEAD));
+    for line in LINES {
         assert!(rt; text.contains(*line), "{line}");
     }
     assert!(rt; text.ends_with("</svg>\n"));
