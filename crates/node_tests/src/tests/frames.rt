@@ -194,7 +194,7 @@ fn better_channel_decides(rt: HostRuntime) -> Result<(), Fail> {
     let list = four_nodes(rt.alloc())?;
     let right_a = frame_of_1(&rt, three_members(), 7);
     let right_b = frame_of_1(&rt, three_members(), 8);
-    for (answered, on_a, on_b, verdict, deviation, byte) in [
+    let rows: &[(bool, Came, Came, Verdict, i64, Option<u8>)] = &[
         (true, Came::Right, Came::Wrong, Verdict::Correct, 7, Some(7)),
         (true, Came::Right, Came::Late, Verdict::Correct, 7, Some(7)),
         (true, Came::Noise, Came::Right, Verdict::Correct, 7, Some(8)),
@@ -228,21 +228,22 @@ fn better_channel_decides(rt: HostRuntime) -> Result<(), Fail> {
         (true, Came::Late, Came::Late, Verdict::Invalid, 997, None),
         (true, Came::Noise, Came::Silence, Verdict::Invalid, 0, None),
         (true, Came::Silence, Came::Silence, Verdict::Null, 0, None),
-    ] {
-        let others = three_members().without(if answered { 3 } else { 0 });
+    ];
+    for (answered, on_a, on_b, verdict, deviation, byte) in rows {
+        let others = three_members().without(if *answered { 3 } else { 0 });
         let (wrong_a, wrong_b) = (frame_of_1(&rt, others, 7), frame_of_1(&rt, others, 8));
-        let a = arrival_of(on_a, right_a.as_slice(), wrong_a.as_slice());
-        let b = arrival_of(on_b, right_b.as_slice(), wrong_b.as_slice());
+        let a = arrival_of(*on_a, right_a.as_slice(), wrong_a.as_slice());
+        let b = arrival_of(*on_b, right_b.as_slice(), wrong_b.as_slice());
         let mut outcome = no_outcome();
-        let mut node = receiver(&rt, rt.alloc(), &list, answered)?;
+        let mut node = receiver(&rt, rt.alloc(), &list, *answered)?;
         assert!(rt; !through_slot(&rt, &mut node, &list, true, 0, (&a, &b), 1, 0, &mut outcome));
         let entry = Entry::Judged {
             sender: 1,
-            verdict,
-            deviation,
+            verdict: *verdict,
+            deviation: *deviation,
         };
         assert!(rt; node.state().entry == entry, "{on_a:?} {on_b:?}");
-        assert!(rt; first_byte(&outcome) == byte, "{on_a:?} {on_b:?}");
+        assert!(rt; first_byte(&outcome) == *byte, "{on_a:?} {on_b:?}");
     }
     Ok(())
 }
@@ -256,7 +257,7 @@ fn nodes_join_on_either_channel(rt: HostRuntime) -> Result<(), Fail> {
         cstate: place_of(1, 5, three_members()),
         deviation,
     };
-    for (on_a, on_b, entry) in [
+    let rows: &[(Came, Came, Entry)] = &[
         (Came::Right, Came::Late, joined(7)),
         (Came::Late, Came::Right, joined(997)),
         (Came::Noise, Came::Right, joined(7)),
@@ -264,14 +265,15 @@ fn nodes_join_on_either_channel(rt: HostRuntime) -> Result<(), Fail> {
         (Came::Wrong, Came::Right, joined(7)),
         (Came::Noise, Came::Wrong, Entry::Waited),
         (Came::Silence, Came::Silence, Entry::Waited),
-    ] {
-        let a = arrival_of(on_a, right.as_slice(), b"\x02");
-        let b = arrival_of(on_b, right.as_slice(), b"\x02");
+    ];
+    for (on_a, on_b, entry) in rows {
+        let a = arrival_of(*on_a, right.as_slice(), b"\x02");
+        let b = arrival_of(*on_b, right.as_slice(), b"\x02");
         let mut outcome = no_outcome();
         let mut node = Controller::new(rt.alloc(), &list, 3)?;
         // Its clock jumps to 4.
         assert!(rt; !through_slot(&rt, &mut node, &list, true, 4, (&a, &b), 1, 0, &mut outcome));
-        assert!(rt; node.state().entry == entry, "{on_a:?} {on_b:?}");
+        assert!(rt; node.state().entry == *entry, "{on_a:?} {on_b:?}");
     }
     Ok(())
 }
