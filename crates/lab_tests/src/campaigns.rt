@@ -18,7 +18,7 @@ const QUIET: &str = "slots 45\non 0 0\non 1 0\non 2 0\non 3 0\non 4 0\n";
 const DEAD: &str = "receive 3 A silence 0 44\nreceive 4 A silence 0 44\n";
 
 // Files with a right script, and with one that has a line more.
-const FILES: [(&str, &[&str]); 3] = [
+const FILES: &[(&str, &[&str])] = &[
     ("list", &[LIST]),
     ("quiet", &[QUIET]),
     ("latent", &[QUIET, DEAD]),
@@ -26,30 +26,30 @@ const FILES: [(&str, &[&str]); 3] = [
 
 #[test]
 fn campaigns_are_the_described_ones(rt: HostRuntime) -> Result<(), Fail> {
-    for (script, slot, text) in [
+    let runs: &[(&str, &str, &str)] = &[
         ("quiet", "22", QUIET_22),
         ("quiet", "11", QUIET_11),
         ("latent", "22", LATENT_22),
-    ] {
-        let words = ["campaign", "list", script, slot, slot];
-        gives(&rt, &call_of(&words, &FILES), 0, &[text])?;
+    ];
+    for (script, slot, text) in runs {
+        let words = ["campaign", "list", *script, *slot, *slot];
+        gives(&rt, &call_of(&words, FILES), 0, &[*text])?;
     }
     // Slots that the script does not have are passed over, and a range has no leading zeros.
     let words = ["campaign", "list", "quiet", "000000045", "999999999"];
-    let text: [&str; 4] = [
+    let text: &[&str] = &[
         "ttplab campaign 1 nodes 5 slots 45 from 45 to 999999999\n",
         "slot - node - keeps yes start 10 left - hurt - split - - end 001f fault -\n",
         "kept 0 same 0 hurt 0 split 0 torn 0 dead 0\n",
         "broken 0 same 0 hurt 0 split 0 torn 0 dead 0\n",
     ];
-    let text = text.as_slice();
-    gives(&rt, &call_of(&words, &FILES), 0, text)?;
+    gives(&rt, &call_of(&words, FILES), 0, text)?;
     let mut bad_write = 0u32;
     for whole in 0..text.len() {
         bad_write = bad_write.saturating_add(1);
         let failing = Call {
             bad_write,
-            ..call_of(&words, &FILES)
+            ..call_of(&words, FILES)
         };
         gives(&rt, &failing, 6, text.get(..whole).ok_or("few lines")?)?;
     }
@@ -60,7 +60,7 @@ fn campaigns_are_the_described_ones(rt: HostRuntime) -> Result<(), Fail> {
 fn files_that_are_refused_are_told(rt: HostRuntime) -> Result<(), Fail> {
     let words = ["campaign", "list", "script", "22", "22"];
     // The list, the script, the status and the line.
-    let rows: [(&[&str], &[&str], u8, &str); 6] = [
+    let rows: &[(&[&str], &[&str], u8, &str)] = &[
         (&[], &[], 3, "list: missing version\n"),
         (&["?"], &[QUIET], 3, "list: not toml\n"),
         (&[LIST], &[], 4, "script: line 1 no slots\n"),
@@ -84,21 +84,21 @@ fn files_that_are_refused_are_told(rt: HostRuntime) -> Result<(), Fail> {
         ),
     ];
     for (list, script, status, line) in rows {
-        let files = [("list", list), ("script", script)];
-        gives(&rt, &call_of(&words, &files), status, &[line])?;
+        let files = [("list", *list), ("script", *script)];
+        gives(&rt, &call_of(&words, &files), *status, &[*line])?;
     }
     Ok(())
 }
 
 #[test]
 fn files_that_fail_are_told(rt: HostRuntime) -> Result<(), Fail> {
-    let quiet = call_of(&["campaign", "list", "quiet", "22", "22"], &FILES);
+    let quiet = call_of(&["campaign", "list", "quiet", "22", "22"], FILES);
     for (bad_load, line) in [(1, "load: list\n"), (2, "load: script\n")] {
         gives(&rt, &Call { bad_load, ..quiet }, 5, &[line])?;
     }
     gives(&rt, &call_of(quiet.words, &[]), 5, &["load: list\n"])?;
     let words = ["campaign", "list", "none", "22", "22"];
-    gives(&rt, &call_of(&words, &FILES), 5, &["load: script\n"])
+    gives(&rt, &call_of(&words, FILES), 5, &["load: script\n"])
 }
 
 // A script with a comment behind it that no script file has room for.

@@ -6,7 +6,7 @@ use crate::views::shows;
 use std::test::Fail;
 
 // What stands first in the chart of slot 11.
-const CHART_HEAD: [&str; 3] = [
+const CHART_HEAD: &[&str] = &[
     "<svg xmlns=\"http://www.w3.org/2000/svg\" width=\"1236\" height=\"654\" viewBox=\"0 0 1236 654\">\n",
     "<title>ttplab campaign 1 nodes 5 slots 45</title>\n",
     "<style>\n",
@@ -26,7 +26,7 @@ const KEPT: &str = "kept 0 same 0 hurt 0 split 0 torn 0 dead 0\n";
 
 const BROKEN: &str = "broken 0 same 0 hurt 0 split 0 torn 0 dead 0\n";
 
-const FILES: [(&str, &[&str]); 2] = [
+const FILES: &[(&str, &[&str])] = &[
     ("faults", &[QUIET_11]),
     ("empty", &[HEAD, OWN, KEPT, BROKEN]),
 ];
@@ -35,20 +35,21 @@ const FILES: [(&str, &[&str]); 2] = [
 fn a_campaign_has_a_chart(rt: HostRuntime) -> Result<(), Fail> {
     shows(
         &rt,
-        &call_of(&["chart", "faults"], &FILES),
-        &CHART_HEAD,
+        &call_of(&["chart", "faults"], FILES),
+        CHART_HEAD,
         SQUARE,
     )?;
     let words = ["chart", "faults", "00011", "99999"];
-    shows(&rt, &call_of(&words, &FILES), &CHART_HEAD, SQUARE)?;
-    for words in [
-        ["chart", "faults", "12", "99999"].as_slice(),
-        ["chart", "faults", "11", "10"].as_slice(),
-        ["chart", "empty"].as_slice(),
-    ] {
+    shows(&rt, &call_of(&words, FILES), CHART_HEAD, SQUARE)?;
+    let calls: &[&[&str]] = &[
+        &["chart", "faults", "12", "99999"],
+        &["chart", "faults", "11", "10"],
+        &["chart", "empty"],
+    ];
+    for words in calls {
         gives(
             &rt,
-            &call_of(words, &FILES),
+            &call_of(words, FILES),
             4,
             &["campaign: no slot to show\n"],
         )?;
@@ -59,7 +60,7 @@ fn a_campaign_has_a_chart(rt: HostRuntime) -> Result<(), Fail> {
 #[test]
 fn a_text_that_is_no_campaign_is_told(rt: HostRuntime) -> Result<(), Fail> {
     // The parts of a text, and its first line that is not due.
-    let rows: [(&[&str], &str); 6] = [
+    let rows: &[(&[&str], &str)] = &[
         (&[], "campaign: line 1\n"),
         (&[OWN], "campaign: line 1\n"),
         (&[HEAD, KEPT], "campaign: line 2\n"),
@@ -70,12 +71,12 @@ fn a_text_that_is_no_campaign_is_told(rt: HostRuntime) -> Result<(), Fail> {
     for (parts, line) in rows {
         gives(
             &rt,
-            &call_of(&["chart", "text"], &[("text", parts)]),
+            &call_of(&["chart", "text"], &[("text", *parts)]),
             4,
-            &[line],
+            &[*line],
         )?;
     }
-    let chart = call_of(&["chart", "faults"], &FILES);
+    let chart = call_of(&["chart", "faults"], FILES);
     gives(
         &rt,
         &Call {

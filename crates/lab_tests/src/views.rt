@@ -25,7 +25,7 @@ slot 1 node 3 off peer - msg - mem 0000 acc 0 rej 0 ack none clock 0
 const KEEPS: &str = "keeps no H4 0\n";
 
 // What stands first and last in their waveform: one value is another after slot 1.
-const WAVE_HEAD: [&str; 5] = [
+const WAVE_HEAD: &[&str] = &[
     "$version ttplab wave $end\n",
     "$comment ttpbench trace 1 nodes 4 rounds 1 slots 2 schedule 000000 $end\n",
     "$comment keeps no H4 0 $end\n",
@@ -36,7 +36,7 @@ const WAVE_HEAD: [&str; 5] = [
 const WAVE_END: &str = "\n$end\n#1\nr7 jA\n#2\n";
 
 // And in a picture of slot 1.
-const PICTURE_HEAD: [&str; 3] = [
+const PICTURE_HEAD: &[&str] = &[
     "<svg xmlns=\"http://www.w3.org/2000/svg\" width=\"1036\" height=\"422\" viewBox=\"0 0 1036 422\">\n",
     "<title>ttpbench trace 1 nodes 4 rounds 1 slots 2 schedule 000000</title>\n",
     "<style>\n",
@@ -69,22 +69,22 @@ pub(crate) fn shows<R: AllocGlobal + Abort + Threads + Sync>(
     Ok(())
 }
 
-const TRACE: [(&str, &[&str]); 1] = [("trace", &[HEAD, SLOT_0, SLOT_1, KEEPS])];
+const TRACE: &[(&str, &[&str])] = &[("trace", &[HEAD, SLOT_0, SLOT_1, KEEPS])];
 
 #[test]
 fn a_trace_has_two_views(rt: HostRuntime) -> Result<(), Fail> {
     shows(
         &rt,
-        &call_of(&["wave", "trace"], &TRACE),
-        &WAVE_HEAD,
+        &call_of(&["wave", "trace"], TRACE),
+        WAVE_HEAD,
         WAVE_END,
     )?;
     let words = ["picture", "trace", "1", "00009"];
-    shows(&rt, &call_of(&words, &TRACE), &PICTURE_HEAD, CELL)?;
+    shows(&rt, &call_of(&words, TRACE), PICTURE_HEAD, CELL)?;
     shows(
         &rt,
-        &call_of(&["picture", "trace"], &TRACE),
-        &PICTURE_HEAD,
+        &call_of(&["picture", "trace"], TRACE),
+        PICTURE_HEAD,
         "shown: slots 0 to 1<",
     )
 }
@@ -92,7 +92,7 @@ fn a_trace_has_two_views(rt: HostRuntime) -> Result<(), Fail> {
 #[test]
 fn a_text_that_is_no_trace_is_told(rt: HostRuntime) -> Result<(), Fail> {
     // The parts of a text, and its first line that is not due.
-    let rows: [(&[&str], &str); 8] = [
+    let rows: &[(&[&str], &str)] = &[
         (&[], "trace: line 1\n"),
         (&[SLOT_0], "trace: line 1\n"),
         (&[HEAD, SLOT_1, KEEPS], "trace: line 2\n"),
@@ -106,25 +106,25 @@ fn a_text_that_is_no_trace_is_told(rt: HostRuntime) -> Result<(), Fail> {
         ),
     ];
     for (parts, line) in rows {
-        let files = [("trace", parts)];
-        gives(&rt, &call_of(&["wave", "trace"], &files), 4, &[line])?;
+        let files = [("trace", *parts)];
+        gives(&rt, &call_of(&["wave", "trace"], &files), 4, &[*line])?;
         gives(
             &rt,
             &call_of(&["picture", "trace", "9", "1"], &files),
             4,
-            &[line],
+            &[*line],
         )?;
     }
     for (first, last) in [("1", "0"), ("2", "2"), ("99999", "99999")] {
         let words = ["picture", "trace", first, last];
-        gives(&rt, &call_of(&words, &TRACE), 4, &["trace: slots 0 to 1\n"])?;
+        gives(&rt, &call_of(&words, TRACE), 4, &["trace: slots 0 to 1\n"])?;
     }
     Ok(())
 }
 
 #[test]
 fn a_fault_of_the_outside_is_told(rt: HostRuntime) -> Result<(), Fail> {
-    let wave = call_of(&["wave", "trace"], &TRACE);
+    let wave = call_of(&["wave", "trace"], TRACE);
     gives(
         &rt,
         &Call {
@@ -140,7 +140,7 @@ fn a_fault_of_the_outside_is_told(rt: HostRuntime) -> Result<(), Fail> {
         5,
         &["load: trace\n"],
     )?;
-    let slots = call_of(&["picture", "trace", "2", "2"], &TRACE);
+    let slots = call_of(&["picture", "trace", "2", "2"], TRACE);
     gives(
         &rt,
         &Call {

@@ -7,7 +7,7 @@ const USAGE: &str =
 
 #[test]
 fn words_of_no_form_are_told(rt: HostRuntime) -> Result<(), Fail> {
-    let none: [&[&str]; 19] = [
+    let none: &[&[&str]] = &[
         &[],
         &["wave"],
         &["wave", "trace", "0", "1"],
