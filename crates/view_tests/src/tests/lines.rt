@@ -5,7 +5,7 @@ use ttp_world::{Ack, Back, Keep, Source};
 
 #[test]
 fn lines(rt: HostRuntime) {
-    let texts = [
+    let texts: &[&str] = &[
         "ttpbench trace 1 nodes 4 rounds 1 slots 12 schedule 000000",
         "ttpbench trace 255 nodes 255 rounds 255 slots 99999 schedule ffffff",
         "slot 0 node 3 off peer - msg - mem 0000 acc 0 rej 0 ack none clock 0",
@@ -42,7 +42,7 @@ fn lines(rt: HostRuntime) {
 
 #[test]
 fn no_lines(rt: HostRuntime) {
-    let texts = [
+    let texts: &[&str] = &[
         "",
         "slot 17 host 2 write 1\n",
         "slot 17 host 2 write 1 ",
@@ -92,7 +92,7 @@ fn no_lines(rt: HostRuntime) {
 // A node's line, of which one word is not as it is due.
 #[test]
 fn no_lines_of_nodes(rt: HostRuntime) {
-    let texts = [
+    let texts: &[&str] = &[
         "slot 0 node 3 sleep peer - msg - mem 0000 acc 0 rej 0 ack none clock 0",
         "slot 0 node 3 off peer 3 msg - mem 0000 acc 0 rej 0 ack none clock 0",
         "slot 0 node 3 off peer - msg 0 mem 0000 acc 0 rej 0 ack none clock 0",

@@ -5,8 +5,10 @@ use std::test::Fail;
 use ttp_world::{Keep, Source};
 use whole_trace::{HostLine, read_whole};
 
+const LAST: &str = "returns yes start 1\n";
+
 // The lines of a trace of two slots.
-const LINES: [&str; 13] = [
+const LINES: &[&str] = &[
     "ttpbench trace 1 nodes 4 rounds 1 slots 2 schedule 00000a\n",
     "slot 0 node 0 wait peer - msg - mem 0000 acc 0 rej 0 ack none clock 0\n",
     "slot 0 node 1 wait peer - msg - mem 0000 acc 0 rej 0 ack none clock 0\n",
@@ -19,14 +21,14 @@ const LINES: [&str; 13] = [
     "slot 1 node 2 join peer 0 msg - mem 0001 acc 1 rej 0 ack none clock 0\n",
     "slot 1 node 3 off peer - msg - mem 0000 acc 0 rej 0 ack none clock -9\n",
     "keeps yes start 1\n",
-    "returns yes start 1\n",
+    LAST,
 ];
 
 // The text with other bytes in place of one of these lines.
 fn text_with(alloc: Global, at: usize, other: &str) -> Result<String, Fail> {
     let mut text = String::new(alloc);
-    for i in 0..LINES.len() {
-        text.push_str(if i == at { other } else { LINES[i] })?;
+    for (i, line) in LINES.iter().enumerate() {
+        text.push_str(if i == at { other } else { *line })?;
     }
     Ok(text)
 }
@@ -74,9 +76,9 @@ fn a_trace(rt: HostRuntime) -> Result<(), Fail> {
 
 #[test]
 fn wrong_lines(rt: HostRuntime) -> Result<(), Fail> {
-    let cases = [
+    let cases: &[(usize, &str, u64)] = &[
         // A trace, and one whose reads or writes are fewer or more.
-        (12, LINES[12], 0),
+        (12, LAST, 0),
         (6, "", 0),
         (
             6,
@@ -174,10 +176,10 @@ fn wrong_lines(rt: HostRuntime) -> Result<(), Fail> {
         (12, "returns yes start 1\n\n", 14),
     ];
     for (at, other, line) in cases {
-        let text = text_with(rt.alloc(), at, other)?;
+        let text = text_with(rt.alloc(), *at, other)?;
         match read_whole(text.as_bytes()) {
-            Ok(_) => assert_eq!(rt; line, 0),
-            Err(found) => assert_eq!(rt; found, line),
+            Ok(_) => assert_eq!(rt; *line, 0),
+            Err(found) => assert_eq!(rt; found, *line),
         }
     }
     assert!(rt; read_whole(b"").is_err_and(|line| line == 1));
