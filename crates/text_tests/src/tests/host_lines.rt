@@ -139,6 +139,7 @@ fn buffers_bound_the_writes_of_a_slot(rt: HostRuntime) -> Result<(), Fail> {
         ),
     ];
     for (buffers, lines, due) in cases {
+        assert!(rt; *buffers >= 1 && *buffers <= 16);
         let list = two_senders(rt.alloc(), *buffers, 2)?;
         let mut text = Vec::from_slice(rt.alloc(), b"slots 20\n")?;
         text.extend_from_slice(lines)?;
