@@ -1,4 +1,5 @@
 pub mod Endings
+pub mod Flags
 pub mod Heard
 pub mod InSlot
 pub mod Near

@@ -7,7 +7,7 @@ ghost use Rattle.ttp_world.specs.Fitting.{number_in};
 ghost use Rattle.ttp_world.specs.Frame.{cstate_bytes};
 ghost use Rattle.ttp_world.specs.Medium.{is_sending};
 ghost use Rattle.ttp_world.specs.Medl.{IsValid, member_limit, member_width};
-ghost use Rattle.ttp_world.specs.Messages.{flag, flags_of, is_left_phase, is_listening_phase, status_words};
+ghost use Rattle.ttp_world.specs.Messages.{flags_of, is_left_phase, is_listening_phase, status_words};
 ghost use Rattle.ttp_world.specs.Past.{state_of};
 ghost use Rattle.controller.specs.Within.{IsWithin};
 
@@ -57,13 +57,6 @@ impl Flags for StatusFlags {
     }
 }
 
-// The bit of a flag, where the flag stands.
-fn bit(of: StatusFlags, stands: bool) -> u64
-    ensures { result ≡ flag of.0 stands }
-{
-    if stands { of.0 } else { 0 }
-}
-
 fn is_active(phase: Phase) -> bool
     ensures { result ≡ is_active_phase phase }
 {
@@ -102,16 +95,16 @@ fn flags_of(list: &Medl, node: &Node, state: &NodeState, delivers: bool) -> Stat
     requires state { state.now ≡ state_of node.now }
     ensures { result.0 ≡ flags_of list.now node.now delivers }
 {
-    StatusFlags(
-        bit(StatusFlags::ACTIVE, is_active(state.phase))
-            + bit(StatusFlags::LISTENING, is_listening(state.phase))
-            + bit(StatusFlags::LEFT, is_left(state.phase))
-            + bit(StatusFlags::SENT, is_sending(state.entry))
-            + bit(StatusFlags::DELIVERED, delivers)
-            + bit(StatusFlags::ACK_OPEN, node.acknowledgement().is_open())
-            + bit(StatusFlags::DOUBT, is_doubt(state.ack))
-            + bit(StatusFlags::CORRECTED, node.has_averaged(list)),
-    )
+    let mut flags = StatusFlags::empty();
+    flags.set(StatusFlags::ACTIVE, is_active(state.phase));
+    flags.set(StatusFlags::LISTENING, is_listening(state.phase));
+    flags.set(StatusFlags::LEFT, is_left(state.phase));
+    flags.set(StatusFlags::SENT, is_sending(state.entry));
+    flags.set(StatusFlags::DELIVERED, delivers);
+    flags.set(StatusFlags::ACK_OPEN, node.acknowledgement().is_open());
+    flags.set(StatusFlags::DOUBT, is_doubt(state.ack));
+    flags.set(StatusFlags::CORRECTED, node.has_averaged(list));
+    flags
 }
 
 // A C-state as a number: its bytes, the most significant first.
