@@ -21,7 +21,7 @@
 //! `proofs/Sorted.antt` shows that sorting two lists whose items are near keeps them near, and that the
 //! odd note may be put in last; `proofs/Pull.antt` bounds the middle two by the three others, and
 //! `src/worked_pull.rt` is a case that reaches the bound. precision rests on the lemmas on sorting, and
-//! faced_clocks on `proofs/Pull.antt`.
+//! two_faced on `proofs/Pull.antt`.
 //!
 //! The crate measures nothing and corrects no clock: which slots are noted, and when a round ends, is for
 //! the layer above to say. It keeps four values and a count, which may go to another thread, takes no

@@ -10,8 +10,8 @@ use Rattle.ttp_world.specs.Returning.{returns}
 use Rattle.ttp_world.specs.Script.{IsValidScript}
 use Rattle.ttp_world.specs.World.{Numbers, world}
 use Rattle.ttp_world.proofs.Worlds.{length-world}
-use Rattle.back_plan.specs.BackPlan.{back_plan_of, ReturnsByPlan}
-use Rattle.back_plan.proofs.Returned.{returned-by_plan}
+use Rattle.rejoin.specs.BackPlan.{back_plan_of, ReturnsByPlan}
+use Rattle.rejoin.proofs.ReturnsByPlan.{returned-by_plan}
 use Rattle.safety_steps.specs.Run.{IsBegun, StandsBack}
 use Rattle.safety_steps.proofs.SafeBack.{safe-back}
 use Rattle.safety.specs.ByPlan.{IsByPlan}

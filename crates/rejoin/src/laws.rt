@@ -1,4 +1,4 @@
-//! The law of runs in which armed nodes return. The function does nothing; its contract is the law.
+//! The laws of runs in which armed nodes return. The functions do nothing; their contracts are the laws.
 ghost use Rattle.std.specs.Prelude.{◌≡◌, ℕ, suc, ◌-◌, ◌<◌, ◌≤◌, length};
 ghost use Rattle.ttp_world.specs.declared.keep.Back.TheVariants as back;
 ghost use Rattle.ttp_world.specs.declared.medl.Medl.{Medl};
@@ -9,8 +9,15 @@ ghost use Rattle.ttp_world.specs.Medl.{IsValid};
 ghost use Rattle.ttp_world.specs.Returning.{returns};
 ghost use Rattle.ttp_world.specs.Script.{IsValidScript};
 ghost use Rattle.ttp_world.specs.World.{Numbers, world};
-ghost use Rattle.back_plan.specs.BackPlan.{back_plan_of};
+ghost use Rattle.rejoin.specs.BackPlan.{back_plan_of, ReturnsByPlan};
 ghost use Rattle.safety_steps.specs.Run.{StandsBack};
+
+/// A valid script whose test says that its armed nodes are owed their places again follows a good plan
+/// of faults from the start on, which is that of its faulty nodes and its arm lines.
+pub fn returned_by_plan()
+    ensures { (list : Medl) (script : Script) (slot : ℕ) → IsValid list → IsValidScript list script
+        → returns list script ≡ back.Yes slot → ReturnsByPlan list script slot }
+{}
 
 /// A script whose test says that its armed nodes get their places again is a run by the plan of its faulty
 /// nodes and its arm lines: so `safety_steps::laws::back_safe_by_fate` says what a correct node holds.

@@ -1,19 +1,32 @@
 //! Safety under the hypothesis by which a node that is armed again is owed its place.
 //!
-//! A script whose test says `returns yes` follows a good plan of faults, in which the nodes return that
-//! it arms (`back_plan`). By such a plan `safety` has the induction on members and clocks, and
-//! `safety_steps` says which tests follow from it: here they are put together, with no premise left.
+//! A node that left may be armed to listen again, and eight rules say when it is owed its place (`returns`
+//! of `ttp_world`'s specs). By the plan of such a script (`back_plan_of`) each time that a node becomes
+//! faulty is a loss, and each arm line a return: the node listens from its slot on, and enters by the first
+//! frame of another node that is not faulty and that carries a C-state. [`laws::returned_by_plan`] takes the
+//! rules apart, once and for all: the plan is good, in the words of `fault_plan`, and the script follows it.
+//! By such a plan `safety` has the induction on members and clocks, and `safety_steps` says which tests
+//! follow from it: here they are put together, with no premise left.
 //!
-//! A caller of [`back_safe`] has a valid list and script and that answer, with the slot of the start;
+//! A caller of [`back_safe`] has a valid list and script whose test says `yes`, with the slot of the start;
 //! what it says is of all legal message numbers. theorems cites it as `returned-safe` of
-//! `proofs/Returned.antt`. `law_of_nodes_that_are_armed_again` of law_tests calls the law:
+//! `proofs/Returned.antt`, and campaign_laws the plan as `returned-by_plan` of `proofs/ReturnsByPlan.antt`.
+//! `law_of_nodes_that_are_armed_again` of law_tests calls the law:
 //!
 //! ```text
 //! rejoin::laws::stands();
 //! ```
 //!
-//! The crate has no code that does anything: its functions are laws. It proves nothing of frames,
-//! members or clocks itself.
+//! `proofs/Walk.antt` says who is faulty from slot to slot, `proofs/Arms.antt` what is known of one arm
+//! line, and `proofs/Standing.antt` is the induction: after each slot a node is not faulty and sound; or
+//! lost since a slot, and not armed since; or armed less than four rounds ago, so that it listens until its
+//! entry and is sound from then on. `proofs/BackHearing.antt` and `BackSlots.antt` say who hears whom,
+//! `BackGood.antt` that the plan is good, `Offers.antt` by which frame a node enters, and
+//! `ReturnedPlan.antt` that the plan is that of the test's faulty nodes. `src/worked_case.rt` is a script
+//! that arms a node, with its plan.
+//!
+//! The crate has no code that does anything: its functions are laws. Of the theory it alone knows the eight
+//! rules, and it proves nothing of frames, members or clocks itself.
 #![tactic(auto)]
 
 ghost use Rattle.std.specs.Prelude.{◌≡◌, ◌<◌, ◌≤◌, length};
@@ -26,6 +39,7 @@ ghost use Rattle.ttp_world.specs.Script.{IsValidScript};
 ghost use Rattle.ttp_world.specs.World.{Numbers, world};
 
 pub mod laws;
+mod worked_case;
 
 use ttp_world::{Medl, Script};
 

@@ -31,10 +31,10 @@ use Rattle.safety_clocks.specs.NotedByPlan.{NotesNothing, NotedInSlot}
 use Rattle.safety_steps.specs.ByFate.{IsSoundAt, IsByFate}
 use Rattle.safety.specs.ByPlan.{IsByPlan}
 use Rattle.safety.proofs.Together.{KeepsClocks, run-by_plan}
-use Rattle.faced_clocks.specs.Errors.{bound}
-use Rattle.faced_clocks.proofs.Clocks.{faced-clocks, faced-window}
-use Rattle.faced_clocks.proofs.Lossless.{fate-always}
-use Rattle.faced_clocks.proofs.Slots.{IsFacing}
+use Rattle.two_faced.specs.Errors.{bound}
+use Rattle.two_faced.proofs.FacedClocks.{faced-clocks, faced-window}
+use Rattle.two_faced.proofs.Lossless.{fate-always}
+use Rattle.two_faced.proofs.FacedSlots.{IsFacing}
 use Rattle.two_faced.specs.Halved.{AreJudgedCorrect, JudgedCorrectSince}
 use Rattle.two_faced.proofs.QuietPlan.{quiet_plan, follows, on-sound, begun, clocks}
 use Rattle.two_faced.proofs.Rules.{RulesHold}

@@ -1,3 +1,8 @@
+pub mod PulledNotes
+pub mod FacedRounds
+pub mod Lossless
+pub mod FacedSlots
+pub mod FacedClocks
 pub mod Spans
 pub mod Rules
 pub mod QuietScript

@@ -27,8 +27,8 @@ use Rattle.fault_plan.proofs.KeptPlan.{on-always, due-ever}
 use Rattle.fault_plan.proofs.Returns.{none-among, never-listens}
 use Rattle.fault_plan.proofs.Sieves.{none-found}
 use Rattle.safety_steps.specs.Run.{IsBegun}
-use Rattle.faced_clocks.specs.Errors.{bound, HasFacedClocks}
-use Rattle.faced_clocks.proofs.Lossless.{fate-always, sound-always}
+use Rattle.two_faced.specs.Errors.{bound, HasFacedClocks}
+use Rattle.two_faced.proofs.Lossless.{fate-always, sound-always}
 use Rattle.two_faced.specs.Faced.{allowed_error, errors_allowed_in, clocks_broken}
 use Rattle.two_faced.proofs.QuietScript.{IsQuiet, quiet-script}
 use Rattle.two_faced.proofs.Rules.{RulesHold}

@@ -16,7 +16,7 @@ use Rattle.ttp_world.specs.Script.{IsValidScript, is_on}
 use Rattle.ttp_world.specs.World.{Numbers, node_past, world}
 use Rattle.ttp_world.proofs.LegalShapes.{legal-older}
 use Rattle.ttp_world.proofs.Worlds.{length-world}
-use Rattle.faced_clocks.specs.Errors.{bound}
+use Rattle.two_faced.specs.Errors.{bound}
 use Rattle.two_faced.specs.declared.seen.Seen.{Seen}
 use Rattle.two_faced.specs.Seen.{clock_beside, apart_after, seen_in, seen_since, seen_of}
 use Rattle.two_faced.proofs.Judged.{runs-clocks}

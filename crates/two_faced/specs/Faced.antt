@@ -8,7 +8,7 @@ use Rattle.ttp_world.specs.declared.script.Event.{Event}
 use Rattle.ttp_world.specs.declared.script.Event.TheVariants as event
 use Rattle.ttp_world.specs.declared.script.Script.{Script}
 use Rattle.ttp_world.specs.Hypothesis.{ClusterStart, drifts_hold, least_of, start_of, has_four_steady}
-pub use Rattle.faced_clocks.specs.Errors.{bound, is_faced_slot, allowed_error}
+pub use Rattle.two_faced.specs.Errors.{bound, is_faced_slot, allowed_error}
 use Rattle.hypothesis.specs.Errors.{errors_hold_within}
 use Rattle.hypothesis.specs.SoleStart.{sole_start}
 use Rattle.two_faced.specs.declared.faced.Faced.{Faced}

@@ -1,3 +1,4 @@
+pub mod Errors
 pub mod Faced
 pub mod Halved
 pub mod Seen

@@ -19,8 +19,21 @@
 //! The rules are those of `specs/Faced.antt`; what they share with the single-fault hypothesis is asked of
 //! the crate hypothesis. [`halved`] is the law that a script which keeps them is owed: every frame is
 //! judged correct, and the clocks stay within the bound. Its proof is safety's induction, with a plan
-//! without incidents (`proofs/QuietPlan.antt`) and the clocks of faced_clocks; theorems cites it from
+//! without incidents (`proofs/QuietPlan.antt`) and the clocks of [`clocks_near`]; theorems cites it from
 //! `proofs/Judged.antt`.
+//!
+//! [`clocks_near`] says nothing of members and verdicts: where no node is lost, and each frame was judged
+//! correct up to some slot (`NotedByPlan` of `safety_clocks`), any two clocks are within the bound after
+//! it, that of the two-faced node too, and every frame of the next slot comes inside each receiver's
+//! window, however wrongly that of the two-faced node is read. Of the plan a caller shows that it is good,
+//! followed, and without incidents. Each round pulls the clocks together, since three of the four notes
+//! that a node takes its average of are of other frames (`laws::pull` of `fta_sync`;
+//! `proofs/PulledNotes.antt`). After a correction any two are within 6 D n + 6 E + 2 microticks, and until
+//! the next one they drift apart by 2 D n more, where n is the number of slots, D the largest drift of a
+//! clock in one slot and E the largest reading error. That leaves 4 D n of the bound to spare. The
+//! invariant is `Round` of `proofs/FacedRounds.antt`: where the clocks were when the round began, how far
+//! they have drifted since, and that each note of another sender's frame tells where that sender's clock
+//! was then.
 //!
 //! In the run of `find_seen` each frame carries zeros (`specs/ZerosRun.antt`), and by frame_fates the
 //! clocks are those of every run by legal numbers, whatever hosts write and read (`proofs/SeenAlike.antt`).
@@ -51,7 +64,7 @@ use crate::bounds::window_broken;
 use crate::clocks::clocks_broken;
 pub use crate::faced::Faced;
 use crate::faults::faults_broken;
-pub use crate::law::halved;
+pub use crate::law::{clocks_near, halved};
 pub use crate::seen::{Seen, find_seen};
 use hypothesis::{Start, has_four_steady, sole_start, start_of};
 use ttp_base::NodeSet;

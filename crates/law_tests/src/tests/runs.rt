@@ -43,7 +43,7 @@ fn laws_of_clocks() {
 
 #[test]
 fn law_of_clocks_with_a_two_faced_sender() {
-    faced_clocks::laws::clocks_near();
+    two_faced::clocks_near();
 }
 
 #[test]

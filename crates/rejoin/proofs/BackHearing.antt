@@ -22,14 +22,14 @@ use Rattle.ttp_world.specs.Script.{is_ever_on, is_on, has_send_fault, has_receiv
 use Rattle.fault_plan.proofs.Hearing.{on-since, made-itself}
 use Rattle.fault_plan.proofs.Losses.{loser-tells}
 use Rattle.fault_plan.proofs.Sieves.{none-found}
-use Rattle.back_plan.proofs.Arms.{arm-only}
-use Rattle.back_plan.proofs.BackLosses.{fallen, loss_of, loss-asked}
-use Rattle.back_plan.proofs.Entries.{first-found}
-use Rattle.back_plan.proofs.EventLines.{alone-sends, alone-hears}
-use Rattle.back_plan.proofs.Lists.{none-below}
-use Rattle.back_plan.proofs.Runs.{IsBackRun}
-use Rattle.back_plan.proofs.Sounds.{IsClear, clear-after, IsNearArm}
-use Rattle.back_plan.proofs.Walk.{at, after}
+use Rattle.rejoin.proofs.Arms.{arm-only}
+use Rattle.rejoin.proofs.BackLosses.{fallen, loss_of, loss-asked}
+use Rattle.rejoin.proofs.Entries.{first-found}
+use Rattle.rejoin.proofs.EventLines.{alone-sends, alone-hears}
+use Rattle.rejoin.proofs.Lists.{none-below}
+use Rattle.rejoin.proofs.Runs.{IsBackRun}
+use Rattle.rejoin.proofs.Sounds.{IsClear, clear-after, IsNearArm}
+use Rattle.rejoin.proofs.Walk.{at, after}
 
 -- Nodes that are on.
 

@@ -28,15 +28,15 @@ use Rattle.fault_plan.proofs.Incidents.{found-tells, late-found, apart-found}
 use Rattle.fault_plan.proofs.KeptPlan.{due-ever}
 use Rattle.fault_plan.proofs.Returns.{any-of}
 use Rattle.fault_plan.proofs.Spaced.{all_in}
-use Rattle.back_plan.specs.BackPlan.{entry_slot, back_plan_of}
-use Rattle.back_plan.proofs.ArmLines.{armed-valid, return_at, IsOfLine, return-of}
-use Rattle.back_plan.proofs.Arms.{IsArmedIn, armed-in, arm-faulty, arm-quiet, arm-only, arm-stays}
-use Rattle.back_plan.proofs.BackSlots.{sender-same, sender-less, incident-made, back-loss}
-use Rattle.back_plan.proofs.Entries.{entry-of}
-use Rattle.back_plan.proofs.Runs.{IsBackRun}
-use Rattle.back_plan.proofs.Sounds.{faulty-ever}
-use Rattle.back_plan.proofs.Standing.{Standing, Clear, LostSince, ArmedSince, standing, arm-late}
-use Rattle.back_plan.proofs.Walk.{at, made, after, after-has, at-next, forgiven-late}
+use Rattle.rejoin.specs.BackPlan.{entry_slot, back_plan_of}
+use Rattle.rejoin.proofs.ArmLines.{armed-valid, return_at, IsOfLine, return-of}
+use Rattle.rejoin.proofs.Arms.{IsArmedIn, armed-in, arm-faulty, arm-quiet, arm-only, arm-stays}
+use Rattle.rejoin.proofs.BackSlots.{sender-same, sender-less, incident-made, back-loss}
+use Rattle.rejoin.proofs.Entries.{entry-of}
+use Rattle.rejoin.proofs.Runs.{IsBackRun}
+use Rattle.rejoin.proofs.Sounds.{faulty-ever}
+use Rattle.rejoin.proofs.Standing.{Standing, Clear, LostSince, ArmedSince, standing, arm-late}
+use Rattle.rejoin.proofs.Walk.{at, made, after, after-has, at-next, forgiven-late}
 
 -- those that became faulty in the first slots did so in them
 within-all : (list : Medl) (script : Script) (start : ClusterStart) (last slot : ℕ) → slot ≤ last

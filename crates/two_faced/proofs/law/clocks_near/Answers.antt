@@ -1,5 +1,5 @@
-use Rattle.faced_clocks.proofs.Clocks.{faced-clocks, faced-window}
-use Rattle.faced_clocks.proofs.laws.clocks_near.Goals as goal
+use Rattle.two_faced.proofs.FacedClocks.{faced-clocks, faced-window}
+use Rattle.two_faced.proofs.law.clocks_near.Goals as goal
 
 pub returns-clause-clocks : goal.returns-clause-clocks
 returns-clause-clocks c list script start z plan turn history valid follows none clocks =

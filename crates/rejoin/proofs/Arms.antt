@@ -14,10 +14,10 @@ use Rattle.ttp_world.specs.Returning.{is_near_fault, is_apart, is_arm_line, is_o
 use Rattle.ttp_world.specs.Returning.{is_heard, is_offered, is_forgiven}
 use Rattle.ttp_world.specs.Script.{arms, is_armed}
 use Rattle.fault_plan.proofs.Spaced.{all_in}
-use Rattle.back_plan.proofs.EventLines.{arm-near, same-arm}
-use Rattle.back_plan.proofs.Lists.{any-none, one-of-both}
-use Rattle.back_plan.proofs.Runs.{IsBackRun, joined-at}
-use Rattle.back_plan.proofs.Walk.{at, made, after, after-has, at-next, forgiven-late, forgiven-early}
+use Rattle.rejoin.proofs.EventLines.{arm-near, same-arm}
+use Rattle.rejoin.proofs.Lists.{any-none, one-of-both}
+use Rattle.rejoin.proofs.Runs.{IsBackRun, joined-at}
+use Rattle.rejoin.proofs.Walk.{at, made, after, after-has, at-next, forgiven-late, forgiven-early}
 
 pub record IsArmedIn (list : Medl) (script : Script) (start : ClusterStart) (k arm : ℕ) : Type 0 where
   pub less : k < length list.slots

@@ -19,9 +19,9 @@ use Rattle.fault_plan.proofs.Incidents.{some-slot}
 use Rattle.fault_plan.proofs.Incidents.{or-none}
 use Rattle.fault_plan.proofs.Spaced.{IsSpaced, IsOneMade, all_in, spaced-later, one-made}
 use Rattle.fault_plan.proofs.Tests.{or-false, never-found}
-use Rattle.back_plan.specs.BackPlan.{back_plan_of}
-use Rattle.back_plan.proofs.Runs.{IsBackRun}
-use Rattle.back_plan.proofs.Walk.{made}
+use Rattle.rejoin.specs.BackPlan.{back_plan_of}
+use Rattle.rejoin.proofs.Runs.{IsBackRun}
+use Rattle.rejoin.proofs.Walk.{made}
 
 pub some-rounds : (list : Medl) (script : Script) (start : ClusterStart) → IsBackRun list script start
     → 0 < two_rounds list

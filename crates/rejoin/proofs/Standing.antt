@@ -22,14 +22,14 @@ use Rattle.fault_plan.proofs.FateSteps.{next-listening}
 use Rattle.fault_plan.proofs.Incidents.{incident_made}
 use Rattle.fault_plan.proofs.Returns.{any-of, enters-by}
 use Rattle.fault_plan.proofs.Spaced.{all_in}
-use Rattle.back_plan.specs.BackPlan.{entry_slot, back_plan_of}
-use Rattle.back_plan.proofs.ArmLines.{armed-valid, armed-same, return_at, return-of, among-line, each-at}
-use Rattle.back_plan.proofs.Arms.{IsArmedIn, armed-in, arm-faulty, arm-quiet, arm-only, arm-stays}
-use Rattle.back_plan.proofs.BackIncidents.{incident-slot, strikes-slot, made-early}
-use Rattle.back_plan.proofs.BackLosses.{made-fresh}
-use Rattle.back_plan.proofs.Entries.{entry-of}
-use Rattle.back_plan.proofs.Runs.{IsBackRun}
-use Rattle.back_plan.proofs.Walk.{at, made, after, after-has, at-next, forgiven-late, forgiven-early}
+use Rattle.rejoin.specs.BackPlan.{entry_slot, back_plan_of}
+use Rattle.rejoin.proofs.ArmLines.{armed-valid, armed-same, return_at, return-of, among-line, each-at}
+use Rattle.rejoin.proofs.Arms.{IsArmedIn, armed-in, arm-faulty, arm-quiet, arm-only, arm-stays}
+use Rattle.rejoin.proofs.BackIncidents.{incident-slot, strikes-slot, made-early}
+use Rattle.rejoin.proofs.BackLosses.{made-fresh}
+use Rattle.rejoin.proofs.Entries.{entry-of}
+use Rattle.rejoin.proofs.Runs.{IsBackRun}
+use Rattle.rejoin.proofs.Walk.{at, made, after, after-has, at-next, forgiven-late, forgiven-early}
 
 -- Arm lines come four rounds after the start or later.
 

@@ -10,9 +10,9 @@ use Rattle.ttp_world.specs.Clock.{fta}
 use Rattle.precision.proofs.Averages.{IsUpTo, fta-few}
 use Rattle.precision.proofs.Rounds.{drift_in, product_more, product_upto, product_up, AreWithin, add_drift as wider, few_or_many, early_or_late}
 use Rattle.precision.proofs.Rounds.{HaveDrifted}
-use Rattle.faced_clocks.specs.Errors.{bound}
-use Rattle.faced_clocks.proofs.PulledNotes.{Locate, AreTurns, Pulled, averages_pull, Locate-append, Locate-moved}
-use Rattle.faced_clocks.proofs.PulledNotes.{length-noted}
+use Rattle.two_faced.specs.Errors.{bound}
+use Rattle.two_faced.proofs.PulledNotes.{Locate, AreTurns, Pulled, averages_pull, Locate-append, Locate-moved}
+use Rattle.two_faced.proofs.PulledNotes.{length-noted}
 
 -- how far apart clocks are after a round's correction: 6 D n + 6 E + 2
 abbrev pub after_pull : Medl → ℤ

@@ -10,8 +10,8 @@ use Rattle.ttp_world.specs.declared.script.Script.{Script}
 use Rattle.ttp_world.specs.Hypothesis.{ClusterStart}
 use Rattle.ttp_world.specs.Returning.{two_rounds, offers_place}
 use Rattle.fault_plan.proofs.Sieves.{none-found}
-use Rattle.back_plan.specs.BackPlan.{entry_slot}
-use Rattle.back_plan.proofs.Arms.{IsArmedIn}
+use Rattle.rejoin.specs.BackPlan.{entry_slot}
+use Rattle.rejoin.proofs.Arms.{IsArmedIn}
 
 -- the first of a range that passes
 pub record IsFirst (p : ℕ → Bool) (a n t : ℕ) : Type 0 where

@@ -22,15 +22,15 @@ use Rattle.fault_plan.specs.Kept.{kind_in, IsOffered}
 use Rattle.fault_plan.specs.Places.{planned_place}
 use Rattle.fault_plan.proofs.Hearing.{on-since}
 use Rattle.fault_plan.proofs.Places.{place-sender}
-use Rattle.back_plan.specs.BackPlan.{entry_slot, back_plan_of}
-use Rattle.back_plan.proofs.ArmLines.{armed-valid, IsOfLine, return-of}
-use Rattle.back_plan.proofs.Arms.{IsArmedIn, armed-in, arm-only}
-use Rattle.back_plan.proofs.Entries.{IsEntryOf, entry-of}
-use Rattle.back_plan.proofs.ReturnedPlan.{armed-after}
-use Rattle.back_plan.proofs.Runs.{IsBackRun}
-use Rattle.back_plan.proofs.Sounds.{Soundly, BeingClear, NearArm, sound-how}
-use Rattle.back_plan.proofs.Standing.{arm-late}
-use Rattle.back_plan.proofs.Walk.{at, after}
+use Rattle.rejoin.specs.BackPlan.{entry_slot, back_plan_of}
+use Rattle.rejoin.proofs.ArmLines.{armed-valid, IsOfLine, return-of}
+use Rattle.rejoin.proofs.Arms.{IsArmedIn, armed-in, arm-only}
+use Rattle.rejoin.proofs.Entries.{IsEntryOf, entry-of}
+use Rattle.rejoin.proofs.ReturnedPlan.{armed-after}
+use Rattle.rejoin.proofs.Runs.{IsBackRun}
+use Rattle.rejoin.proofs.Sounds.{Soundly, BeingClear, NearArm, sound-how}
+use Rattle.rejoin.proofs.Standing.{arm-late}
+use Rattle.rejoin.proofs.Walk.{at, after}
 
 -- The round of a slot.
 

@@ -37,12 +37,12 @@ use Rattle.safety_clocks.specs.NotedByPlan.{IsSoundIn, StartedByPlan, NotedInSlo
 use Rattle.safety_clocks.proofs.NearNotes.{clock_moved, clock-next, notes-next, index-of}
 use Rattle.safety_clocks.proofs.RoundNotes.{Counted, sound-goes, sender-in, place-slot}
 use Rattle.safety_clocks.proofs.Together.{number-of, counted-run}
-use Rattle.faced_clocks.specs.Errors.{bound}
-use Rattle.faced_clocks.proofs.PulledNotes.{Locate, AreTurns, test_of}
-use Rattle.faced_clocks.proofs.Rounds.{after_pull, width, in_round, Round, round_begins, round_goes, round_ends}
-use Rattle.faced_clocks.proofs.Rounds.{round_within, in_round_bound}
-use Rattle.faced_clocks.proofs.Slots.{IsFacing, Group, to_sound, of_sound, drifts, errors, errors_first, still}
-use Rattle.faced_clocks.proofs.Slots.{stay, frame_is, have_drifted, slot_notes}
+use Rattle.two_faced.specs.Errors.{bound}
+use Rattle.two_faced.proofs.PulledNotes.{Locate, AreTurns, test_of}
+use Rattle.two_faced.proofs.FacedRounds.{after_pull, width, in_round, Round, round_begins, round_goes, round_ends}
+use Rattle.two_faced.proofs.FacedRounds.{round_within, in_round_bound}
+use Rattle.two_faced.proofs.FacedSlots.{IsFacing, Group, to_sound, of_sound, drifts, errors, errors_first, still}
+use Rattle.two_faced.proofs.FacedSlots.{stay, frame_is, have_drifted, slot_notes}
 use Rattle.fta_sync.proofs.Sorted.{le_trans as below_too}
 use Rattle.ttp_world.proofs.SmallTests.{plus_none}
 

@@ -15,7 +15,7 @@ use Rattle.ttp_world.specs.Returning.{four_rounds, touches, is_line_of, is_arm_l
 use Rattle.ttp_world.specs.Script.{arms, is_armed, is_send_fault, is_receive_fault, has_send_fault, has_receive_fault}
 use Rattle.ttp_world.specs.Script.{jump_in, has_jump}
 use Rattle.fault_plan.proofs.Returns.{any-of}
-use Rattle.back_plan.proofs.Lists.{none-stricter}
+use Rattle.rejoin.proofs.Lists.{none-stricter}
 
 -- An arm line.
 

@@ -22,14 +22,14 @@ use Rattle.fault_plan.specs.Returned.{IsSoundAgain, IsPlanOfReturns}
 use Rattle.fault_plan.proofs.Hearing.{on-ever}
 use Rattle.fault_plan.proofs.Incidents.{incident_made}
 use Rattle.fault_plan.proofs.Spaced.{all_in}
-use Rattle.back_plan.specs.BackPlan.{back_plan_of}
-use Rattle.back_plan.proofs.Arms.{IsArmedIn, armed-in, arm-quiet, arm-only, arm-stays}
-use Rattle.back_plan.proofs.BackIncidents.{incident-slot}
-use Rattle.back_plan.proofs.BackLosses.{Origin, ByJump, ByLoss, origin-of, made-fresh}
-use Rattle.back_plan.proofs.Entries.{entry-of}
-use Rattle.back_plan.proofs.Runs.{IsBackRun}
-use Rattle.back_plan.proofs.Standing.{Standing, Clear, LostSince, ArmedSince, standing, entry-by, arm-late}
-use Rattle.back_plan.proofs.Walk.{at, made, after, after-has, at-next}
+use Rattle.rejoin.specs.BackPlan.{back_plan_of}
+use Rattle.rejoin.proofs.Arms.{IsArmedIn, armed-in, arm-quiet, arm-only, arm-stays}
+use Rattle.rejoin.proofs.BackIncidents.{incident-slot}
+use Rattle.rejoin.proofs.BackLosses.{Origin, ByJump, ByLoss, origin-of, made-fresh}
+use Rattle.rejoin.proofs.Entries.{entry-of}
+use Rattle.rejoin.proofs.Runs.{IsBackRun}
+use Rattle.rejoin.proofs.Standing.{Standing, Clear, LostSince, ArmedSince, standing, entry-by, arm-late}
+use Rattle.rejoin.proofs.Walk.{at, made, after, after-has, at-next}
 use Rattle.ttp_world.proofs.RangeFacts.{any-range}
 
 -- Whoever is faulty is a node of the list that is on at some time.

@@ -21,17 +21,17 @@ use Rattle.fault_plan.proofs.Members.{first-sender, first-good}
 use Rattle.fault_plan.proofs.Persists.{sound-first}
 use Rattle.fault_plan.proofs.Sieves.{none-found}
 use Rattle.fault_plan.proofs.Spaced.{spaced-all}
-use Rattle.back_plan.specs.BackPlan.{back_plan_of, ReturnsByPlan}
-use Rattle.back_plan.proofs.ArmLines.{armed-valid, armed-same}
-use Rattle.back_plan.proofs.Arms.{armed-in}
-use Rattle.back_plan.proofs.BackBounds.{back-bounds, back-flipped, back-window}
-use Rattle.back_plan.proofs.BackGood.{back-good}
-use Rattle.back_plan.proofs.BackRules.{BackRulesHold, back-rules-hold}
-use Rattle.back_plan.proofs.BackSlots.{back-heard}
-use Rattle.back_plan.proofs.Offers.{offered}
-use Rattle.back_plan.proofs.ReturnedPlan.{returned-plan}
-use Rattle.back_plan.proofs.Runs.{IsBackRun, armed-may}
-use Rattle.back_plan.proofs.Standing.{arm-late}
+use Rattle.rejoin.specs.BackPlan.{back_plan_of, ReturnsByPlan}
+use Rattle.rejoin.proofs.ArmLines.{armed-valid, armed-same}
+use Rattle.rejoin.proofs.Arms.{armed-in}
+use Rattle.rejoin.proofs.BackBounds.{back-bounds, back-flipped, back-window}
+use Rattle.rejoin.proofs.BackGood.{back-good}
+use Rattle.rejoin.proofs.BackRules.{BackRulesHold, back-rules-hold}
+use Rattle.rejoin.proofs.BackSlots.{back-heard}
+use Rattle.rejoin.proofs.Offers.{offered}
+use Rattle.rejoin.proofs.ReturnedPlan.{returned-plan}
+use Rattle.rejoin.proofs.Runs.{IsBackRun, armed-may}
+use Rattle.rejoin.proofs.Standing.{arm-late}
 
 back-run : (list : Medl) (script : Script) (slot : ℕ) → IsValid list → IsValidScript list script
     → (rules : BackRulesHold list script slot) → IsBackRun list script rules.start

@@ -5,8 +5,8 @@ ghost use Rattle.ttp_world.specs.declared.keep.Back.TheVariants as back;
 ghost use Rattle.ttp_world.specs.Hypothesis.{start_of};
 ghost use Rattle.ttp_world.specs.Returning.{returns};
 ghost use Rattle.fault_plan.specs.WorkedPlan.{seven_nodes, first_start, one_return};
-ghost use Rattle.back_plan.specs.BackPlan.{entry_slot, back_plan_of};
-ghost use Rattle.back_plan.specs.WorkedCase.{one_armed};
+ghost use Rattle.rejoin.specs.BackPlan.{entry_slot, back_plan_of};
+ghost use Rattle.rejoin.specs.WorkedCase.{one_armed};
 
 /// Node 2 of seven is lost in slot 30, the sixteenth from the start on, and armed two rounds later. Slot
 /// 44 is its own, in which nobody else sends; so it enters in slot 45, by node 3's frame.

@@ -18,13 +18,13 @@ use Rattle.fault_plan.specs.Fates.{is_sound_after}
 use Rattle.fault_plan.specs.Fates.{lost_since, turned}
 use Rattle.fault_plan.proofs.FateSteps.{strikes, sound-fate, next-same, struck-missed}
 use Rattle.fault_plan.proofs.Hearing.{on-ever}
-use Rattle.back_plan.specs.BackPlan.{entry_slot, back_plan_of}
-use Rattle.back_plan.proofs.Arms.{IsArmedIn, arm-faulty}
-use Rattle.back_plan.proofs.BackIncidents.{strikes-slot}
-use Rattle.back_plan.proofs.BackLosses.{Origin, ByJump, ByLoss, origin-of, jumpers, fallen, loss_of}
-use Rattle.back_plan.proofs.Runs.{IsBackRun}
-use Rattle.back_plan.proofs.Standing.{Standing, Clear, LostSince, ArmedSince, standing, entry-by, armed-by-line}
-use Rattle.back_plan.proofs.Walk.{at, made, after, after-has, at-next}
+use Rattle.rejoin.specs.BackPlan.{entry_slot, back_plan_of}
+use Rattle.rejoin.proofs.Arms.{IsArmedIn, arm-faulty}
+use Rattle.rejoin.proofs.BackIncidents.{strikes-slot}
+use Rattle.rejoin.proofs.BackLosses.{Origin, ByJump, ByLoss, origin-of, jumpers, fallen, loss_of}
+use Rattle.rejoin.proofs.Runs.{IsBackRun}
+use Rattle.rejoin.proofs.Standing.{Standing, Clear, LostSince, ArmedSince, standing, entry-by, armed-by-line}
+use Rattle.rejoin.proofs.Walk.{at, made, after, after-has, at-next}
 use Rattle.ttp_world.proofs.WorldFacts.{has_node-append}
 
 -- Faulty nodes are ever on.

@@ -21,17 +21,17 @@ use Rattle.fault_plan.specs.Kept.{IsHeardByPlan}
 use Rattle.fault_plan.proofs.Hearing.{on-ever, sending-is, receiving-is, jumping-is}
 use Rattle.fault_plan.proofs.Incidents.{incident_made}
 use Rattle.fault_plan.proofs.Losses.{IsMadeBy, each-member}
-use Rattle.back_plan.specs.BackPlan.{back_plan_of}
-use Rattle.back_plan.proofs.Arms.{arm-quiet, arm-stays}
-use Rattle.back_plan.proofs.BackHearing.{on-now, other-clear, clear-loses, near-hears, near-heard, near-same}
-use Rattle.back_plan.proofs.BackIncidents.{makes-slot, incident-slot}
-use Rattle.back_plan.proofs.BackLosses.{Origin, ByJump, ByLoss, origin-of, fallen, fallen-none, jumpers, loss_of}
-use Rattle.back_plan.proofs.Entries.{entry-of}
-use Rattle.back_plan.proofs.EventLines.{alone-still}
-use Rattle.back_plan.proofs.Runs.{IsBackRun}
-use Rattle.back_plan.proofs.Sounds.{IsClear, IsNearArm, Soundly, BeingClear, NearArm, sound-how, listens-near}
-use Rattle.back_plan.proofs.Standing.{Standing, Clear, LostSince, ArmedSince, IsLostSince, IsNext, lost-stays, standing}
-use Rattle.back_plan.proofs.Walk.{at, made, after, at-next}
+use Rattle.rejoin.specs.BackPlan.{back_plan_of}
+use Rattle.rejoin.proofs.Arms.{arm-quiet, arm-stays}
+use Rattle.rejoin.proofs.BackHearing.{on-now, other-clear, clear-loses, near-hears, near-heard, near-same}
+use Rattle.rejoin.proofs.BackIncidents.{makes-slot, incident-slot}
+use Rattle.rejoin.proofs.BackLosses.{Origin, ByJump, ByLoss, origin-of, fallen, fallen-none, jumpers, loss_of}
+use Rattle.rejoin.proofs.Entries.{entry-of}
+use Rattle.rejoin.proofs.EventLines.{alone-still}
+use Rattle.rejoin.proofs.Runs.{IsBackRun}
+use Rattle.rejoin.proofs.Sounds.{IsClear, IsNearArm, Soundly, BeingClear, NearArm, sound-how, listens-near}
+use Rattle.rejoin.proofs.Standing.{Standing, Clear, LostSince, ArmedSince, IsLostSince, IsNext, lost-stays, standing}
+use Rattle.rejoin.proofs.Walk.{at, made, after, at-next}
 use Rattle.ttp_world.proofs.WorldFacts.{has_node-append}
 
 pub sender-same : (list : Medl) (script : Script) (start : ClusterStart) (turn slot : ℕ) → slot ≡ start.slot + turn

@@ -12,7 +12,7 @@ use Rattle.ttp_world.specs.Hypothesis.{expected_sender, jumps_now, jumpers_in}
 use Rattle.ttp_world.specs.Script.{is_on, has_jump}
 use Rattle.ttp_world.proofs.Filters.{each-sieve}
 use Rattle.fault_plan.proofs.Losses.{IsMadeBy, made-by, each-member}
-use Rattle.back_plan.proofs.Walk.{at, made}
+use Rattle.rejoin.proofs.Walk.{at, made}
 use Rattle.ttp_world.proofs.WorldFacts.{has_node-append}
 
 abbrev pub jumpers : Medl → Script → ClusterStart → ℕ → List ℕ

@@ -30,10 +30,10 @@ use Rattle.fault_plan.proofs.Returns.{none-enters}
 use Rattle.safety_clocks.specs.NotedByPlan.{IsSoundIn, NotedInSlot}
 use Rattle.safety_clocks.proofs.NearNotes.{clock_moved, drift-moves as drift_moves}
 use Rattle.safety_clocks.proofs.RoundNotes.{none-silent, sender-in}
-use Rattle.faced_clocks.specs.Errors.{bound, is_faced_slot, allowed_error, HasFacedClocks}
-use Rattle.faced_clocks.proofs.Lossless.{sound-always, none-returns}
-use Rattle.faced_clocks.proofs.PulledNotes.{Locate, AreTurns, AreTurns-later}
-use Rattle.faced_clocks.proofs.Rounds.{width, Round, SlotNotes}
+use Rattle.two_faced.specs.Errors.{bound, is_faced_slot, allowed_error, HasFacedClocks}
+use Rattle.two_faced.proofs.Lossless.{sound-always, none-returns}
+use Rattle.two_faced.proofs.PulledNotes.{Locate, AreTurns, AreTurns-later}
+use Rattle.two_faced.proofs.FacedRounds.{width, Round, SlotNotes}
 use Rattle.precision.proofs.ClockBounds.{within_bound as upto_of_test}
 
 -- what the law asks of list, script and plan

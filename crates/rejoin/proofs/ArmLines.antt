@@ -11,8 +11,8 @@ use Rattle.ttp_world.specs.declared.script.Script.{Script}
 use Rattle.ttp_world.specs.Hypothesis.{ClusterStart}
 use Rattle.ttp_world.specs.Script.{arms, is_armed, IsValidScript, IsValidEvent}
 use Rattle.fault_plan.specs.Plan.{Return, is_armed_there, is_armed_by}
-use Rattle.back_plan.specs.BackPlan.{entry_slot, return_of, back_plan_of}
-use Rattle.back_plan.proofs.EventLines.{arm-line}
+use Rattle.rejoin.specs.BackPlan.{entry_slot, return_of, back_plan_of}
+use Rattle.rejoin.proofs.EventLines.{arm-line}
 
 abbrev returns_in : Medl → Script → ClusterStart → List Event → List Return
 returns_in list script start events = filter_map (return_of list script start) events

@@ -16,8 +16,8 @@ use Rattle.ttp_world.specs.Starts.{StartsAlone}
 use Rattle.fault_plan.specs.Kept.{IsWithinBounds}
 use Rattle.fault_plan.proofs.FaultySets.{AreOnBy}
 use Rattle.fault_plan.proofs.Spaced.{IsSpaced, all_in, each-split as any-append}
-use Rattle.back_plan.proofs.Lists.{none-below}
-use Rattle.back_plan.proofs.Walk.{made}
+use Rattle.rejoin.proofs.Lists.{none-below}
+use Rattle.rejoin.proofs.Walk.{made}
 
 pub record IsBackRun (list : Medl) (script : Script) (start : ClusterStart) : Type 0 where
   pub valid : IsValid list

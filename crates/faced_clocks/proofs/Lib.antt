@@ -1,5 +1,0 @@
-pub mod PulledNotes
-pub mod Rounds
-pub mod Lossless
-pub mod Slots
-pub mod Clocks
