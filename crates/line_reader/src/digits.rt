@@ -26,9 +26,9 @@ fn hex_value(digit: u8) -> u8
     }
 }
 
-// The number that a word of digits is.
+/// The number that a word of at most six digits is, in lower case.
 #[tactic(auto, unfolding(crate::specs::Reading::hex_in))]
-fn hex_in(word: &[u8]) -> Option<u32>
+pub fn hex_in(word: &[u8]) -> Option<u32>
     requires { length word.now ≤ 6 }
     ensures value { result ≡ hex_in word.now }
     ensures small { IfSome result (λ n. n < 16 ^ length word.now) }

@@ -18,7 +18,7 @@
 //! A form is a list of labels; `src/fields.rt` cuts a line into the words that follow them, and each word is read for
 //! itself. `specs/Reading.antt` says the same as functions. `proofs/ReadWords.antt` and `ReadLines.antt` show that
 //! what is read is what the line says, `proofs/WrittenWords.antt` and `WrittenLines.antt` that the line of each value
-//! that fits is read as that value.
+//! that fits is read as that value. whole_campaign has the digits of memberships read too, by [`hex_in`].
 //!
 //! The bytes of a line are gone over once for each form that they begin as. Threads share nothing here. The crate
 //! asks of a line what its form does, and not whether it belongs into a trace. It takes no memory, forms no line, and
@@ -33,5 +33,6 @@ mod numerals;
 mod read;
 mod trace_line;
 
+pub use digits::hex_in;
 pub use read::{read_line, read_node_line};
 pub use trace_line::{NodeLine, TraceLine, Word};

@@ -4,10 +4,10 @@ ghost use Rattle.line_text.specs.Numerals.{numeral_in};
 ghost use Rattle.line_reader.specs.TraceLines.{slot_digits};
 ghost use Rattle.whole_campaign.specs.Words.{node_digits, is_dash, is_reason, leaving_in, node_in_word, with_node_word};
 ghost use Rattle.whole_campaign.specs.Words.{no_nodes_yet, nodes_listed, with_set_word, no_sets_yet, sets_listed, split_in};
-ghost use Rattle.whole_campaign.specs.Words.{words_listed};
+ghost use Rattle.whole_campaign.specs.Words.{members_listed, words_listed};
 
 use crate::cut::{first_listed, word_behind};
-use crate::hex::members_listed;
+use line_reader::hex_in;
 use line_text::{after_label, numeral_in};
 
 // The most digits of a node, and of a slot.
@@ -145,6 +145,23 @@ pub(crate) fn nodes_listed(kind: Kind, nodes: u8, list: &[u8]) -> Option<u8>
     }
     let all = nodes_of_words(kind, nodes, list)?;
     Some(all.count)
+}
+
+// How many members a set has that is written in four digits or six, if all of them are below so many nodes.
+#[tactic(auto, unfolding(crate::specs::Words::members_listed), using(ttp_base::proofs::NodeSets::words))]
+fn members_listed(nodes: u8, word: &[u8]) -> Option<u32>
+    requires { nodes ≤ 24 }
+    ensures { result ≡ members_listed nodes word.now }
+{
+    if word.len() != 6 && word.len() != 4 {
+        return None;
+    }
+    let bits = hex_in(word)?;
+    if bits < 1 << nodes {
+        Some(bits.count_ones())
+    } else {
+        None
+    }
 }
 
 // One word more of a list of memberships.
