@@ -6,3 +6,6 @@ pub mod Jumps
 pub mod Rejoining
 pub mod Moves
 pub mod Pasts
+pub mod ListFiles
+pub mod ScriptFiles
+pub mod BusyScript

@@ -1,7 +1,0 @@
-use Rattle.std.proofs.Common.{refl}
-use Rattle.list_rows.proofs.OnLiterals.{lists_on_literals}
-use Rattle.list_rows.proofs.right_payload.Goals as goal
-
-pub returns : goal.returns
-unfolding lists_on_literals
-returns c = record { most_and_none = refl }
