@@ -36,7 +36,7 @@ use Rattle.safety_laws.specs.NodeSlot.{NodeSlot, node_slot, next_past}
 use Rattle.safety_laws.proofs.NodeSlots.{node_past-step}
 use Rattle.safety_laws.proofs.StartSlot.{first_due}
 use Rattle.safety_laws.proofs.Waiting.{WaitAll-world}
-use Rattle.safety.proofs.Kept.{kept-safe}
+use Rattle.safety_laws.proofs.Kept.{kept-safe}
 use Rattle.rejoin.proofs.Returned.{returned-safe}
 use Rattle.rejoin.proofs.ReturnsByPlan.{returned-by_plan}
 use Rattle.campaign.specs.Cost.{is_kept, is_owed, says_yes, says_yes_if, faulty_by_test, faulty_if, is_firm, firm_members}

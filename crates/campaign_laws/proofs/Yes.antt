@@ -30,7 +30,7 @@ use Rattle.ttp_world.proofs.LegalShapes.{legal-older}
 use Rattle.fault_plan.proofs.KeptPlan.{kept-plan}
 use Rattle.safety_laws.proofs.StartSlot.{first_due}
 use Rattle.safety_laws.proofs.Waiting.{WaitAll, WaitAll-world}
-use Rattle.safety.proofs.Kept.{kept-safe}
+use Rattle.safety_laws.proofs.Kept.{kept-safe}
 use Rattle.rejoin.proofs.Returned.{returned-safe}
 use Rattle.rejoin.proofs.ReturnsByPlan.{returned-by_plan}
 use Rattle.campaign.specs.Cost.{is_kept, is_owed, says_yes, says_yes_if, faulty_by_test, faulty_if, is_hurt_in, is_hurt}
@@ -40,7 +40,7 @@ use Rattle.campaign.specs.declared.cost.Cost.{Cost}
 use Rattle.campaign.specs.ZerosWorld.{zeros_world}
 use Rattle.campaign_laws.proofs.Alike.{cost-alike, zeros-legal}
 use Rattle.campaign_laws.proofs.Calm.{IsCalm, safe-calm, back-calm}
-use Rattle.safety_steps.proofs.Begins.{waiting-unleft as waiting-stays}
+use Rattle.safety_laws.proofs.Begins.{waiting-unleft as waiting-stays}
 
 -- nobody is hurt, and no memberships are split
 pub record IsUnharmed (cost : Cost) : Type 0 where

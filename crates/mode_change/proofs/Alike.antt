@@ -9,7 +9,7 @@ use Rattle.ttp_world.specs.declared.node.Entry.TheVariants as entry
 use Rattle.ttp_world.specs.declared.script.Script.{Script}
 use Rattle.ttp_world.specs.Diary.{History, entry_of, diary_of, continues_stint, place_of}
 use Rattle.precision.specs.Together.{IsIn}
-use Rattle.safety.specs.SameFrames.{AcceptsAlike, AcceptsAlikeSince, begins_at_zero, StandsAlike, StandsAlikeSince}
+use Rattle.safety_laws.specs.SameFrames.{AcceptsAlike, AcceptsAlikeSince, begins_at_zero, StandsAlike, StandsAlikeSince}
 use Rattle.mode_change.specs.declared.node.Modes.{Modes}
 use Rattle.mode_change.specs.Modes.{mode_requested, modes_with, with_request, ends_cycle, switched_at, modes_of}
 use Rattle.mode_change.specs.OneMode.{RunsOneMode}

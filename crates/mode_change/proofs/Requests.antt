@@ -20,8 +20,8 @@ use Rattle.ttp_world.specs.Past.{NodePast}
 use Rattle.ttp_world.specs.Reception.{Hearing, expected_of}
 use Rattle.ttp_world.specs.World.{slot_after, node_of, frames_in, hearing_in}
 use Rattle.precision.specs.Together.{IsIn}
-use Rattle.safety.specs.SameFrames.{accepts, sends_frame, payload_of_number, message_given, AcceptsAlike}
-use Rattle.safety.specs.SameFrames.{begins_at_zero}
+use Rattle.safety_laws.specs.SameFrames.{accepts, sends_frame, payload_of_number, message_given, AcceptsAlike}
+use Rattle.safety_laws.specs.SameFrames.{begins_at_zero}
 use Rattle.mode_change.specs.Modes.{mode_asked, mode_sent, mode_delivered, mode_requested}
 
 -- One entry.

@@ -58,5 +58,5 @@ pub fn one_mode(list: &Medl, script: &Script, start: u32)
         → (let history = world list.now script.now numbers in
         RunsOneMode list.now script.now (is_correct_after list.now script.now (newest_slot history)) history) }
 {
-    safety::same_frames(list, script, start);
+    safety_laws::same_frames(list, script, start);
 }

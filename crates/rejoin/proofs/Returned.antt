@@ -12,10 +12,10 @@ use Rattle.ttp_world.specs.World.{Numbers, world}
 use Rattle.ttp_world.proofs.Worlds.{length-world}
 use Rattle.rejoin.specs.BackPlan.{back_plan_of, ReturnsByPlan}
 use Rattle.rejoin.proofs.ReturnsByPlan.{returned-by_plan}
-use Rattle.safety_steps.specs.Run.{IsBegun, StandsBack}
-use Rattle.safety_steps.proofs.SafeBack.{safe-back}
-use Rattle.safety.specs.ByPlan.{IsByPlan}
-use Rattle.safety.proofs.Together.{clocks-hold, run-by_plan}
+use Rattle.safety_laws.specs.PlannedRun.{IsBegun, StandsBack}
+use Rattle.safety_laws.specs.ByPlan.{IsByPlan}
+use Rattle.safety_laws.proofs.SafeBack.{safe-back}
+use Rattle.safety_laws.proofs.Together.{clocks-hold, run-by_plan}
 
 module _ (list : Medl) (script : Script) (slot : ℕ) (valid : IsValid list) (script_valid : IsValidScript list script)
     (kept : returns list script ≡ back.Yes slot) where

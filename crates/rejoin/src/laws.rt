@@ -10,7 +10,7 @@ ghost use Rattle.ttp_world.specs.Returning.{returns};
 ghost use Rattle.ttp_world.specs.Script.{IsValidScript};
 ghost use Rattle.ttp_world.specs.World.{Numbers, world};
 ghost use Rattle.rejoin.specs.BackPlan.{back_plan_of, ReturnsByPlan};
-ghost use Rattle.safety_steps.specs.Run.{StandsBack};
+ghost use Rattle.safety_laws.specs.PlannedRun.{StandsBack};
 
 /// A valid script whose test says that its armed nodes are owed their places again follows a good plan
 /// of faults from the start on, which is that of its faulty nodes and its arm lines.
@@ -20,7 +20,7 @@ pub fn returned_by_plan()
 {}
 
 /// A script whose test says that its armed nodes get their places again is a run by the plan of its faulty
-/// nodes and its arm lines: so `safety_steps::laws::back_safe_by_fate` says what a correct node holds.
+/// nodes and its arm lines: so `safety_laws::steps::back_safe_by_fate` says what a correct node holds.
 pub fn stands()
     ensures { (list : Medl) (script : Script) (slot : ℕ) (numbers : Numbers) → IsValid list → IsValidScript list script
         → returns list script ≡ back.Yes slot → IsLegal list script numbers

@@ -5,8 +5,8 @@
 //! faulty is a loss, and each arm line a return: the node listens from its slot on, and enters by the first
 //! frame of another node that is not faulty and that carries a C-state. [`laws::returned_by_plan`] takes the
 //! rules apart, once and for all: the plan is good, in the words of `fault_plan`, and the script follows it.
-//! By such a plan `safety` has the induction on members and clocks, and `safety_steps` says which tests
-//! follow from it: here they are put together, with no premise left.
+//! By such a plan safety_laws has the induction on members and clocks, and says which tests follow from
+//! it: here they are put together, with no premise left.
 //!
 //! A caller of [`back_safe`] has a valid list and script whose test says `yes`, with the slot of the start;
 //! what it says is of all legal message numbers. theorems cites it as `returned-safe` of

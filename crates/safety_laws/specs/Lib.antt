@@ -9,3 +9,15 @@ pub mod Listening
 pub mod Start
 pub mod WorkedSlots
 pub mod Deliveries
+pub mod ByFate
+pub mod Gone
+pub mod ClocksHold
+pub mod PlanTurn
+pub mod PlannedRun
+pub mod NotedByPlan
+pub mod Entries
+pub mod Jumps
+pub mod WorkedJump
+pub mod ByPlan
+pub mod SameFrames
+pub mod WorkedRuns

@@ -9,7 +9,7 @@ use Rattle.ttp_world.specs.Hypothesis.{needed, is_correct_after}
 use Rattle.ttp_world.specs.Safety.{newest_slot, IsSafe}
 use Rattle.precision.specs.Spread.{spread}
 use Rattle.precision.specs.Together.{IsIn, clock_at, measured}
-use Rattle.safety.specs.SameFrames.{AcceptsAlikeSince}
+use Rattle.safety_laws.specs.SameFrames.{AcceptsAlikeSince}
 use Rattle.mode_change.specs.OneMode.{RunsOneMode}
 use Rattle.theorems.specs.Since.{HoldsSince}
 

@@ -1,6 +1,6 @@
 //! The theorems on runs, each for a whole run slot by slot, with no premise but what a test of the script answered.
 //!
-//! The crates below have each theorem for the newest slot of a run: `safety` and `mode_change` for a script that
+//! The crates below have each theorem for the newest slot of a run: `safety_laws` and `mode_change` for a script that
 //! keeps the single-fault hypothesis, `rejoin` for one whose armed nodes are owed their places, `two_faced` for one
 //! two-faced sender. Here they are put together as what a caller of the bench is promised: what holds after each
 //! slot from the start on (`HoldsSince` of `specs/Since.antt`; `specs/KeptRun.antt`, `specs/FacedRun.antt`,

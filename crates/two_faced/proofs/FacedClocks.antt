@@ -33,10 +33,10 @@ use Rattle.fault_plan.specs.Places.{planned_place}
 use Rattle.fault_plan.proofs.Counts.{four-measured}
 use Rattle.fault_plan.proofs.Members.{first-sender}
 use Rattle.fault_plan.proofs.Returns.{none-enters}
-use Rattle.safety_clocks.specs.NotedByPlan.{IsSoundIn, StartedByPlan, NotedInSlot, NotedByPlan}
-use Rattle.safety_clocks.proofs.NearNotes.{clock_moved, clock-next, notes-next, index-of}
-use Rattle.safety_clocks.proofs.RoundNotes.{Counted, sound-goes, sender-in, place-slot}
-use Rattle.safety_clocks.proofs.Together.{number-of, counted-run}
+use Rattle.safety_laws.specs.NotedByPlan.{IsSoundIn, StartedByPlan, NotedInSlot, NotedByPlan}
+use Rattle.safety_laws.proofs.NearNotes.{clock_moved, clock-next, notes-next, index-of}
+use Rattle.safety_laws.proofs.RoundNotes.{Counted, sound-goes, sender-in, place-slot}
+use Rattle.safety_laws.proofs.BeganTogether.{number-of, counted-run}
 use Rattle.two_faced.specs.Errors.{bound}
 use Rattle.two_faced.proofs.PulledNotes.{Locate, AreTurns, test_of}
 use Rattle.two_faced.proofs.FacedRounds.{after_pull, width, in_round, Round, round_begins, round_goes, round_ends}

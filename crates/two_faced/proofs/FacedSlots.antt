@@ -27,9 +27,9 @@ use Rattle.fault_plan.specs.Fates.{is_good_slot}
 use Rattle.fault_plan.specs.Kept.{FollowsPlan}
 use Rattle.fault_plan.specs.Places.{planned_place}
 use Rattle.fault_plan.proofs.Returns.{none-enters}
-use Rattle.safety_clocks.specs.NotedByPlan.{IsSoundIn, NotedInSlot}
-use Rattle.safety_clocks.proofs.NearNotes.{clock_moved, drift-moves as drift_moves}
-use Rattle.safety_clocks.proofs.RoundNotes.{none-silent, sender-in}
+use Rattle.safety_laws.specs.NotedByPlan.{IsSoundIn, NotedInSlot}
+use Rattle.safety_laws.proofs.NearNotes.{clock_moved, drift-moves as drift_moves}
+use Rattle.safety_laws.proofs.RoundNotes.{none-silent, sender-in}
 use Rattle.two_faced.specs.Errors.{bound, is_faced_slot, allowed_error, HasFacedClocks}
 use Rattle.two_faced.proofs.Lossless.{sound-always, none-returns}
 use Rattle.two_faced.proofs.PulledNotes.{Locate, AreTurns, AreTurns-later}

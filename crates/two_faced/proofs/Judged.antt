@@ -27,10 +27,10 @@ use Rattle.fault_plan.specs.Fates.{is_sound_after, is_good_slot}
 use Rattle.fault_plan.specs.Ledger.{planned_members}
 use Rattle.fault_plan.proofs.Returns.{never-listens}
 use Rattle.safety_laws.specs.Groups.{held_with}
-use Rattle.safety_clocks.specs.NotedByPlan.{NotesNothing, NotedInSlot}
-use Rattle.safety_steps.specs.ByFate.{IsSoundAt, IsByFate}
-use Rattle.safety.specs.ByPlan.{IsByPlan}
-use Rattle.safety.proofs.Together.{KeepsClocks, run-by_plan}
+use Rattle.safety_laws.specs.NotedByPlan.{NotesNothing, NotedInSlot}
+use Rattle.safety_laws.specs.ByFate.{IsSoundAt, IsByFate}
+use Rattle.safety_laws.specs.ByPlan.{IsByPlan}
+use Rattle.safety_laws.proofs.Together.{KeepsClocks, run-by_plan}
 use Rattle.two_faced.specs.Errors.{bound}
 use Rattle.two_faced.proofs.FacedClocks.{faced-clocks, faced-window}
 use Rattle.two_faced.proofs.Lossless.{fate-always}

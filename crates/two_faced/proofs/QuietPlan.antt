@@ -26,7 +26,7 @@ use Rattle.fault_plan.proofs.Bounds.{both-hold, wide}
 use Rattle.fault_plan.proofs.KeptPlan.{on-always, due-ever}
 use Rattle.fault_plan.proofs.Returns.{none-among, never-listens}
 use Rattle.fault_plan.proofs.Sieves.{none-found}
-use Rattle.safety_steps.specs.Run.{IsBegun}
+use Rattle.safety_laws.specs.PlannedRun.{IsBegun}
 use Rattle.two_faced.specs.Errors.{bound, HasFacedClocks}
 use Rattle.two_faced.proofs.Lossless.{fate-always, sound-always}
 use Rattle.two_faced.specs.Faced.{allowed_error, errors_allowed_in, clocks_broken}

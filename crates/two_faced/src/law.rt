@@ -15,7 +15,7 @@ ghost use Rattle.ttp_world.specs.World.{Numbers, node_past, world};
 ghost use Rattle.precision.specs.Together.{measured};
 ghost use Rattle.fault_plan.specs.Plan.{Plan};
 ghost use Rattle.fault_plan.specs.Kept.{FollowsPlan};
-ghost use Rattle.safety_clocks.specs.NotedByPlan.{IsSoundIn, NotedByPlan};
+ghost use Rattle.safety_laws.specs.NotedByPlan.{IsSoundIn, NotedByPlan};
 ghost use Rattle.two_faced.specs.declared.faced.Faced.TheVariants as faced;
 ghost use Rattle.two_faced.specs.Errors.{bound, HasFacedClocks};
 ghost use Rattle.two_faced.specs.Faced.{faced_of};

@@ -18,12 +18,12 @@
 //!
 //! The rules are those of `specs/Faced.antt`; what they share with the single-fault hypothesis is asked of
 //! the crate hypothesis. [`halved`] is the law that a script which keeps them is owed: every frame is
-//! judged correct, and the clocks stay within the bound. Its proof is safety's induction, with a plan
+//! judged correct, and the clocks stay within the bound. Its proof is safety_laws' induction, with a plan
 //! without incidents (`proofs/QuietPlan.antt`) and the clocks of [`clocks_near`]; theorems cites it from
 //! `proofs/Judged.antt`.
 //!
 //! [`clocks_near`] says nothing of members and verdicts: where no node is lost, and each frame was judged
-//! correct up to some slot (`NotedByPlan` of `safety_clocks`), any two clocks are within the bound after
+//! correct up to some slot (`NotedByPlan` of `safety_laws`), any two clocks are within the bound after
 //! it, that of the two-faced node too, and every frame of the next slot comes inside each receiver's
 //! window, however wrongly that of the two-faced node is read. Of the plan a caller shows that it is good,
 //! followed, and without incidents. Each round pulls the clocks together, since three of the four notes

@@ -1,4 +1,4 @@
-//! The laws of runs, called once each, a test for the laws of each crate.
+//! The laws of runs, called once each, a test for the laws of each crate, and in safety_laws of each module.
 
 #[test]
 fn laws_of_two_scripts_that_say_the_same() {
@@ -14,31 +14,31 @@ fn laws_of_payloads() {
 
 #[test]
 fn laws_of_one_slot() {
-    safety_laws::laws::views();
-    safety_laws::laws::hearing();
-    safety_laws::laws::one_slot();
-    safety_laws::laws::one_sender();
-    safety_laws::laws::judged();
-    safety_laws::laws::own_slot();
-    safety_laws::laws::idle();
-    safety_laws::laws::listening();
-    safety_laws::laws::groups();
-    safety_laws::laws::unanswered();
-    safety_laws::laws::start();
+    safety_laws::slots::views();
+    safety_laws::slots::hearing();
+    safety_laws::slots::one_slot();
+    safety_laws::slots::one_sender();
+    safety_laws::slots::judged();
+    safety_laws::slots::own_slot();
+    safety_laws::slots::idle();
+    safety_laws::slots::listening();
+    safety_laws::slots::groups();
+    safety_laws::slots::unanswered();
+    safety_laws::slots::start();
 }
 
 #[test]
 fn laws_of_a_planned_run() {
-    safety_steps::laws::by_fate();
-    safety_steps::laws::safe_by_fate();
-    safety_steps::laws::back_safe_by_fate();
+    safety_laws::steps::by_fate();
+    safety_laws::steps::safe_by_fate();
+    safety_laws::steps::back_safe_by_fate();
 }
 
 #[test]
 fn laws_of_clocks() {
-    safety_clocks::laws::runs_as_company();
-    safety_clocks::laws::clocks_near();
-    safety_clocks::laws::jumped_outside();
+    safety_laws::clocks::runs_as_company();
+    safety_laws::clocks::clocks_near();
+    safety_laws::clocks::jumped_outside();
 }
 
 #[test]
@@ -48,8 +48,8 @@ fn law_of_clocks_with_a_two_faced_sender() {
 
 #[test]
 fn laws_of_safety() {
-    safety::laws::by_plan();
-    safety::laws::stands();
+    safety_laws::runs::by_plan();
+    safety_laws::runs::stands();
 }
 
 #[test]

@@ -1,3 +1,0 @@
-pub mod ByPlan
-pub mod SameFrames
-pub mod WorkedRuns

@@ -1,4 +1,0 @@
-pub mod NotedByPlan
-pub mod Entries
-pub mod Jumps
-pub mod WorkedRun

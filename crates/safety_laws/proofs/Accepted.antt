@@ -1,0 +1,246 @@
+-- Which frames sound nodes accept: that of each good slot, and no other.
+use Rattle.std.proofs.Common.{◌≡◌, ◌≢◌, ℕ, zero, suc, ◌+◌, ◌<◌, ◌≤◌, Bool, true, false, ◌&&◌, List, [], ◌∷◌, length}
+use Rattle.std.proofs.Common.{refl, ap, sym, subst, ◌∙◌, inl, inr, arith}
+use Rattle.std.specs.Prelude.{◌==◌}
+use Rattle.std.proofs.Math.Bool.{and-false, and-true}
+use Rattle.std.proofs.lemmas.Bool.{cases_eq, eq-eqb, ne_eqb, false≢true}
+use Rattle.ttp_world.specs.declared.medl.Medl.{Medl}
+use Rattle.ttp_world.specs.declared.node.Entry.{Entry}
+use Rattle.ttp_world.specs.declared.node.Entry.TheVariants as entry
+use Rattle.ttp_world.specs.declared.script.Script.{Script}
+use Rattle.ttp_world.specs.Diary.{History, entry_of}
+use Rattle.ttp_world.specs.Hypothesis.{ClusterStart}
+use Rattle.ttp_world.specs.Legal.{IsLegal}
+use Rattle.ttp_world.specs.Messages.{delivered_of, new_messages}
+use Rattle.ttp_world.specs.World.{SlotNumbers, Numbers, slot_after, messages_chosen, row_in, world}
+use Rattle.ttp_world.proofs.LegalShapes.{legal-older}
+use Rattle.ttp_world.proofs.Worlds.{row_of_world, length-world}
+use Rattle.precision.specs.Together.{IsIn}
+use Rattle.fault_plan.specs.Plan.{Plan, sender}
+use Rattle.fault_plan.specs.Fates.{is_sound_after, is_good_slot}
+use Rattle.fault_plan.proofs.Persists.{sound-earlier}
+use Rattle.safety_laws.specs.NotedByPlan.{IsSoundIn, StartedByPlan, NotesNothing}
+use Rattle.safety_laws.specs.PlannedRun.{IsBegun}
+use Rattle.safety_laws.specs.PlanTurn.{IsTurn}
+use Rattle.safety_laws.specs.SameFrames.{accepts, sends_frame, message_given, AcceptsAlike, AcceptsAlikeSince}
+use Rattle.safety_laws.proofs.Receivers.{sound-judge, judges-good}
+use Rattle.safety_laws.proofs.Delivered.{is_judgement, delivers-unjudged, messages-alike, messages-other, messages-own}
+use Rattle.safety_laws.proofs.Given.{given-good}
+use Rattle.safety_laws.proofs.NotedEntries.{in-row, stayed-before, own-sent, notes-other, started-by_plan}
+use Rattle.safety_laws.proofs.Together.{KeepsClocks, turn-next, run-by_plan}
+
+-- By the plan the frame of node p is accepted in a slot.
+abbrev is_accepted_by : Plan → ℕ → ℕ → Bool
+is_accepted_by plan slot p = is_good_slot plan slot && (sender plan slot == p)
+
+-- One entry.
+
+silent-accepts : (p : ℕ) (e : Entry) → NotesNothing e → accepts p e ≡ false
+silent-accepts p (entry.Judged sender v deviation) none = ap (λ b. (sender == p) && b) none ∙ and-false (sender == p)
+silent-accepts p _ none = absurd none
+
+silent-sends : (e : Entry) → NotesNothing e → sends_frame e ≡ false
+silent-sends (entry.Judged sender v deviation) none = refl
+silent-sends _ none = absurd none
+
+silent-gives : (list : Medl) (script : Script) (slot k : ℕ) (e : Entry) → sends_frame e ≡ false
+    → message_given list script slot k e ≡ []
+silent-gives list script slot k (entry.Sent message) silent = absurd (false≢true (sym silent))
+silent-gives list script slot k _ silent = refl
+
+-- In a turn.
+
+module _ (list : Medl) (script : Script) (start : ClusterStart) (plan : Plan) (turn : ℕ) (new : SlotNumbers)
+    (numbers : Numbers) (t : IsTurn list script start plan turn new numbers) (stay : plan.returns ≡ []) where
+  made : List Entry
+  made =
+      row_in (slot_after list script (world list script numbers))
+      (messages_chosen list script (length numbers) new.sent)
+
+  -- what a sound node makes of another's slot
+  record Judges (k : ℕ) : Type 0 where
+    accepts_by_plan : (p : ℕ) → accepts p (entry_of made k) ≡ is_accepted_by plan (suc turn) p
+    silent : sends_frame (entry_of made k) ≡ false
+
+  judges : (k : ℕ) → IsSoundIn list plan (suc turn) k → sender plan (suc turn) ≢ k → Judges k
+  unfolding made
+  judges k sound other = by (is_good_slot plan (suc turn)) refl
+    where
+      by : (good : Bool) → is_good_slot plan (suc turn) ≡ good → Judges k
+      by true good =
+          let was = stayed-before list script start plan turn new numbers t stay in
+          let judge = sound-judge list script start plan turn new numbers t k sound.0 other (was k sound.1) in
+          let judged = judges-good list script start plan turn new numbers t k sound.0 other (was k sound.1) good
+          (was (sender plan (suc turn)) good) sound.1 in
+          record {
+            accepts_by_plan = λ p.
+                in-row list script start plan turn new numbers t
+                (λ e. accepts p e ≡ is_accepted_by plan (suc turn) p) k _ sound.0 judged.entry
+                (and-true _ ∙ ap (λ owner. owner == p) judge.owner
+                ∙ ap (λ b. b && (sender plan (suc turn) == p)) (sym good));
+            silent = in-row list script start plan turn new numbers t (λ e. sends_frame e ≡ false) k _ sound.0
+                judged.entry refl;
+          }
+      by false wrong =
+          let none = notes-other list script start plan turn new numbers t k wrong sound in
+          record {
+            accepts_by_plan = λ p.
+                silent-accepts p (entry_of made k) none ∙ ap (λ b. b && (sender plan (suc turn) == p)) (sym wrong);
+            silent = silent-sends (entry_of made k) none;
+          }
+
+  -- and of its own
+  own-sends : (k : ℕ) → IsSoundIn list plan (suc turn) k → sender plan (suc turn) ≡ k
+      → (p : ℕ) → accepts p (entry_of made k) ≡ false
+  unfolding made
+  own-sends k sound own p = ap (accepts p) (own-sent list script start plan turn new numbers t k sound own).1
+
+  -- so each accepts another's frame by the plan
+  by-plan : (k p : ℕ) → IsSoundIn list plan (suc turn) k → p ≢ k
+      → accepts p (entry_of made k) ≡ is_accepted_by plan (suc turn) p
+  by-plan k p sound apart = elim (cases_eq (sender plan (suc turn)) k) [
+    | inl own ↦
+        own-sends k sound own p
+        ∙ sym (ap (λ b. is_good_slot plan (suc turn) && b)
+        (ne_eqb (sender plan (suc turn)) p (λ same. apart (sym same ∙ own)))
+        ∙ and-false (is_good_slot plan (suc turn)))
+    | inr other ↦ (judges k sound other).accepts_by_plan p
+  ]
+
+  -- and one that sends is the slot's sender
+  sends-own : (k : ℕ) → IsSoundIn list plan (suc turn) k → sends_frame (entry_of made k) ≡ true
+      → sender plan (suc turn) ≡ k
+  sends-own k sound sends = elim (cases_eq (sender plan (suc turn)) k) [
+    | inl own ↦ own
+    | inr other ↦ absurd (false≢true (sym (judges k sound other).silent ∙ sends))
+  ]
+
+  -- of each node's frame the others get what it sent
+  given-next : (j k : ℕ) → IsSoundIn list plan (suc turn) j → IsSoundIn list plan (suc turn) k → j ≢ k
+      → new_messages k (delivered_of list script (world list script numbers) made j)
+      ≡ message_given list script (length (world list script numbers)) k (entry_of made k)
+  unfolding made
+  given-next j k sound_j sound_k apart =
+      elim (cases_eq (sender plan (suc turn)) k) [
+        | inl own ↦
+            subst (λ p. new_messages p (delivered_of list script (world list script numbers)
+            (row_of_world list script new numbers) j)
+            ≡ message_given list script (length numbers) p (entry_of (row_of_world list script new numbers) p)) own
+            (given-good list script start plan turn new numbers t stay
+            (ap (is_sound_after plan (suc turn)) own ∙ sound_k.1) j sound_j (λ same. apart (sym same ∙ own)))
+        | inr other ↦
+            messages-other list script start plan turn new numbers t stay j k sound_j (λ same. apart (sym same)) other
+            ∙ sym (silent-gives list script (length numbers) k (entry_of (row_of_world list script new numbers) k)
+            (judges k sound_k other).silent)
+      ]
+      ∙ ap (λ slot. message_given list script slot k (entry_of (row_of_world list script new numbers) k))
+      (sym (length-world list script numbers))
+
+  pub alike-next : AcceptsAlike list script (is_sound_after plan (suc turn))
+      (row_in (slot_after list script (world list script numbers))
+      (messages_chosen list script (length numbers) new.sent)) (world list script numbers)
+  unfolding made
+  alike-next = record {
+    third = λ j k p sound_j sound_k apart_j apart_k. by-plan j p sound_j apart_j ∙ sym (by-plan k p sound_k apart_k);
+    sent = λ j k sound_j sound_k apart sends.
+        let own = sends-own k sound_k sends in
+        by-plan j k sound_j (λ same. apart (sym same))
+        ∙ (λ i. (ap (is_sound_after plan (suc turn)) own ∙ sound_k.1) i
+        && eq-eqb (sender plan (suc turn)) k own i);
+    received = messages-alike list script start plan turn new numbers t stay;
+    given = given-next;
+    own = messages-own list script start plan turn new numbers t stay;
+  }
+
+-- In the slot of the start nobody judges.
+
+record BeginsQuietly (e : Entry) : Type 0 where
+  accepts_none : (p : ℕ) → accepts p e ≡ false
+  silent : sends_frame e ≡ false
+  unjudged : is_judgement e ≡ false
+
+begins-quietly : (list : Medl) (script : Script) (start : ClusterStart) (plan : Plan) (row : List Entry)
+    (history : History) (k : ℕ) → StartedByPlan list script start plan row history → IsSoundIn list plan 0 k
+    → BeginsQuietly (entry_of row k)
+begins-quietly list script start plan row history k started sound = elim (cases_eq k start.node) [
+  | inl same ↦
+      let is : entry_of row k ≡ entry.Started = ap (entry_of row) same ∙ started.starter in
+      record { accepts_none = λ p. ap (accepts p) is; silent = ap sends_frame is; unjudged = ap is_judgement is }
+  | inr other ↦
+      let is = started.joins k sound other in
+      record { accepts_none = λ p. ap (accepts p) is; silent = ap sends_frame is; unjudged = ap is_judgement is }
+]
+
+alike-started : (list : Medl) (script : Script) (start : ClusterStart) (plan : Plan) (row : List Entry)
+    (history : History) → StartedByPlan list script start plan row history
+    → AcceptsAlike list script (is_sound_after plan 0) row history
+alike-started list script start plan row history started = record {
+  third = λ j k p sound_j sound_k apart_j apart_k.
+      (begins-quietly list script start plan row history j started sound_j).accepts_none p
+      ∙ sym ((begins-quietly list script start plan row history k started sound_k).accepts_none p);
+  sent = λ j k sound_j sound_k apart sends.
+      absurd (false≢true (sym (begins-quietly list script start plan row history k started sound_k).silent ∙ sends));
+  received = λ j k p sound_j sound_k apart_j apart_k.
+      ap (new_messages p) (delivers-unjudged list script history row j
+      (begins-quietly list script start plan row history j started sound_j).unjudged)
+      ∙ sym (ap (new_messages p) (delivers-unjudged list script history row k
+      (begins-quietly list script start plan row history k started sound_k).unjudged));
+  given = λ j k sound_j sound_k apart.
+      ap (new_messages k) (delivers-unjudged list script history row j
+      (begins-quietly list script start plan row history j started sound_j).unjudged)
+      ∙ sym (silent-gives list script (length history) k (entry_of row k)
+      (begins-quietly list script start plan row history k started sound_k).silent);
+  own = λ k sound.
+      ap (new_messages k) (delivers-unjudged list script history row k
+      (begins-quietly list script start plan row history k started sound).unjudged);
+}
+
+-- A smaller group accepts alike as well.
+
+abbrev pub IsAmong : Medl → (ℕ → Bool) → (ℕ → Bool) → Type 0
+IsAmong list less group = (k : ℕ) → IsIn list less k → group k ≡ true
+
+alike-among : (list : Medl) (script : Script) (less group : ℕ → Bool) (row : List Entry) (history : History)
+    → IsAmong list less group → AcceptsAlike list script group row history
+    → AcceptsAlike list script less row history
+alike-among list script less group row history among alike = record {
+  third = λ j k p of_j of_k. alike.third j k p (of_j.0, among j of_j) (of_k.0, among k of_k);
+  sent = λ j k of_j of_k. alike.sent j k (of_j.0, among j of_j) (of_k.0, among k of_k);
+  received = λ j k p of_j of_k. alike.received j k p (of_j.0, among j of_j) (of_k.0, among k of_k);
+  given = λ j k of_j of_k. alike.given j k (of_j.0, among j of_j) (of_k.0, among k of_k);
+  own = λ k of_k. alike.own k (of_k.0, among k of_k);
+}
+
+-- Before the start nothing is asked.
+none-since : (list : Medl) (script : Script) (group : ℕ → Bool) (s : ℕ) (history : History) → length history ≤ s
+    → AcceptsAlikeSince list script group s history
+none-since list script group s [] early = tt
+none-since list script group s (row ∷ history) early =
+    ((λ from. absurd (omega (arith, from, early))), none-since list script group s history (omega (arith, early)))
+
+-- The run.
+module _ (list : Medl) (script : Script) (start : ClusterStart) (plan : Plan) (is : IsBegun list script start plan)
+    (clocks : KeepsClocks list script start plan) (stay : plan.returns ≡ []) where
+  pub alike-run : (group : ℕ → Bool) (turn : ℕ) (numbers : Numbers) → IsAmong list group (is_sound_after plan turn)
+      → length numbers ≡ suc (start.slot + turn) → start.slot + turn < script.slots → IsLegal list script numbers
+      → AcceptsAlikeSince list script group start.slot (world list script numbers)
+  alike-run group turn [] among number within legal = tt
+  alike-run group zero (new ∷ numbers) among number within legal =
+      let now : length numbers ≡ start.slot = omega (arith, number) in (
+        (λ from. alike-among list script group (is_sound_after plan 0) _ (world list script numbers) among
+            (alike-started list script start plan _ (world list script numbers)
+            (started-by_plan list script start plan new numbers is now))),
+        none-since list script group start.slot (world list script numbers)
+            (let before = length-world list script numbers in omega (arith, now, before)),
+      )
+  alike-run group (suc turn) (new ∷ numbers) among number within legal =
+      let before = run-by_plan list script start plan is clocks turn numbers (omega (arith, number))
+      (omega (arith, within)) (legal-older list script new numbers legal) in
+      let t =
+      turn-next list script start plan is clocks turn new numbers (omega (arith, number)) within legal before in (
+        (λ from. alike-among list script group (is_sound_after plan (suc turn)) _ (world list script numbers) among
+            (alike-next list script start plan turn new numbers t stay)),
+        alike-run group turn numbers
+            (λ k of_k. sound-earlier plan turn (suc turn) k stay (omega arith) (among k of_k)) (omega (arith, number))
+            (omega (arith, within)) (legal-older list script new numbers legal),
+      )

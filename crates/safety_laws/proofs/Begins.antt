@@ -1,0 +1,298 @@
+-- After the slot of the start each node is what its fate says.
+use Rattle.std.proofs.Common.{◌≡◌, ◌≢◌, ℕ, ◌+◌, ◌<◌, ◌≤◌, Bool, true, false, not, ◌&&◌, ◌||◌, [], ◌∷◌, length}
+use Rattle.std.proofs.Common.{refl, ap, sym, subst, ◌∙◌, ◌⊎◌, inl, inr, arith, cond}
+use Rattle.std.specs.Prelude.{◌==◌}
+use Rattle.std.proofs.lemmas.Bool.{cases_eq, eq-eqb, false≢true, both_ways, and_parts}
+use Rattle.ttp_base.specs.NodeSet.{has_node}
+use Rattle.ttp_world.specs.declared.medl.Medl.{Medl}
+use Rattle.ttp_world.specs.declared.node.Ack.{Ack}
+use Rattle.ttp_world.specs.declared.node.Ack.TheVariants as ack
+use Rattle.ttp_world.specs.declared.node.Entry.{Entry}
+use Rattle.ttp_world.specs.declared.node.Entry.TheVariants as entry
+use Rattle.ttp_world.specs.declared.node.Phase.{Phase}
+use Rattle.ttp_world.specs.declared.node.Phase.TheVariants as phase
+use Rattle.ttp_world.specs.declared.script.Script.{Script}
+use Rattle.ttp_world.specs.Acknowledgement.{is_open}
+use Rattle.ttp_world.specs.BackSafety.{has_sent_since_begin, has_sent_in_stint, has_left_since_arm}
+use Rattle.ttp_world.specs.Diary.{Diary, phase_after, entry_of, diary_of, is_active, begins_stint, start_place}
+use Rattle.ttp_world.specs.Hypothesis.{ClusterStart}
+use Rattle.ttp_world.specs.Medium.{is_sending}
+use Rattle.ttp_world.specs.Messages.{is_left_phase}
+use Rattle.ttp_world.specs.Past.{NodePast}
+use Rattle.ttp_world.specs.Safety.{has_ever_sent}
+use Rattle.ttp_world.specs.Script.{is_on}
+use Rattle.ttp_world.specs.World.{SlotNumbers, Numbers, node_past, slot_after, messages_chosen, row_in, world}
+use Rattle.ttp_world.proofs.Worlds.{length-world}
+use Rattle.fault_plan.specs.Plan.{Plan, sender}
+use Rattle.fault_plan.specs.Fates.{Fate, Absent, Sound, Falling, Fallen, Listening, fate_of, is_sound_after, is_absent}
+use Rattle.fault_plan.specs.Ledger.{opened, ledger_of}
+use Rattle.fault_plan.proofs.Members.{first-sender}
+use Rattle.fault_plan.proofs.Persists.{absent-always, sound-first}
+use Rattle.safety_laws.specs.Groups.{HoldsGroup}
+use Rattle.safety_laws.specs.Start.{IsStartHeard, starter_standing, joined_on_start}
+use Rattle.safety_laws.specs.Standing.{StandsBy, joined_standing}
+use Rattle.ttp_world.specs.World.{deviation_in}
+use Rattle.safety_laws.specs.ByFate.{doubts, is_there, IsCounted, IsSoundAt, IsByFate}
+use Rattle.safety_laws.specs.PlannedRun.{IsBegun}
+use Rattle.safety_laws.specs.PlanTurn.{HoldsAfter}
+use Rattle.safety_laws.proofs.StartSlot.{first_due, starter-stands, joiner-stands, off-stays, has-begun}
+use Rattle.safety_laws.proofs.Waiting.{WaitAll, WaitAll-world}
+use Rattle.safety_laws.proofs.LeftSince.{left_since-next}
+use Rattle.fault_plan.proofs.FateSteps.{sound-fate}
+
+-- Nobody has sent while all wait.
+
+waiting-off : (none : Bool) → cond none phase.Off phase.Listening ≢ phase.Active
+waiting-off true is = cc
+waiting-off false is = cc
+
+pub waiting-unleft : (none : Bool) → is_left_phase (cond none phase.Off phase.Listening) ≡ false
+waiting-unleft true = refl
+waiting-unleft false = refl
+
+inactive-unsent : (e : Entry) → phase_after e ≢ phase.Active → is_sending e ≡ false
+inactive-unsent entry.Started inactive = absurd (inactive refl)
+inactive-unsent (entry.Sent message) inactive = absurd (inactive refl)
+inactive-unsent entry.Off inactive = refl
+inactive-unsent entry.Waited inactive = refl
+inactive-unsent entry.Retried inactive = refl
+inactive-unsent entry.Gone inactive = refl
+inactive-unsent (entry.Left why peer) inactive = refl
+inactive-unsent (entry.Joined sender c deviation) inactive = refl
+inactive-unsent (entry.Judged sender v deviation) inactive = refl
+
+-- what was sent in a stint was sent
+since-ever : (diary : Diary) → has_sent_since_begin diary ≡ true → has_ever_sent diary ≡ true
+since-ever [] sent = sent
+since-ever (e ∷ diary) sent = by (is_sending e) refl (since-ever diary)
+  where
+    by : (sends : Bool) → is_sending e ≡ sends
+        → (has_sent_since_begin diary ≡ true → has_ever_sent diary ≡ true)
+        → (is_sending e || has_ever_sent diary) ≡ true
+    by true sends before = ap (λ b. b || has_ever_sent diary) sends
+    by false sends before =
+        ap (λ b. b || has_ever_sent diary) sends
+        ∙ before
+        (and_parts (not (begins_stint e)) (has_sent_since_begin diary)
+        (sym (ap (λ b. b || (not (begins_stint e) && has_sent_since_begin diary)) sends) ∙ sent)).1
+
+stint-ever : (diary : Diary) → has_sent_in_stint diary ≡ true → has_ever_sent diary ≡ true
+stint-ever diary sent = since-ever diary (and_parts (is_active diary) (has_sent_since_begin diary) sent).1
+
+-- Whoever counts one accepted frame and none rejected, by a ledger that has seen none.
+
+settled-ack : (a : Ack) → (a ≡ ack.First) ⊎ (a ≡ ack.Closed) → doubts a ≡ 0
+settled-ack a (inl first) = ap doubts first
+settled-ack a (inr closed) = ap doubts closed
+
+counted-first : (own : Bool) (past : NodePast) → past.accepted ≡ 1 → past.rejected ≡ 0
+    → (is_open past.ack ≡ true → own ≡ true) → (past.cold_start ≡ true → own ≡ true)
+    → (past.ack ≡ ack.First) ⊎ (past.ack ≡ ack.Closed)
+    → IsCounted (opened own 0) past
+counted-first own past accepted rejected opens cold settles =
+    let none = settled-ack past.ack settles in
+    record {
+      accepted = accepted;
+      rejected = omega (arith, rejected, none);
+      opened = λ opened. (opens opened, refl);
+      cold_start = λ is_cold. (cold is_cold, refl);
+    }
+
+no-doubt : (a : Ack) (y : ℕ) → (a ≡ ack.First) ⊎ (a ≡ ack.Closed) → a ≡ ack.Doubt y → ⊥
+no-doubt a y (inl first) doubt = cc
+no-doubt a y (inr closed) doubt = cc
+
+module _ (list : Medl) (script : Script) (start : ClusterStart) (plan : Plan) (is : IsBegun list script start plan)
+  where
+    start-heard : IsStartHeard list script start
+    start-heard = record {
+      unflipped = λ c. is.planned.follows.flips start.node start.slot c;
+      kept = is.heard;
+    }
+
+    wait : (numbers : Numbers) → length numbers ≤ start.slot → WaitAll list script (world list script numbers)
+    wait numbers early =
+        WaitAll-world list script start.slot numbers is.planned.valid (first_due list script start is.alone) early
+
+    unsent-waiting : (numbers : Numbers) (k : ℕ) → length numbers ≤ start.slot → k < length list.slots
+        → has_ever_sent (diary_of (world list script numbers) k) ≡ false
+    unsent-waiting [] k early node = refl
+    unsent-waiting (new ∷ numbers) k early node =
+        let row = row_in (slot_after list script (world list script numbers))
+        (messages_chosen list script (length numbers) new.sent) in
+        let phase_is = (wait (new ∷ numbers) early k node).phase in
+        let unsent : is_sending (entry_of row k) ≡ false =
+        inactive-unsent (entry_of row k) (λ active. waiting-off _ (sym phase_is ∙ active)) in
+        ap (λ b. b || has_ever_sent (diary_of (world list script numbers) k)) unsent
+        ∙ unsent-waiting numbers k (omega (arith, early)) node
+
+    -- and nobody has left
+    unleft-waiting : (numbers : Numbers) (k : ℕ) → length numbers ≤ start.slot → k < length list.slots
+        → has_left_since_arm script (world list script numbers) k ≡ false
+    unleft-waiting [] k early node = refl
+    unleft-waiting (new ∷ numbers) k early node =
+        let phase_is = (wait (new ∷ numbers) early k node).phase in
+        left_since-next script (world list script numbers) _ k
+        (ap (λ (p : Phase). is_left_phase p) phase_is ∙ waiting-unleft _)
+        (λ unarmed. unleft-waiting numbers k (omega (arith, early)) node)
+
+    -- The slot of the start.
+    module _ (new : SlotNumbers) (numbers : Numbers) (now : length numbers ≡ start.slot) where
+      waited : WaitAll list script (world list script numbers)
+      waited = wait numbers (omega (arith, now))
+
+      number : length (world list script numbers) ≡ start.slot
+      number = length-world list script numbers ∙ now
+
+      starter-same : plan.starter ≡ start.node
+      starter-same = is.planned.follows.starter
+
+      on-first : (k : ℕ) → k < length list.slots → has_node plan.begin k ≡ is_on script k start.slot
+      on-first k node =
+          let first : start.slot + 0 ≡ start.slot = omega arith in
+          is.planned.follows.on 0 k node ∙ ap (is_on script k) first
+
+      sender-first : sender plan 0 ≡ start.node
+      sender-first = first-sender plan is.planned.follows.good ∙ starter-same
+
+      pub starter-begun : StandsBy (node_past list script (world list script (new ∷ numbers)) start.node) entry.Started
+          (starter_standing list start.node)
+      starter-begun =
+          starter-stands list script start (world list script numbers)
+          (messages_chosen list script (length numbers) new.sent) is.planned.valid is.alone waited number
+
+      pub joiner-begun : (k : ℕ) → k < length list.slots → k ≢ start.node → is_on script k start.slot ≡ true →
+          let deviation = deviation_in (slot_after list script (world list script numbers)) k start.node in
+          StandsBy (node_past list script (world list script (new ∷ numbers)) k) (joined_on_start start.node deviation)
+          (joined_standing list (start_place start.node) (start.node ∷ []) deviation)
+      joiner-begun k node other on =
+          joiner-stands list script start (world list script numbers)
+          (messages_chosen list script (length numbers) new.sent) is.planned.valid is.alone waited number start-heard k
+          node other on
+
+      -- all that are sound are on
+      pub on-begun : (k : ℕ) → k < length list.slots → is_sound_after plan 0 k ≡ true
+          → is_on script k start.slot ≡ true
+      on-begun k node sound =
+          sym (on-first k node) ∙ sym (sound-first plan k is.planned.follows.good) ∙ sound
+
+      -- a starter counts its own frame, and a node that joins the starter's
+      counts : (k : ℕ) → k < length list.slots → is_on script k start.slot ≡ true
+          → IsCounted (ledger_of plan 0 k) (node_past list script (world list script (new ∷ numbers)) k)
+          × (((node_past list script (world list script (new ∷ numbers)) k).ack ≡ ack.First)
+          ⊎ ((node_past list script (world list script (new ∷ numbers)) k).ack ≡ ack.Closed))
+      counts k node on = elim (cases_eq k start.node) [
+        | inl same ↦
+            let stands = starter-begun in
+            let own : (sender plan 0 == start.node) ≡ true = eq-eqb (sender plan 0) start.node sender-first in
+            subst (λ j. IsCounted (ledger_of plan 0 j) (node_past list script (world list script (new ∷ numbers)) j)
+            × (((node_past list script (world list script (new ∷ numbers)) j).ack ≡ ack.First)
+            ⊎ ((node_past list script (world list script (new ∷ numbers)) j).ack ≡ ack.Closed))) (sym same) (
+              counted-first (sender plan 0 == start.node) _ stands.accepted stands.rejected (λ opened. own)
+                  (λ cold. own) (inl stands.ack),
+              inl stands.ack,
+            )
+        | inr other ↦
+            let stands = joiner-begun k node other on in (
+              counted-first (sender plan 0 == k) _ stands.accepted stands.rejected
+                  (λ opened. absurd (false≢true (ap is_open (sym stands.ack) ∙ opened)))
+                  (λ cold. absurd (false≢true (sym stands.cold_start ∙ cold))) (inr stands.ack),
+              inr stands.ack,
+            )
+      ]
+
+      sound-begun : (k : ℕ) → k < length list.slots → is_on script k start.slot ≡ true
+          → IsSoundAt list plan 0 k (node_past list script (world list script (new ∷ numbers)) k)
+      sound-begun k node on =
+          let begun = has-begun list script start (world list script numbers)
+          (messages_chosen list script (length numbers) new.sent) is.planned.valid is.alone waited number start-heard k
+          node on in
+          let counted = counts k node on in
+          record {
+            phase = begun.phase;
+            place = begun.place ∙ ap start_place (sym starter-same);
+            group = subst (λ p. HoldsGroup list k (p ∷ [])
+                (node_past list script (world list script (new ∷ numbers)) k)) (sym starter-same) begun.group;
+            counted = counted.0;
+            doubted = λ y doubt. absurd (no-doubt _ y counted.1 doubt);
+            fresh = λ own.
+                subst (λ j. (node_past list script (world list script (new ∷ numbers)) j).ack ≡ ack.First)
+                (sym sender-first ∙ own) starter-begun.ack;
+          }
+
+      off-begun : (k : ℕ) → k < length list.slots → is_on script k start.slot ≡ false
+          → (node_past list script (world list script (new ∷ numbers)) k).phase ≡ phase.Off
+      off-begun k node off =
+          off-stays list script start (world list script numbers)
+          (messages_chosen list script (length numbers) new.sent) is.planned.valid is.alone waited number k node
+          (λ same. both_ways (is_on script k start.slot) off
+          (sym (on-first k node)
+          ∙ ap (has_node plan.begin) (same ∙ sym starter-same) ∙ is.planned.follows.good.starter.1)) off
+
+      absent-fate : (fate : Fate) → is_absent fate ≡ true → fate ≡ Absent
+      absent-fate Absent absent = refl
+      absent-fate Sound absent = absurd (false≢true absent)
+      absent-fate (Falling change since) absent = absurd (false≢true absent)
+      absent-fate (Fallen change since shown) absent = absurd (false≢true absent)
+      absent-fate (Listening since) absent = absurd (false≢true absent)
+
+      node-begun : (k : ℕ) → k < length list.slots
+          → IsByFate list plan 0 k (node_past list script (world list script (new ∷ numbers)) k) (fate_of plan 0 k)
+      node-begun k node = by (has_node plan.begin k) refl
+        where
+          by : (on : Bool) → has_node plan.begin k ≡ on
+              → IsByFate list plan 0 k (node_past list script (world list script (new ∷ numbers)) k)
+              (fate_of plan 0 k)
+          by true on =
+              let fate = sound-fate (fate_of plan 0 k) (sound-first plan k is.planned.follows.good ∙ on) in
+              subst (λ (f : Fate). IsByFate list plan 0 k
+              (node_past list script (world list script (new ∷ numbers)) k) f) (sym fate)
+              (sound-begun k node (sym (on-first k node) ∙ on))
+          by false off =
+              let fate = absent-fate (fate_of plan 0 k)
+              (absent-always plan 0 k is.planned.follows.good ∙ ap not off) in
+              subst (λ (f : Fate). IsByFate list plan 0 k
+              (node_past list script (world list script (new ∷ numbers)) k) f) (sym fate)
+              (off-begun k node (sym (on-first k node) ∙ off))
+
+      sent-begun : (k : ℕ) → k < length list.slots → is_sound_after plan 0 k ≡ true
+          → has_ever_sent (diary_of (world list script (new ∷ numbers)) k) ≡ true
+          → (ledger_of plan 0 k).own ≡ true
+      sent-begun k node sound sent = elim (cases_eq k start.node) [
+        | inl same ↦ eq-eqb (sender plan 0) k (sender-first ∙ sym same)
+        | inr other ↦
+            let stands = joiner-begun k node other (on-begun k node sound) in
+            let row = row_in (slot_after list script (world list script numbers))
+            (messages_chosen list script (length numbers) new.sent) in
+            let unsent : is_sending (entry_of row k) ≡ false = ap is_sending stands.entry in
+            let before = unsent-waiting numbers k (omega (arith, now)) node in
+            absurd (false≢true (sym before
+            ∙ sym (ap (λ b. b || has_ever_sent (diary_of (world list script numbers) k)) unsent) ∙ sent))
+      ]
+
+      stay-begun : (k : ℕ) → k < length list.slots → is_there (fate_of plan 0 k) ≡ true
+          → has_left_since_arm script (world list script (new ∷ numbers)) k ≡ false
+      stay-begun k node there =
+          left_since-next script (world list script numbers) _ k
+          (by (fate_of plan 0 k) there (node-begun k node))
+          (λ unarmed. unleft-waiting numbers k (omega (arith, now)) node)
+        where
+          past : NodePast
+          past = node_past list script (world list script (new ∷ numbers)) k
+
+          by : (fate : Fate) → is_there fate ≡ true → IsByFate list plan 0 k past fate
+              → is_left_phase past.phase ≡ false
+          by Sound there at = ap (λ (p : Phase). is_left_phase p) at.phase
+          by (Listening since) there at = ap (λ (p : Phase). is_left_phase p) at.phase
+          by Absent there at = cc
+          by (Falling change since) there at = cc
+          by (Fallen change since shown) there at = cc
+
+      pub holds-begun : HoldsAfter list script plan 0 (world list script (new ∷ numbers))
+      holds-begun = record {
+        nodes = node-begun;
+        sent = λ k node sound sent. sent-begun k node sound
+            (stint-ever (diary_of (world list script (new ∷ numbers)) k) sent);
+        ever_sent = λ k node sound never sent. sent-begun k node sound sent;
+        stay = λ k node there. stay-begun k node there;
+      }

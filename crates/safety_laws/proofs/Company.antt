@@ -1,0 +1,331 @@
+-- The sound nodes of a plan run as a company from the start on, and grow by each return.
+use Rattle.std.proofs.Common.{◌≡◌, ℕ, zero, suc, ◌+◌, ◌-◌, ◌*◌, ◌<◌, ◌≤◌, Bool, true, false, List, [], ◌∷◌, length}
+use Rattle.std.proofs.Common.{◌⊎◌, inl, inr, pos, refl, ap, sym, subst, ◌∙◌, arith}
+use Rattle.std.specs.Prelude.{◌==◌, IsTrue}
+use Rattle.std.specs.List.{list_any}
+use Rattle.std.proofs.lemmas.Bool.{eqb-true, eq-eqb, both_ways, false_from_ne_true}
+use Rattle.std.proofs.Math.Nat.{eq-or-lt_of_le}
+use Rattle.ttp_world.specs.declared.medl.Medl.{Medl}
+use Rattle.ttp_world.specs.declared.node.Entry.{Entry}
+use Rattle.ttp_world.specs.declared.script.Script.{Script}
+use Rattle.ttp_world.specs.Clock.{notes_of, stint_notes}
+use Rattle.ttp_world.specs.Diary.{History, entry_of, diary_of, next_place, place_of, ends_round}
+use Rattle.ttp_world.specs.Hypothesis.{ClusterStart}
+use Rattle.ttp_world.specs.Script.{jump_of}
+use Rattle.precision.specs.Together.{BeginsOn, NotedAlike, Nothing, OneFrame, EndsLaterRound}
+use Rattle.precision.specs.Company.{AreCalm, IsCalmIn, IsNotedOf, StayedInCompany, GrewTogether, RanAsCompany}
+use Rattle.precision.proofs.Entries.{continued_active, place_of-active, notes_of-active}
+use Rattle.fault_plan.specs.Plan.{Return, Plan, sender, is_armed_by, enters}
+use Rattle.fault_plan.specs.Fates.{is_sound, fate_of, is_sound_after, is_good_slot, is_measured, tally}
+use Rattle.fault_plan.specs.GoodPlan.{IsGoodPlan}
+use Rattle.fault_plan.specs.Kept.{FollowsPlan}
+use Rattle.fault_plan.specs.Places.{planned_place}
+use Rattle.fault_plan.proofs.Counts.{four-measured}
+use Rattle.fault_plan.proofs.FateSteps.{sound-from}
+use Rattle.fault_plan.proofs.FateTells.{armed-fallen}
+use Rattle.fault_plan.proofs.Persists.{lost-unsound}
+use Rattle.fault_plan.proofs.Returns.{any-of, of-any, armed-by, enters-by, entry-is, entry-good, entry-from, armed-lost}
+use Rattle.fault_plan.proofs.Returns.{Itself, Before, After, entry-beside}
+use Rattle.fault_plan.proofs.SlotKinds.{sender-stays}
+use Rattle.safety_laws.specs.Entries.{NoneEnters, IsNewest}
+use Rattle.safety_laws.specs.NotedByPlan.{IsSoundIn, NotedInSlot, NotedByPlan}
+use Rattle.safety_laws.proofs.RoundNotes.{none-silent, place-slot, sender-in, sound-goes, Counted}
+use Rattle.safety_laws.proofs.BeganTogether.{began, number-of, counted-run}
+
+-- Entries.
+
+-- none enters in a slot, or some node does
+entry-or-none : (plan : Plan) (slot : ℕ) → slot < plan.slots
+    → ((k : ℕ) → enters plan slot k ≡ false) ⊎ ((k : ℕ) × (enters plan slot k ≡ true))
+entry-or-none plan slot within = by (list_any is_there plan.returns) refl
+  where
+    is_there : Return → Bool
+    is_there r = r.entered == slot
+
+    by : (some : Bool) → list_any is_there plan.returns ≡ some
+        → ((k : ℕ) → enters plan slot k ≡ false) ⊎ ((k : ℕ) × (enters plan slot k ≡ true))
+    by true is =
+        let found = any-of is_there plan.returns is in
+        let r = found.0 in
+        let at : r.entered ≡ slot = eqb-true r.entered slot found.1.1 in
+        inr (
+          r.node,
+          subst (λ t. enters plan t r.node ≡ true) at
+              (enters-by plan r found.1.0 (omega (arith, at, within))),
+        )
+    by false none = inl (λ k. false_from_ne_true (enters plan slot k) (λ is.
+        let entry = entry-is plan slot k is in
+        let r = entry.return in
+        both_ways (list_any is_there plan.returns) none
+        (of-any is_there plan.returns r entry.among (eq-eqb r.entered slot entry.entered))))
+
+-- a node that enters was not sound
+entry-unsound : (plan : Plan) (slot k : ℕ) → IsGoodPlan plan → enters plan (suc slot) k ≡ true
+    → is_sound_after plan slot k ≡ false
+entry-unsound plan slot k good is = elim (entry-from plan slot k good is) [
+  | inl armed ↦ lost-unsound (fate_of plan slot k) (armed-lost plan slot k good armed)
+  | inr listens ↦ ap is_sound listens.1
+]
+
+sound-stays : (plan : Plan) (slot k : ℕ) → IsGoodPlan plan → is_sound_after plan slot k ≡ true
+    → enters plan (suc slot) k ≡ false
+sound-stays plan slot k good sound = false_from_ne_true (enters plan (suc slot) k) (λ is.
+    both_ways (is_sound_after plan slot k) (entry-unsound plan slot k good is) sound)
+
+new-enters : (plan : Plan) (slot k : ℕ) → is_sound_after plan (suc slot) k ≡ true → is_sound_after plan slot k ≡ false
+    → enters plan (suc slot) k ≡ true
+new-enters plan slot k sound away = by (enters plan (suc slot) k) refl
+  where
+    by : (b : Bool) → enters plan (suc slot) k ≡ b → enters plan (suc slot) k ≡ true
+    by true is = is
+    by false none =
+        absurd (both_ways (is_sound_after plan slot k) away
+        (sound-from plan (suc slot) k (fate_of plan slot k) none sound))
+
+-- the entry after the newest one comes two rounds later
+entry-later : (plan : Plan) (slot newest k : ℕ) → IsGoodPlan plan → IsNewest plan slot newest
+    → enters plan (suc slot) k ≡ true
+    → newest + 2 * plan.nodes ≤ suc slot
+entry-later plan slot newest k good is enter =
+    let found = entry-is plan (suc slot) k enter in
+    let r = found.return in
+    let of_r = good.returns r found.among in
+    let at = found.entered in
+    let after = of_r.after in
+    let within = is.within in
+    elim is.by [
+      | inl first ↦
+          let was = of_r.was in
+          let armed = was.1.0 in
+          let lost = armed-fallen plan was.0 r.node good
+          (subst (λ t. is_armed_by plan t r.node ≡ true) armed (armed-by plan r found.among)) in
+          let early = lost.early in
+          omega (arith, first, early, armed, after, at)
+      | inr other ↦ elim (entry-beside plan r newest other.0 good found.among other.1) [
+        | Itself same ↦ absurd (omega (arith, same, at, within))
+        | Before early ↦ omega (arith, early, after, at)
+        | After late ↦ absurd (omega (arith, late, at, within))
+      ]
+    ]
+
+-- One slot.
+
+-- the clocks of sound nodes do not jump
+pub sound-calm : (list : Medl) (script : Script) (start : ClusterStart) (plan : Plan) (slot : ℕ) (history : History)
+    → FollowsPlan list script start plan → length history ≡ start.slot + slot → length history < script.slots
+    → AreCalm list script (is_sound_after plan slot) history
+sound-calm list script start plan slot history follows number within k p =
+    subst (λ t. jump_of script k t ≡ pos 0) (sym number)
+    (follows.clocks slot k p.0 (omega (arith, number, within)) p.1)
+
+-- the sender of a good slot was one of the sound nodes
+sender-calm : (list : Medl) (script : Script) (start : ClusterStart) (plan : Plan) (slot : ℕ) (history : History)
+    → FollowsPlan list script start plan → length history ≡ start.slot + suc slot → length history < script.slots
+    → is_good_slot plan (suc slot) ≡ true
+    → IsCalmIn list script (is_sound_after plan slot) history (sender plan (suc slot))
+sender-calm list script start plan slot history follows number within good =
+    let e = sender plan (suc slot) in
+    let inside = sender-in list script start plan (suc slot) follows in (
+      (
+        inside,
+        sound-from plan (suc slot) e (fate_of plan slot e) (sender-stays plan (suc slot) follows.good) good,
+      ),
+      sound-calm list script start plan (suc slot) history follows number within e (inside, good),
+    )
+
+noted-alike : (list : Medl) (script : Script) (plan : Plan) (slot : ℕ) (row : List Entry) (history : History)
+    (good : Bool)
+    → ((k : ℕ) → enters plan slot k ≡ false)
+    → is_good_slot plan slot ≡ good → NotedInSlot list script plan slot row history
+    → NotedAlike list script (is_sound_after plan slot) row history
+noted-alike list script plan slot row history true none is noted =
+    OneFrame (sender plan slot) (λ k p. noted.good k is p (none k))
+noted-alike list script plan slot row history false none is noted =
+    Nothing (λ k p. none-silent list (place_of list k (diary_of (row ∷ history) k)) (entry_of row k)
+    (noted.other k is p))
+
+noted-of : (list : Medl) (script : Script) (start : ClusterStart) (plan : Plan) (slot : ℕ) (row : List Entry)
+    (history : History) (good : Bool)
+    → (none : (k : ℕ) → enters plan (suc slot) k ≡ false) → (is : is_good_slot plan (suc slot) ≡ good)
+    → (noted : NotedInSlot list script plan (suc slot) row history)
+    → FollowsPlan list script start plan → length history ≡ start.slot + suc slot → length history < script.slots
+    → IsNotedOf list script (is_sound_after plan slot) (is_sound_after plan (suc slot)) row history
+    (noted-alike list script plan (suc slot) row history good none is noted)
+unfolding noted-alike
+noted-of list script start plan slot row history true none is noted follows number within =
+    sender-calm list script start plan slot history follows number within is
+noted-of list script start plan slot row history false none is noted follows number within = tt
+
+-- four measured slots were in each round that began after the newest entry
+noted-four : (list : Medl) (script : Script) (start : ClusterStart) (plan : Plan) (slot newest k : ℕ) (row : List Entry)
+    (history : History)
+    → FollowsPlan list script start plan → suc slot < plan.slots → length history ≡ start.slot + suc slot
+    → IsNewest plan (suc slot) newest
+    → NotedInSlot list script plan (suc slot) row history → Counted list plan (suc slot) (row ∷ history)
+    → IsSoundIn list plan (suc slot) k → enters plan (suc slot) k ≡ false
+    → EndsLaterRound list (start.slot + newest) k row history
+    → 4 ≤ length (notes_of list k (diary_of (row ∷ history) k))
+noted-four list script start plan slot newest k row history follows within number is noted counted p none ends =
+    let goes = continued_active (entry_of row k) (sound-goes list script plan (suc slot) k row history noted p none) in
+    let place : place_of list k (diary_of (row ∷ history) k) ≡ planned_place list plan (suc slot) =
+    place_of-active list k (diary_of history k) (entry_of row k) goes ∙ counted.places k p in
+    let index = place-slot list script start plan (suc slot) follows in
+    let last : suc (sender plan (suc slot)) ≡ length list.slots =
+    ap suc (sym index) ∙ eqb-true (suc (planned_place list plan (suc slot)).slot) (length list.slots)
+    (sym (ap (ends_round list) place) ∙ ends.0) in
+    let from = suc (suc slot) - plan.nodes in
+    let round : from + plan.nodes ≡ suc (suc slot) = omega (arith, ends.1, number, follows.nodes) in
+    let many : 4 ≤ tally (is_measured plan) from plan.nodes =
+    four-measured plan (suc slot) from follows.good within round in
+    let count : length (stint_notes list k (diary_of (row ∷ history) k))
+    ≡ tally (is_measured plan) from (suc (sender plan (suc slot))) =
+    counted.notes k from p (omega (arith, ends.1, number, follows.nodes)) (omega (arith, round, last, follows.nodes))
+    (λ turn low high. is.none turn k (omega (arith, low, ends.1, number, follows.nodes)) high) in
+    let whole : plan.nodes ≡ suc (sender plan (suc slot)) = follows.nodes ∙ sym last in
+    subst (λ n. 4 ≤ n) (ap (tally (is_measured plan) from) whole ∙ sym count
+    ∙ ap length (sym (notes_of-active list k (diary_of history k) (entry_of row k) goes))) many
+
+-- a slot in which none enters
+stayed : (list : Medl) (script : Script) (start : ClusterStart) (plan : Plan) (may_grow : Bool) (slot newest : ℕ)
+    (row : List Entry) (history : History)
+    → FollowsPlan list script start plan → length history ≡ start.slot + suc slot → length history < script.slots
+    → IsNewest plan (suc slot) newest → ((k : ℕ) → enters plan (suc slot) k ≡ false)
+    → NotedInSlot list script plan (suc slot) row history → Counted list plan (suc slot) (row ∷ history)
+    → StayedInCompany list script may_grow (is_sound_after plan slot) (is_sound_after plan (suc slot))
+    (start.slot + newest) row history
+stayed list script start plan may_grow slot newest row history follows number within is none noted counted = record {
+  less = λ k p. sound-from plan (suc slot) k (fate_of plan slot k) (none k) p.1;
+  together = record {
+    active = λ k p. sound-goes list script plan (suc slot) k row history noted p (none k);
+    noted = noted-alike list script plan (suc slot) row history (is_good_slot plan (suc slot)) none refl noted;
+    enough = λ k p ends. noted-four list script start plan slot newest k row history follows
+        (omega (arith, within, number, follows.slots)) number is noted counted p (none k) ends;
+  };
+  noted = λ grows. noted-of list script start plan slot row history (is_good_slot plan (suc slot)) none refl noted
+      follows number within;
+}
+
+-- a slot in which some node does
+grew : (list : Medl) (script : Script) (start : ClusterStart) (plan : Plan) (slot newest r : ℕ) (row : List Entry)
+    (history : History)
+    → FollowsPlan list script start plan → length history ≡ start.slot + suc slot → length history < script.slots
+    → IsNewest plan slot newest → enters plan (suc slot) r ≡ true
+    → NotedInSlot list script plan (suc slot) row history → Counted list plan slot history
+    → GrewTogether list script (is_sound_after plan slot) (is_sound_after plan (suc slot)) (start.slot + newest) row
+    history
+grew list script start plan slot newest r row history follows number within is enter noted counted =
+    let e = sender plan (suc slot) in
+    let good = (entry-good plan (suc slot) r follows.good enter).0 in
+    let calm = sender-calm list script start plan slot history follows number within good in
+    let later = entry-later plan slot newest r follows.good is enter in
+    record {
+      later = omega (arith, later, number, follows.nodes);
+      sender = e;
+      member = calm;
+      tells = λ k p there. noted.good k good p (sound-stays plan slot k follows.good there);
+      begins = λ k p away. subst (λ at. BeginsOn list script history e at k (entry_of row k))
+          (ap (next_place list) (sym (counted.places e calm.0)))
+          (noted.begins k p.0 (new-enters plan slot k p.1 away));
+    }
+
+-- The run.
+
+-- where a node enters, some may
+grows : (plan : Plan) (may_grow : Bool) (slot k : ℕ) → (may_grow ≡ false → NoneEnters plan slot)
+    → enters plan slot k ≡ true
+    → IsTrue may_grow
+grows plan true slot k stay is = refl
+grows plan false slot k stay is = absurd (both_ways (enters plan slot k) (stay refl slot k (omega arith)) is)
+
+newest-same : (plan : Plan) (slot newest : ℕ) → IsNewest plan slot newest
+    → ((k : ℕ) → enters plan (suc slot) k ≡ false)
+    → IsNewest plan (suc slot) newest
+newest-same plan slot newest is none = record {
+  within = omega (arith, is.within);
+  by = is.by;
+  none = λ turn k low high. elim (eq-or-lt_of_le high) [
+    | inl same ↦ subst (λ t. enters plan t k ≡ false) (sym same) (none k)
+    | inr less ↦ is.none turn k low (omega (arith, less))
+  ];
+}
+
+-- where none may come, none entered
+pub ran-company : (list : Medl) (script : Script) (start : ClusterStart) (plan : Plan) (may_grow : Bool) (slot : ℕ)
+    (history : History)
+    → FollowsPlan list script start plan → NotedByPlan list script start plan slot history
+    → length history ≤ script.slots → (may_grow ≡ false → NoneEnters plan slot)
+    → (newest : ℕ) × (IsNewest plan slot newest
+    × RanAsCompany list script may_grow (is_sound_after plan slot) (start.slot + newest) history)
+ran-company list script start plan may_grow slot [] follows noted within stay = absurd noted
+ran-company list script start plan may_grow zero (row ∷ history) follows noted within stay =
+    let number : length history ≡ start.slot + 0 = omega (arith, noted.number) in (
+      0,
+      (
+        record {
+          within = omega arith;
+          by = inl refl;
+          none = λ turn k low high. absurd (omega (arith, low, high));
+        },
+        (
+          sound-calm list script start plan 0 history follows number (omega (arith, within)),
+          inl (number, began list script start plan row history follows noted),
+        ),
+      ),
+    )
+ran-company list script start plan may_grow (suc slot) (row ∷ history) follows noted within stay =
+    let number : length history ≡ start.slot + suc slot =
+    omega (arith, number-of list script start plan slot history noted.0) in
+    let less : length history < script.slots = omega (arith, within) in
+    let run = ran-company list script start plan may_grow slot history follows noted.0 (omega (arith, within))
+    (λ fixed turn k upto. stay fixed turn k (omega (arith, upto))) in
+    let calm = sound-calm list script start plan (suc slot) history follows number less in
+    elim (entry-or-none plan (suc slot) (omega (arith, less, number, follows.slots))) [
+      | inl none ↦
+          let is = newest-same plan slot run.0 run.1.0 none in (
+            run.0,
+            (
+              is,
+              (
+                calm,
+                inr (inl (
+                  is_sound_after plan slot,
+                  (
+                    run.1.1,
+                    stayed list script start plan may_grow slot run.0 row history follows number less is none noted.1
+                        (counted-run list script start plan (suc slot) (row ∷ history) follows noted),
+                  ),
+                )),
+              ),
+            ),
+          )
+      | inr some ↦ (
+        suc slot,
+        (
+          record {
+            within = omega arith;
+            by = inr some;
+            none = λ turn k low high. absurd (omega (arith, low, high));
+          },
+          (
+            calm,
+            inr (inr (
+              number,
+              (
+                grows plan may_grow (suc slot) some.0 stay some.1,
+                (
+                  is_sound_after plan slot,
+                  (
+                    start.slot + run.0,
+                    (
+                      run.1.1,
+                      grew list script start plan slot run.0 some.0 row history follows number less run.1.0 some.1
+                          noted.1 (counted-run list script start plan slot history follows noted.0),
+                    ),
+                  ),
+                ),
+              ),
+            )),
+          ),
+        ),
+      )
+    ]

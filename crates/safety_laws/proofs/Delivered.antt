@@ -1,0 +1,226 @@
+-- What sound nodes deliver in a turn: of the frame of a good slot all others the same, and of no other slot anything.
+use Rattle.std.proofs.Common.{◌≡◌, ◌≢◌, ℕ, suc, ◌<◌, Bool, true, false, cond, List, [], length, Some, None}
+use Rattle.std.proofs.Common.{◌∷◌, ◌&&◌, refl, ap, sym, subst, ◌∙◌, inl, inr}
+use Rattle.std.proofs.lemmas.Bool.{cases_eq, ne_eqb, false≢true}
+use Rattle.ttp_world.specs.declared.medl.Medl.{Medl}
+use Rattle.ttp_world.specs.declared.node.Entry.{Entry}
+use Rattle.ttp_world.specs.declared.node.Entry.TheVariants as entry
+use Rattle.ttp_world.specs.declared.script.Script.{Script}
+use Rattle.ttp_world.specs.Act.{coming_place}
+use Rattle.ttp_world.specs.Conduct.{carries_payload, own_frame, payload_taken, delivery}
+use Rattle.ttp_world.specs.Diary.{History, entry_of, Place, next_place}
+use Rattle.ttp_world.specs.Hypothesis.{ClusterStart, loses}
+use Rattle.ttp_world.specs.Messages.{messages_of, delivered_of, new_messages}
+use Rattle.ttp_world.specs.Past.{NodePast}
+use Rattle.ttp_world.specs.Reception.{Hearing, expected_of}
+use Rattle.ttp_world.specs.World.{BegunNode, BegunSlot, SlotNumbers, Numbers, node_of, slot_after, frames_in}
+use Rattle.ttp_world.specs.World.{hearing_in, delivered_in}
+use Rattle.ttp_world.specs.World.{messages_chosen, world}
+use Rattle.ttp_world.proofs.Carried.{delivered_of-told}
+use Rattle.ttp_world.proofs.LegalShapes.{legal-shapes}
+use Rattle.ttp_world.proofs.Slots.{node_of-slot_after}
+use Rattle.ttp_world.proofs.Worlds.{row_of_world, length-world}
+use Rattle.fault_plan.specs.Plan.{Plan, sender}
+use Rattle.fault_plan.specs.Fates.{is_good_slot}
+use Rattle.fault_plan.specs.Places.{planned_place}
+use Rattle.fault_plan.proofs.Places.{place-sender}
+use Rattle.safety_laws.specs.Deliveries.{payload_of_frame, delivery_at}
+use Rattle.safety_laws.specs.NodeSlot.{entry_made}
+use Rattle.safety_laws.specs.NotedByPlan.{IsSoundIn, NotesNothing}
+use Rattle.safety_laws.specs.PlanTurn.{IsTurn}
+use Rattle.safety_laws.proofs.Deliveries.{delivers-correct}
+use Rattle.safety_laws.proofs.NodeSlots.{entry_of-made}
+use Rattle.safety_laws.proofs.OneSender.{comes-alone}
+use Rattle.safety_laws.proofs.Arrivals.{sound-alone}
+use Rattle.safety_laws.proofs.Receivers.{sound-judge, judges-good}
+use Rattle.safety_laws.proofs.PlanTurns.{slot_of, slot_number}
+use Rattle.safety_laws.proofs.NotedEntries.{stayed-before, own-sent, notes-other}
+
+-- One entry.
+
+abbrev pub is_judgement : Entry → Bool
+is_judgement (entry.Judged sender v deviation) = true
+is_judgement _ = false
+
+wrong-none : (list : Medl) (k : ℕ) (past : NodePast) (h : Hearing) (e : Entry) → NotesNothing e
+    → delivery list k past h e ≡ None
+wrong-none list k past h (entry.Judged sender v deviation) none =
+    ap (λ b. cond (b && carries_payload list (coming_place list past))
+    (Some (record { sender = sender; payload = payload_taken list (expected_of list k past) h })) None) none
+wrong-none list k past h _ none = absurd none
+
+unjudged-none : (list : Medl) (k : ℕ) (past : NodePast) (h : Hearing) (e : Entry) → is_judgement e ≡ false
+    → delivery list k past h e ≡ None
+unjudged-none list k past h (entry.Judged sender v deviation) none = absurd (false≢true (sym none))
+unjudged-none list k past h _ none = refl
+
+-- by an entry that judges no frame correct nothing is delivered
+module _ (list : Medl) (script : Script) (history : History) (row : List Entry) (k : ℕ) where
+  s : BegunSlot
+  s = slot_after list script history
+
+  heard : Hearing
+  heard = hearing_in s (frames_in s (messages_of list script (length history) row)) k
+
+  delivers-wrong : NotesNothing (entry_of row k) → delivered_of list script history row k ≡ None
+  unfolding s heard
+  delivers-wrong none = wrong-none list k (node_of s k).past heard (entry_of row k) none
+
+  pub delivers-unjudged : is_judgement (entry_of row k) ≡ false → delivered_of list script history row k ≡ None
+  unfolding s heard
+  delivers-unjudged none = unjudged-none list k (node_of s k).past heard (entry_of row k) none
+
+-- of another node's frame nothing is told
+other-none : (carries : Bool) (owner p : ℕ) (payload : List ℕ) → p ≢ owner
+    → new_messages p (cond carries (Some (record { sender = owner; payload = payload })) None) ≡ []
+other-none true owner p payload apart =
+    ap (λ b. cond b (payload ∷ []) []) (ne_eqb owner p (λ same. apart (sym same)))
+other-none false owner p payload apart = refl
+
+module _ (list : Medl) (script : Script) (start : ClusterStart) (plan : Plan) (turn : ℕ) (new : SlotNumbers)
+    (numbers : Numbers) (t : IsTurn list script start plan turn new numbers) (stay : plan.returns ≡ []) where
+  -- what comes of a node's delivery in the row is what its slot makes
+  delivered-made : (k : ℕ) → k < length list.slots →
+      let x = slot_of list script new numbers k in
+      delivered_of list script (world list script numbers) (row_of_world list script new numbers) k
+      ≡ delivery list k x.past x.hearing (entry_made x)
+  delivered-made k node =
+      let s = slot_after list script (world list script numbers) in
+      let chosen = messages_chosen list script (length numbers) new.sent in
+      let row = row_of_world list script new numbers in
+      let x = slot_of list script new numbers k in
+      let told = (legal-shapes list script (new ∷ numbers) t.legal).0.sent in
+      delivered_of-told list script (world list script numbers) row k
+      ∙ (λ i. delivered_in s
+      (frames_in s (messages_chosen list script (length-world list script numbers i) (sym told i))) k (entry_of row k))
+      ∙ ap (λ (n : BegunNode). delivery list k n.past (hearing_in s (frames_in s chosen) k) (entry_of row k))
+      (node_of-slot_after list script (world list script numbers) k node)
+      ∙ ap (delivery list k x.past x.hearing)
+      (entry_of-made list script (world list script numbers) chosen k node)
+
+  -- the frame of the turn's sender
+  bytes : List ℕ
+  bytes =
+      let x = slot_of list script new numbers (sender plan (suc turn)) in
+      own_frame list (sender plan (suc turn)) x.past x.chosen
+
+  place : Place
+  place = next_place list (planned_place list plan turn)
+
+  -- in a good slot each sound node but the sender delivers the sender's payload
+  delivers-good : (k : ℕ) → IsSoundIn list plan (suc turn) k → sender plan (suc turn) ≢ k
+      → is_good_slot plan (suc turn) ≡ true
+      → delivered_of list script (world list script numbers) (row_of_world list script new numbers) k
+      ≡ delivery_at list place bytes
+  unfolding bytes place
+  delivers-good k sound other good =
+      let e = sender plan (suc turn) in
+      let was = stayed-before list script start plan turn new numbers t stay in
+      let judge = sound-judge list script start plan turn new numbers t k sound.0 other (was k sound.1) in
+      let judged =
+      judges-good list script start plan turn new numbers t k sound.0 other (was k sound.1) good (was e good) sound.1 in
+      let less = subst (λ n. k < n) (sym t.planned.follows.nodes) sound.0 in
+      let kept =
+      ap (λ n. loses script e n k) (slot_number list script start plan turn new numbers t)
+      ∙ (t.planned.follows.hearing (suc turn) t.within).heard k less (λ same. other (sym same)) good sound.1 in
+      let comes = comes-alone list script (world list script numbers) _ e k
+      (sound-alone list script start plan turn new numbers t (was e good)) kept in
+      delivered-made k sound.0
+      ∙ delivers-correct (slot_of list script new numbers k) _ _ judge.judging comes judged.entry
+      ∙ ap (λ (p : Place). delivery_at list p bytes) (ap (next_place list) judge.at.place)
+
+  owner : place.slot ≡ sender plan (suc turn)
+  unfolding place
+  owner = place-sender list plan (suc turn) t.planned.follows.nodes t.planned.follows.good.starter.0
+
+  -- of third nodes' frames each delivers the same
+  planned_messages : ℕ → List (List ℕ)
+  planned_messages p = new_messages p (cond (is_good_slot plan (suc turn)) (delivery_at list place bytes) None)
+
+  messages-by_plan : (k p : ℕ) → IsSoundIn list plan (suc turn) k → p ≢ k
+      → new_messages p
+      (delivered_of list script (world list script numbers) (row_of_world list script new numbers) k)
+      ≡ planned_messages p
+  unfolding planned_messages
+  messages-by_plan k p sound apart = by (is_good_slot plan (suc turn)) refl
+    where
+      by : (good : Bool) → is_good_slot plan (suc turn) ≡ good
+          → new_messages p
+          (delivered_of list script (world list script numbers) (row_of_world list script new numbers) k)
+          ≡ new_messages p (cond (is_good_slot plan (suc turn)) (delivery_at list place bytes) None)
+      by false wrong =
+          ap (new_messages p) (delivers-wrong list script (world list script numbers)
+          (row_of_world list script new numbers) k
+          (notes-other list script start plan turn new numbers t k wrong sound))
+          ∙ ap (λ good. new_messages p (cond good (delivery_at list place bytes) None)) (sym wrong)
+      by true good = elim (cases_eq (sender plan (suc turn)) k) [
+        | inl own ↦
+            ap (new_messages p) (delivers-unjudged list script (world list script numbers)
+            (row_of_world list script new numbers) k
+            (ap is_judgement (own-sent list script start plan turn new numbers t k sound own).1))
+            ∙ sym (other-none (carries_payload list place) place.slot p (payload_of_frame list place bytes)
+            (λ same. apart (same ∙ owner ∙ own)))
+            ∙ ap (λ good. new_messages p (cond good (delivery_at list place bytes) None)) (sym good)
+        | inr other ↦
+            ap (new_messages p) (delivers-good k sound other good)
+            ∙ ap (λ good. new_messages p (cond good (delivery_at list place bytes) None)) (sym good)
+      ]
+
+  pub messages-alike : (j k p : ℕ) → IsSoundIn list plan (suc turn) j → IsSoundIn list plan (suc turn) k
+      → p ≢ j → p ≢ k
+      → new_messages p
+      (delivered_of list script (world list script numbers) (row_of_world list script new numbers) j)
+      ≡ new_messages p
+      (delivered_of list script (world list script numbers) (row_of_world list script new numbers) k)
+  messages-alike j k p sound_j sound_k apart_j apart_k =
+      messages-by_plan j p sound_j apart_j ∙ sym (messages-by_plan k p sound_k apart_k)
+
+  -- of a node that does not send nothing is delivered, and of one's own frame neither
+  planned-other : (p : ℕ) → sender plan (suc turn) ≢ p → planned_messages p ≡ []
+  unfolding planned_messages
+  planned-other p apart = by (is_good_slot plan (suc turn)) refl
+    where
+      by : (good : Bool) → is_good_slot plan (suc turn) ≡ good
+          → new_messages p (cond (is_good_slot plan (suc turn)) (delivery_at list place bytes) None) ≡ []
+      by false wrong = ap (λ good. new_messages p (cond good (delivery_at list place bytes) None)) wrong
+      by true good =
+          ap (λ good. new_messages p (cond good (delivery_at list place bytes) None)) good
+          ∙ other-none (carries_payload list place) place.slot p (payload_of_frame list place bytes)
+          (λ same. apart (sym (same ∙ owner)))
+
+  pub messages-other : (k p : ℕ) → IsSoundIn list plan (suc turn) k → p ≢ k → sender plan (suc turn) ≢ p
+      → new_messages p
+      (delivered_of list script (world list script numbers) (row_of_world list script new numbers) k) ≡ []
+  messages-other k p sound apart other = messages-by_plan k p sound apart ∙ planned-other p other
+
+  pub messages-own : (k : ℕ) → IsSoundIn list plan (suc turn) k
+      → new_messages k
+      (delivered_of list script (world list script numbers) (row_of_world list script new numbers) k) ≡ []
+  messages-own k sound = elim (cases_eq (sender plan (suc turn)) k) [
+    | inl own ↦
+        ap (new_messages k) (delivers-unjudged list script (world list script numbers)
+        (row_of_world list script new numbers) k
+        (ap is_judgement (own-sent list script start plan turn new numbers t k sound own).1))
+    | inr other ↦ by (is_good_slot plan (suc turn)) refl other
+  ]
+    where
+      by : (good : Bool) → is_good_slot plan (suc turn) ≡ good → sender plan (suc turn) ≢ k
+          → new_messages k
+          (delivered_of list script (world list script numbers) (row_of_world list script new numbers) k) ≡ []
+      by false wrong other =
+          ap (new_messages k) (delivers-wrong list script (world list script numbers)
+          (row_of_world list script new numbers) k
+          (notes-other list script start plan turn new numbers t k wrong sound))
+      by true good other =
+          ap (new_messages k) (delivers-good k sound other good)
+          ∙ other-none (carries_payload list place) place.slot k (payload_of_frame list place bytes)
+          (λ same. other (sym (same ∙ owner)))
+
+  pub delivers-frame : (k : ℕ) → IsSoundIn list plan (suc turn) k → sender plan (suc turn) ≢ k
+      → is_good_slot plan (suc turn) ≡ true →
+      let x = slot_of list script new numbers (sender plan (suc turn)) in
+      delivered_of list script (world list script numbers) (row_of_world list script new numbers) k
+      ≡ delivery_at list (next_place list (planned_place list plan turn))
+      (own_frame list (sender plan (suc turn)) x.past x.chosen)
+  unfolding bytes place
+  delivers-frame k sound other good = delivers-good k sound other good

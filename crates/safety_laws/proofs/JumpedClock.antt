@@ -1,0 +1,319 @@
+-- A clock that has jumped stays far from those of sound nodes, until its own slot.
+use Rattle.std.proofs.Common.{◌≡◌, ℕ, zero, suc, ◌+◌, ◌<◌, ◌≤◌, ℤ, pos, ◌+ℤ◌, ◌-ℤ◌, ◌*ℤ◌, ◌≤ℤ◌}
+use Rattle.std.proofs.Common.{true, cond, inl, inr, List, [], ◌∷◌, length, refl, ap, sym, subst}
+use Rattle.std.proofs.Common.{◌∙◌, arith}
+use Rattle.std.specs.Prelude.{◌==◌}
+use Rattle.std.proofs.lemmas.Bool.{cases_lt, ne_eqb}
+use Rattle.std.proofs.lemmas.Int.{ints}
+use Rattle.std.proofs.lemmas.List.Elements.{All-nil}
+use Rattle.ttp_world.specs.declared.medl.Medl.{Medl}
+use Rattle.ttp_world.specs.declared.node.Entry.{Entry}
+use Rattle.ttp_world.specs.declared.script.Script.{Script}
+use Rattle.ttp_world.specs.Clock.{notes_in}
+use Rattle.ttp_world.specs.Diary.{History, entry_of, diary_of, continues_stint, next_place, stint_place}
+use Rattle.ttp_world.specs.Hypothesis.{ClusterStart, needed, drift_share}
+use Rattle.ttp_world.specs.Medl.{IsValid}
+use Rattle.ttp_world.specs.Script.{drift_of, jump_of}
+use Rattle.precision.specs.Spread.{spread}
+use Rattle.precision.specs.Together.{clock_at}
+use Rattle.precision.proofs.Averages.{IsUpTo, AreNear}
+use Rattle.precision.proofs.ClockBounds.{drift_within}
+use Rattle.precision.proofs.Entries.{place_continued, clock_at-still}
+use Rattle.precision.proofs.Rounds.{drift_in, correction, product_up}
+use Rattle.precision.proofs.Runs.{clock_after, round_notes}
+use Rattle.fault_plan.specs.Plan.{Jumping, Plan, sender}
+use Rattle.fault_plan.specs.Fates.{Falling, fate_of, is_sound_after}
+use Rattle.fault_plan.specs.Kept.{FollowsWithin}
+use Rattle.fault_plan.specs.Places.{planned_place}
+use Rattle.safety_laws.specs.NotedByPlan.{IsSoundIn, NotesNothing, GoesOnByPlan, IsTight}
+use Rattle.safety_laws.proofs.Apart.{noted_width, Apart, Fresh, Before}
+use Rattle.safety_laws.proofs.Apart.{apart-next, same-near}
+use Rattle.safety_laws.proofs.Bounds.{tight-clocks}
+use Rattle.safety_laws.proofs.JumpedFates.{jumped-back}
+use Rattle.safety_laws.proofs.NearNotes.{clock_moved, clock-next, notes-next, NextSlot, index-of, near-new}
+use Rattle.safety_laws.proofs.NearNotes.{sound-moved, still-of, needed-up}
+use Rattle.safety_laws.proofs.RoundKnown.{NotesKnown, notes-known, sound-clock}
+use Rattle.safety_laws.proofs.RoundNotes.{none-silent, goes-silent, sender-in, place-slot, sound-goes, sound-back}
+use Rattle.safety_laws.proofs.RoundNotes.{tight-stays, tight-back}
+use Rattle.safety_laws.proofs.BeganTogether.{number-of, counted-run}
+
+-- Node x is sound up to slot base + 1, and in the slot after that its clock jumps, so far. What follows counts slots q
+-- from base on, while x's next own slot has not come.
+pub record JumpsAfter (list : Medl) (script : Script) (start : ClusterStart) (plan : Plan) (x base : ℕ) (jump : ℤ)
+    : Type 0 where
+  pub valid : IsValid list
+  pub follows : FollowsWithin list script start plan
+  pub inside : x < length list.slots
+  pub sound : is_sound_after plan (suc base) x ≡ true
+  -- the start is a round ago
+  pub late : length list.slots ≤ base
+  -- no entry is near
+  pub tight : (turn : ℕ) → suc base ≤ turn → turn ≤ suc (base + length list.slots) → IsTight plan turn
+  pub here : jump_of script x (start.slot + suc (suc base)) ≡ jump
+  pub once : (slot : ℕ) → suc (suc base) < slot → jump_of script x (start.slot + slot) ≡ pos 0
+
+-- how far x's clock has jumped q slots after slot base
+abbrev pub jumped_in : ℤ → ℕ → ℤ
+jumped_in jump zero = pos 0
+jumped_in jump (suc zero) = pos 0
+jumped_in jump (suc (suc q)) = jump
+
+-- x's place, and both clocks
+pub record StaysApart (list : Medl) (script : Script) (plan : Plan) (slot x k q : ℕ) (jumped : ℤ) (history : History)
+    : Type 0 where
+  pub place : stint_place list x (diary_of history x) ≡ planned_place list plan slot
+  pub apart : Apart list (sender plan slot) q (clock_after list script history x -ℤ jumped)
+      (clock_after list script history k) (round_notes list history x)
+
+-- Numbers.
+
+both-sides : (w v a b x y : ℤ) → (x -ℤ y) ≤ℤ w → (y -ℤ x) ≤ℤ w → x ≡ a → y ≡ b → w ≤ℤ v → IsUpTo v ((a -ℤ pos 0) -ℤ b)
+both-sides w v a b x y above below is was wide =
+    (omega (arith, ints, above, below, is, was, wide), omega (arith, ints, above, below, is, was, wide))
+
+spread-fits : (share e b : ℤ) → pos 0 ≤ℤ e → pos 0 ≤ℤ b
+    → (share +ℤ (e *ℤ pos 2 +ℤ pos 1)) ≤ℤ ((share +ℤ (e *ℤ pos 3 +ℤ pos 1)) +ℤ (b +ℤ b))
+spread-fits share e b up some = omega (arith, ints, up, some)
+
+less-none : (z : ℤ) → z -ℤ pos 0 ≡ z
+less-none z = omega (arith, ints)
+
+-- x goes on in the slot, and what it notes is near k
+record NotesNear (list : Medl) (script : Script) (plan : Plan) (slot x k : ℕ) (jumped : ℤ) (row : List Entry)
+    (history : History) : Type 0 where
+  goes : continues_stint (entry_of row x) ≡ true
+  near : AreNear (noted_width list (sender plan (suc slot))) (clock_moved list script history x -ℤ jumped)
+      (clock_moved list script history k) (notes_in list (planned_place list plan (suc slot)) (entry_of row x))
+
+drift-jumps : (o j d a b w : ℤ) → b ≡ a +ℤ j → IsUpTo w d
+    → IsUpTo w (((o +ℤ (j +ℤ (d +ℤ pos 0))) -ℤ b) -ℤ (o -ℤ a))
+drift-jumps o j d a b w is h = (omega (arith, ints, is, h.0, h.1), omega (arith, ints, is, h.0, h.1))
+
+shift-jump : (z c r j : ℤ) → z ≡ c +ℤ r → z -ℤ j ≡ (c -ℤ j) +ℤ r
+shift-jump z c r j is = omega (arith, ints, is)
+
+module _ {list : Medl} {script : Script} {start : ClusterStart} {plan : Plan} {x base : ℕ} {jump : ℤ}
+    (jumps : JumpsAfter list script start plan x base jump) where
+  -- what the next slot adds to the jump in its clock
+  jumped-next : (slot q : ℕ) → start.slot + suc slot < script.slots → slot ≡ base + q
+      → jumped_in jump (suc q) ≡ jumped_in jump q +ℤ jump_of script x (start.slot + suc slot)
+  jumped-next slot zero within is =
+      none-of (jump_of script x (start.slot + suc slot))
+      (jumps.follows.planned.clocks (suc slot) x jumps.inside within
+      (subst (λ t. is_sound_after plan (suc t) x ≡ true) (sym same) jumps.sound))
+    where
+      same : slot ≡ base
+      same = omega (arith, is)
+
+      none-of : (j : ℤ) → j ≡ pos 0 → pos 0 ≡ pos 0 +ℤ j
+      none-of j none = omega (arith, ints, none)
+  jumped-next slot (suc zero) within is =
+      let there : suc (suc base) ≡ suc slot = omega (arith, is) in
+      one-of (jump_of script x (start.slot + suc slot)) jump
+      (subst (λ t. jump_of script x (start.slot + t) ≡ jump) there jumps.here)
+    where
+      one-of : (j z : ℤ) → j ≡ z → z ≡ pos 0 +ℤ j
+      one-of j z is = omega (arith, ints, is)
+  jumped-next slot (suc (suc q)) within is =
+      more-of (jump_of script x (start.slot + suc slot)) jump (jumps.once (suc slot) (omega (arith, is)))
+    where
+      more-of : (j z : ℤ) → j ≡ pos 0 → z ≡ z +ℤ j
+      more-of j z none = omega (arith, ints, none)
+
+  -- Slot base.
+
+  stays-base : {slot : ℕ} {history : History} (k : ℕ) → GoesOnByPlan list script start plan slot history
+      → slot ≡ base → IsSoundIn list plan (suc slot) k
+      → StaysApart list script plan slot x k 0 (pos 0) history
+  stays-base {slot = slot} {history = history} k goes is q = record {
+    place = (counted-run list script start plan slot history jumps.follows.planned goes.noted).places x
+        (sound-back list plan slot x (tight-stays plan (suc slot) x tight) p);
+    apart = elim (cases_lt (suc m) (length list.slots)) [
+      | inl less ↦
+          Before less (omega arith) (near (noted_width list m) (fits m))
+          (same-near (noted_width list m) (clock_after list script history x) (clock_after list script history k)
+          (clock_after list script history x -ℤ pos 0) (clock_after list script history k)
+          (round_notes list history x) (less-none (clock_after list script history x)) refl
+          (known.near (tight-back plan slot (goes-in less) tight) early less x k
+          (sound-back list plan slot x (tight-stays plan (suc slot) x tight) p)
+          (sound-back list plan slot k (tight-stays plan (suc slot) k tight) q)))
+      | inr ends ↦
+          Fresh refl (omega (arith, ends, inside))
+          (near (needed list) (fewer (drift_share list) list.error jumps.valid.error.0))
+    ];
+  }
+    where
+      m : ℕ
+      m = sender plan slot
+
+      tight : IsTight plan (suc slot)
+      tight = jumps.tight (suc slot) (omega (arith, is)) (omega (arith, is))
+
+      goes-in : suc (sender plan slot) < length list.slots → sender plan (suc slot) ≡ suc (sender plan slot)
+      goes-in less =
+          index-of list script start plan slot jumps.follows.planned
+          ∙ ap (λ b. cond b 0 (suc (sender plan slot)))
+          (ne_eqb (suc (sender plan slot)) (length list.slots) (λ same. omega (arith, less, same)))
+
+      inside : sender plan slot < length list.slots
+      inside = sender-in list script start plan slot jumps.follows.planned
+
+      early : sender plan slot < slot
+      early = omega (arith, sender-in list script start plan slot jumps.follows.planned, jumps.late, is)
+
+      p : IsSoundIn list plan (suc slot) x
+      p = (jumps.inside, subst (λ t. is_sound_after plan (suc t) x ≡ true) (sym is) jumps.sound)
+
+      known : NotesKnown list script plan slot history
+      known = notes-known list script start plan slot history jumps.valid jumps.follows goes.noted
+          (omega (arith, goes.within, number-of list script start plan slot history goes.noted))
+
+      begun : (j : ℕ) → IsSoundIn list plan (suc slot) j
+          → clock_at list script history j ≡ clock_after list script history j
+      begun j r =
+          clock_at-still list script history j
+          (still-of goes j r)
+
+      near : (w : ℤ) → spread list ≤ℤ w
+          → IsUpTo w ((clock_after list script history x -ℤ pos 0) -ℤ clock_after list script history k)
+      near w wide =
+          both-sides (spread list) w (clock_after list script history x) (clock_after list script history k)
+          (clock_at list script history x) (clock_at list script history k)
+          (tight-clocks goes tight x k p q)
+          (tight-clocks goes tight k x q p)
+          (begun x p) (begun k q) wide
+
+      fewer : (share e : ℤ) → pos 0 ≤ℤ e
+          → (share +ℤ (e *ℤ pos 2 +ℤ pos 1)) ≤ℤ (share +ℤ (e *ℤ pos 3 +ℤ pos 1))
+      fewer share e up = omega (arith, ints, up)
+
+      fits : (i : ℕ) → spread list ≤ℤ noted_width list i
+      fits i = spread-fits (drift_share list) list.error (drift_in list (suc i)) jumps.valid.error.0
+          (product_up list.drift (suc i) jumps.valid.drift.0)
+
+  -- One slot more.
+
+  stays-next : {slot : ℕ} {row : List Entry} {history : History} (k q : ℕ)
+      → NextSlot list script start plan slot row history
+      → slot ≡ base + q → suc q ≤ length list.slots → IsSoundIn list plan (suc slot) k
+      → NotesNear list script plan slot x k (jumped_in jump (suc q)) row history
+      → StaysApart list script plan slot x k q (jumped_in jump q) history
+      → StaysApart list script plan (suc slot) x k (suc q) (jumped_in jump (suc q)) (row ∷ history)
+  stays-next {slot = slot} {row = row} {history = history} k q s is few p new before = record {
+    place = place;
+    apart = apart-next list (sender plan slot) q (clock_after list script history x -ℤ jumped_in jump q)
+        (clock_after list script history k) (round_notes list history x) (sender plan (suc slot))
+        (clock_after list script (row ∷ history) x -ℤ jumped_in jump (suc q))
+        (clock_after list script (row ∷ history) k) (round_notes list (row ∷ history) x)
+        (record {
+          many = jumps.valid.count.0;
+          needs = needed-up list jumps.valid;
+          later_c = clock_moved list script history x -ℤ jumped_in jump (suc q);
+          later_k = clock_moved list script history k;
+          moved = record {
+            up = jumps.valid.drift.0;
+            first = drift-jumps (clock_after list script history x) (jump_of script x (length history))
+                (drift_of script x) (jumped_in jump q) (jumped_in jump (suc q)) list.drift added
+                (drift_within list script x jumps.follows.bounds.clocks jumps.inside);
+            second = sound-moved s k p;
+          };
+          next = index-of list script start plan slot jumps.follows.planned;
+          new = notes_in list (planned_place list plan (suc slot)) (entry_of row x);
+          near = new.near;
+          noted = notes-next list row history x (sender plan slot) (planned_place list plan (suc slot))
+              (suc (sender plan slot) == length list.slots) new.goes place
+              (index ∙ index-of list script start plan slot jumps.follows.planned);
+          others = round_notes list (row ∷ history) k;
+          small = known.small s.tight early k p;
+          first = shift-jump (clock_after list script (row ∷ history) x) (clock_moved list script history x)
+              (correction list (sender plan (suc slot)) (round_notes list (row ∷ history) x)) (jumped_in jump (suc q))
+              (clock-next list script row history x (planned_place list plan (suc slot)) new.goes place
+              ∙ ap (λ m. clock_moved list script history x +ℤ correction list m (round_notes list (row ∷ history) x))
+              index);
+          second = sound-clock s k p;
+        }) few before.apart;
+  }
+    where
+      place : stint_place list x (diary_of (row ∷ history) x) ≡ planned_place list plan (suc slot)
+      place = place_continued list x (diary_of history x) (entry_of row x) new.goes ∙ ap (next_place list) before.place
+
+      index : (planned_place list plan (suc slot)).slot ≡ sender plan (suc slot)
+      index = place-slot list script start plan (suc slot) jumps.follows.planned
+
+      number : start.slot + suc slot ≡ length history
+      number = omega (arith, number-of list script start plan slot history s.before.noted)
+
+      added : jumped_in jump (suc q) ≡ jumped_in jump q +ℤ jump_of script x (length history)
+      added = jumped-next slot q s.before.within is
+          ∙ ap (λ t. jumped_in jump q +ℤ jump_of script x t) number
+
+      known : NotesKnown list script plan (suc slot) (row ∷ history)
+      known = notes-known list script start plan (suc slot) (row ∷ history) jumps.valid jumps.follows
+          (s.before.noted, s.noted) (omega (arith, s.before.within, number))
+
+      early : sender plan (suc slot) < suc slot
+      early = omega (arith, sender-in list script start plan (suc slot) jumps.follows.planned, jumps.late, is)
+
+  -- x is sound in the first of these slots, and has jumped in the others
+  notes-near : {slot : ℕ} {row : List Entry} {history : History} (k q : ℕ)
+      → NextSlot list script start plan slot row history
+      → slot ≡ base + q → IsSoundIn list plan (suc slot) k
+      → (suc (suc base) ≤ suc slot → fate_of plan (suc slot) x ≡ Falling Jumping (suc (suc base)))
+      → NotesNear list script plan slot x k (jumped_in jump (suc q)) row history
+  notes-near {slot = slot} {row = row} {history = history} k zero s is p falls =
+      let same : base ≡ slot = omega (arith, is) in
+      let sound : IsSoundIn list plan (suc slot) x =
+      (jumps.inside, subst (λ t. is_sound_after plan (suc t) x ≡ true) same jumps.sound) in
+      record {
+        goes = sound-goes list script plan (suc slot) x row history s.noted sound
+            (tight-stays plan (suc slot) x s.tight);
+        near = same-near (noted_width list (sender plan (suc slot))) (clock_moved list script history x)
+            (clock_moved list script history k) (clock_moved list script history x -ℤ pos 0)
+            (clock_moved list script history k) (notes_in list (planned_place list plan (suc slot)) (entry_of row x))
+            (less-none (clock_moved list script history x)) refl
+            (near-new s x k sound p);
+      }
+  notes-near {slot = slot} {row = row} {history = history} k (suc q) s is p falls =
+      let none : NotesNothing (entry_of row x) =
+      s.noted.jumped x (suc (suc base)) jumps.inside (falls (omega (arith, is))) in
+      record {
+        goes = goes-silent (entry_of row x) none;
+        near = subst (AreNear (noted_width list (sender plan (suc slot)))
+            (clock_moved list script history x -ℤ jump) (clock_moved list script history k))
+            (sym (none-silent list (planned_place list plan (suc slot)) (entry_of row x) none))
+            (All-nil (λ d. IsUpTo (noted_width list (sender plan (suc slot)))
+            (((clock_moved list script history x -ℤ jump) +ℤ d) -ℤ clock_moved list script history k)));
+      }
+
+  pub stays-apart : (k slot : ℕ) (history : History) (q : ℕ) → GoesOnByPlan list script start plan slot history
+      → slot ≡ base + q → q ≤ length list.slots
+      → IsSoundIn list plan (suc slot) k
+      → (suc (suc base) ≤ slot → fate_of plan slot x ≡ Falling Jumping (suc (suc base)))
+      → StaysApart list script plan slot x k q (jumped_in jump q) history
+  stays-apart k slot [] q goes is few p falls = absurd goes.noted
+  stays-apart k zero (row ∷ history) q goes is few p falls =
+      absurd (omega (arith, is, jumps.late, jumps.valid.count.0))
+  stays-apart k (suc slot) (row ∷ history) zero goes is few p falls =
+      stays-base k goes (omega (arith, is)) p
+  stays-apart k (suc slot) (row ∷ history) (suc q) goes is few p falls =
+      let tight : IsTight plan (suc slot) = jumps.tight (suc slot) (omega (arith, is)) (omega (arith, is, few)) in
+      let s : NextSlot list script start plan slot row history = record {
+        before = record {
+          valid = jumps.valid;
+          follows = jumps.follows;
+          noted = goes.noted.0;
+          within = omega (arith, goes.within);
+        };
+        noted = goes.noted.1;
+        tight = tight;
+      } in
+      let same : slot ≡ base + q = omega (arith, is) in
+      let later : IsTight plan (suc (suc slot)) =
+      jumps.tight (suc (suc slot)) (omega (arith, is)) (omega (arith, is, few)) in
+      let back : IsSoundIn list plan (suc slot) k =
+      sound-back list plan (suc slot) k (tight-stays plan (suc (suc slot)) k later) p in
+      stays-next k q s same (omega (arith, few)) back
+      (notes-near k q s same back falls)
+      (stays-apart k slot history q s.before same
+      (omega (arith, few)) back (λ late. jumped-back plan slot x (suc (suc base)) jumps.follows.planned.good
+      (inl (falls (omega (arith, late)))) (λ now. omega (arith, now, late))))

@@ -1,0 +1,167 @@
+-- A lost node in another's slot, and a node that is lost in one.
+use Rattle.std.proofs.Common.{◌≡◌, ◌≢◌, ℕ, suc, ◌+◌, ◌*◌, ◌<◌, ◌≤◌, ℤ, pos, false, length, refl, ap, sym}
+use Rattle.std.proofs.Common.{subst, ◌∙◌, ◌⊎◌, inl, inr, arith}
+use Rattle.std.proofs.lemmas.Bool.{false_from_ne_true}
+use Rattle.ttp_base.specs.NodeSet.{has_node}
+use Rattle.ttp_world.specs.declared.node.Phase.TheVariants as phase
+use Rattle.ttp_world.specs.declared.node.Verdict.{Verdict}
+use Rattle.ttp_world.specs.declared.node.Verdict.TheVariants as verdict
+use Rattle.ttp_world.specs.Acknowledgement.{is_correct}
+use Rattle.ttp_world.specs.After.{judged_members}
+use Rattle.ttp_world.specs.Diary.{next_place}
+use Rattle.fault_plan.specs.Plan.{Change, Receiving, Jumping, Plan, sender}
+use Rattle.fault_plan.specs.GoodPlan.{IsGoodPlan}
+use Rattle.fault_plan.proofs.Ledgers.{ledger-told}
+use Rattle.safety_laws.specs.Groups.{IsUnanswered, HearsNoAnswer}
+use Rattle.safety_laws.specs.Heard.{HearsNoFrame}
+use Rattle.safety_laws.specs.NodeSlot.{NodeSlot, next_past, owner_of}
+use Rattle.safety_laws.specs.Standing.{IsJudgedAs}
+use Rattle.safety_laws.specs.Turns.{IsJudging, HearsOutside}
+use Rattle.safety_laws.specs.ByFate.{IsSoundAt, IsFallingAt, IsFallenAt}
+use Rattle.safety_laws.proofs.ListedSets.{has_node-taken_out}
+use Rattle.safety_laws.proofs.Unanswered.{stays-judged, stays-unanswered, not_held-judging}
+use Rattle.safety_laws.proofs.Verdicts.{judged-outside, judged-none, judged-whatever}
+use Rattle.safety_laws.proofs.SoundNodes.{IsSoundJudge}
+
+-- by its judgement, which is not correct, a node notes nothing
+pub record IsJudgedWrong (x : NodeSlot) : Type 0 where
+  pub verdict : Verdict
+  pub deviation : ℤ
+  pub judged : IsJudgedAs x verdict deviation
+  pub wrong : is_correct verdict ≡ false
+
+-- no frame comes to a node inside its window
+pub data HearsLate (x : NodeSlot) : Type 0 where
+  NoFrame : HearsNoFrame x.hearing → HearsLate x
+  Outside : (sender : ℕ) → HearsOutside x sender → HearsLate x
+
+pub late-wrong : (x : NodeSlot) → IsJudging x → HearsLate x → IsJudgedWrong x
+late-wrong x is (NoFrame none) = elim (judged-none x is none) [
+  | inl null ↦ record { verdict = verdict.Null; deviation = pos 0; judged = null; wrong = refl }
+  | inr invalid ↦ record { verdict = verdict.Invalid; deviation = pos 0; judged = invalid; wrong = refl }
+]
+late-wrong x is (Outside sender hears) = record {
+  verdict = verdict.Invalid;
+  deviation = x.hearing.deviation sender;
+  judged = judged-outside x sender is hears;
+  wrong = refl;
+}
+
+module _ (plan : Plan) (turn : ℕ) (x : NodeSlot) (judging : IsJudging x) where
+  falling-by : (change : Change) (since : ℕ) (v : Verdict) (deviation : ℤ)
+      → IsFallingAt x.list plan turn x.node change since x.past → IsJudgedAs x v deviation
+      → (change ≡ Receiving → has_node (next_past x).members (sender plan since) ≡ false)
+      → (IsUnanswered x.node x.past.ack → IsUnanswered x.node (next_past x).ack)
+      → IsFallingAt x.list plan (suc turn) x.node change since (next_past x)
+  falling-by change since v deviation at judged lacks still = record {
+    phase = judged.phase;
+    place = judged.place ∙ ap (next_place x.list) at.place;
+    later = judged.cold_start ∙ at.later;
+    lacks = lacks;
+    waits = λ before is own. still (at.waits before is own);
+  }
+
+  -- what is not answered stays so where the node does not leave
+  still-unanswered : HearsNoAnswer x → (next_past x).phase ≡ phase.Active → IsUnanswered x.node x.past.ack
+      → IsUnanswered x.node (next_past x).ack
+  still-unanswered answer active unanswered = elim (stays-unanswered x judging unanswered answer) [
+    | inl stays ↦ stays.ack
+    | inr left ↦ let both : phase.Active ≡ phase.Left = sym active ∙ left.phase in cc
+  ]
+
+  -- before its first own slot a receiver that was lost judges whatever comes, or leaves; the sender that it lacks is
+  -- not the owner
+  pub deaf-judges : (since : ℕ) → IsFallingAt x.list plan turn x.node Receiving since x.past
+      → sender plan since < length x.list.slots → sender plan since ≢ owner_of x → HearsNoAnswer x
+      → ((next_past x).phase ≡ phase.Left) ⊎ IsFallingAt x.list plan (suc turn) x.node Receiving since (next_past x)
+  deaf-judges since at listed apart answer = elim (judged-whatever x judging) [
+    | inl some ↦
+        inr (falling-by Receiving since some.0 some.1.0 at some.1.1
+        (λ deaf. not_held-judging x (sender plan since) judging listed apart (at.lacks deaf))
+        (still-unanswered answer some.1.1.phase))
+    | inr left ↦ inl left.phase
+  ]
+
+  -- a node whose clock jumped judges, and does not leave, while no frame comes inside its window
+  pub jumped-judges : (since : ℕ) → IsFallingAt x.list plan turn x.node Jumping since x.past → IsJudgedWrong x
+      → IsFallingAt x.list plan (suc turn) x.node Jumping since (next_past x)
+  jumped-judges since at wrong =
+      falling-by Jumping since wrong.verdict wrong.deviation at wrong.judged (λ deaf. cc)
+      (λ unanswered. (stays-judged x wrong.verdict wrong.deviation judging unanswered wrong.wrong wrong.judged).ack)
+
+  -- after it, no frame answers its own
+  pub fallen-judges : (since shown : ℕ) → IsFallenAt x.list plan turn x.node since shown x.past → HearsNoAnswer x
+      → suc turn < shown + plan.nodes
+      → ((next_past x).phase ≡ phase.Left) ⊎ IsFallenAt x.list plan (suc turn) x.node since shown (next_past x)
+  fallen-judges since shown at answer soon = elim (stays-unanswered x judging at.unanswered answer) [
+    | inl stays ↦ inr (record {
+      phase = stays.judged.phase;
+      place = stays.judged.place ∙ ap (next_place x.list) at.place;
+      later = stays.judged.cold_start ∙ at.later;
+      unanswered = stays.ack;
+      soon = soon;
+      early = at.early;
+    })
+    | inr left ↦ inl left.phase
+  ]
+
+-- two rounds after the start no sound node's newest own frame is a cold start
+pub sound-late : (plan : Plan) (turn : ℕ) (x : NodeSlot) → IsGoodPlan plan → x.node < plan.nodes
+    → IsSoundAt x.list plan turn x.node x.past → 2 * plan.nodes ≤ suc turn
+    → x.past.cold_start ≡ false
+sound-late plan turn x good less at late =
+    false_from_ne_true x.past.cold_start (λ cold.
+    let told = ledger-told plan turn x.node good less in
+    let first = (at.counted.cold_start cold).1 in
+    omega (arith, first, told.near, late, good.count))
+
+module _ (plan : Plan) (turn : ℕ) (x : NodeSlot) (is : IsSoundJudge plan turn x) (late : 2 * plan.nodes ≤ suc turn)
+  where
+    falls-by : (change : Change) (v : Verdict) (deviation : ℤ) → IsJudgedAs x v deviation → is_correct v ≡ false
+        → (change ≡ Receiving → has_node (next_past x).members (sender plan (suc turn)) ≡ false)
+        → IsFallingAt x.list plan (suc turn) x.node change (suc turn) (next_past x)
+    falls-by change v deviation judged wrong lacks = record {
+      phase = judged.phase;
+      place = judged.place ∙ ap (next_place x.list) is.at.place;
+      later = judged.cold_start
+          ∙ sound-late plan turn x is.good (subst (λ n. x.node < n) (sym is.nodes) is.judging.node) is.at late;
+      lacks = lacks;
+      waits = λ before is_before own.
+          let same : before ≡ turn = omega (arith, is_before) in
+          let first = is.at.fresh (ap (sender plan) (sym same) ∙ own) in
+          (stays-judged x v deviation is.judging (subst (IsUnanswered x.node) (sym first) tt) wrong judged).ack;
+    }
+
+    without_owner : (v : Verdict) (deviation : ℤ) → IsJudgedAs x v deviation
+        → ((v ≡ verdict.Null) ⊎ (v ≡ verdict.Invalid))
+        → has_node (next_past x).members (sender plan (suc turn)) ≡ false
+    without_owner v deviation judged how =
+        ap (has_node (next_past x).members) (sym is.owner)
+        ∙ ap (λ s. has_node s (owner_of x)) judged.members ∙ by v how
+      where
+        by : (v : Verdict) → ((v ≡ verdict.Null) ⊎ (v ≡ verdict.Invalid))
+            → has_node (judged_members x.past.members x.past.ack v (owner_of x)) (owner_of x) ≡ false
+        by verdict.Null how = has_node-taken_out x.past.members (owner_of x)
+        by verdict.Invalid how = has_node-taken_out x.past.members (owner_of x)
+        by verdict.Incorrect how = has_node-taken_out x.past.members (owner_of x)
+        by verdict.Denied how = has_node-taken_out x.past.members (owner_of x)
+        by verdict.Correct (inl is) = cc
+        by verdict.Correct (inr is) = cc
+        by verdict.Tentative (inl is) = cc
+        by verdict.Tentative (inr is) = cc
+
+    -- a receiver to which no frame comes
+    pub deaf-falls : HearsNoFrame x.hearing
+        → IsFallingAt x.list plan (suc turn) x.node Receiving (suc turn) (next_past x)
+    deaf-falls none = elim (judged-none x is.judging none) [
+      | inl null ↦
+          falls-by Receiving verdict.Null (pos 0) null refl
+          (λ deaf. without_owner verdict.Null (pos 0) null (inl refl))
+      | inr invalid ↦
+          falls-by Receiving verdict.Invalid (pos 0) invalid refl
+          (λ deaf. without_owner verdict.Invalid (pos 0) invalid (inr refl))
+    ]
+
+    -- a node whose clock jumps
+    pub jumped-falls : IsJudgedWrong x → IsFallingAt x.list plan (suc turn) x.node Jumping (suc turn) (next_past x)
+    jumped-falls wrong = falls-by Jumping wrong.verdict wrong.deviation wrong.judged wrong.wrong (λ deaf. cc)

@@ -1,0 +1,176 @@
+-- All notes of a tight round that began after the start: they lie near 0, and tell of frames near each sound node's clock.
+use Rattle.std.proofs.Common.{◌≡◌, ℕ, zero, suc, ◌<◌, ◌≤◌, ℤ, ◌+ℤ◌, ◌-ℤ◌, Bool, true, false, cond}
+use Rattle.std.proofs.Common.{List, [], ◌∷◌, ◌++◌, length}
+use Rattle.std.proofs.Common.{refl, ap, sym, subst, ◌∙◌, arith}
+use Rattle.std.specs.Prelude.{◌==◌, All}
+use Rattle.std.proofs.lemmas.List.Elements.{All-nil, All-append}
+use Rattle.ttp_world.specs.declared.medl.Medl.{Medl}
+use Rattle.ttp_world.specs.declared.node.Entry.{Entry}
+use Rattle.ttp_world.specs.declared.script.Script.{Script}
+use Rattle.ttp_world.specs.Clock.{notes_in}
+use Rattle.ttp_world.specs.Diary.{History, entry_of}
+use Rattle.ttp_world.specs.Hypothesis.{ClusterStart, needed}
+use Rattle.ttp_world.specs.Medl.{IsValid}
+use Rattle.precision.proofs.Averages.{IsUpTo, AreNear}
+use Rattle.precision.proofs.Rounds.{correction}
+use Rattle.precision.proofs.Runs.{clock_after, round_notes}
+use Rattle.fault_plan.specs.Plan.{Plan, sender}
+use Rattle.fault_plan.specs.Kept.{FollowsWithin}
+use Rattle.fault_plan.specs.Places.{planned_place}
+use Rattle.safety_laws.specs.NotedByPlan.{IsSoundIn, NotedByPlan, IsTight}
+use Rattle.safety_laws.proofs.Apart.{noted_width, near-later, uncorrected-in, same-near}
+use Rattle.safety_laws.proofs.NearNotes.{clock_moved, clock-next, notes-next, NextSlot, index-of, small-new, near-new}
+use Rattle.safety_laws.proofs.NearNotes.{sound-moved}
+use Rattle.safety_laws.proofs.RoundNotes.{place-slot, sound-goes, sound-back, tight-stays, tight-back}
+use Rattle.safety_laws.proofs.BeganTogether.{number-of, counted-run}
+
+pub record NotesKnown (list : Medl) (script : Script) (plan : Plan) (slot : ℕ) (history : History) : Type 0 where
+  pub small : IsTight plan slot → sender plan slot < slot → (k : ℕ) → IsSoundIn list plan slot k
+      → All (IsUpTo (needed list)) (round_notes list history k)
+  -- while the round goes on
+  pub near : IsTight plan slot → sender plan slot < slot → suc (sender plan slot) < length list.slots → (x k : ℕ)
+      → IsSoundIn list plan slot x → IsSoundIn list plan slot k
+      → AreNear (noted_width list (sender plan slot)) (clock_after list script history x)
+      (clock_after list script history k) (round_notes list history x)
+
+-- a sound node's notes after one slot more
+pub sound-notes : {list : Medl} {script : Script} {start : ClusterStart} {plan : Plan} {slot : ℕ} {row : List Entry}
+    {history : History} → NextSlot list script start plan slot row history → (k : ℕ) → IsSoundIn list plan (suc slot) k
+    → round_notes list (row ∷ history) k
+    ≡ notes_in list (planned_place list plan (suc slot)) (entry_of row k)
+    ++ cond (suc (sender plan slot) == length list.slots) [] (round_notes list history k)
+sound-notes {list = list} {script = script} {start = start} {plan = plan} {slot = slot} {row = row}
+    {history = history} s k p =
+    let counted = counted-run list script start plan (suc slot) (row ∷ history) s.before.follows.planned
+    (s.before.noted, s.noted) in
+    notes-next list row history k (sender plan slot) (planned_place list plan (suc slot))
+    (suc (sender plan slot) == length list.slots)
+    (sound-goes list script plan (suc slot) k row history s.noted p (tight-stays plan (suc slot) k s.tight)) (counted.places k p)
+    (place-slot list script start plan (suc slot) s.before.follows.planned
+    ∙ index-of list script start plan slot s.before.follows.planned)
+
+-- and its clock
+pub sound-clock : {list : Medl} {script : Script} {start : ClusterStart} {plan : Plan} {slot : ℕ} {row : List Entry}
+    {history : History} → NextSlot list script start plan slot row history → (k : ℕ) → IsSoundIn list plan (suc slot) k
+    → clock_after list script (row ∷ history) k
+    ≡ clock_moved list script history k
+    +ℤ correction list (sender plan (suc slot)) (round_notes list (row ∷ history) k)
+sound-clock {list = list} {script = script} {start = start} {plan = plan} {slot = slot} {row = row}
+    {history = history} s k p =
+    let counted = counted-run list script start plan (suc slot) (row ∷ history) s.before.follows.planned
+    (s.before.noted, s.noted) in
+    clock-next list script row history k (planned_place list plan (suc slot))
+    (sound-goes list script plan (suc slot) k row history s.noted p (tight-stays plan (suc slot) k s.tight)) (counted.places k p)
+    ∙ ap (λ m. clock_moved list script history k +ℤ correction list m (round_notes list (row ∷ history) k))
+    (place-slot list script start plan (suc slot) s.before.follows.planned)
+
+-- the index of the slot before, where a round goes on
+goes-from : (index m slot n : ℕ) (last : Bool) → index ≡ cond last 0 (suc m) → last ≡ false → index < suc slot
+    → m < slot
+goes-from index m slot n true is other less = cc
+goes-from index m slot n false is other less = omega (arith, is, less)
+
+all-small : (list : Medl) (script : Script) (start : ClusterStart) (plan : Plan) (slot k : ℕ) (row : List Entry)
+    (history : History) (last : Bool)
+    → (suc (sender plan slot) == length list.slots) ≡ last
+    → NextSlot list script start plan slot row history → NotesKnown list script plan slot history
+    → sender plan (suc slot) < suc slot → IsSoundIn list plan (suc slot) k
+    → All (IsUpTo (needed list)) (round_notes list (row ∷ history) k)
+all-small list script start plan slot k row history last is s known later p =
+    subst (All (IsUpTo (needed list))) (sym (sound-notes s k p))
+    (All-append (IsUpTo (needed list)) (notes_in list (planned_place list plan (suc slot)) (entry_of row k))
+    (cond (suc (sender plan slot) == length list.slots) [] (round_notes list history k))
+    (small-new s k p)
+    (subst (λ b. All (IsUpTo (needed list)) (cond b [] (round_notes list history k))) (sym is) (old last is)))
+  where
+    old : (b : Bool) → (suc (sender plan slot) == length list.slots) ≡ b
+        → All (IsUpTo (needed list)) (cond b [] (round_notes list history k))
+    old true ends = All-nil (IsUpTo (needed list))
+    old false inside =
+        known.small (tight-back plan slot
+        (index-of list script start plan slot s.before.follows.planned
+        ∙ ap (λ b. cond b 0 (suc (sender plan slot))) inside) s.tight)
+        (goes-from (sender plan (suc slot)) (sender plan slot) slot (length list.slots)
+        (suc (sender plan slot) == length list.slots)
+        (index-of list script start plan slot s.before.follows.planned) inside later)
+        k (sound-back list plan slot k (tight-stays plan (suc slot) k s.tight) p)
+
+all-near : (list : Medl) (script : Script) (start : ClusterStart) (plan : Plan) (slot x k : ℕ) (row : List Entry)
+    (history : History)
+    → NextSlot list script start plan slot row history → NotesKnown list script plan slot history
+    → sender plan (suc slot) < suc slot → suc (sender plan (suc slot)) < length list.slots
+    → IsSoundIn list plan (suc slot) x → IsSoundIn list plan (suc slot) k
+    → AreNear (noted_width list (sender plan (suc slot))) (clock_after list script (row ∷ history) x)
+    (clock_after list script (row ∷ history) k) (round_notes list (row ∷ history) x)
+all-near list script start plan slot x k row history s known later less p q =
+    same-near width (clock_moved list script history x) (clock_moved list script history k)
+    (clock_after list script (row ∷ history) x) (clock_after list script (row ∷ history) k)
+    (round_notes list (row ∷ history) x) (moved x p) (moved k q)
+    (subst (AreNear width (clock_moved list script history x) (clock_moved list script history k))
+    (sym (sound-notes s x p))
+    (All-append (λ d. IsUpTo width ((clock_moved list script history x +ℤ d) -ℤ clock_moved list script history k))
+    (notes_in list (planned_place list plan (suc slot)) (entry_of row x))
+    (cond (suc (sender plan slot) == length list.slots) [] (round_notes list history x))
+    (near-new s x k p q)
+    (old (suc (sender plan slot) == length list.slots) refl)))
+  where
+    width : ℤ
+    width = noted_width list (sender plan (suc slot))
+
+    moved : (j : ℕ) → IsSoundIn list plan (suc slot) j
+        → clock_after list script (row ∷ history) j ≡ clock_moved list script history j
+    moved j r =
+        uncorrected-in list (sender plan (suc slot)) (clock_moved list script history j)
+        (clock_after list script (row ∷ history) j) (round_notes list (row ∷ history) j) less
+        (sound-clock s j r)
+
+    old : (b : Bool) → (suc (sender plan slot) == length list.slots) ≡ b
+        → AreNear width (clock_moved list script history x) (clock_moved list script history k)
+        (cond b [] (round_notes list history x))
+    old true ends =
+        All-nil (λ d. IsUpTo width ((clock_moved list script history x +ℤ d) -ℤ clock_moved list script history k))
+    old false inside =
+        let index : sender plan (suc slot) ≡ suc (sender plan slot) =
+        index-of list script start plan slot s.before.follows.planned
+        ∙ ap (λ b. cond b 0 (suc (sender plan slot))) inside in
+        subst (λ i. AreNear (noted_width list i) (clock_moved list script history x)
+        (clock_moved list script history k) (round_notes list history x)) (sym index)
+        (near-later list (sender plan slot) (clock_after list script history x) (clock_after list script history k)
+        (clock_moved list script history x) (clock_moved list script history k) (round_notes list history x)
+        (record {
+          up = s.before.valid.drift.0;
+          first = sound-moved s x p;
+          second = sound-moved s k q;
+        })
+        (known.near (tight-back plan slot index s.tight) (omega (arith, index, later)) (omega (arith, index, less)) x k
+        (sound-back list plan slot x (tight-stays plan (suc slot) x s.tight) p)
+        (sound-back list plan slot k (tight-stays plan (suc slot) k s.tight) q)))
+
+pub notes-known : (list : Medl) (script : Script) (start : ClusterStart) (plan : Plan) (slot : ℕ) (history : History)
+    → IsValid list → FollowsWithin list script start plan → NotedByPlan list script start plan slot history
+    → length history ≤ script.slots
+    → NotesKnown list script plan slot history
+notes-known list script start plan slot [] valid follows noted within = absurd noted
+notes-known list script start plan zero (row ∷ history) valid follows noted within = record {
+  small = λ tight later. absurd (omega (arith, later));
+  near = λ tight later. absurd (omega (arith, later));
+}
+notes-known list script start plan (suc slot) (row ∷ history) valid follows noted within =
+    let number = number-of list script start plan slot history noted.0 in
+    let s : IsTight plan (suc slot) → NextSlot list script start plan slot row history = λ tight. record {
+      before = record {
+        valid = valid;
+        follows = follows;
+        noted = noted.0;
+        within = omega (arith, number, within);
+      };
+      noted = noted.1;
+      tight = tight;
+    } in
+    let known = notes-known list script start plan slot history valid follows noted.0 (omega (arith, within)) in
+    record {
+      small = λ tight later k p. all-small list script start plan slot k row history
+          (suc (sender plan slot) == length list.slots) refl (s tight) known later p;
+      near = λ tight later less x k p q.
+          all-near list script start plan slot x k row history (s tight) known later less p q;
+    }

@@ -1,0 +1,137 @@
+-- A sound node that is not the sender of a turn, and is not lost in it, is sound as the plan says after it.
+use Rattle.std.proofs.Common.{◌≡◌, ◌≢◌, ℕ, suc, ◌<◌, Bool, true, false, length, refl, ap, sym, subst}
+use Rattle.std.proofs.Common.{◌∙◌, inl, inr, arith}
+use Rattle.ttp_world.specs.declared.medl.Medl.{Medl}
+use Rattle.ttp_world.specs.declared.script.Script.{Script}
+use Rattle.ttp_world.specs.Hypothesis.{ClusterStart, loses}
+use Rattle.ttp_world.specs.World.{SlotNumbers, Numbers, messages_chosen, world}
+use Rattle.fault_plan.specs.Plan.{Change, Sending, Receiving, Jumping, Plan, sender, incident_at}
+use Rattle.fault_plan.specs.Fates.{Fate, Absent, Sound, Falling, Fallen, Listening, fate_of, is_sound}
+use Rattle.fault_plan.specs.Fates.{is_sound_after}
+use Rattle.fault_plan.specs.Fates.{is_good_slot, is_first_slot}
+use Rattle.fault_plan.specs.Told.{IsFalling}
+use Rattle.fault_plan.proofs.FateSteps.{strikes}
+use Rattle.fault_plan.proofs.FateTells.{loss-sending}
+use Rattle.safety_laws.specs.NodeSlot.{next_past}
+use Rattle.safety_laws.specs.Senders.{SendsAlone, NoneSends}
+use Rattle.safety_laws.specs.ByFate.{IsSoundAt, IsFallingAt, IsFallenAt}
+use Rattle.safety_laws.specs.PlanTurn.{IsTurn}
+use Rattle.safety_laws.proofs.Arrivals.{sound-alone, silent-absent, silent-listening, silent-fallen, falling-acts}
+use Rattle.safety_laws.proofs.PlanSteps.{IsStruck, struck-known, sound-stays, wrong-slot}
+use Rattle.safety_laws.proofs.PlanSteps.{falling-shown, struck-shown, first-shown, told-falling}
+use Rattle.safety_laws.proofs.Receivers.{receives-good, receives-silence, receives-none}
+use Rattle.safety_laws.proofs.Receivers.{receives-jumped, receives-deaf}
+use Rattle.safety_laws.proofs.PlanTurns.{slot_of, slot_number, none-sends}
+
+module _ (list : Medl) (script : Script) (start : ClusterStart) (plan : Plan) (turn : ℕ) (new : SlotNumbers)
+    (numbers : Numbers) (t : IsTurn list script start plan turn new numbers) (k : ℕ) (node : k < length list.slots)
+    (other : sender plan (suc turn) ≢ k) (sound : fate_of plan turn k ≡ Sound)
+    (stays : is_sound_after plan (suc turn) k ≡ true) where
+  -- the sender is lost in its own slot
+  by-struck : fate_of plan turn (sender plan (suc turn)) ≡ Sound → IsStruck plan (suc turn) (sender plan (suc turn))
+      → IsSoundAt list plan (suc turn) k (next_past (slot_of list script new numbers k))
+  by-struck sends struck = by struck.incident.change refl
+    where
+      shown : fate_of plan (suc turn) (sender plan (suc turn)) ≡ Fallen struck.incident.change (suc turn) (suc turn)
+      shown = struck-shown plan turn (sender plan (suc turn)) t.planned.follows.good struck refl
+
+      wrong : is_good_slot plan (suc turn) ≡ false
+      wrong = ap is_sound shown
+
+      first : is_first_slot plan (suc turn) ≡ true
+      first = first-shown plan (suc turn) (suc turn) struck.incident.change shown
+
+      by : (change : Change) → struck.incident.change ≡ change
+          → IsSoundAt list plan (suc turn) k (next_past (slot_of list script new numbers k))
+      by Sending how =
+          let hearing = t.planned.follows.hearing (suc turn) t.within in
+          let nodes = t.planned.follows.nodes in
+          receives-none list script start plan turn new numbers t k node other sound wrong first
+          (sound-alone list script start plan turn new numbers t sends)
+          (ap (λ n. loses script (sender plan (suc turn)) n k)
+          (slot_number list script start plan turn new numbers t)
+          ∙ hearing.unheard k struck.incident (subst (λ n. k < n) (sym nodes) node) struck.found how stays)
+      by Receiving how =
+          absurd (((t.planned.follows.good.losses turn struck.incident struck.found).receiving how).0
+          (sym struck.node))
+      by Jumping how =
+          receives-jumped list script start plan turn new numbers t k node other sound wrong first
+          (sound-alone list script start plan turn new numbers t sends) (suc turn) stays
+          (shown ∙ ap (λ (c : Change). Fallen c (suc turn) (suc turn)) how)
+
+  -- it is the sender's first own slot since it was lost
+  by-falling : (change : Change) (since : ℕ) → fate_of plan turn (sender plan (suc turn)) ≡ Falling change since
+      → IsSoundAt list plan (suc turn) k (next_past (slot_of list script new numbers k))
+  by-falling change since falls = elim (falling-acts list script start plan turn new numbers t change since falls) [
+    | inl left ↦
+        receives-silence list script start plan turn new numbers t k node other sound wrong
+        (none-sends list script start plan turn new numbers t left.1)
+    | inr sends ↦ by change refl sends
+  ]
+    where
+      told : IsFalling plan turn (sender plan (suc turn)) change since
+      told = told-falling plan turn (sender plan (suc turn)) since change t.planned.follows.good falls
+
+      shown : fate_of plan (suc turn) (sender plan (suc turn)) ≡ Fallen change since (suc turn)
+      shown =
+          falling-shown plan turn (sender plan (suc turn)) since change t.planned.follows.good refl falls
+
+      wrong : is_good_slot plan (suc turn) ≡ false
+      wrong = ap is_sound shown
+
+      first : is_first_slot plan (suc turn) ≡ true
+      first = first-shown plan (suc turn) since change shown
+
+      apart : sender plan since ≢ sender plan (suc turn)
+      apart = let from = told.from in told.unshown since (omega arith) from
+
+      by : (c : Change) → change ≡ c
+          → ((SendsAlone list script (world list script numbers)
+          (messages_chosen list script (length numbers) new.sent) (sender plan (suc turn)))
+          × (IsFallingAt list plan turn (sender plan (suc turn)) change since
+          (slot_of list script new numbers (sender plan (suc turn))).past)
+          × (IsFallenAt list plan (suc turn) (sender plan (suc turn)) since (suc turn)
+          (next_past (slot_of list script new numbers (sender plan (suc turn))))))
+          → IsSoundAt list plan (suc turn) k (next_past (slot_of list script new numbers k))
+      by Sending how sends =
+          absurd (apart (loss-sending plan (sender plan (suc turn)) since change t.planned.follows.good told.loss how))
+      by Jumping how sends =
+          receives-jumped list script start plan turn new numbers t k node other sound wrong first sends.0 since stays
+          (shown ∙ ap (λ (c : Change). Fallen c since (suc turn)) how)
+      by Receiving how sends =
+          receives-deaf list script start plan turn new numbers t k node other sound wrong first sends.0 since
+          (record {
+            falling = falls ∙ ap (λ (c : Change). Falling c since) how;
+            shown = shown ∙ ap (λ (c : Change). Fallen c since (suc turn)) how;
+          })
+          (subst (λ (c : Change). IsFallingAt list plan turn (sender plan (suc turn)) c since
+          (slot_of list script new numbers (sender plan (suc turn))).past) how sends.1) apart
+
+  -- nobody sends, the sender being none that is sound
+  by-silence : {fate : Fate} → fate_of plan turn (sender plan (suc turn)) ≡ fate → is_sound fate ≡ false
+      → NoneSends list script (world list script numbers) (messages_chosen list script (length numbers) new.sent)
+      → IsSoundAt list plan (suc turn) k (next_past (slot_of list script new numbers k))
+  by-silence is unsound none =
+      receives-silence list script start plan turn new numbers t k node other sound
+      (wrong-slot plan turn t.planned.follows.good (ap is_sound is ∙ unsound)) none
+
+  by-fate : (fate : Fate) → fate_of plan turn (sender plan (suc turn)) ≡ fate
+      → IsSoundAt list plan (suc turn) k (next_past (slot_of list script new numbers k))
+  by-fate Absent is =
+      by-silence is refl (silent-absent list script start plan turn new numbers t is)
+  by-fate (Listening since) is =
+      by-silence is refl (silent-listening list script start plan turn new numbers t since is)
+  by-fate (Fallen change since shown) is =
+      by-silence is refl (silent-fallen list script start plan turn new numbers t change since shown is)
+  by-fate (Falling change since) is = by-falling change since is
+  by-fate Sound is = by (strikes (incident_at plan (suc turn)) (sender plan (suc turn))) refl
+    where
+      by : (hit : Bool) → strikes (incident_at plan (suc turn)) (sender plan (suc turn)) ≡ hit
+          → IsSoundAt list plan (suc turn) k (next_past (slot_of list script new numbers k))
+      by true hit = by-struck is (struck-known plan (suc turn) (sender plan (suc turn)) hit)
+      by false missed =
+          receives-good list script start plan turn new numbers t k node other sound
+          (ap is_sound (sound-stays plan turn (sender plan (suc turn)) t.planned.follows.good missed is)) is stays
+
+  pub sound-next : IsSoundAt list plan (suc turn) k (next_past (slot_of list script new numbers k))
+  sound-next = by-fate (fate_of plan turn (sender plan (suc turn))) refl

@@ -1,0 +1,75 @@
+-- Members and clocks together: after each slot of a run from the start on, where what the nodes noted keeps their
+-- clocks together.
+use Rattle.std.proofs.Common.{◌≡◌, ℕ, zero, suc, ◌+◌, ◌<◌, [], ◌∷◌, length, inl, inr, arith}
+use Rattle.ttp_world.specs.declared.medl.Medl.{Medl}
+use Rattle.ttp_world.specs.declared.script.Script.{Script}
+use Rattle.ttp_world.specs.Hypothesis.{ClusterStart}
+use Rattle.ttp_world.specs.Legal.{IsLegal}
+use Rattle.ttp_world.specs.Medl.{IsValid}
+use Rattle.ttp_world.specs.World.{SlotNumbers, Numbers, slot_after, world}
+use Rattle.ttp_world.proofs.LegalShapes.{legal-older}
+use Rattle.fault_plan.specs.Kept.{FollowsWithin}
+use Rattle.fault_plan.specs.Plan.{Plan}
+use Rattle.safety_laws.specs.NotedByPlan.{NotedByPlan, GoesOnByPlan}
+use Rattle.safety_laws.specs.ClocksHold.{ClocksHold}
+use Rattle.safety_laws.specs.PlannedRun.{IsBegun}
+use Rattle.safety_laws.specs.PlanTurn.{IsTurn}
+use Rattle.safety_laws.specs.ByPlan.{IsByPlan}
+use Rattle.safety_laws.proofs.Bounds.{sound-inside}
+use Rattle.safety_laws.proofs.OutsideWindow.{jumped-outside}
+use Rattle.safety_laws.proofs.Begins.{holds-begun}
+use Rattle.safety_laws.proofs.WorldSteps.{holds-next}
+use Rattle.safety_laws.proofs.NotedEntries.{started-by_plan, noted-next}
+
+-- in a world whose nodes noted by a plan up to a turn, the clocks of the next slot hold as membership asks it
+abbrev pub KeepsClocks : Medl → Script → ClusterStart → Plan → Type 0
+KeepsClocks list script start plan =
+    (turn : ℕ) (numbers : Numbers) → NotedByPlan list script start plan turn (world list script numbers)
+    → start.slot + suc turn < script.slots
+    → ClocksHold list plan (suc turn) (slot_after list script (world list script numbers))
+
+-- so it is within the list's bounds
+pub clocks-hold : (list : Medl) (script : Script) (start : ClusterStart) (plan : Plan) → IsValid list
+    → FollowsWithin list script start plan → KeepsClocks list script start plan
+clocks-hold list script start plan valid follows turn numbers noted within =
+    let goes : GoesOnByPlan list script start plan turn (world list script numbers) =
+    record { valid = valid; follows = follows; noted = noted; within = within } in
+    record {
+      within = λ r p node sends sound steady none stays. sound-inside goes r p (node, sound) (sends, steady) none stays;
+      frame = λ r p since node sends sound none jumped. (jumped-outside goes p r since sends (inr jumped) (node, sound)).0;
+      others = λ r p since node sends jumped sound none. (jumped-outside goes r p since node (inl jumped) (sends, sound)).1;
+    }
+
+module _ (list : Medl) (script : Script) (start : ClusterStart) (plan : Plan) (is : IsBegun list script start plan)
+    (clocks : KeepsClocks list script start plan) where
+  pub turn-next : (turn : ℕ) (new : SlotNumbers) (numbers : Numbers) → length numbers ≡ start.slot + suc turn
+      → start.slot + suc turn < script.slots → IsLegal list script (new ∷ numbers)
+      → IsByPlan list script start plan turn (world list script numbers)
+      → IsTurn list script start plan turn new numbers
+  turn-next turn new numbers number within legal before = record {
+    planned = is.planned;
+    legal = legal;
+    number = number;
+    within = within;
+    before = before.holds;
+    clocks = clocks turn numbers before.noted within;
+  }
+
+  pub run-by_plan : (turn : ℕ) (numbers : Numbers) → length numbers ≡ suc (start.slot + turn)
+      → start.slot + turn < script.slots → IsLegal list script numbers
+      → IsByPlan list script start plan turn (world list script numbers)
+  run-by_plan turn [] number within legal = absurd (omega (arith, number))
+  run-by_plan zero (new ∷ numbers) number within legal =
+      let now : length numbers ≡ start.slot = omega (arith, number) in
+      record {
+        holds = holds-begun list script start plan is new numbers now;
+        noted = started-by_plan list script start plan new numbers is now;
+      }
+  run-by_plan (suc turn) (new ∷ numbers) number within legal =
+      let before = run-by_plan turn numbers (omega (arith, number)) (omega (arith, within))
+      (legal-older list script new numbers legal) in
+      let t = turn-next turn new numbers (omega (arith, number)) within legal before in
+      record {
+        holds = holds-next list script start plan turn new numbers t;
+        noted = (before.noted, noted-next list script start plan turn new numbers t);
+      }

@@ -1,8 +1,0 @@
-use Rattle.safety_steps.proofs.SafeBack.{safe-back, back-sound}
-use Rattle.safety_steps.proofs.laws.back_safe_by_fate.Goals as goal
-
-pub returns-clause-correct : goal.returns-clause-correct
-returns-clause-correct c = back-sound
-
-pub returns-clause-safe : goal.returns-clause-safe
-returns-clause-safe c = safe-back
