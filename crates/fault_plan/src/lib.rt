@@ -16,9 +16,9 @@
 //! what a slot is (`SlotKind.antt`), the members that sound nodes hold, and the ledger of a node, which
 //! is what it can have counted since its own slot (`Ledger.antt`).
 //!
-//! A caller of the laws needs `IsGoodPlan`. safety cites `kept-plan` of `proofs/KeptPlan.antt`, and the
-//! laws on slots, members and counts are cited by safety_steps, from `proofs/FateSteps.antt`,
-//! `SlotKinds.antt`, `Members.antt` and `Ledgers.antt`.
+//! A caller of the laws needs `IsGoodPlan`. safety_laws cites `kept-plan` of `proofs/KeptPlan.antt`, and
+//! the laws on slots, members and counts from `proofs/FateSteps.antt`, `SlotKinds.antt`, `Members.antt`
+//! and `Ledgers.antt`.
 //!
 //! The crate has no code that does anything: its functions are laws, and worked cases that the check
 //! computes: in `src/worked_plan.rt` an incident of each kind, and a node that returns. It does not say

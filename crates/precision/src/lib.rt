@@ -38,7 +38,7 @@
 //! Where none came in the last two rounds the first two bounds hold again. A company is the general case,
 //! and one induction proves both: `proofs/Averages.antt` shows what two averages make of clocks that are
 //! near, `proofs/Rounds.antt` how far clocks and notes are apart before each slot of a round, and
-//! `proofs/Runs.antt` that a company's run keeps it. safety_clocks and two_faced cite `proofs/Runs.antt`
+//! `proofs/Runs.antt` that a company's run keeps it. safety_laws and two_faced cite `proofs/Runs.antt`
 //! for a company of their own.
 //!
 //! Each call is some sums. The crate reads no clock, corrects none, shares nothing between threads and takes
