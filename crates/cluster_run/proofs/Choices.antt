@@ -26,11 +26,12 @@ use Rattle.ttp_world.specs.Words.{word_count, words_of_payload}
 use Rattle.line_text.specs.HostLines.{AreBytes, bytes_in}
 use Rattle.line_text.proofs.PayloadWords.{words_tell}
 use Rattle.host_port.specs.Fetching.{HasSeen, IsWhole}
-use Rattle.host_port.specs.Reading.{Attempts, is_intact, settled}
+use Rattle.host_port.specs.Reading.{Attempts, is_intact}
 use Rattle.host_port.specs.Rings.{HostState, message_shape, shape_of}
 use Rattle.cluster_run.specs.Rings.{GotEach, SawAtMost, IsRing, IsRingOf, pair_of, pair_sent, words_written}
-use Rattle.cluster_run.specs.Sending.{Fetches, SettlesFetch, after_writes, choice_by, fetcher_lent}
+use Rattle.cluster_run.specs.Sending.{Fetches, FetchesOne, SettlesFetch, after_writes, choice_by, fetcher_lent}
 use Rattle.cluster_run.specs.Sending.{with_messages}
+use Rattle.cluster_run.proofs.SettledReaders.{settled-none}
 use Rattle.ttp_world.proofs.HostMessages.{message_sizes, some_message}
 
 -- The ring of a node that sends payload is there.
@@ -157,10 +158,6 @@ pub record IsNodeChoice (list : Medl) (script : Script) (slot k : ℕ) (loaded :
   pub ring : IsRingOf (message_shape list k) (words_written list script k (suc slot))
       (pairs ++ pair_sent list script slot k (cond loaded (Some choice.number) None)) end
 
-settled_none : (w : HostState) → settled w None ≡ w
-settled_none None = refl
-settled_none (Some w) = refl
-
 between : (low high i : ℕ) → low ≤ i → i ≤ high → nat_le low i && nat_le i high ≡ true
 between low high i up down = λ t. le-leb low i up t && le-leb i high down t
 
@@ -212,55 +209,40 @@ module _ (list : Medl) (script : Script) (slot k : ℕ) (valid : IsValidScript l
             (pairs ++ pair_sent list script slot k (Some n)) (with_joined (with_messages w more) f)) (sym number) end));
       }
 
-  fetched : (pairs : List Message) (old new : HostState) (f0 f1 : Option ReaderState) (c0 c1 : Chosen)
+  fetched : (pairs : List Message) (old : HostState) (f : Option ReaderState) (new : HostState) (c0 c1 : Chosen)
       → message_shape list k ≡ Some (shape_of list (word_count len))
       → IsSomeAnd old (IsRing (shape_of list (word_count len)) (words_written list script k slot) pairs)
-      → f0 ≡ fetcher_lent true old → Fetches f0 f1
-      → SettlesFetch len f1 (after_writes (writes_in script slot) k old) new c0 c1
+      → Fetches (fetcher_lent true old) f → SettlesFetch len f (after_writes (writes_in script slot) k old) new c0 c1
       → IsNodeChoice list script slot k true pairs new c1
-  fetched pairs None new f0 f1 c0 c1 there ring lent fetches settles = absurd ring
-  fetched pairs (Some w) new f0 f1 c0 c1 there ring lent fetches settles =
-      tried f1 (subst (λ (f : Option ReaderState). Fetches f f1) lent fetches) settles
-    where
-      tried : (f1 : Option ReaderState) → Fetches (Some (new_reader w 1)) f1
-          → SettlesFetch len f1 (Some (with_messages w (messages_written script k slot))) new c0 c1
-          → IsNodeChoice list script slot k true pairs new c1
-      tried None none settles = absurd none
-      tried (Some f) attempt settles = chosen_by pairs w f new c0 c1 there ring attempt settles
+  fetched pairs None f new c0 c1 there ring attempt settles = absurd ring
+  fetched pairs (Some w) None new c0 c1 there ring none settles = absurd none
+  fetched pairs (Some w) (Some f) new c0 c1 there ring attempt settles =
+      chosen_by pairs w f new c0 c1 there ring attempt settles
 
-  unfetched : (pairs : List Message) (old new : HostState) (f0 f1 : Option ReaderState) (c0 c1 : Chosen)
+  unfetched : (pairs : List Message) (old : HostState) (f : Option ReaderState) (new : HostState) (c0 c1 : Chosen)
       → IsRingOf (message_shape list k) (words_written list script k slot) pairs old
-      → f0 ≡ None → Fetches f0 f1
-      → SettlesFetch len f1 (after_writes (writes_in script slot) k old) new c0 c1
+      → Fetches None f → SettlesFetch len f (after_writes (writes_in script slot) k old) new c0 c1
       → IsNodeChoice list script slot k false pairs new c1
-  unfetched pairs old new f0 f1 c0 c1 ring lent fetches settles =
-      left f1 (subst (λ (f : Option ReaderState). Fetches f f1) lent fetches) settles
-    where
-      left : (f1 : Option ReaderState) → Fetches None f1
-          → SettlesFetch len f1 (after_writes (writes_in script slot) k old) new c0 c1
-          → IsNodeChoice list script slot k false pairs new c1
-      left (Some f) some settles = absurd some
-      left None none settles =
-          let end = settles.settled_is ∙ settled_none (after_writes (writes_in script slot) k old) in
-          record {
-            message = λ loaded. absurd (false≢true loaded);
-            legal = refl;
-            ring =
-                rw (end, append-nil pairs)
-                (ring_more (message_shape list k) (messages_before list script k slot) (messages_written script k slot)
-                pairs old ring);
-          }
+  unfetched pairs old (Some f) new c0 c1 ring some settles = absurd some
+  unfetched pairs old None new c0 c1 ring none settles =
+      let end = settles.settled_is ∙ sym (settled-none (after_writes (writes_in script slot) k old)) in
+      record {
+        message = λ loaded. absurd (false≢true loaded);
+        legal = refl;
+        ring =
+            rw (end, append-nil pairs)
+            (ring_more (message_shape list k) (messages_before list script k slot) (messages_written script k slot)
+            pairs old ring);
+      }
 
-  pub node_choice : (loaded : Bool) (pairs : List Message) (old new : HostState) (f0 f1 : Option ReaderState)
-      (c0 c1 : Chosen) → (loaded ≡ true → 1 ≤ len)
-      → IsRingOf (message_shape list k) (words_written list script k slot) pairs old
-      → f0 ≡ fetcher_lent loaded old → Fetches f0 f1
-      → SettlesFetch len f1 (after_writes (writes_in script slot) k old) new c0 c1
+  pub node_choice : {loaded : Bool} {pairs : List Message} {old new : HostState} {c0 c1 : Chosen}
+      → (loaded ≡ true → 1 ≤ len) → IsRingOf (message_shape list k) (words_written list script k slot) pairs old
+      → FetchesOne len loaded old (after_writes (writes_in script slot) k old) new c0 c1
       → IsNodeChoice list script slot k loaded pairs new c1
-  node_choice true pairs old new f0 f1 c0 c1 some ring lent fetches settles =
+  node_choice {loaded = true} {pairs = pairs} {old = old} some ring by =
       let there = shape_there list k (some refl) in
-      fetched pairs old new f0 f1 c0 c1 there
-      (subst (λ (s : Option Shape). IsRingOf s (words_written list script k slot) pairs old) there ring)
-      lent fetches settles
-  node_choice false pairs old new f0 f1 c0 c1 some ring lent fetches settles =
-      unfetched pairs old new f0 f1 c0 c1 ring lent fetches settles
+      fetched pairs old by.tried _ _ _ there
+      (subst (λ (s : Option Shape). IsRingOf s (words_written list script k slot) pairs old) there ring) by.fetches
+      by.settles
+  node_choice {loaded = false} {pairs = pairs} {old = old} some ring by =
+      unfetched pairs old by.tried _ _ _ ring by.fetches by.settles

@@ -130,13 +130,13 @@ pub record IsHandedOf (list : Medl) (script : Script) (row : List Entry) (before
       ≡ status_words list (length before) (node_past list script (row ∷ before) k)
       (is_some (delivered_of list script before row k))
 
-pub handed_ring : (list : Medl) (script : Script) (row : List Entry) (before : History) (k : ℕ) (from : Source)
-    (pairs : List Message) (end : ControllerState) (outcome : Outcome)
+pub handed_ring : {list : Medl} {script : Script} {row : List Entry} {before : History} {k : ℕ} {outcome : Outcome}
+    (from : Source) (pairs : List Message) (end : ControllerState)
     → IsHandedOf list script row before k outcome
     → IsRingOf (incoming_shape list k from) (words_read list script before k from) pairs (at_source end from)
     → IsRingOf (incoming_shape list k from) (words_read list script (row ∷ before) k from) pairs
     (at_source (handed_on end outcome) from)
-handed_ring list script row before k source.Status pairs end outcome handed ring =
+handed_ring {list} {script} {row} {before} {k} {outcome} source.Status pairs end handed ring =
     let after = delivered_to end outcome.delivered in
     let here : at_source (handed_on end outcome) source.Status
     ≡ written (at_source end source.Status) outcome.status.words =
@@ -154,7 +154,7 @@ handed_ring list script row before k source.Status pairs end outcome handed ring
     (words_read list script before k source.Status ++ outcome.status.words ∷ []) pairs w) (sym here)
     (one_more (incoming_shape list k source.Status) (words_read list script before k source.Status) pairs
     (at_source end source.Status) outcome.status.words ring))
-handed_ring list script row before k (source.Node p) pairs end outcome handed ring =
+handed_ring {list} {script} {row} {before} {k} {outcome} (source.Node p) pairs end handed ring =
     let shape = incoming_shape list k (source.Node p) in
     let messages = ring_messages list script before k (source.Node p) in
     let here : at_source (handed_on end outcome) (source.Node p)

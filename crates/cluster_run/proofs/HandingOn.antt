@@ -1,8 +1,8 @@
 -- Controllers hand on what a slot left, one after another.
 use Rattle.std.proofs.Common.{◌≡◌, ℕ, zero, suc, ◌+◌, ◌<◌, ◌≤◌, List, [], ◌∷◌, length, map, set, get_or}
-use Rattle.std.proofs.Common.{Option, Some, None, IsSomeAnd, refl, sym, ap, ◌∙◌, subst, below_more, arith, length-append}
+use Rattle.std.proofs.Common.{Option, Some, None, IsSomeAnd, refl, sym, ap, ◌∙◌, subst, arith, length-append}
 use Rattle.std.proofs.Math.ListN.{get_or-map}
-use Rattle.std.proofs.lemmas.List.{get_or-set_same, get_or-set_other, length-map, length-set, map-set, set-get_or}
+use Rattle.std.proofs.lemmas.List.{get_or-set_same, length-map, map-set, set-get_or}
 use Rattle.nbw_ring.specs.States.{WriterState}
 use Rattle.ttp_world.specs.declared.node.Delivered.{Delivered}
 use Rattle.ttp_world.specs.declared.script.Source.{Source}
@@ -13,11 +13,11 @@ use Rattle.host_port.proofs.ReaderLists.{written_ring}
 use Rattle.host_port.specs.Rings.{ControllerState, place_of, at_source}
 use Rattle.host_port.specs.Writing.{written, written_at, HasRoom, IsNewest}
 use Rattle.cluster_run.specs.declared.nodes.Desk.{Desk}
-use Rattle.cluster_run.specs.Ending.{delivered_to, handed_on, number_handed, outcome_of}
-use Rattle.cluster_run.specs.Ends.{ring_of, rings_of, end_at, desk_ends, desk_numbers}
+use Rattle.cluster_run.specs.Ending.{HaveHandedOn, delivered_to, handed_on, number_handed, outcome_of}
+use Rattle.cluster_run.specs.Ends.{ring_of, rings_of, desk_ends, desk_numbers}
 use Rattle.cluster_run.specs.Sending.{message_count}
+use Rattle.cluster_run.proofs.Changes.{AreChanged, changed_more}
 use Rattle.cluster_run.proofs.Places.{read_alike}
-use Rattle.ttp_world.proofs.ListFacts.{at_any}
 
 -- The number of a message that was just written.
 
@@ -40,16 +40,6 @@ number_written end from words n room newest =
     (subst (λ (w : Option WriterState). IsNewest w n)
     (get_or-set_same end (place_of from) (written (at_source end from) words) None within) newest)
 
--- The first have handed on what the slot left, so many, and the other ends are as they were.
-pub record AreHandedOn (outcomes : List Outcome) (k : ℕ) (old desks : List Desk) : Type 0 where
-  pub count : length desks ≡ length old
-  pub rings : map rings_of (desk_ends desks) ≡ map rings_of (desk_ends old)
-  pub ends_are : (i : ℕ) → i < k
-      → end_at (desk_ends desks) i ≡ handed_on (end_at (desk_ends old) i) (outcome_of outcomes i)
-  pub numbers_are : (i : ℕ) → i < k → get_or (desk_numbers desks) i None
-      ≡ number_handed (end_at (desk_ends old) i) (outcome_of outcomes i).delivered
-  pub rest : (i : ℕ) → k ≤ i → end_at (desk_ends desks) i ≡ end_at (desk_ends old) i
-
 rings_written : (end : ControllerState) (from : Source) (words : List ℕ)
     → rings_of (written_at end from words) ≡ rings_of end
 rings_written end from words =
@@ -70,47 +60,47 @@ rings_handed end outcome =
     rings_written (delivered_to end outcome.delivered) source.Status outcome.status.words
     ∙ rings_delivered end outcome.delivered
 
-pub handed_more : {outcomes : List Outcome} {k : ℕ} {old desks : List Desk} (desk new : Desk) (outcome : Outcome)
-    → AreHandedOn outcomes k old desks → k < length desks → k < length outcomes → desk ≡ get_or desks k desk
-    → outcome ≡ get_or outcomes k outcome → new.end ≡ handed_on desk.end outcome
-    → new.delivered ≡ number_handed desk.end outcome.delivered → AreHandedOn outcomes (k + 1) old (set desks k new)
-handed_more {outcomes} {k} {old} {desks} desk new outcome so near near' is_desk is_outcome is is_number =
-    let ends = desk_ends desks in
-    let many : length ends ≡ length desks = length-map desks (λ (d : Desk). d.end) in
-    let numbers : length (desk_numbers desks) ≡ length desks = length-map desks (λ (d : Desk). d.delivered) in
-    let set_ends : desk_ends (set desks k new) ≡ set ends k new.end = map-set (λ (d : Desk). d.end) desks k new in
-    let set_numbers : desk_numbers (set desks k new) ≡ set (desk_numbers desks) k new.delivered =
-    map-set (λ (d : Desk). d.delivered) desks k new in
-    let here : desk.end ≡ get_or ends k desk.end =
-    ap (λ (d : Desk). d.end) is_desk ∙ sym (get_or-map (λ (d : Desk). d.end) desks k desk) in
-    let end_was : desk.end ≡ end_at (desk_ends old) k =
-    here ∙ at_any ends k desk.end [] (omega (arith, many, near)) ∙ so.rest k (omega arith) in
-    let outcome_was : outcome ≡ outcome_of outcomes k = is_outcome ∙ at_any outcomes k outcome _ near' in
+-- no desk
+abbrev pub no_desk : Desk
+no_desk = record { end = []; delivered = None }
+
+-- a desk has handed on what the slot left
+pub record HandsOn (outcomes : List Outcome) (j : ℕ) (old new : Desk) : Type 0 where
+  pub end_is : new.end ≡ handed_on old.end (outcome_of outcomes j)
+  pub number_is : new.delivered ≡ number_handed old.end (outcome_of outcomes j).delivered
+
+-- the first have, so many, and the other desks are as they were
+pub record AreHandedOn (outcomes : List Outcome) (k : ℕ) (old desks : List Desk) : Type 0 where
+  pub rings : map rings_of (desk_ends desks) ≡ map rings_of (desk_ends old)
+  pub changed : AreChanged (HandsOn outcomes) no_desk k old desks
+
+pub handed_more : {outcomes : List Outcome} {k : ℕ} {old desks : List Desk} (desk new : Desk)
+    → AreHandedOn outcomes k old desks → k < length desks → desk ≡ get_or desks k desk → HandsOn outcomes k desk new
+    → AreHandedOn outcomes (k + 1) old (set desks k new)
+handed_more {outcomes} {k} {old} {desks} desk new so near here by = record {
+  rings =
+      ap (map rings_of) (map-set (λ (d : Desk). d.end) desks k new)
+      ∙ read_alike rings_of (desk_ends desks) k desk.end new.end
+      (ap (λ (d : Desk). d.end) here ∙ sym (get_or-map (λ (d : Desk). d.end) desks k desk))
+      (ap rings_of by.end_is ∙ rings_handed desk.end (outcome_of outcomes k))
+      ∙ so.rings;
+  changed = changed_more desk new so.changed near here by;
+}
+
+-- all have
+pub have_handed_on : {outcomes : List Outcome} {k : ℕ} {old desks : List Desk} → length old ≤ k
+    → AreHandedOn outcomes k old desks
+    → HaveHandedOn outcomes (desk_ends old) (desk_ends desks) (desk_numbers desks)
+have_handed_on {outcomes} {k} {old} {desks} all so =
+    let end = λ (d : Desk). d.end in
+    let many = length-map old end in
     record {
-      count = length-set desks k new ∙ so.count;
-      rings =
-          ap (map rings_of) set_ends
-          ∙ read_alike rings_of ends k desk.end new.end here (ap rings_of is ∙ rings_handed desk.end outcome)
-          ∙ so.rings;
-      ends_are =
-          below_more
-          (λ i. end_at (desk_ends (set desks k new)) i ≡ handed_on (end_at (desk_ends old) i) (outcome_of outcomes i)) k
-          (λ i earlier.
-          ap (λ es. end_at es i) set_ends ∙ get_or-set_other ends k i new.end [] (omega arith) ∙ so.ends_are i earlier)
-          (ap (λ es. end_at es k) set_ends ∙ get_or-set_same ends k new.end [] (omega (arith, many, near)) ∙ is
-          ∙ (λ t. handed_on (end_was t) (outcome_was t)));
-      numbers_are =
-          below_more
-          (λ i. get_or (desk_numbers (set desks k new)) i None
-          ≡ number_handed (end_at (desk_ends old) i) (outcome_of outcomes i).delivered) k
-          (λ i earlier.
-          ap (λ ns. get_or ns i None) set_numbers
-          ∙ get_or-set_other (desk_numbers desks) k i new.delivered None (omega arith)
-          ∙ so.numbers_are i earlier)
-          (ap (λ ns. get_or ns k None) set_numbers
-          ∙ get_or-set_same (desk_numbers desks) k new.delivered None (omega (arith, numbers, near)) ∙ is_number
-          ∙ (λ t. number_handed (end_was t) (outcome_was t).delivered));
-      rest = λ i later.
-          ap (λ es. end_at es i) set_ends ∙ get_or-set_other ends k i new.end [] (omega arith)
-          ∙ so.rest i (omega arith);
+      ends = λ j near.
+          get_or-map end desks j no_desk
+          ∙ (so.changed.done j (omega (arith, near, many, all))).end_is
+          ∙ ap (λ e. handed_on e (outcome_of outcomes j)) (sym (get_or-map end old j no_desk));
+      numbers_are = λ j near.
+          get_or-map (λ (d : Desk). d.delivered) desks j no_desk
+          ∙ (so.changed.done j (omega (arith, near, many, all))).number_is
+          ∙ ap (λ e. number_handed e (outcome_of outcomes j).delivered) (sym (get_or-map end old j no_desk));
     }

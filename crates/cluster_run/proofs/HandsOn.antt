@@ -74,10 +74,10 @@ deliverable_at : (list : Medl) (k : ℕ) (delivered : Option Delivered) (d : Del
     → IfSome delivered (IsDeliverable list k) → delivered ≡ Some d → IsDeliverable list k d
 deliverable_at list k delivered d fine is = subst (λ (o : Option Delivered). IfSome o (IsDeliverable list k)) is fine
 
-pub may_hand_on : (list : Medl) (script : Script) (history : History) (k : ℕ) (pairs : Source → List Message)
-    (end : ControllerState) (delivered : Option Delivered) → IsValid list → length history ≤ SLOT_LIMIT
+pub may_hand_on : {list : Medl} {script : Script} {history : History} {k : ℕ} {pairs : Source → List Message}
+    {end : ControllerState} (delivered : Option Delivered) → IsValid list → length history ≤ SLOT_LIMIT
     → HoldsCame list script history k pairs end → IfSome delivered (IsDeliverable list k) → MayHandOn end delivered
-may_hand_on list script history k pairs end delivered valid few holds fine = record {
+may_hand_on {list} {script} {history} {k} {pairs} {end} delivered valid few holds fine = record {
   status = room_of _ _ _ (at_source end source.Status) (holds.each source.Status)
       (few_words list script history k source.Status few);
   takes = λ d is.
@@ -93,12 +93,11 @@ may_hand_on list script history k pairs end delivered valid few holds fine = rec
 
 -- The number that is told of it is the one that it has in the world.
 
-number_of : (list : Medl) (script : Script) (row : List Entry) (history : History) (k : ℕ)
-    (pairs : Source → List Message) (end : ControllerState) (d : Delivered)
-    → HoldsCame list script history k pairs end → IsDeliverable list k d
-    → delivered_of list script history row k ≡ Some d
+number_of : {list : Medl} {script : Script} {history : History} {k : ℕ} {pairs : Source → List Message}
+    {end : ControllerState} (row : List Entry) (d : Delivered) → HoldsCame list script history k pairs end
+    → IsDeliverable list k d → delivered_of list script history row k ≡ Some d
     → message_count (at_source end (source.Node d.sender)) ≡ number_delivered list script (row ∷ history) k d
-number_of list script row history k pairs end d holds fine is =
+number_of {list} {script} {history} {k} {pairs} {end} row d holds fine is =
     let p = d.sender in
     let before = in_messages list script history k p in
     let own : new_messages p (delivered_of list script history row k) ≡ d.payload ∷ [] =
@@ -109,13 +108,13 @@ number_of list script row history k pairs end d holds fine is =
     let one = ap length own in
     omega (arith, count, words, more, one)
 
-pub number_is_told : (list : Medl) (script : Script) (row : List Entry) (history : History) (k : ℕ)
-    (pairs : Source → List Message) (end : ControllerState) (delivered : Option Delivered)
+pub number_is_told : {list : Medl} {script : Script} {history : History} {k : ℕ} {pairs : Source → List Message}
+    {end : ControllerState} (row : List Entry) (delivered : Option Delivered)
     → HoldsCame list script history k pairs end → IfSome delivered (IsDeliverable list k)
     → delivered ≡ delivered_of list script history row k
     → number_handed end delivered ≡ number_told list script row history k
-number_is_told list script row history k pairs end None holds fine is =
+number_is_told {list} {script} {history} {k} row None holds fine is =
     ap (option_map (number_delivered list script (row ∷ history) k)) is
-number_is_told list script row history k pairs end (Some d) holds fine is =
-    ap Some (number_of list script row history k pairs end d holds fine (sym is))
+number_is_told {list} {script} {history} {k} row (Some d) holds fine is =
+    ap Some (number_of row d holds fine (sym is))
     ∙ ap (option_map (number_delivered list script (row ∷ history) k)) is

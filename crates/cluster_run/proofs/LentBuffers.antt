@@ -1,5 +1,5 @@
 -- How many buffers the rings have that are lent in a slot.
-use Rattle.std.proofs.Common.{◌≡◌, ℕ, ◌<◌, Bool, true, false, cond, List, length, Option, Some, None, option_map}
+use Rattle.std.proofs.Common.{◌≡◌, ℕ, Bool, true, false, cond, List, length, Option, Some, None, option_map}
 use Rattle.std.proofs.Common.{inl, inr, refl, sym, ap, ◌∙◌, arith}
 use Rattle.std.specs.Prelude.{◌==◌}
 use Rattle.std.proofs.lemmas.Bool.{cases_lt}
@@ -8,17 +8,20 @@ use Rattle.std.proofs.lemmas.Option.{none-some, same_Some}
 use Rattle.nbw_ring.specs.declared.view.Message.{Message}
 use Rattle.nbw_ring.specs.declared.view.Shape.{Shape}
 use Rattle.nbw_ring.specs.States.{WriterState, ReaderState, new_reader}
-use Rattle.ttp_world.specs.declared.host_lines.HostRead.{HostRead}
 use Rattle.ttp_world.specs.declared.medl.Medl.{Medl}
 use Rattle.ttp_world.specs.declared.script.Source.{Source}
 use Rattle.ttp_world.specs.declared.script.Source.TheVariants as source
 use Rattle.ttp_world.specs.Medl.{plan_at}
+use Rattle.ttp_world.specs.Script.{reads_in}
 use Rattle.ttp_world.specs.Words.{word_count}
+use Rattle.ttp_world.specs.World.{Numbers}
 use Rattle.host_port.specs.Reading.{ReadersState, reads_from, lent}
 use Rattle.host_port.specs.Rings.{ControllerState, at_source, shape_of, incoming_shape, message_shape}
+use Rattle.cluster_run.specs.declared.current.CurrentSlot.{CurrentSlot}
 use Rattle.cluster_run.specs.Ends.{end_at}
-use Rattle.cluster_run.specs.Reading.{readers_at, reader_in, AreReadersLent, ReadBuffers}
+use Rattle.cluster_run.specs.Reading.{readers_at, reader_in, ReadBuffers}
 use Rattle.cluster_run.specs.Rings.{IsRingOf}
+use Rattle.cluster_run.proofs.LentReaders.{AreLentFor}
 use Rattle.cluster_run.proofs.RingReads.{HasBuffers}
 
 sized_if : (buffers : ℕ) (b : Bool) (shape : Option Shape) → HasBuffers buffers shape
@@ -56,23 +59,20 @@ reader_there None from r is = absurd (none-some r is)
 reader_there (Some x) from r is = (x, refl)
 
 -- So all have the list's.
-pub lent_buffers : (list : Medl) (reads : List HostRead) (ends : List ControllerState)
-    (readers : List (Option ReadersState)) (messages : ℕ → Source → List (List ℕ)) (pairs : ℕ → Source → List Message)
-    → length ends ≡ length list.slots → length readers ≡ length list.slots → AreReadersLent reads ends readers
-    → ((k : ℕ) → k < length list.slots → (from : Source)
-    → IsRingOf (incoming_shape list k from) (messages k from) (pairs k from) (at_source (end_at ends k) from))
-    → ReadBuffers list.buffers readers
-lent_buffers list reads ends readers messages pairs ends_count count are rings = λ k from r is.
+pub lent_buffers : {at : CurrentSlot} {numbers : Numbers} {ends : List ControllerState}
+    {readers : List (Option ReadersState)} → AreLentFor at numbers ends readers → ReadBuffers at.list.now.buffers readers
+lent_buffers {at = at} {ends = ends} {readers = readers} are k from r is =
+    let list = at.list.now in
     let there = reader_there (readers_at readers k) from r is in
     elim (cases_lt k (length list.slots)) [
       | inl near ↦
-          let n = reads_from reads k from in
+          let n = reads_from (reads_in at.script.now at.slot) k from in
           let w = at_source (end_at ends k) from in
           let lent_is : lent w n ≡ Some r =
-          sym ((are.each k (omega (arith, near, ends_count)) there.0 there.1).readers from)
+          sym ((are.lent.each k (omega (arith, near, are.ends_count)) there.0 there.1).readers from)
           ∙ ap (λ (o : Option ReadersState). reader_in o from) (sym there.1) ∙ is in
-          lent_sized list.buffers n (incoming_shape list k from) (messages k from) (pairs k from) w (n == 0) r
-          (sized_ring list k from) (rings k near from) lent_is
+          lent_sized list.buffers n (incoming_shape list k from) _ _ w (n == 0) r (sized_ring list k from)
+          (are.rings k near from) lent_is
       | inr past ↦
-          absurd (none-some there.0 (sym (get_or_past readers k None (omega (arith, past, count))) ∙ there.1))
+          absurd (none-some there.0 (sym (get_or_past readers k None (omega (arith, past, are.count))) ∙ there.1))
     ]

@@ -2,12 +2,20 @@
 use Rattle.std.proofs.Common.{◌≡◌, ℕ, ◌+◌, ◌<◌, List, [], ◌∷◌, ◌++◌, length, Option, None, is_some, sym, ◌∙◌, subst}
 use Rattle.std.proofs.Common.{arith, below_more}
 use Rattle.std.specs.Option.{ForSome}
-use Rattle.std.proofs.lemmas.List.{get_or_append_left, get_or_push}
+use Rattle.std.proofs.lemmas.List.{get_or_append_left, get_or_push, length-map}
 use Rattle.ttp_world.specs.declared.host_lines.HostRead.{HostRead}
+use Rattle.ttp_world.specs.declared.script.Source.{Source}
+use Rattle.ttp_world.specs.Script.{reads_in}
+use Rattle.ttp_world.specs.World.{Numbers}
 use Rattle.host_port.specs.Reading.{ReadersState, AreReadersOfEnd}
 use Rattle.host_port.specs.Rings.{ControllerState}
-use Rattle.cluster_run.specs.Ends.{end_at}
+use Rattle.cluster_run.specs.declared.current.CurrentSlot.{CurrentSlot}
+use Rattle.cluster_run.specs.declared.nodes.Desk.{Desk}
+use Rattle.cluster_run.specs.declared.nodes.Nodes.{Nodes}
+use Rattle.cluster_run.specs.Ends.{desk_ends, end_at}
 use Rattle.cluster_run.specs.Reading.{AreLentTo, AreReadersLent, AreReadersOfAll, has_reads, readers_at}
+use Rattle.cluster_run.specs.Slots.{MayEndSlot}
+use Rattle.cluster_run.specs.Standing.{HoldsRead}
 
 -- what is lent to node k's host
 pub record IsLentAt (reads : List HostRead) (ends : List ControllerState) (k : ℕ) (readers : Option ReadersState)
@@ -52,3 +60,20 @@ all_own reads ends n readers count ends_count lent = record {
   count = count ∙ sym ends_count;
   own = λ k near. (lent k (omega (arith, near, ends_count))).own;
 }
+
+-- Readers were lent for the reads of a slot, by ends whose rings are those of the world of these numbers.
+pub record AreLentFor (at : CurrentSlot) (numbers : Numbers) (ends : List ControllerState)
+    (readers : List (Option ReadersState)) : Type 0 where
+  pub ends_count : length ends ≡ length at.list.now.slots
+  pub count : length readers ≡ length at.list.now.slots
+  pub lent : AreReadersLent (reads_in at.script.now at.slot) ends readers
+  pub rings : (k : ℕ) → k < length at.list.now.slots → (from : Source)
+      → HoldsRead at.list.now at.script.now numbers ends k from
+
+pub all_lent_for : {at : CurrentSlot} {readers : List (Option ReadersState)} (nodes : Nodes) (may : MayEndSlot at nodes)
+    → AreReadersOfAll (desk_ends nodes.desks.items) readers
+    → AreReadersLent (reads_in at.script.now at.slot) (desk_ends nodes.desks.items) readers
+    → AreLentFor at may.numbers (desk_ends nodes.desks.items) readers
+all_lent_for nodes may own lent =
+    let count = length-map nodes.desks.items (λ (d : Desk). d.end) ∙ may.are.desks in
+    record { ends_count = count; count = own.count ∙ count; lent = lent; rings = may.read }

@@ -2,6 +2,7 @@ pub mod NewNodes
 pub mod NewRings
 pub mod NewClusters
 pub mod Places
+pub mod Changes
 pub mod Writes
 pub mod Settling
 pub mod HandingOn

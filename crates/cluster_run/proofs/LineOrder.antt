@@ -4,7 +4,7 @@ use Rattle.std.proofs.Common.{get_or, Option, Some, None, inl, inr, refl, sym, a
 use Rattle.std.proofs.Common.{arith, append_assoc}
 use Rattle.std.specs.Prelude.{◌==◌, ◌↔◌, filter, IsSome, IfNone}
 use Rattle.std.proofs.lemmas.Bool.{false≢true, cases_eq, cases_lt, eq-eqb, eqb-true, false_from_ne_true}
-use Rattle.std.proofs.lemmas.List.{get_or-map, get_or-set_same, get_or-set_other, map-append, map-set, length-map}
+use Rattle.std.proofs.lemmas.List.{get_or-set_same, get_or-set_other, map-append, map-set, length-map}
 use Rattle.std.proofs.lemmas.List.{append_cancel_left, append-nil}
 use Rattle.std.proofs.lemmas.List.Elements.{filter-append}
 use Rattle.ttp_world.specs.declared.host_lines.HostRead.{HostRead}
@@ -12,10 +12,6 @@ use Rattle.host_port.specs.declared.report.ReadLine.{ReadLine}
 use Rattle.cluster_run.specs.Reading.{is_host, read_of, lines_by, queue_of, AreDue}
 
 -- Queues in a list.
-
-pub queue_within : {A X : Type 0} (items : A → List X) (qs : List A) (k : ℕ) (q : A) → k < length qs
-    → q ≡ get_or qs k q → get_or (map items qs) k [] ≡ items q
-queue_within items qs k q within here = get_or-map items qs k q [] within ∙ ap items (sym here)
 
 pub queue_set : {A X : Type 0} (items : A → List X) (qs : List A) (k : ℕ) (q : A) → k < length qs
     → get_or (map items (set qs k q)) k [] ≡ items q
@@ -29,7 +25,7 @@ queue_kept items qs k other q apart =
     ap (λ xs. get_or xs other []) (map-set items qs k q)
     ∙ get_or-set_other (map items qs) k other (items q) [] apart
 
-nothing_left : {X : Type 0} (xs : List X) → length xs ≡ 0 → xs ≡ []
+pub nothing_left : {X : Type 0} (xs : List X) → length xs ≡ 0 → xs ≡ []
 nothing_left [] none = refl
 nothing_left (x ∷ xs) none = absurd (omega (arith, none))
 
@@ -71,32 +67,9 @@ lines_by-other k lines line other =
     ∙ append-nil (lines_by k lines)
 
 -- After the first reads: their lines, and those that are left in the queues.
-pub record AreInOrder (reads done : List HostRead) (whole now : List (List ReadLine)) (lines : List ReadLine) : Type 0
-  where
-    pub told : AreDue reads whole → map read_of lines ≡ done
-    pub kept : AreDue reads whole → (k : ℕ) → lines_by k lines ++ queue_of now k ≡ queue_of whole k
-
--- what is left for a host are its reads that are left
-left_due : (reads done rest : List HostRead) (whole now : List (List ReadLine)) (lines : List ReadLine) (k : ℕ)
-    → reads ≡ done ++ rest → AreInOrder reads done whole now lines → AreDue reads whole
-    → map read_of (queue_of now k) ≡ filter (is_host k) rest
-left_due reads done rest whole now lines k split so due =
-    let told : map read_of (lines_by k lines) ≡ filter (is_host k) done =
-    sym (filter-map (is_host k) read_of lines) ∙ ap (filter (is_host k)) (so.told due) in
-    let all : map read_of (lines_by k lines) ++ map read_of (queue_of now k)
-    ≡ map read_of (lines_by k lines) ++ filter (is_host k) rest =
-    sym (map-append read_of (lines_by k lines) (queue_of now k))
-    ∙ ap (map read_of) (so.kept due k)
-    ∙ due k
-    ∙ ap (filter (is_host k)) split
-    ∙ filter-append (is_host k) done rest
-    ∙ ap (λ xs. xs ++ filter (is_host k) rest) (sym told) in
-    append_cancel_left (map read_of (lines_by k lines)) (map read_of (queue_of now k))
-    (filter (is_host k) rest) all
-
-due_next : (r : HostRead) (rest : List HostRead) → filter (is_host r.host) (r ∷ rest) ≡ r ∷ filter (is_host r.host) rest
-due_next r rest =
-    ap (λ b. cond b (r ∷ filter (is_host r.host) rest) (filter (is_host r.host) rest)) (eq-eqb r.host r.host refl)
+pub record AreInOrder (done : List HostRead) (whole now : List (List ReadLine)) (lines : List ReadLine) : Type 0 where
+  pub told : map read_of lines ≡ done
+  pub kept : (k : ℕ) → lines_by k lines ++ queue_of now k ≡ queue_of whole k
 
 head_same : {X : Type 0} (x y : X) (xs ys : List X) → x ∷ xs ≡ y ∷ ys → x ≡ y
 head_same x y xs ys same = cc
@@ -104,73 +77,70 @@ head_same x y xs ys same = cc
 none_some : {X : Type 0} (x : X) (xs : List X) → [] ≡ x ∷ xs → ⊥
 none_some x xs same = cc
 
--- A line that is taken is that of the next read.
-in_order_more : (reads done rest : List HostRead) (r : HostRead) (whole before after : List (List ReadLine))
-    (lines : List ReadLine) (line : ReadLine) → reads ≡ done ++ r ∷ rest → AreInOrder reads done whole before lines
-    → queue_of before r.host ≡ line ∷ queue_of after r.host
-    → ((other : ℕ) → other ≢ r.host → queue_of after other ≡ queue_of before other) → AreDue reads whole
-    → AreInOrder reads (done ++ r ∷ []) whole after (lines ++ line ∷ [])
-in_order_more reads done rest r whole before after lines line split so first others due =
-    let is : read_of line ≡ r =
-    head_same (read_of line) r (map read_of (queue_of after r.host)) (filter (is_host r.host) rest)
-    (ap (map read_of) (sym first) ∙ left_due reads done (r ∷ rest) whole before lines r.host split so due
-    ∙ due_next r rest) in
-    let own : line.host ≡ r.host = ap (λ (x : HostRead). x.host) is in
-    record {
-      told = λ _. map-append read_of lines (line ∷ []) ∙ (λ i. so.told due i ++ is i ∷ []);
-      kept = λ _ k.
-          elim (cases_eq r.host k) [
-            | inl here ↦
-                ap (λ ls. ls ++ queue_of after k) (lines_by-own k lines line (own ∙ here))
-                ∙ append_assoc (lines_by k lines) (line ∷ []) (queue_of after k)
-                ∙ ap (λ j. lines_by k lines ++ line ∷ queue_of after j) (sym here)
-                ∙ ap (λ q. lines_by k lines ++ q) (sym first)
-                ∙ ap (λ j. lines_by k lines ++ queue_of before j) here
-                ∙ so.kept due k
-            | inr apart ↦
-                ap (λ ls. ls ++ queue_of after k)
-                (lines_by-other k lines line (λ same. apart (sym own ∙ same)))
-                ∙ ap (λ q. lines_by k lines ++ q) (others k (λ same. apart (sym same)))
-                ∙ so.kept due k
-          ];
-    }
-
--- the same where it is not known yet whether the lines are due
-pub line_taken : (reads done rest : List HostRead) (r : HostRead) (whole before after : List (List ReadLine))
-    (lines : List ReadLine) (line : ReadLine) → reads ≡ done ++ r ∷ rest → AreInOrder reads done whole before lines
-    → queue_of before r.host ≡ line ∷ queue_of after r.host
-    → ((other : ℕ) → other ≢ r.host → queue_of after other ≡ queue_of before other)
-    → AreInOrder reads (done ++ r ∷ []) whole after (lines ++ line ∷ [])
-line_taken reads done rest r whole before after lines line split so first others = record {
-  told = λ due. (in_order_more reads done rest r whole before after lines line split so first others due).told due;
-  kept = λ due. (in_order_more reads done rest r whole before after lines line split so first others due).kept due;
-}
-
--- and where lines are due there is one
-pub line_missing : (reads done rest : List HostRead) (r : HostRead) (whole before after : List (List ReadLine))
-    (lines : List ReadLine) → reads ≡ done ++ r ∷ rest → AreInOrder reads done whole before lines
-    → queue_of before r.host ≡ [] → AreInOrder reads (done ++ r ∷ []) whole after lines
-line_missing reads done rest r whole before after lines split so none =
-    let never : AreDue reads whole → ⊥ = λ due.
-    none_some r (filter (is_host r.host) rest)
-    (ap (map read_of) (sym none)
-    ∙ left_due reads done (r ∷ rest) whole before lines r.host split so due
-    ∙ due_next r rest) in
-    record { told = λ due. absurd (never due); kept = λ due. absurd (never due) }
-
--- At the end no line is left.
-
 pub map_nothing : {A B : Type 0} (f : A → B) (xs : List A) → map f xs ≡ [] → xs ≡ []
 map_nothing f [] same = refl
 map_nothing f (x ∷ xs) same = absurd (none_some (f x) (map f xs) (sym same))
 
-pub all_in_order : (reads : List HostRead) (whole now : List (List ReadLine)) (lines : List ReadLine)
-    → AreInOrder reads reads whole now lines → AreDue reads whole → (k : ℕ)
-    → lines_by k lines ≡ queue_of whole k
-all_in_order reads whole now lines so due k =
+module _ {reads done : List HostRead} {whole now : List (List ReadLine)} {lines : List ReadLine} (rest : List HostRead)
+    (split : reads ≡ done ++ rest) (due : AreDue reads whole) (so : AreInOrder done whole now lines) where
+  -- what is left for a host are its reads that are left
+  left_due : (k : ℕ) → map read_of (queue_of now k) ≡ filter (is_host k) rest
+  left_due k =
+      let told : map read_of (lines_by k lines) ≡ filter (is_host k) done =
+      sym (filter-map (is_host k) read_of lines) ∙ ap (filter (is_host k)) so.told in
+      let all : map read_of (lines_by k lines) ++ map read_of (queue_of now k)
+      ≡ map read_of (lines_by k lines) ++ filter (is_host k) rest =
+      sym (map-append read_of (lines_by k lines) (queue_of now k))
+      ∙ ap (map read_of) (so.kept k)
+      ∙ due k
+      ∙ ap (filter (is_host k)) split
+      ∙ filter-append (is_host k) done rest
+      ∙ ap (λ xs. xs ++ filter (is_host k) rest) (sym told) in
+      append_cancel_left (map read_of (lines_by k lines)) (map read_of (queue_of now k)) (filter (is_host k) rest) all
+
+  -- so the first line that is left for the host of the next read is that read's
+  next_due : (r : HostRead) (later : List HostRead) → rest ≡ r ∷ later
+      → map read_of (queue_of now r.host) ≡ r ∷ filter (is_host r.host) later
+  next_due r later next =
+      left_due r.host ∙ ap (filter (is_host r.host)) next
+      ∙ ap (λ b. cond b (r ∷ filter (is_host r.host) later) (filter (is_host r.host) later)) (eq-eqb r.host r.host refl)
+
+  pub line_there : (r : HostRead) (later : List HostRead) → rest ≡ r ∷ later → queue_of now r.host ≡ [] → ⊥
+  line_there r later next none =
+      none_some r (filter (is_host r.host) later) (ap (map read_of) (sym none) ∙ next_due r later next)
+
+  pub line_taken : (r : HostRead) (later : List HostRead) {after : List (List ReadLine)} (line : ReadLine)
+      → rest ≡ r ∷ later → queue_of now r.host ≡ line ∷ queue_of after r.host
+      → ((other : ℕ) → other ≢ r.host → queue_of after other ≡ queue_of now other)
+      → AreInOrder (done ++ r ∷ []) whole after (lines ++ line ∷ [])
+  line_taken r later {after = after} line next first others =
+      let is : read_of line ≡ r =
+      head_same (read_of line) r (map read_of (queue_of after r.host)) (filter (is_host r.host) later)
+      (ap (map read_of) (sym first) ∙ next_due r later next) in
+      let own : line.host ≡ r.host = ap (λ (x : HostRead). x.host) is in
+      record {
+        told = map-append read_of lines (line ∷ []) ∙ (λ i. so.told i ++ is i ∷ []);
+        kept = λ k.
+            elim (cases_eq r.host k) [
+              | inl here ↦
+                  ap (λ ls. ls ++ queue_of after k) (lines_by-own k lines line (own ∙ here))
+                  ∙ append_assoc (lines_by k lines) (line ∷ []) (queue_of after k)
+                  ∙ ap (λ j. lines_by k lines ++ line ∷ queue_of after j) (sym here)
+                  ∙ ap (λ q. lines_by k lines ++ q) (sym first)
+                  ∙ ap (λ j. lines_by k lines ++ queue_of now j) here
+                  ∙ so.kept k
+              | inr apart ↦
+                  ap (λ ls. ls ++ queue_of after k)
+                  (lines_by-other k lines line (λ same. apart (sym own ∙ same)))
+                  ∙ ap (λ q. lines_by k lines ++ q) (others k (λ same. apart (sym same)))
+                  ∙ so.kept k
+            ];
+      }
+
+-- At the end no line is left.
+pub all_in_order : {reads : List HostRead} {whole now : List (List ReadLine)} {lines : List ReadLine}
+    → AreDue reads whole → AreInOrder reads whole now lines → (k : ℕ) → lines_by k lines ≡ queue_of whole k
+all_in_order {reads} {whole} {now} {lines} due so k =
     let none : queue_of now k ≡ [] =
-    map_nothing read_of (queue_of now k)
-    (left_due reads reads [] whole now lines k (sym (append-nil reads)) so due) in
-    sym (append-nil (lines_by k lines))
-    ∙ ap (λ q. lines_by k lines ++ q) (sym none)
-    ∙ so.kept due k
+    map_nothing read_of (queue_of now k) (left_due [] (sym (append-nil reads)) due so k) in
+    sym (append-nil (lines_by k lines)) ∙ ap (λ q. lines_by k lines ++ q) (sym none) ∙ so.kept k

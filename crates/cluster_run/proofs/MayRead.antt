@@ -20,13 +20,16 @@ use Rattle.ttp_world.specs.declared.script.Source.TheVariants as source
 use Rattle.ttp_world.specs.Medl.{plan_at}
 use Rattle.ttp_world.specs.Script.{IsSource, IsValidScript, reads_in}
 use Rattle.ttp_world.specs.Words.{word_count}
+use Rattle.ttp_world.specs.World.{Numbers, world}
 use Rattle.host_port.specs.Reading.{ReadersState, is_read_at, reads_from, lent}
 use Rattle.host_port.specs.Rings.{ControllerState, place_of, at_source, shape_of, incoming_shape, message_shape}
 use Rattle.ttp_world.proofs.HostPayloads.{IsReadOf, reads_of_valid}
+use Rattle.cluster_run.specs.declared.current.CurrentSlot.{CurrentSlot}
 use Rattle.cluster_run.specs.Ends.{end_at}
 use Rattle.cluster_run.specs.Reading.{readers_at, reader_in, reader_at, calls_in, has_reads, AreLentTo}
-use Rattle.cluster_run.specs.Reading.{AreReadersLent, MayReadAll}
-use Rattle.cluster_run.specs.Rings.{IsRingOf}
+use Rattle.cluster_run.specs.Reading.{MayReadAll}
+use Rattle.cluster_run.specs.Rings.{IsRingOf, pairs_read, words_read}
+use Rattle.cluster_run.proofs.LentReaders.{AreLentFor}
 use Rattle.cluster_run.proofs.ReadAll.{same_place}
 
 -- The reads of a valid script are of nodes of its list.
@@ -132,42 +135,39 @@ lent_calls : (reads : List HostRead) (k : ℕ) (end : ControllerState) (o : Opti
 lent_calls reads k end None are = refl
 lent_calls reads k end (Some x) are = (are x refl).calls
 
-room_lent : (list : Medl) (script : Script) (slot : ℕ) (ends : List ControllerState)
-    (readers : List (Option ReadersState)) (messages : ℕ → Source → List (List ℕ)) (pairs : ℕ → Source → List Message)
-    → IsValidScript list script → length ends ≡ length list.slots → AreReadersLent (reads_in script slot) ends readers
-    → ((k : ℕ) → k < length list.slots → (from : Source)
-    → IsRingOf (incoming_shape list k from) (messages k from) (pairs k from) (at_source (end_at ends k) from))
-    → (k : ℕ) (from : Source) → 1 ≤ reads_from (reads_in script slot) k from
-    → IsSomeAnd (reader_at readers k from) (λ (r : ReaderState). reads_from (reads_in script slot) k from ≤ r.spare)
-room_lent list script slot ends readers messages pairs valid count lent_are rings k from some =
-    let reads = reads_in script slot in
-    let n = reads_from reads k from in
-    let is = read_there (IsReadOf list) k from reads (reads_of_valid list script slot valid) some in
-    let near : k < length ends = omega (arith, is.0, count) in
-    let ring = source_ring list k from is.1 in
-    let w = at_source (end_at ends k) from in
-    let there = some_there (readers_at readers k) (lent_are.there k near ∙ reads_there k from reads some) in
-    let reader : reader_at readers k from ≡ lent w n =
-    ap (λ (o : Option ReadersState). reader_in o from) there.1 ∙ (lent_are.each k near there.0 there.1).readers from in
-    subst (λ (o : Option ReaderState). IsSomeAnd o (λ (r : ReaderState). n ≤ r.spare)) (sym reader)
-    (lent_room ring.0 (messages k from) (pairs k from) w n (n == 0) (ne_eqb n 0 (λ none. omega (arith, none, some)))
-    (subst (λ (s : Option Shape). IsRingOf s (messages k from) (pairs k from) w) ring.1 (rings k is.0 from)))
+-- Readers that were lent for the reads of a slot may make them all.
+module _ {at : CurrentSlot} {numbers : Numbers} {ends : List ControllerState} {readers : List (Option ReadersState)}
+    (are : AreLentFor at numbers ends readers) where
+  abbrev list : Medl
+  list = at.list.now
 
--- Readers that were lent for the reads of a valid script's slot, by ends whose rings are there, may make them all.
-pub may_read_all : (list : Medl) (script : Script) (slot : ℕ) (ends : List ControllerState)
-    (readers : List (Option ReadersState)) (messages : ℕ → Source → List (List ℕ)) (pairs : ℕ → Source → List Message)
-    → IsValidScript list script → length ends ≡ length list.slots → length readers ≡ length list.slots
-    → AreReadersLent (reads_in script slot) ends readers
-    → ((k : ℕ) → k < length list.slots → (from : Source)
-    → IsRingOf (incoming_shape list k from) (messages k from) (pairs k from) (at_source (end_at ends k) from))
-    → MayReadAll (reads_in script slot) readers
-may_read_all list script slot ends readers messages pairs valid ends_count count lent_are rings = record {
-  calls = λ k.
-      elim (cases_lt k (length list.slots)) [
-        | inl near ↦
-            lent_calls (reads_in script slot) k (end_at ends k) (readers_at readers k)
-            (lent_are.each k (omega (arith, near, ends_count)))
-        | inr past ↦ ap calls_in (get_or_past readers k None (omega (arith, past, count)))
-      ];
-  room = room_lent list script slot ends readers messages pairs valid ends_count lent_are rings;
-}
+  abbrev reads : List HostRead
+  reads = reads_in at.script.now at.slot
+
+  room_lent : (k : ℕ) (from : Source) → 1 ≤ reads_from reads k from
+      → IsSomeAnd (reader_at readers k from) (λ (r : ReaderState). reads_from reads k from ≤ r.spare)
+  room_lent k from some =
+      let n = reads_from reads k from in
+      let is = read_there (IsReadOf list) k from reads (reads_of_valid list at.script.now at.slot at.valid_script) some in
+      let near : k < length ends = omega (arith, is.0, are.ends_count) in
+      let ring = source_ring list k from is.1 in
+      let w = at_source (end_at ends k) from in
+      let there = some_there (readers_at readers k) (are.lent.there k near ∙ reads_there k from reads some) in
+      let reader : reader_at readers k from ≡ lent w n =
+      ap (λ (o : Option ReadersState). reader_in o from) there.1 ∙ (are.lent.each k near there.0 there.1).readers from in
+      subst (λ (o : Option ReaderState). IsSomeAnd o (λ (r : ReaderState). n ≤ r.spare)) (sym reader)
+      (lent_room ring.0 _ _ w n (n == 0) (ne_eqb n 0 (λ none. omega (arith, none, some)))
+      (subst (λ (s : Option Shape). IsRingOf s (words_read list at.script.now (world list at.script.now numbers) k from)
+      (pairs_read list at.script.now numbers k from) w) ring.1 (are.rings k is.0 from)))
+
+  pub may_read_all : MayReadAll reads readers
+  may_read_all = record {
+    calls = λ k.
+        elim (cases_lt k (length list.slots)) [
+          | inl near ↦
+              lent_calls reads k (end_at ends k) (readers_at readers k)
+              (are.lent.each k (omega (arith, near, are.ends_count)))
+          | inr past ↦ ap calls_in (get_or_past readers k None (omega (arith, past, are.count)))
+        ];
+    room = room_lent;
+  }

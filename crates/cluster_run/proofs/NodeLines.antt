@@ -1,5 +1,6 @@
 -- The line of a node after a slot.
-use Rattle.std.proofs.Common.{◌≡◌, ℕ, List, ◌∷◌, Option, refl, ◌∙◌}
+use Rattle.std.proofs.Common.{◌≡◌, ℕ, ◌<◌, List, ◌∷◌, length, get_or, Option, Some, None, refl, ◌∙◌, subst, zero-add}
+use Rattle.std.specs.Prelude.{slice_get}
 use Rattle.ttp_world.specs.declared.medl.Medl.{Medl}
 use Rattle.ttp_world.specs.declared.node.Entry.{Entry}
 use Rattle.ttp_world.specs.declared.node.Entry.TheVariants as entry
@@ -14,8 +15,9 @@ use Rattle.controller.specs.Passes.{StandsAfter}
 use Rattle.controller.specs.PlantWithin.{IsEnded, IsControllerOf}
 use Rattle.controller.specs.StandsFor.{StandsFor, Stands, ShowsState}
 use Rattle.controller.specs.ControllerView.{ControllerView}
+use Rattle.controller.specs.declared.seat.Seat.{Seat}
 use Rattle.host_port.specs.declared.report.NodeLine.{NodeLine}
-use Rattle.cluster_run.specs.Report.{message_named, number_told, node_shown}
+use Rattle.cluster_run.specs.Report.{HaveEndedSlot, message_named, number_told, node_shown}
 
 named_shown : (list : Medl) (script : Script) (row : List Entry) (before : History) (k : ℕ) (e : Entry)
     → message_named e (number_told list script row before k) ≡ message_shown list script row before k e
@@ -33,25 +35,27 @@ stands_now : {view : ControllerView} {diary : Diary} {surroundings : Surrounding
     → Stands view diary surroundings view.turn
 stands_now stands = record { past = stands.past; slots = stands.slots; turn = refl }
 
--- what a controller that stands for its diary shows, with the number of what was delivered: the message is that of the
--- entry in any state that it shows
-pub line_shown : (list : Medl) (script : Script) (row : List Entry) (before : History) (bound k : ℕ) (view : ControllerView)
-    (delivered : Option ℕ) (line : NodeLine) (again : NodeState) → IsControllerOf list IsEnded bound k view
-    → StandsAfter script (row ∷ before) k view → delivered ≡ number_told list script row before k
-    → ShowsState view line.state → ShowsState view again → line.message ≡ message_named again.entry delivered
-    → line ≡ node_shown list script row before k
-line_shown list script row before bound k view delivered line again is stands number shows shows_again message =
+-- The line of a node that has ended a slot, whose controller shows these states, with the number of what was delivered:
+-- the message is that of the entry in any state that it shows.
+pub line_shown : {list : Medl} {script : Script} {row : List Entry} {before : History} {seats : List Seat}
+    {delivered : List (Option ℕ)} (so : HaveEndedSlot list script row before seats delivered) (k : ℕ) (seat : Seat)
+    (line : NodeLine) (again : NodeState) → slice_get seats k ≡ Some seat → k < length seats
+    → ShowsState seat.controller line.state → ShowsState seat.controller again
+    → line.message ≡ message_named again.entry (get_or delivered k None) → line ≡ node_shown list script row before k
+line_shown {list} {script} {row} {before} so k seat line again here near shows shows_again message =
     let after = row ∷ before in
+    let view = seat.controller in
+    let is = subst (λ j. IsControllerOf list IsEnded so.bound j view) (zero-add k) (so.seats_are.each k seat here) in
+    let stands = stands_now (subst (λ j. StandsAfter script after j view) (zero-add k) (so.stand.each k seat here)) in
     let past = past_of view.list view.node (diary_of after k) (surroundings_of script after k) in
-    let state : line.state ≡ state_of past =
-    shows (diary_of after k) (surroundings_of script after k) view.turn (stands_now stands) in
+    let state : line.state ≡ state_of past = shows (diary_of after k) (surroundings_of script after k) view.turn stands in
     let state_again : again ≡ state_of past =
-    shows_again (diary_of after k) (surroundings_of script after k) view.turn (stands_now stands) in
-    let here : state_of past ≡ state_of (node_past list script after k) =
+    shows_again (diary_of after k) (surroundings_of script after k) view.turn stands in
+    let same : state_of past ≡ state_of (node_past list script after k) =
     λ i. state_of (past_of (is.list i) (is.node i) (diary_of after k) (surroundings_of script after k)) in
     let named : line.message
     ≡ message_shown list script row before k (state_of (node_past list script after k)).entry =
     message
-    ∙ (λ i. message_named ((state_again ∙ here) i).entry (number i))
+    ∙ (λ i. message_named ((state_again ∙ same) i).entry (so.numbers k near i))
     ∙ named_shown list script row before k (state_of (node_past list script after k)).entry in
-    λ i. record { state = (state ∙ here) i; message = named i }
+    λ i. record { state = (state ∙ same) i; message = named i }

@@ -1,13 +1,12 @@
 -- A slot in which no host reads: there are no readers, and nothing is read.
-use Rattle.std.proofs.Common.{◌≡◌, ℕ, zero, suc, List, [], ◌∷◌, length, Option, Some, None, refl, sym, ap, subst}
-use Rattle.std.proofs.Common.{◌∙◌, arith}
+use Rattle.std.proofs.Common.{◌≡◌, ℕ, zero, suc, List, [], ◌∷◌, length, Option, None, refl, sym, ap, subst}
+use Rattle.std.proofs.Common.{◌∙◌}
 use Rattle.std.specs.Prelude.{is_some}
 use Rattle.std.proofs.lemmas.Option.{none-some}
-use Rattle.ttp_world.specs.declared.medl.Medl.{Medl}
-use Rattle.ttp_world.specs.declared.script.Script.{Script}
 use Rattle.ttp_world.specs.Script.{reads_in}
-use Rattle.host_port.specs.Reading.{ReadersState, IsSettled, got_of, reads_from, settled}
-use Rattle.host_port.specs.Rings.{ControllerState, HostState, at_source}
+use Rattle.host_port.specs.Reading.{ReadersState, got_of, reads_from}
+use Rattle.host_port.specs.Rings.{ControllerState, at_source}
+use Rattle.cluster_run.specs.declared.current.CurrentSlot.{CurrentSlot}
 use Rattle.cluster_run.specs.declared.nodes.Nodes.{Nodes}
 use Rattle.controller.specs.PlantStands.{outcomes_of}
 use Rattle.cluster_run.specs.Ending.{HaveHandedOn}
@@ -15,10 +14,7 @@ use Rattle.cluster_run.specs.Ends.{end_at, desk_ends, desk_numbers}
 use Rattle.cluster_run.specs.Reading.{ReadsMany, SettlesReadsOf, calls_in, has_reads, reader_at, reader_in}
 use Rattle.cluster_run.specs.Reading.{readers_at, sources_of}
 use Rattle.cluster_run.specs.Slots.{TellsReads}
-
-pub no_items : {A : Type 0} (xs : List A) → length xs ≡ 0 → xs ≡ []
-no_items [] none = refl
-no_items (x ∷ xs) none = absurd (omega (arith, none))
+use Rattle.cluster_run.proofs.SettledReaders.{is_settled-none, settled-none}
 
 -- nothing for each of so many nodes
 abbrev nobody : ℕ → List (Option ReadersState)
@@ -34,26 +30,18 @@ none_there zero k = refl
 none_there (suc n) zero = refl
 none_there (suc n) (suc k) = none_there n k
 
-settled_whole : (w : HostState) → IsSettled w None
-settled_whole None = tt
-settled_whole (Some w) = tt
-
-settled_same : (w : HostState) → settled w None ≡ w
-settled_same None = refl
-settled_same (Some w) = refl
-
 none_settled : (e : ControllerState) → SettlesReadsOf e None e
 none_settled e = record {
-  whole = λ from. settled_whole (at_source e from);
-  settled_is = λ from. sym (settled_same (at_source e from));
+  whole = λ from. is_settled-none (at_source e from);
+  settled_is = λ from. settled-none (at_source e from);
 }
 
-pub none_read : (list : Medl) (script : Script) (slot : ℕ) (old new : Nodes) → reads_in script slot ≡ []
+pub none_read : (at : CurrentSlot) (old new : Nodes) → reads_in at.script.now at.slot ≡ []
     → HaveHandedOn (outcomes_of new.seats.items) (desk_ends old.desks.items) (desk_ends new.desks.items)
     (desk_numbers new.desks.items)
-    → TellsReads list script slot old new []
-none_read list script slot old new quiet handed =
-    let n = length list.slots in
+    → TellsReads at old new []
+none_read at old new quiet handed =
+    let n = length at.list.now.slots in
     let ends = desk_ends new.desks.items in
     record {
       handed = ends;
@@ -68,7 +56,7 @@ none_read list script slot old new quiet handed =
       };
       read = record {
         each = λ k from.
-            subst (λ reads. ReadsMany list.buffers (reads_from reads k from) (reader_at (nobody n) k from)
+            subst (λ reads. ReadsMany at.list.now.buffers (reads_from reads k from) (reader_at (nobody n) k from)
             (reader_at (nobody n) k from)) (sym quiet) refl;
         calls = λ k clear. ap calls_in (none_there n k) ∙ sym (ap (λ reads. sources_of reads k) quiet);
       };

@@ -2,9 +2,9 @@
 use Rattle.std.proofs.Common.{◌≡◌, ◌≢◌, ℕ, suc, ◌+◌, Bool, true, false, cond, List, [], ◌∷◌, ◌++◌}
 use Rattle.std.proofs.Common.{map, count_by, Option, inl, inr}
 use Rattle.std.proofs.Common.{refl, sym, ap, ◌∙◌, subst, arith}
-use Rattle.std.specs.Prelude.{◌==◌, ◌&&◌, filter}
+use Rattle.std.specs.Prelude.{◌==◌, ◌&&◌, ◌⊎◌, filter}
 use Rattle.std.proofs.lemmas.Bool.{cases_eq, eq-eqb, eqb-true, and_parts, false_from_ne_true}
-use Rattle.std.proofs.lemmas.List.{map-append}
+use Rattle.std.proofs.lemmas.List.{append-nil, map-append}
 use Rattle.std.proofs.lemmas.List.Elements.{filter-append}
 use Rattle.std.proofs.lemmas.List.Sums.{sum_by-append, sum_by-cons}
 use Rattle.nbw_ring.specs.States.{ReaderState}
@@ -69,17 +69,13 @@ sources_more-own done r k own =
     sources_more done r k
     ∙ ap (λ b. sources_of done k ++ map (λ x. x.source) (cond b (r ∷ []) [])) (eq-eqb r.host k own)
 
-append-nothing : {X : Type 0} (xs : List X) → xs ++ [] ≡ xs
-append-nothing [] = refl
-append-nothing (x ∷ xs) = ap (λ ys. x ∷ ys) (append-nothing xs)
-
 sources_more-other : (done : List HostRead) (r : HostRead) (k : ℕ) → r.host ≢ k
     → sources_of (done ++ r ∷ []) k ≡ sources_of done k
 sources_more-other done r k other =
     sources_more done r k
     ∙ ap (λ b. sources_of done k ++ map (λ x. x.source) (cond b (r ∷ []) []))
     (false_from_ne_true (r.host == k) (λ same. other (eqb-true r.host k same)))
-    ∙ append-nothing (sources_of done k)
+    ∙ append-nil (sources_of done k)
 
 -- One read: of the readers of its host, that of its source made it, and the others are as they were.
 
@@ -97,30 +93,52 @@ reader_same : (readers : List (Option ReadersState)) (h k : ℕ) (a b : Source) 
     → reader_at readers h a ≡ reader_at readers k b
 reader_same readers h k a b own here = λ i. reader_at readers (own i) (same_place a b here i)
 
--- Each reader keeps what it had.
+-- What one read makes of a reader: it is of this host and source, and made it, or the reader is as it was.
 
-keep_same : (old new : Option ReaderState) → new ≡ old → Keeps old new
-keep_same old new same = subst (λ (r : Option ReaderState). Keeps old r) (sym same) (keeps_refl old)
+pub record MadeIt (buffers : ℕ) (done : List HostRead) (r : HostRead) (old new : List (Option ReadersState)) (k : ℕ)
+    (from : Source) : Type 0 where
+  pub reads : Reads buffers (reader_at old k from) (reader_at new k from)
+  pub count : reads_from (done ++ r ∷ []) k from ≡ suc (reads_from done k from)
 
-read_keeps : (buffers : ℕ) (r : HostRead) (old new : List (Option ReadersState)) (k : ℕ) (from : Source)
-    → IsReadAt buffers r old new → Keeps (reader_at old k from) (reader_at new k from)
-read_keeps buffers r old new k from is =
+pub record LeftIt (done : List HostRead) (r : HostRead) (old new : List (Option ReadersState)) (k : ℕ) (from : Source)
+    : Type 0 where
+  pub same : reader_at new k from ≡ reader_at old k from
+  pub count : reads_from (done ++ r ∷ []) k from ≡ reads_from done k from
+
+pub made_or_left : {buffers : ℕ} (done : List HostRead) {r : HostRead} {old new : List (Option ReadersState)}
+    → IsReadAt buffers r old new → (k : ℕ) (from : Source)
+    → MadeIt buffers done r old new k from ⊎ LeftIt done r old new k from
+made_or_left {buffers} done {r} {old} {new} is k from =
     elim (cases_eq r.host k) [
       | inl own ↦
           elim (cases_eq (place_of r.source) (place_of from)) [
-            | inl here ↦
-                subst (λ (x : Option ReaderState). Keeps x (reader_at new k from))
-                (reader_same old r.host k r.source from own here)
-                (subst (λ (x : Option ReaderState). Keeps (reader_at old r.host r.source) x)
-                (reader_same new r.host k r.source from own here)
-                (reads_keep buffers (reader_at old r.host r.source) (reader_at new r.host r.source) is.own.reads))
-            | inr apart ↦
-                keep_same (reader_at old k from) (reader_at new k from)
-                (subst (λ (j : ℕ). reader_at new j from ≡ reader_at old j from) own
-                (is.own.others from (λ same. apart (sym same))))
+            | inl here ↦ inl (record {
+              reads =
+                  subst (λ (x : Option ReaderState). Reads buffers x (reader_at new k from))
+                  (reader_same old r.host k r.source from own here)
+                  (subst (λ (x : Option ReaderState). Reads buffers (reader_at old r.host r.source) x)
+                  (reader_same new r.host k r.source from own here) is.own.reads);
+              count = reads_more-own done r k from own here;
+            })
+            | inr apart ↦ inr (record {
+              same = subst (λ (j : ℕ). reader_at new j from ≡ reader_at old j from) own
+                  (is.own.others from (λ same. apart (sym same)));
+              count = reads_more-other done r k from (λ _ here. apart here);
+            })
           ]
-      | inr other ↦
-          keep_same (reader_at old k from) (reader_at new k from) (ap (λ x. reader_in x from) (is.others k other))
+      | inr other ↦ inr (record {
+        same = ap (λ x. reader_in x from) (is.others k other);
+        count = reads_more-other done r k from (λ own _. other own);
+      })
+    ]
+
+-- each reader keeps what it had
+read_keeps : (buffers : ℕ) (r : HostRead) (old new : List (Option ReadersState)) (k : ℕ) (from : Source)
+    → IsReadAt buffers r old new → Keeps (reader_at old k from) (reader_at new k from)
+read_keeps buffers r old new k from is =
+    elim (made_or_left [] is k from) [
+      | inl made ↦ reads_keep buffers (reader_at old k from) (reader_at new k from) made.reads
+      | inr left ↦ subst (Keeps (reader_at old k from)) (sym left.same) (keeps_refl (reader_at old k from))
     ]
 
 -- One read more.
@@ -129,35 +147,9 @@ each_more : (buffers : ℕ) (done : List HostRead) (r : HostRead) (start old new
     (from : Source) → HaveRead buffers done start old → IsReadAt buffers r old new
     → ReadsMany buffers (reads_from (done ++ r ∷ []) k from) (reader_at start k from) (reader_at new k from)
 each_more buffers done r start old new k from so is =
-    elim (cases_eq r.host k) [
-      | inl own ↦
-          elim (cases_eq (place_of r.source) (place_of from)) [
-            | inl here ↦
-                let last : Reads buffers (reader_at old k from) (reader_at new k from) =
-                subst (λ (x : Option ReaderState). Reads buffers x (reader_at new k from))
-                (reader_same old r.host k r.source from own here)
-                (subst (λ (x : Option ReaderState). Reads buffers (reader_at old r.host r.source) x)
-                (reader_same new r.host k r.source from own here) is.own.reads) in
-                let many : ReadsMany buffers (suc (reads_from done k from)) (reader_at start k from)
-                (reader_at new k from) = (reader_at old k from, so.each k from, last) in
-                subst (λ (n : ℕ). ReadsMany buffers n (reader_at start k from) (reader_at new k from))
-                (sym (reads_more-own done r k from own here)) many
-            | inr apart ↦
-                let same : reader_at new k from ≡ reader_at old k from =
-                subst (λ (j : ℕ). reader_at new j from ≡ reader_at old j from) own
-                (is.own.others from (λ same. apart (sym same))) in
-                subst (λ (n : ℕ). ReadsMany buffers n (reader_at start k from) (reader_at new k from))
-                (sym (reads_more-other done r k from (λ _ here. apart here)))
-                (subst
-                (λ (x : Option ReaderState). ReadsMany buffers (reads_from done k from) (reader_at start k from) x)
-                (sym same) (so.each k from))
-          ]
-      | inr other ↦
-          let same : reader_at new k from ≡ reader_at old k from = ap (λ x. reader_in x from) (is.others k other) in
-          subst (λ (n : ℕ). ReadsMany buffers n (reader_at start k from) (reader_at new k from))
-          (sym (reads_more-other done r k from (λ own _. other own)))
-          (subst (λ (x : Option ReaderState). ReadsMany buffers (reads_from done k from) (reader_at start k from) x)
-          (sym same) (so.each k from))
+    elim (made_or_left done is k from) [
+      | inl made ↦ rw made.count (reader_at old k from, so.each k from, made.reads)
+      | inr left ↦ rw (left.count, left.same) (so.each k from)
     ]
 
 -- all readers of a host are clear

@@ -15,7 +15,7 @@ use Rattle.host_port.specs.Reading.{ReadersState, Attempts, Reads, buffers_of, r
 use Rattle.host_port.specs.Reading.{IsLeft, rings_read}
 use Rattle.host_port.specs.Rings.{place_of}
 use Rattle.cluster_run.specs.Reading.{readers_at, reader_in, reader_at, rings_in, ReadTheSame, ReadBuffers, HaveRead}
-use Rattle.cluster_run.proofs.ReadAll.{same_place, reads_more-own, reads_more-other, IsRead, IsReadAt, have_more}
+use Rattle.cluster_run.proofs.ReadAll.{made_or_left, reads_more-own, IsRead, IsReadAt, have_more}
 use Rattle.ttp_world.proofs.ListFacts.{at_any}
 
 -- There is room for the reads that are left.
@@ -94,31 +94,13 @@ left_more : (reads done : List HostRead) (r : HostRead)
     → AreRead reads done start old → IsReadAt buffers r old new → 1 ≤ reads_from reads k from
     → HasRoomFor (reads_from reads k from) (reads_from (done ++ r ∷ []) k from) (reader_at new k from)
 left_more reads done r start old new buffers k from so is some =
-    let all = reads_from reads k from in
     let room = so.left k from some in
-    elim (cases_eq r.host k) [
-      | inl own ↦
-          elim (cases_eq (place_of r.source) (place_of from)) [
-            | inl here ↦
-                let same = same_place r.source from here in
-                let last : Reads buffers (reader_at old k from) (reader_at new k from) =
-                let P : ℕ → Source → Type 0 = λ j f. Reads buffers (reader_at old j f) (reader_at new j f) in
-                subst (λ (j : ℕ). P j from) own (subst (λ (f : Source). P r.host f) same is.own.reads) in
-                subst (λ (n : ℕ). HasRoomFor all n (reader_at new k from)) (sym (reads_more-own done r k from own here))
-                (room_more buffers all (reads_from done k from) (reader_at old k from) (reader_at new k from) room last)
-            | inr apart ↦
-                let same : reader_at new k from ≡ reader_at old k from =
-                subst (λ (j : ℕ). reader_at new j from ≡ reader_at old j from) own
-                (is.own.others from (λ same. apart (sym same))) in
-                subst (λ (n : ℕ). HasRoomFor all n (reader_at new k from))
-                (sym (reads_more-other done r k from (λ _ here. apart here)))
-                (subst (λ (x : Option ReaderState). HasRoomFor all (reads_from done k from) x) (sym same) room)
-          ]
-      | inr other ↦
-          let same : reader_at new k from ≡ reader_at old k from = ap (λ x. reader_in x from) (is.others k other) in
-          subst (λ (n : ℕ). HasRoomFor all n (reader_at new k from))
-          (sym (reads_more-other done r k from (λ own _. other own)))
-          (subst (λ (x : Option ReaderState). HasRoomFor all (reads_from done k from) x) (sym same) room)
+    elim (made_or_left done is k from) [
+      | inl made ↦
+          rw made.count
+          (room_more buffers (reads_from reads k from) (reads_from done k from) (reader_at old k from)
+          (reader_at new k from) room made.reads)
+      | inr left ↦ rw (left.count, left.same) room
     ]
 
 -- What the next read asks.

@@ -1,6 +1,6 @@
 -- What the reads of a slot got of one ring, and the ring once its reader is settled.
 use Rattle.std.proofs.Common.{◌≡◌, ℕ, ◌+◌, ◌≤◌, List, [], ◌∷◌, ◌++◌, length, Option, Some, None}
-use Rattle.std.proofs.Common.{IsSomeAnd, refl, sym, ap, ◌∙◌, subst, arith}
+use Rattle.std.proofs.Common.{refl, sym, ap, ◌∙◌, subst, arith}
 use Rattle.std.specs.List.{AllByRecursion}
 use Rattle.std.specs.Option.{ForSome}
 use Rattle.std.proofs.lemmas.Grind.{flat_map-append}
@@ -14,6 +14,7 @@ use Rattle.host_port.specs.Fetching.{HasSeen}
 use Rattle.host_port.specs.Reading.{IsSettled, settled, got_of}
 use Rattle.cluster_run.specs.Reading.{ReadsMany, IsClear}
 use Rattle.cluster_run.specs.Rings.{joined_pairs, GotEach, SawAtMost, IsRing, IsRingOf}
+use Rattle.cluster_run.proofs.SettledReaders.{settled-none}
 use Rattle.cluster_run.proofs.Readers.{Rises, GotEvery, many_keep, got_every}
 
 -- a reader, if there is one, is a new one of this writer's
@@ -32,52 +33,102 @@ pub record AreGotOf (before after : List (List ℕ)) (got : List Message) : Type
 pub nothing_got : (before after : List (List ℕ)) → AreGotOf before after []
 nothing_got before after = record { least = tt; are = tt; rise = tt }
 
--- A ring with two buffers or more, which took one message at most, leaves its readers clear.
+-- A ring in a slot. Its reader was lent before the slot's message came, `writer` is the writer then and `later` the one
+-- after it; `lent` is the reader as it was lent, and `read` the one that has read, which is settled in the later writer.
 
 abbrev pub HasBuffers : ℕ → Option Shape → Type 0
 HasBuffers buffers shape = ForSome shape (λ (s : Shape). s.buffers ≡ buffers)
 
-clear_ring : (buffers : ℕ) (shape : Shape) (before after : List (List ℕ)) (ps qs : List Message)
-    (w v : WriterState) (old new : ReaderState) → 1 ≤ buffers → shape.buffers ≡ buffers → 1 ≤ length before
-    → length after ≤ length before + 1 → IsRing shape before ps w → IsRing shape after qs v
-    → IsLentBy (Some w) (Some old) → IsSettled (Some v) (Some new) → IsClear buffers (Some old) (Some new)
-clear_ring buffers shape before after ps qs w v old new some sized there few is be lent settles = λ more.
+pub record RingSlot (buffers : ℕ) : Type 0 where
+  pub shape : Option Shape
+  pub before : List (List ℕ)
+  pub after : List (List ℕ)
+  pub pairs : List Message
+  pub writer : Option WriterState
+  pub later : Option WriterState
+  pub lent : Option ReaderState
+  pub read : Option ReaderState
+  pub some : 1 ≤ buffers
+  pub sized : HasBuffers buffers shape
+  pub there : 1 ≤ length before
+  pub few : length after ≤ length before + 1
+  pub is : IsRingOf shape before pairs writer
+  pub be : IsRingOf shape after pairs later
+  pub lent_by : IsLentBy writer lent
+  pub settles : IsSettled later read
+
+-- it is there where it has a reader
+record IsThere (buffers : ℕ) (before after : List (List ℕ)) (pairs : List Message) (old : ReaderState)
+    (shape : Option Shape) (later : Option WriterState) : Type 0 where
+  pub own : Shape
+  pub own_is : shape ≡ Some own
+  pub sized : own.buffers ≡ buffers
+  pub first : WriterState
+  pub last : WriterState
+  pub last_is : later ≡ Some last
+  pub is : IsRing own before pairs first
+  pub be : IsRing own after pairs last
+  pub lent : (reads : ℕ) × (old ≡ new_reader first reads)
+
+is_there : {buffers : ℕ} {before after : List (List ℕ)} {pairs : List Message} (old : ReaderState)
+    (shape : Option Shape) (writer later : Option WriterState) → HasBuffers buffers shape
+    → IsRingOf shape before pairs writer → IsRingOf shape after pairs later → IsLentBy writer (Some old)
+    → IsThere buffers before after pairs old shape later
+is_there old None writer later sized is be lent = absurd (subst (λ (w : Option WriterState). IsLentBy w (Some old)) is lent)
+is_there old (Some shape) None later sized is be lent = absurd is
+is_there old (Some shape) (Some w) None sized is be lent = absurd be
+is_there old (Some shape) (Some w) (Some v) sized is be lent = record {
+  own = shape;
+  own_is = refl;
+  sized = sized shape refl;
+  first = w;
+  last = v;
+  last_is = refl;
+  is = is;
+  be = be;
+  lent = lent;
+}
+
+settles_in : {buffers : ℕ} (r : RingSlot buffers) {last : WriterState} {new : ReaderState} → r.later ≡ Some last
+    → r.read ≡ Some new → IsSettled (Some last) (Some new)
+settles_in r {new = new} later read =
+    subst (λ (v : Option WriterState). IsSettled v (Some new)) later
+    (subst (λ (x : Option ReaderState). IsSettled r.later x) read r.settles)
+
+-- With two buffers or more its reader is clear, as the slot brought one message at most.
+
+clear_if : {buffers : ℕ} (r : RingSlot buffers) (old new : Option ReaderState) → r.lent ≡ old → r.read ≡ new
+    → IsClear buffers old new
+clear_if r None new lent read = tt
+clear_if r (Some old) None lent read = tt
+clear_if {buffers} r (Some old) (Some new) lent read = λ more.
+    let t = is_there old r.shape r.writer r.later r.sized r.is r.be (subst (IsLentBy r.writer) lent r.lent_by) in
+    let settles = settles_in r t.last_is read in
     omega (
       arith,
       settles.1,
-      ap length be.messages_are,
-      ap length is.messages_are,
-      ap (λ (r : ReaderState). r.floor) lent.1,
-      ap (λ (r : ReaderState). r.ring.shape.buffers) lent.1,
-      ap (λ (s : Shape). s.buffers) is.shape_is,
-      sized,
+      r.few,
+      r.there,
+      ap length t.be.messages_are,
+      ap length t.is.messages_are,
+      ap (λ (x : ReaderState). x.floor) t.lent.1,
+      ap (λ (x : ReaderState). x.ring.shape.buffers) t.lent.1,
+      ap (λ (s : Shape). s.buffers) t.is.shape_is,
+      t.sized,
+      r.some,
       more,
     )
 
-pub clear_of : (buffers : ℕ) (shape : Option Shape) (before after : List (List ℕ)) (ps qs : List Message)
-    (w v : Option WriterState) (old new : Option ReaderState) → 1 ≤ buffers → HasBuffers buffers shape
-    → 1 ≤ length before → length after ≤ length before + 1 → IsRingOf shape before ps w → IsRingOf shape after qs v
-    → IsLentBy w old → IsSettled v new → IsClear buffers old new
-clear_of buffers shape before after ps qs w v None new some sized there few is be lent settles = tt
-clear_of buffers shape before after ps qs w v (Some old) None some sized there few is be lent settles = tt
-clear_of buffers None before after ps qs w v (Some old) (Some new) some sized there few is be lent settles =
-    absurd (subst (λ (x : Option WriterState). IsLentBy x (Some old)) is lent)
-clear_of buffers (Some shape) before after ps qs None v (Some old) (Some new) some sized there few is be lent settles =
-    absurd is
-clear_of buffers (Some shape) before after ps qs (Some w) None (Some old) (Some new) some sized there few is be lent
-    settles = absurd be
-clear_of buffers (Some shape) before after ps qs (Some w) (Some v) (Some old) (Some new) some sized there few is be lent
-    settles =
-    clear_ring buffers shape before after ps qs w v old new some (sized shape refl) there few is be lent settles
+pub clear_of : {buffers : ℕ} (r : RingSlot buffers) → IsClear buffers r.lent r.read
+clear_of r = clear_if r r.lent r.read refl refl
 
 -- What a clear reader got.
 
-got_ring : (buffers n : ℕ) (shape : Shape) (before after : List (List ℕ)) (ps : List Message) (w v : WriterState)
-    (old new : ReaderState) → IsRing shape before ps w → IsRing shape after ps v → IsLentBy (Some w) (Some old)
+got_ring : (before after : List (List ℕ)) {shape : Shape} {pairs : List Message} {w v : WriterState} {buffers n : ℕ}
+    {old new : ReaderState} → IsRing shape before pairs w → IsRing shape after pairs v → IsLentBy (Some w) (Some old)
     → GotEvery buffers n old new → IsSettled (Some v) (Some new) → AreGotOf before after new.got
-got_ring buffers n shape before after ps w v old new is be lent got settles =
-    let floor : old.floor ≡ newest_number before =
-    ap (λ (r : ReaderState). r.floor) lent.1 ∙ ap newest_number is.messages_are in
+got_ring before after {v = v} {new = new} is be lent got settles =
+    let floor = ap (λ (r : ReaderState). r.floor) lent.1 ∙ ap newest_number is.messages_are in
     record {
       least = subst (λ (f : ℕ). AllByRecursion (λ (m : Message). f ≤ m.number) new.got) floor got.least;
       are = subst (λ (ms : List (List ℕ)). AllByRecursion (IsMessageOf ms) new.got) be.messages_are
@@ -89,10 +140,10 @@ joined_more : (v : WriterState) (r : ReaderState) → joined_pairs (with_joined 
 joined_more v r =
     flat_map-append (λ s. s.pairs) v.joined (settlement_of r ∷ []) ∙ ap (λ ms. joined_pairs v ++ ms) (append-nil r.got)
 
-settled_ring : (buffers n : ℕ) (shape : Shape) (after : List (List ℕ)) (ps : List Message) (v : WriterState)
-    (old new : ReaderState) → shape.buffers ≡ buffers → IsRing shape after ps v → GotEvery buffers n old new
-    → HasSeen v new → IsRing shape after (ps ++ new.got) (with_joined v new)
-settled_ring buffers n shape after ps v old new sized be got seen = record {
+settled_ring : {shape : Shape} {after : List (List ℕ)} {pairs : List Message} {v : WriterState} {buffers n : ℕ}
+    {old new : ReaderState} → shape.buffers ≡ buffers → IsRing shape after pairs v → GotEvery buffers n old new
+    → HasSeen v new → IsRing shape after (pairs ++ new.got) (with_joined v new)
+settled_ring {v = v} {new = new} sized be got seen = record {
   shape_is = be.shape_is;
   messages_are = be.messages_are;
   pairs_are = joined_more v new ∙ ap (λ ms. ms ++ new.got) be.pairs_are;
@@ -102,52 +153,39 @@ settled_ring buffers n shape after ps v old new sized be got seen = record {
       (got.once (λ one. more (sized ∙ one)) ∙ sym got.count);
 }
 
--- a ring in a slot: its messages before and after it, with its writer once the slot's message came; what its reader
--- got; and its writer once the reader is settled
-pub record IsRingRead (shape : Option Shape) (before after : List (List ℕ)) (ps : List Message) (v : Option WriterState)
-    (new : Option ReaderState) : Type 0 where
-  pub got : AreGotOf before after (got_of new)
-  pub ring : IsRingOf shape after (ps ++ got_of new) (settled v new)
+-- what its reader got, and its writer once the reader is settled
+pub record IsRingRead {buffers : ℕ} (r : RingSlot buffers) : Type 0 where
+  pub got : AreGotOf r.before r.after (got_of r.read)
+  pub ring : IsRingOf r.shape r.after (r.pairs ++ got_of r.read) (settled r.later r.read)
 
-unread : (shape : Option Shape) (before after : List (List ℕ)) (ps : List Message) (v : Option WriterState)
-    → IsRingOf shape after ps v → IsRingRead shape before after ps v None
-unread shape before after ps None be =
-    record {
-      got = nothing_got before after;
-      ring = subst (λ (xs : List Message). IsRingOf shape after xs None) (sym (append-nil ps)) be;
-    }
-unread shape before after ps (Some v) be =
-    record {
-      got = nothing_got before after;
-      ring = subst (λ (xs : List Message). IsRingOf shape after xs (Some v)) (sym (append-nil ps)) be;
-    }
-
-read_ring : (buffers n : ℕ) (shape : Shape) (before after : List (List ℕ)) (ps : List Message) (w v : WriterState)
-    (old : ReaderState) (new : Option ReaderState) → shape.buffers ≡ buffers → IsRing shape before ps w
-    → IsRing shape after ps v → IsLentBy (Some w) (Some old) → IsSomeAnd new (GotEvery buffers n old)
-    → IsSettled (Some v) new → IsRingRead (Some shape) before after ps (Some v) new
-read_ring buffers n shape before after ps w v old None sized is be lent got settles = absurd got
-read_ring buffers n shape before after ps w v old (Some new) sized is be lent got settles = record {
-  got = got_ring buffers n shape before after ps w v old new is be lent got settles;
-  ring = settled_ring buffers n shape after ps v old new sized be got settles.1;
+read_if : {buffers : ℕ} (r : RingSlot buffers) (n : ℕ) (old new : Option ReaderState) → r.lent ≡ old → r.read ≡ new
+    → ReadsMany buffers n old new → IsClear buffers old new → IsRingRead r
+read_if {buffers} r n None (Some new) lent read many clear = absurd (many_keep buffers n None (Some new) many)
+read_if r n None None lent read many clear = record {
+  got = rw read (nothing_got r.before r.after);
+  ring =
+      subst (λ (x : Option ReaderState). IsRingOf r.shape r.after (r.pairs ++ got_of x) (settled r.later x)) (sym read)
+      (subst (IsRingOf r.shape r.after (r.pairs ++ [])) (settled-none r.later) (rw (append-nil r.pairs) r.be));
 }
+read_if {buffers} r n (Some old) None lent read many clear =
+    let t = is_there old r.shape r.writer r.later r.sized r.is r.be (subst (IsLentBy r.writer) lent r.lent_by) in
+    absurd (got_every buffers n old None (ap (λ (x : ReaderState). x.got) t.lent.1)
+    (ap (λ (x : ReaderState). x.tries) t.lent.1) many clear)
+read_if {buffers} r n (Some old) (Some new) lent read many clear =
+    let t = is_there old r.shape r.writer r.later r.sized r.is r.be (subst (IsLentBy r.writer) lent r.lent_by) in
+    let settles = settles_in r t.last_is read in
+    let got = got_every buffers n old (Some new) (ap (λ (x : ReaderState). x.got) t.lent.1)
+    (ap (λ (x : ReaderState). x.tries) t.lent.1) many clear in
+    record {
+      got = rw read (got_ring r.before r.after t.is t.be t.lent got settles);
+      ring =
+          subst (λ (x : Option ReaderState). IsRingOf r.shape r.after (r.pairs ++ got_of x) (settled r.later x)) (sym read)
+          (subst (λ (v : Option WriterState). IsRingOf r.shape r.after (r.pairs ++ new.got) (settled v (Some new)))
+          (sym t.last_is)
+          (subst (λ (s : Option Shape). IsRingOf s r.after (r.pairs ++ new.got) (Some (with_joined t.last new)))
+          (sym t.own_is) (settled_ring t.sized t.be got settles.1)));
+    }
 
-pub ring_read : (buffers n : ℕ) (shape : Option Shape) (before after : List (List ℕ)) (ps : List Message)
-    (w v : Option WriterState) (old new : Option ReaderState) → HasBuffers buffers shape
-    → IsRingOf shape before ps w → IsRingOf shape after ps v → IsLentBy w old → ReadsMany buffers n old new
-    → IsClear buffers old new → IsSettled v new → IsRingRead shape before after ps v new
-ring_read buffers n shape before after ps w v None None sized is be lent many clear settles =
-    unread shape before after ps v be
-ring_read buffers n shape before after ps w v None (Some new) sized is be lent many clear settles =
-    absurd (many_keep buffers n None (Some new) many)
-ring_read buffers n None before after ps w v (Some old) new sized is be lent many clear settles =
-    absurd (subst (λ (x : Option WriterState). IsLentBy x (Some old)) is lent)
-ring_read buffers n (Some shape) before after ps None v (Some old) new sized is be lent many clear settles =
-    absurd is
-ring_read buffers n (Some shape) before after ps (Some w) None (Some old) new sized is be lent many clear settles =
-    absurd be
-ring_read buffers n (Some shape) before after ps (Some w) (Some v) (Some old) new sized is be lent many clear settles =
-    read_ring buffers n shape before after ps w v old new (sized shape refl) is be lent
-    (got_every buffers n old new (ap (λ (r : ReaderState). r.got) lent.1) (ap (λ (r : ReaderState). r.tries) lent.1)
-    many clear)
-    settles
+pub ring_read : {buffers : ℕ} (r : RingSlot buffers) (n : ℕ) → ReadsMany buffers n r.lent r.read
+    → IsClear buffers r.lent r.read → IsRingRead r
+ring_read r n = read_if r n r.lent r.read refl refl

@@ -15,9 +15,9 @@ use Rattle.ttp_world.specs.declared.medl.Medl.{Medl}
 use Rattle.ttp_world.specs.declared.node.Chosen.{Chosen}
 use Rattle.ttp_world.specs.declared.script.Script.{Script}
 use Rattle.ttp_world.specs.declared.script.TheConstants.{EVENT_LIMIT}
-use Rattle.ttp_world.specs.Medl.{plan_at, IsValid}
+use Rattle.ttp_world.specs.Medl.{plan_at}
 use Rattle.ttp_world.specs.Outgoing.{messages_before, nothing_chosen}
-use Rattle.ttp_world.specs.Script.{HostWrite, IsValidScript, messages_written, payload_of_host, write_in}
+use Rattle.ttp_world.specs.Script.{HostWrite, messages_written, payload_of_host, write_in}
 use Rattle.ttp_world.specs.Script.{writes_in}
 use Rattle.ttp_world.specs.Words.{word_count, words_of_payload}
 use Rattle.ttp_world.specs.World.{BegunSlot, Numbers, is_loaded, world}
@@ -26,14 +26,14 @@ use Rattle.controller.specs.declared.seat.Seat.{Seat}
 use Rattle.host_port.specs.Reading.{Attempts, is_intact}
 use Rattle.host_port.specs.Rings.{HostState, message_shape, shape_of}
 use Rattle.host_port.specs.Writing.{Takes}
+use Rattle.cluster_run.specs.declared.current.CurrentSlot.{CurrentSlot}
 use Rattle.cluster_run.specs.Choosing.{AreBytesBefore, HaveBegunFor, HaveChosen, next_slot}
 use Rattle.cluster_run.specs.Ends.{host_at}
 use Rattle.cluster_run.specs.Report.{writes_shown}
 use Rattle.cluster_run.specs.Rings.{IsRing, IsRingOf, pairs_sent, words_written}
 use Rattle.cluster_run.specs.Sending.{AreLent, FetchAll, Fetches, MayFetchAll, MaySettle, MayLend, MayWriteAll}
-use Rattle.cluster_run.specs.Sending.{SettlesFetch, WritesBytes, after_writes, fetcher_lent, message_count}
+use Rattle.cluster_run.specs.Sending.{FetchesOne, MayFetchAlone, WritesBytes, after_writes, fetcher_lent, message_count}
 use Rattle.cluster_run.specs.Sending.{write_lines}
-use Rattle.cluster_run.specs.Standing.{HoldsWritten}
 use Rattle.cluster_run.proofs.Choices.{node_choice, shape_there}
 use Rattle.cluster_run.proofs.Deliverable.{loaded-payload}
 use Rattle.ttp_world.proofs.HostMessages.{IsValidWrite, few_messages, filter_map-each, valid_write_at, valid_writes}
@@ -69,45 +69,6 @@ ring_takes shape messages pairs None size ring few wide = absurd ring
 ring_takes shape messages pairs (Some w) size ring few wide =
     (few, wide ∙ sym (ap (λ (s : Shape). s.width) ring.shape_is))
 
--- Fetchers may be lent.
-
-abbrev pub may_lend : {list : Medl} {script : Script} {slot : ℕ} {numbers : Numbers} {seats : List Seat}
-    {ends : List HostState} → length ends ≡ length list.slots → HaveBegunFor list script slot numbers seats ends
-    → MayLend seats ends
-may_lend {list = list} {script = script} {numbers = numbers} {ends = ends} count begun = record {
-  slot = next_slot list script numbers;
-  begun = begun.begun;
-  rings = λ k near loaded.
-      let node : k < length list.slots = omega (arith, near, count) in
-      let some = loaded-payload list script (world list script numbers) k node loaded in
-      ring_some _ _ _ (host_at ends k) (has_ring list k _ _ (host_at ends k) some (begun.written k node)).there;
-}
-
--- Hosts may write.
-
-pub may_write_all : (list : Medl) (script : Script) (slot many : ℕ) (numbers : Numbers) (ends : List HostState)
-    → IsValid list → IsValidScript list script → slot < script.slots → many ≤ EVENT_LIMIT → length numbers ≡ slot
-    → ((k : ℕ) → k < length list.slots → HoldsWritten list script numbers ends k) → MayWriteAll script many ends
-may_write_all list script slot many numbers ends valid valid_script within few count written place w here =
-    let write = valid_write_at list script place w valid_script here in
-    let end = host_at ends w.host in
-    let ring = (has_ring list w.host (words_written list script w.host (length numbers))
-    (pairs_sent list script numbers w.host) end write.some (written w.host write.node)).there in
-    record {
-      takes = ring_takes _ _ _ end (length w.payload) ring
-          (omega (arith, write.size, plan_few list w.host valid)) (ap word_count write.size);
-      room = omega (
-        arith,
-        ring_count _ _ _ end ring,
-        length-map (messages_before list script w.host (length numbers)) words_of_payload,
-        few_messages list script w.host (length numbers) valid valid_script,
-        count,
-        within,
-        valid_script.slots,
-        few,
-      );
-    }
-
 pub few_writes : (script : Script) (slot : ℕ) → length script.events ≤ EVENT_LIMIT
     → length (writes_in script slot) ≤ EVENT_LIMIT
 few_writes script slot few = omega (arith, filter_map-few (write_in slot) script.events, few)
@@ -126,30 +87,20 @@ lines_of list script slot ends earlier (w ∷ writes) counts valid =
     λ i. record { host = w.host; number = count i + count_by (λ e. e.host == w.host) earlier }
     ∷ lines_of list script slot ends (w ∷ earlier) writes counts (All-tail (IsValidWrite list) w writes valid) i
 
-pub lines_shown : (list : Medl) (script : Script) (slot : ℕ) (numbers : Numbers) (ends : List HostState)
-    → IsValidScript list script → length numbers ≡ slot
-    → ((k : ℕ) → k < length list.slots → HoldsWritten list script numbers ends k)
-    → write_lines ends [] (writes_in script slot) ≡ writes_shown list script slot [] (writes_in script slot)
-lines_shown list script slot numbers ends valid count written =
-    lines_of list script slot ends [] (writes_in script slot)
-    (λ k node some.
-    ring_count _ _ _ (host_at ends k) (has_ring list k _ _ (host_at ends k) some (written k node)).there
-    ∙ length-map (messages_before list script k (length numbers)) words_of_payload
-    ∙ ap (λ n. length (messages_before list script k n)) count)
-    (valid_writes list script slot valid)
-
 -- What they write is bytes.
 
 own_bytes : (k : ℕ) (w : HostWrite) → WritesBytes w → IfSome (payload_of_host k w) AreBytes
 own_bytes k w bytes =
     cond_both (w.host == k) (Some w.payload) None (λ o. IfSome o AreBytes) (λ own. bytes) (λ other. tt)
 
-pub more_bytes : (list : Medl) (script : Script) (slot : ℕ) → AreBytesBefore list script slot
-    → All WritesBytes (writes_in script slot) → AreBytesBefore list script (slot + 1)
-more_bytes list script slot bytes written k =
-    subst (λ n. All AreBytes (messages_before list script k n)) (sym (add-one slot))
-    (All-append AreBytes (messages_before list script k slot) (messages_written script k slot) (bytes k)
-    (filter_map-each (payload_of_host k) WritesBytes AreBytes (writes_in script slot) (own_bytes k) written))
+pub more_bytes : (at : CurrentSlot) → AreBytesBefore at.list.now at.script.now at.slot
+    → All WritesBytes (writes_in at.script.now at.slot) → AreBytesBefore at.list.now at.script.now (at.slot + 1)
+more_bytes at bytes written k =
+    let list = at.list.now in
+    let script = at.script.now in
+    subst (λ n. All AreBytes (messages_before list script k n)) (sym (add-one at.slot))
+    (All-append AreBytes (messages_before list script k at.slot) (messages_written script k at.slot) (bytes k)
+    (filter_map-each (payload_of_host k) WritesBytes AreBytes (writes_in script at.slot) (own_bytes k) written))
 
 -- Controllers may fetch.
 
@@ -201,53 +152,102 @@ after_own : (writes : List HostWrite) (k len : ℕ) (end : HostState) (f : Reade
 after_own writes k len None f may = absurd may.own
 after_own writes k len (Some w) f may = record { own = may.own; words = may.words }
 
-pub may_settle : {list : Medl} {script : Script} {slot : ℕ} {numbers : Numbers} {seats : List Seat}
-    {ends : List HostState} {fetchers : List (Option ReaderState)} (tried : List (Option ReaderState))
-    (writes : List HostWrite) → length ends ≡ length list.slots → HaveBegunFor list script slot numbers seats ends
-    → AreLent (next_slot list script numbers) ends fetchers → FetchAll fetchers tried → (k : ℕ) → k < length ends
-    → ForSome (get_or tried k None) (MaySettle (after_writes writes k (host_at ends k)) (plan_at list k).payload)
-may_settle {list = list} {script = script} {numbers = numbers} {ends = ends} tried writes count begun lent tries k near
-    f is =
-    let s = next_slot list script numbers in
-    let node : k < length list.slots = omega (arith, near, count) in
-    after_own writes k (plan_at list k).payload (host_at ends k) f
-    (fetched_may list k (is_loaded s k) (host_at ends k) (words_written list script k (length numbers))
-    (pairs_sent list script numbers k) (get_or tried k None) f
-    (λ loaded. has_ring list k _ _ (host_at ends k)
-    (loaded-payload list script (world list script numbers) k node loaded) (begun.written k node))
-    (subst (λ (o : Option ReaderState). Fetches o (get_or tried k None)) (lent.each k near)
-    (tries k (omega (arith, near, lent.count)))) is)
+-- A slot that has begun for some numbers.
 
--- So the messages in frames are chosen.
+module _ {at : CurrentSlot} {numbers : Numbers} {seats : List Seat} {ends : List HostState}
+    (count : length ends ≡ length at.list.now.slots) (begun : HaveBegunFor at numbers seats ends) where
+  abbrev list : Medl
+  list = at.list.now
 
-pub have_chosen : {list : Medl} {script : Script} {slot : ℕ} {numbers : Numbers} {seats : List Seat}
-    {ends settled_ends : List HostState} {fetchers : List (Option ReaderState)} {chosen : List Chosen}
-    (after : List HostState) (tried : List (Option ReaderState)) (before : List Chosen)
-    → IsValidScript list script → AreBytesBefore list script (slot + 1) → length ends ≡ length list.slots
-    → HaveBegunFor list script slot numbers seats ends
-    → AreLent (next_slot list script numbers) ends fetchers → FetchAll fetchers tried
-    → ((k : ℕ) → host_at after k ≡ after_writes (writes_in script slot) k (host_at ends k))
-    → ((k : ℕ) → k < length list.slots → SettlesFetch (plan_at list k).payload (get_or tried k None) (host_at after k)
-    (host_at settled_ends k) (get_or before k nothing_chosen) (get_or chosen k nothing_chosen))
-    → HaveChosen list script numbers chosen settled_ends
-have_chosen {list = list} {script = script} {slot = slot} {numbers = numbers} {ends = ends}
-    {settled_ends = settled_ends} {chosen = chosen}
-    after tried before valid bytes ends_count begun lent tries writes settles =
-    let s = next_slot list script numbers in
-    let count = begun.count in
-    let each = λ (k : ℕ) (node : k < length list.slots).
-    let near : k < length ends = omega (arith, node, ends_count) in
-    node_choice list script (length numbers) k valid
-    (subst (λ n. All AreBytes (messages_before list script k n)) (add-one slot ∙ ap suc (sym count)) (bytes k))
-    (is_loaded s k) (pairs_sent list script numbers k) (host_at ends k) (host_at settled_ends k) _ (get_or tried k None)
-    (get_or before k nothing_chosen) (get_or chosen k nothing_chosen)
-    (loaded-payload list script (world list script numbers) k node) (begun.written k node) (lent.each k near)
-    (tries k (omega (arith, near, lent.count)))
-    (subst (λ (e : HostState). SettlesFetch (plan_at list k).payload (get_or tried k None) e (host_at settled_ends k)
-    (get_or before k nothing_chosen) (get_or chosen k nothing_chosen))
-    (writes k ∙ ap (λ n. after_writes (writes_in script n) k (host_at ends k)) (sym count)) (settles k node)) in
-    record {
-      messages = λ k node loaded. (each k node).message loaded;
-      legal = λ k node. (each k node).legal;
-      written = λ k node. (each k node).ring;
-    }
+  abbrev script : Script
+  script = at.script.now
+
+  abbrev s : BegunSlot
+  s = next_slot list script numbers
+
+  pub ring_loaded : (k : ℕ) → k < length list.slots → is_loaded s k ≡ true
+      → HasRing list k (words_written list script k (length numbers)) (pairs_sent list script numbers k) (host_at ends k)
+  ring_loaded k node loaded =
+      has_ring list k _ _ (host_at ends k) (loaded-payload list script (world list script numbers) k node loaded)
+      (begun.written k node)
+
+  -- fetchers may be lent
+  abbrev pub may_lend : MayLend seats ends
+  may_lend = record {
+    slot = s;
+    begun = begun.begun;
+    rings = λ k near loaded. ring_some _ _ _ (host_at ends k) (ring_loaded k (omega (arith, near, count)) loaded).there;
+  }
+
+  -- hosts may write
+  pub may_write_all : (many : ℕ) → many ≤ EVENT_LIMIT → MayWriteAll script many ends
+  may_write_all many few place w here =
+      let write = valid_write_at list script place w at.valid_script here in
+      let end = host_at ends w.host in
+      let ring = (has_ring list w.host (words_written list script w.host (length numbers))
+      (pairs_sent list script numbers w.host) end write.some (begun.written w.host write.node)).there in
+      record {
+        takes = ring_takes _ _ _ end (length w.payload) ring
+            (omega (arith, write.size, plan_few list w.host at.valid)) (ap word_count write.size);
+        room = omega (
+          arith,
+          ring_count _ _ _ end ring,
+          length-map (messages_before list script w.host (length numbers)) words_of_payload,
+          few_messages list script w.host (length numbers) at.valid at.valid_script,
+          begun.count,
+          at.within,
+          at.valid_script.slots,
+          few,
+        );
+      }
+
+  -- the lines of what they write
+  pub lines_shown : write_lines ends [] (writes_in script at.slot) ≡ writes_shown list script at.slot [] (writes_in script at.slot)
+  lines_shown =
+      lines_of list script at.slot ends [] (writes_in script at.slot)
+      (λ k node some.
+      ring_count _ _ _ (host_at ends k) (has_ring list k _ _ (host_at ends k) some (begun.written k node)).there
+      ∙ length-map (messages_before list script k (length numbers)) words_of_payload
+      ∙ ap (λ n. length (messages_before list script k n)) begun.count)
+      (valid_writes list script at.slot at.valid_script)
+
+  -- controllers may fetch where no host writes
+  pub may_fetch_alone : MayFetchAlone list seats ends
+  may_fetch_alone = record {
+    lend = may_lend;
+    settle = λ k near tried fetches f is.
+        fetched_may list k (is_loaded s k) (host_at ends k) _ _ tried f (ring_loaded k (omega (arith, near, count)))
+        fetches is;
+  }
+
+  -- fetchers may be settled
+  pub may_settle : {fetchers : List (Option ReaderState)} (tried : List (Option ReaderState)) (writes : List HostWrite)
+      → AreLent s ends fetchers → FetchAll fetchers tried → (k : ℕ) → k < length ends
+      → ForSome (get_or tried k None) (MaySettle (after_writes writes k (host_at ends k)) (plan_at list k).payload)
+  may_settle tried writes lent tries k near f is =
+      after_own writes k (plan_at list k).payload (host_at ends k) f
+      (fetched_may list k (is_loaded s k) (host_at ends k) _ _ (get_or tried k None) f
+      (ring_loaded k (omega (arith, near, count)))
+      (subst (λ (o : Option ReaderState). Fetches o (get_or tried k None)) (lent.each k near)
+      (tries.each k (omega (arith, near, lent.count)))) is)
+
+  -- so the messages in frames are chosen
+  pub have_chosen : {settled_ends : List HostState} {chosen : List Chosen} (before : List Chosen)
+      → AreBytesBefore list script (at.slot + 1)
+      → ((k : ℕ) → k < length list.slots → FetchesOne (plan_at list k).payload (is_loaded s k) (host_at ends k)
+      (after_writes (writes_in script at.slot) k (host_at ends k)) (host_at settled_ends k)
+      (get_or before k nothing_chosen) (get_or chosen k nothing_chosen))
+      → HaveChosen list script numbers chosen settled_ends
+  have_chosen {settled_ends = settled_ends} {chosen = chosen} before bytes fetches =
+      let each = λ (k : ℕ) (node : k < length list.slots).
+      node_choice list script (length numbers) k at.valid_script
+      (subst (λ n. All AreBytes (messages_before list script k n)) (add-one at.slot ∙ ap suc (sym begun.count)) (bytes k))
+      (loaded-payload list script (world list script numbers) k node) (begun.written k node)
+      (subst (λ n. FetchesOne (plan_at list k).payload (is_loaded s k) (host_at ends k)
+      (after_writes (writes_in script n) k (host_at ends k)) (host_at settled_ends k) (get_or before k nothing_chosen)
+      (get_or chosen k nothing_chosen)) (sym begun.count) (fetches k node)) in
+      record {
+        messages = λ k node loaded. (each k node).message loaded;
+        legal = λ k node. (each k node).legal;
+        written = λ k node. (each k node).ring;
+      }

@@ -1,9 +1,8 @@
 -- The readers of hosts are settled, one after another, and leave their lines.
-use Rattle.std.proofs.Common.{◌≡◌, ℕ, zero, suc, ◌+◌, ◌<◌, ◌≤◌, List, [], ◌∷◌, ◌++◌, length, map, set, get_or}
-use Rattle.std.proofs.Common.{Option, Some, None, All, refl, sym, ap, ◌∙◌, subst, below_more, arith, length-append}
+use Rattle.std.proofs.Common.{◌≡◌, ℕ, zero, suc, ◌+◌, ◌<◌, ◌≤◌, List, [], ◌∷◌, ◌++◌, length, map, get_or}
+use Rattle.std.proofs.Common.{Option, Some, None, All, refl, ap, ◌∙◌, below_more, arith}
 use Rattle.std.specs.List.{AllByRecursion}
 use Rattle.std.proofs.Math.ListN.{get_or-map}
-use Rattle.std.proofs.lemmas.List.{get_or-set_same, get_or-set_other, length-map, length-set, map-set}
 use Rattle.std.proofs.lemmas.List.{get_or_append_left, get_or_push}
 use Rattle.std.proofs.lemmas.List.Elements.{recursion_from_All}
 use Rattle.nbw_ring.specs.States.{WriterState, ReaderState}
@@ -12,18 +11,18 @@ use Rattle.host_port.specs.declared.report.ReadLine.{ReadLine}
 use Rattle.host_port.specs.Reading.{ReadersState, IsSettled, settled, all_settled, got_of, pairs_from}
 use Rattle.host_port.specs.Rings.{ControllerState, place_of, at_source}
 use Rattle.cluster_run.specs.declared.nodes.Desk.{Desk}
-use Rattle.cluster_run.specs.Ends.{end_at, desk_ends, desk_numbers}
-use Rattle.cluster_run.specs.Reading.{readers_at, SettlesReadsOf, read_of, AreLinesBy, queue_of}
-use Rattle.cluster_run.proofs.Places.{read_alike}
-use Rattle.ttp_world.proofs.ListFacts.{at_any}
+use Rattle.cluster_run.specs.Ends.{desk_ends, desk_numbers}
+use Rattle.cluster_run.specs.Reading.{readers_at, SettlesReads, SettlesReadsOf, read_of, AreLinesBy, queue_of}
+use Rattle.cluster_run.proofs.Changes.{AreChanged}
+use Rattle.cluster_run.proofs.HandingOn.{no_desk}
 
 -- One host's.
 
-settled-none : (w : Option WriterState) → w ≡ settled w None
+pub settled-none : (w : Option WriterState) → w ≡ settled w None
 settled-none None = refl
 settled-none (Some w) = refl
 
-is_settled-none : (w : Option WriterState) → IsSettled w None
+pub is_settled-none : (w : Option WriterState) → IsSettled w None
 is_settled-none None = tt
 is_settled-none (Some w) = tt
 
@@ -70,64 +69,32 @@ lines_queued k r lines sources hosts pairs = record {
 pub no_lines : (k : ℕ) → AreLinesBy k None []
 no_lines k = record { reads = refl; pairs = λ from. refl }
 
--- The first hosts', so many: the other ends and readers are as they were.
+-- The first hosts' are settled, so many: the other desks and readers are as they were.
 pub record AreReadersSettled (k : ℕ) (old_readers readers : List (Option ReadersState)) (old desks : List Desk)
     (queues : List (List ReadLine)) : Type 0 where
-  pub count : length desks ≡ length old
   pub numbers : desk_numbers desks ≡ desk_numbers old
-  pub settled_are : (i : ℕ) → i < k
-      → SettlesReadsOf (end_at (desk_ends old) i) (readers_at old_readers i) (end_at (desk_ends desks) i)
-  pub ends_rest : (i : ℕ) → k ≤ i → end_at (desk_ends desks) i ≡ end_at (desk_ends old) i
-  pub readers_rest : (i : ℕ) → k ≤ i → readers_at readers i ≡ readers_at old_readers i
-  pub readers_count : length readers ≡ length old_readers
+  pub desks_are : AreChanged (λ i was is. SettlesReadsOf was.end (readers_at old_readers i) is.end) no_desk k old desks
+  pub readers_are : AreChanged (λ i was is. Unit {0}) None k old_readers readers
   pub queues_are : (i : ℕ) → i < k → AreLinesBy i (readers_at old_readers i) (queue_of queues i)
   pub queues_count : length queues ≡ k
 
-pub readers_settled : (k : ℕ) (old_readers readers : List (Option ReadersState)) (old desks : List Desk)
-    (queues : List (List ReadLine)) (own left : Option ReadersState) (desk new : Desk) (queue : List ReadLine)
-    → AreReadersSettled k old_readers readers old desks queues → k < length desks → own ≡ readers_at readers k
-    → desk ≡ get_or desks k desk → new.delivered ≡ desk.delivered → SettlesReadsOf desk.end own new.end
-    → AreLinesBy k own queue
-    → AreReadersSettled (k + 1) old_readers (set readers k left) old (set desks k new) (queues ++ queue ∷ [])
-readers_settled k old_readers readers old desks queues own left desk new queue so near is_own is_desk number settles
-    lines =
-    let ends = desk_ends desks in
-    let many : length ends ≡ length desks = length-map desks (λ (d : Desk). d.end) in
-    let set_ends : desk_ends (set desks k new) ≡ set ends k new.end = map-set (λ (d : Desk). d.end) desks k new in
-    let end_was : desk.end ≡ end_at (desk_ends old) k =
-    ap (λ (d : Desk). d.end) is_desk
-    ∙ sym (get_or-map (λ (d : Desk). d.end) desks k desk)
-    ∙ at_any ends k desk.end [] (omega (arith, many, near))
-    ∙ so.ends_rest k (omega arith) in
-    let own_was : own ≡ readers_at old_readers k = is_own ∙ so.readers_rest k (omega arith) in
-    record {
-      count = length-set desks k new ∙ so.count;
-      numbers = read_alike (λ (d : Desk). d.delivered) desks k desk new is_desk number ∙ so.numbers;
-      settled_are =
-          below_more
-          (λ i. SettlesReadsOf (end_at (desk_ends old) i) (readers_at old_readers i)
-          (end_at (desk_ends (set desks k new)) i)) k
-          (λ i earlier.
-          subst (SettlesReadsOf (end_at (desk_ends old) i) (readers_at old_readers i))
-          (sym (ap (λ es. end_at es i) set_ends ∙ get_or-set_other ends k i new.end [] (omega arith)))
-          (so.settled_are i earlier))
-          (subst (SettlesReadsOf (end_at (desk_ends old) k) (readers_at old_readers k))
-          (sym (ap (λ es. end_at es k) set_ends ∙ get_or-set_same ends k new.end [] (omega (arith, many, near))))
-          (subst (λ (e : ControllerState). SettlesReadsOf e (readers_at old_readers k) new.end) end_was
-          (subst (λ (o : Option ReadersState). SettlesReadsOf desk.end o new.end) own_was settles)));
-      ends_rest = λ i later.
-          ap (λ es. end_at es i) set_ends ∙ get_or-set_other ends k i new.end [] (omega arith)
-          ∙ so.ends_rest i (omega arith);
-      readers_rest = λ i later. get_or-set_other readers k i left None (omega arith) ∙ so.readers_rest i (omega arith);
-      readers_count = length-set readers k left ∙ so.readers_count;
-      queues_are =
-          below_more (λ i. AreLinesBy i (readers_at old_readers i) (queue_of (queues ++ queue ∷ []) i)) k
-          (λ i earlier.
-          subst (λ (q : List ReadLine). AreLinesBy i (readers_at old_readers i) q)
-          (sym (get_or_append_left queues (queue ∷ []) [] i (omega (arith, so.queues_count))))
-          (so.queues_are i earlier))
-          (subst (λ (q : List ReadLine). AreLinesBy k (readers_at old_readers k) q)
-          (sym (get_or_push queues queue [] k so.queues_count))
-          (subst (λ (o : Option ReadersState). AreLinesBy k o queue) own_was lines));
-      queues_count = length-append queues (queue ∷ []) ∙ (omega (arith, so.queues_count));
-    }
+pub queued_more : {k : ℕ} (readers : List (Option ReadersState)) (queues : List (List ReadLine)) (queue : List ReadLine)
+    → length queues ≡ k → ((i : ℕ) → i < k → AreLinesBy i (readers_at readers i) (queue_of queues i))
+    → AreLinesBy k (readers_at readers k) queue
+    → (i : ℕ) → i < k + 1 → AreLinesBy i (readers_at readers i) (queue_of (queues ++ queue ∷ []) i)
+queued_more {k} readers queues queue count are lines =
+    below_more (λ i. AreLinesBy i (readers_at readers i) (queue_of (queues ++ queue ∷ []) i)) k
+    (λ i earlier. rw (get_or_append_left queues (queue ∷ []) [] i (omega (arith, earlier, count))) (are i earlier))
+    (rw (get_or_push queues queue [] k count) lines)
+
+-- all are
+pub are_settled : {k : ℕ} {old_readers readers : List (Option ReadersState)} {old desks : List Desk}
+    {queues : List (List ReadLine)} → length old_readers ≤ k
+    → AreReadersSettled k old_readers readers old desks queues
+    → SettlesReads (desk_ends old) old_readers (desk_ends desks)
+are_settled {old_readers = readers} {old = old} {desks = desks} all so = record {
+  each = λ i near.
+      let end = λ (d : Desk). d.end in
+      rw (get_or-map end old i no_desk, get_or-map end desks i no_desk)
+      (so.desks_are.done i (omega (arith, near, all)));
+}

@@ -1,29 +1,49 @@
--- All nodes are ready for the end of a slot once it is planned.
-use Rattle.std.proofs.Common.{◌≡◌, ℕ, ◌+◌, ◌<◌, ◌≤◌, length, sym, subst, ◌∙◌, arith}
+-- What is so of all nodes once a slot has begun, and once it is planned: they are ready for its end.
+use Rattle.std.proofs.Common.{◌≡◌, ℕ, ◌+◌, ◌<◌, List, length, sym, ap, subst, ◌∙◌, arith}
 use Rattle.std.proofs.lemmas.List.{length-map}
-use Rattle.ttp_world.specs.declared.medl.Medl.{Medl}
-use Rattle.ttp_world.specs.declared.script.Script.{Script}
-use Rattle.ttp_world.specs.declared.script.TheConstants.{SLOT_LIMIT}
-use Rattle.ttp_world.specs.Medl.{IsValid}
-use Rattle.ttp_world.specs.Script.{IsValidScript}
-use Rattle.ttp_world.specs.World.{slot_after, world}
+use Rattle.ttp_world.specs.Diary.{History}
+use Rattle.ttp_world.specs.World.{Numbers, slot_after, world}
 use Rattle.ttp_world.proofs.Worlds.{length-world}
 use Rattle.controller.specs.Limits.{IsPlanned}
-use Rattle.controller.specs.Passes.{delivered_at}
-use Rattle.controller.specs.PlantWithin.{AreSeats, AreIncidents, IsFromWithin, most_ahead_in}
+use Rattle.controller.specs.Passes.{HaveBegun, StandAfter, delivered_at}
+use Rattle.controller.specs.PlantWithin.{AreSeats, AreIncidents, IsEnded, IsFromWithin, most_ahead, most_ahead_in}
+use Rattle.controller.specs.declared.seat.Seat.{Seat}
+use Rattle.cluster_run.specs.declared.current.CurrentSlot.{CurrentSlot}
 use Rattle.cluster_run.specs.declared.nodes.Desk.{Desk}
 use Rattle.cluster_run.specs.declared.nodes.Nodes.{Nodes}
-use Rattle.cluster_run.specs.Ending.{IsPartReady, MayEnd, MayHandOn}
+use Rattle.cluster_run.specs.Choosing.{HaveBegunFor, next_slot}
+use Rattle.cluster_run.specs.Ending.{MayEnd, MayHandOn}
 use Rattle.cluster_run.specs.Ends.{end_at, desk_ends}
 use Rattle.cluster_run.specs.Rings.{pairs_read}
-use Rattle.cluster_run.specs.Slots.{ArePlannedNodes, MayEndSlot}
+use Rattle.cluster_run.specs.Slots.{AllHaveEnded, ArePlannedNodes, AreReady, IsSlotEnded, MayEndSlot, StandsAt}
+use Rattle.cluster_run.specs.Standing.{NodesView}
 use Rattle.cluster_run.proofs.Deliverable.{delivered-deliverable}
-use Rattle.cluster_run.proofs.HandsOn.{may_hand_on}
+use Rattle.cluster_run.proofs.Halves.{same_many}
+use Rattle.cluster_run.proofs.HandsOn.{HoldsCame, may_hand_on}
 
-may_end : (list : Medl) (script : Script) (slot : ℕ) (nodes : Nodes) → IsValid list → slot ≤ SLOT_LIMIT
-    → ArePlannedNodes list script slot nodes → MayEndSlot list script slot nodes
-    → MayEnd list script nodes.medium 0 nodes.seats.items (desk_ends nodes.desks.items)
-may_end list script slot nodes valid few are may =
+-- Once the controllers have begun the slot.
+
+module _ (at : CurrentSlot) {numbers : Numbers} {view : NodesView} {old begun now : List Seat} (is : now ≡ begun)
+    (stands : StandsAt at.list.now at.script.now at.slot view numbers) (was : old ≡ view.seats)
+    (begin : (history : History) → length history ≡ at.slot → StandAfter at.script.now history 0 old
+    → HaveBegun (slot_after at.list.now at.script.now history) 0 begun) where
+  pub has_begun : HaveBegun (next_slot at.list.now at.script.now numbers) 0 now
+  has_begun =
+      let history = world at.list.now at.script.now numbers in
+      subst (HaveBegun (next_slot at.list.now at.script.now numbers) 0) (sym is)
+      (begin history (length-world at.list.now at.script.now numbers ∙ stands.count)
+      (subst (StandAfter at.script.now history 0) (sym was) stands.stands.seats))
+
+  pub has_begun_for : HaveBegunFor at numbers now view.host_ends
+  has_begun_for = record { count = stands.count; begun = has_begun; written = stands.stands.written }
+
+-- Once it is planned.
+
+may_end : (at : CurrentSlot) (nodes : Nodes) → MayEndSlot at nodes
+    → MayEnd at.list.now at.script.now nodes.medium 0 nodes.seats.items (desk_ends nodes.desks.items)
+may_end at nodes may =
+    let list = at.list.now in
+    let script = at.script.now in
     let history = world list script may.numbers in
     let chosen = nodes.chosen.items in
     let ends = desk_ends nodes.desks.items in
@@ -35,30 +55,47 @@ may_end list script slot nodes valid few are may =
       carries = may.planned.carries;
       hands_on = λ j near.
           let node : j < length list.slots =
-          omega (arith, near, are.desks, length-map nodes.desks.items (λ (d : Desk). d.end)) in
-          let at : j ≡ 0 + j = omega arith in
-          subst (λ k. MayHandOn (end_at ends j) (delivered_at (slot_after list script history) chosen k)) at
-          (may_hand_on list script history j (pairs_read list script may.numbers j) (end_at ends j)
-          (delivered_at (slot_after list script history) chosen j) valid (omega (arith, slots, may.count, few))
-          (record { each = λ from. may.read j node from })
+          omega (arith, near, may.are.desks, length-map nodes.desks.items (λ (d : Desk). d.end)) in
+          let here : j ≡ 0 + j = omega arith in
+          let came : HoldsCame list script history j (pairs_read list script may.numbers j) (end_at ends j) =
+          record { each = λ from. may.read j node from } in
+          subst (λ k. MayHandOn (end_at ends j) (delivered_at (slot_after list script history) chosen k)) here
+          (may_hand_on (delivered_at (slot_after list script history) chosen j) at.valid
+          (omega (arith, slots, may.count, at.within, at.valid_script.slots)) came
           (delivered-deliverable list script history chosen j node));
     }
 
-pub part_ready : (list : Medl) (script : Script) (slot : ℕ) (nodes : Nodes) → IsValid list
-    → IsValidScript list script → slot < script.slots
-    → ArePlannedNodes list script slot nodes → MayEndSlot list script slot nodes
-    → IsPartReady list script nodes.medium 0 nodes.seats.items nodes.desks.items
-part_ready list script slot nodes valid valid_script within are may =
+pub part_ready : (at : CurrentSlot) (nodes : Nodes) → MayEndSlot at nodes → AreReady at nodes
+part_ready at nodes may =
+    let are = may.are in
     let is = sym are.slot_is in
     record {
-      list = valid;
+      list = at.valid;
       nodes = omega (arith, are.seats_count);
-      drifts = valid_script.drift_count;
-      drift = valid_script.drift;
-      slot = omega (arith, are.slot_is, within, valid_script.slots);
-      medium = subst (λ n. IsFromWithin nodes.medium script (most_ahead_in n)) is are.medium;
-      incidents = subst (λ n. AreIncidents script n 0 nodes.seats.items) is are.incidents;
-      seats_are = subst (λ n. AreSeats list IsPlanned (most_ahead_in n) 0 nodes.seats.items) is are.seats;
+      drifts = at.valid_script.drift_count;
+      drift = at.valid_script.drift;
+      slot = omega (arith, are.slot_is, at.within, at.valid_script.slots);
+      medium = subst (λ n. IsFromWithin nodes.medium at.script.now (most_ahead_in n)) is are.medium;
+      incidents = subst (λ n. AreIncidents at.script.now n 0 nodes.seats.items) is are.incidents;
+      seats_are = subst (λ n. AreSeats at.list.now IsPlanned (most_ahead_in n) 0 nodes.seats.items) is are.seats;
       count = are.desks ∙ sym are.seats_count;
-      may = may_end list script slot nodes valid (omega (arith, within, valid_script.slots)) are may;
+      may = may_end at nodes may;
     }
+
+-- so it has ended once all have
+pub ends_slot : (at : CurrentSlot) (old new : Nodes) → ArePlannedNodes at old → AllHaveEnded at old new
+    → IsSlotEnded at old new
+ends_slot at old new are all = record {
+  are = record {
+    seats_count = all.ended.count ∙ are.seats_count;
+    seats =
+        subst (λ (t : ℕ). AreSeats at.list.now IsEnded (most_ahead (t + 1)) 0 new.seats.items) are.slot_is
+        all.ended.seats_are;
+    desks = same_many _ _ all.ended.rings ∙ are.desks;
+    host_ends = ap (λ v. length v.items) all.host_ends ∙ are.host_ends;
+    chosen = ap (λ v. length v.items) all.chosen ∙ are.chosen;
+  };
+  host_ends = all.host_ends;
+  ends = λ numbers planned.
+      all.ended.end (world at.list.now at.script.now numbers) old.chosen.items planned.planned planned.carries;
+}

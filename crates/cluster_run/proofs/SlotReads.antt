@@ -1,7 +1,7 @@
 -- The reads of a slot: each gets a message, the lines are the world's for the numbers in them, these are legal, and the
 -- rings keep what was got of them.
 use Rattle.std.proofs.Common.{◌≡◌, ℕ, ◌+◌, ◌<◌, ◌≤◌, Bool, true, false, cond, ◌&&◌, List, [], ◌∷◌}
-use Rattle.std.proofs.Common.{◌++◌, length, map, get_or, Option, Some, None, option_map, inl, inr, refl, sym}
+use Rattle.std.proofs.Common.{◌++◌, length, map, get_or, Option, Some, None, IfSome, option_map, inl, inr, refl, sym}
 use Rattle.std.proofs.Common.{ap, ◌∙◌, subst, arith, length-append}
 use Rattle.std.specs.Prelude.{◌==◌, slice_get, reverse, is_some}
 use Rattle.std.specs.List.{AllByRecursion, list_all}
@@ -14,30 +14,46 @@ use Rattle.nbw_ring.specs.Numbers.{newest_number as newest_in, IsMessageOf}
 use Rattle.nbw_ring.specs.States.{WriterState, ReaderState, new_reader}
 use Rattle.ttp_world.specs.declared.host_lines.HostRead.{HostRead}
 use Rattle.ttp_world.specs.declared.medl.Medl.{Medl}
+use Rattle.ttp_world.specs.declared.node.Delivered.{Delivered}
 use Rattle.ttp_world.specs.declared.node.Entry.{Entry}
 use Rattle.ttp_world.specs.declared.script.Script.{Script}
 use Rattle.ttp_world.specs.declared.script.Source.{Source}
 use Rattle.ttp_world.specs.declared.script.Source.TheVariants as source
 use Rattle.ttp_world.specs.Diary.{History}
 use Rattle.ttp_world.specs.Legal.{read_messages, is_legal_read, are_legal_reads, never_fall}
-use Rattle.ttp_world.specs.Medl.{IsValid}
 use Rattle.ttp_world.specs.Messages.{delivered_of, new_messages, ring_messages, status_words, newest_number}
+use Rattle.ttp_world.specs.Outgoing.{message_chosen}
 use Rattle.ttp_world.specs.Script.{reads_in}
-use Rattle.ttp_world.specs.World.{node_past}
+use Rattle.ttp_world.specs.World.{Numbers, node_past, row_in, world, chosen_of}
+use Rattle.ttp_world.proofs.Carried.{AreOfHosts, delivered_of-row_in}
 use Rattle.ttp_world.proofs.LegalNumbers.{new_messages-few}
+use Rattle.ttp_world.proofs.Worlds.{length-world}
+use Rattle.controller.specs.declared.controller.Outcome.{Outcome}
+use Rattle.controller.specs.Passes.{HaveEnded, IsLeft}
+use Rattle.controller.specs.PlantStands.{outcomes_of}
+use Rattle.controller.proofs.Plants.{left_at}
 use Rattle.host_port.specs.declared.report.ReadLine.{ReadLine}
-use Rattle.host_port.specs.Reading.{ReadersState, reads_from, lent, settled, got_of}
+use Rattle.host_port.specs.declared.report.WriteLine.{WriteLine}
+use Rattle.host_port.specs.Reading.{ReadersState, reads_from, lent, got_of}
 use Rattle.host_port.specs.Rings.{ControllerState, at_source, incoming_shape}
-use Rattle.cluster_run.specs.Ends.{end_at}
-use Rattle.cluster_run.specs.Reading.{readers_at, reader_in, reader_at, AreLentTo, AreReadersLent, HaveRead}
-use Rattle.cluster_run.specs.Reading.{SettlesReads}
-use Rattle.cluster_run.specs.Reading.{IsClear, AllGot, AreLinesOf, read_of}
-use Rattle.cluster_run.specs.Report.{read_shown}
-use Rattle.cluster_run.specs.Rings.{ring_words, words_read, pair_of, pairs_read_in, IsRingOf}
+use Rattle.cluster_run.specs.declared.current.CurrentSlot.{CurrentSlot}
+use Rattle.cluster_run.specs.declared.nodes.Desk.{Desk}
+use Rattle.cluster_run.specs.declared.nodes.Nodes.{Nodes}
+use Rattle.cluster_run.specs.Choosing.{next_slot}
+use Rattle.cluster_run.specs.Ending.{outcome_of}
+use Rattle.cluster_run.specs.Ends.{desk_ends, desk_numbers, end_at}
+use Rattle.cluster_run.specs.Reading.{readers_at, reader_in, reader_at, AreLentTo, IsClear, AreLinesOf, read_of}
+use Rattle.cluster_run.specs.Report.{number_told, read_shown}
+use Rattle.cluster_run.specs.Rings.{ring_words, words_read, pair_of, pairs_read, pairs_read_in, IsRingOf}
+use Rattle.cluster_run.specs.Slots.{IsSlotEnded, HavePlannedSlot, IsSlotPlanned, StandsAt, TellsReads}
+use Rattle.cluster_run.specs.Standing.{HoldsRead, nodes_view}
+use Rattle.cluster_run.proofs.Deliverable.{IsDeliverable, delivered-deliverable}
+use Rattle.cluster_run.proofs.HandedRings.{IsHandedOf, handed_ring}
+use Rattle.cluster_run.proofs.HandsOn.{HoldsCame, number_is_told}
 use Rattle.cluster_run.proofs.LineReads.{message_told, messages_told, pairs_of, each_line, never_fall-lines, TellsRing}
 use Rattle.cluster_run.proofs.LineReads.{reads_shown, pairs_told, IsLegalLine, legal_lines}
 use Rattle.cluster_run.proofs.LentBuffers.{sized_ring}
-use Rattle.cluster_run.proofs.RingReads.{IsLentBy, AreGotOf, nothing_got, clear_of, IsRingRead, ring_read}
+use Rattle.cluster_run.proofs.RingReads.{IsLentBy, AreGotOf, RingSlot, nothing_got, clear_of, IsRingRead, ring_read}
 
 -- Messages of rings: there is one at first, and a slot brings one more at most.
 
@@ -82,29 +98,6 @@ length-words : (list : Medl) (script : Script) (history : History) (k : ℕ) (fr
     → length (words_read list script history k from) ≡ length (ring_messages list script history k from)
 length-words list script history k from = length-map (ring_messages list script history k from) (ring_words from)
 
--- Rings of a list have its buffers.
-
--- What is known of the reads of a slot, where each ring of a node has these pairs joined before it: the readers were
--- lent, the slot's messages came beside the reads, and the readers are settled.
-pub record AreSlotReads (list : Medl) (script : Script) (row : List Entry) (before : History)
-    (pairs : ℕ → Source → List Message) (lent_ends ended settled_ends : List ControllerState)
-    (first last : List (Option ReadersState)) (lines : List ReadLine) : Type 0 where
-  pub valid : IsValid list
-  pub first_count : length first ≡ length list.slots
-  pub last_count : length last ≡ length list.slots
-  pub ends_count : length lent_ends ≡ length list.slots
-  pub lent_are : AreReadersLent (reads_in script (length before)) lent_ends first
-  pub rings : (k : ℕ) → k < length list.slots → (from : Source)
-      → IsRingOf (incoming_shape list k from) (words_read list script before k from) (pairs k from)
-      (at_source (end_at lent_ends k) from)
-  pub read : HaveRead list.buffers (reads_in script (length before)) first last
-  pub rings_after : (k : ℕ) → k < length list.slots → (from : Source)
-      → IsRingOf (incoming_shape list k from) (words_read list script (row ∷ before) k from) (pairs k from)
-      (at_source (end_at ended k) from)
-  pub settles : SettlesReads ended last settled_ends
-  pub lines_are : AllGot (reads_in script (length before)) last
-      → AreLinesOf (reads_in script (length before)) last lines
-
 -- Each reader is a new one of its ring's writer.
 
 lent_nothing : (w : Option WriterState) → IsLentBy w None
@@ -136,81 +129,6 @@ no_reader readers k n from count past =
 clear_none : (buffers : ℕ) (old new : Option ReaderState) → old ≡ None → IsClear buffers old new
 clear_none buffers None new none = tt
 clear_none buffers (Some old) new none = absurd (none-some old (sym none))
-
-clear_reader : {list : Medl} {script : Script} {row : List Entry} {before : History}
-    {pairs : ℕ → Source → List Message} {lent_ends ended settled_ends : List ControllerState}
-    {first last : List (Option ReadersState)} {lines : List ReadLine}
-    → AreSlotReads list script row before pairs lent_ends ended settled_ends first last lines → (k : ℕ) (from : Source)
-    → IsClear list.buffers (reader_at first k from) (reader_at last k from)
-clear_reader {list} {script} {row} {before} {pairs} {lent_ends} {ended} {settled_ends} {first} {last} so k from =
-    elim (cases_lt k (length list.slots)) [
-      | inl near ↦
-          clear_of list.buffers (incoming_shape list k from) (words_read list script before k from)
-          (words_read list script (row ∷ before) k from) (pairs k from) (pairs k from)
-          (at_source (end_at lent_ends k) from)
-          (at_source (end_at ended k) from) (reader_at first k from) (reader_at last k from)
-          so.valid.buffers.0 (sized_ring list k from)
-          (omega (arith, length-words list script before k from, ring_messages-some list script before k from))
-          (omega (
-            arith,
-            length-words list script before k from,
-            length-words list script (row ∷ before) k from,
-            ring_messages-few list script row before k from,
-          ))
-          (so.rings k near from) (so.rings_after k near from)
-          (lent_by (reads_in script (length before)) k (end_at lent_ends k) (readers_at first k)
-          (so.lent_are.each k (omega (arith, near, so.ends_count))) from)
-          ((so.settles.each k (omega (arith, near, so.last_count))).whole from)
-      | inr past ↦
-          clear_none list.buffers (reader_at first k from) (reader_at last k from)
-          (no_reader first k (length list.slots) from so.first_count past)
-    ]
-
--- So each read got a message.
-pub all_got : {list : Medl} {script : Script} {row : List Entry} {before : History}
-    {pairs : ℕ → Source → List Message} {lent_ends ended settled_ends : List ControllerState}
-    {first last : List (Option ReadersState)} {lines : List ReadLine}
-    → AreSlotReads list script row before pairs lent_ends ended settled_ends first last lines
-    → AllGot (reads_in script (length before)) last
-all_got so = λ k. so.read.calls k (λ from. clear_reader so k from)
-
--- What was got of each ring.
-
-ring_of_slot : {list : Medl} {script : Script} {row : List Entry} {before : History}
-    {pairs : ℕ → Source → List Message} {lent_ends ended settled_ends : List ControllerState}
-    {first last : List (Option ReadersState)} {lines : List ReadLine}
-    → AreSlotReads list script row before pairs lent_ends ended settled_ends first last lines → (k : ℕ)
-    → k < length list.slots → (from : Source)
-    → IsRingRead (incoming_shape list k from) (words_read list script before k from)
-    (words_read list script (row ∷ before) k from) (pairs k from) (at_source (end_at ended k) from)
-    (reader_at last k from)
-ring_of_slot {list} {script} {row} {before} {pairs} {lent_ends} {ended} {settled_ends} {first} {last} so k near from =
-    let reads = reads_in script (length before) in
-    ring_read list.buffers (reads_from reads k from) (incoming_shape list k from)
-    (words_read list script before k from) (words_read list script (row ∷ before) k from) (pairs k from)
-    (at_source (end_at lent_ends k) from) (at_source (end_at ended k) from) (reader_at first k from)
-    (reader_at last k from) (sized_ring list k from) (so.rings k near from) (so.rings_after k near from)
-    (lent_by reads k (end_at lent_ends k) (readers_at first k) (so.lent_are.each k (omega (arith, near, so.ends_count)))
-    from)
-    (so.read.each k from) (clear_reader so k from)
-    ((so.settles.each k (omega (arith, near, so.last_count))).whole from)
-
-got_of_ring : {list : Medl} {script : Script} {row : List Entry} {before : History}
-    {pairs : ℕ → Source → List Message} {lent_ends ended settled_ends : List ControllerState}
-    {first last : List (Option ReadersState)} {lines : List ReadLine}
-    → AreSlotReads list script row before pairs lent_ends ended settled_ends first last lines → (k : ℕ) (from : Source)
-    → AreGotOf (words_read list script before k from) (words_read list script (row ∷ before) k from)
-    (pairs_of k from lines)
-got_of_ring {list} {script} {row} {before} {pairs} {lent_ends} {ended} {settled_ends} {first} {last} {lines} so k from =
-    let old = words_read list script before k from in
-    let new = words_read list script (row ∷ before) k from in
-    subst (AreGotOf old new) (sym ((so.lines_are (all_got so)).pairs k from))
-    (elim (cases_lt k (length list.slots)) [
-      | inl near ↦ (ring_of_slot so k near from).got
-      | inr past ↦
-          subst (λ (o : Option ReaderState). AreGotOf old new (got_of o))
-          (sym (no_reader last k (length list.slots) from so.last_count past)) (nothing_got old new)
-    ])
 
 -- A line tells a message of its ring.
 
@@ -260,79 +178,207 @@ each_legal list script before after (line ∷ lines) least are = (
   each_legal list script before after lines least.1 are.1,
 )
 
--- The report's numbers are these.
+-- A slot that was taken, by the numbers that its nodes stood for.
+
+pub record TakenSlot : Type 0 where
+  pub at : CurrentSlot
+  pub numbers : Numbers
+  pub old : Nodes
+  pub mid : Nodes
+  pub new : Nodes
+  pub writes : List WriteLine
+  pub reads : List ReadLine
+  pub stands : StandsAt at.list.now at.script.now at.slot (nodes_view old) numbers
+  pub plans : IsSlotPlanned at old mid writes
+  pub ends : IsSlotEnded at mid new
+  pub tells : TellsReads at mid new reads
+
+-- the numbers of what was read
 abbrev pub numbers_told : List ReadLine → List ℕ
 numbers_told lines = map (λ line. line.pair.number) lines
-
-pub record AreReadsShown (list : Medl) (script : Script) (row : List Entry) (before : History)
-    (pairs : ℕ → Source → List Message) (settled_ends : List ControllerState) (lines : List ReadLine) : Type 0 where
-  pub shown : lines
-      ≡ map (read_shown list script (row ∷ before))
-      (read_messages (reads_in script (length before)) (numbers_told lines))
-  pub legal : are_legal_reads list script before (row ∷ before) (reads_in script (length before)) (numbers_told lines)
-      ≡ true
-  pub never_falls : never_fall (reverse (read_messages (reads_in script (length before)) (numbers_told lines))) ≡ true
-  pub rings : (k : ℕ) → k < length list.slots → (from : Source)
-      → IsRingOf (incoming_shape list k from) (words_read list script (row ∷ before) k from)
-      (pairs k from
-      ++ pairs_read_in list script (row ∷ before)
-      (read_messages (reads_in script (length before)) (numbers_told lines)) k from)
-      (at_source (end_at settled_ends k) from)
-
-ring_settled : {list : Medl} {script : Script} {row : List Entry} {before : History}
-    {pairs : ℕ → Source → List Message} {lent_ends ended settled_ends : List ControllerState}
-    {first last : List (Option ReadersState)} {lines : List ReadLine}
-    → AreSlotReads list script row before pairs lent_ends ended settled_ends first last lines
-    → AllByRecursion (TellsRing list script (row ∷ before)) lines
-    → (k : ℕ) → k < length list.slots → (from : Source)
-    → IsRingOf (incoming_shape list k from) (words_read list script (row ∷ before) k from)
-    (pairs k from ++ pairs_read_in list script (row ∷ before) (map message_told lines) k from)
-    (at_source (end_at settled_ends k) from)
-ring_settled {list} {script} {row} {before} {pairs} {lent_ends} {ended} {settled_ends} {first} {last} {lines} so told k
-    near from =
-    let shape = incoming_shape list k from in
-    let words = words_read list script (row ∷ before) k from in
-    let got : got_of (reader_at last k from)
-    ≡ pairs_read_in list script (row ∷ before) (map message_told lines) k from =
-    sym ((so.lines_are (all_got so)).pairs k from) ∙ sym (pairs_told list script (row ∷ before) lines k from told) in
-    subst (λ (w : Option WriterState).
-    IsRingOf shape words (pairs k from ++ pairs_read_in list script (row ∷ before) (map message_told lines) k from) w)
-    (sym ((so.settles.each k (omega (arith, near, so.last_count))).settled_is from))
-    (subst (λ (ms : List Message). IsRingOf shape words (pairs k from ++ ms)
-    (settled (at_source (end_at ended k) from) (reader_at last k from))) got (ring_of_slot so k near from).ring)
 
 length-told : (lines : List ReadLine) → length (map read_of lines) ≡ length (numbers_told lines)
 length-told lines = length-map lines read_of ∙ sym (length-map lines (λ (line : ReadLine). line.pair.number))
 
-pub reads_of_slot : {list : Medl} {script : Script} {row : List Entry} {before : History}
-    {pairs : ℕ → Source → List Message} {lent_ends ended settled_ends : List ControllerState}
-    {first last : List (Option ReadersState)} {lines : List ReadLine}
-    → AreSlotReads list script row before pairs lent_ends ended settled_ends first last lines
-    → AreReadsShown list script row before pairs settled_ends lines
-reads_of_slot {list} {script} {row} {before} {pairs} {lent_ends} {ended} {settled_ends} {first} {last} {lines} so =
-    let after = row ∷ before in
-    let reads = reads_in script (length before) in
-    let are = each_line (λ k from m. IsMessageOf (words_read list script after k from) m) lines
-    (λ k from. (got_of_ring so k from).are) in
-    let least = each_line (λ k from (m : Message). newest_in (words_read list script before k from) ≤ m.number) lines
-    (λ k from. (got_of_ring so k from).least) in
-    let told = each_told list script after lines are in
-    let is : map read_of lines ≡ reads = (so.lines_are (all_got so)).reads_are in
-    let messages : read_messages reads (numbers_told lines) ≡ map message_told lines =
-    ap (λ rs. read_messages rs (numbers_told lines)) (sym is) ∙ messages_told lines in
-    let count : (length reads == length (numbers_told lines)) ≡ true =
-    eq-eqb (length reads) (length (numbers_told lines)) (ap length (sym is) ∙ length-told lines) in
-    record {
-      shown = reads_shown list script after lines told ∙ ap (map (read_shown list script after)) (sym messages);
-      legal = λ i.
-          count i
-          && (ap (list_all (is_legal_read list script before after)) messages
-          ∙ legal_lines list script before after lines (each_legal list script before after lines least are)) i;
-      never_falls =
-          ap (λ ms. never_fall (reverse ms)) messages
-          ∙ never_fall-lines lines (λ k from. (got_of_ring so k from).rise);
-      rings = λ k near from.
-          subst (λ ms. IsRingOf (incoming_shape list k from) (words_read list script after k from)
-          (pairs k from ++ pairs_read_in list script after ms k from) (at_source (end_at settled_ends k) from))
-          (sym messages) (ring_settled so told k near from);
-    }
+module _ (so : TakenSlot) where
+  abbrev pub list : Medl
+  list = so.at.list.now
+
+  abbrev pub script : Script
+  script = so.at.script.now
+
+  abbrev pub before : History
+  before = world list script so.numbers
+
+  abbrev pub row : List Entry
+  row = row_in (next_slot list script so.numbers) so.mid.chosen.items
+
+  abbrev reads : List HostRead
+  reads = reads_in script so.at.slot
+
+  abbrev words : History → ℕ → Source → List (List ℕ)
+  words history k from = words_read list script history k from
+
+  pub planned : HavePlannedSlot so.at so.numbers so.mid
+  planned = so.plans.plans so.numbers so.stands
+
+  pub ended : HaveEnded list script before so.mid.chosen.items 0 so.new.seats.items
+  ended = so.ends.ends so.numbers planned
+
+  pub slots : length before ≡ so.at.slot
+  slots = length-world list script so.numbers ∙ so.stands.count
+
+  ends_count : length (desk_ends so.mid.desks.items) ≡ length list.slots
+  ends_count = length-map so.mid.desks.items (λ (d : Desk). d.end) ∙ so.plans.are.desks
+
+  -- What was handed on.
+
+  pub of_hosts : AreOfHosts (next_slot list script so.numbers) so.mid.chosen.items
+  of_hosts = record {
+    message = λ k node loaded.
+        planned.chosen.messages k node loaded
+        ∙ ap (λ n. message_chosen list script n k (Some (chosen_of so.mid.chosen.items k).number))
+        (sym (length-world list script so.numbers));
+  }
+
+  abbrev outcome : ℕ → Outcome
+  outcome = outcome_of (outcomes_of so.new.seats.items)
+
+  left_here : (k : ℕ) → k < length list.slots → IsLeft list script before so.mid.chosen.items k (outcome k)
+  left_here k node = left_at ended.left k (omega (arith, node, so.ends.are.seats_count))
+
+  handed_of : (k : ℕ) → k < length list.slots → IsHandedOf list script row before k (outcome k)
+  handed_of k node =
+      let left = left_here k node in
+      let same = sym (delivered_of-row_in list script before so.mid.chosen.items k of_hosts) in
+      record {
+        delivered = left.delivered ∙ same;
+        status = left.status
+            ∙ ap (λ (d : Option Delivered). status_words list (length before) (node_past list script (row ∷ before) k)
+            (is_some d)) same;
+      }
+
+  came : (k : ℕ) → k < length list.slots
+      → HoldsCame list script before k (pairs_read list script so.numbers k) (end_at (desk_ends so.mid.desks.items) k)
+  came k node = record {
+    each = λ from.
+        subst (λ v. HoldsRead list script so.numbers (desk_ends v.items) k from) (sym so.plans.desks)
+        (so.stands.stands.read k node from);
+  }
+
+  -- so the numbers told are those of the world
+  pub numbers_delivered : (k : ℕ) → k < length list.slots
+      → get_or (desk_numbers so.new.desks.items) k None ≡ number_told list script row before k
+  numbers_delivered k node =
+      so.tells.handed_are.numbers_are k (omega (arith, node, ends_count))
+      ∙ number_is_told row (outcome k).delivered (came k node)
+      (subst (λ (o : Option Delivered). IfSome o (IsDeliverable list k)) (sym (left_here k node).delivered)
+      (delivered-deliverable list script before so.mid.chosen.items k node))
+      (handed_of k node).delivered
+
+  -- What was read.
+
+  abbrev ring : (k : ℕ) → k < length list.slots → Source → RingSlot list.buffers
+  ring k near from =
+      let few = ring_messages-few list script row before k from in
+      let some = ring_messages-some list script before k from in
+      let count = length-words list script before k from in
+      let is = (came k near).each from in
+      record {
+        shape = incoming_shape list k from;
+        before = words before k from;
+        after = words (row ∷ before) k from;
+        pairs = pairs_read list script so.numbers k from;
+        writer = at_source (end_at (desk_ends so.mid.desks.items) k) from;
+        later = at_source (end_at so.tells.handed k) from;
+        lent = reader_at so.tells.first k from;
+        read = reader_at so.tells.last k from;
+        some = so.at.valid.buffers.0;
+        sized = sized_ring list k from;
+        there = omega (arith, count, some);
+        few = omega (arith, count, length-words list script (row ∷ before) k from, few);
+        is = is;
+        be =
+            rw (so.tells.handed_are.ends k (omega (arith, near, ends_count)))
+            (handed_ring from _ _ (handed_of k near) is);
+        lent_by = lent_by reads k _ (readers_at so.tells.first k)
+            (so.tells.lent.each k (omega (arith, near, ends_count))) from;
+        settles = (so.tells.settles.each k (omega (arith, near, so.tells.last_count))).whole from;
+      }
+
+  clear : (k : ℕ) (from : Source)
+      → IsClear list.buffers (reader_at so.tells.first k from) (reader_at so.tells.last k from)
+  clear k from =
+      elim (cases_lt k (length list.slots)) [
+        | inl near ↦ clear_of (ring k near from)
+        | inr past ↦
+            clear_none list.buffers (reader_at so.tells.first k from) (reader_at so.tells.last k from)
+            (no_reader so.tells.first k (length list.slots) from so.tells.first_count past)
+      ]
+
+  -- each read got a message
+  are_lines : AreLinesOf reads so.tells.last so.reads
+  are_lines = so.tells.told (λ k. so.tells.read.calls k (clear k))
+
+  ring_is : (k : ℕ) (near : k < length list.slots) (from : Source) → IsRingRead (ring k near from)
+  ring_is k near from =
+      ring_read (ring k near from) (reads_from reads k from) (so.tells.read.each k from) (clear k from)
+
+  got_of_ring : (k : ℕ) (from : Source)
+      → AreGotOf (words before k from) (words (row ∷ before) k from) (pairs_of k from so.reads)
+  got_of_ring k from =
+      subst (AreGotOf (words before k from) (words (row ∷ before) k from)) (sym (are_lines.pairs k from))
+      (elim (cases_lt k (length list.slots)) [
+        | inl near ↦ (ring_is k near from).got
+        | inr past ↦
+            subst (λ (o : Option ReaderState). AreGotOf (words before k from) (words (row ∷ before) k from) (got_of o))
+            (sym (no_reader so.tells.last k (length list.slots) from so.tells.last_count past))
+            (nothing_got (words before k from) (words (row ∷ before) k from))
+      ])
+
+  are_messages : AllByRecursion
+      (λ (line : ReadLine). IsMessageOf (words (row ∷ before) line.host line.source) line.pair) so.reads
+  are_messages =
+      each_line (λ k from m. IsMessageOf (words (row ∷ before) k from) m) so.reads (λ k from. (got_of_ring k from).are)
+
+  told : AllByRecursion (TellsRing list script (row ∷ before)) so.reads
+  told = each_told list script (row ∷ before) so.reads are_messages
+
+  messages : read_messages reads (numbers_told so.reads) ≡ map message_told so.reads
+  messages =
+      ap (λ rs. read_messages rs (numbers_told so.reads)) (sym are_lines.reads_are) ∙ messages_told so.reads
+
+  pub reads_shown_are : so.reads
+      ≡ map (read_shown list script (row ∷ before)) (read_messages reads (numbers_told so.reads))
+  reads_shown_are =
+      reads_shown list script (row ∷ before) so.reads told ∙ ap (map (read_shown list script (row ∷ before))) (sym messages)
+
+  pub reads_legal : are_legal_reads list script before (row ∷ before) reads (numbers_told so.reads) ≡ true
+  reads_legal =
+      let least = each_line (λ k from (m : Message). newest_in (words before k from) ≤ m.number) so.reads
+      (λ k from. (got_of_ring k from).least) in
+      let count : (length reads == length (numbers_told so.reads)) ≡ true =
+      eq-eqb (length reads) (length (numbers_told so.reads))
+      (ap length (sym are_lines.reads_are) ∙ length-told so.reads) in
+      λ i.
+      count i
+      && (ap (list_all (is_legal_read list script before (row ∷ before))) messages
+      ∙ legal_lines list script before (row ∷ before) so.reads
+      (each_legal list script before (row ∷ before) so.reads least are_messages)) i
+
+  pub reads_rise : never_fall (reverse (read_messages reads (numbers_told so.reads))) ≡ true
+  reads_rise =
+      ap (λ ms. never_fall (reverse ms)) messages ∙ never_fall-lines so.reads (λ k from. (got_of_ring k from).rise)
+
+  pub rings_settled : (k : ℕ) → k < length list.slots → (from : Source)
+      → IsRingOf (incoming_shape list k from) (words (row ∷ before) k from)
+      (pairs_read list script so.numbers k from
+      ++ pairs_read_in list script (row ∷ before) (read_messages reads (numbers_told so.reads)) k from)
+      (at_source (end_at (desk_ends so.new.desks.items) k) from)
+  rings_settled k near from =
+      rw (
+        (so.tells.settles.each k (omega (arith, near, so.tells.last_count))).settled_is from,
+        messages,
+        pairs_told list script (row ∷ before) so.reads k from told,
+        are_lines.pairs k from,
+      ) (ring_is k near from).ring

@@ -27,6 +27,13 @@ HasJobEnded j k =
     HasPartEnded j.list.now j.script.now (arc_value j.medium) j.first j.seats.items k.seats.items j.desks.items
     k.desks.items
 
+-- hosts may write what is at these places, and there is room for its lines
+pub record MayWriteAt (script : Script) (places : List ℕ) (ends : List HostState) (lines : List WriteLine) (space : ℕ)
+    : Type 0 where
+  pub writes : MayWriteAll script (length (filter_map (write_at script) places)) ends
+  pub empty : lines ≡ []
+  pub room : length places ≤ space
+
 -- what hosts write at these places is in their rings, and these are its lines
 pub record HaveWrittenAt (script : Script) (places : List ℕ) (old new : List HostState) (lines : List WriteLine)
     : Type 0 where
@@ -43,8 +50,7 @@ pub record HaveReadBy (reads : List HostRead) (old new : List (Option ReadersSta
 -- hosts may do what a job says
 abbrev pub MayHostsDo : HostJob → Type 0
 MayHostsDo (job.Write script places ends lines) =
-    MayWriteAll script.now (length (filter_map (write_at script.now) places.now)) ends.items × (lines.items ≡ [])
-    × (length places.now ≤ vec_capacity lines)
+    MayWriteAt script.now places.now ends.items lines.items (vec_capacity lines)
 MayHostsDo (job.Read reads readers) = MayReadAll reads.now readers.items
 
 -- they have done it

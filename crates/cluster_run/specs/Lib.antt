@@ -1,3 +1,4 @@
+pub mod Props
 pub mod Nodes
 pub mod Ends
 pub mod Rings

@@ -1,4 +1,7 @@
 -- How far a cluster is, as contracts see it.
+use Rattle.std.specs.Prelude.{Result, OnOk, IfErr}
+use Rattle.ttp_world.specs.declared.medl.Medl.{Medl}
+use Rattle.ttp_world.specs.declared.script.Script.{Script}
 use Rattle.cluster_run.specs.declared.progress.Course.{Course}
 use Rattle.cluster_run.specs.declared.progress.Progress.{Progress}
 use Rattle.cluster_run.specs.Clusters.{IsClusterWithin}
@@ -11,3 +14,20 @@ cluster_at course at = cluster_of course.list.now course.script.now at.done at.n
 -- it holds what does between two slots
 abbrev pub IsOnCourse : Course → Progress → Type 0
 IsOnCourse course at = IsClusterWithin course.list.now course.script.now at.done at.nodes
+
+-- it is so, and something is known of the run: by that, who watches made this of the slots that were done
+pub record MayRun {Start Out : Type 0} (follows : Start → Out → ClusterView → Type 0) (course : Course) (at : Progress)
+    (out : Out) : Type 0 where
+  pub within : IsOnCourse course at
+  pub start : Start
+  pub followed : follows start out (cluster_at course at)
+
+-- A run did slots: what was so of those before is so of these too, or who watches left it.
+pub record HasRunOn {Start Out Fault : Type 0} (follows : Start → Out → ClusterView → Type 0)
+    (leaves : Start → Out → Fault → Medl → Script → Type 0) (course : Course) (old new : Progress) (before after : Out)
+    (result : Result (Unit {0}) Fault) : Type 0 where
+  pub within : IsOnCourse course new
+  pub ok : OnOk result ((start : Start) → follows start before (cluster_at course old)
+      → follows start after (cluster_at course new))
+  pub fault : IfErr result (λ fault. (start : Start) → follows start before (cluster_at course old)
+      → leaves start after fault course.list.now course.script.now)

@@ -104,8 +104,9 @@ MayFetch fetcher = ForSome fetcher (λ f. 1 ≤ f.spare)
 abbrev pub MayFetchAll : List (Option ReaderState) → Type 0
 MayFetchAll fetchers = (k : ℕ) → MayFetch (get_or fetchers k None)
 
-abbrev pub FetchAll : List (Option ReaderState) → List (Option ReaderState) → Type 0
-FetchAll old new = (k : ℕ) → k < length old → Fetches (get_or old k None) (get_or new k None)
+pub record FetchAll (old new : List (Option ReaderState)) : Type 0 where
+  pub count : length new ≡ length old
+  pub each : (k : ℕ) → k < length old → Fetches (get_or old k None) (get_or new k None)
 
 -- Fetchers are settled.
 
@@ -130,18 +131,19 @@ pub record SettlesFetch (len : ℕ) (fetcher : Option ReaderState) (old new : Ho
     pub settled_is : new ≡ settled old fetcher
     pub choice_is : after ≡ choice_of fetcher len before
 
--- A controller fetches where no host writes.
+-- One controller fetches.
 
 -- whatever its attempt leaves of the fetcher that is lent may be settled
 abbrev pub MaySettleAfter : ℕ → Bool → HostState → Type 0
 MaySettleAfter len loaded end =
     (tried : Option ReaderState) → Fetches (fetcher_lent loaded end) tried → ForSome tried (MaySettle end len)
 
--- there is one attempt, if the node's frame carries a message, and what it got is chosen
-pub record FetchesAlone (len : ℕ) (loaded : Bool) (old new : HostState) (before after : Chosen) : Type 0 where
+-- there is one attempt, if the node's frame carries a message, and what it got is chosen; the end is the middle one
+-- once its host has written
+pub record FetchesOne (len : ℕ) (loaded : Bool) (old mid new : HostState) (before after : Chosen) : Type 0 where
   pub tried : Option ReaderState
   pub fetches : Fetches (fetcher_lent loaded old) tried
-  pub settles : SettlesFetch len tried old new before after
+  pub settles : SettlesFetch len tried mid new before after
 
 -- the controllers have begun some slot, and each may fetch what its node's frame carries there
 pub record MayFetchAlone (list : Medl) (seats : List Seat) (ends : List HostState) : Type 0 where

@@ -1,15 +1,15 @@
 //! A slot with workers that stay.
-ghost use Rattle.std.specs.Prelude.{◌≡◌, ◌≤◌, ◌++◌, [], length, vec_capacity, IfOk, OnOk};
+ghost use Rattle.std.specs.Prelude.{◌≡◌, ◌≤◌, ◌++◌, length, vec_capacity, IfOk, OnOk};
 ghost use Rattle.std.specs.Arc.{arc_value};
-ghost use Rattle.std.specs.List.{filter_map};
-ghost use Rattle.ttp_world.specs.Script.{write_at};
 ghost use Rattle.cluster_run.specs.Ending.{IsPartReady, HasPartEnded};
 ghost use Rattle.cluster_run.specs.Jobs.{IsJobReady, HasJobEnded, MayHostsDo, HaveHostsDone};
-ghost use Rattle.cluster_run.specs.Jobs.{HaveWrittenAt, HaveReadBy};
+ghost use Rattle.cluster_run.specs.Jobs.{MayWriteAt, HaveWrittenAt, HaveReadBy};
 ghost use Rattle.cluster_run.specs.Reading.{MayReadAll};
-ghost use Rattle.cluster_run.specs.Sending.{MayWriteAll, MayFetchAll, FetchAll};
+ghost use Rattle.cluster_run.specs.Sending.{MayFetchAll, FetchAll};
+ghost use Rattle.cluster_run.specs.Slots.{AreReady, AllHaveEnded};
 
-use crate::ending::{Common, end_all};
+use crate::current::CurrentSlot;
+use crate::ending::{Common, end_from};
 use crate::jobs::{EndJob, HostJob};
 use crate::nodes::{Desk, Nodes};
 use crate::sending::fetch_all;
@@ -18,11 +18,10 @@ use controller::Seat;
 use errand::ends::Giver;
 use host_port::{Fetcher, HostEnd, HostReaders, WriteLine};
 use medium::Medium;
-use std::alloc::Global;
 use std::mem;
 use std::sync::{Arc, Wait};
 use ttp_base::{Gate, Memory};
-use ttp_world::{HostRead, Medl, Script};
+use ttp_world::{HostRead, Script};
 
 // Fetches here, beside what hosts do.
 fn fetch_beside<'b, 'a, R: Wait, G: Gate>(
@@ -39,7 +38,6 @@ fn fetch_beside<'b, 'a, R: Wait, G: Gate>(
     requires job { MayHostsDo job }
     requires fetchers { MayFetchAll fetchers.items }
     ensures job { HaveHostsDone job.entry result.1 }
-    ensures fetchers_count { length result.2.items ≡ length fetchers.items }
     ensures fetches { FetchAll fetchers.items result.2.items }
 {
     let waiting = hosts.ask(job);
@@ -67,12 +65,9 @@ pub(crate) fn write_beside<'b, 'a, R: Wait, G: Gate>(
     (Vec<HostEnd>, Vec<WriteLine>),
     Vec<Option<Fetcher>>,
 )
-    requires writes { MayWriteAll script.now (length (filter_map (write_at script.now) places.now)) ends.items }
-    requires empty { lines.items ≡ [] }
-    requires room { length places.now ≤ vec_capacity lines }
+    requires writes { MayWriteAt script.now places.now ends.items lines.items (vec_capacity lines) }
     requires fetchers { MayFetchAll fetchers.items }
     ensures written { HaveWrittenAt script.now places.now ends.items result.1.0.items result.1.1.items }
-    ensures fetchers_count { length result.2.items ≡ length fetchers.items }
     ensures fetches { FetchAll fetchers.items result.2.items }
 {
     let Hired {
@@ -123,11 +118,11 @@ fn end_beside<'b, 'a, R: Wait, G: Gate>(
     let ending = ends.ask(back);
     if reading.goes_first() {
         let (hosts, read) = finish_hosts(rt, reading, gate);
-        end_all(seats, desks, common, gate);
+        end_from(0, seats, desks, common, gate);
         let (ends, back) = finish_ends(rt, ending, gate);
         return (Hired { ends, hosts }, back, read);
     }
-    end_all(seats, desks, common, gate);
+    end_from(0, seats, desks, common, gate);
     let (ends, back) = finish_ends(rt, ending, gate);
     let (hosts, read) = finish_hosts(rt, reading, gate);
     (Hired { ends, hosts }, back, read)
@@ -135,16 +130,11 @@ fn end_beside<'b, 'a, R: Wait, G: Gate>(
 
 // Takes the back half out of the nodes, with the medium that both halves read. Another one lies there then, which nobody
 // reads before it carries the frames of the next slot.
-fn back_half<'a>(
-    alloc: Global,
-    list: &'a Medl,
-    script: &'a Script,
-    nodes: &mut Nodes,
-) -> Result<EndJob<'a>, Memory>
+fn back_half<'a>(at: &CurrentSlot<'a>, nodes: &mut Nodes) -> Result<EndJob<'a>, Memory>
     requires nodes { length nodes.old.seats.items ≤ 256 }
     requires desks { length nodes.old.desks.items ≡ length nodes.old.seats.items }
-    ensures list { IfOk result (λ back. back.list.now ≡ list.now) }
-    ensures script { IfOk result (λ back. back.script.now ≡ script.now) }
+    ensures list { IfOk result (λ back. back.list.now ≡ at.now.list.now) }
+    ensures script { IfOk result (λ back. back.script.now ≡ at.now.script.now) }
     ensures medium { IfOk result (λ back. arc_value back.medium ≡ nodes.old.medium) }
     ensures first { IfOk result (λ back. length nodes.new.seats.items ≡ back.first) }
     ensures seats { IfOk result (λ back. nodes.old.seats.items ≡ nodes.new.seats.items ++ back.seats.items) }
@@ -154,15 +144,15 @@ fn back_half<'a>(
     ensures chosen { OnOk result (nodes.new.chosen ≡ nodes.old.chosen) }
 {
     let half = nodes.seats.len() / 2;
-    let medium = mem::replace(&mut nodes.medium, Medium::new(alloc, list)?);
-    let Ok(medium) = Arc::new(alloc, medium) else {
+    let medium = mem::replace(&mut nodes.medium, Medium::new(at.alloc, at.list)?);
+    let Ok(medium) = Arc::new(at.alloc, medium) else {
         return Err(Memory);
     };
     let seats = nodes.seats.split_off(half)?;
     let desks = nodes.desks.split_off(half)?;
     Ok(EndJob {
-        list,
-        script,
+        list: at.list,
+        script: at.script,
         medium,
         first: half as u8,
         seats,
@@ -174,27 +164,22 @@ fn back_half<'a>(
 pub(crate) fn end_staying<'b, 'a, R: Wait, G: Gate>(
     rt: &R,
     hired: Hired<'b, 'a>,
-    alloc: Global,
-    list: &'a Medl,
-    script: &'a Script,
+    at: &CurrentSlot<'a>,
     nodes: &mut Nodes,
     readers: Vec<Option<HostReaders>>,
     reads: &'a [HostRead],
     gate: &G,
 ) -> Result<(Hired<'b, 'a>, Vec<Option<HostReaders>>), Memory>
-    requires ready { IsPartReady list.now script.now nodes.old.medium 0 nodes.old.seats.items nodes.old.desks.items }
+    requires ready { AreReady at.now nodes.old }
     requires left { MayReadAll reads.now readers.items }
-    ensures host_ends { OnOk result (nodes.new.host_ends ≡ nodes.old.host_ends) }
-    ensures chosen { OnOk result (nodes.new.chosen ≡ nodes.old.chosen) }
-    ensures ended { OnOk result (HasPartEnded list.now script.now nodes.old.medium 0 nodes.old.seats.items
-        nodes.new.seats.items nodes.old.desks.items nodes.new.desks.items) }
+    ensures ended { OnOk result (AllHaveEnded at.now nodes.old nodes.new) }
     ensures read { IfOk result (λ r. HaveReadBy reads.now readers.items r.1.items) }
 {
-    let back = back_half(alloc, list, script, nodes)?;
+    let back = back_half(at, nodes)?;
     let medium = Arc::try_clone(&back.medium)?;
     let common = Common {
-        list,
-        script,
+        list: at.list,
+        script: at.script,
         medium: &medium,
     };
     let (hired, mut back, read) = end_beside(

@@ -66,20 +66,6 @@ fn end_part<G: Gate>(part: Part, common: &Common, gate: &G)
     }
 }
 
-/// All nodes end the slot, one after another.
-pub(crate) fn end_all<G: Gate>(seats: &mut [Seat], desks: &mut [Desk], common: &Common, gate: &G)
-    requires { IsPartReady common.now.list.now common.now.script.now common.now.medium.now 0 seats.old desks.old }
-    ensures { HasPartEnded common.now.list.now common.now.script.now common.now.medium.now 0 seats.old seats.new
-        desks.old desks.new }
-{
-    let part = Part {
-        first: 0,
-        seats,
-        desks,
-    };
-    end_part(part, common, gate);
-}
-
 /// The nodes from a first one on end the slot, one after another.
 pub(crate) fn end_from<G: Gate>(
     first: u8,

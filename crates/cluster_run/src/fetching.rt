@@ -5,7 +5,7 @@ ghost use Rattle.ttp_world.specs.Outgoing.{nothing_chosen};
 ghost use Rattle.ttp_world.specs.World.{BegunSlot, is_loaded};
 ghost use Rattle.controller.specs.Passes.{HaveBegun};
 ghost use Rattle.cluster_run.specs.Ends.{host_at};
-ghost use Rattle.cluster_run.specs.Sending.{MayFetchAlone, MaySettleAfter, FetchesAlone};
+ghost use Rattle.cluster_run.specs.Sending.{MayFetchAlone, MaySettleAfter, FetchesOne};
 
 use crate::sending::{fetch_one, lend_one, settle_one};
 use controller::{Seat, is_loaded};
@@ -24,7 +24,7 @@ fn fetch_for<G: Gate>(
     requires ring { loaded ≡ true → IsSome end.old }
     requires limit { len ≤ PAYLOAD_LIMIT }
     requires may { MaySettleAfter len loaded end.old }
-    ensures fetches { OnOk result (FetchesAlone len loaded end.old end.new chosen.old chosen.new) }
+    ensures fetches { OnOk result (FetchesOne len loaded end.old end.old end.new chosen.old chosen.new) }
 {
     if !loaded {
         return Ok(());
@@ -51,8 +51,8 @@ pub(crate) fn fetch_each<G: Gate>(
     ensures ends_count { length ends.new ≡ length ends.old }
     ensures chosen_count { length chosen.new ≡ length chosen.old }
     ensures fetches { OnOk result ((s : BegunSlot) → HaveBegun s 0 seats.now → (k : ℕ) → k < length ends.old
-        → FetchesAlone (plan_at list.now k).payload (is_loaded s k) (host_at ends.old k) (host_at ends.new k)
-        (get_or chosen.old k nothing_chosen) (get_or chosen.new k nothing_chosen)) }
+        → FetchesOne (plan_at list.now k).payload (is_loaded s k) (host_at ends.old k) (host_at ends.old k)
+        (host_at ends.new k) (get_or chosen.old k nothing_chosen) (get_or chosen.new k nothing_chosen)) }
 {
     for k in 0..ends.len() {
         let loaded = is_loaded(&seats[k].controller);

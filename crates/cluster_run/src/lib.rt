@@ -29,6 +29,7 @@
 mod beside;
 mod choosing;
 mod cluster;
+mod current;
 mod ending;
 mod fetching;
 mod jobs;

@@ -4,6 +4,7 @@ ghost use Rattle.cluster_run.specs.Choosing.{AreBytesBefore};
 ghost use Rattle.cluster_run.specs.Progress.{cluster_at, IsOnCourse};
 ghost use Rattle.cluster_run.specs.Slots.{Steps};
 
+use crate::current::CurrentSlot;
 use crate::nodes::Nodes;
 use crate::slot::slot_of;
 use crate::staff::Hired;
@@ -58,22 +59,21 @@ impl Progress {
         ensures gone { OnErr result (self.new.nodes ≡ None) }
         ensures for_good { self.old.nodes ≡ None → IsErr result }
     {
-        let Course {
-            alloc,
-            list,
-            script,
-        } = *course;
         let Some(nodes) = &mut self.nodes else {
             return Err(Memory);
         };
-        let spare = mem::replace(&mut self.spare, Vec::new(alloc));
-        let Ok(report) = slot_of(
-            rt, staff, alloc, list, script, self.done, nodes, spare, gate,
-        ) else {
+        let at = CurrentSlot {
+            alloc: course.alloc,
+            list: course.list,
+            script: course.script,
+            slot: self.done,
+        };
+        let spare = mem::replace(&mut self.spare, Vec::new(at.alloc));
+        let Ok(report) = slot_of(rt, staff, &at, nodes, spare, gate) else {
             self.nodes = None;
             return Err(Memory);
         };
-        let told = mem::replace(&mut self.report.nodes, List::new(alloc));
+        let told = mem::replace(&mut self.report.nodes, List::new(at.alloc));
         self.report = report;
         self.spare = told.into_vec();
         self.done += 1;

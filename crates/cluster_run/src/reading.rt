@@ -7,8 +7,9 @@ ghost use Rattle.ttp_world.specs.declared.script.Source.{Source};
 ghost use Rattle.host_port.specs.Reading.{AreReadersOfEnd, IsLeft, Reads, buffers_of, calls_after};
 ghost use Rattle.host_port.specs.Rings.{place_of};
 ghost use Rattle.cluster_run.specs.Ends.{desk_ends, desk_numbers};
-ghost use Rattle.cluster_run.specs.Reading.{AreReadersOfAll, ReadTheSame, ReadBuffers, rings_in, has_reads, AreLentTo};
-ghost use Rattle.cluster_run.specs.Reading.{AreReadersLent, reader_in, calls_in, HaveRead, MayReadAll, SettlesReadsOf};
+ghost use Rattle.cluster_run.specs.Jobs.{HaveReadBy};
+ghost use Rattle.cluster_run.specs.Reading.{AreReadersOfAll, rings_in, has_reads, AreLentTo};
+ghost use Rattle.cluster_run.specs.Reading.{AreReadersLent, reader_in, calls_in, MayReadAll, SettlesReadsOf};
 ghost use Rattle.cluster_run.specs.Reading.{SettlesReads, AllGot, read_of, lines_by};
 ghost use Rattle.cluster_run.specs.Reading.{AreLinesBy, AreLinesOf, queue_of, AreQueuesOf, AreDue};
 
@@ -86,9 +87,7 @@ pub(crate) fn read_all<R: Wait, G: Gate>(
     gate: &G,
 )
     requires left { MayReadAll reads.now readers.old }
-    ensures rings { ReadTheSame readers.old readers.new }
-    ensures reads { (buffers : ℕ) → ReadBuffers buffers readers.old
-        → HaveRead buffers reads.now readers.old readers.new }
+    ensures { HaveReadBy reads.now readers.old readers.new }
 {
     for read in reads {
         let k = usize::from(read.host);

@@ -1,6 +1,6 @@
 //! A cluster taken through all its slots, with workers that stay.
 ghost use Rattle.std.specs.Prelude.{◌≡◌, ◌+◌, ◌<◌, ◌≤◌, IfErr, OnOk};
-ghost use Rattle.cluster_run.specs.Progress.{cluster_at, IsOnCourse};
+ghost use Rattle.cluster_run.specs.Progress.{MayRun, HasRunOn};
 
 use crate::jobs::{EndJob, HostJob};
 use crate::progress::{Course, Progress};
@@ -83,17 +83,10 @@ fn next_told<'b, 'a, R: Threads + Wait + Sync, G: Gate, W: Watch>(
     out: &mut W::Out,
     gate: &G,
 ) -> Result<(), W::Fault>
-    requires within { IsOnCourse course.now at.old }
+    requires may { MayRun W.follows course.now at.old out.old }
     requires slot { at.old.done < course.now.script.now.slots }
-    requires follows { (start : W.Start) × W.follows start out.old (cluster_at course.now at.old) }
-    ensures within { IsOnCourse course.now at.new }
+    ensures runs { HasRunOn W.follows W.leaves course.now at.old at.new out.old out.new result }
     ensures done { OnOk result (at.new.done ≡ at.old.done + 1) }
-    ensures ok { OnOk result ((start : W.Start)
-        → W.follows start out.old (cluster_at course.now at.old)
-        → W.follows start out.new (cluster_at course.now at.new)) }
-    ensures fault { IfErr result (λ fault. (start : W.Start)
-        → W.follows start out.old (cluster_at course.now at.old)
-        → W.leaves start out.new fault course.now.list.now course.now.script.now) }
 {
     let Ok(()) = at.slot(rt, staff, course, gate) else {
         return Err(watch.refused(out));
@@ -112,17 +105,10 @@ fn run_slots<'b, 'a, R: Threads + Wait + Sync, G: Gate, W: Watch>(
     out: &mut W::Out,
     gate: &G,
 ) -> Result<(), W::Fault>
-    requires within { IsOnCourse course.now at.old }
+    requires may { MayRun W.follows course.now at.old out.old }
     requires end { end ≤ course.now.script.now.slots }
-    requires follows { (start : W.Start) × W.follows start out.old (cluster_at course.now at.old) }
-    ensures within { IsOnCourse course.now at.new }
+    ensures runs { HasRunOn W.follows W.leaves course.now at.old at.new out.old out.new result }
     ensures done { OnOk result (at.old.done ≤ end → at.new.done ≡ end) }
-    ensures ok { OnOk result ((start : W.Start)
-        → W.follows start out.old (cluster_at course.now at.old)
-        → W.follows start out.new (cluster_at course.now at.new)) }
-    ensures fault { IfErr result (λ fault. (start : W.Start)
-        → W.follows start out.old (cluster_at course.now at.old)
-        → W.leaves start out.new fault course.now.list.now course.now.script.now) }
 {
     let left = end.saturating_sub(at.done);
     for _ in 0..left {
@@ -141,16 +127,9 @@ fn run_staffed<'b, 'a, R: Threads + Wait + Sync, G: Gate, W: Watch>(
     out: &mut W::Out,
     gate: &G,
 ) -> Result<(), W::Fault>
-    requires within { IsOnCourse course.now at.old }
-    requires follows { (start : W.Start) × W.follows start out.old (cluster_at course.now at.old) }
-    ensures within { IsOnCourse course.now at.new }
+    requires may { MayRun W.follows course.now at.old out.old }
+    ensures runs { HasRunOn W.follows W.leaves course.now at.old at.new out.old out.new result }
     ensures done { OnOk result (at.new.done ≡ course.now.script.now.slots) }
-    ensures ok { OnOk result ((start : W.Start)
-        → W.follows start out.old (cluster_at course.now at.old)
-        → W.follows start out.new (cluster_at course.now at.new)) }
-    ensures fault { IfErr result (λ fault. (start : W.Start)
-        → W.follows start out.old (cluster_at course.now at.old)
-        → W.leaves start out.new fault course.now.list.now course.now.script.now) }
 {
     await_service(staff);
     let left = run_slots(rt, staff, course, course.script.slots, at, watch, out, gate);
@@ -169,30 +148,16 @@ fn run_beside_hosts<'b, 'a, R: Threads + Wait + Sync, G: Gate, W: Watch>(
     out: &mut W::Out,
     gate: &G,
 ) -> Result<(), W::Fault>
-    requires within { IsOnCourse course.now at.old }
-    requires follows { (start : W.Start) × W.follows start out.old (cluster_at course.now at.old) }
-    ensures within { IsOnCourse course.now at.new }
+    requires may { MayRun W.follows course.now at.old out.old }
+    ensures runs { HasRunOn W.follows W.leaves course.now at.old at.new out.old out.new result }
     ensures done { OnOk result (at.new.done ≡ course.now.script.now.slots) }
-    ensures ok { OnOk result ((start : W.Start)
-        → W.follows start out.old (cluster_at course.now at.old)
-        → W.follows start out.new (cluster_at course.now at.new)) }
-    ensures fault { IfErr result (λ fault. (start : W.Start)
-        → W.follows start out.old (cluster_at course.now at.old)
-        → W.leaves start out.new fault course.now.list.now course.now.script.now) }
 {
     let mut serves = || serve_hosts(rt, worker, gate);
     let mut runs = || -> Result<(), W::Fault>
-        requires within { IsOnCourse course.now at.now }
-        requires follows { (start : W.Start)
-            × W.follows start out.now (cluster_at course.now at.now) }
-        ensures within { IsOnCourse course.entry.now at.exit.now }
+        requires { MayRun W.follows course.now at.now out.now }
+        ensures runs { HasRunOn W.follows W.leaves course.entry.now at.entry.now at.exit.now out.entry.now out.exit.now
+            result }
         ensures done { OnOk result (at.exit.now.done ≡ course.entry.now.script.now.slots) }
-        ensures ok { OnOk result ((start : W.Start)
-            → W.follows start out.entry.now (cluster_at course.entry.now at.entry.now)
-            → W.follows start out.exit.now (cluster_at course.entry.now at.exit.now)) }
-        ensures fault { IfErr result (λ fault. (start : W.Start)
-            → W.follows start out.entry.now (cluster_at course.entry.now at.entry.now)
-            → W.leaves start out.exit.now fault course.entry.now.list.now course.entry.now.script.now) }
     { run_staffed(rt, staff, course, at, watch, out, gate) };
     let (_, left) = join_mut(rt, &mut serves, &mut runs);
     left
@@ -209,32 +174,18 @@ fn run_beside_both<'b, 'a, R: Threads + Wait + Sync, G: Gate, W: Watch>(
     out: &mut W::Out,
     gate: &G,
 ) -> Result<(), W::Fault>
-    requires within { IsOnCourse course.now at.old }
-    requires follows { (start : W.Start) × W.follows start out.old (cluster_at course.now at.old) }
-    ensures within { IsOnCourse course.now at.new }
+    requires may { MayRun W.follows course.now at.old out.old }
+    ensures runs { HasRunOn W.follows W.leaves course.now at.old at.new out.old out.new result }
     ensures done { OnOk result (at.new.done ≡ course.now.script.now.slots) }
-    ensures ok { OnOk result ((start : W.Start)
-        → W.follows start out.old (cluster_at course.now at.old)
-        → W.follows start out.new (cluster_at course.now at.new)) }
-    ensures fault { IfErr result (λ fault. (start : W.Start)
-        → W.follows start out.old (cluster_at course.now at.old)
-        → W.leaves start out.new fault course.now.list.now course.now.script.now) }
 {
     let (ends, hosts) = workers;
     let (mut ends, mut hosts, mut staff) = (Some(ends), Some(hosts), Some(hired));
     let mut serves = || serve_ends(rt, &mut ends, gate);
     let mut runs = || -> Result<(), W::Fault>
-        requires within { IsOnCourse course.now at.now }
-        requires follows { (start : W.Start)
-            × W.follows start out.now (cluster_at course.now at.now) }
-        ensures within { IsOnCourse course.entry.now at.exit.now }
+        requires { MayRun W.follows course.now at.now out.now }
+        ensures runs { HasRunOn W.follows W.leaves course.entry.now at.entry.now at.exit.now out.entry.now out.exit.now
+            result }
         ensures done { OnOk result (at.exit.now.done ≡ course.entry.now.script.now.slots) }
-        ensures ok { OnOk result ((start : W.Start)
-            → W.follows start out.entry.now (cluster_at course.entry.now at.entry.now)
-            → W.follows start out.exit.now (cluster_at course.entry.now at.exit.now)) }
-        ensures fault { IfErr result (λ fault. (start : W.Start)
-            → W.follows start out.entry.now (cluster_at course.entry.now at.entry.now)
-            → W.leaves start out.exit.now fault course.entry.now.list.now course.entry.now.script.now) }
     { run_beside_hosts(rt, &mut hosts, &mut staff, course, at, watch, out, gate) };
     let (_, left) = join_mut(rt, &mut serves, &mut runs);
     left
@@ -250,16 +201,9 @@ pub(crate) fn run_all<'a, R: Threads + Wait + Sync, G: Gate, W: Watch>(
     out: &mut W::Out,
     gate: &G,
 ) -> Result<(), W::Fault>
-    requires within { IsOnCourse course.now at.old }
-    requires follows { (start : W.Start) × W.follows start out.old (cluster_at course.now at.old) }
-    ensures within { IsOnCourse course.now at.new }
+    requires may { MayRun W.follows course.now at.old out.old }
+    ensures runs { HasRunOn W.follows W.leaves course.now at.old at.new out.old out.new result }
     ensures done { OnOk result (at.new.done ≡ course.now.script.now.slots) }
-    ensures ok { OnOk result ((start : W.Start)
-        → W.follows start out.old (cluster_at course.now at.old)
-        → W.follows start out.new (cluster_at course.now at.new)) }
-    ensures fault { IfErr result (λ fault. (start : W.Start)
-        → W.follows start out.old (cluster_at course.now at.old)
-        → W.leaves start out.new fault course.now.list.now course.now.script.now) }
 {
     let slots = course.script.slots;
     run_slots(

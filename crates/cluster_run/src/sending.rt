@@ -1,10 +1,8 @@
 //! What hosts write, beside what their controllers fetch.
-ghost use Rattle.std.specs.Prelude.{◌≡◌, ℕ, ◌+◌, ◌<◌, ◌≤◌, [], length, get_or, slice_set};
-ghost use Rattle.std.specs.Prelude.{vec_capacity};
-ghost use Rattle.std.specs.Prelude.{None, IsSome, IfOk, true, All};
-ghost use Rattle.std.specs.List.{filter_map};
+ghost use Rattle.std.specs.Prelude.{◌≡◌, ℕ, ◌<◌, ◌≤◌, length, get_or, slice_set, vec_capacity};
+ghost use Rattle.std.specs.Prelude.{None, IsSome, IfOk, true};
 ghost use Rattle.std.specs.Option.{ForSome};
-ghost use Rattle.ttp_world.specs.Script.{host_write, write_at};
+ghost use Rattle.ttp_world.specs.Script.{host_write};
 ghost use Rattle.ttp_world.specs.Words.{words_of_payload, word_count};
 ghost use Rattle.ttp_world.specs.World.{BegunSlot};
 ghost use Rattle.controller.specs.Passes.{HaveBegun};
@@ -14,8 +12,8 @@ ghost use Rattle.ttp_world.specs.Medl.{IsValid, plan_at};
 ghost use Rattle.ttp_world.specs.Outgoing.{nothing_chosen};
 ghost use Rattle.host_port.specs.Writing.{written, Takes, HasRoom};
 ghost use Rattle.cluster_run.specs.Ends.{host_at};
-ghost use Rattle.cluster_run.specs.Sending.{fetcher_lent, AreLent, MayLend, after_writes, write_line};
-ghost use Rattle.cluster_run.specs.Sending.{write_lines, MayWriteAll, WritesBytes};
+ghost use Rattle.cluster_run.specs.Jobs.{MayWriteAt, HaveWrittenAt};
+ghost use Rattle.cluster_run.specs.Sending.{fetcher_lent, AreLent, MayLend, write_line, WritesBytes};
 ghost use Rattle.cluster_run.specs.Sending.{Fetches, MayFetch, MayFetchAll, FetchAll, MaySettle, choice_of};
 ghost use Rattle.cluster_run.specs.Sending.{SettlesFetch};
 
@@ -94,14 +92,8 @@ pub(crate) fn write_all<G: Gate>(
     mut lines: Vec<WriteLine>,
     gate: &G,
 ) -> (Vec<HostEnd>, Vec<WriteLine>)
-    requires writes { MayWriteAll script.now (length (filter_map (write_at script.now) places.now)) ends.items }
-    requires empty { lines.items ≡ [] }
-    requires room { length places.now ≤ vec_capacity lines }
-    ensures count { length result.0.items ≡ length ends.items }
-    ensures ends { (k : ℕ) → host_at result.0.items k
-        ≡ after_writes (filter_map (write_at script.now) places.now) k (host_at ends.items k) }
-    ensures lines { result.1.items ≡ write_lines ends.items [] (filter_map (write_at script.now) places.now) }
-    ensures bytes { All WritesBytes (filter_map (write_at script.now) places.now) }
+    requires { MayWriteAt script.now places.now ends.items lines.items (vec_capacity lines) }
+    ensures { HaveWrittenAt script.now places.now ends.items result.0.items result.1.items }
 {
     for place in places {
         if let Some(write) = script.write(*place) {
@@ -126,9 +118,8 @@ pub(crate) fn fetch_all<G: Gate>(
     mut fetchers: Vec<Option<Fetcher>>,
     gate: &G,
 ) -> Vec<Option<Fetcher>>
-    requires fetchers { MayFetchAll fetchers.items }
-    ensures count { length result.items ≡ length fetchers.items }
-    ensures fetches { FetchAll fetchers.items result.items }
+    requires { MayFetchAll fetchers.items }
+    ensures { FetchAll fetchers.items result.items }
 {
     for k in 0..fetchers.len() {
         fetch_one(&mut fetchers[k], gate);
@@ -151,23 +142,15 @@ fn write_started<R: Threads + Sync, G: Gate>(
     lines: Vec<WriteLine>,
     gate: &G,
 ) -> (Vec<HostEnd>, Vec<WriteLine>, Vec<Option<Fetcher>>)
-    requires writes { MayWriteAll script.now (length (filter_map (write_at script.now) places.now)) ends.items }
-    requires empty { lines.items ≡ [] }
-    requires room { length places.now ≤ vec_capacity lines }
+    requires writes { MayWriteAt script.now places.now ends.items lines.items (vec_capacity lines) }
     requires fetchers { MayFetchAll fetchers.items }
-    ensures count { length result.0.items ≡ length ends.items }
-    ensures ends { (k : ℕ) → host_at result.0.items k
-        ≡ after_writes (filter_map (write_at script.now) places.now) k (host_at ends.items k) }
-    ensures lines { result.1.items ≡ write_lines ends.items [] (filter_map (write_at script.now) places.now) }
-    ensures bytes { All WritesBytes (filter_map (write_at script.now) places.now) }
-    ensures fetchers_count { length result.2.items ≡ length fetchers.items }
+    ensures written { HaveWrittenAt script.now places.now ends.items result.0.items result.1.items }
     ensures fetches { FetchAll fetchers.items result.2.items }
 {
     let ((ends, lines), fetchers) = join(
         rt,
         || -> (Vec<HostEnd>, Vec<WriteLine>)
-            requires { MayWriteAll script.now (length (filter_map (write_at script.now) places.now)) ends.items
-                × (lines.items ≡ []) × (length places.now ≤ vec_capacity lines) }
+            requires { MayWriteAt script.now places.now ends.items lines.items (vec_capacity lines) }
         { write_all(ends, script, places, lines, gate) },
         || -> Vec<Option<Fetcher>>
             requires { MayFetchAll fetchers.items }
@@ -188,16 +171,9 @@ pub(crate) fn write_and_fetch<'b, 'a, R: Threads + Wait + Sync, G: Gate>(
     lines: Vec<WriteLine>,
     gate: &G,
 ) -> (Vec<HostEnd>, Vec<WriteLine>, Vec<Option<Fetcher>>)
-    requires writes { MayWriteAll script.now (length (filter_map (write_at script.now) places.now)) ends.items }
-    requires empty { lines.items ≡ [] }
-    requires room { length places.now ≤ vec_capacity lines }
+    requires writes { MayWriteAt script.now places.now ends.items lines.items (vec_capacity lines) }
     requires fetchers { MayFetchAll fetchers.items }
-    ensures count { length result.0.items ≡ length ends.items }
-    ensures ends { (k : ℕ) → host_at result.0.items k
-        ≡ after_writes (filter_map (write_at script.now) places.now) k (host_at ends.items k) }
-    ensures lines { result.1.items ≡ write_lines ends.items [] (filter_map (write_at script.now) places.now) }
-    ensures bytes { All WritesBytes (filter_map (write_at script.now) places.now) }
-    ensures fetchers_count { length result.2.items ≡ length fetchers.items }
+    ensures written { HaveWrittenAt script.now places.now ends.items result.0.items result.1.items }
     ensures fetches { FetchAll fetchers.items result.2.items }
 {
     if places.is_empty() || !has_any(fetchers.as_slice()) {

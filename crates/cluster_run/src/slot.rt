@@ -1,35 +1,33 @@
 //! A slot of all nodes.
-ghost use Rattle.std.specs.Prelude.{◌≡◌, ◌+◌, ◌<◌, ℕ, [], IfOk, OnOk};
-ghost use Rattle.ttp_world.specs.Medl.{IsValid};
-ghost use Rattle.ttp_world.specs.Script.{IsValidScript, reads_in, writes_in};
+ghost use Rattle.std.specs.Prelude.{◌≡◌, ◌+◌, ℕ, IfOk, OnOk};
+ghost use Rattle.ttp_world.specs.Script.{reads_in};
 ghost use Rattle.ttp_world.specs.World.{Numbers};
 ghost use Rattle.controller.specs.PlantStands.{outcomes_of};
 ghost use Rattle.cluster_run.specs.Choosing.{AreBytesBefore};
+ghost use Rattle.cluster_run.specs.Clusters.{AreClusterNodes};
 ghost use Rattle.cluster_run.specs.Ending.{IsPartReady, HasPartEnded, HaveHandedOn};
 ghost use Rattle.cluster_run.specs.Ends.{desk_ends, desk_numbers};
 ghost use Rattle.cluster_run.specs.Jobs.{HaveReadBy};
 ghost use Rattle.cluster_run.specs.Nodes.{AreNodesOf};
 ghost use Rattle.cluster_run.specs.Reading.{AreReadersOfAll, AreReadersLent, MayReadAll, HaveRead};
-ghost use Rattle.cluster_run.specs.Reading.{ReadTheSame, ReadBuffers};
-ghost use Rattle.cluster_run.specs.Report.{writes_shown};
-ghost use Rattle.cluster_run.specs.Slots.{StandsAt, StandsForSome, ArePlannedNodes, HavePlannedSlot, MayEndSlot};
-ghost use Rattle.cluster_run.specs.Slots.{HaveEndedFor, TellsReads, IsNextOf};
+ghost use Rattle.cluster_run.specs.Slots.{StandsAt, AreReady, AllHaveEnded, MayEndSlot, IsSlotPlanned, IsSlotEnded};
+ghost use Rattle.cluster_run.specs.Slots.{TellsReads, IsNextOf};
 ghost use Rattle.cluster_run.specs.Standing.{nodes_view};
 
 use crate::beside::end_staying;
 use crate::choosing::choose;
-use crate::ending::{Common, end_all, end_halves};
+use crate::current::CurrentSlot;
+use crate::ending::{Common, end_from, end_halves};
 use crate::nodes::{Desk, Nodes};
 use crate::reading::{lend_readers, read_all, read_lines};
 use crate::reporting::node_lines;
 use crate::staff::Hired;
 use controller::{Seat, begin_all, plan_all};
 use host_port::{HostReaders, NodeLine, ReadLine, SlotReport, WriteLine};
-use std::alloc::Global;
 use std::sync::Wait;
 use std::thread::{Threads, join_mut};
 use ttp_base::{Gate, List, Memory};
-use ttp_world::{HostRead, Medl, Script};
+use ttp_world::HostRead;
 
 // The controllers end the slot beside the reads of hosts, in threads that are started.
 fn end_started<R: Threads + Wait + Sync, G: Gate>(
@@ -45,9 +43,7 @@ fn end_started<R: Threads + Wait + Sync, G: Gate>(
     requires left { MayReadAll reads.now readers.old }
     ensures ended { HasPartEnded common.now.list.now common.now.script.now common.now.medium.now 0 seats.old seats.new
         desks.old desks.new }
-    ensures rings { ReadTheSame readers.old readers.new }
-    ensures reads { (buffers : ℕ) → ReadBuffers buffers readers.old
-        → HaveRead buffers reads.now readers.old readers.new }
+    ensures read { HaveReadBy reads.now readers.old readers.new }
 {
     let mut end = ||
         requires { IsPartReady common.now.list.now common.now.script.now common.now.medium.now 0 seats.now desks.now }
@@ -56,34 +52,28 @@ fn end_started<R: Threads + Wait + Sync, G: Gate>(
     { end_halves(rt, seats, desks, common, gate) };
     let mut read = ||
         requires { MayReadAll reads.now readers.now }
-        ensures { ReadTheSame readers.entry.now readers.exit.now
-            × ((buffers : ℕ) → ReadBuffers buffers readers.entry.now
-            → HaveRead buffers reads.entry.now readers.entry.now readers.exit.now) }
+        ensures { HaveReadBy reads.entry.now readers.entry.now readers.exit.now }
     { read_all(rt, readers, reads, gate) };
     join_mut(rt, &mut end, &mut read);
 }
 
 // All nodes end the slot beside the reads of hosts, in threads that are started.
-fn end_with_started<R: Threads + Wait + Sync, G: Gate>(
+fn end_with_started<'a, R: Threads + Wait + Sync, G: Gate>(
     rt: &R,
-    list: &Medl,
-    script: &Script,
+    at: &CurrentSlot<'a>,
     nodes: &mut Nodes,
     mut readers: Vec<Option<HostReaders>>,
     reads: &[HostRead],
     gate: &G,
 ) -> Vec<Option<HostReaders>>
-    requires ready { IsPartReady list.now script.now nodes.old.medium 0 nodes.old.seats.items nodes.old.desks.items }
+    requires ready { AreReady at.now nodes.old }
     requires left { MayReadAll reads.now readers.items }
-    ensures host_ends { nodes.new.host_ends ≡ nodes.old.host_ends }
-    ensures chosen { nodes.new.chosen ≡ nodes.old.chosen }
-    ensures ended { HasPartEnded list.now script.now nodes.old.medium 0 nodes.old.seats.items nodes.new.seats.items
-        nodes.old.desks.items nodes.new.desks.items }
+    ensures ended { AllHaveEnded at.now nodes.old nodes.new }
     ensures read { HaveReadBy reads.now readers.items result.items }
 {
     let common = Common {
-        list,
-        script,
+        list: at.list,
+        script: at.script,
         medium: &nodes.medium,
     };
     end_started(
@@ -103,28 +93,21 @@ fn end_with_started<R: Threads + Wait + Sync, G: Gate>(
 fn end_and_read<'b, 'a, R: Threads + Wait + Sync, G: Gate>(
     rt: &R,
     staff: &mut Option<Hired<'b, 'a>>,
-    alloc: Global,
-    list: &'a Medl,
-    script: &'a Script,
+    at: &CurrentSlot<'a>,
     nodes: &mut Nodes,
     readers: Vec<Option<HostReaders>>,
     reads: &'a [HostRead],
     gate: &G,
 ) -> Result<Vec<Option<HostReaders>>, Memory>
-    requires ready { IsPartReady list.now script.now nodes.old.medium 0 nodes.old.seats.items nodes.old.desks.items }
+    requires ready { AreReady at.now nodes.old }
     requires left { MayReadAll reads.now readers.items }
-    ensures host_ends { OnOk result (nodes.new.host_ends ≡ nodes.old.host_ends) }
-    ensures chosen { OnOk result (nodes.new.chosen ≡ nodes.old.chosen) }
-    ensures ended { OnOk result (HasPartEnded list.now script.now nodes.old.medium 0 nodes.old.seats.items
-        nodes.new.seats.items nodes.old.desks.items nodes.new.desks.items) }
+    ensures ended { OnOk result (AllHaveEnded at.now nodes.old nodes.new) }
     ensures read { IfOk result (λ left. HaveReadBy reads.now readers.items left.items) }
 {
     let Some(hired) = staff.take() else {
-        return Ok(end_with_started(rt, list, script, nodes, readers, reads, gate));
+        return Ok(end_with_started(rt, at, nodes, readers, reads, gate));
     };
-    let (hired, readers) = end_staying(
-        rt, hired, alloc, list, script, nodes, readers, reads, gate,
-    )?;
+    let (hired, readers) = end_staying(rt, hired, at, nodes, readers, reads, gate)?;
     *staff = Some(hired);
     Ok(readers)
 }
@@ -134,35 +117,19 @@ fn end_and_read<'b, 'a, R: Threads + Wait + Sync, G: Gate>(
 fn plan<'b, 'a, R: Threads + Wait + Sync, G: Gate>(
     rt: &R,
     staff: &mut Option<Hired<'b, 'a>>,
-    alloc: Global,
-    list: &'a Medl,
-    script: &'a Script,
-    slot: u32,
+    at: &CurrentSlot<'a>,
     nodes: &mut Nodes,
     gate: &G,
 ) -> Result<Vec<WriteLine>, Memory>
-    requires list { IsValid list.now }
-    requires script { IsValidScript list.now script.now }
-    requires slot { slot < script.now.slots }
-    requires nodes { AreNodesOf list.now slot nodes.old }
-    requires bytes { AreBytesBefore list.now script.now slot }
-    requires stands { StandsForSome list.now script.now slot (nodes_view nodes.old) }
-    ensures nodes { OnOk result (ArePlannedNodes list.now script.now slot nodes.new) }
-    ensures desks { nodes.new.desks ≡ nodes.old.desks }
-    ensures bytes { OnOk result (AreBytesBefore list.now script.now (slot + 1)) }
-    ensures writes { IfOk result (λ lines. lines.items
-        ≡ writes_shown list.now script.now slot [] (writes_in script.now slot)) }
-    ensures plans { OnOk result ((numbers : Numbers) → StandsAt list.now script.now slot (nodes_view nodes.old) numbers
-        → HavePlannedSlot list.now script.now numbers nodes.new) }
+    requires nodes { AreClusterNodes at.now.list.now at.now.script.now at.now.slot nodes.old }
+    requires bytes { AreBytesBefore at.now.list.now at.now.script.now at.now.slot }
+    ensures { IfOk result (λ lines. IsSlotPlanned at.now nodes.old nodes.new lines.items) }
 {
-    begin_all(&mut nodes.seats, list, script, 0, slot);
+    begin_all(&mut nodes.seats, at.list, at.script, 0, at.slot);
     let writes = choose(
         rt,
         staff,
-        alloc,
-        list,
-        script,
-        slot,
+        at,
         &mut nodes.host_ends,
         &nodes.seats,
         &mut nodes.chosen,
@@ -171,9 +138,9 @@ fn plan<'b, 'a, R: Threads + Wait + Sync, G: Gate>(
     plan_all(
         &mut nodes.seats,
         &mut nodes.medium,
-        list,
-        script,
-        slot,
+        at.list,
+        at.script,
+        at.slot,
         &nodes.chosen,
     );
     Ok(writes)
@@ -183,87 +150,58 @@ fn plan<'b, 'a, R: Threads + Wait + Sync, G: Gate>(
 fn end<'b, 'a, R: Threads + Wait + Sync, G: Gate>(
     rt: &R,
     staff: &mut Option<Hired<'b, 'a>>,
-    alloc: Global,
-    list: &'a Medl,
-    script: &'a Script,
-    slot: u32,
+    at: &CurrentSlot<'a>,
     nodes: &mut Nodes,
     readers: Vec<Option<HostReaders>>,
     reads: &'a [HostRead],
     gate: &G,
 ) -> Result<Vec<Option<HostReaders>>, Memory>
-    requires list { IsValid list.now }
-    requires script { IsValidScript list.now script.now }
-    requires slot { slot < script.now.slots }
-    requires nodes { ArePlannedNodes list.now script.now slot nodes.old }
     requires own { AreReadersOfAll (desk_ends nodes.old.desks.items) readers.items }
-    requires lent { AreReadersLent (reads_in script.now slot) (desk_ends nodes.old.desks.items) readers.items }
-    requires may { MayEndSlot list.now script.now slot nodes.old }
-    requires reads { reads.now ≡ reads_in script.now slot }
-    ensures nodes { OnOk result (AreNodesOf list.now (slot + 1) nodes.new) }
-    ensures host_ends { OnOk result (nodes.new.host_ends ≡ nodes.old.host_ends) }
+    requires lent { AreReadersLent (reads_in at.now.script.now at.now.slot) (desk_ends nodes.old.desks.items)
+        readers.items }
+    requires may { MayEndSlot at.now nodes.old }
+    requires reads { reads.now ≡ reads_in at.now.script.now at.now.slot }
+    ensures ends { OnOk result (IsSlotEnded at.now nodes.old nodes.new) }
     ensures own { IfOk result (λ left. AreReadersOfAll (desk_ends nodes.new.desks.items) left.items) }
-    ensures reads { IfOk result (λ left. HaveRead list.now.buffers (reads_in script.now slot) readers.items left.items) }
+    ensures reads { IfOk result (λ left. HaveRead at.now.list.now.buffers (reads_in at.now.script.now at.now.slot)
+        readers.items left.items) }
     ensures handed { OnOk result (HaveHandedOn (outcomes_of nodes.new.seats.items) (desk_ends nodes.old.desks.items)
         (desk_ends nodes.new.desks.items) (desk_numbers nodes.new.desks.items)) }
-    ensures ends { OnOk result ((numbers : Numbers) → HavePlannedSlot list.now script.now numbers nodes.old
-        → HaveEndedFor list.now script.now numbers nodes.old nodes.new) }
 {
-    let left = end_and_read(rt, staff, alloc, list, script, nodes, readers, reads, gate)?;
+    let left = end_and_read(rt, staff, at, nodes, readers, reads, gate)?;
     Ok(left)
 }
 
 // Controllers end the slot, and no host reads in it.
-fn end_unread<G: Gate>(list: &Medl, script: &Script, slot: u32, nodes: &mut Nodes, gate: &G)
-    requires list { IsValid list.now }
-    requires script { IsValidScript list.now script.now }
-    requires slot { slot < script.now.slots }
-    requires nodes { ArePlannedNodes list.now script.now slot nodes.old }
-    requires may { MayEndSlot list.now script.now slot nodes.old }
-    ensures nodes { AreNodesOf list.now (slot + 1) nodes.new }
-    ensures host_ends { nodes.new.host_ends ≡ nodes.old.host_ends }
-    ensures handed { HaveHandedOn (outcomes_of nodes.new.seats.items) (desk_ends nodes.old.desks.items)
-        (desk_ends nodes.new.desks.items) (desk_numbers nodes.new.desks.items) }
-    ensures ends { (numbers : Numbers) → HavePlannedSlot list.now script.now numbers nodes.old
-        → HaveEndedFor list.now script.now numbers nodes.old nodes.new }
+fn end_unread<'a, G: Gate>(at: &CurrentSlot<'a>, nodes: &mut Nodes, gate: &G)
+    requires { AreReady at.now nodes.old }
+    ensures { AllHaveEnded at.now nodes.old nodes.new }
 {
     let common = Common {
-        list,
-        script,
+        list: at.list,
+        script: at.script,
         medium: &nodes.medium,
     };
-    end_all(&mut nodes.seats, &mut nodes.desks, &common, gate);
+    end_from(0, &mut nodes.seats, &mut nodes.desks, &common, gate);
 }
 
 // Controllers end the slot, and hosts read in it. The lines of the reads are the answer.
 fn end_read<'b, 'a, R: Threads + Wait + Sync, G: Gate>(
     rt: &R,
     staff: &mut Option<Hired<'b, 'a>>,
-    alloc: Global,
-    list: &'a Medl,
-    script: &'a Script,
-    slot: u32,
+    at: &CurrentSlot<'a>,
     nodes: &mut Nodes,
     reads: &'a [HostRead],
     gate: &G,
 ) -> Result<List<ReadLine>, Memory>
-    requires list { IsValid list.now }
-    requires script { IsValidScript list.now script.now }
-    requires slot { slot < script.now.slots }
-    requires nodes { ArePlannedNodes list.now script.now slot nodes.old }
-    requires may { MayEndSlot list.now script.now slot nodes.old }
-    requires reads { reads.now ≡ reads_in script.now slot }
-    ensures nodes { OnOk result (AreNodesOf list.now (slot + 1) nodes.new) }
-    ensures host_ends { OnOk result (nodes.new.host_ends ≡ nodes.old.host_ends) }
-    ensures ends { OnOk result ((numbers : Numbers) → HavePlannedSlot list.now script.now numbers nodes.old
-        → HaveEndedFor list.now script.now numbers nodes.old nodes.new) }
-    ensures tells { IfOk result (TellsReads list.now script.now slot nodes.old nodes.new) }
+    requires may { MayEndSlot at.now nodes.old }
+    requires reads { reads.now ≡ reads_in at.now.script.now at.now.slot }
+    ensures ends { OnOk result (IsSlotEnded at.now nodes.old nodes.new) }
+    ensures tells { IfOk result (TellsReads at.now nodes.old nodes.new) }
 {
-    let lent = lend_readers(alloc, &mut nodes.desks, reads)?;
-    let readers = end(
-        rt, staff, alloc, list, script, slot, nodes, lent, reads, gate,
-    )?;
-    let lines = read_lines(alloc, &mut nodes.desks, readers, reads)?;
+    let lent = lend_readers(at.alloc, &mut nodes.desks, reads)?;
+    let readers = end(rt, staff, at, nodes, lent, reads, gate)?;
+    let lines = read_lines(at.alloc, &mut nodes.desks, readers, reads)?;
     Ok(lines)
 }
 
@@ -271,61 +209,44 @@ fn end_read<'b, 'a, R: Threads + Wait + Sync, G: Gate>(
 fn end_slot<'b, 'a, R: Threads + Wait + Sync, G: Gate>(
     rt: &R,
     staff: &mut Option<Hired<'b, 'a>>,
-    alloc: Global,
-    list: &'a Medl,
-    script: &'a Script,
-    slot: u32,
+    at: &CurrentSlot<'a>,
     nodes: &mut Nodes,
     gate: &G,
 ) -> Result<List<ReadLine>, Memory>
-    requires list { IsValid list.now }
-    requires script { IsValidScript list.now script.now }
-    requires slot { slot < script.now.slots }
-    requires nodes { ArePlannedNodes list.now script.now slot nodes.old }
-    requires may { MayEndSlot list.now script.now slot nodes.old }
-    ensures nodes { OnOk result (AreNodesOf list.now (slot + 1) nodes.new) }
-    ensures host_ends { OnOk result (nodes.new.host_ends ≡ nodes.old.host_ends) }
-    ensures ends { OnOk result ((numbers : Numbers) → HavePlannedSlot list.now script.now numbers nodes.old
-        → HaveEndedFor list.now script.now numbers nodes.old nodes.new) }
-    ensures tells { IfOk result (TellsReads list.now script.now slot nodes.old nodes.new) }
+    requires { MayEndSlot at.now nodes.old }
+    ensures ends { OnOk result (IsSlotEnded at.now nodes.old nodes.new) }
+    ensures tells { IfOk result (TellsReads at.now nodes.old nodes.new) }
 {
-    let reads = script.reads(slot);
+    let reads = at.script.reads(at.slot);
     if reads.is_empty() {
-        end_unread(list, script, slot, nodes, gate);
-        return Ok(List::new(alloc));
+        end_unread(at, nodes, gate);
+        return Ok(List::new(at.alloc));
     }
-    end_read(rt, staff, alloc, list, script, slot, nodes, reads, gate)
+    end_read(rt, staff, at, nodes, reads, gate)
 }
 
 /// Takes all nodes through a slot, and answers its report, whose lines of nodes are written over `spare`.
 pub(crate) fn slot_of<'b, 'a, R: Threads + Wait + Sync, G: Gate>(
     rt: &R,
     staff: &mut Option<Hired<'b, 'a>>,
-    alloc: Global,
-    list: &'a Medl,
-    script: &'a Script,
-    slot: u32,
+    at: &CurrentSlot<'a>,
     nodes: &mut Nodes,
     spare: Vec<NodeLine>,
     gate: &G,
 ) -> Result<SlotReport, Memory>
-    requires list { IsValid list.now }
-    requires script { IsValidScript list.now script.now }
-    requires slot { slot < script.now.slots }
-    requires nodes { AreNodesOf list.now slot nodes.old }
-    requires bytes { AreBytesBefore list.now script.now slot }
-    requires stands { StandsForSome list.now script.now slot (nodes_view nodes.old) }
-    ensures nodes { OnOk result (AreNodesOf list.now (slot + 1) nodes.new) }
-    ensures bytes { OnOk result (AreBytesBefore list.now script.now (slot + 1)) }
+    requires nodes { AreClusterNodes at.now.list.now at.now.script.now at.now.slot nodes.old }
+    requires bytes { AreBytesBefore at.now.list.now at.now.script.now at.now.slot }
+    ensures nodes { OnOk result (AreNodesOf at.now.list.now (at.now.slot + 1) nodes.new) }
+    ensures bytes { OnOk result (AreBytesBefore at.now.list.now at.now.script.now (at.now.slot + 1)) }
     ensures steps { IfOk result (λ report. (numbers : Numbers)
-        → StandsAt list.now script.now slot (nodes_view nodes.old) numbers
-        → IsNextOf list.now script.now numbers (nodes_view nodes.new) report) }
+        → StandsAt at.now.list.now at.now.script.now at.now.slot (nodes_view nodes.old) numbers
+        → IsNextOf at.now.list.now at.now.script.now numbers (nodes_view nodes.new) report) }
 {
-    let writes = plan(rt, staff, alloc, list, script, slot, nodes, gate)?;
-    let reads = end_slot(rt, staff, alloc, list, script, slot, nodes, gate)?;
-    let lines = node_lines(alloc, spare, &nodes.seats, &nodes.desks)?;
+    let writes = plan(rt, staff, at, nodes, gate)?;
+    let reads = end_slot(rt, staff, at, nodes, gate)?;
+    let lines = node_lines(at.alloc, spare, &nodes.seats, &nodes.desks)?;
     Ok(SlotReport {
-        slot,
+        slot: at.slot,
         nodes: lines,
         writes: List::from_vec(writes),
         reads,

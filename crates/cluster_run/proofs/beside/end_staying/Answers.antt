@@ -21,8 +21,8 @@ end_beside-hired-requires-clause-back g c κs within =
 
 pub returns-clause-ended : goal.returns-clause-ended
 returns-clause-ended g c =
-    let list = c.args.list.now in
-    let script = c.args.script.now in
+    let list = c.args.at.now.list.now in
+    let script = c.args.at.now.script.now in
     let medium = c.args.nodes.now.medium in
     let half = c.back_half.new.nodes in
     let back = c.in_ok-back.back in
@@ -50,5 +50,10 @@ returns-clause-ended g c =
     let desks : c.append-2.new.self.items ≡ ds1 ++ left.desks.items =
     c.in_ok-append-2.ensures.items ∙ ap (λ xs. xs ++ left.desks.items) (with_items_is half.desks ds1
     (omega (arith, c.end_beside-hired.auto.desks, c.deref_mut-2.ensures.len))) in
-    both_ended (record { is = b.seats; count = b.first }) (record { is = b.desks; count = b.desks_count ∙ b.first })
-    seats desks front ended
+    record {
+      host_ends = b.host_ends;
+      chosen = b.chosen;
+      ended =
+          both_ended (record { is = b.seats; count = b.first }) (record { is = b.desks; count = b.desks_count ∙ b.first })
+          seats desks front ended;
+    }

@@ -1,37 +1,25 @@
-use Rattle.std.proofs.Common.{length, sym, ap, subst, arith}
+use Rattle.std.proofs.Common.{sym, subst, arith}
 use Rattle.std.proofs.lemmas.List.{with_items_is}
-use Rattle.cluster_run.specs.Choosing.{HaveBegunFor, HaveChosen, MayChoose}
+use Rattle.cluster_run.specs.Choosing.{MayChoose}
 use Rattle.cluster_run.proofs.choosing.choose.Goals as goal
 
 pub fetch_and_choose-requires-clause-may : goal.fetch_and_choose-requires-clause-may
 fetch_and_choose-requires-clause-may g c κs within =
-    subst (MayChoose c.args.list.now c.args.script.now c.args.slot c.args.seats.now)
-    (sym c.as_mut_slice.ensures.value) c.requires.may
+    subst (λ es. MayChoose c.args.at.now c.args.seats.now es c.args.chosen.now) (sym c.as_mut_slice.ensures.value)
+    c.requires
 
 pub write_and_choose-requires-clause-may : goal.write_and_choose-requires-clause-may
 write_and_choose-requires-clause-may g c κs within =
-    subst (λ v. MayChoose c.args.list.now c.args.script.now c.args.slot c.args.seats.now v.items)
-    (sym c.replace-given.ensures.value) c.requires.may
+    subst (λ v. MayChoose c.args.at.now c.args.seats.now v.items c.args.chosen.now) (sym c.replace-given.ensures.value)
+    c.requires
 
-pub returns-then-is_empty-clause-count : goal.returns-then-is_empty-clause-count
-returns-then-is_empty-clause-count g c =
-    let after = with_items_is c.args.ends.now c.fetch_and_choose.new.ends
-    (omega (arith, c.fetch_and_choose.auto.ends, c.as_mut_slice.ensures.len)) in
-    omega (arith, ap length after, c.fetch_and_choose.ensures.count, ap length c.as_mut_slice.ensures.value)
+pub returns-then-is_empty : goal.returns-then-is_empty
+returns-then-is_empty g c =
+    rw (
+      with_items_is c.args.ends.now c.fetch_and_choose.new.ends
+          (omega (arith, c.fetch_and_choose.auto.ends, c.as_mut_slice.ensures.len)),
+      ← c.as_mut_slice.ensures.value,
+    ) c.in_ok-none.ensures
 
-pub returns-then-is_empty-clause-chooses : goal.returns-then-is_empty-clause-chooses
-returns-then-is_empty-clause-chooses g c = λ numbers begun.
-    let list = c.args.list.now in
-    let script = c.args.script.now in
-    let after = with_items_is c.args.ends.now c.fetch_and_choose.new.ends
-    (omega (arith, c.fetch_and_choose.auto.ends, c.as_mut_slice.ensures.len)) in
-    subst (HaveChosen list script numbers c.fetch_and_choose.new.chosen) (sym after)
-    (c.in_ok-none.ensures.chooses numbers
-    (subst (HaveBegunFor list script c.args.slot numbers c.args.seats.now) (sym c.as_mut_slice.ensures.value)
-    begun))
-
-pub returns-clause-chooses : goal.returns-clause-chooses
-returns-clause-chooses g c = λ numbers begun.
-    c.in_ok-given.ensures.chooses numbers
-    (subst (λ v. HaveBegunFor c.args.list.now c.args.script.now c.args.slot numbers c.args.seats.now v.items)
-    (sym c.replace-given.ensures.value) begun)
+pub returns : goal.returns
+returns g c = rw (← c.replace-given.ensures.value) c.in_ok-given.ensures

@@ -3,11 +3,11 @@ use Rattle.std.proofs.Math.ListN.{get_or-map}
 use Rattle.std.proofs.lemmas.List.{length-map}
 use Rattle.std.proofs.lemmas.Option.{slice_get_read}
 use Rattle.controller.specs.declared.seat.Seat.{Seat}
-use Rattle.controller.specs.PlantStands.{outcomes_of}
+use Rattle.controller.specs.PlantStands.{no_outcome, outcomes_of}
 use Rattle.cluster_run.specs.declared.nodes.Desk.{Desk}
-use Rattle.cluster_run.specs.Ending.{handed_on, number_handed}
+use Rattle.cluster_run.specs.Ending.{handed_on, number_handed, outcome_of}
 use Rattle.cluster_run.specs.Ends.{end_at, desk_ends}
-use Rattle.cluster_run.proofs.HandingOn.{handed_more}
+use Rattle.cluster_run.proofs.HandingOn.{handed_more, have_handed_on, no_desk}
 use Rattle.ttp_world.proofs.ListFacts.{at_any}
 use Rattle.cluster_run.proofs.ending.end_part.Goals as goal
 
@@ -24,13 +24,15 @@ hand_on-requires-clause-room g c κs within =
     let now_many = length-map desks (λ (d : Desk). d.end) in
     let ended = c.take_all.ensures.end may.history may.chosen may.planned may.carries in
     let seats = c.take_all.new.seats in
-    let seat_near : j < length seats = omega (arith, c.take_all.ensures.count, ready.count, so.count, c.loop-j-test.true) in
+    let seat_near : j < length seats = omega (arith, c.take_all.ensures.count, ready.count, so.changed.count, c.loop-j-test.true) in
     let there = slice_get_read seats (length seats) j c.index-seats-j.result refl seat_near c.index-seats-j.is in
     let left = ended.left.each j c.index-seats-j.result there in
     let end_is : (get_or desks j desk).end ≡ end_at (desk_ends old) j =
     sym (get_or-map (λ (d : Desk). d.end) desks j desk)
-    ∙ at_any (desk_ends desks) j desk.end [] (omega (arith, now_many, so.count, c.loop-j-test.true))
-    ∙ so.rest j (omega arith) in
+    ∙ at_any (desk_ends desks) j desk.end [] (omega (arith, now_many, so.changed.count, c.loop-j-test.true))
+    ∙ get_or-map (λ (d : Desk). d.end) desks j no_desk
+    ∙ ap (λ (d : Desk). d.end) (so.changed.rest j (omega arith))
+    ∙ sym (get_or-map (λ (d : Desk). d.end) old j no_desk) in
     let delivered_is = ap (λ (s : Seat). s.outcome.delivered) (sym c.index-seats-j.is) ∙ left.delivered in
     rw (end_is, delivered_is) (may.hands_on j (omega (arith, many, c.loop-j-test.true)))
 
@@ -40,19 +42,37 @@ loop-j-preserved g c =
     let so = c.loop-j.invariant in
     let seats = c.take_all.new.seats in
     let left = λ (s : Seat). s.outcome in
-    let outcome_near : j < length (outcomes_of seats) =
+    let near : j < length (outcomes_of seats) =
     omega (
       arith,
       length-map seats left,
       c.take_all.ensures.count,
       c.requires.count,
-      so.count,
+      so.changed.count,
       c.loop-j-test.true,
     ) in
-    let outcome_is = ap left c.index-seats-j.is ∙ sym (get_or-map left seats j c.index-seats-j.result) in
-    let is = c.hand_on.ensures.end
-    ∙ (λ t. handed_on (sym c.index-desks-j.is t).end (sym c.index-seats-j.is t).outcome) in
-    let number = c.hand_on.ensures.number
-    ∙ (λ t. number_handed (sym c.index-desks-j.is t).end (sym c.index-seats-j.is t).outcome.delivered) in
-    handed_more c.index-desks-j.result c.hand_on.new.desk c.index-seats-j.result.outcome so
-    (omega (arith, so.count, c.loop-j-test.true)) outcome_near c.index-desks-j.is outcome_is is number
+    let outcome : c.index-seats-j.result.outcome ≡ outcome_of (outcomes_of seats) j =
+    ap left c.index-seats-j.is ∙ sym (get_or-map left seats j c.index-seats-j.result)
+    ∙ at_any (outcomes_of seats) j c.index-seats-j.result.outcome no_outcome near in
+    handed_more c.index-desks-j.result c.hand_on.new.desk so (omega (arith, so.changed.count, c.loop-j-test.true))
+    c.index-desks-j.is
+    (record {
+      end_is =
+          c.hand_on.ensures.end
+          ∙ (λ t. handed_on (sym c.index-desks-j.is t).end (((λ i. (sym c.index-seats-j.is i).outcome) ∙ outcome) t));
+      number_is =
+          c.hand_on.ensures.number
+          ∙ (λ t. number_handed (sym c.index-desks-j.is t).end
+          (((λ i. (sym c.index-seats-j.is i).outcome) ∙ outcome) t).delivered);
+    })
+
+pub returns : goal.returns
+returns g c =
+    let so = c.loop-j.invariant in
+    record {
+      count = c.take_all.ensures.count;
+      seats_are = c.take_all.ensures.seats;
+      end = c.take_all.ensures.end;
+      rings = so.rings;
+      handed = have_handed_on (omega (arith, so.changed.count, c.loop-j-test.false)) so;
+    }

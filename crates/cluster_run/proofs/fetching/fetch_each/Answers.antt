@@ -1,10 +1,10 @@
-use Rattle.std.proofs.Common.{◌<◌, length, None, subst, sym, ap, ◌∙◌, arith}
+use Rattle.std.proofs.Common.{◌<◌, length, None, subst, sym, ◌∙◌, arith}
 use Rattle.std.specs.Prelude.{IsSome}
 use Rattle.std.proofs.lemmas.Option.{slice_get-get_or}
 use Rattle.ttp_world.specs.World.{is_loaded}
 use Rattle.controller.proofs.Parts.{each-of}
 use Rattle.cluster_run.specs.Sending.{MaySettleAfter}
-use Rattle.cluster_run.proofs.Alone.{fetched_more}
+use Rattle.cluster_run.proofs.Changes.{both_more}
 use Rattle.cluster_run.proofs.Settling.{plan_there}
 use Rattle.ttp_world.proofs.ListFacts.{at_any}
 use Rattle.ttp_world.proofs.WorldFacts.{payload_few}
@@ -15,12 +15,12 @@ fetch_for-requires-clause-ring g c κs within = λ loaded.
     let k = c.loop-k.k in
     let so = c.loop-k.invariant in
     let may = c.requires.may.lend in
-    let near : k < length c.loop-k.ends = omega (arith, so.ends_count, c.loop-k-test.true) in
+    let near : k < length c.loop-k.ends = omega (arith, so.first.count, c.loop-k-test.true) in
     let seat = slice_get-get_or c.args.seats.now k c.index-seats-k.result
-    (omega (arith, c.requires.seats, so.ends_count, near)) in
+    (omega (arith, c.requires.seats, so.first.count, near)) in
     let is = sym (c.is_loaded-loaded.ensures may.slot k (each-of may.begun k seat)) ∙ loaded in
-    subst IsSome (sym (so.ends_rest k (omega arith)) ∙ at_any c.loop-k.ends k None c.index-ends-k.result near)
-    (may.rings k (omega (arith, near, so.ends_count)) is)
+    subst IsSome (sym (so.first.rest k (omega arith)) ∙ at_any c.loop-k.ends k None c.index-ends-k.result near)
+    (may.rings k (omega (arith, near, so.first.count)) is)
 
 pub fetch_for-requires-clause-limit : goal.fetch_for-requires-clause-limit
 fetch_for-requires-clause-limit g c κs within =
@@ -32,25 +32,29 @@ fetch_for-requires-clause-may g c κs within =
     let so = c.loop-k.invariant in
     let list = c.args.list.now in
     let may = c.requires.may in
-    let near : k < length c.loop-k.ends = omega (arith, so.ends_count, c.loop-k-test.true) in
+    let near : k < length c.loop-k.ends = omega (arith, so.first.count, c.loop-k-test.true) in
     let seat = slice_get-get_or c.args.seats.now k c.index-seats-k.result
-    (omega (arith, c.requires.seats, so.ends_count, near)) in
+    (omega (arith, c.requires.seats, so.first.count, near)) in
     let loaded = c.is_loaded-loaded.ensures may.lend.slot k (each-of may.lend.begun k seat) in
-    let end = sym (so.ends_rest k (omega arith)) ∙ at_any c.loop-k.ends k None c.index-ends-k.result near in
+    let end = sym (so.first.rest k (omega arith)) ∙ at_any c.loop-k.ends k None c.index-ends-k.result near in
     rw (← plan_there list k c.get.result.now c.get.ensures, loaded)
-    (subst (MaySettleAfter _ (is_loaded may.lend.slot k)) end (may.settle k (omega (arith, near, so.ends_count))))
+    (subst (MaySettleAfter _ (is_loaded may.lend.slot k)) end (may.settle k (omega (arith, near, so.first.count))))
 
 pub loop-k-preserved : goal.loop-k-preserved
 loop-k-preserved g c =
     let k = c.loop-k.k in
     let so = c.loop-k.invariant in
-    let near : k < length c.loop-k.ends = omega (arith, so.ends_count, c.loop-k-test.true) in
+    let near : k < length c.loop-k.ends = omega (arith, so.first.count, c.loop-k-test.true) in
     let chosen_near : k < length c.loop-k.chosen =
-    omega (arith, so.chosen_count, so.ends_count, c.requires.chosen_count, near) in
+    omega (arith, so.second.count, so.first.count, c.requires.chosen_count, near) in
     let seat = slice_get-get_or c.args.seats.now k c.index-seats-k.result
-    (omega (arith, c.requires.seats, so.ends_count, near)) in
-    fetched_more c.is_loaded-loaded.result c.get.result.now.payload c.index-ends-k.result c.fetch_for.new.end
-    c.index-chosen-k.result c.fetch_for.new.chosen so near chosen_near c.index-ends-k.is
-    c.index-chosen-k.is (ap (λ p. p.payload) (plan_there c.args.list.now k c.get.result.now c.get.ensures))
-    (λ s begun. c.is_loaded-loaded.ensures s k (each-of begun k seat))
-    (rw (c.index-ends-k.is, c.index-chosen-k.is) c.in_ok-fetch_for.ensures.fetches)
+    (omega (arith, c.requires.seats, so.first.count, near)) in
+    both_more c.index-ends-k.result c.fetch_for.new.end c.index-chosen-k.result c.fetch_for.new.chosen so near chosen_near
+    c.index-ends-k.is c.index-chosen-k.is
+    (λ s begun.
+    rw (
+      plan_there c.args.list.now k c.get.result.now c.get.ensures,
+      ← c.is_loaded-loaded.ensures s k (each-of begun k seat),
+      c.index-ends-k.is,
+      c.index-chosen-k.is,
+    ) c.in_ok-fetch_for.ensures.fetches)

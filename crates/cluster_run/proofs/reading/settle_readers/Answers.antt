@@ -1,14 +1,16 @@
-use Rattle.std.proofs.Common.{◌≡◌, ◌+◌, ◌<◌, ◌∷◌, [], None, length, map, set, get_or, sym, ap, ◌∙◌, subst, arith}
+use Rattle.std.proofs.Common.{◌≡◌, ◌<◌, ◌∷◌, [], None, length, map, get_or, sym, ap, ◌∙◌, subst, arith}
 use Rattle.std.specs.Vec.Iter.{into_iter_items}
 use Rattle.std.proofs.Math.ListN.{get_or-map}
-use Rattle.std.proofs.lemmas.List.{length-map, map-append}
+use Rattle.std.proofs.lemmas.List.{length-append, length-map, map-append}
 use Rattle.host_port.specs.Reading.{AreReadersOfEnd}
 use Rattle.host_port.specs.Rings.{ControllerState}
 use Rattle.cluster_run.specs.declared.nodes.Desk.{Desk}
-use Rattle.cluster_run.specs.Ends.{end_at, desk_ends}
-use Rattle.cluster_run.specs.Reading.{SettlesReadsOf}
+use Rattle.cluster_run.specs.Ends.{desk_ends, end_at}
+use Rattle.cluster_run.specs.Reading.{AreLinesBy, SettlesReadsOf}
+use Rattle.cluster_run.proofs.Changes.{changed_more}
+use Rattle.cluster_run.proofs.HandingOn.{no_desk}
 use Rattle.cluster_run.proofs.Places.{read_alike}
-use Rattle.cluster_run.proofs.SettledReaders.{AreReadersSettled, readers_settled}
+use Rattle.cluster_run.proofs.SettledReaders.{are_settled, queued_more}
 use Rattle.ttp_world.proofs.ListFacts.{at_any}
 use Rattle.cluster_run.proofs.reading.settle_readers.Goals as goal
 
@@ -18,20 +20,20 @@ settle_one-requires c = record {
       let k = c.loop-k.k in
       let readers = c.loop-k.readers.items in
       let so = c.loop-k.invariant.settled in
-      let ends = desk_ends c.loop-k.desks in
+      let old = c.args.desks.now in
       let desk = c.index-desks-k.result in
-      let many = length-map c.loop-k.desks (λ (d : Desk). d.end) in
-      let old_many = length-map c.args.desks.now (λ (d : Desk). d.end) in
-      let given = c.requires.own.count in
-      let near : k < length readers = omega (arith, so.readers_count, given, old_many, c.loop-k-test.true) in
-      let end : (get_or c.loop-k.desks k desk).end ≡ end_at (desk_ends c.args.desks.now) k =
-      sym (get_or-map (λ (d : Desk). d.end) c.loop-k.desks k desk)
-      ∙ at_any ends k desk.end [] (omega (arith, many, so.count, c.loop-k-test.true))
-      ∙ so.ends_rest k (omega arith) in
-      subst (λ (e : ControllerState). AreReadersOfEnd e x) (sym end)
-      (c.requires.own.own k (omega (arith, old_many, c.loop-k-test.true)) x
+      let end = λ (d : Desk). d.end in
+      let many = length-map old end in
+      let now : k < length c.loop-k.desks = omega (arith, so.desks_are.count, c.loop-k-test.true) in
+      let near : k < length readers =
+      omega (arith, so.readers_are.count, c.requires.own.count, many, so.desks_are.count, c.loop-k-test.true) in
+      let end_is : (get_or c.loop-k.desks k desk).end ≡ end_at (desk_ends old) k =
+      ap end (at_any c.loop-k.desks k desk no_desk now ∙ so.desks_are.rest k (omega arith))
+      ∙ sym (get_or-map end old k no_desk) in
+      subst (λ (e : ControllerState). AreReadersOfEnd e x) (sym end_is)
+      (c.requires.own.own k (omega (arith, many, so.desks_are.count, now)) x
       (sym (c.index_mut.ensures.value ∙ at_any readers k c.index_mut.result.now None near
-      ∙ so.readers_rest k (omega arith))
+      ∙ so.readers_are.rest k (omega arith))
       ∙ sym c.take-own.ensures.value ∙ is));
 }
 
@@ -48,27 +50,48 @@ loop-k-preserved c =
     let readers = c.loop-k.readers.items in
     let so = c.loop-k.invariant.settled in
     let desk = c.index-desks-k.result in
-    let was = get_or c.loop-k.desks k desk in
-    let new : Desk = record was { end = c.settle_one.new.end } in
-    let old_many = length-map c.args.desks.now (λ (d : Desk). d.end) in
-    let given = c.requires.own.count in
-    let reader_near : k < length readers = omega (arith, so.readers_count, given, old_many, c.loop-k-test.true) in
+    let new : Desk = record (get_or c.loop-k.desks k desk) { end = c.settle_one.new.end } in
+    let many = length-map c.args.desks.now (λ (d : Desk). d.end) in
+    let near : k < length readers =
+    omega (arith, so.readers_are.count, c.requires.own.count, many, so.desks_are.count, c.loop-k-test.true) in
+    let own = c.take-own.ensures.value ∙ c.index_mut.ensures.value ∙ at_any readers k c.index_mut.result.now None near
+    ∙ so.readers_are.rest k (omega arith) in
     let ok = c.in_ok-settle_one.ensures in
-    let lines = c.in_ok-settle_one.field-0 in
+    let queue = into_iter_items c.in_ok-settle_one.field-0 in
+    let queues = ap (map into_iter_items) c.push_reserved.ensures.items
+    ∙ map-append into_iter_items c.loop-k.queues.items (c.in_ok-settle_one.field-0 ∷ []) in
     record {
-      settled =
-          subst (λ qs. AreReadersSettled (k + 1) c.args.readers.items
-          (set readers k c.take-own.new.self) c.args.desks.now (set c.loop-k.desks k new) qs)
-          (sym (ap (map into_iter_items) c.push_reserved.ensures.items
-          ∙ map-append into_iter_items c.loop-k.queues.items (lines ∷ [])))
-          (readers_settled k c.args.readers.items readers c.args.desks.now c.loop-k.desks
-          (map into_iter_items c.loop-k.queues.items) c.take-own.result c.take-own.new.self desk new
-          (into_iter_items lines) so (omega (arith, so.count, c.loop-k-test.true))
-          (c.take-own.ensures.value ∙ c.index_mut.ensures.value
-          ∙ at_any readers k c.index_mut.result.now None reader_near)
-          c.index-desks-k.is (ap (λ (d : Desk). d.delivered) (sym c.index-desks-k.is))
-          (subst (λ (e : ControllerState). SettlesReadsOf e c.take-own.result c.settle_one.new.end)
-          (sym (ap (λ (d : Desk). d.end) c.index-desks-k.is)) ok.settles)
-          ok.lines);
+      settled = record {
+        numbers =
+            read_alike (λ (d : Desk). d.delivered) c.loop-k.desks k desk new c.index-desks-k.is
+            (ap (λ (d : Desk). d.delivered) (sym c.index-desks-k.is))
+            ∙ so.numbers;
+        desks_are =
+            changed_more desk new so.desks_are (omega (arith, so.desks_are.count, c.loop-k-test.true)) c.index-desks-k.is
+            (subst (λ o. SettlesReadsOf desk.end o new.end) own
+            (subst (λ (e : ControllerState). SettlesReadsOf e c.take-own.result c.settle_one.new.end)
+            (sym (ap (λ (d : Desk). d.end) c.index-desks-k.is)) ok.settles));
+        readers_are =
+            changed_more c.index_mut.result.now c.take-own.new.self so.readers_are near c.index_mut.ensures.value tt;
+        queues_are =
+            rw queues
+            (queued_more c.args.readers.items (map into_iter_items c.loop-k.queues.items) queue so.queues_count so.queues_are
+            (subst (λ o. AreLinesBy k o queue) own ok.lines));
+        queues_count =
+            ap length queues ∙ length-append (map into_iter_items c.loop-k.queues.items) (queue ∷ [])
+            ∙ (omega (arith, so.queues_count));
+      };
       room = c.push_reserved.ensures.capacity ∙ c.loop-k.invariant.room;
     }
+
+pub returns-clause-settles : goal.returns-clause-settles
+returns-clause-settles c =
+    let so = c.loop-k.invariant.settled in
+    are_settled
+    (omega (
+      arith,
+      c.requires.own.count,
+      length-map c.args.desks.now (λ (d : Desk). d.end),
+      so.desks_are.count,
+      c.loop-k-test.false,
+    )) so

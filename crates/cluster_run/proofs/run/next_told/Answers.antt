@@ -7,23 +7,20 @@ pub told-requires : goal.told-requires
 told-requires g c =
     let course = c.args.course.now in
     let said = c.in-Ok.ensures in
-    let told = told_next course c.args.at.now c.slot.new.self c.requires.within c.requires.slot said.steps said.bytes said.done in
-    (c.requires.follows.0, cluster_at course c.args.at.now, cluster_at course c.slot.new.self, told, c.requires.follows.1)
+    let told = told_next course c.args.at.now c.slot.new.self c.requires.may.within c.requires.slot said.steps said.bytes said.done in
+    (c.requires.may.start, cluster_at course c.args.at.now, cluster_at course c.slot.new.self, told, c.requires.may.followed)
 
-pub returns-clause-ok : goal.returns-clause-ok
-returns-clause-ok g c =
-    let course = c.args.course.now in
+pub returns-clause-runs : goal.returns-clause-runs
+returns-clause-runs g c =
+    let old = cluster_at c.args.course.now c.args.at.now in
+    let new = cluster_at c.args.course.now c.slot.new.self in
     let said = c.in-Ok.ensures in
-    let told = told_next course c.args.at.now c.slot.new.self c.requires.within c.requires.slot said.steps said.bytes said.done in
-    on_ok_weaker c.told.result
-    (λ ok start follows. ok start (cluster_at course c.args.at.now) (cluster_at course c.slot.new.self) told follows)
-    c.told.ensures.ok
-
-pub returns-clause-fault : goal.returns-clause-fault
-returns-clause-fault g c =
-    let course = c.args.course.now in
-    let said = c.in-Ok.ensures in
-    let told = told_next course c.args.at.now c.slot.new.self c.requires.within c.requires.slot said.steps said.bytes said.done in
-    IfErr-weaker c.told.result _ _
-    (λ fault left start follows. left start (cluster_at course c.args.at.now) (cluster_at course c.slot.new.self) told follows)
-    c.told.ensures.fault
+    let told = told_next c.args.course.now c.args.at.now c.slot.new.self c.requires.may.within c.requires.slot said.steps
+    said.bytes said.done in
+    record {
+      within = c.slot.ensures.within;
+      ok = on_ok_weaker c.told.result (λ ok start follows. ok start old new told follows) c.told.ensures.ok;
+      fault =
+          IfErr-weaker c.told.result _ _ (λ fault left start follows. left start old new told follows)
+          c.told.ensures.fault;
+    }

@@ -2,8 +2,9 @@ use Rattle.std.proofs.Common.{◌≡◌, ◌<◌, length, get_or, None, subst, s
 use Rattle.ttp_world.specs.Medl.{plan_at}
 use Rattle.host_port.specs.Reading.{settled, IsSettled}
 use Rattle.host_port.specs.Rings.{HostState}
-use Rattle.cluster_run.specs.Sending.{MaySettle, choice_of}
-use Rattle.cluster_run.proofs.Settling.{plan_there, settled_more}
+use Rattle.cluster_run.specs.Sending.{MaySettle, SettlesFetch, choice_of}
+use Rattle.cluster_run.proofs.Changes.{both_more, changed_more}
+use Rattle.cluster_run.proofs.Settling.{plan_there}
 use Rattle.ttp_world.proofs.ListFacts.{at_any}
 use Rattle.ttp_world.proofs.WorldFacts.{payload_few}
 use Rattle.cluster_run.proofs.sending.settle_fetchers.Goals as goal
@@ -16,40 +17,44 @@ pub settle_one-requires-clause-fetcher : goal.settle_one-requires-clause-fetcher
 settle_one-requires-clause-fetcher c = λ x is.
     let k = c.loop-k.k in
     let so = c.loop-k.invariant in
-    let fetchers = c.loop-k.fetchers.items in
-    let near : k < length fetchers =
-    omega (arith, so.fetchers_count, so.ends_count, c.requires.fetchers_count, c.loop-k-test.true) in
+    let here : k < length c.args.ends.now = omega (arith, so.settled.first.count, c.loop-k-test.true) in
+    let near : k < length c.loop-k.fetchers.items =
+    omega (arith, so.taken.count, c.requires.fetchers_count, here) in
     let was : get_or c.args.fetchers.items k None ≡ _ =
-    sym (c.index_mut.ensures.value ∙ at_any fetchers k c.index_mut.result.now None near
-    ∙ so.fetchers_rest k (omega arith))
+    sym (c.index_mut.ensures.value ∙ at_any c.loop-k.fetchers.items k c.index_mut.result.now None near
+    ∙ so.taken.rest k (omega arith))
     ∙ sym c.take-fetcher.ensures.value ∙ is in
-    let here : k < length c.loop-k.ends = omega (arith, so.ends_count, c.loop-k-test.true) in
-    let end = at_any c.loop-k.ends k c.index-ends-k.result None here
-    ∙ so.ends_rest k (omega arith) in
+    let now : k < length c.loop-k.ends = omega (arith, so.settled.first.count, c.loop-k-test.true) in
     rw (← plan_there c.args.list.now k c.get.result.now c.get.ensures)
-    (subst (λ (e : HostState). MaySettle e (plan_at c.args.list.now k).payload x) (sym end)
-    (c.requires.fetchers k (omega (arith, so.ends_count, c.loop-k-test.true)) x was))
+    (subst (λ (e : HostState). MaySettle e (plan_at c.args.list.now k).payload x)
+    (sym (at_any c.loop-k.ends k c.index-ends-k.result None now ∙ so.settled.first.rest k (omega arith)))
+    (c.requires.fetchers k here x was))
 
 pub loop-k-preserved : goal.loop-k-preserved
 loop-k-preserved c =
     let k = c.loop-k.k in
     let so = c.loop-k.invariant in
     let fetchers = c.loop-k.fetchers.items in
-    let near : k < length fetchers =
-    omega (arith, so.fetchers_count, so.ends_count, c.requires.fetchers_count, c.loop-k-test.true) in
-    let chosen_near : k < length c.loop-k.chosen =
-    omega (arith, so.chosen_count, so.ends_count, c.requires.chosen_count, c.loop-k-test.true) in
+    let here : k < length c.args.ends.now = omega (arith, so.settled.first.count, c.loop-k-test.true) in
+    let now : k < length c.loop-k.ends = omega (arith, so.settled.first.count, c.loop-k-test.true) in
+    let near : k < length fetchers = omega (arith, so.taken.count, c.requires.fetchers_count, here) in
+    let chosen_near : k < length c.loop-k.chosen = omega (arith, so.settled.second.count, c.requires.chosen_count, here) in
     let fetcher = c.take-fetcher.ensures.value ∙ c.index_mut.ensures.value
-    ∙ at_any fetchers k c.index_mut.result.now None near in
+    ∙ at_any fetchers k c.index_mut.result.now None near ∙ so.taken.rest k (omega arith) in
     let plan = plan_there c.args.list.now k c.get.result.now c.get.ensures in
     let end = sym c.index-ends-k.is in
-    settled_more c.take-fetcher.new.self c.take-fetcher.result c.index-ends-k.result c.settle_one.new.end
-    c.index-chosen-k.result c.settle_one.new.chosen so near
-    (omega (arith, so.ends_count, c.loop-k-test.true)) chosen_near fetcher
-    c.index-ends-k.is c.index-chosen-k.is (record {
-      whole = subst (λ (e : HostState). IsSettled e c.take-fetcher.result) end c.settle_one.ensures.whole;
-      settled_is = c.settle_one.ensures.settled ∙ ap (λ e. settled e c.take-fetcher.result) end;
-      choice_is =
-          c.settle_one.ensures.chosen
-          ∙ (λ t. choice_of c.take-fetcher.result (sym plan t).payload (sym c.index-chosen-k.is t));
-    })
+    record {
+      taken = changed_more c.index_mut.result.now c.take-fetcher.new.self so.taken near c.index_mut.ensures.value tt;
+      settled =
+          both_more c.index-ends-k.result c.settle_one.new.end c.index-chosen-k.result c.settle_one.new.chosen so.settled
+          now chosen_near c.index-ends-k.is c.index-chosen-k.is
+          (subst (λ f. SettlesFetch (plan_at c.args.list.now k).payload f c.index-ends-k.result c.settle_one.new.end
+          c.index-chosen-k.result c.settle_one.new.chosen) fetcher
+          (record {
+            whole = subst (λ (e : HostState). IsSettled e c.take-fetcher.result) end c.settle_one.ensures.whole;
+            settled_is = c.settle_one.ensures.settled ∙ ap (λ e. settled e c.take-fetcher.result) end;
+            choice_is =
+                c.settle_one.ensures.chosen
+                ∙ (λ t. choice_of c.take-fetcher.result (sym plan t).payload (sym c.index-chosen-k.is t));
+          }));
+    }

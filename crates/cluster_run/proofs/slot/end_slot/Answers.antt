@@ -1,13 +1,21 @@
 use Rattle.std.proofs.Common.{length, sym, ◌∙◌}
 use Rattle.std.proofs.lemmas.Bool.{eqb-true}
-use Rattle.cluster_run.proofs.QuietReads.{no_items, none_read}
+use Rattle.cluster_run.proofs.LineOrder.{nothing_left}
+use Rattle.cluster_run.proofs.QuietReads.{none_read}
+use Rattle.cluster_run.proofs.SlotParts.{ends_slot, part_ready}
 use Rattle.cluster_run.proofs.slot.end_slot.Goals as goal
+
+pub end_unread-requires-after_bounds : goal.end_unread-requires-after_bounds
+end_unread-requires-after_bounds g c κs within = part_ready c.args.at.now c.args.nodes.now c.requires
+
+pub returns-then-is_empty-clause-ends : goal.returns-then-is_empty-clause-ends
+returns-then-is_empty-clause-ends g c = ends_slot c.args.at.now _ _ c.requires.are c.end_unread.ensures
 
 pub returns-then-is_empty-clause-tells : goal.returns-then-is_empty-clause-tells
 returns-then-is_empty-clause-tells g c =
     rw c.new.ensures
-    (none_read c.args.list.now c.args.script.now c.args.slot c.args.nodes.now c.end_unread.new.nodes
+    (none_read c.args.at.now c.args.nodes.now c.end_unread.new.nodes
     (sym c.reads-reads.ensures
-    ∙ no_items c.reads-reads.result.now
+    ∙ nothing_left c.reads-reads.result.now
     (eqb-true (length c.reads-reads.result.now) 0 (sym c.is_empty.ensures ∙ c.if-is_empty.true)))
-    c.end_unread.ensures.handed)
+    c.end_unread.ensures.ended.handed)

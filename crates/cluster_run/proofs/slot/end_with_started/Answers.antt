@@ -16,5 +16,4 @@ returns-clause-read g c =
     let readers = with_items_is c.args.readers new
     (omega (arith, c.end_started.auto.readers, c.as_mut_slice.ensures.len)) in
     rw readers
-    (subst (λ rs. HaveReadBy c.args.reads.now rs new) c.as_mut_slice.ensures.value
-    (record { rings = c.end_started.ensures.rings; read = c.end_started.ensures.reads }))
+    (subst (λ rs. HaveReadBy c.args.reads.now rs new) c.as_mut_slice.ensures.value c.end_started.ensures.read)

@@ -11,7 +11,6 @@ returns-in-Read g c =
     let new = c.read_all.new.readers in
     let left = with_items_is readers new (omega (arith, c.read_all.auto.readers, c.as_mut_slice.ensures.len)) in
     let read : HaveReadBy c.in-Read.reads.now readers.items new =
-    subst (λ rs. HaveReadBy c.in-Read.reads.now rs new) c.as_mut_slice.ensures.value
-    (record { rings = c.read_all.ensures.rings; read = c.read_all.ensures.reads }) in
+    subst (λ rs. HaveReadBy c.in-Read.reads.now rs new) c.as_mut_slice.ensures.value c.read_all.ensures in
     subst (λ given. HaveHostsDone given (job.Read c.in-Read.reads (with_items readers new))) (sym c.in-Read.is)
     (subst (λ rs. HaveReadBy c.in-Read.reads.now readers.items rs) (sym left) read)

@@ -1,0 +1,54 @@
+-- Lists that a loop changes place by place.
+use Rattle.std.proofs.Common.{◌≡◌, ℕ, ◌+◌, ◌<◌, ◌≤◌, List, length, set, get_or, ◌∙◌, below_more, arith}
+use Rattle.std.proofs.lemmas.List.{length-set, get_or-set_same, get_or-set_other}
+use Rattle.ttp_world.proofs.ListFacts.{at_any}
+
+-- So it is at the first places, so many, between what was there and what is, and the others are as they were.
+pub record AreChanged {A : Type 0} (P : ℕ → A → A → Type 0) (d : A) (k : ℕ) (old now : List A) : Type 0 where
+  pub count : length now ≡ length old
+  pub done : (j : ℕ) → j < k → P j (get_or old j d) (get_or now j d)
+  pub rest : (j : ℕ) → k ≤ j → get_or now j d ≡ get_or old j d
+
+-- and at one more
+pub changed_more : {A : Type 0} {P : ℕ → A → A → Type 0} {d : A} {k : ℕ} {old now : List A} (x new : A)
+    → AreChanged P d k old now → k < length now → x ≡ get_or now k x → P k x new
+    → AreChanged P d (k + 1) old (set now k new)
+changed_more {P = P} {d = d} {k = k} {old = old} {now = now} x new so near here by =
+    let was : x ≡ get_or old k d = here ∙ at_any now k x d near ∙ so.rest k (omega arith) in
+    record {
+      count = length-set now k new ∙ so.count;
+      done =
+          below_more (λ j. P j (get_or old j d) (get_or (set now k new) j d)) k
+          (λ j earlier. rw (get_or-set_other now k j new d (omega arith)) (so.done j earlier))
+          (rw (← was, get_or-set_same now k new d near) by);
+      rest = λ j later. get_or-set_other now k j new d (omega arith) ∙ so.rest j (omega arith);
+    }
+
+-- The same of two lists.
+pub record AreBothChanged {A B : Type 0} (P : ℕ → A → A → B → B → Type 0) (d : A) (e : B) (k : ℕ) (old now : List A)
+    (was is : List B) : Type 0 where
+  pub first : AreChanged (λ j x y. Unit {0}) d k old now
+  pub second : AreChanged (λ j x y. Unit {0}) e k was is
+  pub done : (j : ℕ) → j < k → P j (get_or old j d) (get_or now j d) (get_or was j e) (get_or is j e)
+
+pub both_more : {A B : Type 0} {P : ℕ → A → A → B → B → Type 0} {d : A} {e : B} {k : ℕ} {old now : List A}
+    {was is : List B} (x new : A) (y next : B) → AreBothChanged P d e k old now was is → k < length now → k < length is
+    → x ≡ get_or now k x → y ≡ get_or is k y → P k x new y next
+    → AreBothChanged P d e (k + 1) old (set now k new) was (set is k next)
+both_more {P = P} {d = d} {e = e} {k = k} {old = old} {now = now} {was = was} {is = is} x new y next so near near' here
+    here' by = record {
+      first = changed_more x new so.first near here tt;
+      second = changed_more y next so.second near' here' tt;
+      done =
+          below_more
+          (λ j. P j (get_or old j d) (get_or (set now k new) j d) (get_or was j e) (get_or (set is k next) j e)) k
+          (λ j earlier.
+          rw (get_or-set_other now k j new d (omega arith), get_or-set_other is k j next e (omega arith))
+          (so.done j earlier))
+          (rw (
+            ← (here ∙ at_any now k x d near ∙ so.first.rest k (omega arith)),
+            ← (here' ∙ at_any is k y e near' ∙ so.second.rest k (omega arith)),
+            get_or-set_same now k new d near,
+            get_or-set_same is k next e near',
+          ) by);
+    }
