@@ -1,6 +1,6 @@
 -- Clocks and bits of a script that keeps the rules on them.
-use Rattle.std.proofs.Common.{◌≡◌, ℕ, ◌<◌, ◌≤ℤ◌, Bool, true, false, cond, not, List, [], ◌∷◌, length}
-use Rattle.std.proofs.Common.{Option, Some, None, inl, inr, refl, sym, arith}
+use Rattle.std.proofs.Common.{◌≡◌, ℕ, ◌<◌, ◌≤ℤ◌, Bool, true, false, cond, not, List, [], ◌∷◌, length, Option, Some}
+use Rattle.std.proofs.Common.{None, inl, inr, refl, sym, arith}
 use Rattle.std.specs.Prelude.{int_le, is_some, find}
 use Rattle.std.specs.List.{AllByRecursion, list_any, filter_map}
 use Rattle.std.proofs.lemmas.Bool.{not-false, and_parts, false_from_ne_true, both_ways, or_cases, or_left, or_right}
@@ -13,11 +13,11 @@ use Rattle.ttp_world.specs.declared.script.Channel.{Channel}
 use Rattle.ttp_world.specs.declared.script.Event.{Event}
 use Rattle.ttp_world.specs.declared.script.Event.TheVariants as event
 use Rattle.ttp_world.specs.declared.script.Script.{Script}
-use Rattle.ttp_world.specs.Hypothesis.{drifts_hold, errors_hold_in, clocks_broken, window_broken, needed}
-use Rattle.ttp_world.specs.Hypothesis.{outside_slot, outside_broken, is_far_jump, is_allowed_jump, is_within_bound}
-use Rattle.ttp_world.specs.Hypothesis.{has_jumped_before, is_jump_before}
-use Rattle.ttp_world.specs.Script.{arms, is_armed, flipped_bit, jump_in, jump_of, has_jump}
-use Rattle.ttp_world.specs.Script.{drift_of, reading_error, flipped_bits}
+use Rattle.ttp_world.specs.Hypothesis.{drifts_hold, errors_hold_in, clocks_broken, window_broken, needed, outside_slot}
+use Rattle.ttp_world.specs.Hypothesis.{outside_broken, is_far_jump, is_allowed_jump, is_within_bound, has_jumped_before}
+use Rattle.ttp_world.specs.Hypothesis.{is_jump_before}
+use Rattle.ttp_world.specs.Script.{arms, is_armed, flipped_bit, jump_in, jump_of, has_jump, drift_of, reading_error}
+use Rattle.ttp_world.specs.Script.{flipped_bits}
 use Rattle.ttp_world.proofs.Jumps.{each-none, allowed-jump, no_jump-sum}
 use Rattle.fault_plan.specs.Kept.{IsWithinBounds}
 use Rattle.fault_plan.proofs.Sieves.{none-found}

@@ -3,8 +3,8 @@ use Rattle.std.proofs.Common.{◌≡◌, ℕ, Bool, true, false, cond, not, ◌&
 use Rattle.std.proofs.lemmas.Bool.{both_ways, and_parts}
 use Rattle.std.specs.Prelude.{◌==◌}
 use Rattle.fault_plan.specs.Plan.{Change, Incident, Plan, sender, incident_at, is_armed_by, enters}
-use Rattle.fault_plan.specs.Fates.{Fate, Absent, Sound, Falling, Fallen, Listening, armed_in, entered_in, struck, turned}
-use Rattle.fault_plan.specs.Fates.{next_fate, is_sound, is_lost, lost_since}
+use Rattle.fault_plan.specs.Fates.{Fate, Absent, Sound, Falling, Fallen, Listening, armed_in, entered_in, struck}
+use Rattle.fault_plan.specs.Fates.{turned, next_fate, is_sound, is_lost, lost_since}
 use Rattle.ttp_world.proofs.SmallTests.{and-true}
 
 -- an incident is that of a node

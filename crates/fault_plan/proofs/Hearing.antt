@@ -1,19 +1,17 @@
 -- Who hears whom in a slot of a script that keeps the single-fault hypothesis, and whom the slot makes faulty.
 use Rattle.std.proofs.Common.{◌≡◌, ◌≢◌, ℕ, suc, ◌+◌, ◌-◌, ◌%◌, ◌<◌, ◌≤◌, Bool, true, false, cond, not, ◌&&◌, ◌||◌, List}
-use Rattle.std.proofs.Common.{[]}
-use Rattle.std.proofs.Common.{◌∷◌, ◌++◌, length, Option, Some, None, ◌⊎◌, refl, ap, sym, subst, ◌∙◌, inl, inr, mod-lt}
-use Rattle.std.proofs.Common.{arith}
+use Rattle.std.proofs.Common.{[], ◌∷◌, ◌++◌, length, Option, Some, None, ◌⊎◌, refl, ap, sym, subst, ◌∙◌, inl, inr}
+use Rattle.std.proofs.Common.{mod-lt, arith}
 use Rattle.std.specs.Prelude.{◌==◌, nat_lt, is_some}
 use Rattle.std.specs.List.{AllByRecursion}
-use Rattle.std.proofs.lemmas.Bool.{ne_eqb, both_ways, or_parts, or_from, not-true, and_parts}
-use Rattle.std.proofs.lemmas.Bool.{and_from, leb-true, le-leb, le-ltb, false_from_ne_true, not_from_false, eq-eqb}
+use Rattle.std.proofs.lemmas.Bool.{ne_eqb, both_ways, or_parts, or_from, not-true, and_parts, and_from, leb-true}
+use Rattle.std.proofs.lemmas.Bool.{le-leb, le-ltb, false_from_ne_true, not_from_false, eq-eqb}
 use Rattle.std.proofs.lemmas.Option.{none-some, same_Some}
 use Rattle.ttp_base.specs.NodeSet.{has_node}
 use Rattle.ttp_world.specs.declared.medl.Medl.{Medl}
 use Rattle.ttp_world.specs.declared.script.Script.{Script}
-use Rattle.ttp_world.specs.Hypothesis.{ClusterStart, Loss, Harmless, Makes, Breaks, nodes_made, is_breaking}
-use Rattle.ttp_world.specs.Hypothesis.{loses, is_other, sender_loss, loss_in, expected_sender, jumps_now}
-use Rattle.ttp_world.specs.Hypothesis.{jumpers_in}
+use Rattle.ttp_world.specs.Hypothesis.{ClusterStart, Loss, Harmless, Makes, Breaks, nodes_made, is_breaking, loses}
+use Rattle.ttp_world.specs.Hypothesis.{is_other, sender_loss, loss_in, expected_sender, jumps_now, jumpers_in}
 use Rattle.ttp_world.specs.Script.{is_on, is_ever_on, on_slot, has_come, has_jump}
 use Rattle.ttp_world.proofs.Filters.{each-sieve}
 use Rattle.fault_plan.specs.Plan.{Sending, Receiving, Jumping, Incident, sender, incident_at, planned_incident}

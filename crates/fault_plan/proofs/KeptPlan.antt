@@ -1,8 +1,7 @@
 -- The plan of a script that keeps the single-fault hypothesis is good, and the script keeps to it.
 use Rattle.std.proofs.Common.{◌≡◌, ◌≢◌, ℕ, zero, suc, ◌+◌, ◌-◌, ◌*◌, ◌<◌, ◌≤◌, Bool, true, false, cond, not, ◌&&◌, ◌||◌}
-use Rattle.std.proofs.Common.{List, []}
-use Rattle.std.proofs.Common.{◌∷◌, ◌++◌, length, Option, Some, None, option_map, is_some, refl, ap, sym, subst, ◌∙◌}
-use Rattle.std.proofs.Common.{inl, inr, arith}
+use Rattle.std.proofs.Common.{List, [], ◌∷◌, ◌++◌, length, Option, Some, None, option_map, is_some, refl, ap, sym}
+use Rattle.std.proofs.Common.{subst, ◌∙◌, inl, inr, arith}
 use Rattle.std.specs.Prelude.{◌==◌}
 use Rattle.std.specs.List.{AllByRecursion, filter}
 use Rattle.std.proofs.lemmas.Bool.{leb-true, not-false, or_parts, eqb-false, ne_eqb, eq-eqb}
@@ -12,9 +11,8 @@ use Rattle.ttp_base.proofs.NodeSets.{has_node-sieve, same_sieve}
 use Rattle.ttp_world.specs.declared.keep.Keep.TheVariants as keep
 use Rattle.ttp_world.specs.declared.medl.Medl.{Medl}
 use Rattle.ttp_world.specs.declared.script.Script.{Script}
-use Rattle.ttp_world.specs.Hypothesis.{loses}
-use Rattle.ttp_world.specs.Hypothesis.{ClusterStart, FaultyNode, numbers_of, faulty_nodes_before, faulty_nodes_after}
-use Rattle.ttp_world.specs.Hypothesis.{started_faulty_nodes, start_of, is_steady, breaks_in}
+use Rattle.ttp_world.specs.Hypothesis.{loses, ClusterStart, FaultyNode, numbers_of, faulty_nodes_before}
+use Rattle.ttp_world.specs.Hypothesis.{faulty_nodes_after, started_faulty_nodes, start_of, is_steady, breaks_in}
 use Rattle.ttp_world.specs.Hypothesis.{has_four_steady, lacks_steady_after, keeps}
 use Rattle.ttp_world.specs.Medl.{IsValid, plan_at, may_start}
 use Rattle.ttp_world.specs.Script.{is_on, is_ever_on, on_slot}
@@ -27,8 +25,7 @@ use Rattle.fault_plan.specs.Kept.{IsPlanOfFaults, FollowsPlan, KeepsByPlan}
 use Rattle.fault_plan.proofs.Bounds.{none-armed, none-flipped, within-bounds}
 use Rattle.fault_plan.proofs.FateSteps.{since-kept, since-now}
 use Rattle.fault_plan.proofs.FaultySets.{two_rounds, AreOnBy, IsSingleFault, faulty_before, makes-slot, strikes-slot}
-use Rattle.fault_plan.proofs.FaultySets.{faulty-early}
-use Rattle.fault_plan.proofs.FaultySets.{some-rounds, fates-known}
+use Rattle.fault_plan.proofs.FaultySets.{faulty-early, some-rounds, fates-known}
 use Rattle.fault_plan.proofs.Hearing.{on-ever, on-since, origin-of}
 use Rattle.fault_plan.proofs.Incidents.{found-tells, late-found, apart-found}
 use Rattle.fault_plan.proofs.Members.{first-sender, first-good}

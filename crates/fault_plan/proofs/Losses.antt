@@ -1,10 +1,9 @@
 -- What the loss of a slot tells of the other nodes.
-use Rattle.std.proofs.Common.{◌≡◌, ℕ, ◌<◌, Bool, true, false, cond, not, ◌||◌, List, []}
-use Rattle.std.proofs.Common.{◌∷◌, length, ◌⊎◌, refl, ap, sym, subst, ◌∙◌, inl, inr, arith}
+use Rattle.std.proofs.Common.{◌≡◌, ℕ, ◌<◌, Bool, true, false, cond, not, ◌||◌, List, [], ◌∷◌, length, ◌⊎◌, refl, ap}
+use Rattle.std.proofs.Common.{sym, subst, ◌∙◌, inl, inr, arith}
 use Rattle.std.specs.Prelude.{◌==◌, if◌then◌else◌}
 use Rattle.std.specs.List.{AllByRecursion, filter}
-use Rattle.std.proofs.lemmas.Bool.{eqb-true, both_ways, or_parts, and_parts, not-false, eq-eqb}
-use Rattle.std.proofs.lemmas.Bool.{and_from}
+use Rattle.std.proofs.lemmas.Bool.{eqb-true, both_ways, or_parts, and_parts, not-false, eq-eqb, and_from}
 use Rattle.ttp_base.specs.NodeSet.{has_node}
 use Rattle.ttp_base.proofs.NodeSets.{has_node-sieve, has_node-filter}
 use Rattle.ttp_world.specs.declared.medl.Medl.{Medl}

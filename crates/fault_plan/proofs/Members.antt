@@ -1,13 +1,12 @@
 -- Who is a member by a good plan.
 use Rattle.std.proofs.Common.{◌≡◌, ◌≢◌, ℕ, zero, suc, ◌+◌, ◌%◌, ◌<◌, ◌≤◌, Bool, true, false, cond, not, ◌&&◌, ◌||◌}
-use Rattle.std.proofs.Common.{refl, ap, sym, subst, ◌∙◌, inl, inr, mod-lt, arith}
+use Rattle.std.proofs.Common.{refl, ap, sym, subst, ◌∙◌, inl, inr, mod-lt, arith, List, [], ◌∷◌, Option, Some, None}
 use Rattle.std.specs.Prelude.{◌==◌}
 use Rattle.std.proofs.lemmas.Bool.{cases_eq, eq-eqb, ne_eqb}
 use Rattle.std.proofs.Math.Nat.{mod-eq_of_lt}
 use Rattle.ttp_base.specs.NodeSet.{most_nodes, below, has_node, with_node, without_node}
 use Rattle.ttp_base.proofs.NodeLists.{filter-none, with_node-filter, without_node-filter, with_node-nil}
 use Rattle.std.specs.List.{filter}
-use Rattle.std.proofs.Common.{List, [], ◌∷◌, Option, Some, None}
 use Rattle.ttp_base.proofs.NodeSets.{has_node-sieve, same_sieve, has_node-with, has_node-without}
 use Rattle.fault_plan.specs.Plan.{Change, Receiving, Incident, Plan, sender, incident_at, is_armed_by, enters}
 use Rattle.fault_plan.specs.Fates.{Fate, Absent, Sound, Falling, Fallen, Listening, fate_at_begin, struck, turned}

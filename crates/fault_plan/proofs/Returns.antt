@@ -10,8 +10,8 @@ use Rattle.std.proofs.Math.Nat.{eq-or-lt_of_le}
 use Rattle.ttp_base.specs.NodeSet.{has_node}
 use Rattle.fault_plan.specs.Plan.{Incident, Return, Plan, sender, incident_at, is_armed_there, enters_there}
 use Rattle.fault_plan.specs.Plan.{is_armed_by, enters}
-use Rattle.fault_plan.specs.Fates.{Fate, Absent, Sound, Falling, Listening, fate_at_begin, struck, next_fate}
-use Rattle.fault_plan.specs.Fates.{fate_of, is_good_slot, is_lost}
+use Rattle.fault_plan.specs.Fates.{Fate, Absent, Sound, Falling, Listening, fate_at_begin, struck, next_fate, fate_of}
+use Rattle.fault_plan.specs.Fates.{is_good_slot, is_lost}
 use Rattle.fault_plan.specs.GoodPlan.{IsGoodPlan}
 use Rattle.fault_plan.proofs.FateSteps.{turned-same, next-same, next-armed, next-listening}
 use Rattle.fault_plan.proofs.Tests.{never-found}

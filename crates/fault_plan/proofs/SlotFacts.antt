@@ -1,10 +1,9 @@
 -- A slot of the plan of the single-fault hypothesis: who hears its frame, and the loss that it brings.
-use Rattle.std.proofs.Common.{◌≡◌, ◌≢◌, ℕ, suc, ◌+◌, ◌<◌, ◌≤◌, true, false, not, ◌&&◌, ◌||◌, [], ◌∷◌}
-use Rattle.std.proofs.Common.{length, Some, refl, ap, sym, subst, ◌∙◌, inl, inr, arith}
+use Rattle.std.proofs.Common.{◌≡◌, ◌≢◌, ℕ, suc, ◌+◌, ◌<◌, ◌≤◌, true, false, not, ◌&&◌, ◌||◌, [], ◌∷◌, length, Some}
+use Rattle.std.proofs.Common.{refl, ap, sym, subst, ◌∙◌, inl, inr, arith}
 use Rattle.std.specs.Prelude.{◌==◌}
 use Rattle.std.proofs.lemmas.Bool.{eqb-true, eqb-false, eq-eqb, both_ways, or_parts, or_from, not-true, and_parts}
-use Rattle.std.proofs.lemmas.Bool.{and_from}
-use Rattle.std.proofs.lemmas.Bool.{false_from_ne_true, not_from_false}
+use Rattle.std.proofs.lemmas.Bool.{and_from, false_from_ne_true, not_from_false}
 use Rattle.ttp_base.specs.NodeSet.{has_node}
 use Rattle.ttp_base.proofs.NodeSets.{has_node-sieve}
 use Rattle.ttp_world.specs.declared.medl.Medl.{Medl}
@@ -17,11 +16,9 @@ use Rattle.fault_plan.specs.GoodPlan.{IsLossAfter}
 use Rattle.fault_plan.specs.Kept.{IsHeardByPlan}
 use Rattle.fault_plan.proofs.FaultySets.{IsSingleFault, faulty_before}
 use Rattle.fault_plan.proofs.Hearing.{on-ever, on-since, jumpers, fallen_in, loss_of, sender_in, sender-same}
-use Rattle.fault_plan.proofs.Hearing.{sender-less}
-use Rattle.fault_plan.proofs.Hearing.{IsUntouched, untouched, sound-before, other-untouched, heard-by, IsMadeIn}
-use Rattle.fault_plan.proofs.Hearing.{incident-made}
-use Rattle.fault_plan.proofs.Hearing.{Origin, ByJump, ByLoss, origin-of, sending-is, receiving-is, jumping-is}
-use Rattle.fault_plan.proofs.Hearing.{unless_jumping}
+use Rattle.fault_plan.proofs.Hearing.{sender-less, IsUntouched, untouched, sound-before, other-untouched, heard-by}
+use Rattle.fault_plan.proofs.Hearing.{IsMadeIn, incident-made, Origin, ByJump, ByLoss, origin-of, sending-is}
+use Rattle.fault_plan.proofs.Hearing.{receiving-is, jumping-is, unless_jumping}
 use Rattle.fault_plan.proofs.Losses.{each-member, IsMadeBy}
 use Rattle.fault_plan.proofs.Returns.{never-listens}
 use Rattle.fault_plan.proofs.Spaced.{made_in}
