@@ -1,7 +1,6 @@
 -- The plan of a run whose armed nodes return is good.
 use Rattle.std.proofs.Common.{◌≡◌, ◌≢◌, ℕ, zero, suc, ◌+◌, ◌-◌, ◌*◌, ◌<◌, ◌≤◌, Bool, true, false, cond, not, ◌&&◌, ◌||◌}
-use Rattle.std.proofs.Common.{List, [], ◌∷◌, ◌++◌, length, Some, ◌⊎◌, refl, ap, sym}
-use Rattle.std.proofs.Common.{subst, ◌∙◌, inl, inr, arith}
+use Rattle.std.proofs.Common.{List, [], ◌∷◌, ◌++◌, length, Some, ◌⊎◌, refl, ap, sym, subst, ◌∙◌, inl, inr, arith}
 use Rattle.std.specs.Prelude.{◌==◌, nat_le, nat_lt}
 use Rattle.std.specs.List.{AllByRecursion, Contains, filter, range_with_len}
 use Rattle.std.proofs.lemmas.Bool.{and_parts, and_from, both_ways, cases_lt, eqb-true, eqb-false, not-true}
@@ -14,14 +13,12 @@ use Rattle.ttp_world.specs.declared.script.Script.{Script}
 use Rattle.ttp_world.specs.Hypothesis.{ClusterStart, is_steady, expected_sender}
 use Rattle.ttp_world.specs.Medl.{plan_at, may_start, kind_at}
 use Rattle.ttp_world.specs.Returning.{two_rounds, four_rounds, slots_before, joinings, is_forgiven}
-use Rattle.ttp_world.specs.Returning.{is_sound as is_sound_of}
-use Rattle.ttp_world.specs.Returning.{carries_place, round_of, offers_place}
+use Rattle.ttp_world.specs.Returning.{is_sound as is_sound_of, carries_place, round_of, offers_place}
 use Rattle.ttp_world.specs.Script.{is_armed, is_ever_on, is_on, on_slot}
 use Rattle.ttp_world.proofs.Lists.{nodes-most}
 use Rattle.fault_plan.specs.Plan.{Incident, Return, sender, incident_at}
 use Rattle.fault_plan.specs.Fates.{Fate, Absent, Sound, Falling, Fallen, Listening, fate_of, is_sound, is_sound_after}
-use Rattle.fault_plan.specs.Fates.{is_lost, lost_since, is_good_slot}
-use Rattle.fault_plan.specs.Fates.{is_entry_near, is_new_after, is_steady_after}
+use Rattle.fault_plan.specs.Fates.{is_lost, lost_since, is_good_slot, is_entry_near, is_new_after, is_steady_after}
 use Rattle.fault_plan.specs.GoodPlan.{IsReturn, IsGoodPlan}
 use Rattle.fault_plan.proofs.Hearing.{on-ever}
 use Rattle.fault_plan.proofs.Incidents.{found-tells, late-found, apart-found}

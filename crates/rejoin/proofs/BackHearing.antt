@@ -1,12 +1,11 @@
 -- Who hears whom in a slot of a run whose armed nodes return.
-use Rattle.std.proofs.Common.{◌≡◌, ◌≢◌, ℕ, zero, suc, ◌+◌, ◌-◌, ◌<◌, ◌≤◌, Bool, true, false, cond, not, ◌&&◌, ◌||◌}
-use Rattle.std.proofs.Common.{◌∷◌, length, Option, Some, None, refl, ap, sym, ◌∙◌, inl, inr}
-use Rattle.std.proofs.Common.{arith}
+use Rattle.std.proofs.Common.{◌≡◌, ◌≢◌, ℕ, zero, suc, ◌+◌, ◌-◌, ◌<◌, ◌≤◌, Bool, true, false, cond, not, ◌&&◌, ◌||◌, ◌∷◌}
+use Rattle.std.proofs.Common.{length, Option, Some, None, refl, ap, sym, ◌∙◌, inl, inr, arith}
 use Rattle.std.specs.Prelude.{◌==◌, find, min}
 use Rattle.std.specs.List.{list_any, filter, range_with_len}
-use Rattle.std.proofs.lemmas.Bool.{and_parts, and_from, or_from, or_left, both_ways, eq-eqb}
-use Rattle.std.proofs.lemmas.Bool.{eqb-false, ne_eqb, not-true, or_parts, or_cases, cases_lt, not_from_false}
-use Rattle.std.proofs.lemmas.Bool.{false_from_ne_true, leb-true, cases_eq}
+use Rattle.std.proofs.lemmas.Bool.{and_parts, and_from, or_from, or_left, both_ways, eq-eqb, eqb-false, ne_eqb}
+use Rattle.std.proofs.lemmas.Bool.{not-true, or_parts, or_cases, cases_lt, not_from_false, false_from_ne_true, leb-true}
+use Rattle.std.proofs.lemmas.Bool.{cases_eq}
 use Rattle.ttp_base.specs.NodeSet.{has_node, below}
 use Rattle.ttp_world.specs.declared.medl.Medl.{Medl}
 use Rattle.ttp_world.specs.declared.script.Channel.{Channel}
@@ -14,8 +13,8 @@ use Rattle.ttp_world.specs.declared.script.Channel.TheVariants as channel
 use Rattle.ttp_world.specs.declared.script.Fault.{Fault}
 use Rattle.ttp_world.specs.declared.script.Fault.TheVariants as fault
 use Rattle.ttp_world.specs.declared.script.Script.{Script}
-use Rattle.ttp_world.specs.Hypothesis.{ClusterStart, nodes_of, is_breaking}
-use Rattle.ttp_world.specs.Hypothesis.{is_covered, loses, is_other, expected_sender, is_steady}
+use Rattle.ttp_world.specs.Hypothesis.{ClusterStart, nodes_of, is_breaking, is_covered, loses, is_other}
+use Rattle.ttp_world.specs.Hypothesis.{expected_sender, is_steady}
 use Rattle.ttp_world.specs.Medl.{plan_at}
 use Rattle.ttp_world.specs.Returning.{four_rounds, run_slots, is_deaf, is_deaf_on, is_missed_in, is_sound}
 use Rattle.ttp_world.specs.Script.{is_ever_on, is_on, has_send_fault, has_receive_fault}

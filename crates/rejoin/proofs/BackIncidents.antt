@@ -1,6 +1,6 @@
 -- The incidents of the plan: each slot's is the node that it makes faulty.
-use Rattle.std.proofs.Common.{◌≡◌, ℕ, zero, suc, ◌+◌, ◌<◌, ◌≤◌, []}
-use Rattle.std.proofs.Common.{None, ◌⊎◌, refl, ap, sym, subst, ◌∙◌, inl, inr, arith}
+use Rattle.std.proofs.Common.{◌≡◌, ℕ, zero, suc, ◌+◌, ◌<◌, ◌≤◌, [], None, ◌⊎◌, refl, ap, sym, subst, ◌∙◌, inl, inr}
+use Rattle.std.proofs.Common.{arith}
 use Rattle.std.specs.Prelude.{◌==◌, find}
 use Rattle.std.specs.Option.{option_or}
 use Rattle.std.proofs.lemmas.Bool.{cases_eq}
@@ -15,8 +15,7 @@ use Rattle.ttp_world.specs.Returning.{two_rounds, slots_before, joinings}
 use Rattle.fault_plan.specs.Plan.{is_in_slot, planned_incident, incident_at}
 use Rattle.fault_plan.proofs.FateSteps.{strikes}
 use Rattle.fault_plan.proofs.Incidents.{planned_incidents, incident_among, incident_made, late-found, none-slot}
-use Rattle.fault_plan.proofs.Incidents.{some-slot}
-use Rattle.fault_plan.proofs.Incidents.{or-none}
+use Rattle.fault_plan.proofs.Incidents.{some-slot, or-none}
 use Rattle.fault_plan.proofs.Spaced.{IsSpaced, IsOneMade, all_in, spaced-later, one-made}
 use Rattle.fault_plan.proofs.Tests.{or-false, never-found}
 use Rattle.rejoin.specs.BackPlan.{back_plan_of}

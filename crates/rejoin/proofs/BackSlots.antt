@@ -1,6 +1,6 @@
 -- A slot of the plan: who hears its frame, and the loss that it brings.
-use Rattle.std.proofs.Common.{◌≡◌, ◌≢◌, ℕ, suc, ◌+◌, ◌-◌, ◌%◌, ◌<◌, ◌≤◌, true, false, not, ◌&&◌, ◌||◌, []}
-use Rattle.std.proofs.Common.{◌∷◌, length, Some, refl, ap, sym, subst, ◌∙◌, inl, inr, mod-lt, arith}
+use Rattle.std.proofs.Common.{◌≡◌, ◌≢◌, ℕ, suc, ◌+◌, ◌-◌, ◌%◌, ◌<◌, ◌≤◌, true, false, not, ◌&&◌, ◌||◌, [], ◌∷◌, length}
+use Rattle.std.proofs.Common.{Some, refl, ap, sym, subst, ◌∙◌, inl, inr, mod-lt, arith}
 use Rattle.std.specs.Prelude.{◌==◌}
 use Rattle.std.proofs.lemmas.Bool.{and_parts, and_from, both_ways, eq-eqb, eqb-true, eqb-false, not-true, or_from}
 use Rattle.std.proofs.lemmas.Bool.{not_from_false, false_from_ne_true, cases_lt}
@@ -12,10 +12,8 @@ use Rattle.ttp_world.specs.declared.script.Script.{Script}
 use Rattle.ttp_world.specs.Hypothesis.{ClusterStart, nodes_made, loses, is_other, others_in, expected_sender, jumps_now}
 use Rattle.ttp_world.specs.Returning.{four_rounds, slots_before, is_forgiven}
 use Rattle.ttp_world.specs.Script.{is_ever_on, is_on, has_jump}
-use Rattle.fault_plan.specs.Plan.{Incident, Plan, sender, incident_at, change_of}
-use Rattle.fault_plan.specs.Plan.{planned_incident}
-use Rattle.fault_plan.specs.Fates.{fate_of, is_sound_after, is_good_slot}
-use Rattle.fault_plan.specs.Fates.{Fate, Listening, is_sound}
+use Rattle.fault_plan.specs.Plan.{Incident, Plan, sender, incident_at, change_of, planned_incident}
+use Rattle.fault_plan.specs.Fates.{fate_of, is_sound_after, is_good_slot, Fate, Listening, is_sound}
 use Rattle.fault_plan.specs.GoodPlan.{IsLossAfter}
 use Rattle.fault_plan.specs.Kept.{IsHeardByPlan}
 use Rattle.fault_plan.proofs.Hearing.{on-ever, sending-is, receiving-is, jumping-is}

@@ -1,6 +1,5 @@
 -- A script whose test says that its armed nodes are owed their places follows its plan.
-use Rattle.std.proofs.Common.{◌≡◌, ◌≢◌, ℕ, suc, ◌+◌, ◌-◌, ◌<◌, ◌≤◌, true, false, length}
-use Rattle.std.proofs.Common.{refl, sym, ◌∙◌, inr, arith}
+use Rattle.std.proofs.Common.{◌≡◌, ◌≢◌, ℕ, suc, ◌+◌, ◌-◌, ◌<◌, ◌≤◌, true, false, length, refl, sym, ◌∙◌, inr, arith}
 use Rattle.std.proofs.lemmas.Bool.{not-false, false_from_ne_true}
 use Rattle.ttp_base.specs.NodeSet.{has_node}
 use Rattle.ttp_base.proofs.NodeSets.{has_node-sieve}
@@ -10,8 +9,7 @@ use Rattle.ttp_world.specs.declared.script.Script.{Script}
 use Rattle.ttp_world.specs.Hypothesis.{ClusterStart, loses}
 use Rattle.ttp_world.specs.Medl.{IsValid, plan_at}
 use Rattle.ttp_world.specs.Returning.{two_rounds, slots_before, joinings, breaks_back_in, has_four_before}
-use Rattle.ttp_world.specs.Returning.{lacks_four_after}
-use Rattle.ttp_world.specs.Returning.{breaks_arm_in, returns}
+use Rattle.ttp_world.specs.Returning.{lacks_four_after, breaks_arm_in, returns}
 use Rattle.ttp_world.specs.Script.{is_armed, is_ever_on, is_on, IsValidScript}
 use Rattle.ttp_world.proofs.Starts.{alone-start, on-start}
 use Rattle.fault_plan.specs.Kept.{FollowsPlan}

@@ -1,6 +1,6 @@
 -- Who is sound after a slot: a node that is not faulty, or one that was armed less than four rounds ago.
-use Rattle.std.proofs.Common.{◌≡◌, ◌≢◌, ℕ, zero, suc, ◌+◌, ◌-◌, ◌<◌, ◌≤◌, Bool, true, false, cond, not, ◌&&◌}
-use Rattle.std.proofs.Common.{length, Some, ◌⊎◌, refl, ap, sym, ◌∙◌, inl, inr, arith}
+use Rattle.std.proofs.Common.{◌≡◌, ◌≢◌, ℕ, zero, suc, ◌+◌, ◌-◌, ◌<◌, ◌≤◌, Bool, true, false, cond, not, ◌&&◌, length}
+use Rattle.std.proofs.Common.{Some, ◌⊎◌, refl, ap, sym, ◌∙◌, inl, inr, arith}
 use Rattle.std.specs.Prelude.{◌==◌}
 use Rattle.std.proofs.lemmas.Bool.{and_parts, or_parts, or_cases, or_from, both_ways, cases_lt, false_from_ne_true}
 use Rattle.std.proofs.lemmas.Bool.{true_from_ne_false}
@@ -14,8 +14,7 @@ use Rattle.ttp_world.specs.Returning.{four_rounds, slots_before, is_forgiven}
 use Rattle.ttp_world.specs.Script.{is_ever_on, is_on}
 use Rattle.fault_plan.specs.Plan.{incident_at, is_armed_by, enters, sender}
 use Rattle.fault_plan.specs.Fates.{Fate, Absent, Sound, Listening, fate_of, fate_at_begin, next_fate, is_sound}
-use Rattle.fault_plan.specs.Fates.{is_sound_after}
-use Rattle.fault_plan.specs.Fates.{lost_since, turned}
+use Rattle.fault_plan.specs.Fates.{is_sound_after, lost_since, turned}
 use Rattle.fault_plan.proofs.FateSteps.{strikes, sound-fate, next-same, struck-missed}
 use Rattle.fault_plan.proofs.Hearing.{on-ever}
 use Rattle.rejoin.specs.BackPlan.{entry_slot, back_plan_of}

@@ -1,11 +1,10 @@
 -- How a node stands after each slot: it is sound, lost since a slot, or armed less than four rounds ago.
-use Rattle.std.proofs.Common.{◌≡◌, ℕ, zero, suc, ◌+◌, ◌-◌, ◌<◌, ◌≤◌, Bool, true, false, cond, not, ◌&&◌}
-use Rattle.std.proofs.Common.{List, [], ◌∷◌, ◌++◌, length, Some, None, refl, ap, sym, subst, ◌∙◌, inl, inr, arith}
+use Rattle.std.proofs.Common.{◌≡◌, ℕ, zero, suc, ◌+◌, ◌-◌, ◌<◌, ◌≤◌, Bool, true, false, cond, not, ◌&&◌, List, [], ◌∷◌}
+use Rattle.std.proofs.Common.{◌++◌, length, Some, None, refl, ap, sym, subst, ◌∙◌, inl, inr, arith}
 use Rattle.std.specs.Prelude.{◌==◌, nat_lt, nat_le}
 use Rattle.std.specs.List.{AllByRecursion, list_any, filter}
 use Rattle.std.proofs.lemmas.Bool.{and_parts, and_from, and_left, and_right, or_from, or_left, or_right, both_ways}
-use Rattle.std.proofs.lemmas.Bool.{cases_lt, cases_eq}
-use Rattle.std.proofs.lemmas.Bool.{false_from_ne_true, eqb-true, not_from_false, leb-true}
+use Rattle.std.proofs.lemmas.Bool.{cases_lt, cases_eq, false_from_ne_true, eqb-true, not_from_false, leb-true}
 use Rattle.ttp_base.specs.NodeSet.{has_node}
 use Rattle.ttp_base.proofs.NodeSets.{has_node-sieve}
 use Rattle.ttp_world.specs.declared.medl.Medl.{Medl}
@@ -17,8 +16,7 @@ use Rattle.fault_plan.specs.Plan.{Return, Plan, incident_at, is_armed_by, is_arm
 use Rattle.fault_plan.specs.Fates.{Fate, Absent, Sound, Listening, fate_of, fate_at_begin, next_fate, is_sound}
 use Rattle.fault_plan.specs.Fates.{lost_since}
 use Rattle.fault_plan.proofs.FateSteps.{strikes, sound-fate, sound-next, since-kept, since-now, next-entered}
-use Rattle.fault_plan.proofs.FateSteps.{next-armed}
-use Rattle.fault_plan.proofs.FateSteps.{next-listening}
+use Rattle.fault_plan.proofs.FateSteps.{next-armed, next-listening}
 use Rattle.fault_plan.proofs.Incidents.{incident_made}
 use Rattle.fault_plan.proofs.Returns.{any-of, enters-by}
 use Rattle.fault_plan.proofs.Spaced.{all_in}

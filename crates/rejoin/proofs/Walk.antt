@@ -1,6 +1,6 @@
 -- The slots of a run in which faulty nodes may be forgiven: who is faulty in them.
-use Rattle.std.proofs.Common.{◌≡◌, ℕ, zero, suc, ◌+◌, ◌-◌, ◌<◌, Bool, true, false, cond, not, ◌&&◌, ◌||◌, List, []}
-use Rattle.std.proofs.Common.{◌∷◌, ◌++◌, get_or, refl, ap, sym, ◌∙◌, arith}
+use Rattle.std.proofs.Common.{◌≡◌, ℕ, zero, suc, ◌+◌, ◌-◌, ◌<◌, Bool, true, false, cond, not, ◌&&◌, ◌||◌, List, [], ◌∷◌}
+use Rattle.std.proofs.Common.{◌++◌, get_or, refl, ap, sym, ◌∙◌, arith}
 use Rattle.std.specs.Prelude.{◌==◌}
 use Rattle.std.specs.List.{filter}
 use Rattle.std.proofs.lemmas.Bool.{eqb-true, and_right}
@@ -8,8 +8,8 @@ use Rattle.ttp_base.specs.NodeSet.{has_node}
 use Rattle.ttp_world.specs.declared.medl.Medl.{Medl}
 use Rattle.ttp_world.specs.declared.script.Script.{Script}
 use Rattle.ttp_world.specs.Hypothesis.{ClusterStart, FaultyNode, numbers_of, nodes_made, loss_in, jumpers_in}
-use Rattle.ttp_world.specs.Returning.{no_slot, faulty_since, four_rounds, is_forgiven, faulty_slot}
-use Rattle.ttp_world.specs.Returning.{slots_before, faulty_at}
+use Rattle.ttp_world.specs.Returning.{no_slot, faulty_since, four_rounds, is_forgiven, faulty_slot, slots_before}
+use Rattle.ttp_world.specs.Returning.{faulty_at}
 use Rattle.ttp_world.specs.Script.{is_armed}
 use Rattle.fault_plan.proofs.Spaced.{numbers-next}
 use Rattle.ttp_world.proofs.WorldFacts.{get-none, has_node-append}
