@@ -47,16 +47,14 @@ arm-none list script k slot (event.Arm node at) none = absurd (none-some at (sym
 arm-none list script k slot _ none = refl
 
 no_flips : (list : Medl) (script : Script) (k slot : ℕ) (c : Channel) (events : List Event)
-    → AllByRecursion (λ e. outside_slot list script e ≡ None) events
-    → filter_map (flipped_bit k c slot) events ≡ []
+    → AllByRecursion (λ e. outside_slot list script e ≡ None) events → filter_map (flipped_bit k c slot) events ≡ []
 no_flips list script k slot c [] inside = refl
 no_flips list script k slot c (e ∷ events) inside =
     let here : flipped_bit k c slot e ≡ None = flip-none list script k slot c e inside.0 in
     rw here (no_flips list script k slot c events inside.1)
 
 no_arms : (list : Medl) (script : Script) (k slot : ℕ) (events : List Event)
-    → AllByRecursion (λ e. outside_slot list script e ≡ None) events
-    → list_any (arms k slot) events ≡ false
+    → AllByRecursion (λ e. outside_slot list script e ≡ None) events → list_any (arms k slot) events ≡ false
 no_arms list script k slot [] inside = refl
 no_arms list script k slot (e ∷ events) inside =
     let here : arms k slot e ≡ false = arm-none list script k slot e inside.0 in
@@ -70,8 +68,7 @@ before : (k slot later : ℕ) (e : Event) → slot < later → is_some (jump_in 
 before k slot later e less here = grind arith
 
 has_before : (k slot later : ℕ) (events : List Event) → slot < later
-    → list_any (λ e. is_some (jump_in k slot e)) events ≡ true
-    → list_any (is_jump_before k later) events ≡ true
+    → list_any (λ e. is_some (jump_in k slot e)) events ≡ true → list_any (is_jump_before k later) events ≡ true
 has_before k slot later [] less has = absurd (both_ways false refl has)
 has_before k slot later (e ∷ events) less has =
     elim (or_cases (is_some (jump_in k slot e)) (list_any (λ e. is_some (jump_in k slot e)) events) has) [
@@ -121,8 +118,7 @@ bounds-of list script clocks window allowed =
     }
 
 pub within-bounds : (list : Medl) (script : Script) → clocks_broken list script ≡ None → window_broken list ≡ None
-    → outside_broken list script ≡ None
-    → IsWithinBounds list script
+    → outside_broken list script ≡ None → IsWithinBounds list script
 within-bounds list script clocks window outside =
     bounds-of list script clocks (le_of_test (needed list) list.window (wide (int_le (needed list) list.window) window))
     (λ k slot has. allowed-jump list script k slot outside has)

@@ -30,8 +30,7 @@ record IsFirstOf (plan : Plan) (slot : ℕ) : Type 0 where
   soon : slot < since + plan.nodes
 
 first-is : (plan : Plan) (slot : ℕ) (fate : Fate) → IsTold plan slot (sender plan slot) fate
-    → is_shown_in slot fate ≡ true
-    → IsFirstOf plan slot
+    → is_shown_in slot fate ≡ true → IsFirstOf plan slot
 first-is plan slot Absent told first = absurd (both_ways false refl first)
 first-is plan slot Sound told first = absurd (both_ways false refl first)
 first-is plan slot (Falling change since) told first = absurd (both_ways false refl first)
@@ -52,8 +51,7 @@ first-of plan slot good first =
 
 -- two of them lie a round apart
 firsts-apart : (plan : Plan) (slot later : ℕ) → IsGoodPlan plan → slot < later → later < slot + plan.nodes
-    → is_first_slot plan slot ≡ true → is_first_slot plan later ≡ true
-    → ⊥
+    → is_first_slot plan slot ≡ true → is_first_slot plan later ≡ true → ⊥
 firsts-apart plan slot later good less near one two =
     let first = first-of plan slot good one in
     let second = first-of plan later good two in
@@ -84,16 +82,14 @@ pub bad-own : (plan : Plan) (slot k : ℕ) → IsGoodPlan plan → k < plan.node
 bad-own plan slot k good less =
     let ledger = ledger_of plan slot k in
     let told = ledger-told plan slot k good less in
-    subst (λ n. n ≤ 1) (sym told.bad)
-    (count-one (is_first_slot plan) (suc ledger.base) (slot - ledger.base)
+    subst (λ n. n ≤ 1) (sym told.bad) (count-one (is_first_slot plan) (suc ledger.base) (slot - ledger.base)
     (λ u v above before to one two.
     firsts-apart plan u v good before (omega (arith, told.near, told.within)) one two))
 
 -- In a first round, after the start or after an entry, no loss is near.
 loss-far : (plan : Plan) (slot base k since : ℕ) (incident : Incident) → IsGoodPlan plan
-    → incident_at plan since ≡ Some incident → (base ≡ 0) ⊎ (enters plan base k ≡ true)
-    → slot < base + plan.nodes → since ≤ slot
-    → since + 2 * plan.nodes ≤ base
+    → incident_at plan since ≡ Some incident → (base ≡ 0) ⊎ (enters plan base k ≡ true) → slot < base + plan.nodes
+    → since ≤ slot → since + 2 * plan.nodes ≤ base
 loss-far plan slot base k since incident good found (inl start) near from =
     let late = good.late since incident found in
     absurd (omega (arith, late, start, near, from, good.count))
@@ -112,8 +108,7 @@ pub bad-first : (plan : Plan) (slot k : ℕ) → IsGoodPlan plan → k < plan.no
 bad-first plan slot k good less none =
     let ledger = ledger_of plan slot k in
     let told = ledger-told plan slot k good less in
-    told.bad
-    ∙ count-none (is_first_slot plan) (suc ledger.base) (slot - ledger.base)
+    told.bad ∙ count-none (is_first_slot plan) (suc ledger.base) (slot - ledger.base)
     (λ u above to. false_from_ne_true (is_first_slot plan u) (λ first.
     let is = first-of plan u good first in
     let far =
@@ -153,12 +148,10 @@ one-more false n = omega arith
 -- one slot fewer than a round
 count-front : (p : ℕ → Bool) (from many nodes : ℕ) → nodes ≡ suc many → tally p from nodes ≤ suc (tally p from many)
 count-front p from many nodes is =
-    subst (λ n. tally p from n ≤ suc (tally p from many)) (sym is)
-    (one-more (p (from + many)) (tally p from many))
+    subst (λ n. tally p from n ≤ suc (tally p from many)) (sym is) (one-more (p (from + many)) (tally p from many))
 
 pub seen-round : (plan : Plan) (slot k : ℕ) → IsGoodPlan plan → k < plan.nodes → sender plan (suc slot) ≡ k
-    → (ledger_of plan slot k).own ≡ true
-    → length (lasting_nodes plan slot) ≤ suc (ledger_of plan slot k).seen
+    → (ledger_of plan slot k).own ≡ true → length (lasting_nodes plan slot) ≤ suc (ledger_of plan slot k).seen
 seen-round plan slot k good less turn own =
     let ledger = ledger_of plan slot k in
     let base = ledger.base in
@@ -172,8 +165,7 @@ seen-round plan slot k good less turn own =
     let all = count-round plan p (suc base) in
     let front = count-front (λ u. p (sender plan u)) (suc base) (slot - base) n round in
     let fewer =
-    count-fewer (λ u. p (sender plan u)) (is_good_slot plan) (suc base) (slot - base)
-    (λ u above to lasting.
+    count-fewer (λ u. p (sender plan u)) (is_good_slot plan) (suc base) (slot - base) (λ u above to lasting.
     lasting-before plan u slot (sender plan u) (omega (arith, to, told.within)) (omega (arith, above, told.near)) lasting)
     in
     omega (arith, all, front, fewer, told.seen)
@@ -188,8 +180,7 @@ steady-lasting plan slot =
     let two = count-below (is_lasting_after plan slot) plan.nodes in
     omega (arith, few, one, two)
 
-pub four-lasting : (plan : Plan) (slot : ℕ) → IsGoodPlan plan → slot < plan.slots
-    → 4 ≤ length (lasting_nodes plan slot)
+pub four-lasting : (plan : Plan) (slot : ℕ) → IsGoodPlan plan → slot < plan.slots → 4 ≤ length (lasting_nodes plan slot)
 four-lasting plan slot good within =
     let steady = good.steady slot within in
     let few = steady-lasting plan slot in

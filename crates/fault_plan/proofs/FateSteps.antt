@@ -66,10 +66,8 @@ lost-struck slot k fate None = refl
 lost-struck slot k fate (Some incident) = lost-hit (incident.node == k) incident.change slot fate
 
 -- A node that neither listens again from a slot on nor enters in it is as the incident and its turn make it.
-pub next-same : (plan : Plan) (slot k : ℕ) (fate : Fate) → is_armed_by plan slot k ≡ false
-    → enters plan slot k ≡ false
-    → next_fate plan slot k fate
-    ≡ turned (sender plan slot == k) slot (struck slot k fate (incident_at plan slot))
+pub next-same : (plan : Plan) (slot k : ℕ) (fate : Fate) → is_armed_by plan slot k ≡ false → enters plan slot k ≡ false
+    → next_fate plan slot k fate ≡ turned (sender plan slot == k) slot (struck slot k fate (incident_at plan slot))
 next-same plan slot k fate armed entered =
     λ i. turned (sender plan slot == k) slot
     (entered_in (entered i) (struck slot k (armed_in (armed i) slot fate) (incident_at plan slot)))
@@ -91,36 +89,31 @@ turned-listening true slot since = refl
 turned-listening false slot since = refl
 
 -- one that is armed listens
-pub next-armed : (plan : Plan) (slot k : ℕ) (fate : Fate) → is_armed_by plan slot k ≡ true
-    → enters plan slot k ≡ false → incident_at plan slot ≡ None
-    → next_fate plan slot k fate ≡ Listening slot
+pub next-armed : (plan : Plan) (slot k : ℕ) (fate : Fate) → is_armed_by plan slot k ≡ true → enters plan slot k ≡ false
+    → incident_at plan slot ≡ None → next_fate plan slot k fate ≡ Listening slot
 next-armed plan slot k fate armed entered quiet =
     (λ i. turned (sender plan slot == k) slot
     (entered_in (entered i) (struck slot k (armed_in (armed i) slot fate) (quiet i))))
     ∙ turned-listening (sender plan slot == k) slot slot
 
 -- and goes on to
-pub next-listening : (plan : Plan) (slot k since : ℕ) → is_armed_by plan slot k ≡ false
-    → enters plan slot k ≡ false → incident_at plan slot ≡ None
-    → next_fate plan slot k (Listening since) ≡ Listening since
+pub next-listening : (plan : Plan) (slot k since : ℕ) → is_armed_by plan slot k ≡ false → enters plan slot k ≡ false
+    → incident_at plan slot ≡ None → next_fate plan slot k (Listening since) ≡ Listening since
 next-listening plan slot k since armed entered quiet =
     (λ i. turned (sender plan slot == k) slot
     (entered_in (entered i) (struck slot k (armed_in (armed i) slot (Listening since)) (quiet i))))
     ∙ turned-listening (sender plan slot == k) slot since
 
-pub sound-next : (plan : Plan) (slot k : ℕ) (fate : Fate) → is_armed_by plan slot k ≡ false
-    → enters plan slot k ≡ false
+pub sound-next : (plan : Plan) (slot k : ℕ) (fate : Fate) → is_armed_by plan slot k ≡ false → enters plan slot k ≡ false
     → is_sound (next_fate plan slot k fate) ≡ (is_sound fate && not (strikes (incident_at plan slot) k))
 sound-next plan slot k fate armed entered =
     ap is_sound (next-same plan slot k fate armed entered)
     ∙ turned-same is_sound (sender plan slot == k) slot (struck slot k fate (incident_at plan slot))
-    (λ change since shown. refl)
-    ∙ sound-struck slot k fate (incident_at plan slot)
+    (λ change since shown. refl) ∙ sound-struck slot k fate (incident_at plan slot)
 
 -- only an entry makes a node sound
 pub sound-from : (plan : Plan) (slot k : ℕ) (fate : Fate) → enters plan slot k ≡ false
-    → is_sound (next_fate plan slot k fate) ≡ true
-    → is_sound fate ≡ true
+    → is_sound (next_fate plan slot k fate) ≡ true → is_sound fate ≡ true
 sound-from plan slot k fate entered sound = by (is_armed_by plan slot k) refl
   where
     by : (armed : Bool) → is_armed_by plan slot k ≡ armed → is_sound fate ≡ true
@@ -136,14 +129,12 @@ sound-from plan slot k fate entered sound = by (is_armed_by plan slot k) refl
         (and_parts (is_sound fate) (not (strikes (incident_at plan slot) k))
         (sym (sound-next plan slot k fate armed entered) ∙ sound)).0
 
-pub lost-next : (plan : Plan) (slot k : ℕ) (fate : Fate) → is_armed_by plan slot k ≡ false
-    → enters plan slot k ≡ false
+pub lost-next : (plan : Plan) (slot k : ℕ) (fate : Fate) → is_armed_by plan slot k ≡ false → enters plan slot k ≡ false
     → is_lost (next_fate plan slot k fate) ≡ (strikes (incident_at plan slot) k || is_lost fate)
 lost-next plan slot k fate armed entered =
     ap is_lost (next-same plan slot k fate armed entered)
     ∙ turned-same is_lost (sender plan slot == k) slot (struck slot k fate (incident_at plan slot))
-    (λ change since shown. refl)
-    ∙ lost-struck slot k fate (incident_at plan slot)
+    (λ change since shown. refl) ∙ lost-struck slot k fate (incident_at plan slot)
 
 since-struck : (slot k : ℕ) (fate : Fate) (found : Option Incident) → strikes found k ≡ false
     → lost_since (struck slot k fate found) ≡ lost_since fate
@@ -155,20 +146,16 @@ since-hit : (slot k : ℕ) (fate : Fate) (found : Option Incident) → strikes f
 since-hit slot k fate None hit = cc
 since-hit slot k fate (Some incident) hit = rw hit
 
-pub since-kept : (plan : Plan) (slot k : ℕ) (fate : Fate) → is_armed_by plan slot k ≡ false
-    → enters plan slot k ≡ false → strikes (incident_at plan slot) k ≡ false
-    → lost_since (next_fate plan slot k fate) ≡ lost_since fate
+pub since-kept : (plan : Plan) (slot k : ℕ) (fate : Fate) → is_armed_by plan slot k ≡ false → enters plan slot k ≡ false
+    → strikes (incident_at plan slot) k ≡ false → lost_since (next_fate plan slot k fate) ≡ lost_since fate
 since-kept plan slot k fate armed entered missed =
     ap lost_since (next-same plan slot k fate armed entered)
     ∙ turned-same lost_since (sender plan slot == k) slot (struck slot k fate (incident_at plan slot))
-    (λ change since shown. refl)
-    ∙ since-struck slot k fate (incident_at plan slot) missed
+    (λ change since shown. refl) ∙ since-struck slot k fate (incident_at plan slot) missed
 
-pub since-now : (plan : Plan) (slot k : ℕ) (fate : Fate) → is_armed_by plan slot k ≡ false
-    → enters plan slot k ≡ false → strikes (incident_at plan slot) k ≡ true
-    → lost_since (next_fate plan slot k fate) ≡ Some slot
+pub since-now : (plan : Plan) (slot k : ℕ) (fate : Fate) → is_armed_by plan slot k ≡ false → enters plan slot k ≡ false
+    → strikes (incident_at plan slot) k ≡ true → lost_since (next_fate plan slot k fate) ≡ Some slot
 since-now plan slot k fate armed entered hit =
     ap lost_since (next-same plan slot k fate armed entered)
     ∙ turned-same lost_since (sender plan slot == k) slot (struck slot k fate (incident_at plan slot))
-    (λ change since shown. refl)
-    ∙ since-hit slot k fate (incident_at plan slot) hit
+    (λ change since shown. refl) ∙ since-hit slot k fate (incident_at plan slot) hit

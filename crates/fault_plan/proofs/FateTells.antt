@@ -27,8 +27,7 @@ none-first plan good =
 
 -- the losses of a good plan
 pub loss-sending : (plan : Plan) (k since : ℕ) (change : Change) → IsGoodPlan plan → IsLossOf plan k change since
-    → change ≡ Sending
-    → sender plan since ≡ k
+    → change ≡ Sending → sender plan since ≡ k
 loss-sending plan k zero change good loss is = absurd (omega (arith, loss.late, good.count))
 loss-sending plan k (suc slot) change good loss is =
     (good.losses slot loss.incident loss.found).sending (loss.how ∙ is) ∙ loss.node
@@ -59,8 +58,7 @@ fallen-kept plan slot k since shown change told = record {
 
 -- the slot in which a node enters is still to come, where it does not enter in this one
 not-yet : (plan : Plan) (r : Return) (slot k : ℕ) → Contains plan.returns r → r.node ≡ k → slot ≤ r.entered
-    → enters plan slot k ≡ false → slot < plan.slots
-    → slot < r.entered
+    → enters plan slot k ≡ false → slot < plan.slots → slot < r.entered
 not-yet plan r slot k among node to none within = elim (eq-or-lt_of_le to) [
   | inl same ↦
       absurd (both_ways (enters plan slot k) none
@@ -68,8 +66,7 @@ not-yet plan r slot k among node to none within = elim (eq-or-lt_of_le to) [
   | inr less ↦ less
 ]
 
-listening-kept : (plan : Plan) (slot k since : ℕ) → enters plan (suc slot) k ≡ false
-    → IsListening plan slot k since
+listening-kept : (plan : Plan) (slot k since : ℕ) → enters plan (suc slot) k ≡ false → IsListening plan slot k since
     → IsListening plan (suc slot) k since
 listening-kept plan slot k since none told =
     let r = told.return in
@@ -160,8 +157,8 @@ told-lost plan slot k own incident good turn found node =
     }
 
 told-hit : (plan : Plan) (slot k : ℕ) (fate : Fate) (incident : Incident) (hit : Bool) → IsGoodPlan plan
-    → enters plan (suc slot) k ≡ false
-    → incident_at plan (suc slot) ≡ Some incident → (incident.node == k) ≡ hit → IsTold plan slot k fate
+    → enters plan (suc slot) k ≡ false → incident_at plan (suc slot) ≡ Some incident → (incident.node == k) ≡ hit
+    → IsTold plan slot k fate
     → IsTold plan (suc slot) k
     (turned (sender plan (suc slot) == k) (suc slot) (cond hit (Falling incident.change (suc slot)) fate))
 told-hit plan slot k fate incident true good none found hit told =
@@ -178,8 +175,7 @@ told-next plan slot k fate (Some incident) good none is told =
     told-hit plan slot k fate incident (incident.node == k) good none is refl told
 
 -- of a node that listens again
-armed-told : (plan : Plan) (slot k : ℕ) → IsGoodPlan plan → is_armed_by plan slot k ≡ true
-    → enters plan slot k ≡ false
+armed-told : (plan : Plan) (slot k : ℕ) → IsGoodPlan plan → is_armed_by plan slot k ≡ true → enters plan slot k ≡ false
     → IsListening plan slot k slot
 armed-told plan slot k good is none =
     let found = armed-is plan slot k is in
@@ -206,8 +202,7 @@ fate-told plan (suc slot) k good =
     by (fate-told plan slot k good) (is_armed_by plan (suc slot) k) (enters plan (suc slot) k) refl refl
   where
     by : IsTold plan slot k (fate_of plan slot k) → (armed entered : Bool) → is_armed_by plan (suc slot) k ≡ armed
-        → enters plan (suc slot) k ≡ entered
-        → IsTold plan (suc slot) k (fate_of plan (suc slot) k)
+        → enters plan (suc slot) k ≡ entered → IsTold plan (suc slot) k (fate_of plan (suc slot) k)
     by told armed true arms enter =
         subst (IsTold plan (suc slot) k) (sym (next-entered plan (suc slot) k (fate_of plan slot k) enter)) tt
     by told true false arms none =
@@ -248,17 +243,15 @@ stays plan slot k (Fallen change since shown) told may = record {
 }
 
 -- two losses of one slot are one
-same-loss : (plan : Plan) (j k since : ℕ) (one other : Change) → IsLossOf plan j one since
-    → IsLossOf plan k other since
+same-loss : (plan : Plan) (j k since : ℕ) (one other : Change) → IsLossOf plan j one since → IsLossOf plan k other since
     → j ≡ k
 same-loss plan j k since one other first second =
     let same : first.incident ≡ second.incident =
     same_Some first.incident second.incident (sym first.found ∙ second.found) in
     sym first.node ∙ ap (λ (i : Incident). i.node) same ∙ second.node
 
-pub one-stays : (plan : Plan) (slot j k : ℕ) → IsGoodPlan plan
-    → may_stay plan.nodes slot (fate_of plan slot j) ≡ true → may_stay plan.nodes slot (fate_of plan slot k) ≡ true
-    → j ≡ k
+pub one-stays : (plan : Plan) (slot j k : ℕ) → IsGoodPlan plan → may_stay plan.nodes slot (fate_of plan slot j) ≡ true
+    → may_stay plan.nodes slot (fate_of plan slot k) ≡ true → j ≡ k
 one-stays plan slot j k good first second =
     let one = stays plan slot j (fate_of plan slot j) (fate-told plan slot j good) first in
     let two = stays plan slot k (fate_of plan slot k) (fate-told plan slot k good) second in
@@ -281,8 +274,7 @@ one-stays plan slot j k good first second =
 
 -- none that was lost before still stays when another is
 pub none-stays : (plan : Plan) (slot k : ℕ) (incident : Incident) → IsGoodPlan plan
-    → incident_at plan (suc slot) ≡ Some incident
-    → may_stay plan.nodes slot (fate_of plan slot k) ≡ false
+    → incident_at plan (suc slot) ≡ Some incident → may_stay plan.nodes slot (fate_of plan slot k) ≡ false
 none-stays plan slot k incident good found =
     false_from_ne_true (may_stay plan.nodes slot (fate_of plan slot k)) (λ may.
     let one = stays plan slot k (fate_of plan slot k) (fate-told plan slot k good) may in
@@ -293,8 +285,7 @@ none-stays plan slot k incident good found =
 -- Two rounds after its loss it does not stay.
 
 over-by : (plan : Plan) (slot k since : ℕ) (fate : Fate) → IsTold plan slot k fate → lost_since fate ≡ Some since
-    → since + 2 * plan.nodes ≤ suc slot
-    → may_stay plan.nodes slot fate ≡ false
+    → since + 2 * plan.nodes ≤ suc slot → may_stay plan.nodes slot fate ≡ false
 over-by plan slot k since Absent told is over = refl
 over-by plan slot k since Sound told is over = refl
 over-by plan slot k since (Listening from) told is over = refl
@@ -306,8 +297,7 @@ over-by plan slot k since (Fallen change at shown) told is over =
     le-ltb slot (shown + plan.nodes) (omega (arith, told.soon))
 
 pub over : (plan : Plan) (slot k since : ℕ) → IsGoodPlan plan → lost_since (fate_of plan slot k) ≡ Some since
-    → since + 2 * plan.nodes ≤ suc slot
-    → may_stay plan.nodes slot (fate_of plan slot k) ≡ false
+    → since + 2 * plan.nodes ≤ suc slot → may_stay plan.nodes slot (fate_of plan slot k) ≡ false
 over plan slot k since good is after =
     over-by plan slot k since (fate_of plan slot k) (fate-told plan slot k good) is after
 
@@ -321,8 +311,7 @@ pub record WasFallen (plan : Plan) (slot k : ℕ) : Type 0 where
   pub early : since + 2 * plan.nodes ≤ suc slot
 
 loss-early : (plan : Plan) (slot k since : ℕ) (change : Change) → IsGoodPlan plan → IsLossOf plan k change since
-    → since ≤ slot → is_armed_by plan (suc slot) k ≡ true
-    → since + 2 * plan.nodes ≤ suc slot
+    → since ≤ slot → is_armed_by plan (suc slot) k ≡ true → since + 2 * plan.nodes ≤ suc slot
 loss-early plan slot k since change good loss from is =
     let found = armed-is plan (suc slot) k is in
     let of_r = good.returns found.return found.among in

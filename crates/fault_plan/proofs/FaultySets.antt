@@ -75,12 +75,10 @@ incident-slot list script start zero slot run is within =
     let some = some-rounds list run.valid in
     let gap = two_rounds list in
     let faulty = faulty_nodes_before list script start script.slots in
-    never-found (incident_among list script start 0 faulty)
-    (λ incident found.
+    never-found (incident_among list script start 0 faulty) (λ incident found.
     let late : two_rounds list ≤ 0 = late-found list script start gap 0 incident faulty run.spaced found in
     omega arith)
-    ∙ ap (incident_made list script start slot)
-    (sym (made-early list script start slot run within (omega arith)))
+    ∙ ap (incident_made list script start slot) (sym (made-early list script start slot run within (omega arith)))
 incident-slot list script start (suc turn) slot run is within =
     some-before list script start (suc turn) slot script.slots (omega arith) is within
 

@@ -38,8 +38,7 @@ pub on-ever : (script : Script) (k slot : ℕ) → is_on script k slot ≡ true 
 on-ever script k slot on = come-ever slot (on_slot script k) on
 
 pub on-since : (list : Medl) (script : Script) (start : ClusterStart) (k slot : ℕ) → AreOnBy list script start.slot
-    → k < length list.slots → start.slot ≤ slot → is_ever_on script k ≡ true
-    → is_on script k slot ≡ true
+    → k < length list.slots → start.slot ≤ slot → is_ever_on script k ≡ true → is_on script k slot ≡ true
 on-since list script start k slot by less after ever =
     come-later start.slot slot (on_slot script k) after (by k less ever)
 
@@ -74,8 +73,7 @@ sender-same list script start turn slot is =
 
 pub sender-less : (list : Medl) (script : Script) (start : ClusterStart) (slot : ℕ) → IsSingleFault list script start
     → sender_in list start slot < length list.slots
-sender-less list script start slot run =
-    mod-lt (start.node + (slot - start.slot)) (omega (arith, run.valid.count))
+sender-less list script start slot run = mod-lt (start.node + (slot - start.slot)) (omega (arith, run.valid.count))
 
 -- What it is to be sound after a slot.
 
@@ -88,8 +86,7 @@ pub record IsUntouched (list : Medl) (script : Script) (start : ClusterStart) (s
 
 pub untouched : (list : Medl) (script : Script) (start : ClusterStart) (turn slot k : ℕ)
     → IsSingleFault list script start → slot ≡ start.slot + turn → slot < script.slots → k < length list.slots
-    → is_sound_after (plan_of list script start) turn k ≡ true
-    → IsUntouched list script start slot k
+    → is_sound_after (plan_of list script start) turn k ≡ true → IsUntouched list script start slot k
 untouched list script start turn slot k run is within less sound =
     let known = fates-known list script start turn slot k run is within less in
     let parts =
@@ -181,14 +178,12 @@ made-is list script start slot k incident only is =
 
 pub incident-made : (list : Medl) (script : Script) (start : ClusterStart) (turn slot : ℕ) (incident : Incident)
     → IsSingleFault list script start → slot ≡ start.slot + turn → slot < script.slots
-    → incident_at (plan_of list script start) turn ≡ Some incident
-    → IsMadeIn list script start slot incident
+    → incident_at (plan_of list script start) turn ≡ Some incident → IsMadeIn list script start slot incident
 incident-made list script start turn slot incident run is within found =
     let made : incident_made list script start slot (made_in list script start slot) ≡ Some incident =
     sym (incident-slot list script start turn slot run is within) ∙ found in
     elim (makes-slot list script start slot run within) [
-      | inl none ↦
-          absurd (none-some incident (sym (ap (incident_made list script start slot) none) ∙ made))
+      | inl none ↦ absurd (none-some incident (sym (ap (incident_made list script start slot) none) ∙ made))
       | inr one ↦
           made-is list script start slot one.0 incident one.1.only
           (same_Some _ incident (sym (ap (incident_made list script start slot) one.1.only) ∙ made))
@@ -226,8 +221,7 @@ pub data Origin (list : Medl) (script : Script) (start : ClusterStart) (slot k :
       → Origin list script start slot k
 
 pub origin-of : (list : Medl) (script : Script) (start : ClusterStart) (slot k : ℕ) → start.slot ≤ slot
-    → made_in list script start slot ≡ k ∷ []
-    → Origin list script start slot k
+    → made_in list script start slot ≡ k ∷ [] → Origin list script start slot k
 origin-of list script start slot k after only =
     elim (origin (loss_of list script start slot) (jumpers list script start slot) k only) [
       | inl loss ↦

@@ -96,8 +96,7 @@ apart-found list script start gap slot later first second (f ∷ faulty) spaced 
     elim (cases_eq (f.slot - start.slot) later) [
       | inl same ↦
           let rest : incident_among list script start slot faulty ≡ Some first =
-          sym (passed slot turn here (incident_among list script start slot faulty) (λ at. omega arith))
-          ∙ is in
+          sym (passed slot turn here (incident_among list script start slot faulty) (λ at. omega arith)) ∙ is in
           let found = found-tells Older list script start slot first faulty older rest in
           omega (arith, found.1.at, found.1.holds.0, found.1.holds.1)
       | inr other ↦
@@ -109,8 +108,7 @@ apart-found list script start gap slot later first second (f ∷ faulty) spaced 
                 absurd (omega (arith, found.1.at, found.1.holds.0, found.1.holds.1))
             | inr off ↦
                 apart-found list script start gap slot later first second faulty spaced.2 less
-                (sym (passed slot turn here (incident_among list script start slot faulty) off) ∙ is)
-                after
+                (sym (passed slot turn here (incident_among list script start slot faulty) off) ∙ is) after
           ]
     ]
 
@@ -122,18 +120,15 @@ incident_made list script start slot (k ∷ ks) =
     Some (planned_incident list script start (record { slot = slot; node = k }))
 
 pub none-slot : (list : Medl) (script : Script) (start : ClusterStart) (turn slot : ℕ) (made : List ℕ)
-    → slot - start.slot ≢ turn
-    → incident_among list script start turn (all_in slot made) ≡ None
+    → slot - start.slot ≢ turn → incident_among list script start turn (all_in slot made) ≡ None
 none-slot list script start turn slot [] other = refl
 none-slot list script start turn slot (k ∷ made) other =
     passed turn (slot - start.slot) (planned_incident list script start (record { slot = slot; node = k }))
-    (incident_among list script start turn (all_in slot made)) other
-    ∙ none-slot list script start turn slot made other
+    (incident_among list script start turn (all_in slot made)) other ∙ none-slot list script start turn slot made other
 
 pub some-slot : (list : Medl) (script : Script) (start : ClusterStart) (turn slot : ℕ) (made : List ℕ)
     → slot - start.slot ≡ turn
-    → incident_among list script start turn (all_in slot made)
-    ≡ incident_made list script start slot made
+    → incident_among list script start turn (all_in slot made) ≡ incident_made list script start slot made
 some-slot list script start turn slot [] same = refl
 some-slot list script start turn slot (k ∷ made) same =
     let here : (slot - start.slot == turn) ≡ true = eq-eqb (slot - start.slot) turn same in
@@ -160,8 +155,7 @@ none-before : (list : Medl) (script : Script) (start : ClusterStart) (turn slot 
     → incident_among list script start turn (faulty_nodes_before list script start slot) ≡ None
 none-before list script start turn zero later within = refl
 none-before list script start turn (suc slot) later within =
-    found-next list script start turn slot
-    ∙ (λ i. option_or
+    found-next list script start turn slot ∙ (λ i. option_or
     (none-slot list script start turn slot (made_in list script start slot) (λ same. omega arith) i)
     (none-before list script start turn slot later (omega arith) i))
 
@@ -174,15 +168,13 @@ some-before list script start turn at (suc last) later is within =
     let older = incident_among list script start turn (faulty_nodes_before list script start last) in
     elim (cases_eq last at) [
       | inl same ↦
-          found-next list script start turn last
-          ∙ (λ i. option_or
+          found-next list script start turn last ∙ (λ i. option_or
           (some-slot list script start turn last (made_in list script start last) (omega arith) i)
           (none-before list script start turn last later (omega arith) i))
           ∙ or-none (incident_made list script start last (made_in list script start last))
           ∙ ap (λ t. incident_made list script start t (made_in list script start t)) same
       | inr other ↦
-          found-next list script start turn last
-          ∙ ap (λ found. option_or found older)
+          found-next list script start turn last ∙ ap (λ found. option_or found older)
           (none-slot list script start turn last (made_in list script start last) (λ same. omega arith))
           ∙ some-before list script start turn at last later is (omega arith)
     ]

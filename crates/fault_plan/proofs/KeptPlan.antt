@@ -48,8 +48,7 @@ AreLostSince list script start turn faulty =
 older-stay : (list : Medl) (script : Script) (start : ClusterStart) (turn slot : ℕ) (faulty : List FaultyNode)
     → IsSingleFault list script start → slot ≡ start.slot + suc turn → slot < script.slots
     → AllByRecursion (λ f. has_node (made_in list script start slot) f.node ≡ false) faulty
-    → AreLostSince list script start turn faulty
-    → AreLostSince list script start (suc turn) faulty
+    → AreLostSince list script start turn faulty → AreLostSince list script start (suc turn) faulty
 older-stay list script start turn slot [] run is within missed lost = tt
 older-stay list script start turn slot (f ∷ faulty) run is within missed lost =
     let plan = plan_of list script start in (
@@ -70,8 +69,8 @@ none-all : (faulty : List FaultyNode) → AllByRecursion (λ f. has_node [] f.no
 none-all [] = tt
 none-all (f ∷ faulty) = (refl, none-all faulty)
 
-since-slot : (list : Medl) (script : Script) (start : ClusterStart) (turn slot : ℕ)
-    → IsSingleFault list script start → slot ≡ start.slot + turn → slot < script.slots
+since-slot : (list : Medl) (script : Script) (start : ClusterStart) (turn slot : ℕ) → IsSingleFault list script start
+    → slot ≡ start.slot + turn → slot < script.slots
     → AreLostSince list script start turn (faulty_nodes_before list script start (suc slot))
 since-slot list script start zero slot run is within =
     let some = some-rounds list run.valid in
@@ -86,15 +85,13 @@ since-slot list script start (suc turn) (suc slot) run is within =
     let Missed : List ℕ → Type 0 = λ made. AllByRecursion (λ f. has_node made f.node ≡ false) older in
     elim (makes-slot list script start (suc slot) run within) [
       | inl none ↦
-          subst Newer (sym none)
-          (older-stay list script start turn (suc slot) older run is within
+          subst Newer (sym none) (older-stay list script start turn (suc slot) older run is within
           (subst Missed (sym none) (none-all older)) lost)
       | inr one ↦
           let k = one.0 in
           let after : start.slot ≤ suc slot = omega arith in
           let was =
-          was-sound list script start (suc slot) k run
-          (origin-of list script start (suc slot) k after one.1.only) in
+          was-sound list script start (suc slot) k run (origin-of list script start (suc slot) k after one.1.only) in
           let now : suc turn ≡ suc slot - start.slot = omega arith in
           let hit : has_node (made_in list script start (suc slot)) k ≡ true =
           ap (λ ks. has_node ks k) one.1.only ∙ ap (λ b. b || false) (eq-eqb k k refl) in
@@ -115,16 +112,14 @@ same-on false true later back = back refl
 same-on false false later back = refl
 
 pub on-always : (list : Medl) (script : Script) (start : ClusterStart) (turn k : ℕ) → AreOnBy list script start.slot
-    → k < length list.slots
-    → is_ever_on script k ≡ is_on script k (start.slot + turn)
+    → k < length list.slots → is_ever_on script k ≡ is_on script k (start.slot + turn)
 on-always list script start turn k by less =
     let slot = start.slot + turn in
     same-on (is_ever_on script k) (is_on script k slot)
     (λ ever. on-since list script start k slot by less (omega arith) ever) (on-ever script k slot)
 
 pub plan-of-faults : (list : Medl) (script : Script) (start : ClusterStart) → start_of list script ≡ Some start
-    → IsSingleFault list script start
-    → IsPlanOfFaults list script start (plan_of list script start)
+    → IsSingleFault list script start → IsPlanOfFaults list script start (plan_of list script start)
 plan-of-faults list script start started run = record {
   returns = refl;
   sound = λ turn k less within.
@@ -156,21 +151,19 @@ within-all list script start last (suc slot) within =
     added (k ∷ made) older = (omega arith, added made older)
 
 pub due-ever : (may : Bool) (on : Option ℕ) (size k slot : ℕ)
-    → cond may (option_map (λ on. on + 2 * size + k) on) None ≡ Some slot
-    → is_some on ≡ true
+    → cond may (option_map (λ on. on + 2 * size + k) on) None ≡ Some slot → is_some on ≡ true
 due-ever true None size k slot due = absurd (none-some slot due)
 due-ever true (Some at) size k slot due = refl
 due-ever false on size k slot due = absurd (none-some slot due)
 
-steady-same : (list : Medl) (script : Script) (start : ClusterStart) (turn slot : ℕ)
-    → IsSingleFault list script start → slot ≡ start.slot + turn → slot < script.slots
+steady-same : (list : Medl) (script : Script) (start : ClusterStart) (turn slot : ℕ) → IsSingleFault list script start
+    → slot ≡ start.slot + turn → slot < script.slots
     → filter (is_steady list script (faulty_before list script start (suc slot))) (below (length list.slots))
     ≡ steady_nodes (plan_of list script start) turn
 steady-same list script start turn slot run is within =
     let plan = plan_of list script start in
     same_sieve (is_steady list script (faulty_before list script start (suc slot))) (is_steady_after plan turn)
-    (length list.slots)
-    (λ k less.
+    (length list.slots) (λ k less.
     let measured = sym (has_node-sieve (λ k. (plan_at list k).sync) (length list.slots) k less) in
     let known = sym (fates-known list script start turn slot k run is within less).sound in
     λ i. measured i && (known ∙ and-true (is_sound_after plan turn k)) i)
@@ -251,8 +244,7 @@ follows-plan list script start run =
       hearing = λ turn within. heard-slot list script start turn run within;
       returns = λ r among. absurd (none-among (plan_of list script start) r refl among);
       clocks = λ turn k less within sound.
-          run.bounds.still k (start.slot + turn)
-          ((heard-slot list script start turn run within).still k less sound);
+          run.bounds.still k (start.slot + turn) ((heard-slot list script start turn run within).still k less sound);
     }
 
 -- the cold start is heard

@@ -50,8 +50,7 @@ entered-told plan slot k good is = record {
 
 -- at another's, or before the first
 kept-near : (plan : Plan) (slot base k : ℕ) → IsGoodPlan plan → k < plan.nodes → base ≤ slot
-    → ((turn : ℕ) → base < turn → turn ≤ slot → sender plan turn ≢ k)
-    → slot < base + plan.nodes
+    → ((turn : ℕ) → base < turn → turn ≤ slot → sender plan turn ≢ k) → slot < base + plan.nodes
 kept-near plan slot base k good less within none =
     let next = next_turn plan (suc base) k (omega (arith, good.count)) less in
     let later : slot < next.0 = elim (cases_lt slot next.0) [
@@ -60,8 +59,8 @@ kept-near plan slot base k good less within none =
     ] in
     omega (arith, later, next.1.1)
 
-kept-told : (plan : Plan) (slot k : ℕ) (ledger : Ledger) → IsGoodPlan plan → k < plan.nodes
-    → sender plan (suc slot) ≢ k → IsLedgerOf plan slot k ledger
+kept-told : (plan : Plan) (slot k : ℕ) (ledger : Ledger) → IsGoodPlan plan → k < plan.nodes → sender plan (suc slot) ≢ k
+    → IsLedgerOf plan slot k ledger
     → IsLedgerOf plan (suc slot) k (with_slot (is_good_slot plan (suc slot)) (is_first_slot plan (suc slot)) ledger)
 kept-told plan slot k ledger good less other told =
     let newest : (turn : ℕ) → turn ≤ suc slot → sender plan turn ≡ k → turn ≤ ledger.base =
@@ -114,5 +113,4 @@ pub ledger-told : (plan : Plan) (slot k : ℕ) → IsGoodPlan plan → k < plan.
 ledger-told plan zero k good less = first-told plan k (sender plan 0 == k) good refl
 ledger-told plan (suc slot) k good less =
     next-told plan slot k (ledger_of plan slot k) (sender plan (suc slot) == k) (enters plan (suc slot) k) good less refl
-    refl
-    (ledger-told plan slot k good less)
+    refl (ledger-told plan slot k good less)

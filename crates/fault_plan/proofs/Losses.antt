@@ -15,8 +15,8 @@ use Rattle.ttp_world.proofs.Filters.{each-sieve}
 use Rattle.ttp_world.proofs.ListFacts.{few-left}
 
 -- a node of a list, of which each has a property, has it
-member-step : (P : ℕ → Type 0) (x r : ℕ) (rest b : Bool) → (x == r) ≡ b → P x → (rest ≡ true → P r)
-    → (b || rest) ≡ true → P r
+member-step : (P : ℕ → Type 0) (x r : ℕ) (rest b : Bool) → (x == r) ≡ b → P x → (rest ≡ true → P r) → (b || rest) ≡ true
+    → P r
 member-step P x r rest true same holds later has = subst P (eqb-true x r same) holds
 member-step P x r rest false other holds later has = later has
 
@@ -48,8 +48,7 @@ same-node : (k j : ℕ) → Makes k ≡ Makes j → j ≡ k
 same-node k j is = cc
 
 one-lost : (sender k r : ℕ) (others : List ℕ) (b : Bool) → (length others == 1) ≡ b
-    → (if b then Makes sender else Makes r) ≡ Makes k
-    → ((k ≡ sender) × (length others ≡ 1)) ⊎ (r ≡ k)
+    → (if b then Makes sender else Makes r) ≡ Makes k → ((k ≡ sender) × (length others ≡ 1)) ⊎ (r ≡ k)
 one-lost sender k r others true single is = inl (same-node sender k is, eqb-true (length others) 1 single)
 one-lost sender k r others false more is = inr (sym (same-node r k is))
 
@@ -104,8 +103,7 @@ pub record IsMadeBy (list : Medl) (script : Script) (fallen : List ℕ) (slot se
       ⊎ ((k < length list.slots) × (is_other script fallen sender slot k ≡ true) × (loses script sender slot k ≡ true))
 
 pub made-by : (list : Medl) (script : Script) (fallen : List ℕ) (slot sender k : ℕ)
-    → sender_loss list script fallen slot sender ≡ Makes k
-    → IsMadeBy list script fallen slot sender k
+    → sender_loss list script fallen slot sender ≡ Makes k → IsMadeBy list script fallen slot sender k
 made-by list script fallen slot sender k is =
     let others = others_in list script fallen sender slot in
     let asked =
@@ -130,8 +128,8 @@ made-by list script fallen slot sender k is =
 
 -- another node that loses the frame is made faulty, or the sender is
 pub loser-tells : (list : Medl) (script : Script) (fallen : List ℕ) (slot sender r : ℕ)
-    → is_ever_on script sender ≡ true → has_node fallen sender ≡ false
-    → r < length list.slots → is_other script fallen sender slot r ≡ true → loses script sender slot r ≡ true
+    → is_ever_on script sender ≡ true → has_node fallen sender ≡ false → r < length list.slots
+    → is_other script fallen sender slot r ≡ true → loses script sender slot r ≡ true
     → is_breaking (sender_loss list script fallen slot sender) ≡ false
     → (sender_loss list script fallen slot sender ≡ Makes sender)
     ⊎ (sender_loss list script fallen slot sender ≡ Makes r)

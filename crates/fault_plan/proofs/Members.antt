@@ -89,8 +89,7 @@ members-own plan slot k small own = by (is_good_slot plan (suc slot)) refl
         ≡ is_sound_after plan (suc slot) k
     by true is =
         has_node-with (planned_members plan slot) (sender plan (suc slot)) k small
-        ∙ ap (λ b. b || has_node (planned_members plan slot) k) on
-        ∙ sym is ∙ ap (is_sound_after plan (suc slot)) own
+        ∙ ap (λ b. b || has_node (planned_members plan slot) k) on ∙ sym is ∙ ap (is_sound_after plan (suc slot)) own
     by false is =
         has_node-without (planned_members plan slot) (sender plan (suc slot)) k
         ∙ ap (λ b. not b && has_node (planned_members plan slot) k) on
@@ -121,15 +120,13 @@ by-struck member own slot k fate (Some incident) by = hit (incident.node == k)
 
 -- a node that is armed, or enters, was no member
 armed-out : (plan : Plan) (slot k : ℕ) → IsGoodPlan plan → IsMember plan slot k (fate_of plan slot k)
-    → is_armed_by plan (suc slot) k ≡ true
-    → has_node (planned_members plan slot) k ≡ false
+    → is_armed_by plan (suc slot) k ≡ true → has_node (planned_members plan slot) k ≡ false
 armed-out plan slot k good by is =
     let fallen = armed-fallen plan slot k good is in
     subst (IsMember plan slot k) fallen.was by
 
 entry-out : (plan : Plan) (slot k : ℕ) → IsGoodPlan plan → IsMember plan slot k (fate_of plan slot k)
-    → enters plan (suc slot) k ≡ true
-    → has_node (planned_members plan slot) k ≡ false
+    → enters plan (suc slot) k ≡ true → has_node (planned_members plan slot) k ≡ false
 entry-out plan slot k good by is = elim (entry-from plan slot k good is) [
   | inl armed ↦ armed-out plan slot k good by armed
   | inr listens ↦ subst (IsMember plan slot k) listens.1 by
@@ -157,10 +154,9 @@ other-after plan slot k entered other is =
     by true = refl
     by false = refl
 
-member-other : (plan : Plan) (slot k : ℕ) (armed entered : Bool) → IsGoodPlan plan → k < 24
-    → sender plan (suc slot) ≢ k → is_armed_by plan (suc slot) k ≡ armed → enters plan (suc slot) k ≡ entered
-    → IsMember plan slot k (fate_of plan slot k)
-    → IsMember plan (suc slot) k (fate_of plan (suc slot) k)
+member-other : (plan : Plan) (slot k : ℕ) (armed entered : Bool) → IsGoodPlan plan → k < 24 → sender plan (suc slot) ≢ k
+    → is_armed_by plan (suc slot) k ≡ armed → enters plan (suc slot) k ≡ entered
+    → IsMember plan slot k (fate_of plan slot k) → IsMember plan (suc slot) k (fate_of plan (suc slot) k)
 member-other plan slot k armed true good small other arms enter by =
     subst (IsMember plan (suc slot) k) (sym (next-entered plan (suc slot) k (fate_of plan slot k) enter))
     (members-other plan slot k small other ∙ entry-out plan slot k good by enter
@@ -173,8 +169,7 @@ member-other plan slot k false false good small other arms none by =
     let fate = struck (suc slot) k (fate_of plan slot k) (incident_at plan (suc slot)) in
     let member = has_node (planned_members plan slot) k in
     let own = (ledger_of plan slot k).own in
-    subst (IsMember plan (suc slot) k)
-    (sym (next-same plan (suc slot) k (fate_of plan slot k) arms none
+    subst (IsMember plan (suc slot) k) (sym (next-same plan (suc slot) k (fate_of plan slot k) arms none
     ∙ ap (λ b. turned b (suc slot) fate) (ne_eqb (sender plan (suc slot)) k other)))
     (by-same (has_node (planned_members plan (suc slot)) k) member (ledger_of plan (suc slot) k).own own fate
     (members-other plan slot k small other) (other-after plan slot k false other none)
@@ -199,18 +194,15 @@ member-told plan zero k good small =
 member-told plan (suc slot) k good small = member-next plan slot k good small (member-told plan slot k good small)
 
 -- So a sound node with a slot of its own is a member,
-pub sound-member : (plan : Plan) (slot k : ℕ) → IsGoodPlan plan → k < plan.nodes
-    → is_sound_after plan slot k ≡ true → (ledger_of plan slot k).own ≡ true
-    → has_node (planned_members plan slot) k ≡ true
+pub sound-member : (plan : Plan) (slot k : ℕ) → IsGoodPlan plan → k < plan.nodes → is_sound_after plan slot k ≡ true
+    → (ledger_of plan slot k).own ≡ true → has_node (planned_members plan slot) k ≡ true
 sound-member plan slot k good less sound own =
     subst (IsMember plan slot k) (sound-fate (fate_of plan slot k) sound)
-    (member-told plan slot k good (omega (arith, good.count)))
-    ∙ own
+    (member-told plan slot k good (omega (arith, good.count))) ∙ own
 
 -- and a fallen one is not.
 pub fallen-member : (plan : Plan) (slot k since shown : ℕ) (change : Change) → IsGoodPlan plan → k < plan.nodes
-    → fate_of plan slot k ≡ Fallen change since shown
-    → has_node (planned_members plan slot) k ≡ false
+    → fate_of plan slot k ≡ Fallen change since shown → has_node (planned_members plan slot) k ≡ false
 fallen-member plan slot k since shown change good less is =
     subst (IsMember plan slot k) is (member-told plan slot k good (omega (arith, good.count)))
 
@@ -227,8 +219,8 @@ sender-then plan k (suc since) good loss =
     sound-on plan since (sender plan (suc since)) good by.1 missed
 
 -- it had its slot then, so that it owns one: neither did it begin since, nor did it enter
-sender-owns : (plan : Plan) (slot k since : ℕ) → IsGoodPlan plan → IsFalling plan slot k Receiving since
-    → (own : Bool) → (ledger_of plan slot (sender plan since)).own ≡ own
+sender-owns : (plan : Plan) (slot k since : ℕ) → IsGoodPlan plan → IsFalling plan slot k Receiving since → (own : Bool)
+    → (ledger_of plan slot (sender plan since)).own ≡ own
     → IsLedgerOf plan slot (sender plan since) (ledger_of plan slot (sender plan since))
     → (ledger_of plan slot (sender plan since)).own ≡ true
 sender-owns plan slot k since good falling true owns told = owns

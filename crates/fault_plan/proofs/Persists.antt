@@ -28,8 +28,7 @@ lost-unsound (Listening since) lost = refl
 
 -- A sound node that did not enter since was sound before.
 pub sound-before : (plan : Plan) (slot later k : ℕ) → slot ≤ later → is_sound_after plan later k ≡ true
-    → ((turn : ℕ) → slot < turn → turn ≤ later → enters plan turn k ≡ false)
-    → is_sound_after plan slot k ≡ true
+    → ((turn : ℕ) → slot < turn → turn ≤ later → enters plan turn k ≡ false) → is_sound_after plan slot k ≡ true
 sound-before plan slot zero k within sound never =
     let none : zero ≡ slot = omega arith in
     subst (λ t. is_sound_after plan t k ≡ true) none sound
@@ -43,27 +42,23 @@ sound-before plan slot (suc later) k within sound never = elim (eq-or-lt_of_le w
 
 -- as each was by a plan in which none returns
 pub sound-earlier : (plan : Plan) (slot later k : ℕ) → plan.returns ≡ [] → slot ≤ later
-    → is_sound_after plan later k ≡ true
-    → is_sound_after plan slot k ≡ true
+    → is_sound_after plan later k ≡ true → is_sound_after plan slot k ≡ true
 sound-earlier plan slot later k none within sound =
     sound-before plan slot later k within sound (λ turn after to. none-enters plan turn k none)
 
 -- and each lasting node was in the last round
 pub lasting-before : (plan : Plan) (slot later k : ℕ) → slot ≤ later → later < slot + plan.nodes
-    → is_lasting_after plan later k ≡ true
-    → is_sound_after plan slot k ≡ true
+    → is_lasting_after plan later k ≡ true → is_sound_after plan slot k ≡ true
 lasting-before plan slot later k within near lasting =
     let parts = and_parts (is_sound_after plan later k) (not (is_new_after plan later k)) lasting in
-    sound-before plan slot later k within parts.0
-    (λ turn after to. false_from_ne_true (enters plan turn k) (λ is.
+    sound-before plan slot later k within parts.0 (λ turn after to. false_from_ne_true (enters plan turn k) (λ is.
     let found = entry-is plan turn k is in
     let r = found.return in
     let at : r.entered ≡ turn = found.entered in
     both_ways (is_new_after plan later k) (not-true (is_new_after plan later k) parts.1)
     (of-any (is_entry_near plan.nodes later k) plan.returns r found.among
     (and_from (r.node == k) (nat_le r.entered later && nat_lt later (r.entered + plan.nodes))
-    (eq-eqb r.node k found.node)
-    (and_from (nat_le r.entered later) (nat_lt later (r.entered + plan.nodes))
+    (eq-eqb r.node k found.node) (and_from (nat_le r.entered later) (nat_lt later (r.entered + plan.nodes))
     (le-leb r.entered later (omega (arith, at, to)))
     (lt-ltb later (r.entered + plan.nodes) (omega (arith, at, after, near))))))))
 
@@ -157,8 +152,7 @@ sound-unarmed plan slot k good sound = false_from_ne_true (is_armed_by plan (suc
 
 -- a sound node that no incident strikes stays so
 pub sound-on : (plan : Plan) (slot k : ℕ) → IsGoodPlan plan → is_sound_after plan slot k ≡ true
-    → strikes (incident_at plan (suc slot)) k ≡ false
-    → is_sound_after plan (suc slot) k ≡ true
+    → strikes (incident_at plan (suc slot)) k ≡ false → is_sound_after plan (suc slot) k ≡ true
 sound-on plan slot k good sound missed = by (enters plan (suc slot) k) refl
   where
     by : (entered : Bool) → enters plan (suc slot) k ≡ entered → is_sound_after plan (suc slot) k ≡ true
@@ -169,8 +163,7 @@ sound-on plan slot k good sound missed = by (enters plan (suc slot) k) refl
         (not_from_false (strikes (incident_at plan (suc slot)) k) missed)
 
 pub sound-through : (plan : Plan) (slot later k : ℕ) → IsGoodPlan plan → slot ≤ later
-    → is_sound_after plan slot k ≡ true
-    → ((turn : ℕ) → slot < turn → turn ≤ later → incident_at plan turn ≡ None)
+    → is_sound_after plan slot k ≡ true → ((turn : ℕ) → slot < turn → turn ≤ later → incident_at plan turn ≡ None)
     → is_sound_after plan later k ≡ true
 sound-through plan slot zero k good within sound quiet =
     let none : slot ≡ zero = omega arith in

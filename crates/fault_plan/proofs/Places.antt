@@ -29,8 +29,7 @@ next-mod n a false some inside =
     lt-of-ne : (m k : ℕ) → m ≤ k → m ≢ k → m < k
     lt-of-ne m k few other = omega arith
 
-slot-next : (list : Medl) (place : Place) (n : ℕ) (last : Bool) → n ≡ length list.slots
-    → (suc place.slot == n) ≡ last
+slot-next : (list : Medl) (place : Place) (n : ℕ) (last : Bool) → n ≡ length list.slots → (suc place.slot == n) ≡ last
     → (next_place list place).slot ≡ cond last 0 (suc place.slot)
 slot-next list place n true same last =
     let here : (suc place.slot == length list.slots) ≡ true = ap (λ m. suc place.slot == m) (sym same) ∙ last in

@@ -75,8 +75,7 @@ enters-by plan r among within =
     and_from (list_any (enters_there r.entered r.node) plan.returns) (nat_lt r.entered plan.slots)
     (of-any (enters_there r.entered r.node) plan.returns r among
     (and_from (r.entered == r.entered) (r.node == r.node) (eq-eqb r.entered r.entered refl)
-    (eq-eqb r.node r.node refl)))
-    (lt-ltb r.entered plan.slots within)
+    (eq-eqb r.node r.node refl))) (lt-ltb r.entered plan.slots within)
 
 pub armed-by : (plan : Plan) (r : Return) → Contains plan.returns r → is_armed_by plan r.armed r.node ≡ true
 armed-by plan r among =
@@ -115,16 +114,14 @@ listens-next : (plan : Plan) (slot k : ℕ) (fate : Fate) → plan.returns ≡ [
 listens-next plan slot k fate none deaf =
     ap is_listening (next-same plan slot k fate (none-armed plan slot k none) (none-enters plan slot k none))
     ∙ turned-same is_listening (sender plan slot == k) slot (struck slot k fate (incident_at plan slot))
-    (λ change since shown. refl)
-    ∙ struck-listens slot k fate (incident_at plan slot) deaf
+    (λ change since shown. refl) ∙ struck-listens slot k fate (incident_at plan slot) deaf
 
 begin-deaf : (b : Bool) → is_listening (cond b Sound Absent) ≡ false
 begin-deaf true = refl
 begin-deaf false = refl
 
 deaf-always : (plan : Plan) (slot k : ℕ) → plan.returns ≡ [] → is_listening (fate_of plan slot k) ≡ false
-deaf-always plan zero k none =
-    listens-next plan 0 k (fate_at_begin plan k) none (begin-deaf (has_node plan.begin k))
+deaf-always plan zero k none = listens-next plan 0 k (fate_at_begin plan k) none (begin-deaf (has_node plan.begin k))
 deaf-always plan (suc slot) k none = listens-next plan (suc slot) k (fate_of plan slot k) none (deaf-always plan slot k none)
 
 pub never-listens : (plan : Plan) (slot k since : ℕ) → plan.returns ≡ [] → fate_of plan slot k ≡ Listening since → ⊥
@@ -140,8 +137,7 @@ pub data Beside (plan : Plan) (r : Return) (slot at : ℕ) : Type 0 where
   After : (late : r.entered + 2 * plan.nodes ≤ slot) → Beside plan r slot at
 
 pub armed-beside : (plan : Plan) (r : Return) (slot k : ℕ) → IsGoodPlan plan → Contains plan.returns r
-    → is_armed_by plan slot k ≡ true
-    → Beside plan r slot r.armed
+    → is_armed_by plan slot k ≡ true → Beside plan r slot r.armed
 armed-beside plan r slot k good among is =
     let found = armed-is plan slot k is in
     let q = found.return in
@@ -154,8 +150,7 @@ armed-beside plan r slot k good among is =
     ]
 
 pub entry-beside : (plan : Plan) (r : Return) (slot k : ℕ) → IsGoodPlan plan → Contains plan.returns r
-    → enters plan slot k ≡ true
-    → Beside plan r slot r.entered
+    → enters plan slot k ≡ true → Beside plan r slot r.entered
 entry-beside plan r slot k good among is =
     let found = entry-is plan slot k is in
     let q = found.return in
@@ -168,9 +163,8 @@ entry-beside plan r slot k good among is =
     ]
 
 -- No loss comes from an arm slot to the entry.
-pub quiet-within : (plan : Plan) (r : Return) (slot : ℕ) → IsGoodPlan plan → Contains plan.returns r
-    → r.armed ≤ slot → slot ≤ r.entered
-    → incident_at plan slot ≡ None
+pub quiet-within : (plan : Plan) (r : Return) (slot : ℕ) → IsGoodPlan plan → Contains plan.returns r → r.armed ≤ slot
+    → slot ≤ r.entered → incident_at plan slot ≡ None
 quiet-within plan r slot good among from to =
     never-found (incident_at plan slot) (λ incident found.
     elim ((good.returns r among).losses slot incident found) [
@@ -235,9 +229,8 @@ enters-late plan k good = false_from_ne_true (enters plan 0 k) (λ is.
 -- A node listens from its arm slot until it enters.
 
 -- it enters in no other slot in between
-enters-not : (plan : Plan) (r : Return) (slot : ℕ) → IsGoodPlan plan → Contains plan.returns r
-    → r.armed ≤ slot → slot < r.entered
-    → enters plan slot r.node ≡ false
+enters-not : (plan : Plan) (r : Return) (slot : ℕ) → IsGoodPlan plan → Contains plan.returns r → r.armed ≤ slot
+    → slot < r.entered → enters plan slot r.node ≡ false
 enters-not plan r slot good among from to = false_from_ne_true (enters plan slot r.node) (λ is.
     elim (entry-beside plan r slot r.node good among is) [
       | Itself same ↦ omega (arith, same)
@@ -245,9 +238,8 @@ enters-not plan r slot good among from to = false_from_ne_true (enters plan slot
       | After late ↦ omega (arith, late, to)
     ])
 
-armed-not : (plan : Plan) (r : Return) (slot : ℕ) → IsGoodPlan plan → Contains plan.returns r
-    → r.armed < slot → slot < r.entered
-    → is_armed_by plan slot r.node ≡ false
+armed-not : (plan : Plan) (r : Return) (slot : ℕ) → IsGoodPlan plan → Contains plan.returns r → r.armed < slot
+    → slot < r.entered → is_armed_by plan slot r.node ≡ false
 armed-not plan r slot good among from to = false_from_ne_true (is_armed_by plan slot r.node) (λ is.
     elim (armed-beside plan r slot r.node good among is) [
       | Itself same ↦ omega (arith, same, from)
@@ -255,9 +247,8 @@ armed-not plan r slot good among from to = false_from_ne_true (is_armed_by plan 
       | After late ↦ omega (arith, late, to)
     ])
 
-pub listens-until : (plan : Plan) (r : Return) (slot : ℕ) → IsGoodPlan plan → Contains plan.returns r
-    → r.armed ≤ slot → slot < r.entered
-    → fate_of plan slot r.node ≡ Listening r.armed
+pub listens-until : (plan : Plan) (r : Return) (slot : ℕ) → IsGoodPlan plan → Contains plan.returns r → r.armed ≤ slot
+    → slot < r.entered → fate_of plan slot r.node ≡ Listening r.armed
 listens-until plan r zero good among from to =
     let next = (good.returns r among).was.1.0 in
     absurd (omega (arith, next, from))
@@ -285,8 +276,7 @@ entry-from plan slot k good is =
     let at = found.entered in
     let after = (good.returns r found.among).after in
     elim (eq-or-lt_of_le after) [
-      | inl same ↦
-          inl ((λ i. is_armed_by plan (sym (same ∙ at) i) (sym found.node i)) ∙ armed-by plan r found.among)
+      | inl same ↦ inl ((λ i. is_armed_by plan (sym (same ∙ at) i) (sym found.node i)) ∙ armed-by plan r found.among)
       | inr before ↦
           inr (
             r.armed,

@@ -39,8 +39,7 @@ unheard-by : (list : Medl) (script : Script) (start : ClusterStart) (slot k r : 
     → start.slot ≤ slot → r < length list.slots → sender_in list start slot ≡ k
     → made_in list script start slot ≡ k ∷ []
     → IsMadeBy list script (fallen_in list script start slot) slot (sender_in list start slot) k
-    → IsUntouched list script start slot r
-    → loses script (sender_in list start slot) slot r ≡ true
+    → IsUntouched list script start slot r → loses script (sender_in list start slot) slot r ≡ true
 unheard-by list script start slot k r run after less own only made clear =
     let e = sender_in list start slot in
     let fallen = fallen_in list script start slot in
@@ -52,8 +51,7 @@ unheard-by list script start slot k r run after less own only made clear =
           each-member (λ j. loses script e slot j ≡ true) (others_in list script fallen e slot) r all.1
           (has_node-sieve (is_other script fallen e slot) (length list.slots) r less ∙ other)
       | inr one ↦
-          let rest =
-          and_parts (is_on script k slot) (not (has_node fallen k) && not (k == e)) one.1 in
+          let rest = and_parts (is_on script k slot) (not (has_node fallen k) && not (k == e)) one.1 in
           let apart = and_parts (not (has_node fallen k)) (not (k == e)) rest.1 in
           absurd (eqb-false k e (not-true (k == e) apart.1) (sym own))
     ]
@@ -67,8 +65,7 @@ deaf-by list script start slot k other made = elim made.how [
 ]
 
 still-by : (list : Medl) (script : Script) (start : ClusterStart) (slot r : ℕ) → IsSingleFault list script start
-    → start.slot ≤ slot → r < length list.slots → IsUntouched list script start slot r
-    → has_jump script r slot ≡ false
+    → start.slot ≤ slot → r < length list.slots → IsUntouched list script start slot r → has_jump script r slot ≡ false
 still-by list script start slot r run after less clear =
     let faulty = faulty_before list script start slot in
     let on : is_on script r slot ≡ true = on-since list script start r slot run.on less after clear.ever in
@@ -81,8 +78,7 @@ still-by list script start slot r run after less clear =
     (not_from_false (has_node faulty r) clear.faulty) jumps)))
 
 pub heard-slot : (list : Medl) (script : Script) (start : ClusterStart) (turn : ℕ) → IsSingleFault list script start
-    → start.slot + turn < script.slots
-    → IsHeardByPlan script start (plan_of list script start) turn
+    → start.slot + turn < script.slots → IsHeardByPlan script start (plan_of list script start) turn
 heard-slot list script start turn run within =
     let slot = start.slot + turn in
     let plan = plan_of list script start in
@@ -99,8 +95,7 @@ heard-slot list script start turn run within =
           subst (λ e. loses script e slot r ≡ false) same
           (heard-by list script start slot r run after within less (λ at. other (at ∙ same))
           (clear (sender_in list start slot) (sender-less list script start slot run)
-          (ap (is_sound_after plan turn) same ∙ good))
-          (clear r less sound));
+          (ap (is_sound_after plan turn) same ∙ good)) (clear r less sound));
       listens = λ r since less good fate.
           absurd (never-listens (plan_of list script start) turn r since refl fate);
       unheard = λ r incident less found sending sound.
@@ -112,8 +107,7 @@ heard-slot list script start turn run within =
           (unheard-by list script start slot incident.node r run after less
           (eqb-true (sender_in list start slot) incident.node parts.1) only.only
           (unless_jumping list script start slot incident.node parts.0
-          (origin-of list script start slot incident.node after only.only))
-          (clear r less sound));
+          (origin-of list script start slot incident.node after only.only)) (clear r less sound));
       deaf = λ incident found receiving.
           let only = made incident found in
           let parts =
@@ -139,15 +133,13 @@ pub record WasSound (list : Medl) (script : Script) (start : ClusterStart) (slot
   pub none : has_node (faulty_before list script start slot) k ≡ false
 
 fallen-none : (list : Medl) (script : Script) (start : ClusterStart) (slot k : ℕ)
-    → has_node (fallen_in list script start slot) k ≡ false
-    → has_node (faulty_before list script start slot) k ≡ false
+    → has_node (fallen_in list script start slot) k ≡ false → has_node (faulty_before list script start slot) k ≡ false
 fallen-none list script start slot k none =
     (or_parts (has_node (jumpers list script start slot) k) (has_node (faulty_before list script start slot) k)
     (sym (has_node-append (jumpers list script start slot) (faulty_before list script start slot) k) ∙ none)).1
 
 pub was-sound : (list : Medl) (script : Script) (start : ClusterStart) (slot k : ℕ) → IsSingleFault list script start
-    → Origin list script start slot k
-    → WasSound list script start slot k
+    → Origin list script start slot k → WasSound list script start slot k
 was-sound list script start slot k run (ByJump jumper) =
     record { less = jumper.less; ever = on-ever script k slot jumper.on; none = jumper.was }
 was-sound list script start slot k run (ByLoss made) = elim made.how [
@@ -191,8 +183,7 @@ loss-slot list script start turn slot incident run is within found =
       node = was.less;
       was = sound-before list script start turn slot k run is before was.less was.ever was.none;
       sending = λ sending.
-          sym same
-          ∙ eqb-true e k (sending-is (has_jump script k (suc slot)) (e == k) (sym made.change ∙ sending)).1;
+          sym same ∙ eqb-true e k (sending-is (has_jump script k (suc slot)) (e == k) (sym made.change ∙ sending)).1;
       receiving = λ receiving.
           let parts = receiving-is (has_jump script k (suc slot)) (e == k) (sym made.change ∙ receiving) in
           let by = unless_jumping list script start (suc slot) k parts.0 origin in (

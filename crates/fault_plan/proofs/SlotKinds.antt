@@ -31,8 +31,7 @@ quiet-while plan slot k good may =
 -- The incident of another node than the sender.
 
 other-struck : (plan : Plan) (slot k : ℕ) (incident : Incident) → strikes (incident_at plan slot) k ≡ false
-    → incident_at plan slot ≡ Some incident
-    → incident.node ≢ k
+    → incident_at plan slot ≡ Some incident → incident.node ≢ k
 other-struck plan slot k incident missed found same =
     both_ways (strikes (incident_at plan slot) k) missed
     (ap (λ found. strikes found k) found ∙ eq-eqb incident.node k same)
@@ -45,8 +44,7 @@ jumping-left Jumping silent deaf = refl
 idle-told : (plan : Plan) (slot : ℕ) → IsGoodPlan plan
     → strikes (incident_at plan (suc slot)) (sender plan (suc slot)) ≡ false
     → is_sound_after plan slot (sender plan (suc slot)) ≡ false
-    → may_stay plan.nodes slot (fate_of plan slot (sender plan (suc slot))) ≡ false
-    → IsIdle plan slot
+    → may_stay plan.nodes slot (fate_of plan slot (sender plan (suc slot))) ≡ false → IsIdle plan slot
 idle-told plan slot good missed was left =
     let e = sender plan (suc slot) in
     record {
@@ -63,8 +61,7 @@ idle-told plan slot good missed was left =
 
 good-told : (plan : Plan) (slot : ℕ) → IsGoodPlan plan
     → strikes (incident_at plan (suc slot)) (sender plan (suc slot)) ≡ false
-    → is_sound_after plan slot (sender plan (suc slot)) ≡ true
-    → IsGoodAfter plan slot
+    → is_sound_after plan slot (sender plan (suc slot)) ≡ true → IsGoodAfter plan slot
 good-told plan slot good missed was =
     let e = sender plan (suc slot) in
     record {
@@ -100,8 +97,7 @@ kind-later nodes slot since shown change last other apart is =
 fallen-told : (plan : Plan) (slot since shown : ℕ) (change : Change) (last : Bool) → IsGoodPlan plan
     → strikes (incident_at plan (suc slot)) (sender plan (suc slot)) ≡ false
     → fate_of plan slot (sender plan (suc slot)) ≡ Fallen change since shown → shown + plan.nodes ≤ suc slot
-    → (shown + plan.nodes == suc slot) ≡ last
-    → IsKindAfter plan slot (cond last (Last change since shown) Idle)
+    → (shown + plan.nodes == suc slot) ≡ last → IsKindAfter plan slot (cond last (Last change since shown) Idle)
 fallen-told plan slot since shown change true good missed is past last =
     let e = sender plan (suc slot) in
     let round : shown + plan.nodes ≡ suc slot = eqb-true (shown + plan.nodes) (suc slot) last in
@@ -138,13 +134,11 @@ missed-told plan slot (Falling change since) good missed is told =
     subst (IsKindAfter plan slot) (sym (kind-shown plan.nodes (suc slot) since change (λ same. omega arith))) shown
 missed-told plan slot (Fallen change since shown) good missed is told =
     let from : (since ≤ shown) × (shown ≤ slot) = told.from in
-    let past =
-    turns_apart plan shown (suc slot) (omega (arith, good.count)) (omega (arith, from.1)) told.own in
+    let past = turns_apart plan shown (suc slot) (omega (arith, good.count)) (omega (arith, from.1)) told.own in
     let last = shown + plan.nodes == suc slot in
     subst (IsKindAfter plan slot)
     (sym (kind-later plan.nodes (suc slot) since shown change last (λ same. omega (arith, from.0, from.1))
-    (λ same. omega (arith, from.1)) refl))
-    (fallen-told plan slot since shown change last good missed is past refl)
+    (λ same. omega (arith, from.1)) refl)) (fallen-told plan slot since shown change last good missed is past refl)
 
 -- Each slot.
 
@@ -169,8 +163,7 @@ struck-told plan slot fate (Some incident) true good at strike is told =
       how = refl;
       not_deaf = λ deaf. (loss.receiving deaf).0 (sym node);
     } in
-    rw strike
-    (subst (IsKindAfter plan slot) (sym (kind-lost plan.nodes (suc slot) (suc slot) incident.change)) lost)
+    rw strike (subst (IsKindAfter plan slot) (sym (kind-lost plan.nodes (suc slot) (suc slot) incident.change)) lost)
 struck-told plan slot fate (Some incident) false good at strike is told =
     rw strike
     (missed-told plan slot fate good (ap (λ found. strikes found (sender plan (suc slot))) at ∙ strike) is told)
@@ -255,8 +248,7 @@ first-by plan slot k Sound told = refl
 first-by plan slot k (Falling change since) told = refl
 first-by plan slot k (Listening since) told = refl
 first-by plan slot k (Fallen change since shown) told =
-    fallen-first (since == slot) (shown == slot) (shown + plan.nodes == slot) change since shown
-    (λ now.
+    fallen-first (since == slot) (shown == slot) (shown + plan.nodes == slot) change since shown (λ now.
     let same : since ≡ slot = eqb-true since slot now in
     eq-eqb shown slot (omega (arith, told.from.0, told.from.1)))
 
@@ -284,8 +276,7 @@ only-good plan slot k (Last change since shown) good may other told =
     lt-ltb slot (shown + plan.nodes) (omega (arith, told.round)) in
     absurd (other (one-stays plan slot e k good (ap (may_stay plan.nodes slot) told.was ∙ stays) may))
 
-pub others-good : (plan : Plan) (slot k : ℕ) → IsGoodPlan plan
-    → may_stay plan.nodes slot (fate_of plan slot k) ≡ true → sender plan (suc slot) ≢ k
-    → (slot_kind plan (suc slot) ≡ Good) ⊎ (slot_kind plan (suc slot) ≡ Idle)
+pub others-good : (plan : Plan) (slot k : ℕ) → IsGoodPlan plan → may_stay plan.nodes slot (fate_of plan slot k) ≡ true
+    → sender plan (suc slot) ≢ k → (slot_kind plan (suc slot) ≡ Good) ⊎ (slot_kind plan (suc slot) ≡ Idle)
 others-good plan slot k good may other =
     only-good plan slot k (slot_kind plan (suc slot)) good may other (kind-told plan slot good)

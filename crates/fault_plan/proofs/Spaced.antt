@@ -53,8 +53,7 @@ each-turned P (f ∷ faulty) each =
     (parts.1.0, each-turned P faulty parts.0)
 
 pub spaced-all : (gap earliest : ℕ) (faulty : List FaultyNode)
-    → first_too_early gap earliest (reverse (map (λ f. f.slot) faulty)) ≡ None
-    → IsSpaced gap earliest faulty
+    → first_too_early gap earliest (reverse (map (λ f. f.slot) faulty)) ≡ None → IsSpaced gap earliest faulty
 spaced-all gap earliest [] none = tt
 spaced-all gap earliest (f ∷ faulty) none =
     let slots = map (λ (g : FaultyNode). g.slot) faulty in

@@ -21,8 +21,7 @@ one-fewer true false tells = absurd (both_ways false refl (tells refl))
 one-fewer false c tells = omega arith
 
 -- Where one test passes only with another, it passes no more often.
-pub count-fewer : (p q : ℕ → Bool) (from many : ℕ)
-    → ((u : ℕ) → from ≤ u → u < from + many → p u ≡ true → q u ≡ true)
+pub count-fewer : (p q : ℕ → Bool) (from many : ℕ) → ((u : ℕ) → from ≤ u → u < from + many → p u ≡ true → q u ≡ true)
     → tally p from many ≤ tally q from many
 count-fewer p q from zero tells = omega arith
 count-fewer p q from (suc many) tells =
@@ -47,21 +46,17 @@ count-none p from (suc many) fails =
     + count-none p from many (λ u above to. fails u above (omega arith)) i)
 
 -- where no two pass, at most one does
-count-step : (p : ℕ → Bool) (from many : ℕ) (b : Bool) → p (from + many) ≡ b
-    → (b ≡ true → tally p from many ≡ 0) → tally p from many ≤ 1
-    → one_if b + tally p from many ≤ 1
+count-step : (p : ℕ → Bool) (from many : ℕ) (b : Bool) → p (from + many) ≡ b → (b ≡ true → tally p from many ≡ 0)
+    → tally p from many ≤ 1 → one_if b + tally p from many ≤ 1
 count-step p from many true last none few = let zero_left = none refl in omega (arith, zero_left)
 count-step p from many false last none few = omega (arith, few)
 
 pub count-one : (p : ℕ → Bool) (from many : ℕ)
-    → ((u v : ℕ) → from ≤ u → u < v → v < from + many → p u ≡ true → p v ≡ true → ⊥)
-    → tally p from many ≤ 1
+    → ((u v : ℕ) → from ≤ u → u < v → v < from + many → p u ≡ true → p v ≡ true → ⊥) → tally p from many ≤ 1
 count-one p from zero never = omega arith
 count-one p from (suc many) never =
-    count-step p from many (p (from + many)) refl
-    (λ last. count-none p from many
-    (λ u above to. false_from_ne_true (p u)
-    (λ here. never u (from + many) above to (omega arith) here last)))
+    count-step p from many (p (from + many)) refl (λ last. count-none p from many
+    (λ u above to. false_from_ne_true (p u) (λ here. never u (from + many) above to (omega arith) here last)))
     (count-one p from many (λ u v above less to. never u v above less (omega arith)))
 
 -- The slots of a round, wherever it begins.
@@ -83,8 +78,7 @@ turned-round : (p : ℕ → Bool) (n from : ℕ) → tally (λ u. p (u % n)) fro
 turned-round p n zero = refl
 turned-round p n (suc from) =
     let moved = shift (λ u. p (u % n)) from n in
-    let same : one_if (p ((from + n) % n)) ≡ one_if (p (from % n)) =
-    ap (λ t. one_if (p t)) (add-mod_right from n) in
+    let same : one_if (p ((from + n) % n)) ≡ one_if (p (from % n)) = ap (λ t. one_if (p t)) (add-mod_right from n) in
     let before = turned-round p n from in
     omega (arith, moved, same, before)
 

@@ -48,8 +48,7 @@ next_turn plan from k some small =
     )
 
 -- and its slots are a round apart
-pub turns_apart : (plan : Plan) (turn later : ℕ) → 0 < plan.nodes → turn < later
-    → sender plan turn ≡ sender plan later
+pub turns_apart : (plan : Plan) (turn later : ℕ) → 0 < plan.nodes → turn < later → sender plan turn ≡ sender plan later
     → turn + plan.nodes ≤ later
 turns_apart plan turn later some less same =
     let apart = turns-apart plan.nodes (plan.starter + turn) (plan.starter + later) some (omega arith) same in

@@ -19,8 +19,7 @@ returns_in list script start events = filter_map (return_of list script start) e
 
 -- a node that is armed is one of the list, in a slot of the run
 pub armed-valid : (list : Medl) (script : Script) (k slot : ℕ) → IsValidScript list script
-    → is_armed script k slot ≡ true
-    → (k < length list.slots) × (slot < script.slots)
+    → is_armed script k slot ≡ true → (k < length list.slots) × (slot < script.slots)
 armed-valid list script k slot valid armed =
     let line = arm-line script k slot armed in
     subst (IsValidEvent list script) line.2 (valid.events line.0 (event.Arm k slot) line.1)
@@ -30,8 +29,7 @@ armed-valid list script k slot valid armed =
 same-slot : (start at turn : ℕ) → (at - start == suc turn) ≡ (at == start + suc turn)
 same-slot start at turn = elim (cases_eq at (start + suc turn)) [
   | inl same ↦ eq-eqb (at - start) (suc turn) (omega arith) ∙ sym (eq-eqb at (start + suc turn) same)
-  | inr other ↦
-      ne_eqb (at - start) (suc turn) (λ is. other (omega arith)) ∙ sym (ne_eqb at (start + suc turn) other)
+  | inr other ↦ ne_eqb (at - start) (suc turn) (λ is. other (omega arith)) ∙ sym (ne_eqb at (start + suc turn) other)
 ]
 
 swapped : (b c : Bool) → (b && c) ≡ (c && b)
@@ -134,8 +132,7 @@ each-at P (y ∷ xs) x each (zero, within, is) = subst P is each.0
 each-at P (y ∷ xs) x each (suc i, within, is) = each-at P xs x each.1 (i, omega arith, is)
 
 pub return-of : (list : Medl) (script : Script) (start : ClusterStart) (r : Return)
-    → Contains (back_plan_of list script start).returns r
-    → IsOfLine list script start script.events r
+    → Contains (back_plan_of list script start).returns r → IsOfLine list script start script.events r
 return-of list script start r among =
     each-at (IsOfLine list script start script.events) (returns_in list script start script.events) r
     (lines-of list script start script.events) among

@@ -31,8 +31,7 @@ pub record IsArmedIn (list : Medl) (script : Script) (start : ClusterStart) (k a
   pub offered : is_offered list script start k arm ≡ true
 
 pub armed-in : (list : Medl) (script : Script) (start : ClusterStart) (k arm : ℕ) → IsBackRun list script start
-    → k < length list.slots → arm < script.slots → is_armed script k arm ≡ true
-    → IsArmedIn list script start k arm
+    → k < length list.slots → arm < script.slots → is_armed script k arm ≡ true → IsArmedIn list script start k arm
 armed-in list script start k arm run less within armed =
     let one = and_parts (is_long_faulty list script start k arm) _ (run.armed k arm less within armed) in
     let two = and_parts (is_apart list script start arm) _ one.1 in
@@ -91,8 +90,7 @@ nobody P slot (k ∷ ks) each not = absurd (not k each.0)
 
 pub arm-quiet : (list : Medl) (script : Script) (start : ClusterStart) (k arm slot : ℕ)
     → IsArmedIn list script start k arm → slot < script.slots → arm < slot + two_rounds list
-    → slot < arm + four_rounds list
-    → made list script start slot ≡ []
+    → slot < arm + four_rounds list → made list script start slot ≡ []
 arm-quiet list script start k arm slot is within from to =
     let test : FaultyNode → Bool = λ f. is_near_fault list arm f.slot in
     let none = any-none test (joinings (slots_before list script start script.slots))
@@ -107,8 +105,7 @@ arm-quiet list script start k arm slot is within from to =
 -- Another arm line is far.
 
 pub arm-only : (list : Medl) (script : Script) (start : ClusterStart) (k arm j other : ℕ)
-    → IsArmedIn list script start k arm → is_armed script j other ≡ true → arm ≤ other
-    → other < arm + four_rounds list
+    → IsArmedIn list script start k arm → is_armed script j other ≡ true → arm ≤ other → other < arm + four_rounds list
     → (k ≡ j) × (arm ≡ other)
 arm-only list script start k arm j other is armed from to =
     let some : 0 < four_rounds list = omega (arith, from, to) in
@@ -140,8 +137,7 @@ unforgiven list script start k arm slot run is from to =
     ]
 
 pub arm-stays : (list : Medl) (script : Script) (start : ClusterStart) (k arm gone slot : ℕ)
-    → IsBackRun list script start
-    → IsArmedIn list script start k arm → slot ≡ arm + gone → gone < four_rounds list
+    → IsBackRun list script start → IsArmedIn list script start k arm → slot ≡ arm + gone → gone < four_rounds list
     → has_node (at list script start slot) k ≡ true
 arm-stays list script start k arm zero slot run is now soon =
     let same : arm ≡ slot = omega arith in
@@ -152,7 +148,6 @@ arm-stays list script start k arm (suc gone) (suc slot) run is now soon =
     let was : has_node (after list script start slot) k ≡ true =
     after-has list script start slot k
     ∙ or_right (has_node (made list script start slot) k) (has_node (at list script start slot) k) before in
-    at-next list script start slot k
-    ∙ and_from (has_node (after list script start slot) k)
+    at-next list script start slot k ∙ and_from (has_node (after list script start slot) k)
     (not (is_forgiven list script (slots_before list script start (suc slot)) (suc slot) k)) was
     (ap not (unforgiven list script start k arm (suc slot) run is (omega arith) (omega arith)))

@@ -27,8 +27,7 @@ flip-none list script k slot c (event.Flip node channels bit at) none = absurd (
 flip-none list script k slot c _ none = refl
 
 no_flips : (list : Medl) (script : Script) (k slot : ℕ) (c : Channel) (events : List Event)
-    → AllByRecursion (λ e. disturbed_slot list script e ≡ None) events
-    → filter_map (flipped_bit k c slot) events ≡ []
+    → AllByRecursion (λ e. disturbed_slot list script e ≡ None) events → filter_map (flipped_bit k c slot) events ≡ []
 no_flips list script k slot c [] inside = refl
 no_flips list script k slot c (e ∷ events) inside =
     let here : flipped_bit k c slot e ≡ None = flip-none list script k slot c e inside.0 in
@@ -51,8 +50,7 @@ twice a b n w fits =
     let few : 4 * n ≤ 8 * n = omega arith in
     omega (arith, ints, fits, mul-le-mul_left a few)
 
-half-enough : (d e w : ℤ) (n : ℕ) → pos 0 ≤ℤ d → pos 0 ≤ℤ e
-    → ((d *ℤ pos (8 * n)) +ℤ ((e *ℤ pos 6) +ℤ pos 2)) ≤ℤ w
+half-enough : (d e w : ℤ) (n : ℕ) → pos 0 ≤ℤ d → pos 0 ≤ℤ e → ((d *ℤ pos (8 * n)) +ℤ ((e *ℤ pos 6) +ℤ pos 2)) ≤ℤ w
     → ((d *ℤ pos (4 * n)) +ℤ ((e *ℤ pos 3) +ℤ pos 1)) ≤ℤ w
 half-enough (pos a) (pos b) w n up some fits = twice a b n w fits
 half-enough (pos a) (negsuc b) w n up some fits = absurd (omega (arith, ints, some))
@@ -65,8 +63,7 @@ window-needed list valid fits =
 -- All of it.
 
 pub back-bounds : (list : Medl) (script : Script) → IsValid list → clocks_broken list script ≡ None
-    → back_window_broken list ≡ None → disturbance_broken list script ≡ None
-    → IsWithinBounds list script
+    → back_window_broken list ≡ None → disturbance_broken list script ≡ None → IsWithinBounds list script
 back-bounds list script valid clocks window outside =
     bounds-of list script clocks (window-needed list valid (back-window list window))
     (λ k slot has. undisturbed-jump list script k slot outside has)

@@ -50,8 +50,7 @@ within-all list script start last (suc slot) within =
 -- a node that is not faulty after a slot is sound
 pub clear-sound : (list : Medl) (script : Script) (start : ClusterStart) (turn slot k : ℕ) → IsBackRun list script start
     → slot ≡ start.slot + turn → slot < script.slots → k < length list.slots → is_ever_on script k ≡ true
-    → has_node (after list script start slot) k ≡ false
-    → is_sound_after (back_plan_of list script start) turn k ≡ true
+    → has_node (after list script start slot) k ≡ false → is_sound_after (back_plan_of list script start) turn k ≡ true
 clear-sound list script start turn slot k run now within less ever none =
     by (standing list script start turn slot k run now within less ever)
   where
@@ -63,8 +62,7 @@ clear-sound list script start turn slot k run now within less ever none =
         let stays =
         arm-stays list script start k arm (slot - arm) slot run armed.is (omega (arith, armed.from))
         (omega (arith, armed.from, armed.to)) in
-        absurd (both_ways (has_node (after list script start slot) k) none
-        (after-has list script start slot k
+        absurd (both_ways (has_node (after list script start slot) k) none (after-has list script start slot k
         ∙ or_right (has_node (made list script start slot) k) (has_node (at list script start slot) k) stays))
 
 -- Returns.
@@ -101,27 +99,22 @@ armed-was list script start turn slot k run now is =
         since-lost (fate_of (back_plan_of list script start) turn k) (since - start.slot) lost.fate_is
     by (ArmedSince arm armed) = elim (cases_lt (suc slot) (arm + four_rounds list)) [
       | inl soon ↦
-          let same =
-          arm-only list script start k arm k (suc slot) armed.is is.armed (omega (arith, armed.from)) soon in
+          let same = arm-only list script start k arm k (suc slot) armed.is is.armed (omega (arith, armed.from)) soon in
           absurd (omega (arith, same.1, armed.from))
       | inr over ↦
           let forgiven =
           forgiven-late list script start (suc slot) arm k (omega (arith, run.valid.count))
-          (omega (arith, over, armed.to))
-          ∙ and_from (has_node (at list script start arm) k) (is_armed script k arm)
+          (omega (arith, over, armed.to)) ∙ and_from (has_node (at list script start arm) k) (is_armed script k arm)
           (arm-faulty list script start k arm armed.is) armed.is.armed in
-          absurd (both_ways
-          (is_forgiven list script (slots_before list script start (suc slot)) (suc slot) k)
+          absurd (both_ways (is_forgiven list script (slots_before list script start (suc slot)) (suc slot) k)
           (not-true (is_forgiven list script (slots_before list script start (suc slot)) (suc slot) k) kept.1) forgiven)
     ]
 
 -- the slot in which it enters is good
 pub entry-good : (list : Medl) (script : Script) (start : ClusterStart) (turn slot k arm : ℕ)
-    → IsBackRun list script start
-    → IsArmedIn list script start k arm → slot ≡ start.slot + turn → slot < script.slots
+    → IsBackRun list script start → IsArmedIn list script start k arm → slot ≡ start.slot + turn → slot < script.slots
     → entry_slot list script start k arm ≡ slot
-    → (is_good_slot (back_plan_of list script start) turn ≡ true)
-    × (sender (back_plan_of list script start) turn ≢ k)
+    → (is_good_slot (back_plan_of list script start) turn ≡ true) × (sender (back_plan_of list script start) turn ≢ k)
 entry-good list script start turn slot k arm run is now within enters =
     let e = expected_sender list start slot in
     let faulty = at list script start slot in
@@ -154,8 +147,7 @@ same-return list script start q r one two node arm =
     one.is ∙ (λ i. return_at list script start (node i) (arm i)) ∙ sym two.is
 
 pub back-return : (list : Medl) (script : Script) (start : ClusterStart) (r : Return) → IsBackRun list script start
-    → Contains (back_plan_of list script start).returns r
-    → IsReturn (back_plan_of list script start) r
+    → Contains (back_plan_of list script start).returns r → IsReturn (back_plan_of list script start) r
 back-return list script start r run among =
     let plan = back_plan_of list script start in
     let k = r.node in
@@ -293,8 +285,7 @@ old-enough list script start turn slot k run now none =
     arm-stays list script start k of.arm (slot - of.arm) slot run is
     (omega (arith, entered, low, now, entry.from, late))
     (omega (arith, entered, low, high, now, entry.from, entry.to, late)) in
-    both_ways (has_node (after list script start slot) k) none
-    (after-has list script start slot k
+    both_ways (has_node (after list script start slot) k) none (after-has list script start slot k
     ∙ or_right (has_node (made list script start slot) k) (has_node (at list script start slot) k) stays))
 
 steady-is : (list : Medl) (script : Script) (start : ClusterStart) (turn slot k : ℕ) → IsBackRun list script start

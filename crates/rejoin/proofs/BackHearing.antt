@@ -92,8 +92,7 @@ filter-one p a (suc n) e only =
         omega (arith, none)
     by false here rest = rest
 
-another-of : (p : ℕ → Bool) (n e : ℕ) → 2 ≤ length (filter p (below n))
-    → (q : ℕ) × ((q < n) × ((p q ≡ true) × (q ≢ e)))
+another-of : (p : ℕ → Bool) (n e : ℕ) → 2 ≤ length (filter p (below n)) → (q : ℕ) × ((q < n) × ((p q ≡ true) × (q ≢ e)))
 another-of p n e some = by (find other (below n)) refl
   where
     other : ℕ → Bool
@@ -126,8 +125,7 @@ another-clear list script start slot e run from within =
     leb-true 4 (length (filter (is_steady list script gone) (nodes_of list))) (run.steady slot from within) in
     let found = another-of (is_steady list script gone) (length list.slots) e (omega (arith, four)) in
     let q = found.0 in
-    let parts =
-    and_parts (plan_at list q).sync (is_ever_on script q && not (has_node gone q)) found.1.1.0 in
+    let parts = and_parts (plan_at list q).sync (is_ever_on script q && not (has_node gone q)) found.1.1.0 in
     let rest = and_parts (is_ever_on script q) (not (has_node gone q)) parts.1 in
     (q, (found.1.0, (clear-after list script start slot q rest.0 (not-true (has_node gone q) rest.1), found.1.1.1)))
 
@@ -147,8 +145,7 @@ covered-parts script e r slot c is silent noisy =
 
 -- a node near its arm line hears what a clear node sends, since else all others would lose it
 pub near-hears : (list : Medl) (script : Script) (start : ClusterStart) (slot r : ℕ) → IsBackRun list script start
-    → start.slot ≤ slot → slot < script.slots
-    → expected_sender list start slot < length list.slots
+    → start.slot ≤ slot → slot < script.slots → expected_sender list start slot < length list.slots
     → IsClear list script start slot (expected_sender list start slot) → IsNearArm list script start slot r
     → loses script (expected_sender list start slot) slot r ≡ false
 near-hears list script start slot r run from within small sends near =
@@ -191,8 +188,7 @@ none-range p a (suc n) slot none from to =
     ]
 
 listed : (p : ℕ → Bool) (arm slot many slots : ℕ) → arm ≤ slot → slot < arm + many → slot < slots
-    → list_any p (range_with_len arm (min (arm + many) slots - arm)) ≡ false
-    → p slot ≡ false
+    → list_any p (range_with_len arm (min (arm + many) slots - arm)) ≡ false → p slot ≡ false
 listed p arm slot many slots from to within none =
     none-range p arm (min (arm + many) slots - arm) slot none from (omega arith)
 
@@ -219,8 +215,7 @@ near-heard list script start slot r run from within less near hears =
     (not_from_false (has_node faulty r) hears.was) in
     let hearing : (is_deaf_on script r slot channel.A && is_deaf_on script r slot channel.B) ≡ false =
     second (is_sound script faulty slot r) (is_deaf_on script r slot channel.A && is_deaf_on script r slot channel.B)
-    here
-    sound in
+    here sound in
     false_from_ne_true (loses script e slot r) (λ lost.
     let both = and_parts (is_covered script e r slot channel.A) (is_covered script e r slot channel.B) lost in
     both_ways (is_deaf_on script r slot channel.A && is_deaf_on script r slot channel.B) hearing
@@ -234,8 +229,7 @@ near-heard list script start slot r run from within less near hears =
 
 -- two of them are one
 pub near-same : (list : Medl) (script : Script) (start : ClusterStart) (slot j k : ℕ)
-    → IsNearArm list script start slot j
-    → IsNearArm list script start slot k → j ≡ k
+    → IsNearArm list script start slot j → IsNearArm list script start slot k → j ≡ k
 near-same list script start slot j k one two = elim (cases_lt two.arm one.arm) [
   | inl later ↦
       sym (arm-only list script start k two.arm j one.arm two.is one.is.armed (omega (arith, later))

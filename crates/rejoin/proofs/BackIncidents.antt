@@ -78,8 +78,7 @@ pub none-before : (list : Medl) (script : Script) (start : ClusterStart) (turn s
     → incident_among list script start turn (joinings (slots_before list script start slot)) ≡ None
 none-before list script start turn zero later within = refl
 none-before list script start turn (suc slot) later within =
-    found-next list script start turn slot
-    ∙ (λ i. option_or
+    found-next list script start turn slot ∙ (λ i. option_or
     (none-slot list script start turn slot (made list script start slot) (λ same. omega arith) i)
     (none-before list script start turn slot later (omega arith) i))
 
@@ -92,29 +91,26 @@ some-before list script start turn at (suc last) later is within =
     let older = incident_among list script start turn (joinings (slots_before list script start last)) in
     elim (cases_eq last at) [
       | inl same ↦
-          found-next list script start turn last
-          ∙ (λ i. option_or
+          found-next list script start turn last ∙ (λ i. option_or
           (some-slot list script start turn last (made list script start last) (omega arith) i)
           (none-before list script start turn last later (omega arith) i))
           ∙ or-none (incident_made list script start last (made list script start last))
           ∙ ap (λ t. incident_made list script start t (made list script start t)) same
       | inr other ↦
-          found-next list script start turn last
-          ∙ ap (λ found. option_or found older)
+          found-next list script start turn last ∙ ap (λ found. option_or found older)
           (none-slot list script start turn last (made list script start last) (λ same. omega arith))
           ∙ some-before list script start turn at last later is (omega arith)
     ]
 
-pub incident-slot : (list : Medl) (script : Script) (start : ClusterStart) (turn slot : ℕ)
-    → IsBackRun list script start → slot ≡ start.slot + turn → slot < script.slots
+pub incident-slot : (list : Medl) (script : Script) (start : ClusterStart) (turn slot : ℕ) → IsBackRun list script start
+    → slot ≡ start.slot + turn → slot < script.slots
     → incident_at (back_plan_of list script start) turn
     ≡ incident_made list script start slot (made list script start slot)
 incident-slot list script start zero slot run is within =
     let gap = two_rounds list in
     let some = some-rounds list script start run in
     let all = joinings (slots_before list script start script.slots) in
-    never-found (incident_among list script start 0 all)
-    (λ incident found.
+    never-found (incident_among list script start 0 all) (λ incident found.
     let late : two_rounds list ≤ 0 = late-found list script start gap 0 incident all run.spaced found in
     omega (arith, some, late))
     ∙ ap (incident_made list script start slot)

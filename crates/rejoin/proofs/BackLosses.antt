@@ -75,8 +75,7 @@ early-harmless list script start slot early =
     (sender_loss list script (fallen list script start slot) slot (expected_sender list start slot))) before
 
 pub origin-of : (list : Medl) (script : Script) (start : ClusterStart) (slot k : ℕ)
-    → has_node (made list script start slot) k ≡ true
-    → Origin list script start slot k
+    → has_node (made list script start slot) k ≡ true → Origin list script start slot k
 origin-of list script start slot k has =
     elim (or_cases (has_node (nodes_made (loss_of list script start slot)) k)
     (has_node (jumpers list script start slot) k)
@@ -119,6 +118,5 @@ by-fresh list script start slot k (ByLoss made is) = elim made.how [
 
 -- none becomes faulty that is
 pub made-fresh : (list : Medl) (script : Script) (start : ClusterStart) (slot k : ℕ)
-    → has_node (made list script start slot) k ≡ true
-    → has_node (at list script start slot) k ≡ false
+    → has_node (made list script start slot) k ≡ true → has_node (at list script start slot) k ≡ false
 made-fresh list script start slot k has = by-fresh list script start slot k (origin-of list script start slot k has)

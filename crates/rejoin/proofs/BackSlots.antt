@@ -40,8 +40,7 @@ sender-same list script start turn slot is =
 
 pub sender-less : (list : Medl) (script : Script) (start : ClusterStart) (slot : ℕ) → IsBackRun list script start
     → expected_sender list start slot < length list.slots
-sender-less list script start slot run =
-    mod-lt (start.node + (slot - start.slot)) (omega (arith, run.valid.count))
+sender-less list script start slot run = mod-lt (start.node + (slot - start.slot)) (omega (arith, run.valid.count))
 
 -- The node that a slot makes faulty.
 
@@ -67,14 +66,12 @@ made-is list script start slot k incident only is =
 
 pub incident-made : (list : Medl) (script : Script) (start : ClusterStart) (turn slot : ℕ) (incident : Incident)
     → IsBackRun list script start → slot ≡ start.slot + turn → slot < script.slots
-    → incident_at (back_plan_of list script start) turn ≡ Some incident
-    → IsMadeIn list script start slot incident
+    → incident_at (back_plan_of list script start) turn ≡ Some incident → IsMadeIn list script start slot incident
 incident-made list script start turn slot incident run is within found =
     let made_is : incident_made list script start slot (made list script start slot) ≡ Some incident =
     sym (incident-slot list script start turn slot run is within) ∙ found in
     elim (makes-slot list script start slot run within) [
-      | inl none ↦
-          absurd (none-some incident (sym (ap (incident_made list script start slot) none) ∙ made_is))
+      | inl none ↦ absurd (none-some incident (sym (ap (incident_made list script start slot) none) ∙ made_is))
       | inr one ↦
           made-is list script start slot one.0 incident one.1.only
           (same_Some _ incident (sym (ap (incident_made list script start slot) one.1.only) ∙ made_is))
@@ -87,8 +84,7 @@ made-far : (list : Medl) (script : Script) (start : ClusterStart) (slot k : ℕ)
 made-far list script start slot k incident run within is near =
     let quiet =
     arm-quiet list script start k near.arm slot near.is within (omega (arith, near.from, run.valid.count)) near.to in
-    both_ways (has_node (made list script start slot) incident.node)
-    (ap (λ ks. has_node ks incident.node) quiet) is.has
+    both_ways (has_node (made list script start slot) incident.node) (ap (λ ks. has_node ks incident.node) quiet) is.has
 
 -- a node that is clear is not the one
 clear-made : (list : Medl) (script : Script) (start : ClusterStart) (slot r : ℕ) (incident : Incident)
@@ -102,8 +98,8 @@ clear-made list script start slot r incident is clear same =
     (ap (has_node (made list script start slot)) (sym same) ∙ is.has)
 
 -- one that does not jump
-unless-jumping : (list : Medl) (script : Script) (start : ClusterStart) (slot k : ℕ)
-    → has_jump script k slot ≡ false → Origin list script start slot k
+unless-jumping : (list : Medl) (script : Script) (start : ClusterStart) (slot k : ℕ) → has_jump script k slot ≡ false
+    → Origin list script start slot k
     → IsMadeBy list script (fallen list script start slot) slot (expected_sender list start slot) k
 unless-jumping list script start slot k none (ByJump jumper) =
     absurd (both_ways (has_jump script k slot) none jumper.jumps)
@@ -113,8 +109,7 @@ unheard-by : (list : Medl) (script : Script) (start : ClusterStart) (slot r : �
     → IsBackRun list script start → start.slot ≤ slot → r < length list.slots
     → expected_sender list start slot ≡ incident.node → IsMadeIn list script start slot incident
     → IsMadeBy list script (fallen list script start slot) slot (expected_sender list start slot) incident.node
-    → IsClear list script start slot r
-    → loses script (expected_sender list start slot) slot r ≡ true
+    → IsClear list script start slot r → loses script (expected_sender list start slot) slot r ≡ true
 unheard-by list script start slot r incident run from less own is by clear =
     let e = expected_sender list start slot in
     let away = fallen list script start slot in
@@ -142,8 +137,7 @@ deaf-by list script start slot k other by = elim by.how [
 ]
 
 still-by : (list : Medl) (script : Script) (start : ClusterStart) (slot r : ℕ) → IsBackRun list script start
-    → start.slot ≤ slot → r < length list.slots → Soundly list script start slot r
-    → has_jump script r slot ≡ false
+    → start.slot ≤ slot → r < length list.slots → Soundly list script start slot r → has_jump script r slot ≡ false
 still-by list script start slot r run from less (BeingClear clear) =
     let faulty = at list script start slot in
     let on : is_on script r slot ≡ true = on-now list script start slot r run from less clear.ever in
@@ -152,8 +146,7 @@ still-by list script start slot r run from less (BeingClear clear) =
     false_from_ne_true (has_jump script r slot) (λ jumps.
     both_ways (jumps_now script faulty slot r) none
     (and_from (is_on script r slot) (not (has_node faulty r) && has_jump script r slot) on
-    (and_from (not (has_node faulty r)) (has_jump script r slot)
-    (not_from_false (has_node faulty r) clear.was) jumps)))
+    (and_from (not (has_node faulty r)) (has_jump script r slot) (not_from_false (has_node faulty r) clear.was) jumps)))
 still-by list script start slot r run from less (NearArm near entered) =
     alone-still list script r near.arm slot near.from near.to near.is.alone
 
@@ -181,8 +174,7 @@ listens-heard list script start slot r run from within other (NearArm near enter
     absurd (other (near-same list script start slot r (expected_sender list start slot) mine near))
 
 pub back-heard : (list : Medl) (script : Script) (start : ClusterStart) (turn : ℕ) → IsBackRun list script start
-    → start.slot + turn < script.slots
-    → IsHeardByPlan script start (back_plan_of list script start) turn
+    → start.slot + turn < script.slots → IsHeardByPlan script start (back_plan_of list script start) turn
 back-heard list script start turn run within =
     let slot = start.slot + turn in
     let plan = back_plan_of list script start in
@@ -202,8 +194,7 @@ back-heard list script start turn run within =
           (heard-both list script start slot r run from within less (λ at. other (at ∙ same)) (sends good)
           (how r less sound));
       listens = λ r since less good fate.
-          subst (λ e. loses script e slot r ≡ false) same
-          (listens-heard list script start slot r run from within
+          subst (λ e. loses script e slot r ≡ false) same (listens-heard list script start slot r run from within
           (λ at. listens-good plan turn r since fate (at ∙ same) good) (sends good)
           (listens-near list script start turn slot r since run refl within less fate));
       unheard = λ r incident less found sending sound.
@@ -237,8 +228,7 @@ back-heard list script start turn run within =
         → IsBackRun list script start → start.slot ≤ slot → slot < script.slots → r < length list.slots
         → expected_sender list start slot ≡ incident.node → IsMadeIn list script start slot incident
         → IsMadeBy list script (fallen list script start slot) slot (expected_sender list start slot) incident.node
-        → Soundly list script start slot r
-        → loses script (expected_sender list start slot) slot r ≡ true
+        → Soundly list script start slot r → loses script (expected_sender list start slot) slot r ≡ true
     unheard-how list script start slot r incident run from within less own is by (BeingClear clear) =
         unheard-by list script start slot r incident run from less own is by clear
     unheard-how list script start slot r incident run from within less own is by (NearArm near entered) =
@@ -253,8 +243,7 @@ pub record WasSound (list : Medl) (script : Script) (start : ClusterStart) (slot
   pub none : has_node (at list script start slot) k ≡ false
 
 pub was-sound : (list : Medl) (script : Script) (start : ClusterStart) (slot k : ℕ) → IsBackRun list script start
-    → Origin list script start slot k
-    → WasSound list script start slot k
+    → Origin list script start slot k → WasSound list script start slot k
 was-sound list script start slot k run (ByJump jumper) =
     record { less = jumper.less; ever = on-ever script k slot jumper.on; none = jumper.was }
 was-sound list script start slot k run (ByLoss by is) = elim by.how [
@@ -279,20 +268,17 @@ was-sound list script start slot k run (ByLoss by is) = elim by.how [
 
 lost-in : (list : Medl) (script : Script) (start : ClusterStart) (turn slot k since : ℕ) (fate : Fate)
     → IsBackRun list script start → slot ≡ start.slot + turn → suc slot < script.slots
-    → IsLostSince list script start slot k since fate
-    → has_node (at list script start (suc slot)) k ≡ true
+    → IsLostSince list script start slot k since fate → has_node (at list script start (suc slot)) k ≡ true
 lost-in list script start turn slot k since fate run now within lost =
     let next : IsNext list script start turn slot = record { run = run; now = omega arith; within = within } in
-    at-next list script start slot k
-    ∙ and_from (has_node (after list script start slot) k)
+    at-next list script start slot k ∙ and_from (has_node (after list script start slot) k)
     (not (is_forgiven list script (slots_before list script start (suc slot)) (suc slot) k)) lost.has
     (ap not (lost-stays list script start turn slot k since fate next lost))
 
 -- a node that is not faulty at the beginning of the next slot is sound: it was not faulty, or is forgiven
 pub sound-earlier : (list : Medl) (script : Script) (start : ClusterStart) (turn slot k : ℕ)
-    → IsBackRun list script start
-    → slot ≡ start.slot + turn → suc slot < script.slots → k < length list.slots → is_ever_on script k ≡ true
-    → has_node (at list script start (suc slot)) k ≡ false
+    → IsBackRun list script start → slot ≡ start.slot + turn → suc slot < script.slots → k < length list.slots
+    → is_ever_on script k ≡ true → has_node (at list script start (suc slot)) k ≡ false
     → is_sound_after (back_plan_of list script start) turn k ≡ true
 sound-earlier list script start turn slot k run now within less ever out =
     by (standing list script start turn slot k run now (omega arith) less ever)
@@ -312,8 +298,7 @@ sound-earlier list script start turn slot k run now within less ever out =
           (arm-stays list script start k arm (suc slot - arm) (suc slot) run armed.is (omega (arith, armed.from))
           (omega (arith, soon, armed.from))))
       | inr over ↦
-          ap is_sound
-          (armed.entered (omega (
+          ap is_sound (armed.entered (omega (
             arith,
             over,
             armed.to,
@@ -340,8 +325,7 @@ back-loss list script start turn slot incident run is within found =
       node = was.less;
       was = sound-earlier list script start turn slot k run is within was.less was.ever was.none;
       sending = λ sending.
-          sym same
-          ∙ eqb-true e k (sending-is (has_jump script k (suc slot)) (e == k) (sym only.change ∙ sending)).1;
+          sym same ∙ eqb-true e k (sending-is (has_jump script k (suc slot)) (e == k) (sym only.change ∙ sending)).1;
       receiving = λ receiving.
           let parts = receiving-is (has_jump script k (suc slot)) (e == k) (sym only.change ∙ receiving) in
           let by = unless-jumping list script start (suc slot) k parts.0 origin in (

@@ -25,8 +25,7 @@ first-found p a zero t is = absurd (none-some t is)
 first-found p a (suc n) t is = by (p a) refl is (first-found p (a + 1) n t)
   where
     by : (b : Bool) → p a ≡ b → cond b (Some a) (find p (range_with_len (a + 1) n)) ≡ Some t
-        → (find p (range_with_len (a + 1) n) ≡ Some t → IsFirst p (a + 1) n t)
-        → IsFirst p a (suc n) t
+        → (find p (range_with_len (a + 1) n) ≡ Some t → IsFirst p (a + 1) n t) → IsFirst p a (suc n) t
     by true here found rest =
         let same : a ≡ t = same_Some a t found in
         record {
@@ -53,8 +52,7 @@ any-found p a (suc n) has none = by (p a) has none (any-found p (a + 1) n)
   where
     by : (b : Bool) → (b || list_any p (range_with_len (a + 1) n)) ≡ true
         → cond b (Some a) (find p (range_with_len (a + 1) n)) ≡ None
-        → (list_any p (range_with_len (a + 1) n) ≡ true → find p (range_with_len (a + 1) n) ≡ None → ⊥)
-        → ⊥
+        → (list_any p (range_with_len (a + 1) n) ≡ true → find p (range_with_len (a + 1) n) ≡ None → ⊥) → ⊥
     by true has none rest = none-some a (sym none)
     by false has none rest = rest has none
 

@@ -104,13 +104,12 @@ jumped : (b : Bool) (value : ℤ) → is_some (cond b (Some value) None) ≡ tru
 jumped true value is = refl
 jumped false value is = absurd (both_ways false refl is)
 
-jump-line : (list : Medl) (k slot at : ℕ) → slot ≤ at → at < slot + four_rounds list
-    → (e : Event) → is_some (jump_in k at e) ≡ true → is_line_of list k slot e ≡ true
+jump-line : (list : Medl) (k slot at : ℕ) → slot ≤ at → at < slot + four_rounds list → (e : Event)
+    → is_some (jump_in k at e) ≡ true → is_line_of list k slot e ≡ true
 jump-line list k slot at after near (event.Jump node value t) is =
     let parts = and_parts (node == k) (t == at) (jumped ((node == k) && (t == at)) value is) in
     let same : t ≡ at = eqb-true t at parts.1 in
-    and_from (node == k) (touches list slot t t) parts.0
-    (touched list slot t t at after near
+    and_from (node == k) (touches list slot t t) parts.0 (touched list slot t t at after near
     (and_from (nat_le t at) (nat_le at t) (le-leb t at (omega (arith, same))) (le-leb at t (omega (arith, same)))))
 jump-line list k slot at after near (event.Send node channels f from to) is = absurd (both_ways false refl is)
 jump-line list k slot at after near (event.Receive node channels f from to) is = absurd (both_ways false refl is)
@@ -136,9 +135,7 @@ alone-hears list script kind k slot at c after near none =
     (receive-line list kind k slot at c after near) none
 
 pub alone-still : (list : Medl) (script : Script) (k slot at : ℕ) → slot ≤ at → at < slot + four_rounds list
-    → list_any (is_line_of list k slot) script.events ≡ false
-    → has_jump script k at ≡ false
+    → list_any (is_line_of list k slot) script.events ≡ false → has_jump script k at ≡ false
 alone-still list script k slot at after near none =
     none-stricter (is_line_of list k slot) (λ e. is_some (jump_in k at e)) script.events
-    (jump-line list k slot at after near)
-    none
+    (jump-line list k slot at after near) none

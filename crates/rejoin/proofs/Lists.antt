@@ -38,8 +38,8 @@ count-cons : {X : Type 0} (p : X → Bool) (x : X) (xs : List X) (b : Bool) → 
     → count_by p (x ∷ xs) ≡ cond b 1 0 + count_by p xs
 count-cons p x xs b is = sum_by-cons (λ y. cond (p y) 1 0) x xs ∙ ap (λ b. cond b 1 0 + count_by p xs) is
 
-some-counted : {X : Type 0} (p q : X → Bool) (xs : List X) → ((x : X) → q x ≡ true → p x ≡ true)
-    → list_any q xs ≡ true → 1 ≤ count_by p xs
+some-counted : {X : Type 0} (p q : X → Bool) (xs : List X) → ((x : X) → q x ≡ true → p x ≡ true) → list_any q xs ≡ true
+    → 1 ≤ count_by p xs
 some-counted p q [] gives has = absurd (both_ways false refl has)
 some-counted p q (x ∷ xs) gives has =
     by (p x) refl (or_cases (q x) (list_any q xs) has) (some-counted p q xs gives)
@@ -59,8 +59,7 @@ one-of-both {X = X} p q r (x ∷ xs) first second one has also =
     (one-of-both p q r xs first second)
   where
     by : (b : Bool) → p x ≡ b → (q x ≡ true) ⊎ (list_any q xs ≡ true) → (r x ≡ true) ⊎ (list_any r xs ≡ true)
-        → (count_by p xs ≡ 1 → list_any q xs ≡ true → list_any r xs ≡ true
-        → (x : X) × ((q x ≡ true) × (r x ≡ true)))
+        → (count_by p xs ≡ 1 → list_any q xs ≡ true → list_any r xs ≡ true → (x : X) × ((q x ≡ true) × (r x ≡ true)))
         → (x : X) × ((q x ≡ true) × (r x ≡ true))
     by b is (inl here) (inl too) rest = (x, (here, too))
     by b is (inl here) (inr there) rest =

@@ -59,8 +59,7 @@ round-next list place true last = rw last
 round-next list place false inside = rw inside
 
 planned-round : (list : Medl) (plan : Plan) (slot : ℕ) → plan.nodes ≡ length list.slots → plan.starter < plan.nodes
-    → 0 < list.rounds
-    → (planned_place list plan slot).round ≡ (plan.starter + slot) / length list.slots % list.rounds
+    → 0 < list.rounds → (planned_place list plan slot).round ≡ (plan.starter + slot) / length list.slots % list.rounds
 planned-round list plan zero same less rounds =
     let none : plan.starter + 0 ≡ plan.starter = omega arith in
     let first : plan.starter / length list.slots ≡ 0 = div-eq_of_lt (subst (λ n. plan.starter < n) same less) in
@@ -73,10 +72,8 @@ planned-round list plan (suc slot) same less rounds =
     let last = suc (a % n) == n in
     let before = planned-round list plan slot same less rounds in
     let next : suc a ≡ plan.starter + suc slot = omega arith in
-    round-next list place last (ap (λ t. suc t == n) at)
-    ∙ ap (λ r. cond last ((r + 1) % list.rounds) r) before
-    ∙ turn last
-    ∙ ap (λ q. q % list.rounds) (sym (next-div n a last (subst (λ m. 0 < m) same (omega arith)) refl))
+    round-next list place last (ap (λ t. suc t == n) at) ∙ ap (λ r. cond last ((r + 1) % list.rounds) r) before
+    ∙ turn last ∙ ap (λ q. q % list.rounds) (sym (next-div n a last (subst (λ m. 0 < m) same (omega arith)) refl))
     ∙ ap (λ t. t / n % list.rounds) next
   where
     turn : (last : Bool)
@@ -102,8 +99,7 @@ module _ (list : Medl) (script : Script) (start : ClusterStart) (run : IsBackRun
       ≡ kind_at list (round_of list start (start.slot + turn)) (expected_sender list start (start.slot + turn))
   kind-same turn =
       let rounds = run.valid.rounds in
-      (λ i. kind_at list
-      ((planned-round list plan turn refl run.alone.node (omega (arith, rounds))
+      (λ i. kind_at list ((planned-round list plan turn refl run.alone.node (omega (arith, rounds))
       ∙ ap (λ t. (start.node + t) / length list.slots % list.rounds) (sym (turns turn))) i)
       ((place-sender list plan turn refl run.alone.node
       ∙ ap (λ t. (start.node + t) % length list.slots) (sym (turns turn))) i))
@@ -148,8 +144,8 @@ module _ (list : Medl) (script : Script) (start : ClusterStart) (run : IsBackRun
         ∙ carries.1
 
     -- a good slot before has no such frame
-    none-before : (turn : ℕ) → r.armed ≤ turn → turn < r.entered → turn < plan.slots
-        → is_good_slot plan turn ≡ true → carries_place (kind_in list plan turn) ≡ false
+    none-before : (turn : ℕ) → r.armed ≤ turn → turn < r.entered → turn < plan.slots → is_good_slot plan turn ≡ true
+        → carries_place (kind_in list plan turn) ≡ false
     none-before turn from to within good =
         ap carries_place (kind-same turn)
         ∙ false_from_ne_true (carries_place (kind_at list (round_of list start slot) e)) (λ carries.
@@ -179,8 +175,7 @@ module _ (list : Medl) (script : Script) (start : ClusterStart) (run : IsBackRun
         e-node = let count = run.valid.count in mod-lt _ (omega (arith, count))
 
         sound : is_sound_after plan turn (expected_sender list start (start.slot + turn)) ≡ true
-        sound =
-            ap (λ t. is_sound_after plan turn ((start.node + t) % length list.slots)) (turns turn) ∙ good
+        sound = ap (λ t. is_sound_after plan turn ((start.node + t) % length list.slots)) (turns turn) ∙ good
 
         near : of.arm ≤ start.slot + turn
         near = omega (arith, arm_at, from)
@@ -208,8 +203,7 @@ module _ (list : Medl) (script : Script) (start : ClusterStart) (run : IsBackRun
               | inl before ↦
                   let same =
                   arm-only list script start r.node of.arm (expected_sender list start (start.slot + turn)) also.arm
-                  line also.is.armed (omega arith)
-                  (omega (arith, first, soon, count)) in
+                  line also.is.armed (omega arith) (omega (arith, first, soon, count)) in
                   let one = same.1 in
                   omega (arith, one, before)
               | inr later ↦
@@ -217,8 +211,7 @@ module _ (list : Medl) (script : Script) (start : ClusterStart) (run : IsBackRun
                   arm-only list script start (expected_sender list start (start.slot + turn)) also.arm r.node of.arm
                   also.is line.armed later (omega (arith, near, last)) in
                   let there : entry_slot list script start r.node of.arm ≤ start.slot + turn =
-                  subst (λ j. entry_slot list script start j of.arm ≤ start.slot + turn) same.0
-                  (subst
+                  subst (λ j. entry_slot list script start j of.arm ≤ start.slot + turn) same.0 (subst
                   (λ a. entry_slot list script start (expected_sender list start (start.slot + turn)) a
                   ≤ start.slot + turn) same.1 entered) in
                   omega (arith, there, entry_at, to)
@@ -231,8 +224,7 @@ module _ (list : Medl) (script : Script) (start : ClusterStart) (run : IsBackRun
             ≡ false)
         known =
             how (sound-how list script start turn (start.slot + turn) (expected_sender list start (start.slot + turn))
-            run
-            refl inside e-node sound)
+            run refl inside e-node sound)
 
         on : is_on script (expected_sender list start (start.slot + turn)) (start.slot + turn) ≡ true
         on = known.0

@@ -126,8 +126,7 @@ told-all list script start zero =
 told-all list script start (suc slot) =
     told-append (IsTold list script start (suc slot)) (all_in (suc slot) (made list script start (suc slot))) _
     (told-now list script start (suc slot) (made list script start (suc slot)) (λ k has. has))
-    (told-later list script start slot _
-    (each-filter (IsTold list script start slot)
+    (told-later list script start slot _ (each-filter (IsTold list script start slot)
     (λ f. not (is_forgiven list script (slots_before list script start (suc slot)) (suc slot) f.node))
     (faulty_since (slots_before list script start (suc slot))) (told-all list script start slot)))
 
@@ -147,15 +146,12 @@ told-stays list script start slot f told (suc later) from to =
         → (f.slot ≤ later → later ≤ slot → has_node (after list script start later) f.node ≡ true)
         → has_node (after list script start (suc later)) f.node ≡ true
     by (inl same) older =
-        after-has list script start (suc later) f.node
-        ∙ or_left (has_node (made list script start (suc later)) f.node)
+        after-has list script start (suc later) f.node ∙ or_left (has_node (made list script start (suc later)) f.node)
         (has_node (at list script start (suc later)) f.node)
         (subst (λ t. has_node (made list script start t) f.node ≡ true) same told.made_in)
     by (inr other) older =
-        after-has list script start (suc later) f.node
-        ∙ or_right (has_node (made list script start (suc later)) f.node)
-        (has_node (at list script start (suc later)) f.node)
-        (at-next list script start later f.node
+        after-has list script start (suc later) f.node ∙ or_right (has_node (made list script start (suc later)) f.node)
+        (has_node (at list script start (suc later)) f.node) (at-next list script start later f.node
         ∙ and_from (has_node (after list script start later) f.node) _ (older (omega arith) (omega arith))
         (ap not (told.kept (suc later) (omega arith) to)))
 
@@ -165,8 +161,7 @@ told-at : (list : Medl) (script : Script) (start : ClusterStart) (slot : ℕ) (f
     → has_node (at list script start later) f.node ≡ true
 told-at list script start slot f told zero from to = absurd (omega arith)
 told-at list script start slot f told (suc later) from to =
-    at-next list script start later f.node
-    ∙ and_from (has_node (after list script start later) f.node) _
+    at-next list script start later f.node ∙ and_from (has_node (after list script start later) f.node) _
     (told-stays list script start slot f told later (omega arith) (omega arith))
     (ap not (told.kept (suc later) (omega arith) to))
 
@@ -205,8 +200,7 @@ module _ (list : Medl) (script : Script) (start : ClusterStart) (run : IsBackRun
 
   -- A faulty node that was not armed since is lost since it became faulty.
   told-lost : (turn slot : ℕ) (f : FaultyNode) → slot ≡ start.slot + turn → slot < script.slots
-      → IsTold list script start slot f
-      → is_armed_among script f.node f.slot (suc slot - f.slot) ≡ false
+      → IsTold list script start slot f → is_armed_among script f.node f.slot (suc slot - f.slot) ≡ false
       → lost_since (fate_of plan turn f.node) ≡ Some (f.slot - start.slot)
   told-lost turn slot f now within told unarmed =
       by (standing list script start turn slot f.node run now within node.0 node.1)
@@ -317,8 +311,7 @@ module _ (list : Medl) (script : Script) (start : ClusterStart) (run : IsBackRun
         ap (λ found. is_on script k slot && not (has_node (numbers_of (started_since list script slot found)) k))
         started in
         let parts =
-        and_parts (is_on script k slot) (not (has_node (after list script start slot) k)) (sym known ∙ correct)
-        in
+        and_parts (is_on script k slot) (not (has_node (after list script start slot) k)) (sym known ∙ correct) in
         clear-sound turn slot k refl within less (on-ever script k slot parts.0)
         (not-true (has_node (after list script start slot) k) parts.1);
     faulty = λ turn within.

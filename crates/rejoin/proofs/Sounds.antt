@@ -51,8 +51,7 @@ faulty-ever list script start (suc slot) k has =
     (sym (after-has list script start slot k) ∙ was)) (faulty-ever list script start slot k)
   where
     by : (has_node (made list script start slot) k ≡ true) ⊎ (has_node (at list script start slot) k ≡ true)
-        → (has_node (at list script start slot) k ≡ true → is_ever_on script k ≡ true)
-        → is_ever_on script k ≡ true
+        → (has_node (at list script start slot) k ≡ true → is_ever_on script k ≡ true) → is_ever_on script k ≡ true
     by (inl here) older = origin-ever list script start slot k (origin-of list script start slot k here)
     by (inr there) older = older there
 
@@ -64,8 +63,7 @@ turned-absent false slot = refl
 
 absent-next : (list : Medl) (script : Script) (start : ClusterStart) (turn slot k : ℕ) (fate : Fate)
     → IsBackRun list script start → slot ≡ start.slot + turn → slot < script.slots → is_ever_on script k ≡ false
-    → fate ≡ Absent
-    → next_fate (back_plan_of list script start) turn k fate ≡ Absent
+    → fate ≡ Absent → next_fate (back_plan_of list script start) turn k fate ≡ Absent
 absent-next list script start turn slot k fate run now within never absent =
     let plan = back_plan_of list script start in
     let armed : is_armed_by plan turn k ≡ false = false_from_ne_true (is_armed_by plan turn k) (λ is.
@@ -86,9 +84,8 @@ absent-next list script start turn slot k fate run now within never absent =
     ∙ turned-absent (sender plan turn == k) turn
 
 pub never-absent : (list : Medl) (script : Script) (start : ClusterStart) (turn slot k : ℕ)
-    → IsBackRun list script start
-    → slot ≡ start.slot + turn → slot < script.slots → k < length list.slots → is_ever_on script k ≡ false
-    → fate_of (back_plan_of list script start) turn k ≡ Absent
+    → IsBackRun list script start → slot ≡ start.slot + turn → slot < script.slots → k < length list.slots
+    → is_ever_on script k ≡ false → fate_of (back_plan_of list script start) turn k ≡ Absent
 never-absent list script start zero slot k run now within less never =
     let plan = back_plan_of list script start in
     absent-next list script start 0 slot k (fate_at_begin plan k) run now within never
@@ -96,15 +93,12 @@ never-absent list script start zero slot k run now within less never =
 never-absent list script start (suc turn) zero k run now within less never = absurd (omega arith)
 never-absent list script start (suc turn) (suc slot) k run now within less never =
     absent-next list script start (suc turn) (suc slot) k (fate_of (back_plan_of list script start) turn k) run now
-    within
-    never (never-absent list script start turn slot k run (omega arith) (omega arith) less never)
+    within never (never-absent list script start turn slot k run (omega arith) (omega arith) less never)
 
 -- so one that is sound or listens is ever on
 pub present-ever : (list : Medl) (script : Script) (start : ClusterStart) (turn slot k : ℕ)
-    → IsBackRun list script start
-    → slot ≡ start.slot + turn → slot < script.slots → k < length list.slots
-    → fate_of (back_plan_of list script start) turn k ≢ Absent
-    → is_ever_on script k ≡ true
+    → IsBackRun list script start → slot ≡ start.slot + turn → slot < script.slots → k < length list.slots
+    → fate_of (back_plan_of list script start) turn k ≢ Absent → is_ever_on script k ≡ true
 present-ever list script start turn slot k run now within less present =
     true_from_ne_false (is_ever_on script k) (λ never.
     present (never-absent list script start turn slot k run now within less never))
@@ -123,8 +117,7 @@ pub record IsClear (list : Medl) (script : Script) (start : ClusterStart) (slot 
   pub fallen : has_node (fallen list script start slot) k ≡ false
 
 pub clear-after : (list : Medl) (script : Script) (start : ClusterStart) (slot k : ℕ) → is_ever_on script k ≡ true
-    → has_node (after list script start slot) k ≡ false
-    → IsClear list script start slot k
+    → has_node (after list script start slot) k ≡ false → IsClear list script start slot k
 clear-after list script start slot k ever none =
     let parts =
     or_parts (has_node (made list script start slot) k) (has_node (at list script start slot) k)
@@ -164,8 +157,7 @@ listens-unsound fate since is sound = both_ways (is_sound fate) (ap is_sound is)
 
 pub sound-how : (list : Medl) (script : Script) (start : ClusterStart) (turn slot k : ℕ) → IsBackRun list script start
     → slot ≡ start.slot + turn → slot < script.slots → k < length list.slots
-    → is_sound_after (back_plan_of list script start) turn k ≡ true
-    → Soundly list script start slot k
+    → is_sound_after (back_plan_of list script start) turn k ≡ true → Soundly list script start slot k
 sound-how list script start turn slot k run now within less sound =
     by (standing list script start turn slot k run now within less ever)
   where
@@ -180,8 +172,7 @@ sound-how list script start turn slot k run now within less sound =
     by : Standing list script start slot k (fate_of (back_plan_of list script start) turn k)
         → Soundly list script start slot k
     by (Clear none is) = BeingClear (clear-after list script start slot k ever none)
-    by (LostSince since lost) =
-        absurd (since-not fate (since - start.slot) lost.fate_is (sound-fate fate sound))
+    by (LostSince since lost) = absurd (since-not fate (since - start.slot) lost.fate_is (sound-fate fate sound))
     by (ArmedSince arm armed) = elim (cases_lt slot (entry_slot list script start k arm)) [
       | inl waits ↦ absurd (listens-unsound fate (arm - start.slot) (armed.waits waits) sound)
       | inr there ↦ NearArm (record { arm = arm; is = armed.is; from = armed.from; to = armed.to }) there
@@ -193,8 +184,7 @@ lost-listens fate since from is listens = none-some since (ap lost_since (sym li
 -- one that listens is armed near
 pub listens-near : (list : Medl) (script : Script) (start : ClusterStart) (turn slot k since : ℕ)
     → IsBackRun list script start → slot ≡ start.slot + turn → slot < script.slots → k < length list.slots
-    → fate_of (back_plan_of list script start) turn k ≡ Listening since
-    → IsNearArm list script start slot k
+    → fate_of (back_plan_of list script start) turn k ≡ Listening since → IsNearArm list script start slot k
 listens-near list script start turn slot k since run now within less listens =
     by (standing list script start turn slot k run now within less ever)
   where

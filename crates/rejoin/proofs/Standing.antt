@@ -48,11 +48,9 @@ abbrev IsDated : Medl → ClusterStart → ℕ → FaultyNode → Type 0
 IsDated list start slot f = (start.slot + two_rounds list ≤ f.slot) × (f.slot < slot)
 
 dated-later : (list : Medl) (start : ClusterStart) (slot : ℕ) (fs : List FaultyNode)
-    → AllByRecursion (IsDated list start slot) fs
-    → AllByRecursion (IsDated list start (suc slot)) fs
+    → AllByRecursion (IsDated list start slot) fs → AllByRecursion (IsDated list start (suc slot)) fs
 dated-later list start slot [] each = tt
-dated-later list start slot (f ∷ fs) each =
-    ((each.0.0, omega (arith, each.0.1)), dated-later list start slot fs each.1)
+dated-later list start slot (f ∷ fs) each = ((each.0.0, omega (arith, each.0.1)), dated-later list start slot fs each.1)
 
 dated-with : (list : Medl) (start : ClusterStart) (slot : ℕ) (ks : List ℕ) (fs : List FaultyNode)
     → start.slot + two_rounds list ≤ slot → AllByRecursion (IsDated list start (suc slot)) fs
@@ -78,8 +76,7 @@ late-after list script start zero run within = tt
 late-after list script start (suc slot) run within =
     let ks = made list script start slot in
     dated-made list script start slot ks (faulty_at list script start slot) run within refl
-    (dated-later list start slot (faulty_at list script start slot)
-    (weaker (IsDated list start slot)
+    (dated-later list start slot (faulty_at list script start slot) (weaker (IsDated list start slot)
     (λ f. not (is_forgiven list script (slots_before list script start slot) slot f.node))
     (faulty_since (slots_before list script start slot)) (late-after list script start slot run (omega arith))))
 
@@ -99,12 +96,10 @@ long-late list script start k arm fs each has =
 pub arm-late : (list : Medl) (script : Script) (start : ClusterStart) (k arm : ℕ) → IsBackRun list script start
     → IsArmedIn list script start k arm → start.slot + four_rounds list ≤ arm
 arm-late list script start k arm run is =
-    long-late list script start k arm (faulty_at list script start arm)
-    (weaker (IsDated list start arm)
+    long-late list script start k arm (faulty_at list script start arm) (weaker (IsDated list start arm)
     (λ f. not (is_forgiven list script (slots_before list script start arm) arm f.node))
     (faulty_since (slots_before list script start arm))
-    (late-after list script start arm run (omega (arith, is.within))))
-    is.long
+    (late-after list script start arm run (omega (arith, is.within)))) is.long
 
 -- a node that listens again by the plan has its arm line
 pub armed-by-line : (list : Medl) (script : Script) (start : ClusterStart) (turn k : ℕ) → IsBackRun list script start
@@ -171,9 +166,8 @@ entry-by list script start turn slot k run now within is =
     }
 
 pub entry-enters : (list : Medl) (script : Script) (start : ClusterStart) (turn slot k arm : ℕ)
-    → IsBackRun list script start → slot ≡ start.slot + turn → slot < script.slots
-    → IsArmedIn list script start k arm → entry_slot list script start k arm ≡ slot
-    → enters (back_plan_of list script start) turn k ≡ true
+    → IsBackRun list script start → slot ≡ start.slot + turn → slot < script.slots → IsArmedIn list script start k arm
+    → entry_slot list script start k arm ≡ slot → enters (back_plan_of list script start) turn k ≡ true
 entry-enters list script start turn slot k arm run now within is entry =
     let plan = back_plan_of list script start in
     let at : entry_slot list script start k arm - start.slot ≡ turn = omega (arith, entry, now) in
@@ -217,8 +211,7 @@ pub record IsNext (list : Medl) (script : Script) (start : ClusterStart) (turn s
   pub within : suc slot < script.slots
 
 unarmed-out : (list : Medl) (script : Script) (start : ClusterStart) (slot k : ℕ) → IsBackRun list script start
-    → has_node (at list script start slot) k ≡ false
-    → is_armed script k slot ≡ false
+    → has_node (at list script start slot) k ≡ false → is_armed script k slot ≡ false
 unarmed-out list script start slot k run out = false_from_ne_true (is_armed script k slot) (λ armed.
     let fits = armed-valid list script k slot run.script_valid armed in
     both_ways (has_node (at list script start slot) k) out
@@ -268,12 +261,9 @@ out-next list script start turn slot k fate next out sound none =
               subst (λ t. is_armed script k t ≡ false) same unarmed;
         })
     by false missed =
-        Clear
-        (after-has list script start (suc slot) k
+        Clear (after-has list script start (suc slot) k
         ∙ or_from (has_node (made list script start (suc slot)) k) (has_node (at list script start (suc slot)) k) missed
-        out)
-        (sound-fate (next_fate plan (suc turn) k fate)
-        (sound-next plan (suc turn) k fate quiet none
+        out) (sound-fate (next_fate plan (suc turn) k fate) (sound-next plan (suc turn) k fate quiet none
         ∙ and_from (is_sound fate) (not (strikes (incident_at plan (suc turn)) k)) (ap is_sound sound)
         (not_from_false (strikes (incident_at plan (suc turn)) k) (strikes-is ∙ missed))))
 
@@ -283,22 +273,19 @@ clear-next : (list : Medl) (script : Script) (start : ClusterStart) (turn slot k
 clear-next list script start turn slot k fate next none sound =
     let plan = back_plan_of list script start in
     let out : has_node (at list script start (suc slot)) k ≡ false =
-    at-next list script start slot k
-    ∙ and_left (has_node (after list script start slot) k)
+    at-next list script start slot k ∙ and_left (has_node (after list script start slot) k)
     (not (is_forgiven list script (slots_before list script start (suc slot)) (suc slot) k)) none in
     let unarmed = unarmed-out list script start (suc slot) k next.run out in
     out-next list script start turn slot k fate next out sound
     (false_from_ne_true (enters plan (suc turn) k) (λ enter.
     let by = entry-by list script start (suc turn) (suc slot) k next.run next.now next.within enter in
     elim (cases_eq by.arm (suc slot)) [
-      | inl same ↦
-          both_ways (is_armed script k (suc slot)) unarmed (ap (is_armed script k) (sym same) ∙ by.is.armed)
+      | inl same ↦ both_ways (is_armed script k (suc slot)) unarmed (ap (is_armed script k) (sym same) ∙ by.is.armed)
       | inr other ↦
           let stays =
           arm-stays list script start k by.arm (slot - by.arm) slot next.run by.is (omega (arith, by.from, other))
           (omega (arith, by.from, by.to, other)) in
-          both_ways (has_node (after list script start slot) k) none
-          (after-has list script start slot k
+          both_ways (has_node (after list script start slot) k) none (after-has list script start slot k
           ∙ or_right (has_node (made list script start slot) k) (has_node (at list script start slot) k) stays)
     ]))
 
@@ -322,22 +309,19 @@ lost-stays list script start turn slot k since fate next lost =
                 both_ways (has_node (at list script start since) k) lost.before
                 (arm-stays list script start k then (since - then) since next.run line (omega (arith, before))
                 (omega (arith, lost.to, late, before)))
-            | inr from ↦
-                both_ways (is_armed script k then) (lost.unarmed then from (omega (arith, late, some))) armed
+            | inr from ↦ both_ways (is_armed script k then) (lost.unarmed then from (omega (arith, late, some))) armed
           ])
     ]
 
 -- nor does it enter, if it is not armed in the slot
 lost-out : (list : Medl) (script : Script) (start : ClusterStart) (turn slot k since : ℕ) (fate : Fate)
     → IsNext list script start turn slot → IsLostSince list script start slot k since fate
-    → is_armed script k (suc slot) ≡ false
-    → enters (back_plan_of list script start) (suc turn) k ≡ false
+    → is_armed script k (suc slot) ≡ false → enters (back_plan_of list script start) (suc turn) k ≡ false
 lost-out list script start turn slot k since fate next lost unarmed =
     false_from_ne_true (enters (back_plan_of list script start) (suc turn) k) (λ enter.
     let by = entry-by list script start (suc turn) (suc slot) k next.run next.now next.within enter in
     elim (cases_eq by.arm (suc slot)) [
-      | inl same ↦
-          both_ways (is_armed script k (suc slot)) unarmed (ap (is_armed script k) (sym same) ∙ by.is.armed)
+      | inl same ↦ both_ways (is_armed script k (suc slot)) unarmed (ap (is_armed script k) (sym same) ∙ by.is.armed)
       | inr other ↦ elim (cases_lt by.arm since) [
         | inl before ↦
             both_ways (has_node (at list script start since) k) lost.before
@@ -351,8 +335,7 @@ lost-out list script start turn slot k since fate next lost unarmed =
 -- nothing is made faulty in a slot near an arm line
 quiet-next : (list : Medl) (script : Script) (start : ClusterStart) (turn slot k arm : ℕ)
     → IsNext list script start turn slot → IsArmedIn list script start k arm → arm ≤ suc slot
-    → suc slot < arm + four_rounds list
-    → incident_at (back_plan_of list script start) (suc turn) ≡ None
+    → suc slot < arm + four_rounds list → incident_at (back_plan_of list script start) (suc turn) ≡ None
 quiet-next list script start turn slot k arm next is from to =
     incident-slot list script start (suc turn) (suc slot) next.run next.now next.within
     ∙ ap (incident_made list script start (suc slot))
@@ -372,12 +355,10 @@ armed-now list script start turn slot k fate next is =
           (armed-same list script start turn k ∙ ap (is_armed script k) (sym next.now) ∙ is.armed)
           (false_from_ne_true (enters plan (suc turn) k) (λ enter.
           let by = entry-by list script start (suc turn) (suc slot) k next.run next.now next.within enter in
-          let same =
-          arm-only list script start k by.arm k (suc slot) by.is is.armed by.from (omega (arith, by.to)) in
+          let same = arm-only list script start k by.arm k (suc slot) by.is is.armed by.from (omega (arith, by.to)) in
           let entry : entry_slot list script start k (suc slot) ≡ suc slot =
           ap (entry_slot list script start k) (sym same.1) ∙ by.entry in
-          omega (arith, waits, entry)))
-          (quiet-next list script start turn slot k (suc slot) next is (omega arith)
+          omega (arith, waits, entry))) (quiet-next list script start turn slot k (suc slot) next is (omega arith)
           (omega (arith, next.run.valid.count)))
           ∙ ap Listening turns;
       entered = λ there.
@@ -403,8 +384,7 @@ lost-next list script start turn slot k since fate next lost =
 
     stays : has_node (at list script start (suc slot)) k ≡ true
     stays =
-        at-next list script start slot k
-        ∙ and_from (has_node (after list script start slot) k)
+        at-next list script start slot k ∙ and_from (has_node (after list script start slot) k)
         (not (is_forgiven list script (slots_before list script start (suc slot)) (suc slot) k)) lost.has
         (ap not (lost-stays list script start turn slot k since fate next lost))
 
@@ -443,8 +423,7 @@ lost-next list script start turn slot k since fate next lost =
 entry-same : (list : Medl) (script : Script) (start : ClusterStart) (turn slot k arm : ℕ)
     → IsNext list script start turn slot → IsArmedIn list script start k arm → arm ≤ slot
     → slot < arm + four_rounds list → is_armed script k (suc slot) ≡ false
-    → enters (back_plan_of list script start) (suc turn) k ≡ true
-    → entry_slot list script start k arm ≡ suc slot
+    → enters (back_plan_of list script start) (suc turn) k ≡ true → entry_slot list script start k arm ≡ suc slot
 entry-same list script start turn slot k arm next is from to unarmed enter =
     let by = entry-by list script start (suc turn) (suc slot) k next.run next.now next.within enter in
     elim (cases_eq by.arm (suc slot)) [
@@ -471,8 +450,7 @@ armed-next list script start turn slot k arm fate next armed = elim (cases_eq (s
       let some : 0 < four_rounds list = omega (arith, next.run.valid.count) in
       let entry = entry-of list script start k arm is in
       let out : has_node (at list script start (suc slot)) k ≡ false =
-      at-next list script start slot k
-      ∙ and_right (has_node (after list script start slot) k)
+      at-next list script start slot k ∙ and_right (has_node (after list script start slot) k)
       (not (is_forgiven list script (slots_before list script start (suc slot)) (suc slot) k))
       (ap not (forgiven-late list script start (suc slot) arm k some over
       ∙ and_from (has_node (at list script start arm) k) (is_armed script k arm)
@@ -500,8 +478,7 @@ armed-next list script start turn slot k arm fate next armed = elim (cases_eq (s
             ∙ next-listening (back_plan_of list script start) (suc turn) k (arm - start.slot) quiet
             (false_from_ne_true (enters (back_plan_of list script start) (suc turn) k) (λ enter.
             let same = entry-same list script start turn slot k arm next is armed.from armed.to unarmed enter in
-            omega (arith, same, waits)))
-            none;
+            omega (arith, same, waits))) none;
         entered = λ there. elim (cases_eq (entry_slot list script start k arm) (suc slot)) [
           | inl now ↦
               next-entered (back_plan_of list script start) (suc turn) k fate
@@ -513,8 +490,7 @@ armed-next list script start turn slot k arm fate next armed = elim (cases_eq (s
               (false_from_ne_true (enters (back_plan_of list script start) (suc turn) k) (λ enter.
               before (entry-same list script start turn slot k arm next is armed.from armed.to unarmed enter)))
               ∙ and_from (is_sound fate) (not (strikes (incident_at (back_plan_of list script start) (suc turn)) k))
-              (ap is_sound sound)
-              (ap (λ found. not (strikes found k)) none))
+              (ap is_sound sound) (ap (λ found. not (strikes found k)) none))
         ];
       })
 ]
@@ -530,8 +506,7 @@ first-standing list script start k run within less ever =
     let early : faulty_since (slots_before list script start (suc start.slot)) ≡ [] =
     none-early (faulty_since (slots_before list script start (suc start.slot)))
     (late-after list script start (suc start.slot) run within) in
-    Clear (ap (λ fs. has_node (numbers_of fs) k) early)
-    (sound-fate (fate_of plan 0 k)
+    Clear (ap (λ fs. has_node (numbers_of fs) k) early) (sound-fate (fate_of plan 0 k)
     (sound-next plan 0 k (fate_at_begin plan k) (none-armed-first list script start k run)
     (false_from_ne_true (enters plan 0 k) (λ enter.
     let by = entry-by list script start 0 start.slot k run (omega arith) within enter in

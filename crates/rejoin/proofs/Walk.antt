@@ -59,8 +59,7 @@ forgiven-late list script start slot then k some is =
     λ i. has_node (numbers_of (found i).stayed) k && is_armed script k (back i)
 
 pub forgiven-early : (list : Medl) (script : Script) (start : ClusterStart) (slot k : ℕ) → 0 < four_rounds list
-    → slot < four_rounds list
-    → is_forgiven list script (slots_before list script start slot) slot k ≡ false
+    → slot < four_rounds list → is_forgiven list script (slots_before list script start slot) slot k ≡ false
 forgiven-early list script start slot k some early =
     let none = get-none list script start slot (four_rounds list - 1) (omega arith) in
     λ i. has_node (numbers_of (none i).stayed) k && is_armed script k (slot - four_rounds list)
