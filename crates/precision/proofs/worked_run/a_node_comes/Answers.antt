@@ -1,110 +1,100 @@
-use Rattle.std.proofs.Common.{◌≡◌, ℕ, zero, suc, ◌≤◌, pos, true, false, List, [], ◌∷◌, length, inl, inr, refl, arith}
+use Rattle.std.proofs.Common.{◌≡◌, ℕ, zero, suc, ◌+◌, ◌<◌, ◌≤◌, Bool, true, false, List, [], ◌∷◌, length, inl, inr}
+use Rattle.std.proofs.Common.{refl, sym, ◌∙◌, arith}
 use Rattle.std.specs.Prelude.{IsTrue}
 use Rattle.std.proofs.lemmas.Bool.{false≢true, true≢false}
 use Rattle.ttp_base.specs.NodeSet.{members_in, with_node}
 use Rattle.ttp_world.specs.declared.node.Entry.{Entry}
 use Rattle.ttp_world.specs.Clock.{notes_of}
-use Rattle.ttp_world.specs.Diary.{History, continues_stint, diary_of, entry_of}
-use Rattle.ttp_world.specs.Script.{jump_of}
-use Rattle.precision.specs.Together.{IsIn, BeginsOn, TellsOf, Nothing, OneFrame, EndsLaterRound, newest_notes}
-use Rattle.precision.specs.Company.{StayedInCompany, RanAsCompany}
+use Rattle.ttp_world.specs.Diary.{History, ends_round, place_of, diary_of, entry_of, continues_stint}
+use Rattle.precision.specs.Together.{IsIn, TellsOf, Nothing, OneFrame, EndsLaterRound, newest_notes}
+use Rattle.precision.specs.Company.{RanAsCompany}
 use Rattle.precision.specs.WorkedCompany.{five_nodes, coming_late, first_four, waiting, starting, joining, run_of_four}
 use Rattle.precision.specs.WorkedCompany.{run_of_coming}
 use Rattle.precision.specs.WorkedRun.{every_node}
+use Rattle.precision.proofs.Frames.{told_goes}
 use Rattle.precision.proofs.worked_run.a_node_comes.Goals as goal
 
 -- what is so of each of the five, and of each of the first four
-abbrev OfFive : (ℕ → Type 0) → Type 0
-OfFive P = P 0 × (P 1 × (P 2 × (P 3 × P 4)))
+of_five : (P : ℕ → Type 0) → P 0 → P 1 → P 2 → P 3 → P 4 → (k : ℕ) → IsIn five_nodes every_node k → P k
+of_five P a b c d e zero p = a
+of_five P a b c d e (suc zero) p = b
+of_five P a b c d e (suc (suc zero)) p = c
+of_five P a b c d e (suc (suc (suc zero))) p = d
+of_five P a b c d e (suc (suc (suc (suc zero)))) p = e
+of_five P a b c d e (suc (suc (suc (suc (suc k))))) p = absurd (omega (arith, p.0))
 
-abbrev OfFour : (ℕ → Type 0) → Type 0
-OfFour P = P 0 × (P 1 × (P 2 × P 3))
+of_four : (P : ℕ → Type 0) → P 0 → P 1 → P 2 → P 3 → (k : ℕ) → IsIn five_nodes first_four k → P k
+of_four P a b c d zero p = a
+of_four P a b c d (suc zero) p = b
+of_four P a b c d (suc (suc zero)) p = c
+of_four P a b c d (suc (suc (suc zero))) p = d
+of_four P a b c d (suc (suc (suc (suc zero)))) p = absurd (false≢true p.1)
+of_four P a b c d (suc (suc (suc (suc (suc k))))) p = absurd (omega (arith, p.0))
 
-of_five : (P : ℕ → Type 0) → OfFive P → (k : ℕ) → IsIn five_nodes every_node k → P k
-of_five P all zero p = all.0
-of_five P all (suc zero) p = all.1.0
-of_five P all (suc (suc zero)) p = all.1.1.0
-of_five P all (suc (suc (suc zero))) p = all.1.1.1.0
-of_five P all (suc (suc (suc (suc zero)))) p = all.1.1.1.1
-of_five P all (suc (suc (suc (suc (suc k))))) p = absurd (omega (arith, p.0))
+-- the nodes whose round ends there, which began after the newest entry, noted four deviations in it
+data NotedFour (group : ℕ → Bool) (newest : ℕ) (row : List Entry) (history : History) : Type 0 where
+  NoneLater : length history < newest + 5 → NotedFour group newest row history
+  NoneEnds : ((k : ℕ) → IsIn five_nodes group k
+      → ends_round five_nodes (place_of five_nodes k (diary_of (row ∷ history) k)) ≡ false)
+      → NotedFour group newest row history
+  EachNoted : ((k : ℕ) → IsIn five_nodes group k → length (notes_of five_nodes k (diary_of (row ∷ history) k)) ≡ 4)
+      → NotedFour group newest row history
 
-of_four : (P : ℕ → Type 0) → OfFour P → (k : ℕ) → IsIn five_nodes first_four k → P k
-of_four P all zero p = all.0
-of_four P all (suc zero) p = all.1.0
-of_four P all (suc (suc zero)) p = all.1.1.0
-of_four P all (suc (suc (suc zero))) p = all.1.1.1
-of_four P all (suc (suc (suc (suc zero)))) p = absurd (false≢true p.1)
-of_four P all (suc (suc (suc (suc (suc k))))) p = absurd (omega (arith, p.0))
+noted_four : (group : ℕ → Bool) (newest : ℕ) (row : List Entry) (history : History)
+    → NotedFour group newest row history
+    → (k : ℕ) → IsIn five_nodes group k → EndsLaterRound five_nodes newest k row history
+    → 4 ≤ length (notes_of five_nodes k (diary_of (row ∷ history) k))
+noted_four group newest row history (NoneLater soon) k is ends = absurd (omega (arith, soon, ends.1))
+noted_four group newest row history (NoneEnds inside) k is ends = absurd (false≢true (sym (inside k is) ∙ ends.0))
+noted_four group newest row history (EachNoted each) k is ends = omega (arith, each k is)
 
-abbrev goes_on : List Entry → ℕ → Type 0
-goes_on row k = IsTrue (continues_stint (entry_of row k))
+-- a slot in which all of a group tell of a frame of one of them
+told : (group : ℕ → Bool) (newest p : ℕ) (row : List Entry) (history : History)
+    → IsIn five_nodes group p
+    → ((k : ℕ) → IsIn five_nodes group k → TellsOf five_nodes coming_late history p k (entry_of row k))
+    → NotedFour group newest row history
+    → RanAsCompany five_nodes coming_late true group newest history
+    → RanAsCompany five_nodes coming_late true group newest (row ∷ history)
+told group newest p row history member tells enough ran = (
+  λ k q. refl,
+  inr (inl (
+    group,
+    (
+      ran,
+      record {
+        less = λ k is. is.1;
+        together = record {
+          active = λ k is. told_goes five_nodes coming_late history p k (entry_of row k) (tells k is);
+          noted = OneFrame p tells;
+          enough = noted_four _ _ row history enough;
+        };
+        noted = λ grows. (member, refl);
+      },
+    ),
+  )),
+)
 
--- where a round of node k ends that began after the newest entry, it noted four deviations in it
-abbrev notes_four : ℕ → List Entry → History → ℕ → Type 0
-notes_four newest row history k =
-    EndsLaterRound five_nodes newest k row history → 4 ≤ length (notes_of five_nodes k (diary_of (row ∷ history) k))
-
--- a slot in which the first four tell of a frame of one of them
-four_told : (p : ℕ) (row : List Entry) (history : History)
-    → IsIn five_nodes first_four p → jump_of coming_late p (length history) ≡ pos 0
-    → OfFour (goes_on row) → OfFour (λ k. TellsOf five_nodes coming_late history p k (entry_of row k))
-    → OfFour (notes_four 10 row history)
-    → StayedInCompany five_nodes coming_late true first_four first_four 10 row history
-four_told p row history member calm active tells enough = record {
-  less = λ k is. is.1;
-  together = record {
-    active = of_four (goes_on row) active;
-    noted = OneFrame p (of_four (λ k. TellsOf five_nodes coming_late history p k (entry_of row k)) tells);
-    enough = of_four (notes_four 10 row history) enough;
-  };
-  noted = λ grows. (member, calm);
-}
-
--- one in which they note nothing
-four_silent : (row : List Entry) (history : History) → OfFour (goes_on row)
-    → OfFour (λ k. newest_notes five_nodes k (diary_of (row ∷ history) k) ≡ [])
-    → OfFour (notes_four 10 row history)
-    → StayedInCompany five_nodes coming_late true first_four first_four 10 row history
-four_silent row history active none enough = record {
-  less = λ k is. is.1;
-  together = record {
-    active = of_four (goes_on row) active;
-    noted = Nothing (of_four (λ k. newest_notes five_nodes k (diary_of (row ∷ history) k) ≡ []) none);
-    enough = of_four (notes_four 10 row history) enough;
-  };
-  noted = λ grows. tt;
-}
-
--- one in which all tell of a frame of one of them
-five_told : (p : ℕ) (row : List Entry) (history : History)
-    → IsIn five_nodes every_node p → jump_of coming_late p (length history) ≡ pos 0
-    → OfFive (goes_on row) → OfFive (λ k. TellsOf five_nodes coming_late history p k (entry_of row k))
-    → OfFive (notes_four 22 row history)
-    → StayedInCompany five_nodes coming_late true every_node every_node 22 row history
-five_told p row history member calm active tells enough = record {
-  less = λ k is. is.1;
-  together = record {
-    active = of_five (goes_on row) active;
-    noted = OneFrame p (of_five (λ k. TellsOf five_nodes coming_late history p k (entry_of row k)) tells);
-    enough = of_five (notes_four 22 row history) enough;
-  };
-  noted = λ grows. (member, calm);
-}
-
-next_four : (row : List Entry) (history : History)
-    → StayedInCompany five_nodes coming_late true first_four first_four 10 row history
+-- one in which the first four find nothing
+silent : (row : List Entry) (history : History)
+    → ((k : ℕ) → IsIn five_nodes first_four k → IsTrue (continues_stint (entry_of row k)))
+    → ((k : ℕ) → IsIn five_nodes first_four k → newest_notes five_nodes k (diary_of (row ∷ history) k) ≡ [])
+    → NotedFour first_four 10 row history
     → RanAsCompany five_nodes coming_late true first_four 10 history
     → RanAsCompany five_nodes coming_late true first_four 10 (row ∷ history)
-next_four row history stayed ran = (λ k p. refl, inr (inl (first_four, (ran, stayed))))
-
-next_five : (row : List Entry) (history : History)
-    → StayedInCompany five_nodes coming_late true every_node every_node 22 row history
-    → RanAsCompany five_nodes coming_late true every_node 22 history
-    → RanAsCompany five_nodes coming_late true every_node 22 (row ∷ history)
-next_five row history stayed ran = (λ k p. refl, inr (inl (every_node, (ran, stayed))))
-
-many : 4 ≤ 4
-many = omega arith
+silent row history active none enough ran = (
+  λ k q. refl,
+  inr (inl (
+    first_four,
+    (
+      ran,
+      record {
+        less = λ k is. is.1;
+        together = record { active = active; noted = Nothing none; enough = noted_four _ _ row history enough };
+        noted = λ grows. tt;
+      },
+    ),
+  )),
+)
 
 -- the slot of the start
 four_begun : RanAsCompany five_nodes coming_late true first_four 10 (starting ∷ waiting)
@@ -116,8 +106,7 @@ four_begun = (
       sender = 0;
       place = record { time = 0; round = 0; slot = 0 };
       inside = omega arith;
-      begins = of_four (λ k. BeginsOn five_nodes coming_late waiting 0 (record { time = 0; round = 0; slot = 0 }) k
-          (entry_of starting k)) ((refl, refl), ((refl, refl), ((refl, refl), (refl, refl))));
+      begins = of_four _ (refl, refl) (refl, refl) (refl, refl) (refl, refl);
     },
   ),
 )
@@ -126,87 +115,27 @@ four_begun = (
 four_ran : RanAsCompany five_nodes coming_late true first_four 10 run_of_four
 unfolding members_in with_node
 four_ran =
-    next_four _ _ (four_told 1 _ _ (omega arith, refl) refl (refl, (refl, (refl, refl)))
-    ((refl, refl), (refl, ((refl, refl), (refl, refl)))) (
-      (λ ends. absurd (false≢true ends.0)),
-      (
-        (λ ends. absurd (false≢true ends.0)),
-        ((λ ends. absurd (false≢true ends.0)), (λ ends. absurd (false≢true ends.0))),
-      ),
-    ))
-    (next_four _ _ (four_told 0 _ _ (omega arith, refl) refl (refl, (refl, (refl, refl)))
-    (refl, ((refl, refl), ((refl, refl), (refl, refl)))) (
-      (λ ends. absurd (false≢true ends.0)),
-      (
-        (λ ends. absurd (false≢true ends.0)),
-        ((λ ends. absurd (false≢true ends.0)), (λ ends. absurd (false≢true ends.0))),
-      ),
-    ))
-    (next_four _ _ (four_silent _ _ (refl, (refl, (refl, refl))) (refl, (refl, (refl, refl)))
-    ((λ ends. many), ((λ ends. many), ((λ ends. many), (λ ends. many)))))
-    (next_four _ _ (four_told 3 _ _ (omega arith, refl) refl (refl, (refl, (refl, refl)))
-    ((refl, refl), ((refl, refl), ((refl, refl), refl))) (
-      (λ ends. absurd (false≢true ends.0)),
-      (
-        (λ ends. absurd (false≢true ends.0)),
-        ((λ ends. absurd (false≢true ends.0)), (λ ends. absurd (false≢true ends.0))),
-      ),
-    ))
-    (next_four _ _ (four_told 2 _ _ (omega arith, refl) refl (refl, (refl, (refl, refl)))
-    ((refl, refl), ((refl, refl), (refl, (refl, refl)))) (
-      (λ ends. absurd (false≢true ends.0)),
-      (
-        (λ ends. absurd (false≢true ends.0)),
-        ((λ ends. absurd (false≢true ends.0)), (λ ends. absurd (false≢true ends.0))),
-      ),
-    ))
-    (next_four _ _ (four_told 1 _ _ (omega arith, refl) refl (refl, (refl, (refl, refl)))
-    ((refl, refl), (refl, ((refl, refl), (refl, refl)))) (
-      (λ ends. absurd (false≢true ends.0)),
-      (
-        (λ ends. absurd (false≢true ends.0)),
-        ((λ ends. absurd (false≢true ends.0)), (λ ends. absurd (false≢true ends.0))),
-      ),
-    ))
-    (next_four _ _ (four_told 0 _ _ (omega arith, refl) refl (refl, (refl, (refl, refl)))
-    (refl, ((refl, refl), ((refl, refl), (refl, refl)))) (
-      (λ ends. absurd (false≢true ends.0)),
-      (
-        (λ ends. absurd (false≢true ends.0)),
-        ((λ ends. absurd (false≢true ends.0)), (λ ends. absurd (false≢true ends.0))),
-      ),
-    ))
-    (next_four _ _ (four_silent _ _ (refl, (refl, (refl, refl))) (refl, (refl, (refl, refl))) (
-      (λ ends. absurd (omega (arith, ends.1))),
-      (
-        (λ ends. absurd (omega (arith, ends.1))),
-        ((λ ends. absurd (omega (arith, ends.1))), (λ ends. absurd (omega (arith, ends.1)))),
-      ),
-    ))
-    (next_four _ _ (four_told 3 _ _ (omega arith, refl) refl (refl, (refl, (refl, refl)))
-    ((refl, refl), ((refl, refl), ((refl, refl), refl))) (
-      (λ ends. absurd (omega (arith, ends.1))),
-      (
-        (λ ends. absurd (omega (arith, ends.1))),
-        ((λ ends. absurd (omega (arith, ends.1))), (λ ends. absurd (omega (arith, ends.1)))),
-      ),
-    ))
-    (next_four _ _ (four_told 2 _ _ (omega arith, refl) refl (refl, (refl, (refl, refl)))
-    ((refl, refl), ((refl, refl), (refl, (refl, refl)))) (
-      (λ ends. absurd (omega (arith, ends.1))),
-      (
-        (λ ends. absurd (omega (arith, ends.1))),
-        ((λ ends. absurd (omega (arith, ends.1))), (λ ends. absurd (omega (arith, ends.1)))),
-      ),
-    ))
-    (next_four _ _ (four_told 1 _ _ (omega arith, refl) refl (refl, (refl, (refl, refl)))
-    ((refl, refl), (refl, ((refl, refl), (refl, refl)))) (
-      (λ ends. absurd (omega (arith, ends.1))),
-      (
-        (λ ends. absurd (omega (arith, ends.1))),
-        ((λ ends. absurd (omega (arith, ends.1))), (λ ends. absurd (omega (arith, ends.1)))),
-      ),
-    ))
+    told _ _ 1 _ _ (omega arith, refl) (of_four _ (refl, refl) refl (refl, refl) (refl, refl))
+    (NoneEnds (of_four _ refl refl refl refl))
+    (told _ _ 0 _ _ (omega arith, refl) (of_four _ refl (refl, refl) (refl, refl) (refl, refl))
+    (NoneEnds (of_four _ refl refl refl refl))
+    (silent _ _ (of_four _ refl refl refl refl) (of_four _ refl refl refl refl)
+    (EachNoted (of_four _ refl refl refl refl))
+    (told _ _ 3 _ _ (omega arith, refl) (of_four _ (refl, refl) (refl, refl) (refl, refl) refl)
+    (NoneEnds (of_four _ refl refl refl refl))
+    (told _ _ 2 _ _ (omega arith, refl) (of_four _ (refl, refl) (refl, refl) refl (refl, refl))
+    (NoneEnds (of_four _ refl refl refl refl))
+    (told _ _ 1 _ _ (omega arith, refl) (of_four _ (refl, refl) refl (refl, refl) (refl, refl))
+    (NoneEnds (of_four _ refl refl refl refl))
+    (told _ _ 0 _ _ (omega arith, refl) (of_four _ refl (refl, refl) (refl, refl) (refl, refl))
+    (NoneEnds (of_four _ refl refl refl refl))
+    (silent _ _ (of_four _ refl refl refl refl) (of_four _ refl refl refl refl) (NoneLater (omega arith))
+    (told _ _ 3 _ _ (omega arith, refl) (of_four _ (refl, refl) (refl, refl) (refl, refl) refl)
+    (NoneLater (omega arith))
+    (told _ _ 2 _ _ (omega arith, refl) (of_four _ (refl, refl) (refl, refl) refl (refl, refl))
+    (NoneLater (omega arith))
+    (told _ _ 1 _ _ (omega arith, refl) (of_four _ (refl, refl) refl (refl, refl) (refl, refl))
+    (NoneLater (omega arith))
     four_begun))))))))))
 
 -- the slot in which node 4 joins
@@ -228,29 +157,10 @@ grown = (
               later = omega arith;
               sender = 2;
               member = ((omega arith, refl), refl);
-              tells = of_five
-                  (λ k. first_four k ≡ true → TellsOf five_nodes coming_late run_of_four 2 k (entry_of joining k)) (
-                    λ there. (refl, refl),
-                    (
-                      λ there. (refl, refl),
-                      (
-                        λ there. refl,
-                        (
-                          λ there. (refl, refl),
-                          λ there. absurd (false≢true there),
-                        ),
-                      ),
-                    ),
-                  );
-              begins = of_five
-                  (λ k. first_four k ≡ false → BeginsOn five_nodes coming_late run_of_four 2
-                  (record { time = 12; round = 0; slot = 2 }) k (entry_of joining k)) (
-                    λ away. absurd (true≢false away),
-                    (
-                      λ away. absurd (true≢false away),
-                      (λ away. absurd (true≢false away), (λ away. absurd (true≢false away), λ away. (refl, refl))),
-                    ),
-                  );
+              tells = of_five _ (λ there. (refl, refl)) (λ there. (refl, refl)) (λ there. refl) (λ there. (refl, refl))
+                  (λ there. absurd (false≢true there));
+              begins = of_five _ (λ away. absurd (true≢false away)) (λ away. absurd (true≢false away))
+                  (λ away. absurd (true≢false away)) (λ away. absurd (true≢false away)) (λ away. (refl, refl));
             },
           ),
         ),
@@ -263,90 +173,18 @@ grown = (
 five_ran : RanAsCompany five_nodes coming_late true every_node 22 run_of_coming
 unfolding members_in with_node
 five_ran =
-    next_five _ _ (five_told 3 _ _ (omega arith, refl) refl (refl, (refl, (refl, (refl, refl))))
-    ((refl, refl), ((refl, refl), ((refl, refl), (refl, (refl, refl))))) (
-      (λ ends. absurd (false≢true ends.0)),
-      (
-        (λ ends. absurd (false≢true ends.0)),
-        (
-          (λ ends. absurd (false≢true ends.0)),
-          (
-            (λ ends. absurd (false≢true ends.0)),
-            (λ ends. absurd (false≢true ends.0)),
-          ),
-        ),
-      ),
-    ))
-    (next_five _ _ (five_told 2 _ _ (omega arith, refl) refl (refl, (refl, (refl, (refl, refl))))
-    ((refl, refl), ((refl, refl), (refl, ((refl, refl), (refl, refl))))) (
-      (λ ends. absurd (false≢true ends.0)),
-      (
-        (λ ends. absurd (false≢true ends.0)),
-        (
-          (λ ends. absurd (false≢true ends.0)),
-          (
-            (λ ends. absurd (false≢true ends.0)),
-            (λ ends. absurd (false≢true ends.0)),
-          ),
-        ),
-      ),
-    ))
-    (next_five _ _ (five_told 1 _ _ (omega arith, refl) refl (refl, (refl, (refl, (refl, refl))))
-    ((refl, refl), (refl, ((refl, refl), ((refl, refl), (refl, refl))))) (
-      (λ ends. absurd (omega (arith, ends.1))),
-      (
-        (λ ends. absurd (omega (arith, ends.1))),
-        (
-          (λ ends. absurd (omega (arith, ends.1))),
-          (
-            (λ ends. absurd (omega (arith, ends.1))),
-            (λ ends. absurd (omega (arith, ends.1))),
-          ),
-        ),
-      ),
-    ))
-    (next_five _ _ (five_told 0 _ _ (omega arith, refl) refl (refl, (refl, (refl, (refl, refl))))
-    (refl, ((refl, refl), ((refl, refl), ((refl, refl), (refl, refl))))) (
-      (λ ends. absurd (omega (arith, ends.1))),
-      (
-        (λ ends. absurd (omega (arith, ends.1))),
-        (
-          (λ ends. absurd (omega (arith, ends.1))),
-          (
-            (λ ends. absurd (omega (arith, ends.1))),
-            (λ ends. absurd (omega (arith, ends.1))),
-          ),
-        ),
-      ),
-    ))
-    (next_five _ _ (five_told 4 _ _ (omega arith, refl) refl (refl, (refl, (refl, (refl, refl))))
-    ((refl, refl), ((refl, refl), ((refl, refl), ((refl, refl), refl)))) (
-      (λ ends. absurd (omega (arith, ends.1))),
-      (
-        (λ ends. absurd (omega (arith, ends.1))),
-        (
-          (λ ends. absurd (omega (arith, ends.1))),
-          (
-            (λ ends. absurd (omega (arith, ends.1))),
-            (λ ends. absurd (omega (arith, ends.1))),
-          ),
-        ),
-      ),
-    ))
-    (next_five _ _ (five_told 3 _ _ (omega arith, refl) refl (refl, (refl, (refl, (refl, refl))))
-    ((refl, refl), ((refl, refl), ((refl, refl), (refl, (refl, refl))))) (
-      (λ ends. absurd (omega (arith, ends.1))),
-      (
-        (λ ends. absurd (omega (arith, ends.1))),
-        (
-          (λ ends. absurd (omega (arith, ends.1))),
-          (
-            (λ ends. absurd (omega (arith, ends.1))),
-            (λ ends. absurd (omega (arith, ends.1))),
-          ),
-        ),
-      ),
-    ))
+    told _ _ 3 _ _ (omega arith, refl) (of_five _ (refl, refl) (refl, refl) (refl, refl) refl (refl, refl))
+    (NoneEnds (of_five _ refl refl refl refl refl))
+    (told _ _ 2 _ _ (omega arith, refl) (of_five _ (refl, refl) (refl, refl) refl (refl, refl) (refl, refl))
+    (NoneEnds (of_five _ refl refl refl refl refl))
+    (told _ _ 1 _ _ (omega arith, refl) (of_five _ (refl, refl) refl (refl, refl) (refl, refl) (refl, refl))
+    (NoneLater (omega arith))
+    (told _ _ 0 _ _ (omega arith, refl) (of_five _ refl (refl, refl) (refl, refl) (refl, refl) (refl, refl))
+    (NoneLater (omega arith))
+    (told _ _ 4 _ _ (omega arith, refl) (of_five _ (refl, refl) (refl, refl) (refl, refl) (refl, refl) refl)
+    (NoneLater (omega arith))
+    (told _ _ 3 _ _ (omega arith, refl) (of_five _ (refl, refl) (refl, refl) (refl, refl) refl (refl, refl))
+    (NoneLater (omega arith))
     grown)))))
 
 pub returns-clause-world : goal.returns-clause-world
