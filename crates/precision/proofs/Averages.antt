@@ -34,20 +34,15 @@ AreNear w c k notes = All (λ d. IsUpTo w ((c +ℤ d) -ℤ k)) notes
 
 -- Notes of two clocks on the same frames.
 
-below_of : (w b c d e x : ℤ) → IsUpTo w ((b +ℤ d) -ℤ x) → IsUpTo w ((c +ℤ e) -ℤ x) → d ≤ℤ (e +ℤ ((c -ℤ b) +ℤ (w +ℤ w)))
-below_of w b c d e x p q = omega (arith, ints, p.0, p.1, q.0, q.1)
-
 AreBelow-located : (w b c : ℤ) (n : ℕ) (ds es xs : List ℤ) → LocateNewest w b ds xs → LocateNewest w c es xs
     → n ≤ length ds → n ≤ length es
     → AreBelow ((c -ℤ b) +ℤ (w +ℤ w)) (take n ds) (take n es)
 AreBelow-located w b c zero ds es xs p q many enough = tt
-AreBelow-located w b c (suc n) [] es xs p q many enough = absurd (omega (arith, many))
-AreBelow-located w b c (suc n) (d ∷ ds) [] xs p q many enough = absurd (omega (arith, enough))
+AreBelow-located w b c (suc n) [] es xs p q many enough = absurd (omega arith)
+AreBelow-located w b c (suc n) (d ∷ ds) [] xs p q many enough = absurd (omega arith)
 AreBelow-located w b c (suc n) (d ∷ ds) (e ∷ es) [] p q many enough = absurd p
-AreBelow-located w b c (suc n) (d ∷ ds) (e ∷ es) (x ∷ xs) p q many enough = (
-  below_of w b c d e x p.0 q.0,
-  AreBelow-located w b c n ds es xs p.1 q.1 (omega (arith, many)) (omega (arith, enough)),
-)
+AreBelow-located w b c (suc n) (d ∷ ds) (e ∷ es) (x ∷ xs) p q many enough =
+    (omega (arith, ints, p.0, q.0), AreBelow-located w b c n ds es xs p.1 q.1 (omega arith) (omega arith))
 
 pub length-located : (w b : ℤ) (ds xs : List ℤ) → Locate w b ds xs → length ds ≡ length xs
 length-located w b [] [] p = refl
@@ -57,17 +52,13 @@ length-located w b (d ∷ ds) (x ∷ xs) p = ap suc (length-located w b ds xs p.
 
 -- The middle two of four.
 
-sum_of_two : (c x x1 y y1 : ℤ) → x ≤ℤ (y +ℤ c) → x1 ≤ℤ (y1 +ℤ c)
-    → (x +ℤ (x1 +ℤ pos 0)) ≤ℤ ((y +ℤ (y1 +ℤ pos 0)) +ℤ (c +ℤ c))
-sum_of_two c x x1 y y1 p q = omega (arith, ints, p, q)
-
 first_two_below : (c : ℤ) (xs ys : List ℤ) → AreBelow c xs ys → 2 ≤ length xs
     → sum_ℤ (take 2 xs) ≤ℤ (sum_ℤ (take 2 ys) +ℤ (c +ℤ c))
 first_two_below c [] ys h two = absurd (omega (arith, two))
 first_two_below c (x ∷ []) ys h two = absurd (omega (arith, two))
 first_two_below c (x ∷ x1 ∷ xs) [] h two = absurd h
 first_two_below c (x ∷ x1 ∷ xs) (y ∷ []) h two = absurd h.1
-first_two_below c (x ∷ x1 ∷ xs) (y ∷ y1 ∷ ys) h two = sum_of_two c x x1 y y1 h.0 h.1.0
+first_two_below c (x ∷ x1 ∷ xs) (y ∷ y1 ∷ ys) h two = omega (arith, ints, h.0, h.1.0)
 
 middle_below : (c : ℤ) (xs ys : List ℤ) → AreBelow c xs ys → length xs ≡ 4
     → sum_ℤ (take 2 (drop 1 xs)) ≤ℤ (sum_ℤ (take 2 (drop 1 ys)) +ℤ (c +ℤ c))
@@ -77,12 +68,9 @@ middle_below c (x ∷ xs) (y ∷ ys) h four = first_two_below c xs ys h.1 (omega
 
 -- Halves.
 
-half_of : (c y z q p : ℤ) → IsAboutTwice q y → IsAboutTwice p z → y ≤ℤ (z +ℤ (c +ℤ c)) → q ≤ℤ (p +ℤ (c +ℤ pos 1))
-half_of c y z q p first second below = omega (arith, ints, first.0, second.1, below)
-
 half_below : (c y z : ℤ) → y ≤ℤ (z +ℤ (c +ℤ c)) → int_div y (pos 2) ≤ℤ (int_div z (pos 2) +ℤ (c +ℤ pos 1))
 half_below c y z below =
-    half_of c y z (int_div y (pos 2)) (int_div z (pos 2)) (half_about y) (half_about z) below
+    omega (arith, ints, half_about y, half_about z)
 
 -- Averages.
 
@@ -99,45 +87,27 @@ fta-few notes few =
 middle_half-below : (c : ℤ) (ds es : List ℤ) → AreBelow c (take 4 ds) (take 4 es) → 4 ≤ length ds
     → middle_half (take 4 ds) ≤ℤ (middle_half (take 4 es) +ℤ (c +ℤ pos 1))
 middle_half-below c ds es below enough =
-    let sums : sum_ℤ (take 2 (drop 1 (sorted (take 4 ds))))
-    ≤ℤ (sum_ℤ (take 2 (drop 1 (sorted (take 4 es)))) +ℤ (c +ℤ c)) =
-    middle_below c (sorted (take 4 ds)) (sorted (take 4 es))
-    (AreBelow-sorted c (take 4 ds) (take 4 es) below)
-    (length-sorted (take 4 ds) ∙ length-take-le 4 ds enough) in
-    half_below c (sum_ℤ (take 2 (drop 1 (sorted (take 4 ds))))) (sum_ℤ (take 2 (drop 1 (sorted (take 4 es))))) sums
-
-apart_of : (w b c p q : ℤ) → p ≤ℤ (q +ℤ (((c -ℤ b) +ℤ (w +ℤ w)) +ℤ pos 1))
-    → ((b +ℤ p) -ℤ (c +ℤ q)) ≤ℤ ((w +ℤ w) +ℤ pos 1)
-apart_of w b c p q h = omega (arith, ints, h)
+    half_below c (sum_ℤ (take 2 (drop 1 (sorted (take 4 ds))))) (sum_ℤ (take 2 (drop 1 (sorted (take 4 es)))))
+    (middle_below c (sorted (take 4 ds)) (sorted (take 4 es)) (AreBelow-sorted c (take 4 ds) (take 4 es) below)
+    (length-sorted (take 4 ds) ∙ length-take-le 4 ds enough))
 
 -- two clocks that noted four or more, the newest four of the same frames, each corrected by its average
 pub corrected_apart : (w b c : ℤ) (ds es xs : List ℤ) → LocateNewest w b ds xs → LocateNewest w c es xs → 4 ≤ length ds
     → 4 ≤ length es
     → ((b +ℤ fta ds) -ℤ (c +ℤ fta es)) ≤ℤ ((w +ℤ w) +ℤ pos 1)
 corrected_apart w b c ds es xs p q many enough =
-    let below : middle_half (take 4 ds) ≤ℤ (middle_half (take 4 es) +ℤ (((c -ℤ b) +ℤ (w +ℤ w)) +ℤ pos 1)) =
-    middle_half-below ((c -ℤ b) +ℤ (w +ℤ w)) ds es (AreBelow-located w b c 4 ds es xs p q many enough) many in
-    rw (fta-many ds many, fta-many es enough) (apart_of w b c (middle_half (take 4 ds)) (middle_half (take 4 es)) below)
+    let below = middle_half-below ((c -ℤ b) +ℤ (w +ℤ w)) ds es (AreBelow-located w b c 4 ds es xs p q many enough) many in
+    rw (fta-many ds many, fta-many es enough) (omega (arith, ints, below))
 
 -- Clocks near which each frame was that a clock noted: the average leaves it near them.
-
-bounds_of : (w c k d : ℤ) → IsUpTo w ((c +ℤ d) -ℤ k) → Between ((k -ℤ c) -ℤ w) ((k -ℤ c) +ℤ w) d
-bounds_of w c k d near = (omega (arith, ints, near.0), omega (arith, ints, near.1))
-
-none_between : (w c k : ℤ) → IsUpTo w (c -ℤ k) → Between ((k -ℤ c) -ℤ w) ((k -ℤ c) +ℤ w) (pos 0)
-none_between w c k apart = (omega (arith, ints, apart.0, apart.1), omega (arith, ints, apart.0, apart.1))
 
 pub fta-near : (w c k : ℤ) (notes : List ℤ) → IsUpTo w (c -ℤ k) → AreNear w c k notes
     → Between ((k -ℤ c) -ℤ w) ((k -ℤ c) +ℤ w) (fta notes)
 fta-near w c k notes apart near =
-    let none = none_between w c k apart in
-    fta-between ((k -ℤ c) -ℤ w) ((k -ℤ c) +ℤ w) notes none.0 none.1
+    fta-between ((k -ℤ c) -ℤ w) ((k -ℤ c) +ℤ w) notes (omega (arith, ints)) (omega (arith, ints))
     (All-weaker (λ d. IsUpTo w ((c +ℤ d) -ℤ k)) (Between ((k -ℤ c) -ℤ w) ((k -ℤ c) +ℤ w))
-    (λ d h. bounds_of w c k d h) notes near)
-
-left_near : (w c k a : ℤ) → Between ((k -ℤ c) -ℤ w) ((k -ℤ c) +ℤ w) a → IsUpTo w ((c +ℤ a) -ℤ k)
-left_near w c k a h = (omega (arith, ints, h.0), omega (arith, ints, h.1))
+    (λ d h. omega (arith, ints)) notes near)
 
 pub corrected_near : (w c k : ℤ) (notes : List ℤ) → IsUpTo w (c -ℤ k) → AreNear w c k notes
     → IsUpTo w ((c +ℤ fta notes) -ℤ k)
-corrected_near w c k notes apart near = left_near w c k (fta notes) (fta-near w c k notes apart near)
+corrected_near w c k notes apart near = omega (arith, ints, fta-near w c k notes apart near)

@@ -42,14 +42,6 @@ moved script k o deviation = o +ℤ (pos 0 +ℤ (drift_of script k +ℤ deviatio
 
 -- Its own frame.
 
-own_near : (x o d e q v : ℤ) → x ≡ o → IsUpTo q d → pos 0 ≤ℤ e → v ≡ pos 0
-    → IsUpTo (e +ℤ q) ((o +ℤ (pos 0 +ℤ (d +ℤ v))) -ℤ x)
-own_near x o d e q v is drift up none =
-    (omega (arith, ints, is, drift.0, drift.1, up, none), omega (arith, ints, is, drift.0, drift.1, up, none))
-
-own_set : (x o e : ℤ) → x ≡ o → pos 0 ≤ℤ e → IsUpTo e ((o +ℤ pos 0) -ℤ x)
-own_set x o e is up = (omega (arith, ints, is, up), omega (arith, ints, is, up))
-
 own_frame : (list : Medl) (script : Script) (history : History) (k p : ℕ) (o : ℤ)
     → RunsFrom list script history k o → k ≡ p → frame_of list script history p ≡ o
 own_frame list script history k p o runs own =
@@ -57,26 +49,13 @@ own_frame list script history k p o runs own =
 
 -- Another's frame.
 
-other_near : (x c o d e r q v : ℤ) → c ≡ o → v ≡ (x -ℤ c) +ℤ r → IsUpTo q d → IsUpTo e r
-    → IsUpTo (e +ℤ q) ((o +ℤ (pos 0 +ℤ (d +ℤ v))) -ℤ x)
-other_near x c o d e r q v is was drift error = (
-  omega (arith, ints, is, was, drift.0, drift.1, error.0, error.1),
-  omega (arith, ints, is, was, drift.0, drift.1, error.0, error.1),
-)
-
-other_set : (x c o e r v : ℤ) → c ≡ o → v ≡ (x -ℤ c) +ℤ r → IsUpTo e r → IsUpTo e ((o +ℤ v) -ℤ x)
-other_set x c o e r v is was error =
-    (omega (arith, ints, is, was, error.0, error.1), omega (arith, ints, is, was, error.0, error.1))
-
 -- what node k measured of a frame, added to its clock, tells where the frame was
 other_frame : (list : Medl) (script : Script) (history : History) (k p : ℕ) (o deviation : ℤ)
     → RunsFrom list script history k o
     → deviation ≡ measured list script history k p
     → IsUpTo (list.error +ℤ list.drift) (moved script k o deviation -ℤ frame_of list script history p)
 other_frame list script history k p o deviation runs is =
-    other_near (frame_of list script history p) (frame_of list script history k) o (drift_of script k) list.error
-    (reading_error script k (length history)) list.drift deviation
-    (frame_of-node list script history k runs.inside ∙ runs.before) is runs.drift runs.error
+    omega (arith, ints, frame_of-node list script history k runs.inside)
 
 -- The slot in which it begins.
 
@@ -99,17 +78,10 @@ pub begun_set : (list : Medl) (script : Script) (history : History) (p k : ℕ) 
     → BeginsOn list script history p place k e
     → IsUpTo list.error ((o +ℤ join_deviation e) -ℤ frame_of list script history p)
 begun_set list script history p k place o entry.Started runs h =
-    own_set (frame_of list script history p) o list.error (own_frame list script history k p o runs h.0) runs.error_up
+    omega (arith, ints, own_frame list script history k p o runs h.0)
 begun_set list script history p k place o (entry.Joined sender cstate deviation) runs h =
-    other_set (frame_of list script history p) (frame_of list script history k) o list.error
-    (reading_error script k (length history)) deviation
-    (frame_of-node list script history k runs.inside ∙ runs.before) h.1 runs.error
+    omega (arith, ints, frame_of-node list script history k runs.inside, h.1)
 begun_set list script history p k place o _ runs h = absurd h
-
-set_moved : (x o d e q v : ℤ) → IsUpTo e ((o +ℤ v) -ℤ x) → IsUpTo q d
-    → IsUpTo (e +ℤ q) ((o +ℤ (pos 0 +ℤ (d +ℤ v))) -ℤ x)
-set_moved x o d e q v set drift =
-    (omega (arith, ints, set.0, set.1, drift.0, drift.1), omega (arith, ints, set.0, set.1, drift.0, drift.1))
 
 -- and after the slot
 pub begun_near : (list : Medl) (script : Script) (history : History) (p k : ℕ) (place : Place) (o : ℤ) (e : Entry)
@@ -117,8 +89,7 @@ pub begun_near : (list : Medl) (script : Script) (history : History) (p k : ℕ)
     → BeginsOn list script history p place k e
     → IsUpTo (list.error +ℤ list.drift) (moved script k o (join_deviation e) -ℤ frame_of list script history p)
 begun_near list script history p k place o e runs h =
-    set_moved (frame_of list script history p) o (drift_of script k) list.error list.drift (join_deviation e)
-    (begun_set list script history p k place o e runs h) runs.drift
+    omega (arith, ints, begun_set list script history p k place o e runs h)
 
 -- Notes.
 
@@ -126,13 +97,6 @@ with_note : (w z d x : ℤ) (sync : Bool) → IsUpTo w ((z +ℤ d) -ℤ x)
     → Locate w z (cond sync (d ∷ []) []) (cond sync (x ∷ []) [])
 with_note w z d x true near = (near, tt)
 with_note w z d x false near = tt
-
-note_nothing : (w z x : ℤ) → IsUpTo w (z -ℤ x) → IsUpTo w ((z +ℤ pos 0) -ℤ x)
-note_nothing w z x near = (omega (arith, ints, near.0, near.1), omega (arith, ints, near.0, near.1))
-
-note_later : (w o d v x : ℤ) → IsUpTo w ((o +ℤ (pos 0 +ℤ (d +ℤ v))) -ℤ x)
-    → IsUpTo w (((o +ℤ (pos 0 +ℤ (d +ℤ pos 0))) +ℤ v) -ℤ x)
-note_later w o d v x near = (omega (arith, ints, near.0, near.1), omega (arith, ints, near.0, near.1))
 
 -- where one of the nodes' frames is noted in a slot, the frames that are located
 abbrev pub frames_at : Medl → Place → ℤ → List ℤ
@@ -143,9 +107,9 @@ pub begun_noted : (list : Medl) (script : Script) (history : History) (p k : ℕ
     → BeginsOn list script history p place k e
     → IsUpTo w (z -ℤ x) → Locate w z (notes_in list place e) (frames_at list place x)
 begun_noted list script history p k place w z x entry.Started h near =
-    with_note w z (pos 0) x (plan_at list place.slot).sync (note_nothing w z x near)
+    with_note w z (pos 0) x (plan_at list place.slot).sync (omega (arith, ints))
 begun_noted list script history p k place w z x (entry.Joined sender cstate deviation) h near =
-    with_note w z (pos 0) x (plan_at list place.slot).sync (note_nothing w z x near)
+    with_note w z (pos 0) x (plan_at list place.slot).sync (omega (arith, ints))
 begun_noted list script history p k place w z x _ h near = absurd h
 
 -- a later note is of its own frame or of another's
@@ -156,18 +120,12 @@ pub told_noted : (list : Medl) (script : Script) (history : History) (p k : ℕ)
     (frames_at list place (frame_of list script history p))
 told_noted list script history p k place o (entry.Sent message) runs h =
     with_note (list.error +ℤ list.drift) (moved script k o (pos 0)) (pos 0) (frame_of list script history p)
-    (plan_at list place.slot).sync
-    (note_nothing (list.error +ℤ list.drift) (moved script k o (pos 0)) (frame_of list script history p)
-    (own_near (frame_of list script history p) o (drift_of script k) list.error list.drift (pos 0)
-    (own_frame list script history k p o runs h) runs.drift runs.error_up refl))
+    (plan_at list place.slot).sync (omega (arith, ints, own_frame list script history k p o runs h))
 told_noted list script history p k place o (entry.Judged sender v deviation) runs h =
-    let w = list.error +ℤ list.drift in
-    let z = moved script k o (pos 0) in
-    let x = frame_of list script history p in
-    subst (λ b. Locate w z (cond (plan_at list place.slot).sync (option_to_list (cond b (Some deviation) None)) [])
-    (frames_at list place x)) (sym h.0)
-    (with_note w z deviation x (plan_at list place.slot).sync
-    (note_later w o (drift_of script k) deviation x (other_frame list script history k p o deviation runs h.1)))
+    rw h.0
+    (with_note (list.error +ℤ list.drift) (moved script k o (pos 0)) deviation (frame_of list script history p)
+    (plan_at list place.slot).sync
+    (omega (arith, ints, other_frame list script history k p o deviation runs h.1)))
 told_noted list script history p k place o _ runs h = absurd h
 
 pub told_goes : (list : Medl) (script : Script) (history : History) (p k : ℕ) (e : Entry)
