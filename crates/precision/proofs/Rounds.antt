@@ -1,7 +1,7 @@
 -- A company's clocks and notes: what an entry, one slot more, and the correction at the end of a round make of them.
 --
 -- The clocks are those before slot t, of whose round q slots are over. The newest entry is slot l, before it or at t.
-use Rattle.std.proofs.Common.{◌≡◌, ℕ, suc, ◌+◌, ◌*◌, ◌<◌, ◌≤◌, ℤ, pos, negsuc, neg_ℤ, ◌+ℤ◌, ◌-ℤ◌, ◌*ℤ◌, ◌≤ℤ◌, Bool}
+use Rattle.std.proofs.Common.{◌≡◌, ℕ, suc, ◌+◌, ◌*◌, ◌<◌, ◌≤◌, ℤ, pos, negsuc, ◌+ℤ◌, ◌-ℤ◌, ◌*ℤ◌, ◌≤ℤ◌, Bool}
 use Rattle.std.proofs.Common.{true, false, cond, ◌⊎◌, inl, inr, List, [], ◌∷◌, ◌++◌, length, refl, ap, sym, subst, ◌∙◌}
 use Rattle.std.proofs.Common.{mul-le-mul_left, arith, length-append}
 use Rattle.std.specs.Prelude.{◌==◌, All}
@@ -125,10 +125,6 @@ pub record Held (list : Medl) (may_grow : Bool) (group : ℕ → Type 0) (l t q 
 
 -- A group that is left, by other names.
 
--- clocks that are these are as far apart
-pub same_apart : (b c x y : ℤ) (bound : ℤ) → x ≡ b → y ≡ c → (b -ℤ c) ≤ℤ bound → (x -ℤ y) ≤ℤ bound
-same_apart b c x y bound is was h = omega (arith, ints, is, was, h)
-
 -- a node of the group before, with the same clock and notes
 pub record IsSame (before : ℕ → Type 0) (clock seen : ℕ → ℤ) (notes carried : ℕ → List ℤ) (k : ℕ) : Type 0 where
   pub member : before k
@@ -141,8 +137,8 @@ pub held_part : (list : Medl) (may_grow : Bool) (before group : ℕ → Type 0) 
     → Held list may_grow before l t q width clock notes → Held list may_grow group l t q width seen carried
 held_part list may_grow before group l t q width clock seen notes carried same held = record {
   wide = held.wide;
-  apart = λ j k a b. same_apart (clock j) (clock k) (seen j) (seen k) (drifted list width q) (same j a).same_clock
-      (same k b).same_clock (held.apart j k (same j a).member (same k b).member);
+  apart = λ j k a b. rw ((same j a).same_clock, (same k b).same_clock)
+      (held.apart j k (same j a).member (same k b).member);
   frames = held.frames;
   located = λ k b. rw ((same k b).same_clock, (same k b).same_notes) (held.located k (same k b).member);
   alike = λ fixed j k a b. rw ((same j a).same_notes, (same k b).same_notes)
@@ -156,33 +152,18 @@ near_nothing w c k = All-nil (λ d. IsUpTo w ((c +ℤ d) -ℤ k))
 
 -- The slot in which all begin, on one frame.
 
-begun_apart : (e q x y z : ℤ) → IsUpTo e (y -ℤ x) → IsUpTo e (z -ℤ x) → pos 0 ≤ℤ q
-    → (y -ℤ z) ≤ℤ ((e +ℤ e) +ℤ (q +ℤ q))
-begun_apart e q x y z h g up = omega (arith, ints, h.0, h.1, g.0, g.1, up)
-
-entry_over : (e n : ℤ) → pos 0 ≤ℤ n → pos 0 ≤ℤ e → (e +ℤ e) ≤ℤ (((n +ℤ n) +ℤ ((e +ℤ e) +ℤ pos 1)) +ℤ e)
-entry_over e n up some = omega (arith, ints, up, some)
-
-most_over : (e n : ℤ) → pos 0 ≤ℤ n → pos 0 ≤ℤ e
-    → (((n +ℤ n) +ℤ ((e +ℤ e) +ℤ pos 1)) +ℤ e)
-    ≤ℤ (((n +ℤ n) +ℤ ((e +ℤ e) +ℤ pos 1)) +ℤ ((n +ℤ n) +ℤ (e +ℤ e)))
-most_over e n up some = omega (arith, ints, up, some)
-
-average_over : (e n : ℤ) → pos 0 ≤ℤ n → (e +ℤ e) ≤ℤ ((n +ℤ n) +ℤ ((e +ℤ e) +ℤ pos 1))
-average_over e n up = omega (arith, ints, up)
-
 round_up : (list : Medl) → pos 0 ≤ℤ list.drift → pos 0 ≤ℤ drift_in list (length list.slots)
 round_up list up = product_up list.drift (length list.slots) up
 
 begun_width : (list : Medl) (may_grow : Bool) → pos 0 ≤ℤ list.drift → pos 0 ≤ℤ list.error
     → (list.error +ℤ list.error) ≤ℤ entry_width list may_grow
-begun_width list true up some = entry_over list.error (drift_in list (length list.slots)) (round_up list up) some
+begun_width list true up some = omega (arith, ints, round_up list up)
 begun_width list false up some = omega (arith, ints)
 
 entry_most : (list : Medl) (may_grow : Bool) → pos 0 ≤ℤ list.drift → pos 0 ≤ℤ list.error
     → entry_width list may_grow ≤ℤ most_width list may_grow
-entry_most list true up some = most_over list.error (drift_in list (length list.slots)) (round_up list up) some
-entry_most list false up some = average_over list.error (drift_in list (length list.slots)) (round_up list up)
+entry_most list true up some = omega (arith, ints, round_up list up)
+entry_most list false up some = omega (arith, ints, round_up list up)
 
 -- the clocks as they are set by the frame, before they drift in the slot
 pub held_begun : (list : Medl) (may_grow : Bool) (group : ℕ → Type 0) (l t q : ℕ) (frame : ℤ) (clock : ℕ → ℤ)
@@ -198,8 +179,7 @@ held_begun list may_grow group l t q frame clock now up some near =
             (entry_most list may_grow up some);
         settled = λ late. absurd (omega (arith, late, now));
       };
-      apart = λ j k a b. begun_apart list.error (drift_in list q) frame (clock j) (clock k) (near j a) (near k b)
-          (product_up list.drift q up);
+      apart = λ j k a b. omega (arith, ints, near j a, near k b, product_up list.drift q up);
       frames = [];
       located = λ k a. tt;
       alike = λ fixed j k a b. refl;
@@ -216,21 +196,12 @@ pub record Slot (list : Medl) (may_grow : Bool) (group : ℕ → Type 0) (bound 
   pub noted : HaveNoted group (list.error +ℤ list.drift) later added frames
   pub near : may_grow ≡ true → (k : ℕ) → group k → All (λ x. IsUpTo bound (x -ℤ clock k)) frames
 
-apart_more : (b d p q x y u v : ℤ) → (x -ℤ y) ≤ℤ (b +ℤ (p +ℤ p)) → IsUpTo d (u -ℤ x) → IsUpTo d (v -ℤ y) → q ≡ p +ℤ d
-    → (u -ℤ v) ≤ℤ (b +ℤ (q +ℤ q))
-apart_more b d p q x y u v near h g is = omega (arith, ints, near, h.0, h.1, g.0, g.1, is)
-
-located_later : (w d v b c n x : ℤ) → IsUpTo w ((b +ℤ n) -ℤ x) → IsUpTo d (c -ℤ b) → v ≡ w +ℤ d
-    → IsUpTo v ((c +ℤ n) -ℤ x)
-located_later w d v b c n x p h is =
-    (omega (arith, ints, p.0, p.1, h.0, h.1, is), omega (arith, ints, p.0, p.1, h.0, h.1, is))
-
 LocateNewest-later : (w d v b c : ℤ) (ds xs : List ℤ) → IsUpTo d (c -ℤ b) → v ≡ w +ℤ d → LocateNewest w b ds xs
     → LocateNewest v c ds xs
 LocateNewest-later w d v b c [] xs h is p = tt
 LocateNewest-later w d v b c (n ∷ ds) [] h is p = absurd p
 LocateNewest-later w d v b c (n ∷ ds) (x ∷ xs) h is p =
-    (located_later w d v b c n x p.0 h is, LocateNewest-later w d v b c ds xs h is p.1)
+    (omega (arith, ints, p.0), LocateNewest-later w d v b c ds xs h is p.1)
 
 pub wider_of : (w v z : ℤ) → w ≤ℤ v → IsUpTo w z → IsUpTo v z
 wider_of w v z wide p = (omega (arith, ints, wide, p.0), omega (arith, ints, wide, p.1))
@@ -244,21 +215,6 @@ LocateNewest-append w v b (d ∷ ds) [] es ys wide p q = absurd p
 LocateNewest-append w v b (d ∷ ds) (x ∷ xs) es ys wide p q =
     (wider_of w v ((b +ℤ d) -ℤ x) wide p.0, LocateNewest-append w v b ds xs es ys wide p.1 q)
 
-pub add_drift : (e p q d : ℤ) → q ≡ p +ℤ d → e +ℤ q ≡ (e +ℤ p) +ℤ d
-add_drift e p q d is = omega (arith, ints, is)
-
-add_below : (e p q : ℤ) → p ≤ℤ q → (e +ℤ p) ≤ℤ (e +ℤ q)
-add_below e p q below = omega (arith, ints, below)
-
--- a note of the slot
-near_noted : (w e p q d b c z n x : ℤ) → IsUpTo (e +ℤ d) ((z +ℤ n) -ℤ x) → IsUpTo (w +ℤ (p +ℤ p)) (x -ℤ b)
-    → IsUpTo d (c -ℤ b) → q ≡ p +ℤ d
-    → IsUpTo ((w +ℤ e) +ℤ (q +ℤ q)) ((z +ℤ n) -ℤ c)
-near_noted w e p q d b c z n x h near moved is = (
-  omega (arith, ints, h.0, h.1, near.0, near.1, moved.0, moved.1, is),
-  omega (arith, ints, h.0, h.1, near.0, near.1, moved.0, moved.1, is),
-)
-
 AreNear-noted : (w e p q d b c z : ℤ) (ds xs : List ℤ) → Locate (e +ℤ d) z ds xs
     → All (λ x. IsUpTo (w +ℤ (p +ℤ p)) (x -ℤ b)) xs
     → IsUpTo d (c -ℤ b) → q ≡ p +ℤ d
@@ -268,24 +224,16 @@ AreNear-noted w e p q d b c z [] (x ∷ xs) h near moved is = absurd h
 AreNear-noted w e p q d b c z (n ∷ ds) [] h near moved is = absurd h
 AreNear-noted w e p q d b c z (n ∷ ds) (x ∷ xs) h near moved is =
     All-cons (λ a. IsUpTo ((w +ℤ e) +ℤ (q +ℤ q)) ((z +ℤ a) -ℤ c)) n ds
-    (near_noted w e p q d b c z n x h.0 (All-head (λ y. IsUpTo (w +ℤ (p +ℤ p)) (y -ℤ b)) x xs near) moved is)
+    (omega (arith, ints, h.0, All-head (λ y. IsUpTo (w +ℤ (p +ℤ p)) (y -ℤ b)) x xs near))
     (AreNear-noted w e p q d b c z ds xs h.1 (All-tail (λ y. IsUpTo (w +ℤ (p +ℤ p)) (y -ℤ b)) x xs near) moved is)
 
--- a note from before it
-near_later : (w p q d b c y z n : ℤ) → IsUpTo (w +ℤ (p +ℤ p)) ((b +ℤ n) -ℤ c) → IsUpTo d (y -ℤ b) → IsUpTo d (z -ℤ c)
-    → q ≡ p +ℤ d
-    → IsUpTo (w +ℤ (q +ℤ q)) ((y +ℤ n) -ℤ z)
-near_later w p q d b c y z n h one two is = (
-  omega (arith, ints, h.0, h.1, one.0, one.1, two.0, two.1, is),
-  omega (arith, ints, h.0, h.1, one.0, one.1, two.0, two.1, is),
-)
-
+-- notes from before it
 AreNear-later : (w p q d b c y z : ℤ) (ds : List ℤ) → AreNear (w +ℤ (p +ℤ p)) b c ds → IsUpTo d (y -ℤ b)
     → IsUpTo d (z -ℤ c) → q ≡ p +ℤ d
     → AreNear (w +ℤ (q +ℤ q)) y z ds
 AreNear-later w p q d b c y z ds near one two is =
     All-weaker (λ n. IsUpTo (w +ℤ (p +ℤ p)) ((b +ℤ n) -ℤ c)) (λ n. IsUpTo (w +ℤ (q +ℤ q)) ((y +ℤ n) -ℤ z))
-    (λ n h. near_later w p q d b c y z n h one two is) ds near
+    (λ n h. omega (arith, ints)) ds near
 
 as_many : (ds es ns ms : List ℤ) → length ds ≡ length es → length ns ≡ length ms
     → length (ds ++ ns) ≡ length (es ++ ms)
@@ -303,21 +251,18 @@ held_next list may_grow group l t q width clock later notes added all up held sl
     most = held.wide.most;
     settled = λ late. held.wide.settled (omega (arith, late));
   };
-  apart = λ j k a b. apart_more width list.drift (drift_in list q) (drift_in list (suc q)) (clock j) (clock k)
-      (later j) (later k) (held.apart j k a b) (slot.moved j a) (slot.moved k b) more;
+  apart = λ j k a b. omega (arith, ints, held.apart j k a b, slot.moved j a, slot.moved k b, more);
   frames = slot.frames ++ held.frames;
-  located = λ k a. subst (λ ns. LocateNewest (list.error +ℤ drift_in list (suc q)) (later k) ns
-      (slot.frames ++ held.frames)) (sym (is k a))
+  located = λ k a. rw (is k a)
       (LocateNewest-append (list.error +ℤ list.drift) (list.error +ℤ drift_in list (suc q)) (later k) (added k)
       slot.frames (notes k) held.frames
-      (add_below list.error list.drift (drift_in list (suc q)) (product_once list.drift q up)) (slot.noted k a)
+      (omega (arith, ints, product_once list.drift q up)) (slot.noted k a)
       (LocateNewest-later (list.error +ℤ drift_in list q) list.drift (list.error +ℤ drift_in list (suc q)) (clock k)
       (later k) (notes k) held.frames (slot.moved k a)
-      (add_drift list.error (drift_in list q) (drift_in list (suc q)) list.drift more) (held.located k a)));
+      (omega (arith, ints, more)) (held.located k a)));
   alike = λ fixed j k a b. rw (is j a, is k b)
       (as_many (added j) (added k) (notes j) (notes k) (same j k a b) (held.alike fixed j k a b));
-  near = λ grows j k a b. subst (AreNear (drifted list (width +ℤ list.error) (suc q)) (later j) (later k))
-      (sym (is j a))
+  near = λ grows j k a b. rw (is j a)
       (All-append (λ n. IsUpTo (drifted list (width +ℤ list.error) (suc q)) ((later j +ℤ n) -ℤ later k))
       (added j) (notes j)
       (AreNear-noted width list.error (drift_in list q) (drift_in list (suc q)) list.drift (clock k) (later k)
@@ -342,22 +287,6 @@ pub data Comes (list : Medl) (before : ℕ → Type 0) (p : ℕ) (clock seen : �
   WasThere : IsSame before clock seen notes carried k → Comes list before p clock seen notes carried k
   IsNew : IsUpTo list.error (seen k -ℤ clock p) → carried k ≡ [] → Comes list before p clock seen notes carried k
 
-apart_there : (e v a d b c x y : ℤ) → x ≡ b → y ≡ c → (b -ℤ c) ≤ℤ (v +ℤ d) → v ≤ℤ a → pos 0 ≤ℤ e
-    → (x -ℤ y) ≤ℤ ((a +ℤ e) +ℤ d)
-apart_there e v a d b c x y is was h wide some = omega (arith, ints, is, was, h, wide, some)
-
-apart_first : (e v a d b p x y : ℤ) → IsUpTo e (x -ℤ p) → y ≡ b → (p -ℤ b) ≤ℤ (v +ℤ d) → v ≤ℤ a
-    → (x -ℤ y) ≤ℤ ((a +ℤ e) +ℤ d)
-apart_first e v a d b p x y h is g wide = omega (arith, ints, h.0, h.1, is, g, wide)
-
-apart_second : (e v a d b p x y : ℤ) → x ≡ b → IsUpTo e (y -ℤ p) → (b -ℤ p) ≤ℤ (v +ℤ d) → v ≤ℤ a
-    → (x -ℤ y) ≤ℤ ((a +ℤ e) +ℤ d)
-apart_second e v a d b p x y is h g wide = omega (arith, ints, h.0, h.1, is, g, wide)
-
-apart_new : (e a d p x y : ℤ) → IsUpTo e (x -ℤ p) → IsUpTo e (y -ℤ p) → (e +ℤ e) ≤ℤ (a +ℤ e) → pos 0 ≤ℤ d
-    → (x -ℤ y) ≤ℤ ((a +ℤ e) +ℤ d)
-apart_new e a d p x y h g wide up = omega (arith, ints, h.0, h.1, g.0, g.1, wide, up)
-
 apart_come : (list : Medl) (before : ℕ → Type 0) (p q j k : ℕ) (v : ℤ) (clock seen : ℕ → ℤ)
     (notes carried : ℕ → List ℤ)
     → pos 0 ≤ℤ list.drift → pos 0 ≤ℤ list.error → before p → v ≤ℤ after_average list
@@ -365,28 +294,14 @@ apart_come : (list : Medl) (before : ℕ → Type 0) (p q j k : ℕ) (v : ℤ) (
     → Comes list before p clock seen notes carried j → Comes list before p clock seen notes carried k
     → (seen j -ℤ seen k) ≤ℤ drifted list (entry_width list true) q
 apart_come list before p q j k v clock seen notes carried up some member narrow apart (WasThere one) (WasThere two) =
-    apart_there list.error v (after_average list) (drift_in list q +ℤ drift_in list q) (clock j) (clock k) (seen j)
-    (seen k) one.same_clock two.same_clock (apart j k one.member two.member) narrow some
+    omega (arith, ints, apart j k one.member two.member)
 apart_come list before p q j k v clock seen notes carried up some member narrow apart (IsNew one none) (WasThere two) =
-    apart_first list.error v (after_average list) (drift_in list q +ℤ drift_in list q) (clock k) (clock p) (seen j)
-    (seen k) one two.same_clock (apart p k member two.member) narrow
+    omega (arith, ints, apart p k member two.member)
 apart_come list before p q j k v clock seen notes carried up some member narrow apart (WasThere one) (IsNew two none) =
-    apart_second list.error v (after_average list) (drift_in list q +ℤ drift_in list q) (clock j) (clock p) (seen j)
-    (seen k) one.same_clock two (apart j p one.member member) narrow
+    omega (arith, ints, apart j p one.member member)
 apart_come list before p q j k v clock seen notes carried up some member narrow apart (IsNew one none)
     (IsNew two neither) =
-    apart_new list.error (after_average list) (drift_in list q +ℤ drift_in list q) (clock p) (seen j) (seen k) one two
-    (begun_width list true up some) (product_twice list.drift q up)
-
-note_there : (e v a d b c y n : ℤ) → y ≡ c → IsUpTo ((v +ℤ e) +ℤ d) ((b +ℤ n) -ℤ c) → v ≤ℤ a → pos 0 ≤ℤ e
-    → IsUpTo (((a +ℤ e) +ℤ e) +ℤ d) ((b +ℤ n) -ℤ y)
-note_there e v a d b c y n is h wide some =
-    (omega (arith, ints, is, h.0, h.1, wide, some), omega (arith, ints, is, h.0, h.1, wide, some))
-
-note_new : (e v a d b p y n : ℤ) → IsUpTo e (y -ℤ p) → IsUpTo ((v +ℤ e) +ℤ d) ((b +ℤ n) -ℤ p) → v ≤ℤ a
-    → IsUpTo (((a +ℤ e) +ℤ e) +ℤ d) ((b +ℤ n) -ℤ y)
-note_new e v a d b p y n g h wide =
-    (omega (arith, ints, g.0, g.1, h.0, h.1, wide), omega (arith, ints, g.0, g.1, h.0, h.1, wide))
+    omega (arith, ints, begun_width list true up some, product_twice list.drift q up)
 
 near_come : (list : Medl) (before : ℕ → Type 0) (p q j k : ℕ) (v : ℤ) (clock seen : ℕ → ℤ)
     (notes carried : ℕ → List ℤ)
@@ -400,22 +315,12 @@ near_come list before p q j k v clock seen notes carried some member narrow near
     rw (one.same_notes, one.same_clock)
     (All-weaker (λ n. IsUpTo (drifted list (v +ℤ list.error) q) ((clock j +ℤ n) -ℤ clock k))
     (λ n. IsUpTo (drifted list (entry_width list true +ℤ list.error) q) ((clock j +ℤ n) -ℤ seen k))
-    (λ n h. note_there list.error v (after_average list) (drift_in list q +ℤ drift_in list q) (clock j) (clock k)
-    (seen k) n two.same_clock h narrow some) (notes j) (near j k one.member two.member))
+    (λ n h. omega (arith, ints)) (notes j) (near j k one.member two.member))
 near_come list before p q j k v clock seen notes carried some member narrow near (WasThere one) (IsNew two none) =
     rw (one.same_notes, one.same_clock)
     (All-weaker (λ n. IsUpTo (drifted list (v +ℤ list.error) q) ((clock j +ℤ n) -ℤ clock p))
     (λ n. IsUpTo (drifted list (entry_width list true +ℤ list.error) q) ((clock j +ℤ n) -ℤ seen k))
-    (λ n h. note_new list.error v (after_average list) (drift_in list q +ℤ drift_in list q) (clock j) (clock p)
-    (seen k) n two h narrow) (notes j) (near j p one.member member))
-
-frame_there : (e v a d p b y : ℤ) → y ≡ b → (p -ℤ b) ≤ℤ (v +ℤ d) → (b -ℤ p) ≤ℤ (v +ℤ d) → v ≤ℤ a → pos 0 ≤ℤ e
-    → IsUpTo ((a +ℤ e) +ℤ d) (p -ℤ y)
-frame_there e v a d p b y is h g wide some =
-    (omega (arith, ints, is, h, g, wide, some), omega (arith, ints, is, h, g, wide, some))
-
-frame_new : (e a d p y : ℤ) → IsUpTo e (y -ℤ p) → (e +ℤ e) ≤ℤ (a +ℤ e) → pos 0 ≤ℤ d → IsUpTo ((a +ℤ e) +ℤ d) (p -ℤ y)
-frame_new e a d p y h wide up = (omega (arith, ints, h.0, h.1, wide, up), omega (arith, ints, h.0, h.1, wide, up))
+    (λ n h. omega (arith, ints)) (notes j) (near j p one.member member))
 
 -- the frame is near each
 pub frame_come : (list : Medl) (before : ℕ → Type 0) (p q k : ℕ) (v : ℤ) (clock seen : ℕ → ℤ)
@@ -425,11 +330,9 @@ pub frame_come : (list : Medl) (before : ℕ → Type 0) (p q k : ℕ) (v : ℤ)
     → Comes list before p clock seen notes carried k
     → IsUpTo (drifted list (entry_width list true) q) (clock p -ℤ seen k)
 frame_come list before p q k v clock seen notes carried up some member narrow apart (WasThere same) =
-    frame_there list.error v (after_average list) (drift_in list q +ℤ drift_in list q) (clock p) (clock k) (seen k)
-    same.same_clock (apart p k member same.member) (apart k p same.member member) narrow some
+    omega (arith, ints, apart p k member same.member, apart k p same.member member)
 frame_come list before p q k v clock seen notes carried up some member narrow apart (IsNew near none) =
-    frame_new list.error (after_average list) (drift_in list q +ℤ drift_in list q) (clock p) (seen k) near
-    (begun_width list true up some) (product_twice list.drift q up)
+    omega (arith, ints, begun_width list true up some, product_twice list.drift q up)
 
 located_come : (list : Medl) (before : ℕ → Type 0) (p k : ℕ) (w : ℤ) (clock seen : ℕ → ℤ)
     (notes carried : ℕ → List ℤ) (frames : List ℤ)
@@ -478,10 +381,6 @@ pub corrected_inside : (list : Medl) (m : ℕ) (notes : List ℤ) (z c : ℤ) �
     → c ≡ z +ℤ correction list m notes → c ≡ z
 corrected_inside list m notes z c inside is = is ∙ ap (λ b. z +ℤ cond b (fta notes) (pos 0)) inside ∙ plus_none z
 
-averaged_bound : (w v e n b : ℤ) → w ≡ (e +ℤ n) → b ≡ (n +ℤ n) +ℤ ((e +ℤ e) +ℤ pos 1) → v ≤ℤ ((w +ℤ w) +ℤ pos 1)
-    → v ≤ℤ b
-averaged_bound w v e n b is was h = omega (arith, ints, is, was, h)
-
 pub few_or_many : (n : ℕ) → (n < 4) ⊎ (4 ≤ n)
 few_or_many n = grind arith
 
@@ -494,32 +393,12 @@ both_corrected : (list : Medl) (group : ℕ → Type 0) (clock : ℕ → ℤ) (n
     → (j k : ℕ) → group j → group k → 4 ≤ length (notes j) → 4 ≤ length (notes k)
     → ((clock j +ℤ fta (notes j)) -ℤ (clock k +ℤ fta (notes k))) ≤ℤ after_average list
 both_corrected list group clock notes frames located j k a b many enough =
-    averaged_bound (list.error +ℤ drift_in list (length list.slots))
-    ((clock j +ℤ fta (notes j)) -ℤ (clock k +ℤ fta (notes k))) list.error (drift_in list (length list.slots))
-    (after_average list) refl refl
-    (corrected_apart (list.error +ℤ drift_in list (length list.slots)) (clock j) (clock k) (notes j) (notes k) frames
-    (located j a) (located k b) many enough)
-
--- neither did
-neither_bound : (e n v b c p q : ℤ) → p ≡ pos 0 → q ≡ pos 0 → v ≤ℤ (e +ℤ e) → (b -ℤ c) ≤ℤ (v +ℤ (n +ℤ n))
-    → ((b +ℤ p) -ℤ (c +ℤ q)) ≤ℤ ((n +ℤ n) +ℤ ((e +ℤ e) +ℤ pos 1))
-neither_bound e n v b c p q is was narrow h = omega (arith, ints, narrow, is, was, h)
-
--- one of them did not, so that it stays as it is
-first_bound : (e n v a b c p q : ℤ) → q ≡ pos 0 → v ≤ℤ (a +ℤ e) → IsUpTo ((v +ℤ e) +ℤ (n +ℤ n)) ((b +ℤ p) -ℤ c)
-    → ((b +ℤ p) -ℤ (c +ℤ q)) ≤ℤ (a +ℤ ((n +ℤ n) +ℤ (e +ℤ e)))
-first_bound e n v a b c p q was narrow h = omega (arith, ints, was, narrow, h.0, h.1)
-
-second_bound : (e n v a b c p q : ℤ) → p ≡ pos 0 → v ≤ℤ (a +ℤ e) → IsUpTo ((v +ℤ e) +ℤ (n +ℤ n)) ((c +ℤ q) -ℤ b)
-    → ((b +ℤ p) -ℤ (c +ℤ q)) ≤ℤ (a +ℤ ((n +ℤ n) +ℤ (e +ℤ e)))
-second_bound e n v a b c p q was narrow h = omega (arith, ints, was, narrow, h.0, h.1)
-
-within_more : (e v d z y : ℤ) → z ≤ℤ (v +ℤ d) → y ≤ℤ (v +ℤ d) → z ≡ neg_ℤ y → pos 0 ≤ℤ e
-    → IsUpTo ((v +ℤ e) +ℤ d) z
-within_more e v d z y h g is some = (omega (arith, ints, h, g, is, some), omega (arith, ints, h, g, is, some))
-
-turned : (b c : ℤ) → b -ℤ c ≡ neg_ℤ (c -ℤ b)
-turned b c = omega (arith, ints)
+    omega (
+      arith,
+      ints,
+      corrected_apart (list.error +ℤ drift_in list (length list.slots)) (clock j) (clock k) (notes j)
+          (notes k) frames (located j a) (located k b) many enough,
+    )
 
 -- where others may come, the average of a clock leaves it near each
 averaged_near : (list : Medl) (group : ℕ → Type 0) (l t : ℕ) (width : ℤ) (clock : ℕ → ℤ) (notes : ℕ → List ℤ)
@@ -528,14 +407,7 @@ averaged_near : (list : Medl) (group : ℕ → Type 0) (l t : ℕ) (width : ℤ)
     → IsUpTo (drifted list (width +ℤ list.error) (length list.slots)) ((clock j +ℤ fta (notes j)) -ℤ clock k)
 averaged_near list group l t width clock notes some held j k a b =
     corrected_near (drifted list (width +ℤ list.error) (length list.slots)) (clock j) (clock k) (notes j)
-    (within_more list.error width
-    (drift_in list (length list.slots) +ℤ drift_in list (length list.slots)) (clock j -ℤ clock k) (clock k -ℤ clock j)
-    (held.apart j k a b) (held.apart k j b a) (turned (clock j) (clock k)) some)
-    (held.near refl j k a b)
-
-average_most : (e n z : ℤ) → pos 0 ≤ℤ n → pos 0 ≤ℤ e → z ≤ℤ ((n +ℤ n) +ℤ ((e +ℤ e) +ℤ pos 1))
-    → z ≤ℤ (((n +ℤ n) +ℤ ((e +ℤ e) +ℤ pos 1)) +ℤ ((n +ℤ n) +ℤ (e +ℤ e)))
-average_most e n z up some h = omega (arith, ints, up, some, h)
+    (omega (arith, ints, held.apart j k a b, held.apart k j b a)) (held.near refl j k a b)
 
 -- at the end of the round of the newest entry
 averaged_early : (list : Medl) (may_grow : Bool) (group : ℕ → Type 0) (l t : ℕ) (width : ℤ) (clock : ℕ → ℤ)
@@ -547,35 +419,46 @@ averaged_early : (list : Medl) (may_grow : Bool) (group : ℕ → Type 0) (l t :
 averaged_early list false group l t width clock notes up some early held j k a b =
     let same = held.alike refl j k a b in
     elim (few_or_many (length (notes j))) [
-      | inl few ↦ neither_bound list.error (drift_in list (length list.slots)) width (clock j) (clock k)
-          (fta (notes j)) (fta (notes k)) (fta-few (notes j) few) (fta-few (notes k) (omega (arith, few, same)))
-          (held.wide.entry early) (held.apart j k a b)
+      | inl few ↦ omega (
+        arith,
+        ints,
+        fta-few (notes j) few,
+        fta-few (notes k) (omega (arith, few, same)),
+        held.wide.entry early,
+        held.apart j k a b,
+      )
       | inr many ↦ both_corrected list group clock notes held.frames held.located j k a b many
           (omega (arith, same, many))
     ]
 averaged_early list true group l t width clock notes up some early held j k a b =
     elim (few_or_many (length (notes j))) [
-      | inl few ↦ second_bound list.error (drift_in list (length list.slots)) width (after_average list) (clock j)
-          (clock k) (fta (notes j)) (fta (notes k)) (fta-few (notes j) few) (held.wide.entry early)
-          (averaged_near list group l t width clock notes some held k j b a)
+      | inl few ↦ omega (
+        arith,
+        ints,
+        fta-few (notes j) few,
+        held.wide.entry early,
+        averaged_near list group l t width clock notes some held k j b a,
+      )
       | inr many ↦ elim (few_or_many (length (notes k))) [
-        | inl few ↦ first_bound list.error (drift_in list (length list.slots)) width (after_average list) (clock j)
-            (clock k) (fta (notes j)) (fta (notes k)) (fta-few (notes k) few) (held.wide.entry early)
-            (averaged_near list group l t width clock notes some held j k a b)
-        | inr enough ↦ average_most list.error (drift_in list (length list.slots))
-            ((clock j +ℤ fta (notes j)) -ℤ (clock k +ℤ fta (notes k))) (round_up list up) some
-            (both_corrected list group clock notes held.frames held.located j k a b many enough)
+        | inl few ↦ omega (
+          arith,
+          ints,
+          fta-few (notes k) few,
+          held.wide.entry early,
+          averaged_near list group l t width clock notes some held j k a b,
+        )
+        | inr enough ↦ omega (
+          arith,
+          ints,
+          round_up list up,
+          both_corrected list group clock notes held.frames held.located j k a b many enough,
+        )
       ]
     ]
 
-anew_apart : (d z w : ℤ) → d ≡ pos 0 → z ≤ℤ w → z ≤ℤ (w +ℤ (d +ℤ d))
-anew_apart d z w is h = omega (arith, ints, is, h)
-
 average_width : (list : Medl) (may_grow : Bool) → pos 0 ≤ℤ list.drift → pos 0 ≤ℤ list.error
     → after_average list ≤ℤ most_width list may_grow
-average_width list true up some =
-    average_most list.error (drift_in list (length list.slots)) (after_average list) (round_up list up) some
-    (omega (arith, ints))
+average_width list true up some = omega (arith, ints, round_up list up)
 average_width list false up some = omega (arith, ints)
 
 -- clocks before a round's first slot
@@ -584,8 +467,7 @@ held_anew : (list : Medl) (may_grow : Bool) (group : ℕ → Type 0) (l t : ℕ)
     → Held list may_grow group l t 0 width clock (λ k. [])
 held_anew list may_grow group l t width clock up wide apart = record {
   wide = wide;
-  apart = λ j k a b. anew_apart (drift_in list 0) (clock j -ℤ clock k) width (product_none list.drift up)
-      (apart j k a b);
+  apart = λ j k a b. omega (arith, ints, product_none list.drift up, apart j k a b);
   frames = [];
   located = λ k a. tt;
   alike = λ fixed j k a b. refl;
@@ -625,35 +507,20 @@ held_corrected list may_grow group l t width clock notes up some began held enou
 
 -- The spread.
 
-settled_bound : (z n o v e : ℤ) → z ≤ℤ (v +ℤ (o +ℤ o)) → v ≤ℤ ((n +ℤ n) +ℤ ((e +ℤ e) +ℤ pos 1)) → o ≤ℤ n
-    → z ≤ℤ (((n +ℤ n) +ℤ (n +ℤ n)) +ℤ (e *ℤ pos 2 +ℤ pos 1))
-settled_bound z n o v e h narrow below = omega (arith, ints, h, narrow, below)
-
-most_bound : (z n o v e : ℤ) → z ≤ℤ (v +ℤ (o +ℤ o))
-    → v ≤ℤ (((n +ℤ n) +ℤ ((e +ℤ e) +ℤ pos 1)) +ℤ ((n +ℤ n) +ℤ (e +ℤ e))) → o ≤ℤ n
-    → z ≤ℤ (((n +ℤ n) +ℤ ((n +ℤ n) +ℤ (n +ℤ n))) +ℤ (e *ℤ pos 4 +ℤ pos 1))
-most_bound z n o v e h narrow below = omega (arith, ints, h, narrow, below)
-
-share_bound : (d : ℤ) (n : ℕ) (e z : ℤ) → pos 0 ≤ℤ d
-    → z ≤ℤ (((d *ℤ pos n +ℤ d *ℤ pos n) +ℤ (d *ℤ pos n +ℤ d *ℤ pos n)) +ℤ (e *ℤ pos 2 +ℤ pos 1))
-    → z ≤ℤ (d *ℤ pos (4 * n) +ℤ (e *ℤ pos 2 +ℤ pos 1))
-share_bound d n e z up h = rw (product_four d n up) h
-
-share_most : (d : ℤ) (n : ℕ) (e z : ℤ) → pos 0 ≤ℤ d
-    → z ≤ℤ (((d *ℤ pos n +ℤ d *ℤ pos n) +ℤ ((d *ℤ pos n +ℤ d *ℤ pos n) +ℤ (d *ℤ pos n +ℤ d *ℤ pos n)))
-    +ℤ (e *ℤ pos 4 +ℤ pos 1))
-    → z ≤ℤ (d *ℤ pos (6 * n) +ℤ (e *ℤ pos 4 +ℤ pos 1))
-share_most d n e z up h = rw (product_six d n up) h
-
 -- a company's clocks before a slot
 pub settled_within : (list : Medl) (may_grow : Bool) (group : ℕ → Type 0) (l t q : ℕ) (width : ℤ) (clock : ℕ → ℤ)
     (notes : ℕ → List ℤ) → pos 0 ≤ℤ list.drift → q < length list.slots
     → (may_grow ≡ false) ⊎ (l + length list.slots + q < t) → Held list may_grow group l t q width clock notes
     → AreWithin group clock (spread list)
 settled_within list may_grow group l t q width clock notes up inside settled held j k a b =
-    share_bound list.drift (length list.slots) list.error (clock j -ℤ clock k) up
-    (settled_bound (clock j -ℤ clock k) (drift_in list (length list.slots)) (drift_in list q) width list.error
-    (held.apart j k a b) narrow (product_upto list.drift q (length list.slots) up (omega (arith, inside))))
+    omega (
+      arith,
+      ints,
+      held.apart j k a b,
+      narrow,
+      product_four list.drift (length list.slots) up,
+      product_upto list.drift q (length list.slots) up (omega arith),
+    )
   where
     fixed_width : may_grow ≡ false → width ≤ℤ after_average list
     fixed_width fixed = subst (λ b. width ≤ℤ most_width list b) fixed held.wide.most
@@ -673,8 +540,12 @@ pub company_within : (list : Medl) (may_grow : Bool) (group : ℕ → Type 0) (l
     (notes : ℕ → List ℤ) → pos 0 ≤ℤ list.drift → pos 0 ≤ℤ list.error → q < length list.slots
     → Held list may_grow group l t q width clock notes → AreWithin group clock (spread_rejoining list)
 company_within list may_grow group l t q width clock notes up some inside held j k a b =
-    share_most list.drift (length list.slots) list.error (clock j -ℤ clock k) up
-    (most_bound (clock j -ℤ clock k) (drift_in list (length list.slots)) (drift_in list q) width list.error
-    (held.apart j k a b)
-    (over_of width (most_width list may_grow) (most_width list true) held.wide.most
-    (most_true list may_grow up some)) (product_upto list.drift q (length list.slots) up (omega (arith, inside))))
+    omega (
+      arith,
+      ints,
+      held.apart j k a b,
+      held.wide.most,
+      most_true list may_grow up some,
+      product_six list.drift (length list.slots) up,
+      product_upto list.drift q (length list.slots) up (omega arith),
+    )

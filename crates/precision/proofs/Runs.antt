@@ -1,5 +1,5 @@
 -- Nodes that run as a company: in each slot all are at the same place, and their clocks are held.
-use Rattle.std.proofs.Common.{◌≡◌, ◌≢◌, ℕ, suc, ◌+◌, ◌*◌, ◌<◌, ◌≤◌, ℤ, pos, ◌+ℤ◌, ◌-ℤ◌, ◌*ℤ◌, ◌≤ℤ◌, Bool, true, false}
+use Rattle.std.proofs.Common.{◌≡◌, ◌≢◌, ℕ, suc, ◌+◌, ◌<◌, ◌≤◌, ℤ, pos, ◌+ℤ◌, ◌-ℤ◌, ◌≤ℤ◌, Bool, true, false}
 use Rattle.std.proofs.Common.{◌⊎◌, inl, inr, List, [], ◌∷◌, length, None, cond, refl, ap, sym, subst, ◌∙◌, arith}
 use Rattle.std.specs.Prelude.{◌==◌, ◌||◌, All, IsTrue}
 use Rattle.std.proofs.lemmas.Bool.{cond_both, eqb-true, eqb-false, false≢true}
@@ -12,10 +12,10 @@ use Rattle.ttp_world.specs.After.{is_active_entry}
 use Rattle.ttp_world.specs.Clock.{join_deviation, notes_in, begins_round, stint_notes, offset_of, fta}
 use Rattle.ttp_world.specs.Diary.{History, entry_of, diary_of, continues_stint, begins_stint, Place, next_place}
 use Rattle.ttp_world.specs.Diary.{stint_place, place_of, ends_round}
-use Rattle.ttp_world.specs.Hypothesis.{drift_share, needed, clocks_broken}
+use Rattle.ttp_world.specs.Hypothesis.{needed, clocks_broken}
 use Rattle.ttp_world.specs.Medium.{surroundings_in, surroundings_of}
 use Rattle.ttp_world.specs.Medl.{IsValid, plan_at}
-use Rattle.ttp_world.specs.Script.{drift_of, jump_of, reading_error}
+use Rattle.ttp_world.specs.Script.{drift_of, jump_of}
 use Rattle.precision.specs.Spread.{spread, spread_rejoining, needed_rejoining}
 use Rattle.precision.specs.Together.{IsIn, BeganTogether, NotedAlike, Nothing, OneFrame, TellsOf}
 use Rattle.precision.specs.Together.{RanTogether}
@@ -31,7 +31,7 @@ use Rattle.precision.proofs.ClockBounds.{drift_within, error_within}
 use Rattle.precision.proofs.Rounds.{Held, Slot, IsSame, Comes, WasThere, IsNew, held_part, held_begun, held_next}
 use Rattle.precision.proofs.Rounds.{held_grown, held_corrected, frame_come, correction, corrected_last}
 use Rattle.precision.proofs.Rounds.{corrected_inside}
-use Rattle.precision.proofs.Rounds.{drift_in, drifted, entry_width, product_twice, same_apart}
+use Rattle.precision.proofs.Rounds.{drifted, entry_width, product_twice}
 use Rattle.precision.proofs.Rounds.{settled_within, company_within}
 use Rattle.precision.proofs.Entries.{begun_active, continued_active, place_of-active, notes_of-active, place_continued}
 use Rattle.precision.proofs.Entries.{begins_no_stint, notes_next, begun_round_first, offset_corrected, clock_at-still}
@@ -98,9 +98,6 @@ carried list row history place k = cond (begins_round place (entry_of row k)) []
 abbrev added : Medl → List Entry → Place → ℕ → List ℤ
 added list row place k = notes_in list place (entry_of row k)
 
-drift_moves : (o d q v : ℤ) → IsUpTo q d → IsUpTo q ((o +ℤ (pos 0 +ℤ (d +ℤ v))) -ℤ (o +ℤ v))
-drift_moves o d q v h = (omega (arith, ints, h.0, h.1), omega (arith, ints, h.0, h.1))
-
 next_first : (list : Medl) (place : Place) → suc place.slot ≡ length list.slots → (next_place list place).slot ≡ 0
 next_first list place ends =
     cond_both (suc place.slot == length list.slots) _ _ (λ (there : Place). there.slot ≡ 0)
@@ -116,12 +113,7 @@ next_inside : (list : Medl) (place : Place) → place.slot < length list.slots
     → (next_place list place).slot < length list.slots
 next_inside list place inside =
     cond_both (suc place.slot == length list.slots) _ _ (λ (there : Place). there.slot < length list.slots)
-    (λ last. omega (arith, inside)) (λ other. less_of other)
-  where
-    less_of : (suc place.slot == length list.slots) ≡ false → place.slot + 1 < length list.slots
-    less_of other =
-        let apart : suc place.slot ≢ length list.slots = eqb-false (suc place.slot) (length list.slots) other in
-        omega (arith, inside, apart)
+    (λ last. omega arith) (λ other. omega (arith, eqb-false (suc place.slot) (length list.slots) other))
 
 before_first : (list : Medl) (history : History) (place : Place) (k : ℕ) → place.slot ≡ 0
     → notes_before list history place k ≡ []
@@ -238,9 +230,6 @@ frames_near : (w x c : ℤ) (sync : Bool) → IsUpTo w (x -ℤ c) → All (λ y.
 frames_near w x c true near = All-cons (λ y. IsUpTo w (y -ℤ c)) x [] near (All-nil (λ y. IsUpTo w (y -ℤ c)))
 frames_near w x c false near = All-nil (λ y. IsUpTo w (y -ℤ c))
 
-begun_frame : (e d x c : ℤ) → IsUpTo e (c -ℤ x) → pos 0 ≤ℤ e → pos 0 ≤ℤ d → IsUpTo ((e +ℤ e) +ℤ d) (x -ℤ c)
-begun_frame e d x c h some up = (omega (arith, ints, h.0, h.1, some, up), omega (arith, ints, h.0, h.1, some, up))
-
 began_kept : (list : Medl) (script : Script) (may_grow : Bool) (group : ℕ → Bool) (l : ℕ) (row : List Entry)
     (history : History) → length history ≡ l → RunsOn list script group history
     → BeganTogether list script group row history → Kept list script may_grow group l (row ∷ history)
@@ -256,8 +245,7 @@ began_kept list script may_grow group l row history first on began =
       enough = λ ends late k p. absurd (omega (arith, late, first, began.inside));
     }) held
     (record {
-      moved = λ k p. drift_moves (clock_after list script history k) (drift_of script k) list.drift
-          (join_deviation (entry_of row k)) (on.runs k p).drift;
+      moved = λ k p. omega (arith, ints, (on.runs k p).drift);
       frames = frames_at list place frame;
       noted = λ k p. begun_noted list script history began.sender k place (list.error +ℤ list.drift)
           (later_clock list script row history k) frame (entry_of row k) (began.begins k p)
@@ -265,8 +253,7 @@ began_kept list script may_grow group l row history first on began =
           (on.runs k p) (began.begins k p));
       near = λ grows k p. frames_near (drifted list width place.slot) frame (set_clock list script row history k)
           (plan_at list place.slot).sync
-          (begun_frame list.error (drift_in list place.slot +ℤ drift_in list place.slot) frame
-          (set_clock list script row history k) (set k p) on.error_up (product_twice list.drift place.slot on.up));
+          (omega (arith, ints, set k p, on.error_up, product_twice list.drift place.slot on.up));
     })
   where
     place : Place
@@ -302,9 +289,6 @@ began_kept list script may_grow group l row history first on began =
 
 -- Going on.
 
-same_test : (m n : ℕ) → m ≡ n → (m == n) ≡ true
-same_test m n is = grind arith
-
 -- a node that goes on is as it was
 goes_same : (list : Medl) (script : Script) (before : ℕ → Bool) (row : List Entry) (history : History) (place : Place)
     (k : ℕ) → IsIn list before k → continues_stint (entry_of row k) ≡ true
@@ -337,9 +321,6 @@ frame_calm : (list : Medl) (script : Script) (before : ℕ → Bool) (history : 
 frame_calm list script before history p calm =
     frame_of-node list script history p calm.0.0 ∙ clock_at-still list script history p calm.1
 
-frame_between : (w x c b k : ℤ) → x ≡ c → k ≡ b → (c -ℤ b) ≤ℤ w → (b -ℤ c) ≤ℤ w → IsUpTo w (x -ℤ k)
-frame_between w x c b k is was h g = (omega (arith, ints, is, was, h, g), omega (arith, ints, is, was, h, g))
-
 stayed_slot : (list : Medl) (script : Script) (may_grow : Bool) (before group : ℕ → Bool) (l : ℕ) (row : List Entry)
     (history : History) (place : Place) (width : ℤ)
     → RunsOn list script group history
@@ -355,26 +336,27 @@ stayed_slot : (list : Medl) (script : Script) (may_grow : Bool) (before group : 
     (later_clock list script row history) (added list row place)
 stayed_slot list script may_grow before group l row history place width on places same apart (Nothing none) from =
     record {
-      moved = λ k p. drift_moves (clock_after list script history k) (drift_of script k) list.drift
-          (join_deviation (entry_of row k)) (on.runs k p).drift;
+      moved = λ k p. omega (arith, ints, (on.runs k p).drift);
       frames = [];
-      noted = λ k p. subst (λ ns. Locate (list.error +ℤ list.drift) (later_clock list script row history k) ns [])
-          (sym (none k p) ∙ ap (λ there. notes_in list there (entry_of row k)) (places k p)) tt;
+      noted = λ k p. rw (← places k p, none k p) tt;
       near = λ grows k p. All-nil (λ y. IsUpTo (drifted list width place.slot)
           (y -ℤ set_clock list script row history k));
     }
 stayed_slot list script may_grow before group l row history place width on places same apart (OneFrame p tells) from =
     record {
-      moved = λ k q. drift_moves (clock_after list script history k) (drift_of script k) list.drift
-          (join_deviation (entry_of row k)) (on.runs k q).drift;
+      moved = λ k q. omega (arith, ints, (on.runs k q).drift);
       frames = frames_at list place (frame_of list script history p);
       noted = λ k q. goes_noted list script row history place p k (on.runs k q) (tells k q);
       near = λ grows k q. frames_near (drifted list width place.slot) (frame_of list script history p)
           (set_clock list script row history k) (plan_at list place.slot).sync
-          (frame_between (drifted list width place.slot) (frame_of list script history p)
-          (clock_after list script history p) (clock_after list script history k) (set_clock list script row history k)
-          (frame_calm list script before history p (from grows)) (same k q).same_clock
-          (apart p k (from grows).0 (same k q).member) (apart k p (same k q).member (from grows).0));
+          (omega (
+            arith,
+            ints,
+            frame_calm list script before history p (from grows),
+            (same k q).same_clock,
+            apart p k (from grows).0 (same k q).member,
+            apart k p (same k q).member (from grows).0,
+          ));
     }
 
 stayed_kept : (list : Medl) (script : Script) (may_grow : Bool) (before group : ℕ → Bool) (l : ℕ) (row : List Entry)
@@ -423,11 +405,9 @@ stayed_kept list script may_grow before group l row history later on stayed kept
         → (k : ℕ) → IsIn list group k
         → 4 ≤ length (round_notes list (row ∷ history) k)
     enough ends late k p =
-        let last : ends_round list (place_of list k (diary_of (row ∷ history) k))
-        ≡ true = ap (ends_round list) (public_places k p)
-        ∙ same_test (suc place.slot) (length list.slots) ends in
+        let last : (suc place.slot == length list.slots) ≡ true = grind arith in
         subst (λ ns. 4 ≤ length ns) (notes_of-active list k (diary_of history k) (entry_of row k) (active k p))
-        (stayed.together.enough k p (last, omega (arith, late)))
+        (stayed.together.enough k p (ap (ends_round list) (public_places k p) ∙ last, omega (arith, late)))
 
 -- Growing.
 
@@ -460,16 +440,13 @@ grew_kept list script before group older l row history first on grew kept =
     (carried list row history place) first on.up on.error_up kept.inside grew.later grew.member.0
     (λ k p. (by_before k p).comes) kept.held)
     (record {
-      moved = λ k p. drift_moves (clock_after list script history k) (drift_of script k) list.drift
-          (join_deviation (entry_of row k)) (on.runs k p).drift;
+      moved = λ k p. omega (arith, ints, (on.runs k p).drift);
       frames = frames_at list place (frame_of list script history grew.sender);
       noted = λ k p. (by_before k p).noted;
       near = λ grows k p. frames_near (drifted list (entry_width list true) place.slot)
           (frame_of list script history grew.sender) (set_clock list script row history k)
           (plan_at list place.slot).sync
-          (subst (λ x. IsUpTo (drifted list (entry_width list true) place.slot)
-          (x -ℤ set_clock list script row history k))
-          (sym (frame_calm list script before history grew.sender grew.member))
+          (rw (frame_calm list script before history grew.sender grew.member)
           (frame_come list (IsIn list before) grew.sender place.slot k kept.width
           (clock_after list script history) (set_clock list script row history) (notes_before list history place)
           (carried list row history place) on.up on.error_up grew.member.0
@@ -500,8 +477,7 @@ grew_kept list script before group older l row history first on grew kept =
           active = begun_active (entry_of row k) stint;
           placed = begun_place list script history grew.sender k start (diary_of history k) (entry_of row k) begins
               ∙ kept.places grew.sender grew.member.0;
-          comes = IsNew (subst (λ x. IsUpTo list.error (set_clock list script row history k -ℤ x))
-              (frame_calm list script before history grew.sender grew.member)
+          comes = IsNew (rw (← frame_calm list script before history grew.sender grew.member)
               (begun_set list script history grew.sender k start (clock_after list script history k) (entry_of row k)
               (on.runs k p) begins))
               (carried_begun list row history place k stint);
@@ -627,9 +603,7 @@ unfolding HoldsSettledClocksWithin
 settled_clocks list valid script may_grow group l history run settled j k p q =
     let ran : Kept list script may_grow group l history =
     kept list script may_grow group l history valid run.bounds run.within run.together in
-    same_apart (clock_after list script history j) (clock_after list script history k) (clock_at list script history j)
-    (clock_at list script history k) (spread list)
-    (at_beginning list script group history j run.calm p) (at_beginning list script group history k run.calm q)
+    rw (at_beginning list script group history j run.calm p, at_beginning list script group history k run.calm q)
     (settled_within list may_grow (IsIn list group) l (length history) ran.place.slot ran.width
     (clock_after list script history)
     (notes_before list history ran.place) valid.drift.0 ran.inside
@@ -640,9 +614,7 @@ unfolding HoldsCompanyClocksWithin
 company_clocks list valid script may_grow group l history run j k p q =
     let ran : Kept list script may_grow group l history =
     kept list script may_grow group l history valid run.bounds run.within run.together in
-    same_apart (clock_after list script history j) (clock_after list script history k) (clock_at list script history j)
-    (clock_at list script history k) (spread_rejoining list)
-    (at_beginning list script group history j run.calm p) (at_beginning list script group history k run.calm q)
+    rw (at_beginning list script group history j run.calm p, at_beginning list script group history k run.calm q)
     (company_within list may_grow (IsIn list group) l (length history) ran.place.slot ran.width
     (clock_after list script history)
     (notes_before list history ran.place) valid.drift.0 valid.error.0 ran.inside ran.held j k p q)
@@ -654,13 +626,6 @@ clocks_within list valid script group s history run =
 
 -- Deviations.
 
-measured_of : (x y c d e r bound : ℤ) → x ≡ c → y ≡ d → (c -ℤ d) ≤ℤ bound → (d -ℤ c) ≤ℤ bound → IsUpTo e r
-    → IsUpTo (bound +ℤ e) ((x -ℤ y) +ℤ r)
-measured_of x y c d e r bound is was apart back error = (
-  omega (arith, ints, is, was, apart, back, error.0, error.1),
-  omega (arith, ints, is, was, apart, back, error.0, error.1),
-)
-
 -- what is measured is further off than the clocks by a reading error at most
 measured_within : (list : Medl) (script : Script) (history : History) (bound : ℤ) (r p : ℕ)
     → clocks_broken list script ≡ None → length history < script.slots → r < length list.slots → p < length list.slots
@@ -668,33 +633,35 @@ measured_within : (list : Medl) (script : Script) (history : History) (bound : �
     → (clock_at list script history r -ℤ clock_at list script history p) ≤ℤ bound
     → IsUpTo (bound +ℤ list.error) (measured list script history r p)
 measured_within list script history bound r p bounds within at from apart back =
-    measured_of (frame_of list script history p) (frame_of list script history r) (clock_at list script history p)
-    (clock_at list script history r) list.error (reading_error script r (length history)) bound
-    (frame_of-node list script history p from) (frame_of-node list script history r at) apart back
-    (error_within list script (length history) r bounds within at)
-
-one_error_more : (share e : ℤ) → (share +ℤ (e *ℤ pos 2 +ℤ pos 1)) +ℤ e ≡ share +ℤ (e *ℤ pos 3 +ℤ pos 1)
-one_error_more share e = omega (arith, ints)
-
-one_error_most : (share e : ℤ) → (share +ℤ (e *ℤ pos 4 +ℤ pos 1)) +ℤ e ≡ share +ℤ (e *ℤ pos 5 +ℤ pos 1)
-one_error_most share e = omega (arith, ints)
+    omega (
+      arith,
+      ints,
+      frame_of-node list script history p from,
+      frame_of-node list script history r at,
+      error_within list script (length history) r bounds within at,
+    )
 
 pub settled_deviations : (list : Medl) → IsValid list → HoldsSettledDeviationsWithin list (needed list)
 unfolding HoldsSettledClocksWithin HoldsSettledDeviationsWithin
 settled_deviations list valid script may_grow group l history run settled within r p a b =
-    subst (λ w. IsUpTo w (measured list script history r p)) (one_error_more (drift_share list) list.error)
-    (measured_within list script history (spread list) r p run.bounds within a.0 b.0
-    (settled_clocks list valid script may_grow group l history run settled p r b a)
-    (settled_clocks list valid script may_grow group l history run settled r p a b))
+    omega (
+      arith,
+      ints,
+      measured_within list script history (spread list) r p run.bounds within a.0 b.0
+          (settled_clocks list valid script may_grow group l history run settled p r b a)
+          (settled_clocks list valid script may_grow group l history run settled r p a b),
+    )
 
 pub company_deviations : (list : Medl) → IsValid list → HoldsCompanyDeviationsWithin list (needed_rejoining list)
 unfolding HoldsCompanyClocksWithin HoldsCompanyDeviationsWithin
 company_deviations list valid script may_grow group l history run within r p a b =
-    subst (λ w. IsUpTo w (measured list script history r p))
-    (one_error_most (list.drift *ℤ pos (6 * length list.slots)) list.error)
-    (measured_within list script history (spread_rejoining list) r p run.bounds within a.0 b.0
-    (company_clocks list valid script may_grow group l history run p r b a)
-    (company_clocks list valid script may_grow group l history run r p a b))
+    omega (
+      arith,
+      ints,
+      measured_within list script history (spread_rejoining list) r p run.bounds within a.0 b.0
+          (company_clocks list valid script may_grow group l history run p r b a)
+          (company_clocks list valid script may_grow group l history run r p a b),
+    )
 
 pub deviations_within : (list : Medl) → IsValid list → HoldsDeviationsWithin list (needed list)
 unfolding HoldsDeviationsWithin HoldsSettledDeviationsWithin
