@@ -109,7 +109,7 @@ words_of-drop_blanks : (line : List ℕ) → words_of line ≡ words_of (drop (p
 words_of-drop_blanks [] = refl
 words_of-drop_blanks (x ∷ xs) = words_of-drop_more x xs (is_blank x) refl (words_of-drop_blanks xs)
 
-has_bytes-take : (i : ℕ) (line : List ℕ) → 0 < i → 0 < length line → has_bytes (take i line) ≡ true
+pub has_bytes-take : (i : ℕ) (line : List ℕ) → 0 < i → 0 < length line → has_bytes (take i line) ≡ true
 has_bytes-take zero line some long = absurd (omega arith)
 has_bytes-take (suc i) [] some long = absurd (omega arith)
 has_bytes-take (suc i) (x ∷ xs) some long = refl
@@ -121,10 +121,6 @@ has_bytes-line (x ∷ xs) long = refl
 pub words_of-empty : words_of [] ≡ []
 unfolding words_of
 words_of-empty = refl
-
-pub no_bytes_no_words : (line : List ℕ) → (length line == 0) ≡ true → words_of line ≡ []
-no_bytes_no_words [] none = words_of-empty
-no_bytes_no_words (x ∷ xs) none = grind (arith, nat_tests)
 
 -- blanks at the front say nothing
 pub words_of-start : (line : List ℕ) (i : ℕ) → position is_part line ≡ Some i → words_of line ≡ words_of (drop i line)
@@ -181,6 +177,11 @@ position-start line i here =
     ap (position is_part) (drop-cons line i 0 first.0)
     ∙ position-now is_part (get_or line i 0) (drop (suc i) line) first.1
 
+-- so the rest of a line from there has no blank at its front
+pub first-start : (line : List ℕ) (i : ℕ) → position is_part line ≡ Some i
+    → is_blank (get_or (drop i line) 0 0) ≡ false
+first-start line i here = (front-first (drop i line) (position-start line i here)).1
+
 -- The same by how many bytes the word has.
 
 front_part : (line : List ℕ) (count k : ℕ) → count ≤ length line → list_all is_part (take count line) ≡ true
@@ -216,16 +217,4 @@ words_of-whole line count some whole parts =
     words_of-rest line (front_is_part line count some (omega arith) parts) (grind (arith, nat_tests))
     ∙ rw (words_of-empty, take_all count line (omega arith)) refl
 
-pub ruleset cuts = (
-  lines_of-cut,
-  lines_of-rest,
-  lines_of-empty,
-  words_of-empty,
-  words_of-start,
-  words_of-blanks,
-  words_of-cut,
-  words_of-rest,
-  position-start,
-  words_of-front,
-  words_of-whole,
-)
+pub ruleset cuts = (lines_of-cut, lines_of-rest, lines_of-empty, words_of-start)

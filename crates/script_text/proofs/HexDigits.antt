@@ -88,22 +88,6 @@ wrong_low text size i high low long near high_is low_is small large =
     is_hex-next (take (2 * size) text) i true false pair.within
     (lt-ltb _ 16 (omega (arith, pair.high_is))) (le-ltb _ 16 (omega (arith, pair.low_is)))
 
--- A digit is part of a word.
-
-hex_is_part : (b : ℕ) → is_hex_digit b ≡ true → is_part b ≡ true
-hex_is_part b digit = grind (arith, nat_tests)
-
-first_hex : (x : ℕ) (xs : List ℕ) → is_hex (x ∷ xs) ≡ true → (is_hex_digit x ≡ true) × (is_hex xs ≡ true)
-first_hex x xs digits = (grind (arith, common_steps), grind (arith, common_steps))
-
-pub parts-hex : (word : List ℕ) → is_hex word ≡ true → list_all is_part word ≡ true
-parts-hex [] digits = refl
-parts-hex (x ∷ xs) digits =
-    let step = first_hex x xs digits in
-    let part = hex_is_part x step.0 in
-    let rest = parts-hex xs step.1 in
-    grind (arith, common_steps)
-
 -- How many bytes there are.
 
 pub length-hex_bytes_in : (n : ℕ) (word : List ℕ) → length word ≡ 2 * n → length (hex_bytes_in word) ≡ n

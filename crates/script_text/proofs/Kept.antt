@@ -1,9 +1,8 @@
 -- What is kept of the lines that were read, beside what those lines state.
-use Rattle.std.proofs.Common.{◌≡◌, Bool, true, false, ℕ, ◌<◌, ◌≤◌, ◌==◌, ℤ, List, [], ◌∷◌, ◌++◌}
-use Rattle.std.proofs.Common.{length, get_or, set, lit≤, Option, Some, None, unwrap_or}
-use Rattle.std.proofs.Common.{get_or-set_same, get_or-set_other, arith, refl, ap, sym, ◌∙◌, append_assoc, cond}
-use Rattle.std.proofs.Common.{◌+◌, ◌&&◌, option_to_list, count_by, Result, Ok, Err}
-use Rattle.std.specs.Prelude.{OnOk, IfErr}
+use Rattle.std.proofs.Common.{◌≡◌, Bool, true, false, ℕ, ◌+◌, ◌<◌, ◌≤◌, ◌==◌, ◌&&◌, nat_le, nat_lt, ℤ}
+use Rattle.std.proofs.Common.{List, [], ◌∷◌, ◌++◌, length, get_or, set, lit≤, count_by, cond}
+use Rattle.std.proofs.Common.{Option, Some, None, is_some, unwrap_or, Ok, Err}
+use Rattle.std.proofs.Common.{get_or-set_same, get_or-set_other, arith, refl, ap, sym, ◌∙◌}
 use Rattle.std.specs.Prelude.{if◌then◌else◌}
 use Rattle.std.specs.Option.{option_or}
 use Rattle.std.proofs.lemmas.Grind.{common_steps}
@@ -15,21 +14,19 @@ use Rattle.ttp_world.specs.declared.medl.Medl.{Medl}
 use Rattle.ttp_world.specs.declared.script.Event.{Event}
 use Rattle.ttp_world.specs.declared.script.Event.TheVariants as event
 use Rattle.script_text.specs.declared.error.LineFault.{LineFault}
-use Rattle.script_text.specs.declared.error.Refusal.{Refusal}
-use Rattle.script_text.specs.declared.error.Refusal.TheVariants as refusals
 use Rattle.script_text.specs.declared.error.LineFault.TheVariants as faults
+use Rattle.script_text.specs.declared.error.Refusal.TheVariants as refusals
 use Rattle.script_text.specs.declared.keyword.Keyword.{Keyword}
 use Rattle.script_text.specs.declared.keyword.Keyword.TheVariants as keyword
 use Rattle.script_text.specs.declared.so_far.SoFar.{SoFar}
-use Rattle.script_text.specs.Lines.{word_at}
-use Rattle.script_text.specs.Numbers.{value_in}
 use Rattle.script_text.specs.Statement.{Statement, says_slots, says_on, says_drift, says_event}
+use Rattle.script_text.specs.Lines.{word_at}
+use Rattle.script_text.specs.Numbers.{value_in, hex_bytes_in}
 use Rattle.script_text.specs.Statement.{number_at, word_count, is_spelled, statement_of}
-use Rattle.script_text.specs.Faults.{slots_of, event_said, is_write_at, keyword_faults, statement_faults}
-use Rattle.script_text.specs.Faults.{stated_faults, is_after_slots, form_faults}
-use Rattle.script_text.specs.SoFar.{StandsFor, HasNodes, slots_faults, on_faults, drift_faults, event_faults}
-use Rattle.script_text.specs.SoFar.{writes_at, CountsMore, buffer_faults, write_faults, is_event_form, is_uncounted}
-use Rattle.script_text.specs.SoFar.{RefusesWrite, TakesForm, RefusesForm}
+use Rattle.script_text.specs.Faults.{slots_of, is_write_at, when, keyword_faults, statement_faults}
+use Rattle.script_text.specs.Faults.{further_faults, stated_faults, is_after_slots, form_faults}
+use Rattle.script_text.specs.SoFar.{StandsFor, writes_at, CountsMore, is_event_form, is_uncounted}
+use Rattle.script_text.specs.SoFar.{ReadsEvent, TakesStated, RefusesStated}
 
 -- The faults of a line in turn: its spelling, its place after `slots`, and what it states.
 
@@ -52,42 +49,6 @@ pub form_faults-stated : (list : Medl) (before : List Statement) (words : List (
     → form_faults list before words form ≡ stated_faults list before words form
 unfolding form_faults
 form_faults-stated list before words form spelled after = grind (arith, common_steps)
-
--- What is stated, by what is kept.
-
-pub stated_faults-slots : (list : Medl) (before : List Statement) (words : List (List ℕ)) (so_far : SoFar)
-    → StandsFor so_far before
-    → stated_faults list before words keyword.Slots ≡ slots_faults words so_far
-unfolding stated_faults statement_faults slots_faults
-stated_faults-slots list before words so_far stands = grind (arith, common_steps, stands.slots)
-
-pub stated_faults-on : (list : Medl) (before : List Statement) (words : List (List ℕ)) (so_far : SoFar)
-    → StandsFor so_far before
-    → stated_faults list before words keyword.On ≡ on_faults words list so_far
-unfolding stated_faults statement_faults on_faults
-stated_faults-on list before words so_far stands = grind (arith, common_steps, stands.slots)
-
-pub stated_faults-drift : (list : Medl) (before : List Statement) (words : List (List ℕ)) (so_far : SoFar)
-    → StandsFor so_far before
-    → stated_faults list before words keyword.Drift ≡ drift_faults words list so_far
-unfolding stated_faults statement_faults drift_faults
-stated_faults-drift list before words so_far stands = grind (arith, common_steps)
-
-pub stated_faults-event : (list : Medl) (before : List Statement) (words : List (List ℕ)) (so_far : SoFar)
-    (form : Keyword) → is_uncounted form ≡ true → StandsFor so_far before
-    → stated_faults list before words form ≡ event_faults words list (unwrap_or so_far.slots 0) form
-unfolding stated_faults statement_faults event_faults
-stated_faults-event list before words so_far keyword.Slots of_event stands = cc
-stated_faults-event list before words so_far keyword.On of_event stands = cc
-stated_faults-event list before words so_far keyword.Drift of_event stands = cc
-stated_faults-event list before words so_far keyword.Send of_event stands = grind (arith, common_steps, stands.slots)
-stated_faults-event list before words so_far keyword.Receive of_event stands = grind (arith, common_steps, stands.slots)
-stated_faults-event list before words so_far keyword.Flip of_event stands = grind (arith, common_steps, stands.slots)
-stated_faults-event list before words so_far keyword.Error of_event stands = grind (arith, common_steps, stands.slots)
-stated_faults-event list before words so_far keyword.Jump of_event stands = grind (arith, common_steps, stands.slots)
-stated_faults-event list before words so_far keyword.Arm of_event stands = grind (arith, common_steps, stands.slots)
-stated_faults-event list before words so_far keyword.Write of_event stands = cc
-stated_faults-event list before words so_far keyword.Read of_event stands = grind (arith, common_steps, stands.slots)
 
 -- a line states an event
 pub record StatesEvent (form : Keyword) (words : List (List ℕ)) : Type 0 where
@@ -126,17 +87,6 @@ pub event_form : (form : Keyword) → is_uncounted form ≡ true → is_event_fo
 event_form form of_event = grind (arith, common_steps)
 
 -- One line more is kept.
-
-pub StandsFor-slots : (old new : SoFar) (before : List Statement) (count : ℕ) → StandsFor old before
-    → new ≡ record old { slots = Some count }
-    → StandsFor new (says_slots count ∷ before)
-StandsFor-slots old new before count stands now = rw now (record {
-  slots = refl;
-  on = stands.on;
-  drift = stands.drift;
-  events = stands.events ∙ sym (append-nil _);
-  writes = stands.writes;
-})
 
 -- what stands at a place after one was written
 set_at : {X : Type 0} (xs : List (Option X)) (node : ℕ) (x : X) (k : ℕ) → node < length xs
@@ -208,164 +158,179 @@ StandsFor-write old new before node slot payload stands more now = record {
       ∙ sym (count_one (is_write_at k t) (says_event (event.Write node slot payload)) before _ refl);
 }
 
--- A line of a form is taken.
+-- What a line states has faults of its own, and further ones.
 
-pub takes_form : (list : Medl) (words : List (List ℕ)) (old new : SoFar) (form : Keyword)
-    → is_spelled form words ≡ true → is_after_slots form old.slots ≡ true
-    → ((before : List Statement) → StandsFor old before → stated_faults list before words form ≡ [])
+first_front : (front more : List LineFault) (fault : LineFault) → first_fault front ≡ Some fault
+    → first_fault (front ++ more) ≡ Some fault
+first_front [] more fault is = cc
+first_front (f ∷ front) more fault is = is
+
+pub stated_by : (list : Medl) (before : List Statement) (words : List (List ℕ)) (so_far : SoFar) (form : Keyword)
+    → StandsFor so_far before
+    → stated_faults list before words form
+    ≡ statement_faults list (unwrap_or so_far.slots 0) words form
+    ++ further_faults list before (statement_of form words)
+unfolding stated_faults
+stated_by list before words so_far form stands = rw stands.slots refl
+
+further_none : (list : Medl) (before : List Statement) (words : List (List ℕ)) (form : Keyword)
+    → is_uncounted form ≡ true → further_faults list before (statement_of form words) ≡ []
+further_none list before words keyword.Slots of_event = cc
+further_none list before words keyword.On of_event = cc
+further_none list before words keyword.Drift of_event = cc
+further_none list before words keyword.Send of_event = refl
+further_none list before words keyword.Receive of_event = refl
+further_none list before words keyword.Flip of_event = refl
+further_none list before words keyword.Error of_event = refl
+further_none list before words keyword.Jump of_event = refl
+further_none list before words keyword.Arm of_event = refl
+further_none list before words keyword.Write of_event = cc
+further_none list before words keyword.Read of_event = refl
+
+pub takes_event : (list : Medl) (words : List (List ℕ)) (old new : SoFar) (form : Keyword) (e : Event)
+    → is_uncounted form ≡ true → ReadsEvent list (unwrap_or old.slots 0) words form (Ok e)
+    → new ≡ record old { events = old.events ++ e ∷ [] } → TakesStated list words old new form
+takes_event list words old new form e of_event reads now = record {
+  faults = λ before stands. stated_by list before words old form stands
+      ∙ rw reads.0 (further_none list before words form of_event);
+  after = λ before stands. StandsFor-event old new before (statement_of form words) e stands reads.1
+      (λ k t. not_write form words k t of_event) now;
+}
+
+pub refuses_own : (list : Medl) (words : List (List ℕ)) (so_far : SoFar) (form : Keyword) (fault : LineFault)
+    → first_fault (statement_faults list (unwrap_or so_far.slots 0) words form) ≡ Some fault
+    → RefusesStated list words so_far form (refusals.Fault fault)
+refuses_own list words so_far form fault here = λ before stands.
+    ap first_fault (stated_by list before words so_far form stands) ∙ first_front _ _ fault here
+
+-- with none of its own the further ones decide
+refuses_further : (list : Medl) (words : List (List ℕ)) (so_far : SoFar) (form : Keyword) (fault : LineFault)
+    → statement_faults list (unwrap_or so_far.slots 0) words form ≡ []
+    → ((before : List Statement) → StandsFor so_far before
+    → first_fault (further_faults list before (statement_of form words)) ≡ Some fault)
+    → RefusesStated list words so_far form (refusals.Fault fault)
+refuses_further list words so_far form fault own here = λ before stands.
+    ap first_fault (stated_by list before words so_far form stands
+    ∙ ap (λ (fs : List LineFault). fs ++ further_faults list before (statement_of form words)) own)
+    ∙ here before stands
+
+takes_stated : (list : Medl) (words : List (List ℕ)) (old new : SoFar) (form : Keyword)
+    → statement_faults list (unwrap_or old.slots 0) words form ≡ []
+    → ((before : List Statement) → StandsFor old before → further_faults list before (statement_of form words) ≡ [])
     → ((before : List Statement) → StandsFor old before → StandsFor new (statement_of form words ∷ before))
-    → TakesForm list words old new form
-takes_form list words old new form spelled after none kept = record {
-  faults = λ before stands.
-      form_faults-stated list before words form spelled (ap (is_after_slots form) (sym stands.slots) ∙ after)
+    → TakesStated list words old new form
+takes_stated list words old new form own none kept = record {
+  faults = λ before stands. stated_by list before words old form stands
+      ∙ ap (λ (fs : List LineFault). fs ++ further_faults list before (statement_of form words)) own
       ∙ none before stands;
   after = kept;
 }
 
-pub TakesForm-slots : (list : Medl) (words : List (List ℕ)) (old new : SoFar) (form : Keyword)
-    → form ≡ keyword.Slots → is_spelled form words ≡ true
-    → slots_faults words old ≡ [] → new ≡ record old { slots = Some (number_at words 1) }
-    → TakesForm list words old new form
-TakesForm-slots list words old new form is spelled none now = rw is (
-    takes_form list words old new keyword.Slots (rw is at spelled) refl
-    (λ before stands. stated_faults-slots list before words old stands ∙ none)
-    (λ before stands. StandsFor-slots old new before (number_at words 1) stands now))
+repeated : (repeat : Bool) (more : List LineFault) → repeat ≡ true
+    → first_fault (when repeat faults.Repeat ++ more) ≡ Some faults.Repeat
+repeated true more is = refl
+repeated false more is = cc
 
-on_faults-node : (words : List (List ℕ)) (list : Medl) (so_far : SoFar) → on_faults words list so_far ≡ []
-    → number_at words 1 < length list.slots
-unfolding on_faults
-on_faults-node words list so_far none = grind (arith, common_steps, nat_tests)
+fresh : (repeat : Bool) → repeat ≡ false → when repeat faults.Repeat ++ [] ≡ []
+fresh true is = cc
+fresh false is = refl
 
-pub TakesForm-on : (list : Medl) (words : List (List ℕ)) (old new : SoFar) (form : Keyword)
-    → form ≡ keyword.On → is_spelled form words ≡ true
-    → is_after_slots form old.slots ≡ true → HasNodes list old
-    → on_faults words list old ≡ [] → new ≡ record old { on = new.on }
+pub refuses_on : (list : Medl) (words : List (List ℕ)) (so_far : SoFar)
+    → statement_faults list (unwrap_or so_far.slots 0) words keyword.On ≡ []
+    → is_some (get_or so_far.on.items (number_at words 1) None) ≡ true
+    → RefusesStated list words so_far keyword.On (refusals.Fault faults.Repeat)
+refuses_on list words so_far own some = refuses_further list words so_far keyword.On faults.Repeat own (λ before stands.
+    repeated _ _ (ap is_some (sym (stands.on (number_at words 1))) ∙ some))
+
+pub takes_on : (list : Medl) (words : List (List ℕ)) (old new : SoFar)
+    → statement_faults list (unwrap_or old.slots 0) words keyword.On ≡ []
+    → is_some (get_or old.on.items (number_at words 1) None) ≡ false → number_at words 1 < length old.on.items
+    → new ≡ record old { on = new.on }
     → new.on.items ≡ set old.on.items (number_at words 1) (Some (number_at words 2))
-    → TakesForm list words old new form
-TakesForm-on list words old new form is spelled after nodes none now on = rw is (
-    takes_form list words old new keyword.On (rw is at spelled) (rw is at after)
-    (λ before stands. stated_faults-on list before words old stands ∙ none)
-    (λ before stands. StandsFor-on old new before (number_at words 1) (number_at words 2) stands
-    (omega (arith, on_faults-node words list old none, nodes.on, old.on.ok)) now on))
+    → TakesStated list words old new keyword.On
+takes_on list words old new own none within now on = takes_stated list words old new keyword.On own
+    (λ before stands. fresh _ (ap is_some (sym (stands.on (number_at words 1))) ∙ none))
+    (λ before stands. StandsFor-on old new before (number_at words 1) (number_at words 2) stands within now on)
 
-drift_faults-node : (words : List (List ℕ)) (list : Medl) (so_far : SoFar) → drift_faults words list so_far ≡ []
-    → number_at words 1 < length list.slots
-unfolding drift_faults
-drift_faults-node words list so_far none = grind (arith, common_steps, nat_tests)
+pub refuses_drift : (list : Medl) (words : List (List ℕ)) (so_far : SoFar)
+    → statement_faults list (unwrap_or so_far.slots 0) words keyword.Drift ≡ []
+    → is_some (get_or so_far.drift.items (number_at words 1) None) ≡ true
+    → RefusesStated list words so_far keyword.Drift (refusals.Fault faults.Repeat)
+refuses_drift list words so_far own some =
+    refuses_further list words so_far keyword.Drift faults.Repeat own (λ before stands.
+    repeated _ _ (ap is_some (sym (stands.drift (number_at words 1))) ∙ some))
 
-pub TakesForm-drift : (list : Medl) (words : List (List ℕ)) (old new : SoFar) (form : Keyword)
-    → form ≡ keyword.Drift → is_spelled form words ≡ true
-    → is_after_slots form old.slots ≡ true → HasNodes list old
-    → drift_faults words list old ≡ [] → new ≡ record old { drift = new.drift }
+pub takes_drift : (list : Medl) (words : List (List ℕ)) (old new : SoFar)
+    → statement_faults list (unwrap_or old.slots 0) words keyword.Drift ≡ []
+    → is_some (get_or old.drift.items (number_at words 1) None) ≡ false → number_at words 1 < length old.drift.items
+    → new ≡ record old { drift = new.drift }
     → new.drift.items ≡ set old.drift.items (number_at words 1) (Some (value_in (word_at words 2)))
-    → TakesForm list words old new form
-TakesForm-drift list words old new form is spelled after nodes none now drift = rw is (
-    takes_form list words old new keyword.Drift (rw is at spelled) (rw is at after)
-    (λ before stands. stated_faults-drift list before words old stands ∙ none)
-    (λ before stands. StandsFor-drift old new before (number_at words 1) (value_in (word_at words 2)) stands
-    (omega (arith, drift_faults-node words list old none, nodes.drift, old.drift.ok)) now drift))
+    → TakesStated list words old new keyword.Drift
+takes_drift list words old new own none within now drift = takes_stated list words old new keyword.Drift own
+    (λ before stands. fresh _ (ap is_some (sym (stands.drift (number_at words 1))) ∙ none))
+    (λ before stands.
+    StandsFor-drift old new before (number_at words 1) (value_in (word_at words 2)) stands within now drift)
 
--- A `write` line.
+-- where the buffers have room for one message more
 
--- where the front parts of two lists of faults are one, and the rests are where nothing is in front
-same_first : (front one other : List LineFault) → (front ≡ [] → one ≡ other)
-    → first_fault (front ++ one) ≡ first_fault (front ++ other)
-same_first [] one other same = ap first_fault (same refl)
-same_first (f ∷ fs) one other same = refl
+room_faults : (buffers count : ℕ) → nat_lt (count + 1) buffers ≡ true
+    → when (buffers == 1) faults.NoBuffer ++ when (nat_le buffers (count + 1)) faults.TooMany ≡ []
+room_faults buffers count room =
+    let one : (buffers == 1) ≡ false = grind (arith, nat_tests) in
+    let few : nat_le buffers (count + 1) ≡ false = grind (arith, nat_tests) in
+    rw (one, few) refl
 
-same_none : (front one other : List LineFault) → (front ≡ [] → one ≡ other) → front ++ one ≡ [] → front ++ other ≡ []
-same_none [] one other same none = sym (same refl) ∙ none
-same_none (f ∷ fs) one other same none = cc
+full_faults : (buffers count : ℕ) → (buffers == 1) ≡ false → nat_lt (count + 1) buffers ≡ false
+    → first_fault (when (buffers == 1) faults.NoBuffer ++ when (nat_le buffers (count + 1)) faults.TooMany)
+    ≡ Some faults.TooMany
+full_faults buffers count more full =
+    let many : nat_le buffers (count + 1) ≡ true = grind (arith, nat_tests) in
+    rw (more, many) refl
 
--- what is stated of a write: as of any event, and of the writes before
-stated_faults-write : (list : Medl) (before : List Statement) (words : List (List ℕ)) (so_far : SoFar)
-    → StandsFor so_far before
-    → stated_faults list before words keyword.Write
-    ≡ event_faults words list (unwrap_or so_far.slots 0) keyword.Write
-    ++ buffer_faults list (count_by (is_write_at (number_at words 1) (number_at words 2)) before)
-unfolding stated_faults statement_faults event_faults
-stated_faults-write list before words so_far stands =
-    rw stands.slots (simp append_assoc refl)
+no_buffer : (one : Bool) (more : List LineFault) → one ≡ true
+    → first_fault (when one faults.NoBuffer ++ more) ≡ Some faults.NoBuffer
+no_buffer true more is = refl
+no_buffer false more is = cc
 
-event_faults-node : (words : List (List ℕ)) (list : Medl) (slots : ℕ) → event_faults words list slots keyword.Write ≡ []
-    → number_at words 1 < length list.slots
-unfolding event_faults
-event_faults-node words list slots none = grind (arith, common_steps, nat_tests)
+pub refuses_buffer : (list : Medl) (words : List (List ℕ)) (so_far : SoFar)
+    → statement_faults list (unwrap_or so_far.slots 0) words keyword.Write ≡ [] → (list.buffers == 1) ≡ true
+    → RefusesStated list words so_far keyword.Write (refusals.Fault faults.NoBuffer)
+refuses_buffer list words so_far own one =
+    refuses_further list words so_far keyword.Write faults.NoBuffer own (λ before stands. no_buffer _ _ one)
 
--- the counts tell of them, for a node of the list
-same_rest : (list : Medl) (before : List Statement) (words : List (List ℕ)) (so_far : SoFar)
-    → StandsFor so_far before → HasNodes list so_far
-    → event_faults words list (unwrap_or so_far.slots 0) keyword.Write ≡ []
-    → buffer_faults list (writes_at so_far.writes (number_at words 1) (number_at words 2))
-    ≡ buffer_faults list (count_by (is_write_at (number_at words 1) (number_at words 2)) before)
-same_rest list before words so_far stands nodes none =
-    ap (buffer_faults list) (stands.writes (number_at words 1) (number_at words 2)
-    (omega (arith, event_faults-node words list _ none, nodes.writes)))
+pub refuses_full : (list : Medl) (words : List (List ℕ)) (so_far : SoFar)
+    → statement_faults list (unwrap_or so_far.slots 0) words keyword.Write ≡ []
+    → number_at words 1 < so_far.writes.nodes → (list.buffers == 1) ≡ false
+    → nat_lt (writes_at so_far.writes (number_at words 1) (number_at words 2) + 1) list.buffers ≡ false
+    → RefusesStated list words so_far keyword.Write (refusals.Fault faults.TooMany)
+refuses_full list words so_far own within more full =
+    refuses_further list words so_far keyword.Write faults.TooMany own (λ before stands.
+    full_faults list.buffers _ more
+    (ap (λ (n : ℕ). nat_lt (n + 1) list.buffers)
+    (sym (stands.writes (number_at words 1) (number_at words 2) within)) ∙ full))
 
-pub write_faults-none : (list : Medl) (before : List Statement) (words : List (List ℕ)) (so_far : SoFar)
-    → StandsFor so_far before → HasNodes list so_far → write_faults words list so_far ≡ []
-    → stated_faults list before words keyword.Write ≡ []
-unfolding write_faults
-write_faults-none list before words so_far stands nodes none =
-    stated_faults-write list before words so_far stands
-    ∙ same_none _ _ _ (same_rest list before words so_far stands nodes) none
-
-pub write_faults-first : (list : Medl) (before : List Statement) (words : List (List ℕ)) (so_far : SoFar)
-    → StandsFor so_far before → HasNodes list so_far
-    → first_fault (stated_faults list before words keyword.Write) ≡ first_fault (write_faults words list so_far)
-unfolding write_faults
-write_faults-first list before words so_far stands nodes =
-    ap first_fault (stated_faults-write list before words so_far stands)
-    ∙ sym (same_first _ _ _ (same_rest list before words so_far stands nodes))
-
-pub TakesForm-write : (list : Medl) (words : List (List ℕ)) (old new : SoFar) (form : Keyword)
-    → form ≡ keyword.Write → is_spelled form words ≡ true
-    → is_after_slots form old.slots ≡ true → HasNodes list old
-    → write_faults words list old ≡ []
+pub takes_write : (list : Medl) (words : List (List ℕ)) (old new : SoFar) (payload : List ℕ)
+    → statement_faults list (unwrap_or old.slots 0) words keyword.Write ≡ []
+    → number_at words 1 < old.writes.nodes → payload ≡ hex_bytes_in (word_at words 3)
+    → nat_lt (writes_at old.writes (number_at words 1) (number_at words 2) + 1) list.buffers ≡ true
     → new ≡ record old {
-      events = old.events ++ option_to_list (event_said (statement_of keyword.Write words));
+      events = old.events ++ event.Write (number_at words 1) (number_at words 2) payload ∷ [];
       writes = new.writes;
     }
     → CountsMore old.writes new.writes (number_at words 1) (number_at words 2)
-    → TakesForm list words old new form
-TakesForm-write list words old new form is spelled after nodes none now more = rw is (
-    takes_form list words old new keyword.Write (rw is at spelled) (rw is at after)
-    (λ before stands. write_faults-none list before words old stands nodes none)
-    (λ before stands. StandsFor-write old new before (number_at words 1) (number_at words 2) _ stands more now))
-
-pub RefusesForm-write : (list : Medl) (words : List (List ℕ)) (old : SoFar) (form : Keyword) (refusal : Refusal)
-    → form ≡ keyword.Write → is_spelled form words ≡ true
-    → is_after_slots form old.slots ≡ true → HasNodes list old
-    → RefusesWrite words list old refusal → RefusesForm list words old form refusal
-RefusesForm-write list words old form (refusals.Fault fault) is spelled after nodes refuses = λ before stands.
-    ap first_fault (form_faults-stated list before words form spelled
-    (ap (is_after_slots form) (sym stands.slots) ∙ after))
-    ∙ ap (λ (f : Keyword). first_fault (stated_faults list before words f)) is
-    ∙ write_faults-first list before words old stands nodes ∙ refuses
-RefusesForm-write list words old form refusals.Memory is spelled after nodes refuses = tt
-
--- by the answer
-pub write_taken : (list : Medl) (words : List (List ℕ)) (old new : SoFar) (form : Keyword)
-    (result : Result (Unit {0}) Refusal)
-    → form ≡ keyword.Write → is_spelled form words ≡ true → is_after_slots form old.slots ≡ true → HasNodes list old
-    → OnOk result (write_faults words list old ≡ [])
-    → OnOk result (new ≡ record old {
-      events = old.events ++ option_to_list (event_said (statement_of keyword.Write words));
+    → TakesStated list words old new keyword.Write
+takes_write list words old new payload own within is room now more =
+    takes_stated list words old new keyword.Write own
+    (λ before stands. room_faults list.buffers _
+    (ap (λ (n : ℕ). nat_lt (n + 1) list.buffers)
+    (sym (stands.writes (number_at words 1) (number_at words 2) within)) ∙ room))
+    (λ before stands. StandsFor-write old new before (number_at words 1) (number_at words 2) _ stands more
+    (now ∙ ap (λ (p : List ℕ). record old {
+      events = old.events ++ event.Write (number_at words 1) (number_at words 2) p ∷ [];
       writes = new.writes;
-    })
-    → OnOk result (CountsMore old.writes new.writes (number_at words 1) (number_at words 2))
-    → OnOk result (TakesForm list words old new form)
-write_taken list words old new form (Ok x) is spelled after nodes none now more =
-    TakesForm-write list words old new form is spelled after nodes none now more
-write_taken list words old new form (Err e) is spelled after nodes none now more = tt
+    }) is))
 
-pub write_refused : (list : Medl) (words : List (List ℕ)) (old : SoFar) (form : Keyword)
-    (result : Result (Unit {0}) Refusal)
-    → form ≡ keyword.Write → is_spelled form words ≡ true → is_after_slots form old.slots ≡ true → HasNodes list old
-    → IfErr result (RefusesWrite words list old) → IfErr result (RefusesForm list words old form)
-write_refused list words old form (Ok x) is spelled after nodes refuses = tt
-write_refused list words old form (Err e) is spelled after nodes refuses =
-    RefusesForm-write list words old form e is spelled after nodes refuses
+pub ruleset refused = (refuses_own, refuses_on, refuses_drift, refuses_buffer, refuses_full)
 
 -- no form has more words than six
 word_count-le : (form : Keyword) → word_count form ≤ 6
@@ -395,9 +360,5 @@ pub ruleset kept = (
   form_faults-word,
   form_faults-no_slots,
   form_faults-stated,
-  stated_faults-slots,
-  stated_faults-on,
-  stated_faults-drift,
-  stated_faults-event,
   keyword_faults-too_long,
 )

@@ -11,5 +11,4 @@ pub mod Sizes
 pub mod ValidEvents
 pub mod Valid
 pub mod RightFiles
-pub mod FieldWords
-pub mod RightLines
+pub mod WordCuts

@@ -4,9 +4,6 @@ use Rattle.std.proofs.lemmas.List.{ext_get_or}
 use Rattle.std.proofs.lemmas.Slice.Eq.{bytes_eq-Decides}
 use Rattle.script_text.specs.Numbers.{is_text}
 
-pub is_text-same : (text word : List ℕ) → is_text text word ≡ true → word ≡ text
-is_text-same text word same = (bytes_eq-Decides word text).0 same
-
 pub is_text-all : (text word : List ℕ) → length word ≡ length text
     → ((k : ℕ) → k < length text → get_or word k 0 ≡ get_or text k 0) → is_text text word ≡ true
 is_text-all text word size same =

@@ -91,22 +91,21 @@ said_or : {X : Type 0} (P : X → Type 0) (b : Bool) (x : X) (old : Option X) �
 said_or P true x old new before = new
 said_or P false x old new before = before
 
-unless-none : (holds : Bool) (fault : LineFault) (more : List LineFault) → unless holds fault ++ more ≡ []
-    → (holds ≡ true) × (more ≡ [])
-unless-none true fault more none = (refl, none)
-unless-none false fault more none = cc
-
 -- the tests of nodes, payload and ranges, of which the last three of these faults tell
-faults_right : (numbers nodes payload range : Bool) (more : List LineFault)
+faults_right : (numbers nodes payload range : Bool)
     → unless numbers faults.Number
-    ++ (unless nodes faults.NoNode ++ (unless payload faults.NoData ++ (unless range faults.Range ++ more))) ≡ []
-    → (nodes ≡ true) × (range ≡ true) × (payload ≡ true) × (more ≡ [])
-faults_right numbers nodes payload range more none =
-    let after_numbers = unless-none numbers faults.Number _ none in
-    let after_nodes = unless-none nodes faults.NoNode _ after_numbers.1 in
-    let after_payload = unless-none payload faults.NoData _ after_nodes.1 in
-    let after_range = unless-none range faults.Range more after_payload.1 in
-    (after_nodes.0, after_range.0, after_payload.0, after_range.1)
+    ++ (unless nodes faults.NoNode ++ (unless payload faults.NoData ++ unless range faults.Range)) ≡ []
+    → (nodes ≡ true) × (range ≡ true) × (payload ≡ true)
+faults_right true true true true none = (refl, refl, refl)
+faults_right false nodes payload range none = cc
+faults_right true false payload range none = cc
+faults_right true true false range none = cc
+faults_right true true true false none = cc
+
+-- no fault in two parts
+parts_none : (front more : List LineFault) → front ++ more ≡ [] → (front ≡ []) × (more ≡ [])
+parts_none [] more none = (refl, none)
+parts_none (fault ∷ front) more none = cc
 
 statement_right : (list : Medl) (said : List Statement) (words : List (List ℕ)) (form : Keyword)
     → stated_faults list said words form ≡ []
@@ -114,8 +113,7 @@ statement_right : (list : Medl) (said : List Statement) (words : List (List ℕ)
     × (is_in_range list (run_slots said) words (statement_of form words) ≡ true)
     × (has_payload list (statement_of form words) ≡ true)
 unfolding stated_faults statement_faults
-statement_right list said words form none =
-    let right = faults_right _ _ _ _ _ none in (right.0, right.1, right.2)
+statement_right list said words form none = faults_right _ _ _ _ (parts_none _ _ none).0
 
 -- the last test, of which the third of these faults tells
 when-none : (holds : Bool) (fault : LineFault) → when holds fault ≡ [] → holds ≡ false
@@ -134,9 +132,8 @@ write_room : (list : Medl) (said : List Statement) (words : List (List ℕ))
 unfolding stated_faults statement_faults
 write_room list said words none =
     let statement = statement_of keyword.Write words in
-    let right = faults_right _ _ _ _ _ none in
     room_right (is_repeat said statement) (is_write statement && (list.buffers == 1))
-    (fills_buffers list said statement) right.3
+    (fills_buffers list said statement) (parts_none (statement_faults list (run_slots said) words keyword.Write) _ none).1
 
 write_right : (list : Medl) (said : List Statement) (words : List (List ℕ))
     → stated_faults list said words keyword.Write ≡ []

@@ -8,12 +8,6 @@ use Rattle.std.proofs.lemmas.List.{ext_get_or, get_or-drop, length-drop, length-
 pub get_or-zeros : (n i : ℕ) → get_or {A = ℕ} (replicate n 0) i 0 ≡ 0
 get_or-zeros n i = grind (arith, common_steps)
 
--- past the end there are zeros anyway
-pub get_or-grown : (xs : List ℕ) (n i : ℕ) → get_or (xs ++ replicate n 0) i 0 ≡ get_or xs i 0
-get_or-grown [] n i = get_or-zeros n i
-get_or-grown (x ∷ xs) n zero = refl
-get_or-grown (x ∷ xs) n (suc i) = get_or-grown xs n i
-
 pub zeros_behind : (bytes : List ℕ) (n size : ℕ) → length bytes ≡ n
     → ((k : ℕ) → size ≤ k → get_or bytes k 0 ≡ 0) → drop size bytes ≡ replicate (n - size) 0
 zeros_behind bytes n size long zeros =

@@ -187,15 +187,20 @@ unless holds fault = if holds then [] else fault ∷ []
 abbrev pub when : Bool → LineFault → List LineFault
 when holds fault = if holds then fault ∷ [] else []
 
--- those of a line that states this
-unfoldable pub statement_faults : Medl → List Statement → List (List ℕ) → Statement → List LineFault
-statement_faults list before words statement =
-    unless (has_nodes list statement) faults.NoNode
-    ++ (unless (has_payload list statement) faults.NoData
-    ++ (unless (is_in_range list (run_slots before) words statement) faults.Range
-    ++ (when (is_repeat before statement) faults.Repeat
+-- those of a line of a form in a run of so many slots, whatever the lines before say
+unfoldable pub statement_faults : Medl → ℕ → List (List ℕ) → Keyword → List LineFault
+statement_faults list slots words form =
+    unless (has_numbers form words) faults.Number
+    ++ (unless (has_nodes list (statement_of form words)) faults.NoNode
+    ++ (unless (has_payload list (statement_of form words)) faults.NoData
+    ++ unless (is_in_range list slots words (statement_of form words)) faults.Range))
+
+-- those of what a line states, beside the lines before
+abbrev pub further_faults : Medl → List Statement → Statement → List LineFault
+further_faults list before statement =
+    when (is_repeat before statement) faults.Repeat
     ++ (when (is_write statement && (list.buffers == 1)) faults.NoBuffer
-    ++ when (fills_buffers list before statement) faults.TooMany))))
+    ++ when (fills_buffers list before statement) faults.TooMany)
 
 -- a line other than `slots` stands after that line, which says the run's slots
 abbrev pub is_after_slots : Keyword → Option ℕ → Bool
@@ -205,7 +210,7 @@ is_after_slots _ slots = is_some slots
 -- those of a line whose words are spelled as its form has them
 unfoldable pub stated_faults : Medl → List Statement → List (List ℕ) → Keyword → List LineFault
 stated_faults list before words form =
-    unless (has_numbers form words) faults.Number ++ statement_faults list before words (statement_of form words)
+    statement_faults list (run_slots before) words form ++ further_faults list before (statement_of form words)
 
 -- those of a line of a form
 unfoldable pub form_faults : Medl → List Statement → List (List ℕ) → Keyword → List LineFault

@@ -4,4 +4,4 @@ pub mod Statement
 pub mod Faults
 pub mod ScriptFile
 pub mod SoFar
-pub mod Fields
+pub mod Words

@@ -1,42 +1,45 @@
 //! Lines that say what happens in slots.
-ghost use Rattle.std.specs.Prelude.{◌≡◌, [], true, false, Some, IfOk, IfErr};
+ghost use Rattle.std.specs.Prelude.{◌≡◌, ◌<◌, ◌≤◌, [], true, false, length, Some, IfOk, IfErr, FitsSigned};
+ghost use Rattle.std.specs.Int.{w64};
 ghost use Rattle.ttp_base.specs.Faults.{first_fault};
 ghost use Rattle.ttp_world.specs.Medl.{IsValid};
 ghost use Rattle.script_text.specs.declared.keyword.Keyword.TheVariants as keyword;
 ghost use Rattle.script_text.specs.Lines.{word_at};
 ghost use Rattle.script_text.specs.Numbers.{is_number, is_value, value_in, channels_in, fault_in};
-ghost use Rattle.script_text.specs.Statement.{number_at, statement_of};
-ghost use Rattle.script_text.specs.Faults.{is_node, is_span, is_within, is_flipped_bit, event_said};
-ghost use Rattle.script_text.specs.SoFar.{event_faults, is_uncounted};
+ghost use Rattle.script_text.specs.Statement.{number_at};
+ghost use Rattle.script_text.specs.Faults.{is_node, is_span, is_within, is_flipped_bit, statement_faults};
+ghost use Rattle.script_text.specs.SoFar.{ReadsEvent};
 
 use crate::error::LineFault;
 use crate::form::{channels_in, fault_in};
-use crate::host::read_in;
-use crate::keyword::Keyword;
-use crate::lines::Words;
-use crate::number::{number_in, value_in};
+use crate::words::Words;
 use ttp_world::{
-    Channels, ERROR_LIMIT, Event, FIRST_FLIPPED_BIT, Fault, JUMP_LIMIT, LAST_FLIPPED_BIT, Medl,
+    Channels, DRIFT_LIMIT, ERROR_LIMIT, Event, FIRST_FLIPPED_BIT, Fault, JUMP_LIMIT,
+    LAST_FLIPPED_BIT, Medl,
 };
 
 /// The number that a line's word at a place is.
 pub(crate) fn number_at(words: &Words, i: usize) -> Result<u32, LineFault>
+    requires low { 1 ≤ i }
+    requires high { i ≤ 5 }
     ensures ok { IfOk result (λ number.
         (is_number (word_at words.now i) ≡ true) × (number ≡ number_at words.now i)) }
     ensures err { IfErr result (λ fault.
         (is_number (word_at words.now i) ≡ false) × (fault ≡ LineFault.Number)) }
 {
-    number_in(words.at(i)).ok_or(LineFault::Number)
+    words.at(i).number().ok_or(LineFault::Number)
 }
 
 /// The number, with or without a `-`, that a line's word at a place is.
 pub(crate) fn value_at(words: &Words, i: usize) -> Result<i64, LineFault>
+    requires low { 1 ≤ i }
+    requires high { i ≤ 5 }
     ensures ok { IfOk result (λ value.
         (is_value (word_at words.now i) ≡ true) × (value ≡ value_in (word_at words.now i))) }
     ensures err { IfErr result (λ fault.
         (is_value (word_at words.now i) ≡ false) × (fault ≡ LineFault.Number)) }
 {
-    value_in(words.at(i)).ok_or(LineFault::Number)
+    words.at(i).value().ok_or(LineFault::Number)
 }
 
 /// The node of the list that has a number.
@@ -72,21 +75,80 @@ pub(crate) fn is_span(slots: u32, from: u32, to: u32) -> bool
     from < slots && to < slots && from <= to
 }
 
-/// What a `send` or a `receive` line says.
-#[derive(Drop)]
-pub(crate) struct Disturbance {
+/// What an `on` line says: the slot in which a node is switched on.
+#[derive(Clone, Copy)]
+pub(crate) struct SwitchedOn {
     pub(crate) node: u8,
-    pub(crate) channels: Channels,
-    pub(crate) fault: Fault,
-    pub(crate) from: u32,
-    pub(crate) to: u32,
+    pub(crate) slot: u32,
+}
+
+/// What an `on` line says, in a run of so many slots.
+#[tactic(auto, unfolding(crate::specs::Faults::statement_faults))]
+pub(crate) fn on_in(words: &Words, list: &Medl, slots: u32) -> Result<SwitchedOn, LineFault>
+    requires { IsValid list.now }
+    ensures ok { IfOk result (λ _. statement_faults list.now slots words.now keyword.On ≡ []) }
+    ensures value { IfOk result (λ said. said ≡ record {
+      node = number_at words.now 1;
+      slot = number_at words.now 2;
+    }) }
+    ensures node { IfOk result (λ said. said.node < length list.now.slots) }
+    ensures err { IfErr result (λ fault.
+        first_fault (statement_faults list.now slots words.now keyword.On) ≡ Some fault) }
+{
+    let number = number_at(words, 1)?;
+    let slot = number_at(words, 2)?;
+    let node = node_of(list, number)?;
+    if slots <= slot {
+        return Err(LineFault::Range);
+    }
+    Ok(SwitchedOn { node, slot })
+}
+
+/// What a `drift` line says: how far a node's clock drifts in each slot.
+#[derive(Clone, Copy)]
+pub(crate) struct Drift {
+    pub(crate) node: u8,
+    pub(crate) value: i64,
+}
+
+/// What a `drift` line says, in a run of so many slots.
+#[tactic(auto, unfolding(crate::specs::Faults::statement_faults))]
+pub(crate) fn drift_in(words: &Words, list: &Medl, slots: u32) -> Result<Drift, LineFault>
+    requires { IsValid list.now }
+    ensures ok { IfOk result (λ _. statement_faults list.now slots words.now keyword.Drift ≡ []) }
+    ensures value { IfOk result (λ said. said ≡ record {
+      node = number_at words.now 1;
+      value = value_in (word_at words.now 2);
+    }) }
+    ensures fits { IfOk result (λ said. FitsSigned w64 said.value) }
+    ensures node { IfOk result (λ said. said.node < length list.now.slots) }
+    ensures err { IfErr result (λ fault.
+        first_fault (statement_faults list.now slots words.now keyword.Drift) ≡ Some fault) }
+{
+    let number = number_at(words, 1)?;
+    let value = value_at(words, 2)?;
+    let node = node_of(list, number)?;
+    if !is_within(DRIFT_LIMIT, value) {
+        return Err(LineFault::Range);
+    }
+    Ok(Drift { node, value })
+}
+
+// What a `send` or a `receive` line says.
+#[derive(Drop)]
+struct Disturbance {
+    node: u8,
+    channels: Channels,
+    fault: Fault,
+    from: u32,
+    to: u32,
 }
 
 // What a `send` or a `receive` line says, in a run of so many slots.
-#[tactic(auto, unfolding(crate::specs::SoFar::event_faults))]
+#[tactic(auto, unfolding(crate::specs::Faults::statement_faults))]
 fn disturbance_in(words: &Words, list: &Medl, slots: u32) -> Result<Disturbance, LineFault>
     requires { IsValid list.now }
-    ensures ok { IfOk result (λ _. event_faults words.now list.now slots keyword.Send ≡ []) }
+    ensures ok { IfOk result (λ _. statement_faults list.now slots words.now keyword.Send ≡ []) }
     ensures value { IfOk result (λ said. said ≡ record {
       node = number_at words.now 1;
       channels = channels_in (word_at words.now 2);
@@ -95,7 +157,7 @@ fn disturbance_in(words: &Words, list: &Medl, slots: u32) -> Result<Disturbance,
       to = number_at words.now 5;
     }) }
     ensures err { IfErr result (λ fault.
-        first_fault (event_faults words.now list.now slots keyword.Send) ≡ Some fault) }
+        first_fault (statement_faults list.now slots words.now keyword.Send) ≡ Some fault) }
 {
     let number = number_at(words, 1)?;
     let from = number_at(words, 4)?;
@@ -106,21 +168,50 @@ fn disturbance_in(words: &Words, list: &Medl, slots: u32) -> Result<Disturbance,
     }
     Ok(Disturbance {
         node,
-        channels: channels_in(words.at(2)),
-        fault: fault_in(words.at(3)),
+        channels: channels_in(words.at(2).text()),
+        fault: fault_in(words.at(3).text()),
         from,
         to,
     })
 }
 
-// The event that a `flip` line says.
-#[tactic(auto, unfolding(crate::specs::SoFar::event_faults))]
-fn flip_in(words: &Words, list: &Medl, slots: u32) -> Result<Event, LineFault>
+/// The event that a `send` line says, in a run of so many slots.
+#[tactic(auto, unfolding(crate::specs::Faults::statement_faults))]
+pub(crate) fn send_in(words: &Words, list: &Medl, slots: u32) -> Result<Event, LineFault>
     requires { IsValid list.now }
-    ensures ok { IfOk result (λ _. event_faults words.now list.now slots keyword.Flip ≡ []) }
-    ensures value { IfOk result (λ e. event_said (statement_of keyword.Flip words.now) ≡ Some e) }
-    ensures err { IfErr result (λ fault.
-        first_fault (event_faults words.now list.now slots keyword.Flip) ≡ Some fault) }
+    ensures { ReadsEvent list.now slots words.now keyword.Send result }
+{
+    let said = disturbance_in(words, list, slots)?;
+    Ok(Event::Send {
+        node: said.node,
+        channels: said.channels,
+        fault: said.fault,
+        from: said.from,
+        to: said.to,
+    })
+}
+
+/// The event that a `receive` line says, in a run of so many slots.
+#[tactic(auto, unfolding(crate::specs::Faults::statement_faults))]
+pub(crate) fn receive_in(words: &Words, list: &Medl, slots: u32) -> Result<Event, LineFault>
+    requires { IsValid list.now }
+    ensures { ReadsEvent list.now slots words.now keyword.Receive result }
+{
+    let said = disturbance_in(words, list, slots)?;
+    Ok(Event::Receive {
+        node: said.node,
+        channels: said.channels,
+        fault: said.fault,
+        from: said.from,
+        to: said.to,
+    })
+}
+
+/// The event that a `flip` line says, in a run of so many slots.
+#[tactic(auto, unfolding(crate::specs::Faults::statement_faults))]
+pub(crate) fn flip_in(words: &Words, list: &Medl, slots: u32) -> Result<Event, LineFault>
+    requires { IsValid list.now }
+    ensures { ReadsEvent list.now slots words.now keyword.Flip result }
 {
     let number = number_at(words, 1)?;
     let bit = number_at(words, 3)?;
@@ -131,20 +222,17 @@ fn flip_in(words: &Words, list: &Medl, slots: u32) -> Result<Event, LineFault>
     }
     Ok(Event::Flip {
         node,
-        channels: channels_in(words.at(2)),
+        channels: channels_in(words.at(2).text()),
         bit: bit as u16,
         slot,
     })
 }
 
-// The event that an `error` line says.
-#[tactic(auto, unfolding(crate::specs::SoFar::event_faults))]
-fn error_in(words: &Words, list: &Medl, slots: u32) -> Result<Event, LineFault>
+/// The event that an `error` line says, in a run of so many slots.
+#[tactic(auto, unfolding(crate::specs::Faults::statement_faults))]
+pub(crate) fn error_in(words: &Words, list: &Medl, slots: u32) -> Result<Event, LineFault>
     requires { IsValid list.now }
-    ensures ok { IfOk result (λ _. event_faults words.now list.now slots keyword.Error ≡ []) }
-    ensures value { IfOk result (λ e. event_said (statement_of keyword.Error words.now) ≡ Some e) }
-    ensures err { IfErr result (λ fault.
-        first_fault (event_faults words.now list.now slots keyword.Error) ≡ Some fault) }
+    ensures { ReadsEvent list.now slots words.now keyword.Error result }
 {
     let number = number_at(words, 1)?;
     let value = value_at(words, 2)?;
@@ -162,14 +250,11 @@ fn error_in(words: &Words, list: &Medl, slots: u32) -> Result<Event, LineFault>
     })
 }
 
-// The event that a `jump` line says.
-#[tactic(auto, unfolding(crate::specs::SoFar::event_faults))]
-fn jump_in(words: &Words, list: &Medl, slots: u32) -> Result<Event, LineFault>
+/// The event that a `jump` line says, in a run of so many slots.
+#[tactic(auto, unfolding(crate::specs::Faults::statement_faults))]
+pub(crate) fn jump_in(words: &Words, list: &Medl, slots: u32) -> Result<Event, LineFault>
     requires { IsValid list.now }
-    ensures ok { IfOk result (λ _. event_faults words.now list.now slots keyword.Jump ≡ []) }
-    ensures value { IfOk result (λ e. event_said (statement_of keyword.Jump words.now) ≡ Some e) }
-    ensures err { IfErr result (λ fault.
-        first_fault (event_faults words.now list.now slots keyword.Jump) ≡ Some fault) }
+    ensures { ReadsEvent list.now slots words.now keyword.Jump result }
 {
     let number = number_at(words, 1)?;
     let value = value_at(words, 2)?;
@@ -181,14 +266,11 @@ fn jump_in(words: &Words, list: &Medl, slots: u32) -> Result<Event, LineFault>
     Ok(Event::Jump { node, value, slot })
 }
 
-// The event that an `arm` line says.
-#[tactic(auto, unfolding(crate::specs::SoFar::event_faults))]
-fn arm_in(words: &Words, list: &Medl, slots: u32) -> Result<Event, LineFault>
+/// The event that an `arm` line says, in a run of so many slots.
+#[tactic(auto, unfolding(crate::specs::Faults::statement_faults))]
+pub(crate) fn arm_in(words: &Words, list: &Medl, slots: u32) -> Result<Event, LineFault>
     requires { IsValid list.now }
-    ensures ok { IfOk result (λ _. event_faults words.now list.now slots keyword.Arm ≡ []) }
-    ensures value { IfOk result (λ e. event_said (statement_of keyword.Arm words.now) ≡ Some e) }
-    ensures err { IfErr result (λ fault.
-        first_fault (event_faults words.now list.now slots keyword.Arm) ≡ Some fault) }
+    ensures { ReadsEvent list.now slots words.now keyword.Arm result }
 {
     let number = number_at(words, 1)?;
     let slot = number_at(words, 2)?;
@@ -197,61 +279,4 @@ fn arm_in(words: &Words, list: &Medl, slots: u32) -> Result<Event, LineFault>
         return Err(LineFault::Range);
     }
     Ok(Event::Arm { node, slot })
-}
-
-/// The event that a line of such a form says, in a run of so many slots. A `write` line, which is counted besides, is
-/// read by `message_in`.
-#[tactic(auto, unfolding(crate::specs::SoFar::event_faults))]
-pub(crate) fn event_in(
-    form: Keyword,
-    words: &Words,
-    list: &Medl,
-    slots: u32,
-) -> Result<Event, LineFault>
-    requires form { is_uncounted form ≡ true }
-    requires valid { IsValid list.now }
-    ensures ok { IfOk result (λ _. event_faults words.now list.now slots form ≡ []) }
-    ensures value { IfOk result (λ e. event_said (statement_of form words.now) ≡ Some e) }
-    ensures err { IfErr result (λ fault.
-        first_fault (event_faults words.now list.now slots form) ≡ Some fault) }
-{
-    match form {
-        Keyword::Send => {
-            let Disturbance {
-                node,
-                channels,
-                fault,
-                from,
-                to,
-            } = disturbance_in(words, list, slots)?;
-            Ok(Event::Send {
-                node,
-                channels,
-                fault,
-                from,
-                to,
-            })
-        }
-        Keyword::Receive => {
-            let Disturbance {
-                node,
-                channels,
-                fault,
-                from,
-                to,
-            } = disturbance_in(words, list, slots)?;
-            Ok(Event::Receive {
-                node,
-                channels,
-                fault,
-                from,
-                to,
-            })
-        }
-        Keyword::Flip => flip_in(words, list, slots),
-        Keyword::Error => error_in(words, list, slots),
-        Keyword::Jump => jump_in(words, list, slots),
-        Keyword::Arm => arm_in(words, list, slots),
-        _ => read_in(words, list, slots),
-    }
 }

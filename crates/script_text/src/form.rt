@@ -4,7 +4,7 @@ ghost use Rattle.script_text.specs.Numbers.{is_text, is_channels, channels_in, i
 ghost use Rattle.script_text.specs.Statement.{keyword_of, word_count, has_channels, is_spelled};
 
 use crate::keyword::Keyword;
-use crate::lines::Words;
+use crate::words::Words;
 use ttp_world::{Channels, Fault};
 
 /// Whether a word is spelled like a text. A compiler that knows the text makes a few tests of bytes of it.
@@ -107,8 +107,9 @@ fn has_channels(form: Keyword, words: &Words) -> bool
     ensures { result ≡ has_channels form words.now }
 {
     match form {
-        Keyword::Send | Keyword::Receive => is_channels(words.at(2)) && is_fault(words.at(3)),
-        Keyword::Flip => is_channels(words.at(2)),
+        Keyword::Send | Keyword::Receive => is_channels(words.at(2).text())
+            && is_fault(words.at(3).text()),
+        Keyword::Flip => is_channels(words.at(2).text()),
         _ => true,
     }
 }

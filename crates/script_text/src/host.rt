@@ -2,21 +2,20 @@
 ghost use Rattle.std.specs.Prelude.{◌≡◌, ◌==◌, ◌<◌, ◌≤◌, [], ◌++◌, true, not, length, Some, IfOk, IfErr};
 ghost use Rattle.ttp_base.specs.Faults.{first_fault};
 ghost use Rattle.ttp_world.specs.Medl.{IsValid};
-ghost use Rattle.ttp_world.specs.declared.script.Event.TheVariants as event;
 ghost use Rattle.script_text.specs.declared.error.LineFault.TheVariants as faults;
 ghost use Rattle.script_text.specs.declared.keyword.Keyword.TheVariants as keyword;
 ghost use Rattle.script_text.specs.Lines.{word_at};
 ghost use Rattle.script_text.specs.Numbers.{is_source, source_in, hex_bytes_in};
-ghost use Rattle.script_text.specs.Statement.{number_at, statement_of};
-ghost use Rattle.script_text.specs.Faults.{is_node, is_read_node, payload_size, sends_payload, event_said, unless};
-ghost use Rattle.script_text.specs.SoFar.{event_faults};
+ghost use Rattle.script_text.specs.Statement.{number_at};
+ghost use Rattle.script_text.specs.Faults.{is_node, is_read_node, payload_size, sends_payload, unless};
+ghost use Rattle.script_text.specs.Faults.{statement_faults};
+ghost use Rattle.script_text.specs.SoFar.{ReadsEvent};
 
 use crate::error::LineFault;
 use crate::event::{node_of, number_at};
 use crate::form::is_text;
 use crate::hex::{front_payload, is_hex};
-use crate::lines::Words;
-use crate::number::number_in;
+use crate::words::Words;
 use ttp_world::{Event, Medl, PAYLOAD_LIMIT, Payload, Source};
 
 /// The bytes of payload that a node's frames carry.
@@ -53,7 +52,9 @@ pub(crate) fn is_of_other(node: u8, source: Source) -> bool
 
 // What a line's word at a place names as read, of the list's nodes.
 fn source_at(words: &Words, i: usize, list: &Medl) -> Result<Source, LineFault>
-    requires { IsValid list.now }
+    requires low { 1 ≤ i }
+    requires high { i ≤ 5 }
+    requires valid { IsValid list.now }
     ensures ok { IfOk result (λ source. (is_source (word_at words.now i) ≡ true)
         × (source ≡ source_in (word_at words.now i)) × (is_read_node (is_node list.now) source ≡ true)) }
     ensures err { IfErr result (λ fault.
@@ -61,22 +62,19 @@ fn source_at(words: &Words, i: usize, list: &Medl) -> Result<Source, LineFault>
         ++ unless (is_read_node (is_node list.now) (source_in (word_at words.now i))) faults.NoNode) ≡ Some fault) }
 {
     let word = words.at(i);
-    if is_text(b"status", word) {
+    if is_text(b"status", word.text()) {
         return Ok(Source::Status);
     }
-    let number = number_in(word).ok_or(LineFault::Number)?;
+    let number = word.number().ok_or(LineFault::Number)?;
     let node = node_of(list, number)?;
     Ok(Source::Node(node))
 }
 
 /// The event that a `read` line says, in a run of so many slots.
-#[tactic(auto, unfolding(crate::specs::SoFar::event_faults))]
+#[tactic(auto, unfolding(crate::specs::Faults::statement_faults))]
 pub(crate) fn read_in(words: &Words, list: &Medl, slots: u32) -> Result<Event, LineFault>
     requires { IsValid list.now }
-    ensures ok { IfOk result (λ _. event_faults words.now list.now slots keyword.Read ≡ []) }
-    ensures value { IfOk result (λ e. event_said (statement_of keyword.Read words.now) ≡ Some e) }
-    ensures err { IfErr result (λ fault.
-        first_fault (event_faults words.now list.now slots keyword.Read) ≡ Some fault) }
+    ensures { ReadsEvent list.now slots words.now keyword.Read result }
 {
     let number = number_at(words, 1)?;
     let slot = number_at(words, 2)?;
@@ -100,10 +98,10 @@ pub(crate) struct Message {
 }
 
 /// The message that a `write` line says, in a run of so many slots.
-#[tactic(auto, unfolding(crate::specs::SoFar::event_faults))]
+#[tactic(auto, unfolding(crate::specs::Faults::statement_faults))]
 pub(crate) fn message_in(words: &Words, list: &Medl, slots: u32) -> Result<Message, LineFault>
     requires { IsValid list.now }
-    ensures ok { IfOk result (λ _. event_faults words.now list.now slots keyword.Write ≡ []) }
+    ensures ok { IfOk result (λ _. statement_faults list.now slots words.now keyword.Write ≡ []) }
     ensures value { IfOk result (λ message. message ≡ record {
       node = number_at words.now 1;
       slot = number_at words.now 2;
@@ -112,11 +110,11 @@ pub(crate) fn message_in(words: &Words, list: &Medl, slots: u32) -> Result<Messa
     ensures node { IfOk result (λ message. message.node < length list.now.slots) }
     ensures slot { IfOk result (λ message. message.slot < slots) }
     ensures err { IfErr result (λ fault.
-        first_fault (event_faults words.now list.now slots keyword.Write) ≡ Some fault) }
+        first_fault (statement_faults list.now slots words.now keyword.Write) ≡ Some fault) }
 {
     let number = number_at(words, 1)?;
     let slot = number_at(words, 2)?;
-    let digits = words.at(3);
+    let digits = words.at(3).text();
     if !is_hex(digits) {
         return Err(LineFault::Number);
     }

@@ -16,10 +16,9 @@
 //!
 //! The layer above gets a script that is valid for the list, which `proofs/Valid.antt` and
 //! `RightFiles.antt` show of the definition, for lines without a fault. Between two lines the reader
-//! stands for what the lines so far state (`StandsFor` of `specs/SoFar.antt`). A line that says what
-//! happens in slots is read field by field first (`src/fields.rt`, `src/right.rt`), which takes it
-//! where nothing is wrong with it; every other line is cut into words, by which its first fault is
-//! found (`src/event.rt`, `src/host.rt`).
+//! stands for what the lines so far state (`StandsFor` of `specs/SoFar.antt`). A line is cut into
+//! words once (`src/words.rt`), and those of digits are read as numbers on the way; by its words it
+//! says something, or has a first fault (`src/event.rt`, `src/host.rt`).
 //!
 //! The file is gone over once, and at the end its events are sorted into an index. No code counts
 //! them: a file of 1,048,576 bytes has no more than 131,072, of which at most 95,325 are of hosts,
@@ -30,7 +29,7 @@
 
 mod error;
 mod event;
-mod fields;
+mod first;
 mod form;
 mod hex;
 mod host;
@@ -38,8 +37,8 @@ mod keyword;
 mod lines;
 mod number;
 mod read;
-mod right;
 mod so_far;
+mod words;
 mod writes;
 
 pub use error::{LineFault, ScriptError};

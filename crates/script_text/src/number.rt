@@ -1,8 +1,7 @@
 //! Words that are numbers.
-ghost use Rattle.std.specs.Prelude.{◌≡◌, ◌<◌, ◌≤◌, true, false, length, take, slice_index, SomeIff, IsTrue};
-ghost use Rattle.std.specs.Char.{is_ascii_digit};
-ghost use Rattle.std.specs.List.{list_all};
-ghost use Rattle.script_text.specs.Numbers.{is_number, number_in, is_value, value_in};
+ghost use Rattle.std.specs.Prelude.{SomeIff, IsTrue};
+ghost use Rattle.script_text.specs.Numbers.{is_number, number_in};
+ghost use Rattle.script_text.specs.Words.{FrontDigits};
 
 // The most digits of a number.
 const MOST_DIGITS: usize = 9;
@@ -16,12 +15,7 @@ pub(crate) struct Digits {
 
 /// The digits at the front of a text, up to as many as a number has.
 pub(crate) fn front_digits(text: &[u8]) -> Digits
-    ensures count { result.count ≤ length text.now }
-    ensures most { result.count ≤ MOST_DIGITS }
-    ensures digits { list_all is_ascii_digit (take result.count text.now) ≡ true }
-    ensures number { result.number ≡ number_in (take result.count text.now) }
-    ensures all { result.count < length text.now → result.count < MOST_DIGITS
-        → is_ascii_digit (slice_index text.now result.count) ≡ false }
+    ensures { FrontDigits text.now result.count result.number }
 {
     let front = &text[..text.len().min(MOST_DIGITS)];
     let mut number: u32 = 0;
@@ -37,23 +31,22 @@ pub(crate) fn front_digits(text: &[u8]) -> Digits
     }
 }
 
-/// The number that a word of 1 to 9 decimal digits is.
-pub(crate) fn number_in(word: &[u8]) -> Option<u32>
-    ensures value { SomeIff result (IsTrue (is_number word.now)) (number_in word.now) }
+/// The number that a word with these digits at its front is, 1 to 9 decimal digits.
+#[inline(always)]
+pub(crate) fn whole_number(word: &[u8], digits: Digits) -> Option<u32>
+    requires { FrontDigits word.now digits.count digits.number }
+    ensures { SomeIff result (IsTrue (is_number word.now)) (number_in word.now) }
 {
-    let Digits { count, number } = front_digits(word);
+    let Digits { count, number } = digits;
     if count == 0 || count < word.len() {
         return None;
     }
     Some(number)
 }
 
-/// The number that a word of 1 to 9 decimal digits is, with or without a `-` before them.
-pub(crate) fn value_in(word: &[u8]) -> Option<i64>
-    ensures value { SomeIff result (IsTrue (is_value word.now)) (value_in word.now) }
+/// The number that a word of 1 to 9 decimal digits is.
+pub(crate) fn number_in(word: &[u8]) -> Option<u32>
+    ensures { SomeIff result (IsTrue (is_number word.now)) (number_in word.now) }
 {
-    match word.first() {
-        Some(b'-') => Some(-i64::from(number_in(&word[1..])?)),
-        _ => Some(i64::from(number_in(word)?)),
-    }
+    whole_number(word, front_digits(word))
 }

@@ -8,15 +8,18 @@ ghost use Rattle.script_text.specs.Statement.{Statement};
 ghost use Rattle.script_text.specs.Faults.{is_after_slots};
 ghost use Rattle.script_text.specs.ScriptFile.{file_faults, end_faults, statements_of};
 ghost use Rattle.script_text.specs.ScriptFile.{stated_script, script_or_fault, script_of};
-ghost use Rattle.script_text.specs.SoFar.{StandsFor, HasNodes, TakesForm, RefusesForm, TakesLine, RefusesLine};
+ghost use Rattle.script_text.specs.SoFar.{StandsFor, HasNodes, TakesStated, RefusesStated};
+ghost use Rattle.script_text.specs.SoFar.{TakesForm, RefusesForm, TakesLine, RefusesLine};
 
 use crate::error::{LineFault, Refusal, ScriptError};
-use crate::fields::next_form;
-use crate::form::{is_spelled, keyword_of};
+use crate::event::{arm_in, error_in, flip_in, jump_in, receive_in, send_in};
+use crate::first::first_word;
+use crate::form::is_spelled;
+use crate::host::read_in;
 use crate::keyword::Keyword;
-use crate::lines::{Words, next_line, next_word, words_after};
-use crate::right::is_taken;
+use crate::lines::next_line;
 use crate::so_far::SoFar;
+use crate::words::{Words, words_after};
 use std::alloc::Global;
 use ttp_base::{List, Memory};
 use ttp_world::{EVENT_LIMIT, Events, Medl, Script};
@@ -28,7 +31,33 @@ fn is_after_slots(form: Keyword, slots: Option<u32>) -> bool
     form == Keyword::Slots || slots.is_some()
 }
 
+// Takes what a line of a form states.
+#[inline(always)]
+fn take_stated(list: &Medl, form: Keyword, words: &Words, so_far: &mut SoFar) -> Result<(), Refusal>
+    requires valid { IsValid list.now }
+    requires nodes { HasNodes list.now so_far.old }
+    ensures ok { OnOk result (TakesStated list.now words.now so_far.old so_far.new form) }
+    ensures err { IfErr result (RefusesStated list.now words.now so_far.old form) }
+    ensures nodes { HasNodes list.now so_far.new }
+{
+    let slots = so_far.slots.unwrap_or(0);
+    match form {
+        Keyword::Slots => so_far.take_slots(words, list),
+        Keyword::On => so_far.take_on(words, list),
+        Keyword::Drift => so_far.take_drift(words, list),
+        Keyword::Send => so_far.take_event(send_in(words, list, slots)),
+        Keyword::Receive => so_far.take_event(receive_in(words, list, slots)),
+        Keyword::Flip => so_far.take_event(flip_in(words, list, slots)),
+        Keyword::Error => so_far.take_event(error_in(words, list, slots)),
+        Keyword::Jump => so_far.take_event(jump_in(words, list, slots)),
+        Keyword::Arm => so_far.take_event(arm_in(words, list, slots)),
+        Keyword::Read => so_far.take_event(read_in(words, list, slots)),
+        Keyword::Write => so_far.take_write(words, list),
+    }
+}
+
 // Takes a line of a form.
+#[inline(always)]
 #[tactic(auto, using(crate::proofs::Kept::kept))]
 fn take_form(list: &Medl, form: Keyword, words: &Words, so_far: &mut SoFar) -> Result<(), Refusal>
     requires valid { IsValid list.now }
@@ -43,42 +72,11 @@ fn take_form(list: &Medl, form: Keyword, words: &Words, so_far: &mut SoFar) -> R
     if !is_after_slots(form, so_far.slots) {
         return Err(LineFault::NoSlots.into());
     }
-    match form {
-        Keyword::Slots => Ok(so_far.take_slots(words)?),
-        Keyword::On => Ok(so_far.take_on(words, list)?),
-        Keyword::Drift => Ok(so_far.take_drift(words, list)?),
-        Keyword::Write => so_far.take_write(words, list),
-        _ => so_far.take_event(form, words, list),
-    }
-}
-
-// Takes a line by its words. Most lines are taken before they come here.
-#[inline(never)]
-#[tactic(auto, using(crate::proofs::Kept::kept), unfolding(crate::specs::Faults::line_faults, crate::specs::Faults::statements_after))]
-fn take_words(list: &Medl, line: &[u8], so_far: &mut SoFar) -> Result<(), Refusal>
-    requires valid { IsValid list.now }
-    requires nodes { HasNodes list.now so_far.old }
-    ensures ok { OnOk result (TakesLine list.now (words_of line.now) so_far.old so_far.new) }
-    ensures err { IfErr result (RefusesLine list.now (words_of line.now) so_far.old) }
-    ensures nodes { HasNodes list.now so_far.new }
-{
-    let Some(first) = next_word(line) else {
-        return Ok(());
-    };
-    if is_comment(first.piece) {
-        return Ok(());
-    }
-    let Some(form) = keyword_of(first.piece) else {
-        return Err(LineFault::Word.into());
-    };
-    let Some(words) = words_after(first) else {
-        return Err(LineFault::Word.into());
-    };
-    take_form(list, form, &words, so_far)
+    take_stated(list, form, words, so_far)
 }
 
 // Takes a line.
-#[tactic(auto)]
+#[tactic(auto, using(crate::proofs::Kept::kept), unfolding(crate::specs::Faults::line_faults, crate::specs::Faults::statements_after))]
 fn take_line(list: &Medl, line: &[u8], so_far: &mut SoFar) -> Result<(), Refusal>
     requires valid { IsValid list.now }
     requires nodes { HasNodes list.now so_far.old }
@@ -86,13 +84,17 @@ fn take_line(list: &Medl, line: &[u8], so_far: &mut SoFar) -> Result<(), Refusal
     ensures err { IfErr result (RefusesLine list.now (words_of line.now) so_far.old) }
     ensures nodes { HasNodes list.now so_far.new }
 {
-    let Some(first) = next_form(line) else {
-        return take_words(list, line, so_far);
-    };
-    if is_taken(first.value, first.rest, list, so_far)? {
+    let first = first_word(line);
+    if first.cut.piece.is_empty() || is_comment(first.cut.piece) {
         return Ok(());
     }
-    take_words(list, line, so_far)
+    let Some(form) = first.form else {
+        return Err(LineFault::Word.into());
+    };
+    let Some(words) = words_after(first.cut) else {
+        return Err(LineFault::Word.into());
+    };
+    take_form(list, form, &words, so_far)
 }
 
 fn is_comment(word: &[u8]) -> bool
@@ -178,7 +180,7 @@ fn script_from(
 /// `IsValidScript`. The file has at most 1,048,576 bytes.
 ///
 /// The file is gone over once, a line after another, and a line once for its end and once for its
-/// words; once more where what it says of slots is wrong.
+/// words.
 /// Memory is taken for what is said of each node, for what happens in slots, and once, where a host
 /// writes, a byte for each node and slot; none for other lines. At the end what happens in slots is
 /// put into an index, at the cost of a sort.

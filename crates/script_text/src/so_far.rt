@@ -1,28 +1,22 @@
 //! What is kept of the lines that were read.
-ghost use Rattle.std.specs.Prelude.{◌≡◌, ◌+◌, ◌<◌, [], ◌∷◌, ◌++◌, true, Some, IfOk, IfErr, OnOk, OnErr};
-ghost use Rattle.std.specs.Prelude.{nat_lt, slice_set, unwrap_or, option_to_list};
-ghost use Rattle.ttp_base.specs.Faults.{first_fault};
+ghost use Rattle.std.specs.Prelude.{List as Items, ℕ, ◌≡◌, ◌+◌, ◌<◌, [], ◌∷◌, ◌++◌, true, IfOk, IfErr, OnOk};
+ghost use Rattle.std.specs.Prelude.{nat_lt, unwrap_or, length, slice_index_or, slice_set, is_some, Some, None};
 ghost use Rattle.ttp_world.specs.Medl.{IsValid};
 ghost use Rattle.ttp_world.specs.declared.medl.Medl.{Medl};
 ghost use Rattle.ttp_world.specs.declared.script.Event.TheVariants as event;
+ghost use Rattle.script_text.specs.declared.keyword.Keyword.{Keyword};
 ghost use Rattle.script_text.specs.declared.keyword.Keyword.TheVariants as keyword;
-ghost use Rattle.script_text.specs.Lines.{word_at};
-ghost use Rattle.script_text.specs.Numbers.{value_in};
-ghost use Rattle.script_text.specs.Statement.{number_at, statement_of};
-ghost use Rattle.script_text.specs.Faults.{event_said};
-ghost use Rattle.script_text.specs.SoFar.{StandsFor, HasNodes, slots_faults, on_faults, drift_faults};
-ghost use Rattle.script_text.specs.SoFar.{event_faults, is_uncounted, RefusesEvent, writes_at, CountsMore};
-ghost use Rattle.script_text.specs.SoFar.{write_faults, RefusesWrite};
+ghost use Rattle.script_text.specs.SoFar.{StandsFor, HasNodes, writes_at, CountsMore, is_uncounted};
+ghost use Rattle.script_text.specs.SoFar.{ReadsEvent, TakesStated, RefusesStated};
 
 use crate::error::{LineFault, Refusal};
-use crate::event::{event_in, is_within, node_of, number_at, value_at};
+use crate::event::{drift_in, number_at, on_in};
 use crate::host::{Message, message_in};
-use crate::keyword::Keyword;
-use crate::lines::Words;
+use crate::words::Words;
 use crate::writes::WriteCounts;
 use std::alloc::Global;
 use ttp_base::{List, Memory};
-use ttp_world::{DRIFT_LIMIT, Event, Medl, SLOT_LIMIT};
+use ttp_world::{Event, Medl, SLOT_LIMIT};
 
 /// The slots of the run, for each node the slot in which it is switched on and its drift, where
 /// lines said so, what happens in slots, in the order of the lines, and how often hosts write there.
@@ -52,106 +46,116 @@ impl SoFar {
         })
     }
 
-    /// Takes a `slots` line.
-    #[tactic(auto, unfolding(crate::specs::SoFar::slots_faults))]
-    pub(crate) fn take_slots(&mut self, words: &Words) -> Result<(), LineFault>
-        ensures ok { OnOk result (slots_faults words.now self.old ≡ []) }
-        ensures value { OnOk result (self.new ≡ record self.old { slots = Some (number_at words.now 1) }) }
-        ensures err { IfErr result (λ fault. first_fault (slots_faults words.now self.old) ≡ Some fault) }
-        ensures same { OnErr result (self.new ≡ self.old) }
+    /// Takes what a `slots` line states.
+    #[tactic(auto, unfolding(crate::specs::Faults::stated_faults, crate::specs::Faults::statement_faults))]
+    pub(crate) fn take_slots(&mut self, words: &Words, list: &Medl) -> Result<(), Refusal>
+        requires { HasNodes list.now self.old }
+        ensures ok { OnOk result (TakesStated list.now words.now self.old self.new keyword.Slots) }
+        ensures err { IfErr result (RefusesStated list.now words.now self.old keyword.Slots) }
+        ensures nodes { HasNodes list.now self.new }
     {
         let count = number_at(words, 1)?;
         if count < 1 || SLOT_LIMIT < count {
-            return Err(LineFault::Range);
+            return Err(LineFault::Range.into());
         }
         if self.slots.is_some() {
-            return Err(LineFault::Repeat);
+            return Err(LineFault::Repeat.into());
         }
         self.slots = Some(count);
         Ok(())
     }
 
-    /// Takes an `on` line, which stands after a `slots` line.
-    #[tactic(auto, unfolding(crate::specs::SoFar::on_faults))]
-    pub(crate) fn take_on(&mut self, words: &Words, list: &Medl) -> Result<(), LineFault>
+    // Whether a line said in which slot a node is switched on.
+    fn says_on(&self, node: u8) -> bool
+        ensures { result ≡ is_some (slice_index_or self.now.on.items node None) }
+    {
+        match self.on.get(node as usize) {
+            Some(slot) => slot.is_some(),
+            None => false,
+        }
+    }
+
+    // Whether a line said how a node's clock drifts.
+    fn says_drift(&self, node: u8) -> bool
+        ensures { result ≡ is_some (slice_index_or self.now.drift.items node None) }
+    {
+        match self.drift.get(node as usize) {
+            Some(value) => value.is_some(),
+            None => false,
+        }
+    }
+
+    fn set_drift(&mut self, node: u8, value: i64)
+        requires { node < length self.old.drift.items }
+        ensures value { self.new ≡ record self.old { drift = self.new.drift } }
+        ensures drift { self.new.drift.items ≡ slice_set self.old.drift.items node (Some value) }
+    {
+        self.drift[node as usize] = Some(value);
+    }
+
+    /// Takes what an `on` line states.
+    #[tactic(auto, using(crate::proofs::Kept::refused))]
+    pub(crate) fn take_on(&mut self, words: &Words, list: &Medl) -> Result<(), Refusal>
         requires valid { IsValid list.now }
         requires nodes { HasNodes list.now self.old }
-        ensures ok { OnOk result (on_faults words.now list.now self.old ≡ []) }
-        ensures value { OnOk result (self.new ≡ record self.old { on = self.new.on }) }
-        ensures on { OnOk result
-            (self.new.on.items ≡ slice_set self.old.on.items (number_at words.now 1) (Some (number_at words.now 2))) }
-        ensures err { IfErr result (λ fault. first_fault (on_faults words.now list.now self.old) ≡ Some fault) }
-        ensures same { OnErr result (self.new ≡ self.old) }
+        ensures ok { OnOk result (TakesStated list.now words.now self.old self.new keyword.On) }
+        ensures err { IfErr result (RefusesStated list.now words.now self.old keyword.On) }
+        ensures nodes { HasNodes list.now self.new }
     {
-        let number = number_at(words, 1)?;
-        let slot = number_at(words, 2)?;
-        let node = node_of(list, number)? as usize;
-        if self.slots.unwrap_or(0) <= slot {
-            return Err(LineFault::Range);
+        let said = on_in(words, list, self.slots.unwrap_or(0))?;
+        if self.says_on(said.node) {
+            return Err(LineFault::Repeat.into());
         }
-        if self.on[node].is_some() {
-            return Err(LineFault::Repeat);
-        }
-        self.on[node] = Some(slot);
+        self.on[said.node as usize] = Some(said.slot);
         Ok(())
     }
 
-    /// Takes a `drift` line.
-    #[tactic(auto, unfolding(crate::specs::SoFar::drift_faults))]
-    pub(crate) fn take_drift(&mut self, words: &Words, list: &Medl) -> Result<(), LineFault>
+    /// Takes what a `drift` line states.
+    #[tactic(auto, using(crate::proofs::Kept::refused))]
+    pub(crate) fn take_drift(&mut self, words: &Words, list: &Medl) -> Result<(), Refusal>
         requires valid { IsValid list.now }
         requires nodes { HasNodes list.now self.old }
-        ensures ok { OnOk result (drift_faults words.now list.now self.old ≡ []) }
-        ensures value { OnOk result (self.new ≡ record self.old { drift = self.new.drift }) }
-        ensures drift { OnOk result (self.new.drift.items
-            ≡ slice_set self.old.drift.items (number_at words.now 1) (Some (value_in (word_at words.now 2)))) }
-        ensures err { IfErr result (λ fault. first_fault (drift_faults words.now list.now self.old) ≡ Some fault) }
-        ensures same { OnErr result (self.new ≡ self.old) }
+        ensures ok { OnOk result (TakesStated list.now words.now self.old self.new keyword.Drift) }
+        ensures err { IfErr result (RefusesStated list.now words.now self.old keyword.Drift) }
+        ensures nodes { HasNodes list.now self.new }
     {
-        let number = number_at(words, 1)?;
-        let value = value_at(words, 2)?;
-        let node = node_of(list, number)? as usize;
-        if !is_within(DRIFT_LIMIT, value) {
-            return Err(LineFault::Range);
+        let said = drift_in(words, list, self.slots.unwrap_or(0))?;
+        if self.says_drift(said.node) {
+            return Err(LineFault::Repeat.into());
         }
-        if self.drift[node].is_some() {
-            return Err(LineFault::Repeat);
-        }
-        self.drift[node] = Some(value);
+        self.set_drift(said.node, said.value);
         Ok(())
     }
 
-    /// Takes a line that says what happens in slots and is no `write` line, and which stands after a `slots` line.
-    pub(crate) fn take_event(
-        &mut self,
-        form: Keyword,
-        words: &Words,
-        list: &Medl,
-    ) -> Result<(), Refusal>
-        requires form { is_uncounted form ≡ true }
-        requires valid { IsValid list.now }
-        ensures ok { OnOk result (event_faults words.now list.now (unwrap_or self.old.slots 0) form ≡ []) }
-        ensures value { OnOk result (self.new ≡ record self.old {
-          events = self.old.events ++ option_to_list (event_said (statement_of form words.now));
-        }) }
-        ensures err { IfErr result (RefusesEvent words.now list.now (unwrap_or self.old.slots 0) form) }
-        ensures same { OnErr result (self.new ≡ self.old) }
+    /// Takes the event that a line states, which is not counted, or tells what is wrong with that line.
+    pub(crate) fn take_event(&mut self, event: Result<Event, LineFault>) -> Result<(), Refusal>
+        ensures ok { (list : Medl) (words : Items (Items ℕ)) (form : Keyword) → is_uncounted form ≡ true
+            → ReadsEvent list (unwrap_or self.old.slots 0) words form event
+            → OnOk result (TakesStated list words self.old self.new form) }
+        ensures err { (list : Medl) (words : Items (Items ℕ)) (form : Keyword) → is_uncounted form ≡ true
+            → ReadsEvent list (unwrap_or self.old.slots 0) words form event
+            → IfErr result (RefusesStated list words self.old form) }
+        ensures nodes { (list : Medl) → HasNodes list self.old → HasNodes list self.new }
     {
-        let event = event_in(form, words, list, self.slots.unwrap_or(0))?;
-        self.events.push(event)?;
-        Ok(())
+        match event {
+            Ok(event) => {
+                self.events.push(event)?;
+                Ok(())
+            }
+            Err(fault) => Err(Refusal::Fault(fault)),
+        }
     }
 
-    /// Whether the buffers have room for one message more of a node's host in a slot.
-    pub(crate) fn has_room(&self, list: &Medl, node: u8, slot: u32) -> bool
+    // Whether the buffers have room for one message more of a node's host in a slot.
+    fn has_room(&self, list: &Medl, node: u8, slot: u32) -> bool
         requires { IsValid list.now }
         ensures { result ≡ nat_lt (writes_at self.now.writes node slot + 1) list.now.buffers }
     {
         self.writes.at(node, slot) < list.buffers - 1
     }
 
-    /// Keeps a message of a node's host, in a run of so many slots, and counts it.
-    pub(crate) fn keep(&mut self, message: Message, slots: u32) -> Result<(), Memory>
+    // Keeps a message of a node's host, in a run of so many slots, and counts it.
+    fn keep(&mut self, message: Message, slots: u32) -> Result<(), Memory>
         requires node { message.node < self.old.writes.nodes }
         requires slot { message.slot < slots }
         requires few { writes_at self.old.writes message.node message.slot < 255 }
@@ -176,19 +180,13 @@ impl SoFar {
         Ok(())
     }
 
-    /// Takes a `write` line, which stands after a `slots` line.
-    #[tactic(auto, unfolding(crate::specs::SoFar::write_faults))]
+    /// Takes what a `write` line states.
+    #[tactic(auto, using(crate::proofs::Kept::refused))]
     pub(crate) fn take_write(&mut self, words: &Words, list: &Medl) -> Result<(), Refusal>
         requires valid { IsValid list.now }
         requires nodes { HasNodes list.now self.old }
-        ensures ok { OnOk result (write_faults words.now list.now self.old ≡ []) }
-        ensures value { OnOk result (self.new ≡ record self.old {
-          events = self.old.events ++ option_to_list (event_said (statement_of keyword.Write words.now));
-          writes = self.new.writes;
-        }) }
-        ensures writes { OnOk result
-            (CountsMore self.old.writes self.new.writes (number_at words.now 1) (number_at words.now 2)) }
-        ensures err { IfErr result (RefusesWrite words.now list.now self.old) }
+        ensures ok { OnOk result (TakesStated list.now words.now self.old self.new keyword.Write) }
+        ensures err { IfErr result (RefusesStated list.now words.now self.old keyword.Write) }
         ensures nodes { HasNodes list.now self.new }
     {
         let slots = self.slots.unwrap_or(0);
