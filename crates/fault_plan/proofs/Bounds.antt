@@ -69,9 +69,9 @@ before k slot later e less here = grind arith
 
 has_before : (k slot later : ℕ) (events : List Event) → slot < later
     → list_any (λ e. is_some (jump_in k slot e)) events ≡ true → list_any (is_jump_before k later) events ≡ true
-has_before k slot later [] less has = absurd (both_ways false refl has)
+has_before k slot later [] less has = absurd (both_ways _ refl has)
 has_before k slot later (e ∷ events) less has =
-    elim (or_cases (is_some (jump_in k slot e)) (list_any (λ e. is_some (jump_in k slot e)) events) has) [
+    elim (or_cases _ _ has) [
       | inl here ↦ or_left _ _ (before k slot later e less here)
       | inr there ↦ or_right _ _ (has_before k slot later events less there)
     ]
@@ -106,15 +106,11 @@ bounds-of list script clocks window allowed =
           (omega arith) (omega arith))) less;
       window = window;
       jumps = λ k slot has.
-          (and_parts (is_far_jump list (jump_of script k slot)) (not (has_jumped_before script k slot))
-          (allowed k slot has)).0;
+          (and_parts _ _ (allowed k slot has)).0;
       still = λ k slot none. no_jump-sum script k slot none;
-      once = λ k slot later less has. false_from_ne_true (has_jump script k later) (λ again.
-          let first =
-          (and_parts (is_far_jump list (jump_of script k later)) (not (has_jumped_before script k later))
-          (allowed k later again)).1 in
-          both_ways (has_jumped_before script k later) (not-true _ first)
-          (has_before k slot later script.events less has));
+      once = λ k slot later less has. false_from_ne_true _ (λ again.
+          let first = (and_parts _ _ (allowed k later again)).1 in
+          both_ways _ (not-true _ first) (has_before k slot later script.events less has));
     }
 
 pub within-bounds : (list : Medl) (script : Script) → clocks_broken list script ≡ None → window_broken list ≡ None

@@ -31,12 +31,12 @@ record IsFirstOf (plan : Plan) (slot : ℕ) : Type 0 where
 
 first-is : (plan : Plan) (slot : ℕ) (fate : Fate) → IsTold plan slot (sender plan slot) fate
     → is_shown_in slot fate ≡ true → IsFirstOf plan slot
-first-is plan slot Absent told first = absurd (both_ways false refl first)
-first-is plan slot Sound told first = absurd (both_ways false refl first)
-first-is plan slot (Falling change since) told first = absurd (both_ways false refl first)
-first-is plan slot (Listening since) told first = absurd (both_ways false refl first)
+first-is plan slot Absent told first = absurd (both_ways _ refl first)
+first-is plan slot Sound told first = absurd (both_ways _ refl first)
+first-is plan slot (Falling change since) told first = absurd (both_ways _ refl first)
+first-is plan slot (Listening since) told first = absurd (both_ways _ refl first)
 first-is plan slot (Fallen change since shown) told first =
-    let now : shown ≡ slot = eqb-true shown slot first in
+    let now : shown ≡ slot = eqb-true _ _ first in
     record {
       change = change;
       since = since;
@@ -58,8 +58,7 @@ firsts-apart plan slot later good less near one two =
     elim (cases_eq first.since second.since) [
       | inl same ↦
           let incident : first.loss.incident ≡ second.loss.incident =
-          same_Some first.loss.incident second.loss.incident
-          (sym first.loss.found ∙ ap (incident_at plan) same ∙ second.loss.found) in
+          same_Some _ _ (sym first.loss.found ∙ ap (incident_at plan) same ∙ second.loss.found) in
           let apart =
           turns_apart plan slot later (omega (arith, good.count)) less
           (sym first.loss.node ∙ ap (λ (i : Incident). i.node) incident ∙ second.loss.node) in
@@ -109,7 +108,7 @@ bad-first plan slot k good less none =
     let ledger = ledger_of plan slot k in
     let told = ledger-told plan slot k good less in
     told.bad ∙ count-none (is_first_slot plan) (suc ledger.base) (slot - ledger.base)
-    (λ u above to. false_from_ne_true (is_first_slot plan u) (λ first.
+    (λ u above to. false_from_ne_true _ (λ first.
     let is = first-of plan u good first in
     let far =
     loss-far plan slot ledger.base k is.since is.loss.incident good is.loss.found (told.began none) told.near
@@ -135,10 +134,8 @@ four-measured plan slot from good within is =
     let steady = good.steady slot within in
     let round =
     good-round plan (is_steady_after plan slot) (is_measured plan) slot from is (λ u to near steady.
-    let parts =
-    and_parts (has_node plan.measured (sender plan u)) (is_lasting_after plan slot (sender plan u)) steady in
-    and_from (is_good_slot plan u) (has_node plan.measured (sender plan u))
-    (lasting-before plan u slot (sender plan u) to near parts.1) parts.0) in
+    let parts = and_parts _ _ steady in
+    and_from _ _ (lasting-before plan u slot (sender plan u) to near parts.1) parts.0) in
     omega (arith, steady, round)
 
 one-more : (b : Bool) (n : ℕ) → (if b then 1 else 0) + n ≤ suc n
@@ -175,7 +172,7 @@ steady-lasting : (plan : Plan) (slot : ℕ) → length (steady_nodes plan slot) 
 steady-lasting plan slot =
     let few =
     count-fewer (is_steady_after plan slot) (is_lasting_after plan slot) 0 plan.nodes (λ u above to steady.
-    (and_parts (has_node plan.measured u) (is_lasting_after plan slot u) steady).1) in
+    (and_parts _ _ steady).1) in
     let one = count-below (is_steady_after plan slot) plan.nodes in
     let two = count-below (is_lasting_after plan slot) plan.nodes in
     omega (arith, few, one, two)

@@ -32,10 +32,10 @@ turned-same read false slot fate alike = refl
 -- the fate of a sound node
 pub sound-fate : (fate : Fate) → is_sound fate ≡ true → fate ≡ Sound
 sound-fate Sound sound = refl
-sound-fate Absent sound = absurd (both_ways false refl sound)
-sound-fate (Falling change since) sound = absurd (both_ways false refl sound)
-sound-fate (Fallen change since shown) sound = absurd (both_ways false refl sound)
-sound-fate (Listening since) sound = absurd (both_ways false refl sound)
+sound-fate Absent sound = absurd (both_ways _ refl sound)
+sound-fate (Falling change since) sound = absurd (both_ways _ refl sound)
+sound-fate (Fallen change since shown) sound = absurd (both_ways _ refl sound)
+sound-fate (Listening since) sound = absurd (both_ways _ refl sound)
 
 sound-hit : (hit : Bool) (change : Change) (slot : ℕ) (fate : Fate)
     → is_sound (cond hit (Falling change slot) fate) ≡ (is_sound fate && not hit)
@@ -119,15 +119,12 @@ sound-from plan slot k fate entered sound = by (is_armed_by plan slot k) refl
     by : (armed : Bool) → is_armed_by plan slot k ≡ armed → is_sound fate ≡ true
     by true armed =
         let listens = struck slot k (Listening slot) (incident_at plan slot) in
-        absurd (both_ways (is_sound (struck slot k (Listening slot) (incident_at plan slot)))
-        (sound-struck slot k (Listening slot) (incident_at plan slot))
+        absurd (both_ways _ (sound-struck slot k (Listening slot) (incident_at plan slot))
         (sym (turned-same is_sound (sender plan slot == k) slot listens (λ change since shown. refl))
         ∙ (λ i. is_sound (turned (sender plan slot == k) slot
         (entered_in (sym entered i) (struck slot k (armed_in (sym armed i) slot fate) (incident_at plan slot)))))
         ∙ sound))
-    by false armed =
-        (and_parts (is_sound fate) (not (strikes (incident_at plan slot) k))
-        (sym (sound-next plan slot k fate armed entered) ∙ sound)).0
+    by false armed = (and_parts _ _ (sym (sound-next plan slot k fate armed entered) ∙ sound)).0
 
 pub lost-next : (plan : Plan) (slot k : ℕ) (fate : Fate) → is_armed_by plan slot k ≡ false → enters plan slot k ≡ false
     → is_lost (next_fate plan slot k fate) ≡ (strikes (incident_at plan slot) k || is_lost fate)

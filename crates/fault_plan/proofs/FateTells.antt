@@ -61,7 +61,7 @@ not-yet : (plan : Plan) (r : Return) (slot k : ℕ) → Contains plan.returns r 
     → enters plan slot k ≡ false → slot < plan.slots → slot < r.entered
 not-yet plan r slot k among node to none within = elim (eq-or-lt_of_le to) [
   | inl same ↦
-      absurd (both_ways (enters plan slot k) none
+      absurd (both_ways _ none
       ((λ i. enters plan (same i) (sym node i)) ∙ enters-by plan r among (omega (arith, same, within))))
   | inr less ↦ less
 ]
@@ -96,7 +96,7 @@ told-kept plan slot k true (Falling change since) good none turn told = record {
   loss = told.loss;
   from = (omega (arith, told.from), omega arith);
   soon = told.soon;
-  own = eqb-true (sender plan (suc slot)) k turn;
+  own = eqb-true _ _ turn;
   sending = λ is.
       absurd (told.unshown since (omega arith) told.from (loss-sending plan k since change good told.loss is));
 }
@@ -105,7 +105,7 @@ told-kept plan slot k false (Falling change since) good none turn told =
     let next = next_turn plan since k (omega (arith, good.count)) less in
     let unshown : (t : ℕ) → since ≤ t → t ≤ suc slot → sender plan t ≢ k =
     λ t from to at. elim (eq-or-lt_of_le to) [
-      | inl same ↦ eqb-false (sender plan (suc slot)) k turn (ap (sender plan) (sym same) ∙ at)
+      | inl same ↦ eqb-false _ _ turn (ap (sender plan) (sym same) ∙ at)
       | inr before ↦ told.unshown t from (omega arith) at
     ] in
     let later : suc slot < next.0 = elim (cases_lt (suc slot) next.0) [
@@ -144,7 +144,7 @@ told-lost plan slot k own incident good turn found node =
       loss = loss;
       from = (omega arith, omega arith);
       soon = omega (arith, good.count);
-      own = eqb-true (sender plan (suc slot)) k turn;
+      own = eqb-true _ _ turn;
       sending = λ is. refl;
     }
     by false turn loss = record {
@@ -153,7 +153,7 @@ told-lost plan slot k own incident good turn found node =
       soon = omega (arith, good.count);
       unshown = λ t from to at.
           let same : t ≡ suc slot = omega arith in
-          eqb-false (sender plan (suc slot)) k turn (ap (sender plan) (sym same) ∙ at);
+          eqb-false _ _ turn (ap (sender plan) (sym same) ∙ at);
     }
 
 told-hit : (plan : Plan) (slot k : ℕ) (fate : Fate) (incident : Incident) (hit : Bool) → IsGoodPlan plan
@@ -162,7 +162,7 @@ told-hit : (plan : Plan) (slot k : ℕ) (fate : Fate) (incident : Incident) (hit
     → IsTold plan (suc slot) k
     (turned (sender plan (suc slot) == k) (suc slot) (cond hit (Falling incident.change (suc slot)) fate))
 told-hit plan slot k fate incident true good none found hit told =
-    told-lost plan slot k (sender plan (suc slot) == k) incident good refl found (eqb-true incident.node k hit)
+    told-lost plan slot k (sender plan (suc slot) == k) incident good refl found (eqb-true _ _ hit)
 told-hit plan slot k fate incident false good none found hit told =
     told-kept plan slot k (sender plan (suc slot) == k) fate good none refl told
 
@@ -224,9 +224,9 @@ pub record StaysSince (plan : Plan) (slot k : ℕ) : Type 0 where
 
 stays : (plan : Plan) (slot k : ℕ) (fate : Fate) → IsTold plan slot k fate → may_stay plan.nodes slot fate ≡ true
     → StaysSince plan slot k
-stays plan slot k Absent told may = absurd (both_ways false refl may)
-stays plan slot k Sound told may = absurd (both_ways false refl may)
-stays plan slot k (Listening since) told may = absurd (both_ways false refl may)
+stays plan slot k Absent told may = absurd (both_ways _ refl may)
+stays plan slot k Sound told may = absurd (both_ways _ refl may)
+stays plan slot k (Listening since) told may = absurd (both_ways _ refl may)
 stays plan slot k (Falling change since) told may = record {
   change = change;
   since = since;
@@ -239,15 +239,14 @@ stays plan slot k (Fallen change since shown) told may = record {
   since = since;
   loss = told.loss;
   from = omega (arith, told.from);
-  near = omega (arith, told.soon, ltb-true slot (shown + plan.nodes) may);
+  near = omega (arith, told.soon, ltb-true _ _ may);
 }
 
 -- two losses of one slot are one
 same-loss : (plan : Plan) (j k since : ℕ) (one other : Change) → IsLossOf plan j one since → IsLossOf plan k other since
     → j ≡ k
 same-loss plan j k since one other first second =
-    let same : first.incident ≡ second.incident =
-    same_Some first.incident second.incident (sym first.found ∙ second.found) in
+    let same : first.incident ≡ second.incident = same_Some _ _ (sym first.found ∙ second.found) in
     sym first.node ∙ ap (λ (i : Incident). i.node) same ∙ second.node
 
 pub one-stays : (plan : Plan) (slot j k : ℕ) → IsGoodPlan plan → may_stay plan.nodes slot (fate_of plan slot j) ≡ true
@@ -276,7 +275,7 @@ one-stays plan slot j k good first second =
 pub none-stays : (plan : Plan) (slot k : ℕ) (incident : Incident) → IsGoodPlan plan
     → incident_at plan (suc slot) ≡ Some incident → may_stay plan.nodes slot (fate_of plan slot k) ≡ false
 none-stays plan slot k incident good found =
-    false_from_ne_true (may_stay plan.nodes slot (fate_of plan slot k)) (λ may.
+    false_from_ne_true _ (λ may.
     let one = stays plan slot k (fate_of plan slot k) (fate-told plan slot k good) may in
     let apart =
     good.apart one.since (suc slot) one.loss.incident incident one.loss.found found (omega (arith, one.from)) in
@@ -290,11 +289,11 @@ over-by plan slot k since Absent told is over = refl
 over-by plan slot k since Sound told is over = refl
 over-by plan slot k since (Listening from) told is over = refl
 over-by plan slot k since (Falling change at) told is over =
-    let same : at ≡ since = same_Some at since is in
+    let same : at ≡ since = same_Some _ _ is in
     absurd (omega (arith, told.soon))
 over-by plan slot k since (Fallen change at shown) told is over =
-    let same : at ≡ since = same_Some at since is in
-    le-ltb slot (shown + plan.nodes) (omega (arith, told.soon))
+    let same : at ≡ since = same_Some _ _ is in
+    le-ltb _ _ (omega (arith, told.soon))
 
 pub over : (plan : Plan) (slot k since : ℕ) → IsGoodPlan plan → lost_since (fate_of plan slot k) ≡ Some since
     → since + 2 * plan.nodes ≤ suc slot → may_stay plan.nodes slot (fate_of plan slot k) ≡ false
@@ -329,9 +328,9 @@ armed-fallen plan slot k good is =
   where
     by : (fate : Fate) → fate_of plan slot k ≡ fate → IsTold plan slot k fate → is_lost fate ≡ true
         → WasFallen plan slot k
-    by Absent was told lost = absurd (both_ways false refl lost)
-    by Sound was told lost = absurd (both_ways false refl lost)
-    by (Listening since) was told lost = absurd (both_ways false refl lost)
+    by Absent was told lost = absurd (both_ways _ refl lost)
+    by Sound was told lost = absurd (both_ways _ refl lost)
+    by (Listening since) was told lost = absurd (both_ways _ refl lost)
     by (Falling change since) was told lost =
         let early = loss-early plan slot k since change good told.loss told.from is in
         absurd (omega (arith, early, told.soon))

@@ -28,7 +28,7 @@ use Rattle.ttp_world.proofs.WorldFacts.{has_node-append}
 
 come-later : (slot later : ℕ) (on : Option ℕ) → slot ≤ later → has_come slot on ≡ true → has_come later on ≡ true
 come-later slot later None after on = on
-come-later slot later (Some at) after on = le-leb at later (omega (arith, leb-true at slot on))
+come-later slot later (Some at) after on = le-leb _ _ (omega (arith, leb-true _ _ on))
 
 come-ever : (slot : ℕ) (on : Option ℕ) → has_come slot on ≡ true → is_some on ≡ true
 come-ever slot None on = on
@@ -61,7 +61,7 @@ loss-asked : (list : Medl) (script : Script) (start : ClusterStart) (slot : ℕ)
     → loss_of list script start slot
     ≡ sender_loss list script (fallen_in list script start slot) slot (sender_in list start slot)
 loss-asked list script start slot after =
-    let late : nat_lt slot start.slot ≡ false = le-ltb slot start.slot after in
+    let late : nat_lt slot start.slot ≡ false = le-ltb _ _ after in
     ap (λ b. cond b Harmless
     (sender_loss list script (fallen_in list script start slot) slot (sender_in list start slot))) late
 
@@ -89,16 +89,10 @@ pub untouched : (list : Medl) (script : Script) (start : ClusterStart) (turn slo
     → is_sound_after (plan_of list script start) turn k ≡ true → IsUntouched list script start slot k
 untouched list script start turn slot k run is within less sound =
     let known = fates-known list script start turn slot k run is within less in
-    let parts =
-    and_parts (is_ever_on script k) (not (has_node (faulty_before list script start (suc slot)) k))
-    (sym known.sound ∙ sound) in
-    let clear =
-    or_parts (has_node (made_in list script start slot) k) (has_node (faulty_before list script start slot) k)
-    (sym (faulty-next list script start slot k)
-    ∙ not-true (has_node (faulty_before list script start (suc slot)) k) parts.1) in
+    let parts = and_parts _ _ (sym known.sound ∙ sound) in
+    let clear = or_parts _ _ (sym (faulty-next list script start slot k) ∙ not-true _ parts.1) in
     let made =
-    or_parts (has_node (nodes_made (loss_of list script start slot)) k) (has_node (jumpers list script start slot) k)
-    (sym (has_node-append (nodes_made (loss_of list script start slot)) (jumpers list script start slot) k)
+    or_parts _ _ (sym (has_node-append (nodes_made (loss_of list script start slot)) (jumpers list script start slot) k)
     ∙ clear.0) in
     record {
       ever = parts.0;
@@ -106,8 +100,7 @@ untouched list script start turn slot k run is within less sound =
       jumper = made.1;
       faulty = clear.1;
       fallen = has_node-append (jumpers list script start slot) (faulty_before list script start slot) k
-          ∙ or_from (has_node (jumpers list script start slot) k) (has_node (faulty_before list script start slot) k)
-          made.1 clear.1;
+          ∙ or_from _ _ made.1 clear.1;
     }
 
 -- one that was sound before the slot
@@ -116,9 +109,7 @@ pub sound-before : (list : Medl) (script : Script) (start : ClusterStart) (turn 
     → is_ever_on script k ≡ true → has_node (faulty_before list script start (suc slot)) k ≡ false
     → is_sound_after (plan_of list script start) turn k ≡ true
 sound-before list script start turn slot k run is within less ever none =
-    (fates-known list script start turn slot k run is within less).sound
-    ∙ and_from (is_ever_on script k) (not (has_node (faulty_before list script start (suc slot)) k)) ever
-    (not_from_false (has_node (faulty_before list script start (suc slot)) k) none)
+    (fates-known list script start turn slot k run is within less).sound ∙ and_from _ _ ever (not_from_false _ none)
 
 pub other-untouched : (list : Medl) (script : Script) (start : ClusterStart) (slot k : ℕ)
     → IsSingleFault list script start → start.slot ≤ slot → k < length list.slots → k ≢ sender_in list start slot
@@ -127,18 +118,15 @@ pub other-untouched : (list : Medl) (script : Script) (start : ClusterStart) (sl
 other-untouched list script start slot k run after less other clear =
     let on : is_on script k slot ≡ true = on-since list script start k slot run.on less after clear.ever in
     let stands : has_node (fallen_in list script start slot) k ≡ false = clear.fallen in
-    let off : (k == sender_in list start slot) ≡ false = ne_eqb k (sender_in list start slot) other in
-    and_from (is_on script k slot) _ on
-    (and_from (not (has_node (fallen_in list script start slot) k)) (not (k == sender_in list start slot))
-    (not_from_false (has_node (fallen_in list script start slot) k) stands)
-    (not_from_false (k == sender_in list start slot) off))
+    let off : (k == sender_in list start slot) ≡ false = ne_eqb _ _ other in
+    and_from _ _ on (and_from _ _ (not_from_false _ stands) (not_from_false _ off))
 
 -- The frame of a sound sender.
 
 pub made-itself : (loss : Loss) (k : ℕ) → loss ≡ Makes k → has_node (nodes_made loss) k ≡ false → ⊥
 made-itself loss k is none =
     let same : (k == k) ≡ true = eq-eqb k k refl in
-    both_ways (has_node (nodes_made loss) k) none (ap (λ l. has_node (nodes_made l) k) is ∙ ap (λ b. b || false) same)
+    both_ways _ none (ap (λ l. has_node (nodes_made l) k) is ∙ ap (λ b. b || false) same)
 
 pub heard-by : (list : Medl) (script : Script) (start : ClusterStart) (slot r : ℕ) → IsSingleFault list script start
     → start.slot ≤ slot → slot < script.slots → r < length list.slots → r ≢ sender_in list start slot
@@ -148,7 +136,7 @@ heard-by list script start slot r run after within less other sends hears =
     let e = sender_in list start slot in
     let fallen = fallen_in list script start slot in
     let asked = loss-asked list script start slot after in
-    false_from_ne_true (loses script e slot r) (λ lost.
+    false_from_ne_true _ (λ lost.
     elim (loser-tells list script fallen slot e r sends.ever sends.fallen less
     (other-untouched list script start slot r run after less other hears) lost
     (ap is_breaking (sym asked) ∙ run.whole slot within)) [
@@ -183,10 +171,10 @@ incident-made list script start turn slot incident run is within found =
     let made : incident_made list script start slot (made_in list script start slot) ≡ Some incident =
     sym (incident-slot list script start turn slot run is within) ∙ found in
     elim (makes-slot list script start slot run within) [
-      | inl none ↦ absurd (none-some incident (sym (ap (incident_made list script start slot) none) ∙ made))
+      | inl none ↦ absurd (none-some _ (sym (ap (incident_made list script start slot) none) ∙ made))
       | inr one ↦
           made-is list script start slot one.0 incident one.1.only
-          (same_Some _ incident (sym (ap (incident_made list script start slot) one.1.only) ∙ made))
+          (same_Some _ _ (sym (ap (incident_made list script start slot) one.1.only) ∙ made))
     ]
 
 origin : (loss : Loss) (jumped : List ℕ) (k : ℕ) → nodes_made loss ++ jumped ≡ k ∷ []
@@ -210,9 +198,9 @@ jumper-is list script start slot k is =
     let first : (k < length list.slots) × (passes k ≡ true) =
     (subst (AllByRecursion (λ j. (j < length list.slots) × (passes j ≡ true))) is
     (each-sieve passes (length list.slots))).0 in
-    let on = and_parts (is_on script k slot) (not (has_node faulty k) && has_jump script k slot) first.1 in
-    let rest = and_parts (not (has_node faulty k)) (has_jump script k slot) on.1 in
-    record { less = first.0; on = on.0; was = not-true (has_node faulty k) rest.0; jumps = rest.1 }
+    let on = and_parts _ _ first.1 in
+    let rest = and_parts _ _ on.1 in
+    record { less = first.0; on = on.0; was = not-true _ rest.0; jumps = rest.1 }
 
 -- how it is made faulty
 pub data Origin (list : Medl) (script : Script) (start : ClusterStart) (slot k : ℕ) : Type 0 where
@@ -250,6 +238,5 @@ jumping-is false false is = cc
 pub unless_jumping : (list : Medl) (script : Script) (start : ClusterStart) (slot k : ℕ)
     → has_jump script k slot ≡ false → Origin list script start slot k
     → IsMadeBy list script (fallen_in list script start slot) slot (sender_in list start slot) k
-unless_jumping list script start slot k none (ByJump jumper) =
-    absurd (both_ways (has_jump script k slot) none jumper.jumps)
+unless_jumping list script start slot k none (ByJump jumper) = absurd (both_ways _ none jumper.jumps)
 unless_jumping list script start slot k none (ByLoss made) = made

@@ -37,8 +37,8 @@ found-step : (P : FaultyNode → Type 0) (list : Medl) (script : Script) (start 
 found-step P list script start slot incident f rest true same holds later is = (
   f,
   record {
-    is = sym (same_Some (planned_incident list script start f) incident is);
-    at = eqb-true (f.slot - start.slot) slot same;
+    is = sym (same_Some _ _ is);
+    at = eqb-true _ _ same;
     holds = holds;
   },
 )
@@ -48,7 +48,7 @@ pub found-tells : (P : FaultyNode → Type 0) (list : Medl) (script : Script) (s
     (incident : Incident) (faulty : List FaultyNode) → AllByRecursion P faulty
     → incident_among list script start slot faulty ≡ Some incident
     → (g : FaultyNode) × IsFound P list script start slot incident g
-found-tells P list script start slot incident [] each is = absurd (none-some incident is)
+found-tells P list script start slot incident [] each is = absurd (none-some _ is)
 found-tells P list script start slot incident (f ∷ faulty) each is =
     found-step P list script start slot incident f
     (incident_among list script start slot faulty) (f.slot - start.slot == slot) refl each.0
@@ -78,14 +78,14 @@ late-found list script start gap slot incident faulty spaced is =
 
 passed : (slot turn : ℕ) (incident : Incident) (rest : Option Incident) → turn ≢ slot
     → cond (turn == slot) (Some incident) rest ≡ rest
-passed slot turn incident rest other = let off : (turn == slot) ≡ false = ne_eqb turn slot other in rw off
+passed slot turn incident rest other = let off : (turn == slot) ≡ false = ne_eqb _ _ other in rw off
 
 pub apart-found : (list : Medl) (script : Script) (start : ClusterStart) (gap slot later : ℕ) (first second : Incident)
     (faulty : List FaultyNode) → IsSpaced gap (start.slot + gap) faulty → slot < later
     → incident_among list script start slot faulty ≡ Some first
     → incident_among list script start later faulty ≡ Some second
     → slot + gap ≤ later
-apart-found list script start gap slot later first second [] spaced less is also = absurd (none-some first is)
+apart-found list script start gap slot later first second [] spaced less is also = absurd (none-some _ is)
 apart-found list script start gap slot later first second (f ∷ faulty) spaced less is also =
     let turn = f.slot - start.slot in
     let here = planned_incident list script start f in
@@ -131,7 +131,7 @@ pub some-slot : (list : Medl) (script : Script) (start : ClusterStart) (turn slo
     → incident_among list script start turn (all_in slot made) ≡ incident_made list script start slot made
 some-slot list script start turn slot [] same = refl
 some-slot list script start turn slot (k ∷ made) same =
-    let here : (slot - start.slot == turn) ≡ true = eq-eqb (slot - start.slot) turn same in
+    let here : (slot - start.slot == turn) ≡ true = eq-eqb _ _ same in
     rw here
 
 pub or-none : (found : Option Incident) → option_or found None ≡ found

@@ -61,8 +61,8 @@ apart-all : (k : ℕ) (faulty : List FaultyNode) → has_node (numbers_of faulty
     → AllByRecursion (λ f. has_node (k ∷ []) f.node ≡ false) faulty
 apart-all k [] none = tt
 apart-all k (f ∷ faulty) none =
-    let parts = or_parts (f.node == k) (has_node (numbers_of faulty) k) none in
-    let off : (k == f.node) ≡ false = ne_eqb k f.node (λ same. eqb-false f.node k parts.0 (sym same)) in
+    let parts = or_parts _ _ none in
+    let off : (k == f.node) ≡ false = ne_eqb _ _ (λ same. eqb-false _ _ parts.0 (sym same)) in
     (ap (λ b. b || false) off, apart-all k faulty parts.1)
 
 none-all : (faulty : List FaultyNode) → AllByRecursion (λ f. has_node [] f.node ≡ false) faulty
@@ -223,7 +223,7 @@ single-fault list script slot valid rules =
           let rest =
           enough (has_four_steady list script (faulty_nodes_before list script start start.slot)) _ start.slot
           rules.sync in
-          not-false (has_four_steady list script (faulty_nodes_before list script start (suc t)))
+          not-false _
           (none-found (lacks_steady_after list script start) start.slot (script.slots - start.slot) t rest.1 after
           (omega arith));
     }

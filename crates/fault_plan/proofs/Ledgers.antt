@@ -41,7 +41,7 @@ entered-told : (plan : Plan) (slot k : ℕ) → IsGoodPlan plan → enters plan 
 entered-told plan slot k good is = record {
   within = omega arith;
   near = omega (arith, good.count);
-  owned = λ own. absurd (both_ways false refl own);
+  owned = λ own. absurd (both_ways _ refl own);
   began = λ _. inr is;
   newest = λ turn within at. within;
   seen = none-counted (is_good_slot plan) slot;
@@ -88,22 +88,22 @@ next-told : (plan : Plan) (slot k : ℕ) (ledger : Ledger) (own entered : Bool) 
     (cond entered (opened false (suc slot))
     (with_slot (is_good_slot plan (suc slot)) (is_first_slot plan (suc slot)) ledger)))
 next-told plan slot k ledger true entered good less turn enter told =
-    opened-told plan (suc slot) k good (eqb-true (sender plan (suc slot)) k turn)
+    opened-told plan (suc slot) k good (eqb-true _ _ turn)
 next-told plan slot k ledger false true good less turn enter told = entered-told plan (suc slot) k good enter
 next-told plan slot k ledger false false good less turn enter told =
-    kept-told plan slot k ledger good less (eqb-false (sender plan (suc slot)) k turn) told
+    kept-told plan slot k ledger good less (eqb-false _ _ turn) told
 
 first-told : (plan : Plan) (k : ℕ) (own : Bool) → IsGoodPlan plan → (sender plan 0 == k) ≡ own
     → IsLedgerOf plan 0 k (opened own 0)
-first-told plan k true good turn = opened-told plan 0 k good (eqb-true (sender plan 0) k turn)
+first-told plan k true good turn = opened-told plan 0 k good (eqb-true _ _ turn)
 first-told plan k false good turn = record {
   within = omega arith;
   near = omega (arith, good.count);
-  owned = λ own. absurd (both_ways false refl own);
+  owned = λ own. absurd (both_ways _ refl own);
   began = λ _. inl refl;
   newest = λ turn' within at.
       let none : turn' ≡ 0 = omega arith in
-      absurd (eqb-false (sender plan 0) k turn (ap (sender plan) (sym none) ∙ at));
+      absurd (eqb-false _ _ turn (ap (sender plan) (sym none) ∙ at));
   seen = none-counted (is_good_slot plan) 0;
   bad = none-counted (is_first_slot plan) 0;
 }

@@ -21,7 +21,7 @@ member-step P x r rest true same holds later has = subst P (eqb-true x r same) h
 member-step P x r rest false other holds later has = later has
 
 pub each-member : (P : ℕ → Type 0) (xs : List ℕ) (r : ℕ) → AllByRecursion P xs → has_node xs r ≡ true → P r
-each-member P [] r each has = absurd (both_ways false refl has)
+each-member P [] r each has = absurd (both_ways _ refl has)
 each-member P (x ∷ xs) r each has =
     member-step P x r (has_node xs r) (x == r) refl each.0 (λ later. each-member P xs r each.1 later) has
 
@@ -49,7 +49,7 @@ same-node k j is = cc
 
 one-lost : (sender k r : ℕ) (others : List ℕ) (b : Bool) → (length others == 1) ≡ b
     → (if b then Makes sender else Makes r) ≡ Makes k → ((k ≡ sender) × (length others ≡ 1)) ⊎ (r ≡ k)
-one-lost sender k r others true single is = inl (same-node sender k is, eqb-true (length others) 1 single)
+one-lost sender k r others true single is = inl (same-node sender k is, eqb-true _ _ single)
 one-lost sender k r others false more is = inr (sym (same-node r k is))
 
 more-lost : (sender k n m : ℕ) (b : Bool) → (n == m) ≡ b → (if b then Makes sender else Breaks) ≡ Makes k
@@ -82,7 +82,7 @@ lost-more sender false whole = absurd (both_ways true whole refl)
 pub lost-tells : (sender r : ℕ) (others lost : List ℕ) → has_node lost r ≡ true
     → is_breaking (loss_among sender others lost) ≡ false
     → (loss_among sender others lost ≡ Makes sender) ⊎ (loss_among sender others lost ≡ Makes r)
-lost-tells sender r others [] has whole = absurd (both_ways false refl has)
+lost-tells sender r others [] has whole = absurd (both_ways _ refl has)
 lost-tells sender r others (q ∷ []) has whole = lost-one sender r q (length others == 1) (one-member q r has)
 lost-tells sender r others (q ∷ p ∷ lost) has whole =
     inl (lost-more sender (length others == length (q ∷ p ∷ lost)) whole)
@@ -109,16 +109,14 @@ made-by list script fallen slot sender k is =
     let asked =
     asked-by (not (is_ever_on script sender) || has_node fallen sender) k (receivers_loss script sender slot others)
     is in
-    let sound = or_parts (not (is_ever_on script sender)) (has_node fallen sender) asked.0 in
+    let sound = or_parts _ _ asked.0 in
     record {
-      on = not-false (is_ever_on script sender) sound.0;
+      on = not-false _ sound.0;
       sound = sound.1;
       how = elim (makes-tells sender k others (filter (loses script sender slot) others) asked.1) [
         | inl all ↦ inl (all.0, all-pass (loses script sender slot) others all.1)
         | inr one ↦
-            let parts =
-            and_parts (loses script sender slot k) (has_node others k)
-            (sym (has_node-filter (loses script sender slot) others k) ∙ one) in
+            let parts = and_parts _ _ (sym (has_node-filter (loses script sender slot) others k) ∙ one) in
             let other =
             each-member (λ r. (r < length list.slots) × (is_other script fallen sender slot r ≡ true)) others k
             (each-sieve (is_other script fallen sender slot) (length list.slots)) parts.1 in
@@ -141,8 +139,7 @@ loser-tells list script fallen slot sender r on sound less other lost whole =
     let among : has_node others r ≡ true =
     has_node-sieve (is_other script fallen sender slot) (length list.slots) r less ∙ other in
     let losing : has_node (filter (loses script sender slot) others) r ≡ true =
-    has_node-filter (loses script sender slot) others r
-    ∙ and_from (loses script sender slot r) (has_node others r) lost among in
+    has_node-filter (loses script sender slot) others r ∙ and_from _ _ lost among in
     elim (lost-tells sender r others (filter (loses script sender slot) others) losing
     (ap is_breaking (sym is) ∙ whole)) [
       | inl all ↦ inl (is ∙ all)

@@ -61,7 +61,7 @@ members-other : (plan : Plan) (slot k : ℕ) → k < 24 → sender plan (suc slo
 members-other plan slot k small other = by (is_good_slot plan (suc slot))
   where
     off : (k == sender plan (suc slot)) ≡ false
-    off = ne_eqb k (sender plan (suc slot)) (λ same. other (sym same))
+    off = ne_eqb _ _ (λ same. other (sym same))
 
     by : (good : Bool)
         → has_node
@@ -80,7 +80,7 @@ members-own : (plan : Plan) (slot k : ℕ) → k < 24 → sender plan (suc slot)
 members-own plan slot k small own = by (is_good_slot plan (suc slot)) refl
   where
     on : (k == sender plan (suc slot)) ≡ true
-    on = eq-eqb k (sender plan (suc slot)) (sym own)
+    on = eq-eqb _ _ (sym own)
 
     by : (good : Bool) → is_good_slot plan (suc slot) ≡ good
         → has_node
@@ -136,15 +136,14 @@ own-after : (plan : Plan) (slot k : ℕ) → sender plan (suc slot) ≡ k → (l
 own-after plan slot k own =
     let other = with_slot (is_good_slot plan (suc slot)) (is_first_slot plan (suc slot)) (ledger_of plan slot k) in
     ap (λ b. (cond b (opened true (suc slot)) (cond (enters plan (suc slot) k) (opened false (suc slot)) other)).own)
-    (eq-eqb (sender plan (suc slot)) k own)
+    (eq-eqb _ _ own)
 
 other-after : (plan : Plan) (slot k : ℕ) (entered : Bool) → sender plan (suc slot) ≢ k
     → enters plan (suc slot) k ≡ entered
     → (ledger_of plan (suc slot) k).own ≡ cond entered false (ledger_of plan slot k).own
 other-after plan slot k entered other is =
     let ledger = with_slot (is_good_slot plan (suc slot)) (is_first_slot plan (suc slot)) (ledger_of plan slot k) in
-    (λ i. (cond (ne_eqb (sender plan (suc slot)) k other i) (opened true (suc slot))
-    (cond (is i) (opened false (suc slot)) ledger)).own)
+    (λ i. (cond (ne_eqb _ _ other i) (opened true (suc slot)) (cond (is i) (opened false (suc slot)) ledger)).own)
     ∙ by entered
   where
     by : (b : Bool)
@@ -170,7 +169,7 @@ member-other plan slot k false false good small other arms none by =
     let member = has_node (planned_members plan slot) k in
     let own = (ledger_of plan slot k).own in
     subst (IsMember plan (suc slot) k) (sym (next-same plan (suc slot) k (fate_of plan slot k) arms none
-    ∙ ap (λ b. turned b (suc slot) fate) (ne_eqb (sender plan (suc slot)) k other)))
+    ∙ ap (λ b. turned b (suc slot) fate) (ne_eqb _ _ other)))
     (by-same (has_node (planned_members plan (suc slot)) k) member (ledger_of plan (suc slot) k).own own fate
     (members-other plan slot k small other) (other-after plan slot k false other none)
     (by-struck member own (suc slot) k (fate_of plan slot k) (incident_at plan (suc slot)) by))
@@ -214,8 +213,7 @@ sender-then plan k zero good loss = absurd (omega (arith, loss.late, good.count)
 sender-then plan k (suc since) good loss =
     let by = (good.losses since loss.incident loss.found).receiving loss.how in
     let missed : strikes (incident_at plan (suc since)) (sender plan (suc since)) ≡ false =
-    ap (λ found. strikes found (sender plan (suc since))) loss.found
-    ∙ ne_eqb loss.incident.node (sender plan (suc since)) (λ same. by.0 (sym same)) in
+    ap (λ found. strikes found (sender plan (suc since))) loss.found ∙ ne_eqb _ _ (λ same. by.0 (sym same)) in
     sound-on plan since (sender plan (suc since)) good by.1 missed
 
 -- it had its slot then, so that it owns one: neither did it begin since, nor did it enter

@@ -50,17 +50,14 @@ sound-earlier plan slot later k none within sound =
 pub lasting-before : (plan : Plan) (slot later k : ℕ) → slot ≤ later → later < slot + plan.nodes
     → is_lasting_after plan later k ≡ true → is_sound_after plan slot k ≡ true
 lasting-before plan slot later k within near lasting =
-    let parts = and_parts (is_sound_after plan later k) (not (is_new_after plan later k)) lasting in
-    sound-before plan slot later k within parts.0 (λ turn after to. false_from_ne_true (enters plan turn k) (λ is.
+    let parts = and_parts _ _ lasting in
+    sound-before plan slot later k within parts.0 (λ turn after to. false_from_ne_true _ (λ is.
     let found = entry-is plan turn k is in
     let r = found.return in
     let at : r.entered ≡ turn = found.entered in
-    both_ways (is_new_after plan later k) (not-true (is_new_after plan later k) parts.1)
-    (of-any (is_entry_near plan.nodes later k) plan.returns r found.among
-    (and_from (r.node == k) (nat_le r.entered later && nat_lt later (r.entered + plan.nodes))
-    (eq-eqb r.node k found.node) (and_from (nat_le r.entered later) (nat_lt later (r.entered + plan.nodes))
-    (le-leb r.entered later (omega (arith, at, to)))
-    (lt-ltb later (r.entered + plan.nodes) (omega (arith, at, after, near))))))))
+    both_ways _ (not-true _ parts.1) (of-any (is_entry_near plan.nodes later k) plan.returns r found.among (and_from _ _
+    (eq-eqb _ _ found.node) (and_from _ _ (le-leb r.entered later (omega (arith, at, to)))
+    (lt-ltb _ _ (omega (arith, at, after, near))))))))
 
 -- A node is absent always or never.
 
@@ -83,7 +80,7 @@ absent-hit : (plan : Plan) (slot k : ℕ) (incident : Incident) (hit : Bool) →
     → is_absent (cond hit (Falling incident.change (suc slot)) (fate_of plan slot k)) ≡ is_absent (fate_of plan slot k)
 absent-hit plan slot k incident true good found hit =
     sym (sound-present (fate_of plan slot k)
-    (ap (is_sound_after plan slot) (sym (eqb-true incident.node k hit)) ∙ (good.losses slot incident found).was))
+    (ap (is_sound_after plan slot) (sym (eqb-true _ _ hit)) ∙ (good.losses slot incident found).was))
 absent-hit plan slot k incident false good found hit = refl
 
 absent-struck : (plan : Plan) (slot k : ℕ) (found : Option Incident) → IsGoodPlan plan
@@ -147,8 +144,8 @@ sound-first plan k good =
 -- a sound node is not armed
 pub sound-unarmed : (plan : Plan) (slot k : ℕ) → IsGoodPlan plan → is_sound_after plan slot k ≡ true
     → is_armed_by plan (suc slot) k ≡ false
-sound-unarmed plan slot k good sound = false_from_ne_true (is_armed_by plan (suc slot) k) (λ arms.
-    both_ways (is_sound_after plan slot k) (lost-unsound (fate_of plan slot k) (armed-lost plan slot k good arms)) sound)
+sound-unarmed plan slot k good sound = false_from_ne_true _ (λ arms.
+    both_ways _ (lost-unsound (fate_of plan slot k) (armed-lost plan slot k good arms)) sound)
 
 -- a sound node that no incident strikes stays so
 pub sound-on : (plan : Plan) (slot k : ℕ) → IsGoodPlan plan → is_sound_after plan slot k ≡ true
@@ -159,8 +156,7 @@ sound-on plan slot k good sound missed = by (enters plan (suc slot) k) refl
     by true enter = ap is_sound (next-entered plan (suc slot) k (fate_of plan slot k) enter)
     by false none =
         sound-next plan (suc slot) k (fate_of plan slot k) (sound-unarmed plan slot k good sound) none
-        ∙ and_from (is_sound_after plan slot k) (not (strikes (incident_at plan (suc slot)) k)) sound
-        (not_from_false (strikes (incident_at plan (suc slot)) k) missed)
+        ∙ and_from _ _ sound (not_from_false _ missed)
 
 pub sound-through : (plan : Plan) (slot later k : ℕ) → IsGoodPlan plan → slot ≤ later
     → is_sound_after plan slot k ≡ true → ((turn : ℕ) → slot < turn → turn ≤ later → incident_at plan turn ≡ None)

@@ -14,14 +14,14 @@ use Rattle.fault_plan.specs.Places.{planned_place}
 next-mod : (n a : ℕ) (last : Bool) → 0 < n → (suc (a % n) == n) ≡ last → suc a % n ≡ cond last 0 (suc (a % n))
 next-mod n a true some last =
     let whole : a % n + (a / n) * n ≡ a = mod-add-div' a n in
-    let round : suc (a % n) ≡ n = eqb-true (suc (a % n)) n last in
+    let round : suc (a % n) ≡ n = eqb-true _ _ last in
     let more : (a / n + 1) * n ≡ (a / n) * n + n = omega arith in
     let next : suc a ≡ (a / n + 1) * n + 0 = omega arith in
     ap (λ t. t % n) next ∙ mod-mul-add (a / n + 1) n 0 some
 next-mod n a false some inside =
     let whole : a % n + (a / n) * n ≡ a = mod-add-div' a n in
     let less : a % n < n = mod-lt a some in
-    let other = eqb-false (suc (a % n)) n inside in
+    let other = eqb-false _ _ inside in
     let next : suc a ≡ (a / n) * n + suc (a % n) = omega arith in
     let fits : suc (a % n) < n = lt-of-ne (suc (a % n)) n (omega arith) other in
     ap (λ t. t % n) next ∙ mod-mul-add (a / n) n (suc (a % n)) fits

@@ -47,40 +47,38 @@ pub armed-is : (plan : Plan) (slot k : ℕ) → is_armed_by plan slot k ≡ true
 armed-is plan slot k is =
     let found = any-of (is_armed_there slot k) plan.returns is in
     let r = found.0 in
-    let parts = and_parts (r.armed == slot) (r.node == k) found.1.1 in
+    let parts = and_parts _ _ found.1.1 in
     record {
       return = found.0;
       among = found.1.0;
-      armed = eqb-true r.armed slot parts.0;
-      node = eqb-true r.node k parts.1;
+      armed = eqb-true _ _ parts.0;
+      node = eqb-true _ _ parts.1;
     }
 
 pub entry-is : (plan : Plan) (slot k : ℕ) → enters plan slot k ≡ true → IsEntry plan slot k
 entry-is plan slot k is =
-    let whole = and_parts (list_any (enters_there slot k) plan.returns) (nat_lt slot plan.slots) is in
+    let whole = and_parts _ _ is in
     let found = any-of (enters_there slot k) plan.returns whole.0 in
     let r = found.0 in
-    let parts = and_parts (r.entered == slot) (r.node == k) found.1.1 in
+    let parts = and_parts _ _ found.1.1 in
     record {
       return = found.0;
       among = found.1.0;
-      entered = eqb-true r.entered slot parts.0;
-      node = eqb-true r.node k parts.1;
-      within = ltb-true slot plan.slots whole.1;
+      entered = eqb-true _ _ parts.0;
+      node = eqb-true _ _ parts.1;
+      within = ltb-true _ _ whole.1;
     }
 
 pub enters-by : (plan : Plan) (r : Return) → Contains plan.returns r → r.entered < plan.slots
     → enters plan r.entered r.node ≡ true
 enters-by plan r among within =
-    and_from (list_any (enters_there r.entered r.node) plan.returns) (nat_lt r.entered plan.slots)
-    (of-any (enters_there r.entered r.node) plan.returns r among
-    (and_from (r.entered == r.entered) (r.node == r.node) (eq-eqb r.entered r.entered refl)
-    (eq-eqb r.node r.node refl))) (lt-ltb r.entered plan.slots within)
+    and_from _ _ (of-any (enters_there r.entered r.node) plan.returns r among
+    (and_from _ _ (eq-eqb r.entered r.entered refl) (eq-eqb r.node r.node refl))) (lt-ltb _ _ within)
 
 pub armed-by : (plan : Plan) (r : Return) → Contains plan.returns r → is_armed_by plan r.armed r.node ≡ true
 armed-by plan r among =
     of-any (is_armed_there r.armed r.node) plan.returns r among
-    (and_from (r.armed == r.armed) (r.node == r.node) (eq-eqb r.armed r.armed refl) (eq-eqb r.node r.node refl))
+    (and_from _ _ (eq-eqb r.armed r.armed refl) (eq-eqb r.node r.node refl))
 
 -- Where nothing returns, nothing is armed and nothing enters.
 
@@ -125,8 +123,7 @@ deaf-always plan zero k none = listens-next plan 0 k (fate_at_begin plan k) none
 deaf-always plan (suc slot) k none = listens-next plan (suc slot) k (fate_of plan slot k) none (deaf-always plan slot k none)
 
 pub never-listens : (plan : Plan) (slot k since : ℕ) → plan.returns ≡ [] → fate_of plan slot k ≡ Listening since → ⊥
-never-listens plan slot k since none is =
-    both_ways (is_listening (fate_of plan slot k)) (deaf-always plan slot k none) (ap is_listening is)
+never-listens plan slot k since none is = both_ways _ (deaf-always plan slot k none) (ap is_listening is)
 
 -- Of a good plan.
 
@@ -211,14 +208,14 @@ armed-lost plan slot k good is =
 
 -- nothing returns in the first slot
 pub armed-late : (plan : Plan) (k : ℕ) → IsGoodPlan plan → is_armed_by plan 0 k ≡ false
-armed-late plan k good = false_from_ne_true (is_armed_by plan 0 k) (λ is.
+armed-late plan k good = false_from_ne_true _ (λ is.
     let found = armed-is plan 0 k is in
     let next = (good.returns found.return found.among).was.1.0 in
     let at = found.armed in
     omega (arith, at, next))
 
 pub enters-late : (plan : Plan) (k : ℕ) → IsGoodPlan plan → enters plan 0 k ≡ false
-enters-late plan k good = false_from_ne_true (enters plan 0 k) (λ is.
+enters-late plan k good = false_from_ne_true _ (λ is.
     let found = entry-is plan 0 k is in
     let of_r = good.returns found.return found.among in
     let next = of_r.was.1.0 in
@@ -231,7 +228,7 @@ enters-late plan k good = false_from_ne_true (enters plan 0 k) (λ is.
 -- it enters in no other slot in between
 enters-not : (plan : Plan) (r : Return) (slot : ℕ) → IsGoodPlan plan → Contains plan.returns r → r.armed ≤ slot
     → slot < r.entered → enters plan slot r.node ≡ false
-enters-not plan r slot good among from to = false_from_ne_true (enters plan slot r.node) (λ is.
+enters-not plan r slot good among from to = false_from_ne_true _ (λ is.
     elim (entry-beside plan r slot r.node good among is) [
       | Itself same ↦ omega (arith, same)
       | Before early ↦ omega (arith, early, from, good.count)
@@ -240,7 +237,7 @@ enters-not plan r slot good among from to = false_from_ne_true (enters plan slot
 
 armed-not : (plan : Plan) (r : Return) (slot : ℕ) → IsGoodPlan plan → Contains plan.returns r → r.armed < slot
     → slot < r.entered → is_armed_by plan slot r.node ≡ false
-armed-not plan r slot good among from to = false_from_ne_true (is_armed_by plan slot r.node) (λ is.
+armed-not plan r slot good among from to = false_from_ne_true _ (λ is.
     elim (armed-beside plan r slot r.node good among is) [
       | Itself same ↦ omega (arith, same, from)
       | Before early ↦ omega (arith, early, from, good.count)

@@ -29,11 +29,9 @@ untouched-made : (list : Medl) (script : Script) (start : ClusterStart) (slot k 
     → made_in list script start slot ≡ k ∷ [] → IsUntouched list script start slot r → k ≢ r
 untouched-made list script start slot k r only clear same =
     let none : has_node (made_in list script start slot) r ≡ false =
-    has_node-append (nodes_made (loss_of list script start slot)) (jumpers list script start slot) r
-    ∙ or_from (has_node (nodes_made (loss_of list script start slot)) r)
-    (has_node (jumpers list script start slot) r) clear.made clear.jumper in
-    both_ways (has_node (made_in list script start slot) r) none
-    (ap (λ ks. has_node ks r) only ∙ ap (λ b. b || false) (eq-eqb k r same))
+    has_node-append (nodes_made (loss_of list script start slot)) (jumpers list script start slot) r ∙ or_from _
+    _ clear.made clear.jumper in
+    both_ways _ none (ap (λ ks. has_node ks r) only ∙ ap (λ b. b || false) (eq-eqb k r same))
 
 unheard-by : (list : Medl) (script : Script) (start : ClusterStart) (slot k r : ℕ) → IsSingleFault list script start
     → start.slot ≤ slot → r < length list.slots → sender_in list start slot ≡ k
@@ -51,16 +49,16 @@ unheard-by list script start slot k r run after less own only made clear =
           each-member (λ j. loses script e slot j ≡ true) (others_in list script fallen e slot) r all.1
           (has_node-sieve (is_other script fallen e slot) (length list.slots) r less ∙ other)
       | inr one ↦
-          let rest = and_parts (is_on script k slot) (not (has_node fallen k) && not (k == e)) one.1 in
-          let apart = and_parts (not (has_node fallen k)) (not (k == e)) rest.1 in
-          absurd (eqb-false k e (not-true (k == e) apart.1) (sym own))
+          let rest = and_parts _ _ one.1 in
+          let apart = and_parts _ _ rest.1 in
+          absurd (eqb-false k e (not-true _ apart.1) (sym own))
     ]
 
 deaf-by : (list : Medl) (script : Script) (start : ClusterStart) (slot k : ℕ) → (sender_in list start slot == k) ≡ false
     → IsMadeBy list script (fallen_in list script start slot) slot (sender_in list start slot) k
     → loses script (sender_in list start slot) slot k ≡ true
 deaf-by list script start slot k other made = elim made.how [
-  | inl all ↦ absurd (eqb-false (sender_in list start slot) k other (sym all.0))
+  | inl all ↦ absurd (eqb-false _ _ other (sym all.0))
   | inr one ↦ one.2
 ]
 
@@ -71,11 +69,8 @@ still-by list script start slot r run after less clear =
     let on : is_on script r slot ≡ true = on-since list script start r slot run.on less after clear.ever in
     let none : jumps_now script faulty slot r ≡ false =
     sym (has_node-sieve (jumps_now script faulty slot) (length list.slots) r less) ∙ clear.jumper in
-    false_from_ne_true (has_jump script r slot) (λ jumps.
-    both_ways (jumps_now script faulty slot r) none
-    (and_from (is_on script r slot) (not (has_node faulty r) && has_jump script r slot) on
-    (and_from (not (has_node faulty r)) (has_jump script r slot)
-    (not_from_false (has_node faulty r) clear.faulty) jumps)))
+    false_from_ne_true _ (λ jumps.
+    both_ways _ none (and_from _ _ on (and_from _ _ (not_from_false _ clear.faulty) jumps)))
 
 pub heard-slot : (list : Medl) (script : Script) (start : ClusterStart) (turn : ℕ) → IsSingleFault list script start
     → start.slot + turn < script.slots → IsHeardByPlan script start (plan_of list script start) turn
@@ -104,8 +99,7 @@ heard-slot list script start turn run within =
           sending-is (has_jump script incident.node slot) (sender_in list start slot == incident.node)
           (sym only.change ∙ sending) in
           subst (λ e. loses script e slot r ≡ true) same
-          (unheard-by list script start slot incident.node r run after less
-          (eqb-true (sender_in list start slot) incident.node parts.1) only.only
+          (unheard-by list script start slot incident.node r run after less (eqb-true _ _ parts.1) only.only
           (unless_jumping list script start slot incident.node parts.0
           (origin-of list script start slot incident.node after only.only)) (clear r less sound));
       deaf = λ incident found receiving.
@@ -135,7 +129,7 @@ pub record WasSound (list : Medl) (script : Script) (start : ClusterStart) (slot
 fallen-none : (list : Medl) (script : Script) (start : ClusterStart) (slot k : ℕ)
     → has_node (fallen_in list script start slot) k ≡ false → has_node (faulty_before list script start slot) k ≡ false
 fallen-none list script start slot k none =
-    (or_parts (has_node (jumpers list script start slot) k) (has_node (faulty_before list script start slot) k)
+    (or_parts _ _
     (sym (has_node-append (jumpers list script start slot) (faulty_before list script start slot) k) ∙ none)).1
 
 pub was-sound : (list : Medl) (script : Script) (start : ClusterStart) (slot k : ℕ) → IsSingleFault list script start
@@ -154,12 +148,12 @@ was-sound list script start slot k run (ByLoss made) = elim made.how [
   | inr one ↦
       let fallen = fallen_in list script start slot in
       let e = sender_in list start slot in
-      let parts = and_parts (is_on script k slot) (not (has_node fallen k) && not (k == e)) one.1 in
-      let rest = and_parts (not (has_node fallen k)) (not (k == e)) parts.1 in
+      let parts = and_parts _ _ one.1 in
+      let rest = and_parts _ _ parts.1 in
       record {
         less = one.0;
         ever = on-ever script k slot parts.0;
-        none = fallen-none list script start slot k (not-true (has_node fallen k) rest.0);
+        none = fallen-none list script start slot k (not-true _ rest.0);
       }
 ]
 

@@ -26,15 +26,14 @@ pub quiet-while : (plan : Plan) (slot k : ℕ) → IsGoodPlan plan → may_stay 
     → incident_at plan (suc slot) ≡ None
 quiet-while plan slot k good may =
     never-found (incident_at plan (suc slot)) (λ incident found.
-    both_ways (may_stay plan.nodes slot (fate_of plan slot k)) (none-stays plan slot k incident good found) may)
+    both_ways _ (none-stays plan slot k incident good found) may)
 
 -- The incident of another node than the sender.
 
 other-struck : (plan : Plan) (slot k : ℕ) (incident : Incident) → strikes (incident_at plan slot) k ≡ false
     → incident_at plan slot ≡ Some incident → incident.node ≢ k
 other-struck plan slot k incident missed found same =
-    both_ways (strikes (incident_at plan slot) k) missed
-    (ap (λ found. strikes found k) found ∙ eq-eqb incident.node k same)
+    both_ways _ missed (ap (λ found. strikes found k) found ∙ eq-eqb _ _ same)
 
 jumping-left : (change : Change) → change ≢ Sending → change ≢ Receiving → change ≡ Jumping
 jumping-left Sending silent deaf = absurd (silent refl)
@@ -54,7 +53,7 @@ idle-told plan slot good missed was left =
           let loss = good.losses slot incident found in
           let other = other-struck plan (suc slot) e incident missed found in (
             jumping-left incident.change (λ is. other (sym (loss.sending is)))
-                (λ is. both_ways (is_sound_after plan slot e) was (loss.receiving is).1),
+                (λ is. both_ways _ was (loss.receiving is).1),
             other,
           );
     }
@@ -75,21 +74,21 @@ good-told plan slot good missed was =
 -- Kinds of a fallen node's slots.
 
 kind-lost : (nodes slot shown : ℕ) (change : Change) → kind_if_lost nodes slot change slot shown ≡ Lost change
-kind-lost nodes slot shown change = let same : (slot == slot) ≡ true = eq-eqb slot slot refl in rw same
+kind-lost nodes slot shown change = let same : (slot == slot) ≡ true = eq-eqb _ _ refl in rw same
 
 kind-shown : (nodes slot since : ℕ) (change : Change) → since ≢ slot
     → kind_if_lost nodes slot change since slot ≡ Shown change since
 kind-shown nodes slot since change other =
-    let off : (since == slot) ≡ false = ne_eqb since slot other in
-    let same : (slot == slot) ≡ true = eq-eqb slot slot refl in
+    let off : (since == slot) ≡ false = ne_eqb _ _ other in
+    let same : (slot == slot) ≡ true = eq-eqb _ _ refl in
     rw (off, same)
 
 kind-later : (nodes slot since shown : ℕ) (change : Change) (last : Bool) → since ≢ slot → shown ≢ slot
     → (shown + nodes == slot) ≡ last
     → kind_if_lost nodes slot change since shown ≡ cond last (Last change since shown) Idle
 kind-later nodes slot since shown change last other apart is =
-    let off : (since == slot) ≡ false = ne_eqb since slot other in
-    let past : (shown == slot) ≡ false = ne_eqb shown slot apart in
+    let off : (since == slot) ≡ false = ne_eqb _ _ other in
+    let past : (shown == slot) ≡ false = ne_eqb _ _ apart in
     rw (off, past, is)
 
 -- The slot of a node that is not lost in it.
@@ -100,17 +99,16 @@ fallen-told : (plan : Plan) (slot since shown : ℕ) (change : Change) (last : B
     → (shown + plan.nodes == suc slot) ≡ last → IsKindAfter plan slot (cond last (Last change since shown) Idle)
 fallen-told plan slot since shown change true good missed is past last =
     let e = sender plan (suc slot) in
-    let round : shown + plan.nodes ≡ suc slot = eqb-true (shown + plan.nodes) (suc slot) last in
+    let round : shown + plan.nodes ≡ suc slot = eqb-true _ _ last in
     record {
       was = is;
       round = round;
       quiet = quiet-while plan slot e good
-          (ap (may_stay plan.nodes slot) is ∙ lt-ltb slot (shown + plan.nodes) (omega arith));
+          (ap (may_stay plan.nodes slot) is ∙ lt-ltb _ _ (omega arith));
     }
 fallen-told plan slot since shown change false good missed is past last =
-    let other : shown + plan.nodes ≢ suc slot = eqb-false (shown + plan.nodes) (suc slot) last in
-    idle-told plan slot good missed (ap is_sound is)
-    (ap (may_stay plan.nodes slot) is ∙ le-ltb slot (shown + plan.nodes) (omega arith))
+    let other : shown + plan.nodes ≢ suc slot = eqb-false _ _ last in
+    idle-told plan slot good missed (ap is_sound is) (ap (may_stay plan.nodes slot) is ∙ le-ltb _ _ (omega arith))
 
 missed-told : (plan : Plan) (slot : ℕ) (fate : Fate) → IsGoodPlan plan
     → strikes (incident_at plan (suc slot)) (sender plan (suc slot)) ≡ false
@@ -153,7 +151,7 @@ struck-told plan slot fate None hit good at strike is told =
 struck-told plan slot fate (Some incident) true good at strike is told =
     let e = sender plan (suc slot) in
     let loss = good.losses slot incident at in
-    let node : incident.node ≡ e = eqb-true incident.node e strike in
+    let node : incident.node ≡ e = eqb-true _ _ strike in
     let lost : IsLostAfter plan slot incident.change =
     record {
       was = ap (is_sound_after plan slot) (sym node) ∙ loss.was;
@@ -178,14 +176,12 @@ armed-told plan slot good arms =
       was = ap is_sound fallen.was;
       left = over plan slot e fallen.since good (ap lost_since fallen.was) fallen.early;
       jumps = λ incident found.
-          absurd (none-some incident (sym (armed-quiet plan (suc slot) e good arms) ∙ found));
+          absurd (none-some _ (sym (armed-quiet plan (suc slot) e good arms) ∙ found));
     }
 
 -- no node enters in its own slot
 pub sender-stays : (plan : Plan) (slot : ℕ) → IsGoodPlan plan → enters plan slot (sender plan slot) ≡ false
-sender-stays plan slot good =
-    false_from_ne_true (enters plan slot (sender plan slot))
-    (λ is. (entry-good plan slot (sender plan slot) good is).1 refl)
+sender-stays plan slot good = false_from_ne_true _ (λ is. (entry-good plan slot (sender plan slot) good is).1 refl)
 
 pub kind-told : (plan : Plan) (slot : ℕ) → IsGoodPlan plan → IsKindAfter plan slot (slot_kind plan (suc slot))
 kind-told plan slot good = by (is_armed_by plan (suc slot) (sender plan (suc slot))) refl
@@ -249,8 +245,8 @@ first-by plan slot k (Falling change since) told = refl
 first-by plan slot k (Listening since) told = refl
 first-by plan slot k (Fallen change since shown) told =
     fallen-first (since == slot) (shown == slot) (shown + plan.nodes == slot) change since shown (λ now.
-    let same : since ≡ slot = eqb-true since slot now in
-    eq-eqb shown slot (omega (arith, told.from.0, told.from.1)))
+    let same : since ≡ slot = eqb-true _ _ now in
+    eq-eqb _ _ (omega (arith, told.from.0, told.from.1)))
 
 pub first-kind : (plan : Plan) (slot : ℕ) → IsGoodPlan plan
     → is_first_slot plan slot ≡ is_first_kind (slot_kind plan slot)
@@ -266,14 +262,13 @@ only-good : (plan : Plan) (slot k : ℕ) (kind : SlotKind) → IsGoodPlan plan
 only-good plan slot k Idle good may other told = inr refl
 only-good plan slot k Good good may other told = inl refl
 only-good plan slot k (Lost change) good may other told =
-    absurd (none-some told.incident (sym (quiet-while plan slot k good may) ∙ told.found))
+    absurd (none-some _ (sym (quiet-while plan slot k good may) ∙ told.found))
 only-good plan slot k (Shown change since) good may other told =
     let e = sender plan (suc slot) in
     absurd (other (one-stays plan slot e k good (ap (may_stay plan.nodes slot) told.was) may))
 only-good plan slot k (Last change since shown) good may other told =
     let e = sender plan (suc slot) in
-    let stays : nat_lt slot (shown + plan.nodes) ≡ true =
-    lt-ltb slot (shown + plan.nodes) (omega (arith, told.round)) in
+    let stays : nat_lt slot (shown + plan.nodes) ≡ true = lt-ltb _ _ (omega (arith, told.round)) in
     absurd (other (one-stays plan slot e k good (ap (may_stay plan.nodes slot) told.was ∙ stays) may))
 
 pub others-good : (plan : Plan) (slot k : ℕ) → IsGoodPlan plan → may_stay plan.nodes slot (fate_of plan slot k) ≡ true

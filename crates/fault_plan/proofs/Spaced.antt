@@ -28,11 +28,11 @@ last-late : (gap earliest x : ℕ) (xs : List ℕ) → first_too_early gap earli
     → (first_too_early gap earliest xs ≡ None) × (earliest ≤ x) × AllByRecursion (λ y. y + gap ≤ x) xs
 last-late gap earliest x [] none =
     let parts = not-early (nat_lt x earliest) x None none in
-    (refl, ltb-false x earliest parts.0, tt)
+    (refl, ltb-false _ _ parts.0, tt)
 last-late gap earliest x (y ∷ ys) none =
     let parts = not-early (nat_lt y earliest) y (first_too_early gap (y + gap) (ys ++ x ∷ [])) none in
     let rest = last-late gap (y + gap) x ys parts.1 in
-    let from : earliest ≤ y = ltb-false y earliest parts.0 in
+    let from : earliest ≤ y = ltb-false _ _ parts.0 in
     let here : nat_lt y earliest ≡ false = parts.0 in
     (rw here rest.0, omega (arith, from, rest.1), (rest.1, rest.2))
 

@@ -17,7 +17,7 @@ one_if b = if b then 1 else 0
 
 one-fewer : (b c : Bool) → (b ≡ true → c ≡ true) → one_if b ≤ one_if c
 one-fewer true true tells = omega arith
-one-fewer true false tells = absurd (both_ways false refl (tells refl))
+one-fewer true false tells = absurd (both_ways _ refl (tells refl))
 one-fewer false c tells = omega arith
 
 -- Where one test passes only with another, it passes no more often.
@@ -56,7 +56,7 @@ pub count-one : (p : ℕ → Bool) (from many : ℕ)
 count-one p from zero never = omega arith
 count-one p from (suc many) never =
     count-step p from many (p (from + many)) refl (λ last. count-none p from many
-    (λ u above to. false_from_ne_true (p u) (λ here. never u (from + many) above to (omega arith) here last)))
+    (λ u above to. false_from_ne_true _ (λ here. never u (from + many) above to (omega arith) here last)))
     (count-one p from many (λ u v above less to. never u v above less (omega arith)))
 
 -- The slots of a round, wherever it begins.
