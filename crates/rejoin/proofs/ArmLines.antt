@@ -28,8 +28,8 @@ armed-valid list script k slot valid armed =
 
 same-slot : (start at turn : ℕ) → (at - start == suc turn) ≡ (at == start + suc turn)
 same-slot start at turn = elim (cases_eq at (start + suc turn)) [
-  | inl same ↦ eq-eqb (at - start) (suc turn) (omega arith) ∙ sym (eq-eqb at (start + suc turn) same)
-  | inr other ↦ ne_eqb (at - start) (suc turn) (λ is. other (omega arith)) ∙ sym (ne_eqb at (start + suc turn) other)
+  | inl same ↦ eq-eqb _ _ (omega arith) ∙ sym (eq-eqb _ _ same)
+  | inr other ↦ ne_eqb _ _ (λ is. other (omega arith)) ∙ sym (ne_eqb _ _ other)
 ]
 
 swapped : (b c : Bool) → (b && c) ≡ (c && b)
@@ -99,7 +99,7 @@ lines-of : (list : Medl) (script : Script) (start : ClusterStart) (events : List
 lines-of list script start [] = tt
 lines-of list script start (event.Arm node at ∷ events) =
     let here : ((node == node) && (at == at)) ≡ true =
-    and_from (node == node) (at == at) (eq-eqb node node refl) (eq-eqb at at refl) in (
+    and_from _ _ (eq-eqb _ _ refl) (eq-eqb at at refl) in (
       record { arm = at; armed = ap (λ b. b || list_any (arms node at) events) here; is = refl },
       lines-later list script start (event.Arm node at) events (returns_in list script start events)
           (lines-of list script start events),
@@ -141,7 +141,7 @@ return-of list script start r among =
 line-among : (list : Medl) (script : Script) (start : ClusterStart) (k arm : ℕ) (events : List Event)
     → list_any (arms k arm) events ≡ true
     → Contains (returns_in list script start events) (return_at list script start k arm)
-line-among list script start k arm [] has = absurd (both_ways false refl has)
+line-among list script start k arm [] has = absurd (both_ways _ refl has)
 line-among list script start k arm (event.Arm node at ∷ events) has =
     by ((node == k) && (at == arm)) refl has (line-among list script start k arm events)
   where
@@ -151,9 +151,9 @@ line-among list script start k arm (event.Arm node at ∷ events) has =
         → Contains (return_at list script start node at ∷ returns_in list script start events)
         (return_at list script start k arm)
     by true is found rest =
-        let parts = and_parts (node == k) (at == arm) is in
-        let node_is : node ≡ k = eqb-true node k parts.0 in
-        let slot_is : at ≡ arm = eqb-true at arm parts.1 in
+        let parts = and_parts _ _ is in
+        let node_is : node ≡ k = eqb-true _ _ parts.0 in
+        let slot_is : at ≡ arm = eqb-true _ _ parts.1 in
         (0, omega arith, λ i. return_at list script start (node_is i) (slot_is i))
     by false is found rest = let older = rest found in (suc older.0, omega (arith, older.1), older.2)
 line-among list script start k arm (event.Send node channels f from to ∷ events) has =

@@ -33,11 +33,11 @@ pub record IsArmedIn (list : Medl) (script : Script) (start : ClusterStart) (k a
 pub armed-in : (list : Medl) (script : Script) (start : ClusterStart) (k arm : ℕ) → IsBackRun list script start
     → k < length list.slots → arm < script.slots → is_armed script k arm ≡ true → IsArmedIn list script start k arm
 armed-in list script start k arm run less within armed =
-    let one = and_parts (is_long_faulty list script start k arm) _ (run.armed k arm less within armed) in
-    let two = and_parts (is_apart list script start arm) _ one.1 in
-    let three = and_parts (is_only_arm list script arm) _ two.1 in
-    let four = and_parts (is_left_alone list script k arm) _ three.1 in
-    let five = and_parts (is_heard list script start k arm) (is_offered list script start k arm) four.1 in
+    let one = and_parts _ _ (run.armed k arm less within armed) in
+    let two = and_parts _ _ one.1 in
+    let three = and_parts _ _ two.1 in
+    let four = and_parts _ _ three.1 in
+    let five = and_parts _ _ four.1 in
     record {
       less = less;
       within = within;
@@ -45,7 +45,7 @@ armed-in list script start k arm run less within armed =
       long = one.0;
       apart = two.0;
       only = three.0;
-      alone = not-true (list_any (is_line_of list k arm) script.events) four.0;
+      alone = not-true _ four.0;
       heard = five.0;
       offered = five.1;
     }
@@ -54,7 +54,7 @@ armed-in list script start k arm run less within armed =
 
 contained-has : (fs : List FaultyNode) (k : ℕ) → list_any (λ f. f.node == k) fs ≡ true
     → has_node (numbers_of fs) k ≡ true
-contained-has [] k has = absurd (both_ways false refl has)
+contained-has [] k has = absurd (both_ways _ refl has)
 contained-has (f ∷ fs) k has = by (f.node == k) has (contained-has fs k)
   where
     by : (b : Bool) → (b || list_any (λ f. f.node == k) fs) ≡ true
@@ -93,14 +93,11 @@ pub arm-quiet : (list : Medl) (script : Script) (start : ClusterStart) (k arm sl
     → slot < arm + four_rounds list → made list script start slot ≡ []
 arm-quiet list script start k arm slot is within from to =
     let test : FaultyNode → Bool = λ f. is_near_fault list arm f.slot in
-    let none = any-none test (joinings (slots_before list script start script.slots))
-    (not-true (list_any test (joinings (slots_before list script start script.slots))) is.apart) in
-    let near : is_near_fault list arm slot ≡ true =
-    and_from (nat_lt arm (slot + two_rounds list)) (nat_lt slot (arm + four_rounds list))
-    (lt-ltb arm (slot + two_rounds list) from) (lt-ltb slot (arm + four_rounds list) to) in
+    let none = any-none test (joinings (slots_before list script start script.slots)) (not-true _ is.apart) in
+    let near : is_near_fault list arm slot ≡ true = and_from _ _ (lt-ltb _ _ from) (lt-ltb _ _ to) in
     nobody (λ f. is_near_fault list arm f.slot ≡ false) slot (made list script start slot)
     (joined-at (λ f. is_near_fault list arm f.slot ≡ false) list script start script.slots slot within none)
-    (λ j far. both_ways (is_near_fault list arm slot) far near)
+    (λ j far. both_ways _ far near)
 
 -- Another arm line is far.
 
@@ -112,7 +109,7 @@ arm-only list script start k arm j other is armed from to =
     let found =
     one-of-both (is_arm_line list arm) (arms k arm) (arms j other) script.events
     (λ e. arm-near list k arm arm e (omega arith) (omega arith)) (λ e. arm-near list j arm other e from to)
-    (eqb-true (count_by (is_arm_line list arm) script.events) 1 is.only) is.armed armed in
+    (eqb-true _ _ is.only) is.armed armed in
     same-arm k j arm other found.0 found.1.0 found.1.1
 
 -- It stays faulty for four rounds.
@@ -127,9 +124,8 @@ unforgiven list script start k arm slot run is from to =
       | inl early ↦ forgiven-early list script start slot k some early
       | inr late ↦
           let then = slot - four_rounds list in
-          forgiven-late list script start slot then k some (omega (arith, late))
-          ∙ and_right (has_node (at list script start then) k) (is_armed script k then)
-          (false_from_ne_true (is_armed script k then) (λ armed.
+          forgiven-late list script start slot then k some (omega (arith, late)) ∙ and_right _ _
+          (false_from_ne_true _ (λ armed.
           let older = armed-in list script start k then run is.less (omega (arith, is.within)) armed in
           let same =
           arm-only list script start k then k arm older is.armed (omega (arith, late)) (omega (arith, late)) in
@@ -146,8 +142,6 @@ arm-stays list script start k arm (suc gone) zero run is now soon = absurd (omeg
 arm-stays list script start k arm (suc gone) (suc slot) run is now soon =
     let before = arm-stays list script start k arm gone slot run is (omega arith) (omega arith) in
     let was : has_node (after list script start slot) k ≡ true =
-    after-has list script start slot k
-    ∙ or_right (has_node (made list script start slot) k) (has_node (at list script start slot) k) before in
-    at-next list script start slot k ∙ and_from (has_node (after list script start slot) k)
-    (not (is_forgiven list script (slots_before list script start (suc slot)) (suc slot) k)) was
+    after-has list script start slot k ∙ or_right _ _ before in
+    at-next list script start slot k ∙ and_from _ _ was
     (ap not (unforgiven list script start k arm (suc slot) run is (omega arith) (omega arith)))

@@ -57,22 +57,21 @@ clear-sound list script start turn slot k run now within less ever none =
     by : Standing list script start slot k (fate_of (back_plan_of list script start) turn k)
         → is_sound_after (back_plan_of list script start) turn k ≡ true
     by (Clear clear is) = ap is_sound is
-    by (LostSince since lost) = absurd (both_ways (has_node (after list script start slot) k) none lost.has)
+    by (LostSince since lost) = absurd (both_ways _ none lost.has)
     by (ArmedSince arm armed) =
         let stays =
         arm-stays list script start k arm (slot - arm) slot run armed.is (omega (arith, armed.from))
         (omega (arith, armed.from, armed.to)) in
-        absurd (both_ways (has_node (after list script start slot) k) none (after-has list script start slot k
-        ∙ or_right (has_node (made list script start slot) k) (has_node (at list script start slot) k) stays))
+        absurd (both_ways _ none (after-has list script start slot k ∙ or_right _ _ stays))
 
 -- Returns.
 
 since-lost : (fate : Fate) (since : ℕ) → lost_since fate ≡ Some since → is_lost fate ≡ true
-since-lost Absent since is = absurd (none-some since is)
-since-lost Sound since is = absurd (none-some since is)
+since-lost Absent since is = absurd (none-some _ is)
+since-lost Sound since is = absurd (none-some _ is)
 since-lost (Falling change from) since is = refl
 since-lost (Fallen change from shown) since is = refl
-since-lost (Listening from) since is = absurd (none-some since is)
+since-lost (Listening from) since is = absurd (none-some _ is)
 
 -- a node is lost before the slot in which it is armed
 armed-was : (list : Medl) (script : Script) (start : ClusterStart) (turn slot k : ℕ) → IsBackRun list script start
@@ -87,14 +86,11 @@ armed-was list script start turn slot k run now is =
 
     kept : (has_node (after list script start slot) k ≡ true)
         × (not (is_forgiven list script (slots_before list script start (suc slot)) (suc slot) k) ≡ true)
-    kept =
-        and_parts (has_node (after list script start slot) k)
-        (not (is_forgiven list script (slots_before list script start (suc slot)) (suc slot) k))
-        (sym (at-next list script start slot k) ∙ has)
+    kept = and_parts _ _ (sym (at-next list script start slot k) ∙ has)
 
     by : Standing list script start slot k (fate_of (back_plan_of list script start) turn k)
         → is_lost (fate_of (back_plan_of list script start) turn k) ≡ true
-    by (Clear none sound) = absurd (both_ways (has_node (after list script start slot) k) none kept.0)
+    by (Clear none sound) = absurd (both_ways _ none kept.0)
     by (LostSince since lost) =
         since-lost (fate_of (back_plan_of list script start) turn k) (since - start.slot) lost.fate_is
     by (ArmedSince arm armed) = elim (cases_lt (suc slot) (arm + four_rounds list)) [
@@ -104,10 +100,8 @@ armed-was list script start turn slot k run now is =
       | inr over ↦
           let forgiven =
           forgiven-late list script start (suc slot) arm k (omega (arith, run.valid.count))
-          (omega (arith, over, armed.to)) ∙ and_from (has_node (at list script start arm) k) (is_armed script k arm)
-          (arm-faulty list script start k arm armed.is) armed.is.armed in
-          absurd (both_ways (is_forgiven list script (slots_before list script start (suc slot)) (suc slot) k)
-          (not-true (is_forgiven list script (slots_before list script start (suc slot)) (suc slot) k) kept.1) forgiven)
+          (omega (arith, over, armed.to)) ∙ and_from _ _ (arm-faulty list script start k arm armed.is) armed.is.armed in
+          absurd (both_ways _ (not-true _ kept.1) forgiven)
     ]
 
 -- the slot in which it enters is good
@@ -121,23 +115,19 @@ entry-good list script start turn slot k arm run is now within enters =
     let entry = entry-of list script start k arm is in
     let offers : offers_place list script start k slot ≡ true =
     ap (offers_place list script start k) (sym enters) ∙ entry.offered (omega (arith, enters, within)) in
-    let parts =
-    and_parts (not (e == k))
-    (is_sound_of script faulty slot e && carries_place (kind_at list (round_of list start slot) e)) offers in
-    let sounds =
-    and_parts (is_sound_of script faulty slot e) (carries_place (kind_at list (round_of list start slot) e)) parts.1 in
-    let clear = and_parts (is_on script e slot) (not (has_node faulty e)) sounds.0 in
+    let parts = and_parts _ _ offers in
+    let sounds = and_parts _ _ parts.1 in
+    let clear = and_parts _ _ sounds.0 in
     let same = sender-same list script start turn slot now in
     let quiet =
     arm-quiet list script start k arm slot is within (omega (arith, enters, entry.from, run.valid.count))
     (omega (arith, enters, entry.to, run.valid.count)) in
     let none : has_node (after list script start slot) e ≡ false =
-    after-has list script start slot e
-    ∙ ap (λ ks. has_node ks e || has_node faulty e) quiet ∙ not-true (has_node faulty e) clear.1 in (
+    after-has list script start slot e ∙ ap (λ ks. has_node ks e || has_node faulty e) quiet ∙ not-true _ clear.1 in (
       ap (is_sound_after (back_plan_of list script start) turn) (sym same)
           ∙ clear-sound list script start turn slot e run now within (sender-less list script start slot run)
           (on-ever script e slot clear.0) none,
-      λ at. eqb-false e k (not-true (e == k) parts.0) (same ∙ at),
+      λ at. eqb-false e k (not-true _ parts.0) (same ∙ at),
     )
 
 same-return : (list : Medl) (script : Script) (start : ClusterStart) (q r : Return)
@@ -197,8 +187,7 @@ back-return list script start r run among =
           | inr early ↦ inl (omega (arith, armed_is, early))
           | inl near ↦ elim (cases_lt (start.slot + slot) (arm + four_rounds list)) [
             | inl soon ↦
-                absurd (both_ways (has_node (made list script start (start.slot + slot)) incident.node)
-                (ap (λ ks. has_node ks incident.node)
+                absurd (both_ways _ (ap (λ ks. has_node ks incident.node)
                 (arm-quiet list script start r.node arm (start.slot + slot) is within near soon)) only.has)
             | inr far ↦
                 let soon = entry.soon (omega (arith, entry.to, within, far, run.valid.count)) in
@@ -255,7 +244,7 @@ filter-more p q a (suc n) gives =
         → length (cond b (a ∷ filter p (range_with_len (a + 1) n)) (filter p (range_with_len (a + 1) n)))
         ≤ length (cond c (a ∷ filter q (range_with_len (a + 1) n)) (filter q (range_with_len (a + 1) n)))
     by true true here there rest = omega arith
-    by true false here there rest = absurd (both_ways (q a) there (gives a (omega arith) (omega arith) here))
+    by true false here there rest = absurd (both_ways _ there (gives a (omega arith) (omega arith) here))
     by false true here there rest = omega arith
     by false false here there rest = rest
 
@@ -295,14 +284,12 @@ steady-is : (list : Medl) (script : Script) (start : ClusterStart) (turn slot k 
 steady-is list script start turn slot k run now within less steady =
     let plan = back_plan_of list script start in
     let gone = after list script start slot in
-    let parts = and_parts (plan_at list k).sync (is_ever_on script k && not (has_node gone k)) steady in
-    let rest = and_parts (is_ever_on script k) (not (has_node gone k)) parts.1 in
-    let none = not-true (has_node gone k) rest.1 in
-    and_from (has_node plan.measured k) (is_sound_after plan turn k && not (is_new_after plan turn k))
-    (has_node-sieve (λ k. (plan_at list k).sync) (length list.slots) k less ∙ parts.0)
-    (and_from (is_sound_after plan turn k) (not (is_new_after plan turn k))
+    let parts = and_parts _ _ steady in
+    let rest = and_parts _ _ parts.1 in
+    let none = not-true _ rest.1 in
+    and_from _ _ (has_node-sieve (λ k. (plan_at list k).sync) (length list.slots) k less ∙ parts.0) (and_from _ _
     (clear-sound list script start turn slot k run now within less rest.0 none)
-    (not_from_false (is_new_after plan turn k) (old-enough list script start turn slot k run now none)))
+    (not_from_false _ (old-enough list script start turn slot k run now none)))
 
 -- All of it.
 

@@ -42,10 +42,8 @@ pub other-clear : (list : Medl) (script : Script) (start : ClusterStart) (slot k
 other-clear list script start slot k run from less other clear =
     let away = fallen list script start slot in
     let e = expected_sender list start slot in
-    and_from (is_on script k slot) (not (has_node away k) && not (k == e))
-    (on-now list script start slot k run from less clear.ever)
-    (and_from (not (has_node away k)) (not (k == e)) (not_from_false (has_node away k) clear.fallen)
-    (not_from_false (k == e) (ne_eqb k e other)))
+    and_from _ _ (on-now list script start slot k run from less clear.ever)
+    (and_from _ _ (not_from_false _ clear.fallen) (not_from_false _ (ne_eqb k e other)))
 
 -- a clear node that loses a clear node's frame makes one of the two faulty
 pub clear-loses : (list : Medl) (script : Script) (start : ClusterStart) (slot r : ℕ) → IsBackRun list script start
@@ -56,7 +54,7 @@ clear-loses list script start slot r run from within less other sends hears =
     let e = expected_sender list start slot in
     let away = fallen list script start slot in
     let asked = loss-asked list script start slot from in
-    false_from_ne_true (loses script e slot r) (λ lost.
+    false_from_ne_true _ (λ lost.
     elim (loser-tells list script away slot e r sends.ever sends.fallen less
     (other-clear list script start slot r run from less other hears) lost
     (ap is_breaking (sym asked) ∙ run.whole slot within)) [
@@ -86,7 +84,7 @@ filter-one p a (suc n) e only =
     by true here rest =
         let same = only a (omega arith) (omega arith) here in
         let none =
-        filter-none p (a + 1) n (λ k from to. false_from_ne_true (p k) (λ passes.
+        filter-none p (a + 1) n (λ k from to. false_from_ne_true _ (λ passes.
         let is = only k (omega arith) (omega arith) passes in
         omega arith)) in
         omega (arith, none)
@@ -106,15 +104,13 @@ another-of p n e some = by (find other (below n)) refl
         let fails = none-found (λ k. p k && not (k == e)) 0 n k none from to in
         elim (cases_eq k e) [
           | inl same ↦ same
-          | inr differs ↦
-              absurd (both_ways (p k && not (k == e)) fails
-              (and_from (p k) (not (k == e)) passes (not_from_false (k == e) (ne_eqb k e differs))))
+          | inr differs ↦ absurd (both_ways _ fails (and_from _ _ passes (not_from_false _ (ne_eqb k e differs))))
         ]) in
         absurd (omega (arith, some, few))
     by (Some q) found =
         let first = first-found (λ k. p k && not (k == e)) 0 n q found in
-        let parts = and_parts (p q) (not (q == e)) first.passes in
-        (q, (omega (arith, first.to), (parts.0, eqb-false q e (not-true (q == e) parts.1))))
+        let parts = and_parts _ _ first.passes in
+        (q, (omega (arith, first.to), (parts.0, eqb-false q e (not-true _ parts.1))))
 
 another-clear : (list : Medl) (script : Script) (start : ClusterStart) (slot e : ℕ) → IsBackRun list script start
     → start.slot ≤ slot → slot < script.slots
@@ -122,12 +118,12 @@ another-clear : (list : Medl) (script : Script) (start : ClusterStart) (slot e :
 another-clear list script start slot e run from within =
     let gone = after list script start slot in
     let four : 4 ≤ length (filter (is_steady list script gone) (nodes_of list)) =
-    leb-true 4 (length (filter (is_steady list script gone) (nodes_of list))) (run.steady slot from within) in
+    leb-true _ _ (run.steady slot from within) in
     let found = another-of (is_steady list script gone) (length list.slots) e (omega (arith, four)) in
     let q = found.0 in
-    let parts = and_parts (plan_at list q).sync (is_ever_on script q && not (has_node gone q)) found.1.1.0 in
-    let rest = and_parts (is_ever_on script q) (not (has_node gone q)) parts.1 in
-    (q, (found.1.0, (clear-after list script start slot q rest.0 (not-true (has_node gone q) rest.1), found.1.1.1)))
+    let parts = and_parts _ _ found.1.1.0 in
+    let rest = and_parts _ _ parts.1 in
+    (q, (found.1.0, (clear-after list script start slot q rest.0 (not-true _ rest.1), found.1.1.1)))
 
 -- Frames near an arm line.
 
@@ -135,12 +131,9 @@ covered-parts : (script : Script) (e r slot : ℕ) (c : Channel) → is_covered 
     → has_receive_fault script fault.Silence r c slot ≡ false → has_receive_fault script fault.Noise r c slot ≡ false
     → (has_send_fault script fault.Silence e c slot || has_send_fault script fault.Noise e c slot) ≡ true
 covered-parts script e r slot c is silent noisy =
-    elim (or_cases (has_send_fault script fault.Silence e c slot || has_send_fault script fault.Noise e c slot)
-    (has_receive_fault script fault.Silence r c slot || has_receive_fault script fault.Noise r c slot) is) [
+    elim (or_cases _ _ is) [
       | inl sends ↦ sends
-      | inr hears ↦
-          absurd (both_ways _ (or_from (has_receive_fault script fault.Silence r c slot)
-          (has_receive_fault script fault.Noise r c slot) silent noisy) hears)
+      | inr hears ↦ absurd (both_ways _ (or_from _ _ silent noisy) hears)
     ]
 
 -- a node near its arm line hears what a clear node sends, since else all others would lose it
@@ -152,27 +145,22 @@ near-hears list script start slot r run from within small sends near =
     let e = expected_sender list start slot in
     let alone : (kind : Fault) (c : Channel) → has_receive_fault script kind r c slot ≡ false =
     λ kind c. alone-hears list script kind r near.arm slot c near.from near.to near.is.alone in
-    false_from_ne_true (loses script e slot r) (λ lost.
-    let both = and_parts (is_covered script e r slot channel.A) (is_covered script e r slot channel.B) lost in
+    false_from_ne_true _ (λ lost.
+    let both = and_parts _ _ lost in
     let a =
     covered-parts script e r slot channel.A both.0 (alone fault.Silence channel.A) (alone fault.Noise channel.A) in
     let b =
     covered-parts script e r slot channel.B both.1 (alone fault.Silence channel.B) (alone fault.Noise channel.B) in
     let q = another-clear list script start slot e run from within in
-    both_ways (loses script e slot q.0)
-    (clear-loses list script start slot q.0 run from within q.1.0 q.1.1.1 sends q.1.1.0)
-    (and_from (is_covered script e q.0 slot channel.A) (is_covered script e q.0 slot channel.B)
+    both_ways _ (clear-loses list script start slot q.0 run from within q.1.0 q.1.1.1 sends q.1.1.0) (and_from _ _
     (or_left _ _ a) (or_left _ _ b)))
 
 receiver-covered : (script : Script) (e r slot : ℕ) (c : Channel) → is_covered script e r slot c ≡ true
     → has_send_fault script fault.Silence e c slot ≡ false → has_send_fault script fault.Noise e c slot ≡ false
     → is_deaf_on script r slot c ≡ true
 receiver-covered script e r slot c is silent noisy =
-    elim (or_cases (has_send_fault script fault.Silence e c slot || has_send_fault script fault.Noise e c slot)
-    (has_receive_fault script fault.Silence r c slot || has_receive_fault script fault.Noise r c slot) is) [
-      | inl sends ↦
-          absurd (both_ways _ (or_from (has_send_fault script fault.Silence e c slot)
-          (has_send_fault script fault.Noise e c slot) silent noisy) sends)
+    elim (or_cases _ _ is) [
+      | inl sends ↦ absurd (both_ways _ (or_from _ _ silent noisy) sends)
       | inr hears ↦ hears
     ]
 
@@ -181,7 +169,7 @@ none-range : (p : ℕ → Bool) (a n slot : ℕ) → list_any p (range_with_len 
     → p slot ≡ false
 none-range p a zero slot none from to = absurd (omega arith)
 none-range p a (suc n) slot none from to =
-    let parts = or_parts (p a) (list_any p (range_with_len (a + 1) n)) none in
+    let parts = or_parts _ _ none in
     elim (cases_eq a slot) [
       | inl same ↦ ap p (sym same) ∙ parts.0
       | inr other ↦ none-range p (a + 1) n slot parts.1 (omega arith) (omega arith)
@@ -204,28 +192,25 @@ near-heard list script start slot r run from within less near hears =
     λ kind c. alone-sends list script kind e near.arm slot c near.from near.to near.is.alone in
     let missed : is_missed_in list script start e slot ≡ false =
     listed (is_missed_in list script start e) near.arm slot (four_rounds list) script.slots near.from near.to within
-    (not-true (list_any (is_missed_in list script start e) (run_slots script near.arm (four_rounds list)))
-    near.is.heard) in
+    (not-true _ near.is.heard) in
     let deaf : list_any (is_deaf script faulty slot) (nodes_of list) ≡ false =
     second (expected_sender list start slot == e) (list_any (is_deaf script faulty slot) (nodes_of list)) missed
-    (eq-eqb (expected_sender list start slot) e refl) in
+    (eq-eqb _ _ refl) in
     let here = none-below (is_deaf script faulty slot) (length list.slots) r deaf less in
     let sound : is_sound script faulty slot r ≡ true =
-    and_from (is_on script r slot) (not (has_node faulty r)) (on-now list script start slot r run from less hears.ever)
-    (not_from_false (has_node faulty r) hears.was) in
+    and_from _ _ (on-now list script start slot r run from less hears.ever) (not_from_false _ hears.was) in
     let hearing : (is_deaf_on script r slot channel.A && is_deaf_on script r slot channel.B) ≡ false =
     second (is_sound script faulty slot r) (is_deaf_on script r slot channel.A && is_deaf_on script r slot channel.B)
     here sound in
-    false_from_ne_true (loses script e slot r) (λ lost.
-    let both = and_parts (is_covered script e r slot channel.A) (is_covered script e r slot channel.B) lost in
-    both_ways (is_deaf_on script r slot channel.A && is_deaf_on script r slot channel.B) hearing
-    (and_from (is_deaf_on script r slot channel.A) (is_deaf_on script r slot channel.B)
+    false_from_ne_true _ (λ lost.
+    let both = and_parts _ _ lost in
+    both_ways _ hearing (and_from _ _
     (receiver-covered script e r slot channel.A both.0 (alone fault.Silence channel.A) (alone fault.Noise channel.A))
     (receiver-covered script e r slot channel.B both.1 (alone fault.Silence channel.B) (alone fault.Noise channel.B))))
   where
     second : (b c : Bool) → (b && c) ≡ false → b ≡ true → c ≡ false
     second true c none is = none
-    second false c none is = absurd (both_ways false refl is)
+    second false c none is = absurd (both_ways _ refl is)
 
 -- two of them are one
 pub near-same : (list : Medl) (script : Script) (start : ClusterStart) (slot j k : ℕ)

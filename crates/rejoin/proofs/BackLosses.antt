@@ -29,7 +29,7 @@ pub loss-asked : (list : Medl) (script : Script) (start : ClusterStart) (slot : 
     → loss_of list script start slot
     ≡ sender_loss list script (fallen list script start slot) slot (expected_sender list start slot)
 loss-asked list script start slot from =
-    let late : nat_lt slot start.slot ≡ false = le-ltb slot start.slot from in
+    let late : nat_lt slot start.slot ≡ false = le-ltb _ _ from in
     ap (λ b. cond b Harmless
     (sender_loss list script (fallen list script start slot) slot (expected_sender list start slot))) late
 
@@ -48,9 +48,9 @@ jumper-is list script start slot k has =
     let found =
     each-member (λ j. (j < length list.slots) × (passes j ≡ true)) (jumpers list script start slot) k
     (each-sieve passes (length list.slots)) has in
-    let on = and_parts (is_on script k slot) (not (has_node faulty k) && has_jump script k slot) found.1 in
-    let rest = and_parts (not (has_node faulty k)) (has_jump script k slot) on.1 in
-    record { less = found.0; on = on.0; was = not-true (has_node faulty k) rest.0; jumps = rest.1 }
+    let on = and_parts _ _ found.1 in
+    let rest = and_parts _ _ on.1 in
+    record { less = found.0; on = on.0; was = not-true _ rest.0; jumps = rest.1 }
 
 -- how a node is made faulty
 pub data Origin (list : Medl) (script : Script) (start : ClusterStart) (slot k : ℕ) : Type 0 where
@@ -59,26 +59,25 @@ pub data Origin (list : Medl) (script : Script) (start : ClusterStart) (slot k :
       → (is : loss_of list script start slot ≡ Makes k) → Origin list script start slot k
 
 made-makes : (loss : Loss) (k : ℕ) → has_node (nodes_made loss) k ≡ true → loss ≡ Makes k
-made-makes Harmless k has = absurd (both_ways false refl has)
+made-makes Harmless k has = absurd (both_ways _ refl has)
 made-makes (Makes j) k has = by (j == k) refl has
   where
     by : (b : Bool) → (j == k) ≡ b → (b || false) ≡ true → Makes j ≡ Makes k
     by true same is = ap Makes (eqb-true j k same)
-    by false same is = absurd (both_ways false refl is)
-made-makes Breaks k has = absurd (both_ways false refl has)
+    by false same is = absurd (both_ways _ refl is)
+made-makes Breaks k has = absurd (both_ways _ refl has)
 
 early-harmless : (list : Medl) (script : Script) (start : ClusterStart) (slot : ℕ) → slot < start.slot
     → loss_of list script start slot ≡ Harmless
 early-harmless list script start slot early =
-    let before : nat_lt slot start.slot ≡ true = lt-ltb slot start.slot early in
+    let before : nat_lt slot start.slot ≡ true = lt-ltb _ _ early in
     ap (λ b. cond b Harmless
     (sender_loss list script (fallen list script start slot) slot (expected_sender list start slot))) before
 
 pub origin-of : (list : Medl) (script : Script) (start : ClusterStart) (slot k : ℕ)
     → has_node (made list script start slot) k ≡ true → Origin list script start slot k
 origin-of list script start slot k has =
-    elim (or_cases (has_node (nodes_made (loss_of list script start slot)) k)
-    (has_node (jumpers list script start slot) k)
+    elim (or_cases _ _
     (sym (has_node-append (nodes_made (loss_of list script start slot)) (jumpers list script start slot) k) ∙ has)) [
       | inl lost ↦
           let is = made-makes (loss_of list script start slot) k lost in
@@ -98,8 +97,7 @@ pub fallen-none : (list : Medl) (script : Script) (start : ClusterStart) (slot k
     → has_node (fallen list script start slot) k ≡ false
     → (has_node (jumpers list script start slot) k ≡ false) × (has_node (at list script start slot) k ≡ false)
 fallen-none list script start slot k none =
-    or_parts (has_node (jumpers list script start slot) k) (has_node (at list script start slot) k)
-    (sym (has_node-append (jumpers list script start slot) (at list script start slot) k) ∙ none)
+    or_parts _ _ (sym (has_node-append (jumpers list script start slot) (at list script start slot) k) ∙ none)
 
 by-fresh : (list : Medl) (script : Script) (start : ClusterStart) (slot k : ℕ) → Origin list script start slot k
     → has_node (at list script start slot) k ≡ false
@@ -111,9 +109,9 @@ by-fresh list script start slot k (ByLoss made is) = elim made.how [
   | inr one ↦
       let away = fallen list script start slot in
       let e = expected_sender list start slot in
-      let parts = and_parts (is_on script k slot) (not (has_node away k) && not (k == e)) one.1 in
-      let rest = and_parts (not (has_node away k)) (not (k == e)) parts.1 in
-      (fallen-none list script start slot k (not-true (has_node away k) rest.0)).1
+      let parts = and_parts _ _ one.1 in
+      let rest = and_parts _ _ parts.1 in
+      (fallen-none list script start slot k (not-true _ rest.0)).1
 ]
 
 -- none becomes faulty that is

@@ -61,7 +61,7 @@ made-is list script start slot k incident only is =
       only = only ∙ ap (λ j. j ∷ []) same;
       change = sym (ap (λ (i : Incident). i.change) is)
           ∙ ap (λ j. change_of list script start (record { slot = slot; node = j })) same;
-      has = ap (λ ks. has_node ks incident.node) only ∙ ap (λ b. b || false) (eq-eqb k incident.node same);
+      has = ap (λ ks. has_node ks incident.node) only ∙ ap (λ b. b || false) (eq-eqb _ _ same);
     }
 
 pub incident-made : (list : Medl) (script : Script) (start : ClusterStart) (turn slot : ℕ) (incident : Incident)
@@ -71,10 +71,10 @@ incident-made list script start turn slot incident run is within found =
     let made_is : incident_made list script start slot (made list script start slot) ≡ Some incident =
     sym (incident-slot list script start turn slot run is within) ∙ found in
     elim (makes-slot list script start slot run within) [
-      | inl none ↦ absurd (none-some incident (sym (ap (incident_made list script start slot) none) ∙ made_is))
+      | inl none ↦ absurd (none-some _ (sym (ap (incident_made list script start slot) none) ∙ made_is))
       | inr one ↦
           made-is list script start slot one.0 incident one.1.only
-          (same_Some _ incident (sym (ap (incident_made list script start slot) one.1.only) ∙ made_is))
+          (same_Some _ _ (sym (ap (incident_made list script start slot) one.1.only) ∙ made_is))
     ]
 
 -- it is far from every arm line
@@ -84,25 +84,22 @@ made-far : (list : Medl) (script : Script) (start : ClusterStart) (slot k : ℕ)
 made-far list script start slot k incident run within is near =
     let quiet =
     arm-quiet list script start k near.arm slot near.is within (omega (arith, near.from, run.valid.count)) near.to in
-    both_ways (has_node (made list script start slot) incident.node) (ap (λ ks. has_node ks incident.node) quiet) is.has
+    both_ways _ (ap (λ ks. has_node ks incident.node) quiet) is.has
 
 -- a node that is clear is not the one
 clear-made : (list : Medl) (script : Script) (start : ClusterStart) (slot r : ℕ) (incident : Incident)
     → IsMadeIn list script start slot incident → IsClear list script start slot r → incident.node ≢ r
 clear-made list script start slot r incident is clear same =
     let none : has_node (made list script start slot) r ≡ false =
-    has_node-append (nodes_made (loss_of list script start slot)) (jumpers list script start slot) r
-    ∙ or_from (has_node (nodes_made (loss_of list script start slot)) r)
-    (has_node (jumpers list script start slot) r) clear.lost clear.jumper in
-    both_ways (has_node (made list script start slot) r) none
-    (ap (has_node (made list script start slot)) (sym same) ∙ is.has)
+    has_node-append (nodes_made (loss_of list script start slot)) (jumpers list script start slot) r ∙ or_from _
+    _ clear.lost clear.jumper in
+    both_ways _ none (ap (has_node (made list script start slot)) (sym same) ∙ is.has)
 
 -- one that does not jump
 unless-jumping : (list : Medl) (script : Script) (start : ClusterStart) (slot k : ℕ) → has_jump script k slot ≡ false
     → Origin list script start slot k
     → IsMadeBy list script (fallen list script start slot) slot (expected_sender list start slot) k
-unless-jumping list script start slot k none (ByJump jumper) =
-    absurd (both_ways (has_jump script k slot) none jumper.jumps)
+unless-jumping list script start slot k none (ByJump jumper) = absurd (both_ways _ none jumper.jumps)
 unless-jumping list script start slot k none (ByLoss made is) = made
 
 unheard-by : (list : Medl) (script : Script) (start : ClusterStart) (slot r : ℕ) (incident : Incident)
@@ -122,9 +119,9 @@ unheard-by list script start slot r incident run from less own is by clear =
           each-member (λ j. loses script e slot j ≡ true) (others_in list script away e slot) r all.1
           (has_node-sieve (is_other script away e slot) (length list.slots) r less ∙ other)
       | inr one ↦
-          let rest = and_parts (is_on script k slot) (not (has_node away k) && not (k == e)) one.1 in
-          let apart = and_parts (not (has_node away k)) (not (k == e)) rest.1 in
-          absurd (eqb-false k e (not-true (k == e) apart.1) (sym own))
+          let rest = and_parts _ _ one.1 in
+          let apart = and_parts _ _ rest.1 in
+          absurd (eqb-false k e (not-true _ apart.1) (sym own))
     ]
 
 deaf-by : (list : Medl) (script : Script) (start : ClusterStart) (slot k : ℕ)
@@ -132,7 +129,7 @@ deaf-by : (list : Medl) (script : Script) (start : ClusterStart) (slot k : ℕ)
     → IsMadeBy list script (fallen list script start slot) slot (expected_sender list start slot) k
     → loses script (expected_sender list start slot) slot k ≡ true
 deaf-by list script start slot k other by = elim by.how [
-  | inl all ↦ absurd (eqb-false (expected_sender list start slot) k other (sym all.0))
+  | inl all ↦ absurd (eqb-false _ _ other (sym all.0))
   | inr one ↦ one.2
 ]
 
@@ -143,10 +140,8 @@ still-by list script start slot r run from less (BeingClear clear) =
     let on : is_on script r slot ≡ true = on-now list script start slot r run from less clear.ever in
     let none : jumps_now script faulty slot r ≡ false =
     sym (has_node-sieve (jumps_now script faulty slot) (length list.slots) r less) ∙ clear.jumper in
-    false_from_ne_true (has_jump script r slot) (λ jumps.
-    both_ways (jumps_now script faulty slot r) none
-    (and_from (is_on script r slot) (not (has_node faulty r) && has_jump script r slot) on
-    (and_from (not (has_node faulty r)) (has_jump script r slot) (not_from_false (has_node faulty r) clear.was) jumps)))
+    false_from_ne_true _ (λ jumps.
+    both_ways _ none (and_from _ _ on (and_from _ _ (not_from_false _ clear.was) jumps)))
 still-by list script start slot r run from less (NearArm near entered) =
     alone-still list script r near.arm slot near.from near.to near.is.alone
 
@@ -202,7 +197,7 @@ back-heard list script start turn run within =
           let parts =
           sending-is (has_jump script incident.node slot) (e == incident.node) (sym only.change ∙ sending) in
           subst (λ e. loses script e slot r ≡ true) same
-          (unheard-how list script start slot r incident run from within less (eqb-true e incident.node parts.1) only
+          (unheard-how list script start slot r incident run from within less (eqb-true _ _ parts.1) only
           (unless-jumping list script start slot incident.node parts.0
           (origin-of list script start slot incident.node only.has)) (how r less sound));
       deaf = λ incident found receiving.
@@ -222,7 +217,7 @@ back-heard list script start turn run within =
     listens-good : (plan : Plan) (turn r since : ℕ) → fate_of plan turn r ≡ Listening since → r ≡ sender plan turn
         → is_good_slot plan turn ≡ true → ⊥
     listens-good plan turn r since fate same good =
-        both_ways (is_sound_after plan turn r) (ap is_sound fate) (ap (is_sound_after plan turn) same ∙ good)
+        both_ways _ (ap is_sound fate) (ap (is_sound_after plan turn) same ∙ good)
 
     unheard-how : (list : Medl) (script : Script) (start : ClusterStart) (slot r : ℕ) (incident : Incident)
         → IsBackRun list script start → start.slot ≤ slot → slot < script.slots → r < length list.slots
@@ -257,12 +252,12 @@ was-sound list script start slot k run (ByLoss by is) = elim by.how [
   | inr one ↦
       let away = fallen list script start slot in
       let e = expected_sender list start slot in
-      let parts = and_parts (is_on script k slot) (not (has_node away k) && not (k == e)) one.1 in
-      let rest = and_parts (not (has_node away k)) (not (k == e)) parts.1 in
+      let parts = and_parts _ _ one.1 in
+      let rest = and_parts _ _ parts.1 in
       record {
         less = one.0;
         ever = on-ever script k slot parts.0;
-        none = (fallen-none list script start slot k (not-true (has_node away k) rest.0)).1;
+        none = (fallen-none list script start slot k (not-true _ rest.0)).1;
       }
 ]
 
@@ -271,8 +266,7 @@ lost-in : (list : Medl) (script : Script) (start : ClusterStart) (turn slot k si
     → IsLostSince list script start slot k since fate → has_node (at list script start (suc slot)) k ≡ true
 lost-in list script start turn slot k since fate run now within lost =
     let next : IsNext list script start turn slot = record { run = run; now = omega arith; within = within } in
-    at-next list script start slot k ∙ and_from (has_node (after list script start slot) k)
-    (not (is_forgiven list script (slots_before list script start (suc slot)) (suc slot) k)) lost.has
+    at-next list script start slot k ∙ and_from _ _ lost.has
     (ap not (lost-stays list script start turn slot k since fate next lost))
 
 -- a node that is not faulty at the beginning of the next slot is sound: it was not faulty, or is forgiven
@@ -290,11 +284,10 @@ sound-earlier list script start turn slot k run now within less ever out =
         → is_sound_after (back_plan_of list script start) turn k ≡ true
     by (Clear none is) = ap is_sound is
     by (LostSince since lost) =
-        absurd (both_ways (has_node (at list script start (suc slot)) k) out
-        (lost-in list script start turn slot k since fate run now within lost))
+        absurd (both_ways _ out (lost-in list script start turn slot k since fate run now within lost))
     by (ArmedSince arm armed) = elim (cases_lt (suc slot) (arm + four_rounds list)) [
       | inl soon ↦
-          absurd (both_ways (has_node (at list script start (suc slot)) k) out
+          absurd (both_ways _ out
           (arm-stays list script start k arm (suc slot - arm) (suc slot) run armed.is (omega (arith, armed.from))
           (omega (arith, soon, armed.from))))
       | inr over ↦

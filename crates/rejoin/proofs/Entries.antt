@@ -47,7 +47,7 @@ first-found p a (suc n) t is = by (p a) refl is (first-found p (a + 1) n t)
         }
 
 any-found : (p : ℕ → Bool) (a n : ℕ) → list_any p (range_with_len a n) ≡ true → find p (range_with_len a n) ≡ None → ⊥
-any-found p a zero has none = both_ways false refl has
+any-found p a zero has none = both_ways _ refl has
 any-found p a (suc n) has none = by (p a) has none (any-found p (a + 1) n)
   where
     by : (b : Bool) → (b || list_any p (range_with_len (a + 1) n)) ≡ true
@@ -89,9 +89,8 @@ entry-of list script start k arm is =
         }
     by None found =
         let over : script.slots < arm + two_rounds list =
-        elim (or_cases (nat_lt script.slots (arm + two_rounds list)) (list_any p (range_with_len arm many))
-        is.offered) [
-          | inl ends ↦ ltb-true script.slots (arm + two_rounds list) ends
+        elim (or_cases _ _ is.offered) [
+          | inl ends ↦ ltb-true _ _ ends
           | inr has ↦ absurd (any-found p arm many has found)
         ] in
         record {

@@ -23,13 +23,13 @@ pub arm-is : (k slot : ℕ) (e : Event) → arms k slot e ≡ true → e ≡ eve
 arm-is k slot (event.Arm node at) is =
     let parts = and_parts (node == k) (at == slot) is in
     λ i. event.Arm (eqb-true node k parts.0 i) (eqb-true at slot parts.1 i)
-arm-is k slot (event.Send node channels f from to) is = absurd (both_ways false refl is)
-arm-is k slot (event.Receive node channels f from to) is = absurd (both_ways false refl is)
-arm-is k slot (event.Flip node channels bit at) is = absurd (both_ways false refl is)
-arm-is k slot (event.Error node value from to) is = absurd (both_ways false refl is)
-arm-is k slot (event.Jump node value at) is = absurd (both_ways false refl is)
-arm-is k slot (event.Write node at payload) is = absurd (both_ways false refl is)
-arm-is k slot (event.Read node at from) is = absurd (both_ways false refl is)
+arm-is k slot (event.Send node channels f from to) is = absurd (both_ways _ refl is)
+arm-is k slot (event.Receive node channels f from to) is = absurd (both_ways _ refl is)
+arm-is k slot (event.Flip node channels bit at) is = absurd (both_ways _ refl is)
+arm-is k slot (event.Error node value from to) is = absurd (both_ways _ refl is)
+arm-is k slot (event.Jump node value at) is = absurd (both_ways _ refl is)
+arm-is k slot (event.Write node at payload) is = absurd (both_ways _ refl is)
+arm-is k slot (event.Read node at from) is = absurd (both_ways _ refl is)
 
 -- one that is armed has its line
 pub arm-line : (script : Script) (k slot : ℕ) → is_armed script k slot ≡ true
@@ -55,9 +55,7 @@ same-arm j k slot later e one other =
 pub arm-near : (list : Medl) (k slot at : ℕ) (e : Event) → slot ≤ at → at < slot + four_rounds list → arms k at e ≡ true
     → is_arm_line list slot e ≡ true
 arm-near list k slot at e from to is =
-    ap (is_arm_line list slot) (arm-is k at e is)
-    ∙ and_from (nat_le slot at) (nat_lt at (slot + four_rounds list)) (le-leb slot at from)
-    (lt-ltb at (slot + four_rounds list) to)
+    ap (is_arm_line list slot) (arm-is k at e is) ∙ and_from _ _ (le-leb _ _ from) (lt-ltb _ _ to)
 
 -- Lines of a node that is left alone in the four rounds from a slot on.
 
@@ -73,51 +71,51 @@ touched list slot from to at after near is =
 send-line : (list : Medl) (kind : Fault) (k slot at : ℕ) (c : Channel) → slot ≤ at → at < slot + four_rounds list
     → (e : Event) → is_send_fault kind k c at e ≡ true → is_line_of list k slot e ≡ true
 send-line list kind k slot at c after near (event.Send node channels f from to) is =
-    let parts = and_parts (node == k) (is_among c channels && (is_same_fault f kind && covers from to at)) is in
-    let rest = and_parts (is_among c channels) (is_same_fault f kind && covers from to at) parts.1 in
-    let last = and_parts (is_same_fault f kind) (covers from to at) rest.1 in
-    and_from (node == k) (touches list slot from to) parts.0 (touched list slot from to at after near last.1)
-send-line list kind k slot at c after near (event.Receive node channels f from to) is = absurd (both_ways false refl is)
-send-line list kind k slot at c after near (event.Flip node channels bit t) is = absurd (both_ways false refl is)
-send-line list kind k slot at c after near (event.Error node value from to) is = absurd (both_ways false refl is)
-send-line list kind k slot at c after near (event.Jump node value t) is = absurd (both_ways false refl is)
-send-line list kind k slot at c after near (event.Arm node t) is = absurd (both_ways false refl is)
-send-line list kind k slot at c after near (event.Write node t payload) is = absurd (both_ways false refl is)
-send-line list kind k slot at c after near (event.Read node t from) is = absurd (both_ways false refl is)
+    let parts = and_parts _ _ is in
+    let rest = and_parts _ _ parts.1 in
+    let last = and_parts _ _ rest.1 in
+    and_from _ _ parts.0 (touched list slot from to at after near last.1)
+send-line list kind k slot at c after near (event.Receive node channels f from to) is = absurd (both_ways _ refl is)
+send-line list kind k slot at c after near (event.Flip node channels bit t) is = absurd (both_ways _ refl is)
+send-line list kind k slot at c after near (event.Error node value from to) is = absurd (both_ways _ refl is)
+send-line list kind k slot at c after near (event.Jump node value t) is = absurd (both_ways _ refl is)
+send-line list kind k slot at c after near (event.Arm node t) is = absurd (both_ways _ refl is)
+send-line list kind k slot at c after near (event.Write node t payload) is = absurd (both_ways _ refl is)
+send-line list kind k slot at c after near (event.Read node t from) is = absurd (both_ways _ refl is)
 
 receive-line : (list : Medl) (kind : Fault) (k slot at : ℕ) (c : Channel) → slot ≤ at → at < slot + four_rounds list
     → (e : Event) → is_receive_fault kind k c at e ≡ true → is_line_of list k slot e ≡ true
 receive-line list kind k slot at c after near (event.Receive node channels f from to) is =
-    let parts = and_parts (node == k) (is_among c channels && (is_same_fault f kind && covers from to at)) is in
-    let rest = and_parts (is_among c channels) (is_same_fault f kind && covers from to at) parts.1 in
-    let last = and_parts (is_same_fault f kind) (covers from to at) rest.1 in
-    and_from (node == k) (touches list slot from to) parts.0 (touched list slot from to at after near last.1)
-receive-line list kind k slot at c after near (event.Send node channels f from to) is = absurd (both_ways false refl is)
-receive-line list kind k slot at c after near (event.Flip node channels bit t) is = absurd (both_ways false refl is)
-receive-line list kind k slot at c after near (event.Error node value from to) is = absurd (both_ways false refl is)
-receive-line list kind k slot at c after near (event.Jump node value t) is = absurd (both_ways false refl is)
-receive-line list kind k slot at c after near (event.Arm node t) is = absurd (both_ways false refl is)
-receive-line list kind k slot at c after near (event.Write node t payload) is = absurd (both_ways false refl is)
-receive-line list kind k slot at c after near (event.Read node t from) is = absurd (both_ways false refl is)
+    let parts = and_parts _ _ is in
+    let rest = and_parts _ _ parts.1 in
+    let last = and_parts _ _ rest.1 in
+    and_from _ _ parts.0 (touched list slot from to at after near last.1)
+receive-line list kind k slot at c after near (event.Send node channels f from to) is = absurd (both_ways _ refl is)
+receive-line list kind k slot at c after near (event.Flip node channels bit t) is = absurd (both_ways _ refl is)
+receive-line list kind k slot at c after near (event.Error node value from to) is = absurd (both_ways _ refl is)
+receive-line list kind k slot at c after near (event.Jump node value t) is = absurd (both_ways _ refl is)
+receive-line list kind k slot at c after near (event.Arm node t) is = absurd (both_ways _ refl is)
+receive-line list kind k slot at c after near (event.Write node t payload) is = absurd (both_ways _ refl is)
+receive-line list kind k slot at c after near (event.Read node t from) is = absurd (both_ways _ refl is)
 
 jumped : (b : Bool) (value : ℤ) → is_some (cond b (Some value) None) ≡ true → b ≡ true
 jumped true value is = refl
-jumped false value is = absurd (both_ways false refl is)
+jumped false value is = absurd (both_ways _ refl is)
 
 jump-line : (list : Medl) (k slot at : ℕ) → slot ≤ at → at < slot + four_rounds list → (e : Event)
     → is_some (jump_in k at e) ≡ true → is_line_of list k slot e ≡ true
 jump-line list k slot at after near (event.Jump node value t) is =
-    let parts = and_parts (node == k) (t == at) (jumped ((node == k) && (t == at)) value is) in
+    let parts = and_parts _ _ (jumped ((node == k) && (t == at)) value is) in
     let same : t ≡ at = eqb-true t at parts.1 in
-    and_from (node == k) (touches list slot t t) parts.0 (touched list slot t t at after near
-    (and_from (nat_le t at) (nat_le at t) (le-leb t at (omega (arith, same))) (le-leb at t (omega (arith, same)))))
-jump-line list k slot at after near (event.Send node channels f from to) is = absurd (both_ways false refl is)
-jump-line list k slot at after near (event.Receive node channels f from to) is = absurd (both_ways false refl is)
-jump-line list k slot at after near (event.Flip node channels bit t) is = absurd (both_ways false refl is)
-jump-line list k slot at after near (event.Error node value from to) is = absurd (both_ways false refl is)
-jump-line list k slot at after near (event.Arm node t) is = absurd (both_ways false refl is)
-jump-line list k slot at after near (event.Write node t payload) is = absurd (both_ways false refl is)
-jump-line list k slot at after near (event.Read node t from) is = absurd (both_ways false refl is)
+    and_from _ _ parts.0 (touched list slot t t at after near
+    (and_from _ _ (le-leb t at (omega (arith, same))) (le-leb at t (omega (arith, same)))))
+jump-line list k slot at after near (event.Send node channels f from to) is = absurd (both_ways _ refl is)
+jump-line list k slot at after near (event.Receive node channels f from to) is = absurd (both_ways _ refl is)
+jump-line list k slot at after near (event.Flip node channels bit t) is = absurd (both_ways _ refl is)
+jump-line list k slot at after near (event.Error node value from to) is = absurd (both_ways _ refl is)
+jump-line list k slot at after near (event.Arm node t) is = absurd (both_ways _ refl is)
+jump-line list k slot at after near (event.Write node t payload) is = absurd (both_ways _ refl is)
+jump-line list k slot at after near (event.Read node t from) is = absurd (both_ways _ refl is)
 
 -- so no such line speaks of it there
 pub alone-sends : (list : Medl) (script : Script) (kind : Fault) (k slot at : ℕ) (c : Channel) → slot ≤ at

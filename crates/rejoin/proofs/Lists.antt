@@ -12,7 +12,7 @@ use Rattle.fault_plan.proofs.Losses.{each-member}
 pub any-none : {X : Type 0} (p : X → Bool) (xs : List X) → list_any p xs ≡ false → AllByRecursion (λ x. p x ≡ false) xs
 any-none p [] none = tt
 any-none p (x ∷ xs) none =
-    let parts = or_parts (p x) (list_any p xs) none in
+    let parts = or_parts _ _ none in
     (parts.0, any-none p xs parts.1)
 
 -- where none of the nodes passes, this one does not
@@ -25,11 +25,11 @@ pub none-stricter : {X : Type 0} (p q : X → Bool) (xs : List X) → ((x : X) �
     → list_any p xs ≡ false → list_any q xs ≡ false
 none-stricter p q [] gives none = refl
 none-stricter p q (x ∷ xs) gives none =
-    let parts = or_parts (p x) (list_any p xs) none in
+    let parts = or_parts _ _ none in
     by (q x) refl (none-stricter p q xs gives parts.1) parts.0
   where
     by : (b : Bool) → q x ≡ b → list_any q xs ≡ false → p x ≡ false → (b || list_any q xs) ≡ false
-    by true is rest here = absurd (both_ways (p x) here (gives x is))
+    by true is rest here = absurd (both_ways _ here (gives x is))
     by false is rest here = rest
 
 -- Where one alone passes, two that pass are that one.
@@ -40,23 +40,22 @@ count-cons p x xs b is = sum_by-cons (λ y. cond (p y) 1 0) x xs ∙ ap (λ b. c
 
 some-counted : {X : Type 0} (p q : X → Bool) (xs : List X) → ((x : X) → q x ≡ true → p x ≡ true) → list_any q xs ≡ true
     → 1 ≤ count_by p xs
-some-counted p q [] gives has = absurd (both_ways false refl has)
+some-counted p q [] gives has = absurd (both_ways _ refl has)
 some-counted p q (x ∷ xs) gives has =
-    by (p x) refl (or_cases (q x) (list_any q xs) has) (some-counted p q xs gives)
+    by (p x) refl (or_cases _ _ has) (some-counted p q xs gives)
   where
     by : (b : Bool) → p x ≡ b → (q x ≡ true) ⊎ (list_any q xs ≡ true) → (list_any q xs ≡ true → 1 ≤ count_by p xs)
         → 1 ≤ count_by p (x ∷ xs)
     by true is found rest = let counted = count-cons p x xs true is in omega (arith, counted)
-    by false is (inl here) rest = absurd (both_ways (p x) is (gives x here))
+    by false is (inl here) rest = absurd (both_ways _ is (gives x here))
     by false is (inr there) rest = let counted = count-cons p x xs false is in omega (arith, counted, rest there)
 
 pub one-of-both : {X : Type 0} (p q r : X → Bool) (xs : List X) → ((x : X) → q x ≡ true → p x ≡ true)
     → ((x : X) → r x ≡ true → p x ≡ true) → count_by p xs ≡ 1 → list_any q xs ≡ true → list_any r xs ≡ true
     → (x : X) × ((q x ≡ true) × (r x ≡ true))
-one-of-both p q r [] first second one has also = absurd (both_ways false refl has)
+one-of-both p q r [] first second one has also = absurd (both_ways _ refl has)
 one-of-both {X = X} p q r (x ∷ xs) first second one has also =
-    by (p x) refl (or_cases (q x) (list_any q xs) has) (or_cases (r x) (list_any r xs) also)
-    (one-of-both p q r xs first second)
+    by (p x) refl (or_cases _ _ has) (or_cases _ _ also) (one-of-both p q r xs first second)
   where
     by : (b : Bool) → p x ≡ b → (q x ≡ true) ⊎ (list_any q xs ≡ true) → (r x ≡ true) ⊎ (list_any r xs ≡ true)
         → (count_by p xs ≡ 1 → list_any q xs ≡ true → list_any r xs ≡ true → (x : X) × ((q x ≡ true) × (r x ≡ true)))

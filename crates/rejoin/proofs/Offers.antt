@@ -37,7 +37,7 @@ use Rattle.rejoin.proofs.Walk.{at, after}
 next-div : (n a : ℕ) (last : Bool) → 0 < n → (suc (a % n) == n) ≡ last → suc a / n ≡ cond last (suc (a / n)) (a / n)
 next-div n a true some last =
     let whole : a % n + (a / n) * n ≡ a = mod-add-div' a n in
-    let round : suc (a % n) ≡ n = eqb-true (suc (a % n)) n last in
+    let round : suc (a % n) ≡ n = eqb-true _ _ last in
     let more : (a / n + 1) * n ≡ (a / n) * n + n = omega arith in
     let next : suc a ≡ (a / n + 1) * n + 0 = omega arith in
     let one : a / n + 1 ≡ suc (a / n) = omega arith in
@@ -45,7 +45,7 @@ next-div n a true some last =
 next-div n a false some inside =
     let whole : a % n + (a / n) * n ≡ a = mod-add-div' a n in
     let less : a % n < n = mod-lt a some in
-    let other = eqb-false (suc (a % n)) n inside in
+    let other = eqb-false _ _ inside in
     let next : suc a ≡ (a / n) * n + suc (a % n) = omega arith in
     let fits : suc (a % n) < n = fits-in (suc (a % n)) n (omega arith) other in
     ap (λ t. t / n) next ∙ div-mul-add (a / n) n (suc (a % n)) fits
@@ -136,9 +136,8 @@ module _ (list : Medl) (script : Script) (start : ClusterStart) (run : IsBackRun
         let slot = entry_slot list script start r.node of.arm in
         let there = entered-is in
         let inside : slot < script.slots = omega (arith, within, there) in
-        let parts = and_parts (not (expected_sender list start slot == r.node)) _ (entry.offered inside) in
-        let carries = and_parts (is_sound_in script (at list script start slot) slot (expected_sender list start slot))
-        _ parts.1 in
+        let parts = and_parts _ _ (entry.offered inside) in
+        let carries = and_parts _ _ parts.1 in
         ap carries_place (kind-same r.entered)
         ∙ ap (λ t. carries_place (kind_at list (round_of list start t) (expected_sender list start t))) there
         ∙ carries.1
@@ -148,13 +147,10 @@ module _ (list : Medl) (script : Script) (start : ClusterStart) (run : IsBackRun
         → carries_place (kind_in list plan turn) ≡ false
     none-before turn from to within good =
         ap carries_place (kind-same turn)
-        ∙ false_from_ne_true (carries_place (kind_at list (round_of list start slot) e)) (λ carries.
-        both_ways (offers_place list script start r.node slot)
-        (entry.none slot (omega (arith, arm_at, from)) (omega (arith, entry_at, to)) inside)
-        (and_from (not (e == r.node)) _ (not_from_false (e == r.node) (ne_eqb e r.node other))
-        (and_from (is_sound_in script (at list script start slot) slot e) _
-        (and_from (is_on script e slot) (not (has_node (at list script start slot) e)) on
-        (not_from_false (has_node (at list script start slot) e) clear.1)) carries)))
+        ∙ false_from_ne_true _ (λ carries.
+        both_ways _ (entry.none slot (omega (arith, arm_at, from)) (omega (arith, entry_at, to)) inside)
+        (and_from _ _ (not_from_false _ (ne_eqb _ _ other)) (and_from _ _ (and_from _ _ on
+        (not_from_false _ clear.1)) carries)))
       where
         slot : ℕ
         slot = start.slot + turn
@@ -238,8 +234,7 @@ module _ (list : Medl) (script : Script) (start : ClusterStart) (run : IsBackRun
         other : expected_sender list start (start.slot + turn) ≢ r.node
         other same =
             let count = run.valid.count in
-            both_ways (has_node (after list script start (start.slot + turn)) r.node)
-            (ap (has_node (after list script start (start.slot + turn))) (sym same) ∙ clear.0)
+            both_ways _ (ap (has_node (after list script start (start.slot + turn))) (sym same) ∙ clear.0)
             (armed-after list script start run (start.slot + turn) r.node of.arm line near (omega (arith, soon, count)))
 
   pub offered : (r : Return) → Contains plan.returns r → IsOffered list plan r

@@ -48,27 +48,23 @@ made-node list script start slot k run has = by (origin-of list script start slo
             subst (λ j. j < length list.slots) (sym own.0) less,
             ap (is_ever_on script) own.0 ∙ made.on,
           )
-      | inr other ↦ (other.0, on-ever script k slot (and_parts (is_on script k slot) _ other.1).0)
+      | inr other ↦ (other.0, on-ever script k slot (and_parts _ _ other.1).0)
     ]
 
 pub faulty-node : (list : Medl) (script : Script) (start : ClusterStart) (slot k : ℕ) → IsBackRun list script start
     → has_node (after list script start slot) k ≡ true → IsEverNode list script k
 faulty-node list script start zero k run has =
-    elim (or_cases (has_node (made list script start 0) k) (has_node (at list script start 0) k)
-    (sym (after-has list script start 0 k) ∙ has)) [
+    elim (or_cases _ _ (sym (after-has list script start 0 k) ∙ has)) [
       | inl now ↦ made-node list script start 0 k run now
-      | inr before ↦ absurd (both_ways false refl before)
+      | inr before ↦ absurd (both_ways _ refl before)
     ]
 faulty-node list script start (suc slot) k run has =
-    by (or_cases (has_node (made list script start (suc slot)) k) (has_node (at list script start (suc slot)) k)
-    (sym (after-has list script start (suc slot) k) ∙ has)) (faulty-node list script start slot k run)
+    by (or_cases _ _ (sym (after-has list script start (suc slot) k) ∙ has)) (faulty-node list script start slot k run)
   where
     by : (has_node (made list script start (suc slot)) k ≡ true) ⊎ (has_node (at list script start (suc slot)) k ≡ true)
         → (has_node (after list script start slot) k ≡ true → IsEverNode list script k) → IsEverNode list script k
     by (inl now) older = made-node list script start (suc slot) k run now
-    by (inr before) older =
-        older (and_parts (has_node (after list script start slot) k) _
-        (sym (at-next list script start slot k) ∙ before)).0
+    by (inr before) older = older (and_parts _ _ (sym (at-next list script start slot k) ∙ before)).0
 
 -- Whoever is faulty after a slot became so in the slot that is told, and was not forgiven since.
 
@@ -88,7 +84,7 @@ told-now list script start slot (k ∷ ks) among = (
     made_in = among k (ap (λ b. b || has_node ks k) (eq-eqb k k refl));
     kept = λ later from to. absurd (omega arith);
   },
-  told-now list script start slot ks (λ j has. among j (or_right (k == j) (has_node ks j) has)),
+  told-now list script start slot ks (λ j has. among j (or_right _ _ has)),
 )
 
 told-append : (P : FaultyNode → Type 0) (fs gs : List FaultyNode) → AllByRecursion P fs → AllByRecursion P gs
@@ -110,8 +106,7 @@ told-later list script start slot (f ∷ fs) each =
         kept = λ later from within. elim (cases_eq later (suc slot)) [
           | inl same ↦
               subst (λ t. is_forgiven list script (slots_before list script start t) t f.node ≡ false) (sym same)
-              (not-true (is_forgiven list script (slots_before list script start (suc slot)) (suc slot) f.node)
-              each.0.1)
+              (not-true _ each.0.1)
           | inr other ↦ told.kept later from (omega (arith, within, other))
         ];
       },
@@ -136,8 +131,7 @@ told-stays : (list : Medl) (script : Script) (start : ClusterStart) (slot : ℕ)
     → has_node (after list script start later) f.node ≡ true
 told-stays list script start slot f told zero from to =
     let same : f.slot ≡ 0 = omega arith in
-    after-has list script start 0 f.node
-    ∙ or_left (has_node (made list script start 0) f.node) (has_node (at list script start 0) f.node)
+    after-has list script start 0 f.node ∙ or_left _ _
     (subst (λ t. has_node (made list script start t) f.node ≡ true) same told.made_in)
 told-stays list script start slot f told (suc later) from to =
     by (cases_eq f.slot (suc later)) (told-stays list script start slot f told later)
@@ -146,14 +140,11 @@ told-stays list script start slot f told (suc later) from to =
         → (f.slot ≤ later → later ≤ slot → has_node (after list script start later) f.node ≡ true)
         → has_node (after list script start (suc later)) f.node ≡ true
     by (inl same) older =
-        after-has list script start (suc later) f.node ∙ or_left (has_node (made list script start (suc later)) f.node)
-        (has_node (at list script start (suc later)) f.node)
+        after-has list script start (suc later) f.node ∙ or_left _ _
         (subst (λ t. has_node (made list script start t) f.node ≡ true) same told.made_in)
     by (inr other) older =
-        after-has list script start (suc later) f.node ∙ or_right (has_node (made list script start (suc later)) f.node)
-        (has_node (at list script start (suc later)) f.node) (at-next list script start later f.node
-        ∙ and_from (has_node (after list script start later) f.node) _ (older (omega arith) (omega arith))
-        (ap not (told.kept (suc later) (omega arith) to)))
+        after-has list script start (suc later) f.node ∙ or_right _ _ (at-next list script start later f.node
+        ∙ and_from _ _ (older (omega arith) (omega arith)) (ap not (told.kept (suc later) (omega arith) to)))
 
 -- and at the beginning of each later one
 told-at : (list : Medl) (script : Script) (start : ClusterStart) (slot : ℕ) (f : FaultyNode)
@@ -161,7 +152,7 @@ told-at : (list : Medl) (script : Script) (start : ClusterStart) (slot : ℕ) (f
     → has_node (at list script start later) f.node ≡ true
 told-at list script start slot f told zero from to = absurd (omega arith)
 told-at list script start slot f told (suc later) from to =
-    at-next list script start later f.node ∙ and_from (has_node (after list script start later) f.node) _
+    at-next list script start later f.node ∙ and_from _ _
     (told-stays list script start slot f told later (omega arith) (omega arith))
     (ap not (told.kept (suc later) (omega arith) to))
 
@@ -180,9 +171,7 @@ module _ (list : Medl) (script : Script) (start : ClusterStart) (run : IsBackRun
   pub armed-after : (slot k arm : ℕ) → IsArmedIn list script start k arm → arm ≤ slot → slot < arm + four_rounds list
       → has_node (after list script start slot) k ≡ true
   armed-after slot k arm is from to =
-      after-has list script start slot k
-      ∙ or_right (has_node (made list script start slot) k) (has_node (at list script start slot) k)
-      (armed-has slot k arm is from to)
+      after-has list script start slot k ∙ or_right _ _ (armed-has slot k arm is from to)
 
   -- Nodes that are not faulty are sound.
   pub clear-sound : (turn slot k : ℕ) → slot ≡ start.slot + turn → slot < script.slots → k < length list.slots
@@ -193,10 +182,8 @@ module _ (list : Medl) (script : Script) (start : ClusterStart) (run : IsBackRun
     where
       by : Standing list script start slot k (fate_of plan turn k) → is_sound_after plan turn k ≡ true
       by (Clear out sound) = ap is_sound sound
-      by (LostSince since lost) = absurd (both_ways (has_node (after list script start slot) k) none lost.has)
-      by (ArmedSince arm armed) =
-          absurd (both_ways (has_node (after list script start slot) k) none
-          (armed-after slot k arm armed.is armed.from armed.to))
+      by (LostSince since lost) = absurd (both_ways _ none lost.has)
+      by (ArmedSince arm armed) = absurd (both_ways _ none (armed-after slot k arm armed.is armed.from armed.to))
 
   -- A faulty node that was not armed since is lost since it became faulty.
   told-lost : (turn slot : ℕ) (f : FaultyNode) → slot ≡ start.slot + turn → slot < script.slots
@@ -214,28 +201,23 @@ module _ (list : Medl) (script : Script) (start : ClusterStart) (run : IsBackRun
       by : Standing list script start slot f.node (fate_of plan turn f.node)
           → lost_since (fate_of plan turn f.node) ≡ Some (f.slot - start.slot)
       by (Clear out sound) =
-          absurd (both_ways (has_node (after list script start slot) f.node) out
-          (told-stays list script start slot f told slot told.to (omega arith)))
+          absurd (both_ways _ out (told-stays list script start slot f told slot told.to (omega arith)))
       by (LostSince since lost) = elim (cases_eq since f.slot) [
         | inl same ↦ lost.fate_is ∙ ap (λ s. Some (s - start.slot)) same
         | inr other ↦ elim (cases_lt since f.slot) [
-          | inl before ↦
-              absurd (both_ways (has_node (at list script start f.slot) f.node) fresh
-              (lost.stays f.slot before told.to))
+          | inl before ↦ absurd (both_ways _ fresh (lost.stays f.slot before told.to))
           | inr later ↦
-              absurd (both_ways (has_node (at list script start since) f.node) lost.before
-              (told-at list script start slot f told since (omega arith) lost.to))
+              absurd (both_ways _ lost.before (told-at list script start slot f told since (omega arith) lost.to))
         ]
       ]
       by (ArmedSince arm armed) = elim (cases_lt arm f.slot) [
         | inl before ↦
             let to = told.to in
             let soon = armed.to in
-            absurd (both_ways (has_node (at list script start f.slot) f.node) fresh
-            (armed-has f.slot f.node arm armed.is (omega arith) (omega (arith, to, soon))))
+            absurd (both_ways _ fresh (armed-has f.slot f.node arm armed.is (omega arith) (omega (arith, to, soon))))
         | inr from ↦
             let to = armed.from in
-            absurd (both_ways (is_armed_among script f.node f.slot (suc slot - f.slot)) unarmed
+            absurd (both_ways _ unarmed
             (any-range (is_armed script f.node) f.slot (suc slot - f.slot) arm from (omega (arith, to, from))
             armed.is.armed))
       ]
@@ -250,7 +232,7 @@ module _ (list : Medl) (script : Script) (start : ClusterStart) (run : IsBackRun
         incident-slot list script start u (start.slot + u) run refl (omega arith)
         ∙ ap (incident_made list script start (start.slot + u))
         (arm-quiet list script start k arm (start.slot + u) is (omega arith) (omega arith) (omega arith));
-    entered = λ u to near. false_from_ne_true (enters plan u k) (λ enter.
+    entered = λ u to near. false_from_ne_true _ (λ enter.
         let by = entry-by list script start u (start.slot + u) k run refl (omega arith) enter in
         let from = by.from in
         let soon = by.to in
@@ -272,14 +254,12 @@ module _ (list : Medl) (script : Script) (start : ClusterStart) (run : IsBackRun
 
       by : Standing list script start slot k (fate_of plan turn k) → is_sound_after plan turn k ≡ true
       by (Clear out sound) =
-          absurd (both_ways (has_node (after list script start slot) k) out
-          (armed-after slot k arm is (omega (arith, due, count)) (omega (arith, due))))
+          absurd (both_ways _ out (armed-after slot k arm is (omega (arith, due, count)) (omega (arith, due))))
       by (LostSince since lost) = elim (cases_lt arm since) [
         | inl before ↦
             let to = lost.to in
-            absurd (both_ways (has_node (at list script start since) k) lost.before
-            (armed-has since k arm is (omega arith) (omega (arith, to, due))))
-        | inr from ↦ absurd (both_ways (is_armed script k arm) (lost.unarmed arm from (omega (arith, due, count)))
+            absurd (both_ways _ lost.before (armed-has since k arm is (omega arith) (omega (arith, to, due))))
+        | inr from ↦ absurd (both_ways _ (lost.unarmed arm from (omega (arith, due, count)))
             is.armed)
       ]
       by (ArmedSince other armed) =
@@ -310,10 +290,8 @@ module _ (list : Medl) (script : Script) (start : ClusterStart) (run : IsBackRun
         ≡ (is_on script k slot && not (has_node (after list script start slot) k)) =
         ap (λ found. is_on script k slot && not (has_node (numbers_of (started_since list script slot found)) k))
         started in
-        let parts =
-        and_parts (is_on script k slot) (not (has_node (after list script start slot) k)) (sym known ∙ correct) in
-        clear-sound turn slot k refl within less (on-ever script k slot parts.0)
-        (not-true (has_node (after list script start slot) k) parts.1);
+        let parts = and_parts _ _ (sym known ∙ correct) in
+        clear-sound turn slot k refl within less (on-ever script k slot parts.0) (not-true _ parts.1);
     faulty = λ turn within.
         subst (AllByRecursion (IsLost turn)) (sym (ap (started_since list script (start.slot + turn)) started))
         (each-told turn (start.slot + turn) refl within _ (told-all list script start (start.slot + turn)));

@@ -48,7 +48,7 @@ back-run list script slot valid valid_script rules =
           (joinings (slots_before list script start script.slots)) rules.distance;
       steady = λ t after within.
           let rest = enough (has_four_before list script start start.slot) _ start.slot rules.sync in
-          not-false (has_four_before list script start (suc t))
+          not-false _
           (none-found (lacks_four_after list script start) start.slot (script.slots - start.slot) t rest.1 after
           (omega arith));
       armed = λ k t less within armed.
@@ -94,7 +94,7 @@ start-heard list script start k run within less other on =
 -- no node is armed before the start
 early-unarmed : (list : Medl) (script : Script) (start : ClusterStart) (k slot : ℕ) → IsBackRun list script start
     → k < length list.slots → slot ≤ start.slot → is_armed script k slot ≡ false
-early-unarmed list script start k slot run less early = false_from_ne_true (is_armed script k slot) (λ armed.
+early-unarmed list script start k slot run less early = false_from_ne_true _ (λ armed.
     let fits = armed-valid list script k slot run.script_valid armed in
     let late = arm-late list script start k slot run (armed-in list script start k slot run less fits.1 armed) in
     omega (arith, late, early, run.valid.count))

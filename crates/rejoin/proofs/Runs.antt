@@ -41,7 +41,7 @@ armed-may list script start k slot whole less armed =
     let here =
     none-below (λ k. fails_if_armed list script start k slot (is_armed script k slot)) (length list.slots) k whole
     less in
-    not-false (may_return list script start k slot) (ap (fails_if_armed list script start k slot) (sym armed) ∙ here)
+    not-false _ (ap (fails_if_armed list script start k slot) (sym armed) ∙ here)
 
 -- What holds of all that became faulty in the run holds of those of each slot.
 pub joined-at : (P : FaultyNode → Type 0) (list : Medl) (script : Script) (start : ClusterStart) (last slot : ℕ)

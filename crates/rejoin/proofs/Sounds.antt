@@ -36,19 +36,15 @@ origin-ever list script start slot k (ByLoss by is) = elim by.how [
   | inr one ↦
       let away = fallen list script start slot in
       let e = expected_sender list start slot in
-      on-ever script k slot (and_parts (is_on script k slot) (not (has_node away k) && not (k == e)) one.1).0
+      on-ever script k slot (and_parts _ _ one.1).0
 ]
 
 pub faulty-ever : (list : Medl) (script : Script) (start : ClusterStart) (slot k : ℕ)
     → has_node (at list script start slot) k ≡ true → is_ever_on script k ≡ true
-faulty-ever list script start zero k has = absurd (both_ways false refl has)
+faulty-ever list script start zero k has = absurd (both_ways _ refl has)
 faulty-ever list script start (suc slot) k has =
-    let was =
-    (and_parts (has_node (after list script start slot) k)
-    (not (is_forgiven list script (slots_before list script start (suc slot)) (suc slot) k))
-    (sym (at-next list script start slot k) ∙ has)).0 in
-    by (or_cases (has_node (made list script start slot) k) (has_node (at list script start slot) k)
-    (sym (after-has list script start slot k) ∙ was)) (faulty-ever list script start slot k)
+    let was = (and_parts _ _ (sym (at-next list script start slot k) ∙ has)).0 in
+    by (or_cases _ _ (sym (after-has list script start slot k) ∙ was)) (faulty-ever list script start slot k)
   where
     by : (has_node (made list script start slot) k ≡ true) ⊎ (has_node (at list script start slot) k ≡ true)
         → (has_node (at list script start slot) k ≡ true → is_ever_on script k ≡ true) → is_ever_on script k ≡ true
@@ -66,19 +62,16 @@ absent-next : (list : Medl) (script : Script) (start : ClusterStart) (turn slot 
     → fate ≡ Absent → next_fate (back_plan_of list script start) turn k fate ≡ Absent
 absent-next list script start turn slot k fate run now within never absent =
     let plan = back_plan_of list script start in
-    let armed : is_armed_by plan turn k ≡ false = false_from_ne_true (is_armed_by plan turn k) (λ is.
+    let armed : is_armed_by plan turn k ≡ false = false_from_ne_true _ (λ is.
     let line = armed-by-line list script start turn k run is in
-    both_ways (is_ever_on script k) never
-    (faulty-ever list script start line.0 k (arm-faulty list script start k line.0 line.1.0))) in
-    let entered : enters plan turn k ≡ false = false_from_ne_true (enters plan turn k) (λ enter.
+    both_ways _ never (faulty-ever list script start line.0 k (arm-faulty list script start k line.0 line.1.0))) in
+    let entered : enters plan turn k ≡ false = false_from_ne_true _ (λ enter.
     let by = entry-by list script start turn slot k run now within enter in
-    both_ways (is_ever_on script k) never
-    (faulty-ever list script start by.arm k (arm-faulty list script start k by.arm by.is))) in
+    both_ways _ never (faulty-ever list script start by.arm k (arm-faulty list script start k by.arm by.is))) in
     let missed : strikes (incident_at plan turn) k ≡ false =
     strikes-slot list script start turn slot k run now within
-    ∙ false_from_ne_true (has_node (made list script start slot) k) (λ hit.
-    both_ways (is_ever_on script k) never
-    (origin-ever list script start slot k (origin-of list script start slot k hit))) in
+    ∙ false_from_ne_true _ (λ hit.
+    both_ways _ never (origin-ever list script start slot k (origin-of list script start slot k hit))) in
     next-same plan turn k fate armed entered
     ∙ ap (turned (sender plan turn == k) turn) (struck-missed turn k fate (incident_at plan turn) missed ∙ absent)
     ∙ turned-absent (sender plan turn == k) turn
@@ -100,11 +93,11 @@ pub present-ever : (list : Medl) (script : Script) (start : ClusterStart) (turn 
     → IsBackRun list script start → slot ≡ start.slot + turn → slot < script.slots → k < length list.slots
     → fate_of (back_plan_of list script start) turn k ≢ Absent → is_ever_on script k ≡ true
 present-ever list script start turn slot k run now within less present =
-    true_from_ne_false (is_ever_on script k) (λ never.
+    true_from_ne_false _ (λ never.
     present (never-absent list script start turn slot k run now within less never))
 
 sound-present : (fate : Fate) → is_sound fate ≡ true → fate ≢ Absent
-sound-present fate sound absent = both_ways (is_sound fate) (ap is_sound absent) sound
+sound-present fate sound absent = both_ways _ (ap is_sound absent) sound
 
 -- What it is not to be faulty after a slot.
 
@@ -119,12 +112,9 @@ pub record IsClear (list : Medl) (script : Script) (start : ClusterStart) (slot 
 pub clear-after : (list : Medl) (script : Script) (start : ClusterStart) (slot k : ℕ) → is_ever_on script k ≡ true
     → has_node (after list script start slot) k ≡ false → IsClear list script start slot k
 clear-after list script start slot k ever none =
-    let parts =
-    or_parts (has_node (made list script start slot) k) (has_node (at list script start slot) k)
-    (sym (after-has list script start slot k) ∙ none) in
+    let parts = or_parts _ _ (sym (after-has list script start slot k) ∙ none) in
     let both =
-    or_parts (has_node (nodes_made (loss_of list script start slot)) k) (has_node (jumpers list script start slot) k)
-    (sym (has_node-append (nodes_made (loss_of list script start slot)) (jumpers list script start slot) k)
+    or_parts _ _ (sym (has_node-append (nodes_made (loss_of list script start slot)) (jumpers list script start slot) k)
     ∙ parts.0) in
     record {
       ever = ever;
@@ -133,8 +123,7 @@ clear-after list script start slot k ever none =
       jumper = both.1;
       was = parts.1;
       fallen = has_node-append (jumpers list script start slot) (at list script start slot) k
-          ∙ or_from (has_node (jumpers list script start slot) k) (has_node (at list script start slot) k) both.1
-          parts.1;
+          ∙ or_from _ _ both.1 parts.1;
     }
 
 -- a node is armed less than four rounds ago
@@ -150,10 +139,10 @@ pub data Soundly (list : Medl) (script : Script) (start : ClusterStart) (slot k 
       → Soundly list script start slot k
 
 since-not : (fate : Fate) (since : ℕ) → lost_since fate ≡ Some since → fate ≡ Sound → ⊥
-since-not fate since is sound = none-some since (ap lost_since (sym sound) ∙ is)
+since-not fate since is sound = none-some _ (ap lost_since (sym sound) ∙ is)
 
 listens-unsound : (fate : Fate) (since : ℕ) → fate ≡ Listening since → is_sound fate ≡ true → ⊥
-listens-unsound fate since is sound = both_ways (is_sound fate) (ap is_sound is) sound
+listens-unsound fate since is sound = both_ways _ (ap is_sound is) sound
 
 pub sound-how : (list : Medl) (script : Script) (start : ClusterStart) (turn slot k : ℕ) → IsBackRun list script start
     → slot ≡ start.slot + turn → slot < script.slots → k < length list.slots
@@ -179,7 +168,7 @@ sound-how list script start turn slot k run now within less sound =
     ]
 
 lost-listens : (fate : Fate) (since from : ℕ) → lost_since fate ≡ Some since → fate ≡ Listening from → ⊥
-lost-listens fate since from is listens = none-some since (ap lost_since (sym listens) ∙ is)
+lost-listens fate since from is listens = none-some _ (ap lost_since (sym listens) ∙ is)
 
 -- one that listens is armed near
 pub listens-near : (list : Medl) (script : Script) (start : ClusterStart) (turn slot k since : ℕ)

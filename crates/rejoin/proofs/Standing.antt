@@ -88,9 +88,7 @@ long-late list script start k arm fs each has =
     let found = any-of (λ f. (f.node == k) && nat_le (f.slot + two_rounds list) arm) fs has in
     let f = found.0 in
     let late : start.slot + two_rounds list ≤ f.slot = (each-at (IsDated list start arm) fs f each found.1.0).0 in
-    let long : f.slot + two_rounds list ≤ arm =
-    leb-true (f.slot + two_rounds list) arm
-    (and_parts (f.node == k) (nat_le (f.slot + two_rounds list) arm) found.1.1).1 in
+    let long : f.slot + two_rounds list ≤ arm = leb-true _ _ (and_parts _ _ found.1.1).1 in
     omega (arith, late, long)
 
 pub arm-late : (list : Medl) (script : Script) (start : ClusterStart) (k arm : ℕ) → IsBackRun list script start
@@ -109,21 +107,21 @@ armed-by-line list script start turn k run is =
     let plan = back_plan_of list script start in
     let found = any-of (is_armed_there turn k) plan.returns is in
     let r = found.0 in
-    let parts = and_parts (r.armed == turn) (r.node == k) found.1.1 in
+    let parts = and_parts _ _ found.1.1 in
     let of = return-of list script start r found.1.0 in
-    let node : r.node ≡ k = eqb-true r.node k parts.1 in
+    let node : r.node ≡ k = eqb-true _ _ parts.1 in
     let line : is_armed script k of.arm ≡ true = subst (λ j. is_armed script j of.arm ≡ true) node of.armed in
     let fits = armed-valid list script k of.arm run.script_valid line in
     let known = armed-in list script start k of.arm run fits.0 fits.1 line in
     let late = arm-late list script start k of.arm run known in
     let armed : r.armed ≡ of.arm - start.slot = ap (λ (q : Return). q.armed) of.is in
-    (of.arm, (known, omega (arith, armed, eqb-true r.armed turn parts.0, late)))
+    (of.arm, (known, omega (arith, armed, eqb-true _ _ parts.0, late)))
 
 -- no node is armed at the start
 none-armed-first : (list : Medl) (script : Script) (start : ClusterStart) (k : ℕ) → IsBackRun list script start
     → is_armed_by (back_plan_of list script start) 0 k ≡ false
 none-armed-first list script start k run =
-    false_from_ne_true (is_armed_by (back_plan_of list script start) 0 k) (λ is.
+    false_from_ne_true _ (λ is.
     let line = armed-by-line list script start 0 k run is in
     let late = arm-late list script start k line.0 run line.1.0 in
     omega (arith, line.1.1, late, run.valid.count))
@@ -142,12 +140,12 @@ pub entry-by : (list : Medl) (script : Script) (start : ClusterStart) (turn slot
     → EntersBy list script start slot k
 entry-by list script start turn slot k run now within is =
     let plan = back_plan_of list script start in
-    let whole = and_parts (list_any (enters_there turn k) plan.returns) (nat_lt turn plan.slots) is in
+    let whole = and_parts _ _ is in
     let found = any-of (enters_there turn k) plan.returns whole.0 in
     let r = found.0 in
-    let parts = and_parts (r.entered == turn) (r.node == k) found.1.1 in
+    let parts = and_parts _ _ found.1.1 in
     let of = return-of list script start r found.1.0 in
-    let node : r.node ≡ k = eqb-true r.node k parts.1 in
+    let node : r.node ≡ k = eqb-true _ _ parts.1 in
     let armed : is_armed script k of.arm ≡ true = subst (λ j. is_armed script j of.arm ≡ true) node of.armed in
     let fits = armed-valid list script k of.arm run.script_valid armed in
     let line = armed-in list script start k of.arm run fits.0 fits.1 armed in
@@ -156,7 +154,7 @@ entry-by list script start turn slot k run now within is =
     let same : r.entered ≡ entry_slot list script start k of.arm - start.slot =
     ap (λ (q : Return). q.entered) of.is ∙ ap (λ j. entry_slot list script start j of.arm - start.slot) node in
     let at : entry_slot list script start k of.arm ≡ slot =
-    omega (arith, same, eqb-true r.entered turn parts.0, entry.from, late, now) in
+    omega (arith, same, eqb-true _ _ parts.0, entry.from, late, now) in
     record {
       arm = of.arm;
       is = line;
@@ -212,10 +210,9 @@ pub record IsNext (list : Medl) (script : Script) (start : ClusterStart) (turn s
 
 unarmed-out : (list : Medl) (script : Script) (start : ClusterStart) (slot k : ℕ) → IsBackRun list script start
     → has_node (at list script start slot) k ≡ false → is_armed script k slot ≡ false
-unarmed-out list script start slot k run out = false_from_ne_true (is_armed script k slot) (λ armed.
+unarmed-out list script start slot k run out = false_from_ne_true _ (λ armed.
     let fits = armed-valid list script k slot run.script_valid armed in
-    both_ways (has_node (at list script start slot) k) out
-    (arm-faulty list script start k slot (armed-in list script start k slot run fits.0 fits.1 armed)))
+    both_ways _ out (arm-faulty list script start k slot (armed-in list script start k slot run fits.0 fits.1 armed)))
 
 plan-unarmed : (list : Medl) (script : Script) (start : ClusterStart) (turn slot k : ℕ)
     → IsNext list script start turn slot → is_armed script k (suc slot) ≡ false
@@ -250,8 +247,7 @@ out-next list script start turn slot k fate next out sound none =
         let turns : suc turn ≡ suc slot - start.slot = omega (arith, next.now) in
         LostSince (suc slot) (record {
           has = after-has list script start (suc slot) k
-              ∙ or_left (has_node (made list script start (suc slot)) k) (has_node (at list script start (suc slot)) k)
-              hit;
+              ∙ or_left _ _ hit;
           to = omega arith;
           before = out;
           stays = λ later from to. absurd (omega (arith, from, to));
@@ -261,11 +257,9 @@ out-next list script start turn slot k fate next out sound none =
               subst (λ t. is_armed script k t ≡ false) same unarmed;
         })
     by false missed =
-        Clear (after-has list script start (suc slot) k
-        ∙ or_from (has_node (made list script start (suc slot)) k) (has_node (at list script start (suc slot)) k) missed
+        Clear (after-has list script start (suc slot) k ∙ or_from _ _ missed
         out) (sound-fate (next_fate plan (suc turn) k fate) (sound-next plan (suc turn) k fate quiet none
-        ∙ and_from (is_sound fate) (not (strikes (incident_at plan (suc turn)) k)) (ap is_sound sound)
-        (not_from_false (strikes (incident_at plan (suc turn)) k) (strikes-is ∙ missed))))
+        ∙ and_from _ _ (ap is_sound sound) (not_from_false _ (strikes-is ∙ missed))))
 
 clear-next : (list : Medl) (script : Script) (start : ClusterStart) (turn slot k : ℕ) (fate : Fate)
     → IsNext list script start turn slot → has_node (after list script start slot) k ≡ false → fate ≡ Sound
@@ -273,20 +267,18 @@ clear-next : (list : Medl) (script : Script) (start : ClusterStart) (turn slot k
 clear-next list script start turn slot k fate next none sound =
     let plan = back_plan_of list script start in
     let out : has_node (at list script start (suc slot)) k ≡ false =
-    at-next list script start slot k ∙ and_left (has_node (after list script start slot) k)
-    (not (is_forgiven list script (slots_before list script start (suc slot)) (suc slot) k)) none in
+    at-next list script start slot k ∙ and_left _ _ none in
     let unarmed = unarmed-out list script start (suc slot) k next.run out in
     out-next list script start turn slot k fate next out sound
-    (false_from_ne_true (enters plan (suc turn) k) (λ enter.
+    (false_from_ne_true _ (λ enter.
     let by = entry-by list script start (suc turn) (suc slot) k next.run next.now next.within enter in
     elim (cases_eq by.arm (suc slot)) [
-      | inl same ↦ both_ways (is_armed script k (suc slot)) unarmed (ap (is_armed script k) (sym same) ∙ by.is.armed)
+      | inl same ↦ both_ways _ unarmed (ap (is_armed script k) (sym same) ∙ by.is.armed)
       | inr other ↦
           let stays =
           arm-stays list script start k by.arm (slot - by.arm) slot next.run by.is (omega (arith, by.from, other))
           (omega (arith, by.from, by.to, other)) in
-          both_ways (has_node (after list script start slot) k) none (after-has list script start slot k
-          ∙ or_right (has_node (made list script start slot) k) (has_node (at list script start slot) k) stays)
+          both_ways _ none (after-has list script start slot k ∙ or_right _ _ stays)
     ]))
 
 -- a lost node is not forgiven
@@ -318,17 +310,16 @@ lost-out : (list : Medl) (script : Script) (start : ClusterStart) (turn slot k s
     → IsNext list script start turn slot → IsLostSince list script start slot k since fate
     → is_armed script k (suc slot) ≡ false → enters (back_plan_of list script start) (suc turn) k ≡ false
 lost-out list script start turn slot k since fate next lost unarmed =
-    false_from_ne_true (enters (back_plan_of list script start) (suc turn) k) (λ enter.
+    false_from_ne_true _ (λ enter.
     let by = entry-by list script start (suc turn) (suc slot) k next.run next.now next.within enter in
     elim (cases_eq by.arm (suc slot)) [
-      | inl same ↦ both_ways (is_armed script k (suc slot)) unarmed (ap (is_armed script k) (sym same) ∙ by.is.armed)
+      | inl same ↦ both_ways _ unarmed (ap (is_armed script k) (sym same) ∙ by.is.armed)
       | inr other ↦ elim (cases_lt by.arm since) [
         | inl before ↦
-            both_ways (has_node (at list script start since) k) lost.before
+            both_ways _ lost.before
             (arm-stays list script start k by.arm (since - by.arm) since next.run by.is (omega (arith, before))
             (omega (arith, lost.to, by.to, before)))
-        | inr from ↦
-            both_ways (is_armed script k by.arm) (lost.unarmed by.arm from (omega (arith, by.from, other))) by.is.armed
+        | inr from ↦ both_ways _ (lost.unarmed by.arm from (omega (arith, by.from, other))) by.is.armed
       ]
     ])
 
@@ -353,7 +344,7 @@ armed-now list script start turn slot k fate next is =
       waits = λ waits.
           next-armed plan (suc turn) k fate
           (armed-same list script start turn k ∙ ap (is_armed script k) (sym next.now) ∙ is.armed)
-          (false_from_ne_true (enters plan (suc turn) k) (λ enter.
+          (false_from_ne_true _ (λ enter.
           let by = entry-by list script start (suc turn) (suc slot) k next.run next.now next.within enter in
           let same = arm-only list script start k by.arm k (suc slot) by.is is.armed by.from (omega (arith, by.to)) in
           let entry : entry_slot list script start k (suc slot) ≡ suc slot =
@@ -384,8 +375,7 @@ lost-next list script start turn slot k since fate next lost =
 
     stays : has_node (at list script start (suc slot)) k ≡ true
     stays =
-        at-next list script start slot k ∙ and_from (has_node (after list script start slot) k)
-        (not (is_forgiven list script (slots_before list script start (suc slot)) (suc slot) k)) lost.has
+        at-next list script start slot k ∙ and_from _ _ lost.has
         (ap not (lost-stays list script start turn slot k since fate next lost))
 
     by : (armed : Bool) → is_armed script k (suc slot) ≡ armed
@@ -396,13 +386,11 @@ lost-next list script start turn slot k since fate next lost =
         (armed-in list script start k (suc slot) next.run fits.0 fits.1 armed)
     by false unarmed =
         let missed : has_node (made list script start (suc slot)) k ≡ false =
-        false_from_ne_true (has_node (made list script start (suc slot)) k) (λ hit.
-        both_ways (has_node (at list script start (suc slot)) k) (made-fresh list script start (suc slot) k hit)
-        stays) in
+        false_from_ne_true _ (λ hit.
+        both_ways _ (made-fresh list script start (suc slot) k hit) stays) in
         LostSince since (record {
           has = after-has list script start (suc slot) k
-              ∙ or_right (has_node (made list script start (suc slot)) k) (has_node (at list script start (suc slot)) k)
-              stays;
+              ∙ or_right _ _ stays;
           to = omega (arith, lost.to);
           before = lost.before;
           stays = λ later from to. elim (cases_eq later (suc slot)) [
@@ -427,8 +415,7 @@ entry-same : (list : Medl) (script : Script) (start : ClusterStart) (turn slot k
 entry-same list script start turn slot k arm next is from to unarmed enter =
     let by = entry-by list script start (suc turn) (suc slot) k next.run next.now next.within enter in
     elim (cases_eq by.arm (suc slot)) [
-      | inl same ↦
-          absurd (both_ways (is_armed script k (suc slot)) unarmed (ap (is_armed script k) (sym same) ∙ by.is.armed))
+      | inl same ↦ absurd (both_ways _ unarmed (ap (is_armed script k) (sym same) ∙ by.is.armed))
       | inr other ↦ elim (cases_lt arm by.arm) [
         | inl before ↦
             let same =
@@ -450,21 +437,19 @@ armed-next list script start turn slot k arm fate next armed = elim (cases_eq (s
       let some : 0 < four_rounds list = omega (arith, next.run.valid.count) in
       let entry = entry-of list script start k arm is in
       let out : has_node (at list script start (suc slot)) k ≡ false =
-      at-next list script start slot k ∙ and_right (has_node (after list script start slot) k)
-      (not (is_forgiven list script (slots_before list script start (suc slot)) (suc slot) k))
-      (ap not (forgiven-late list script start (suc slot) arm k some over
-      ∙ and_from (has_node (at list script start arm) k) (is_armed script k arm)
+      at-next list script start slot k ∙ and_right _ _
+      (ap not (forgiven-late list script start (suc slot) arm k some over ∙ and_from _ _
       (arm-faulty list script start k arm is) is.armed)) in
       let unarmed = unarmed-out list script start (suc slot) k next.run out in
       out-next list script start turn slot k fate next out (armed.entered (omega (arith, entry.to, over, some)))
-      (false_from_ne_true (enters (back_plan_of list script start) (suc turn) k) (λ enter.
+      (false_from_ne_true _ (λ enter.
       let same = entry-same list script start turn slot k arm next is armed.from armed.to unarmed enter in
       omega (arith, same, over, entry.to, some)))
   | inr other ↦
       let is = armed.is in
       let soon : suc slot < arm + four_rounds list = omega (arith, armed.to, other) in
       let unarmed : is_armed script k (suc slot) ≡ false =
-      false_from_ne_true (is_armed script k (suc slot)) (λ again.
+      false_from_ne_true _ (λ again.
       let same = arm-only list script start k arm k (suc slot) is again (omega (arith, armed.from)) soon in
       omega (arith, same.1, armed.from)) in
       let quiet = plan-unarmed list script start turn slot k next unarmed in
@@ -476,7 +461,7 @@ armed-next list script start turn slot k arm fate next armed = elim (cases_eq (s
         waits = λ waits.
             ap (next_fate (back_plan_of list script start) (suc turn) k) (armed.waits (omega (arith, waits)))
             ∙ next-listening (back_plan_of list script start) (suc turn) k (arm - start.slot) quiet
-            (false_from_ne_true (enters (back_plan_of list script start) (suc turn) k) (λ enter.
+            (false_from_ne_true _ (λ enter.
             let same = entry-same list script start turn slot k arm next is armed.from armed.to unarmed enter in
             omega (arith, same, waits))) none;
         entered = λ there. elim (cases_eq (entry_slot list script start k arm) (suc slot)) [
@@ -487,10 +472,9 @@ armed-next list script start turn slot k arm fate next armed = elim (cases_eq (s
               let sound = armed.entered (omega (arith, there, before)) in
               sound-fate (next_fate (back_plan_of list script start) (suc turn) k fate)
               (sound-next (back_plan_of list script start) (suc turn) k fate quiet
-              (false_from_ne_true (enters (back_plan_of list script start) (suc turn) k) (λ enter.
+              (false_from_ne_true _ (λ enter.
               before (entry-same list script start turn slot k arm next is armed.from armed.to unarmed enter)))
-              ∙ and_from (is_sound fate) (not (strikes (incident_at (back_plan_of list script start) (suc turn)) k))
-              (ap is_sound sound) (ap (λ found. not (strikes found k)) none))
+              ∙ and_from _ _ (ap is_sound sound) (ap (λ found. not (strikes found k)) none))
         ];
       })
 ]
@@ -508,14 +492,13 @@ first-standing list script start k run within less ever =
     (late-after list script start (suc start.slot) run within) in
     Clear (ap (λ fs. has_node (numbers_of fs) k) early) (sound-fate (fate_of plan 0 k)
     (sound-next plan 0 k (fate_at_begin plan k) (none-armed-first list script start k run)
-    (false_from_ne_true (enters plan 0 k) (λ enter.
+    (false_from_ne_true _ (λ enter.
     let by = entry-by list script start 0 start.slot k run (omega arith) within enter in
     let late = arm-late list script start k by.arm run by.is in
     omega (arith, late, by.from, some)))
-    ∙ and_from (is_sound (fate_at_begin plan k)) (not (strikes (incident_at plan 0) k))
+    ∙ and_from _ _
     (begins (has_node plan.begin k) (has_node-sieve (is_ever_on script) (length list.slots) k less ∙ ever))
-    (not_from_false (strikes (incident_at plan 0) k)
-    (strikes-slot list script start 0 start.slot k run (omega arith) within
+    (not_from_false _ (strikes-slot list script start 0 start.slot k run (omega arith) within
     ∙ ap (λ ks. has_node ks k) (made-early list script start start.slot run within (omega (arith, some)))))))
   where
     begins : (b : Bool) → b ≡ true → is_sound (cond b Sound Absent) ≡ true

@@ -68,12 +68,12 @@ kept-step : (p : ℕ → Bool) (f : FaultyNode) (k : ℕ) (b hit : Bool) (rest l
     → (f.node == k) ≡ hit → has_node left k ≡ (has_node rest k && p k)
     → has_node (cond b (f.node ∷ left) left) k ≡ (has_node (f.node ∷ rest) k && p k)
 kept-step p f k b true rest left passes same known =
-    let here : p k ≡ b = ap p (sym (eqb-true f.node k same)) ∙ passes in
+    let here : p k ≡ b = ap p (sym (eqb-true _ _ same)) ∙ passes in
     by b here
   where
     by : (b : Bool) → p k ≡ b → has_node (cond b (f.node ∷ left) left) k ≡ ((f.node == k || has_node rest k) && p k)
     by true here = rw (same, here) refl
-    by false here = rw (same, here) (known ∙ and_right (has_node rest k) (p k) here)
+    by false here = rw (same, here) (known ∙ and_right _ _ here)
 kept-step p f k b false rest left passes other known = by b
   where
     by : (b : Bool) → has_node (cond b (f.node ∷ left) left) k ≡ ((f.node == k || has_node rest k) && p k)
