@@ -96,7 +96,8 @@ pub corrected_apart : (w b c : ℤ) (ds es xs : List ℤ) → LocateNewest w b d
     → 4 ≤ length es
     → ((b +ℤ fta ds) -ℤ (c +ℤ fta es)) ≤ℤ ((w +ℤ w) +ℤ pos 1)
 corrected_apart w b c ds es xs p q many enough =
-    let below = middle_half-below ((c -ℤ b) +ℤ (w +ℤ w)) ds es (AreBelow-located w b c 4 ds es xs p q many enough) many in
+    let below = middle_half-below ((c -ℤ b) +ℤ (w +ℤ w)) ds es (AreBelow-located w b c 4 ds es xs p q many enough) many
+    in
     rw (fta-many ds many, fta-many es enough) (omega (arith, ints, below))
 
 -- Clocks near which each frame was that a clock noted: the average leaves it near them.

@@ -393,12 +393,9 @@ both_corrected : (list : Medl) (group : ℕ → Type 0) (clock : ℕ → ℤ) (n
     → (j k : ℕ) → group j → group k → 4 ≤ length (notes j) → 4 ≤ length (notes k)
     → ((clock j +ℤ fta (notes j)) -ℤ (clock k +ℤ fta (notes k))) ≤ℤ after_average list
 both_corrected list group clock notes frames located j k a b many enough =
-    omega (
-      arith,
-      ints,
-      corrected_apart (list.error +ℤ drift_in list (length list.slots)) (clock j) (clock k) (notes j)
-          (notes k) frames (located j a) (located k b) many enough,
-    )
+    let near = corrected_apart (list.error +ℤ drift_in list (length list.slots)) (clock j) (clock k) (notes j) (notes k)
+    frames (located j a) (located k b) many enough in
+    omega (arith, ints, near)
 
 -- where others may come, the average of a clock leaves it near each
 averaged_near : (list : Medl) (group : ℕ → Type 0) (l t : ℕ) (width : ℤ) (clock : ℕ → ℤ) (notes : ℕ → List ℤ)
@@ -419,40 +416,24 @@ averaged_early : (list : Medl) (may_grow : Bool) (group : ℕ → Type 0) (l t :
 averaged_early list false group l t width clock notes up some early held j k a b =
     let same = held.alike refl j k a b in
     elim (few_or_many (length (notes j))) [
-      | inl few ↦ omega (
-        arith,
-        ints,
-        fta-few (notes j) few,
-        fta-few (notes k) (omega (arith, few, same)),
-        held.wide.entry early,
-        held.apart j k a b,
-      )
+      | inl few ↦
+          let none = fta-few (notes k) (omega (arith, few, same)) in
+          omega (arith, ints, fta-few (notes j) few, none, held.wide.entry early, held.apart j k a b)
       | inr many ↦ both_corrected list group clock notes held.frames held.located j k a b many
           (omega (arith, same, many))
     ]
 averaged_early list true group l t width clock notes up some early held j k a b =
     elim (few_or_many (length (notes j))) [
-      | inl few ↦ omega (
-        arith,
-        ints,
-        fta-few (notes j) few,
-        held.wide.entry early,
-        averaged_near list group l t width clock notes some held k j b a,
-      )
+      | inl few ↦
+          let near = averaged_near list group l t width clock notes some held k j b a in
+          omega (arith, ints, fta-few (notes j) few, held.wide.entry early, near)
       | inr many ↦ elim (few_or_many (length (notes k))) [
-        | inl few ↦ omega (
-          arith,
-          ints,
-          fta-few (notes k) few,
-          held.wide.entry early,
-          averaged_near list group l t width clock notes some held j k a b,
-        )
-        | inr enough ↦ omega (
-          arith,
-          ints,
-          round_up list up,
-          both_corrected list group clock notes held.frames held.located j k a b many enough,
-        )
+        | inl few ↦
+            let near = averaged_near list group l t width clock notes some held j k a b in
+            omega (arith, ints, fta-few (notes k) few, held.wide.entry early, near)
+        | inr enough ↦
+            let near = both_corrected list group clock notes held.frames held.located j k a b many enough in
+            omega (arith, ints, round_up list up, near)
       ]
     ]
 
@@ -513,14 +494,8 @@ pub settled_within : (list : Medl) (may_grow : Bool) (group : ℕ → Type 0) (l
     → (may_grow ≡ false) ⊎ (l + length list.slots + q < t) → Held list may_grow group l t q width clock notes
     → AreWithin group clock (spread list)
 settled_within list may_grow group l t q width clock notes up inside settled held j k a b =
-    omega (
-      arith,
-      ints,
-      held.apart j k a b,
-      narrow,
-      product_four list.drift (length list.slots) up,
-      product_upto list.drift q (length list.slots) up (omega arith),
-    )
+    let drift = product_upto list.drift q (length list.slots) up (omega arith) in
+    omega (arith, ints, held.apart j k a b, narrow, product_four list.drift (length list.slots) up, drift)
   where
     fixed_width : may_grow ≡ false → width ≤ℤ after_average list
     fixed_width fixed = subst (λ b. width ≤ℤ most_width list b) fixed held.wide.most
@@ -540,12 +515,6 @@ pub company_within : (list : Medl) (may_grow : Bool) (group : ℕ → Type 0) (l
     (notes : ℕ → List ℤ) → pos 0 ≤ℤ list.drift → pos 0 ≤ℤ list.error → q < length list.slots
     → Held list may_grow group l t q width clock notes → AreWithin group clock (spread_rejoining list)
 company_within list may_grow group l t q width clock notes up some inside held j k a b =
-    omega (
-      arith,
-      ints,
-      held.apart j k a b,
-      held.wide.most,
-      most_true list may_grow up some,
-      product_six list.drift (length list.slots) up,
-      product_upto list.drift q (length list.slots) up (omega arith),
-    )
+    let drift = product_upto list.drift q (length list.slots) up (omega arith) in
+    let most = most_true list may_grow up some in
+    omega (arith, ints, held.apart j k a b, held.wide.most, most, product_six list.drift (length list.slots) up, drift)

@@ -349,14 +349,9 @@ stayed_slot list script may_grow before group l row history place width on place
       noted = λ k q. goes_noted list script row history place p k (on.runs k q) (tells k q);
       near = λ grows k q. frames_near (drifted list width place.slot) (frame_of list script history p)
           (set_clock list script row history k) (plan_at list place.slot).sync
-          (omega (
-            arith,
-            ints,
-            frame_calm list script before history p (from grows),
-            (same k q).same_clock,
-            apart p k (from grows).0 (same k q).member,
-            apart k p (same k q).member (from grows).0,
-          ));
+          (let calm = frame_calm list script before history p (from grows) in
+          let before_k = apart p k (from grows).0 (same k q).member in
+          omega (arith, ints, calm, (same k q).same_clock, before_k, apart k p (same k q).member (from grows).0));
     }
 
 stayed_kept : (list : Medl) (script : Script) (may_grow : Bool) (before group : ℕ → Bool) (l : ℕ) (row : List Entry)
@@ -633,35 +628,24 @@ measured_within : (list : Medl) (script : Script) (history : History) (bound : �
     → (clock_at list script history r -ℤ clock_at list script history p) ≤ℤ bound
     → IsUpTo (bound +ℤ list.error) (measured list script history r p)
 measured_within list script history bound r p bounds within at from apart back =
-    omega (
-      arith,
-      ints,
-      frame_of-node list script history p from,
-      frame_of-node list script history r at,
-      error_within list script (length history) r bounds within at,
-    )
+    let error = error_within list script (length history) r bounds within at in
+    omega (arith, ints, frame_of-node list script history p from, frame_of-node list script history r at, error)
 
 pub settled_deviations : (list : Medl) → IsValid list → HoldsSettledDeviationsWithin list (needed list)
 unfolding HoldsSettledClocksWithin HoldsSettledDeviationsWithin
 settled_deviations list valid script may_grow group l history run settled within r p a b =
-    omega (
-      arith,
-      ints,
-      measured_within list script history (spread list) r p run.bounds within a.0 b.0
-          (settled_clocks list valid script may_grow group l history run settled p r b a)
-          (settled_clocks list valid script may_grow group l history run settled r p a b),
-    )
+    let near = measured_within list script history (spread list) r p run.bounds within a.0 b.0
+    (settled_clocks list valid script may_grow group l history run settled p r b a)
+    (settled_clocks list valid script may_grow group l history run settled r p a b) in
+    omega (arith, ints, near)
 
 pub company_deviations : (list : Medl) → IsValid list → HoldsCompanyDeviationsWithin list (needed_rejoining list)
 unfolding HoldsCompanyClocksWithin HoldsCompanyDeviationsWithin
 company_deviations list valid script may_grow group l history run within r p a b =
-    omega (
-      arith,
-      ints,
-      measured_within list script history (spread_rejoining list) r p run.bounds within a.0 b.0
-          (company_clocks list valid script may_grow group l history run p r b a)
-          (company_clocks list valid script may_grow group l history run r p a b),
-    )
+    let near = measured_within list script history (spread_rejoining list) r p run.bounds within a.0 b.0
+    (company_clocks list valid script may_grow group l history run p r b a)
+    (company_clocks list valid script may_grow group l history run r p a b) in
+    omega (arith, ints, near)
 
 pub deviations_within : (list : Medl) → IsValid list → HoldsDeviationsWithin list (needed list)
 unfolding HoldsDeviationsWithin HoldsSettledDeviationsWithin
