@@ -39,19 +39,10 @@ event_next : (slot : ℕ) (e : Event) (ws : List HostWrite) (rs : List HostRead)
     + (length (cons_option (write_in slot e) ws) + length (cons_option (read_in slot e) rs))
     ≡ cond (is_host_event_below (suc slot) e) 1 0 + (length ws + length rs)
 event_next slot (event.Write node at payload) ws rs =
-    omega (
-      arith,
-      one_slot at slot,
-      length-if {X = HostWrite} (at == slot) (record { host = node; payload = payload }) ws,
-    )
+    omega (arith, one_slot at slot, length-if {X = HostWrite} (at == slot) (record { host = node; payload = payload }) ws)
 event_next slot (event.Read node at from) ws rs =
     omega (arith, one_slot at slot, length-if {X = HostRead} (at == slot) (record { host = node; source = from }) rs)
-event_next slot (event.Send node channels f from to) ws rs = refl
-event_next slot (event.Receive node channels f from to) ws rs = refl
-event_next slot (event.Flip node channels bit at) ws rs = refl
-event_next slot (event.Error node value from to) ws rs = refl
-event_next slot (event.Jump node value at) ws rs = refl
-event_next slot (event.Arm node at) ws rs = refl
+event_next slot _ ws rs = refl
 
 pub host_events-next : (events : List Event) (slot : ℕ)
     → host_events_below events slot
@@ -59,13 +50,10 @@ pub host_events-next : (events : List Event) (slot : ℕ)
     ≡ host_events_below events (suc slot)
 host_events-next [] slot = refl
 host_events-next (e ∷ events) slot =
-    omega (
-      arith,
-      count-cons (is_host_event_below slot) e events,
-      count-cons (is_host_event_below (suc slot)) e events,
-      event_next slot e (filter_map (write_in slot) events) (filter_map (read_in slot) events),
-      host_events-next events slot,
-    )
+    let now = count-cons (is_host_event_below slot) e events in
+    let then = count-cons (is_host_event_below (suc slot)) e events in
+    let next = event_next slot e (filter_map (write_in slot) events) (filter_map (read_in slot) events) in
+    omega (arith, now, then, next, host_events-next events slot)
 
 -- There are no more of them than of all slots.
 
@@ -76,21 +64,11 @@ most false = omega arith
 event_most : (slot : ℕ) (e : Event) → cond (is_host_event_below slot e) 1 0 ≤ cond (is_host_event e) 1 0
 event_most slot (event.Write node at payload) = most (nat_lt at slot)
 event_most slot (event.Read node at from) = most (nat_lt at slot)
-event_most slot (event.Send node channels f from to) = omega arith
-event_most slot (event.Receive node channels f from to) = omega arith
-event_most slot (event.Flip node channels bit at) = omega arith
-event_most slot (event.Error node value from to) = omega arith
-event_most slot (event.Jump node value at) = omega arith
-event_most slot (event.Arm node at) = omega arith
+event_most slot _ = omega arith
 
 pub host_events-most : (events : List Event) (slot : ℕ)
     → host_events_below events slot ≤ count_by is_host_event events
 host_events-most [] slot = omega arith
 host_events-most (e ∷ events) slot =
-    omega (
-      arith,
-      count-cons (is_host_event_below slot) e events,
-      count-cons is_host_event e events,
-      event_most slot e,
-      host_events-most events slot,
-    )
+    let below = count-cons (is_host_event_below slot) e events in
+    omega (arith, below, count-cons is_host_event e events, event_most slot e, host_events-most events slot)

@@ -27,27 +27,21 @@ use Rattle.trace_size.proofs.WordLengths.{decimal-any, decimal-byte, decimal-fiv
 
 -- Writes. The numbers in their lines may be any.
 
-write_text : (slot k number : List ℕ) → length slot ≤ 64 → length k ≤ 64 → length number ≤ 64
-    → length (codes "slot " ++ slot ++ codes " host " ++ k ++ codes " write " ++ number ++ newline) ≤ 528
-write_text slot k number p q r = simp length-append (omega arith)
-
 write_line-short : (list : Medl) (script : Script) (slot k earlier : ℕ)
     → length (write_line list script slot k earlier) ≤ 528
 write_line-short list script slot k earlier =
-    let number = length (messages_before list script k slot) + earlier in
-    write_text (decimal slot) (decimal k) (decimal number) (decimal-any slot) (decimal-any k) (decimal-any number)
+    let number = decimal-any (length (messages_before list script k slot) + earlier) in
+    simp length-append (omega (arith, decimal-any slot, decimal-any k, number))
 
 pub writes-short : (list : Medl) (script : Script) (slot : ℕ) (earlier writes : List HostWrite)
     → length (concat (more_write_lines list script slot earlier writes)) ≤ 528 * length writes
 writes-short list script slot earlier [] = omega arith
 writes-short list script slot earlier (w ∷ writes) =
-    let line = write_line list script slot w.host (count_by (λ e. e.host == w.host) earlier) in
-    omega (
-      arith,
-      write_line-short list script slot w.host (count_by (λ e. e.host == w.host) earlier),
-      length-append line (concat (more_write_lines list script slot (w ∷ earlier) writes)),
-      writes-short list script slot (w ∷ earlier) writes,
-    )
+    let number = count_by (λ e. e.host == w.host) earlier in
+    let line = write_line list script slot w.host number in
+    let first = write_line-short list script slot w.host number in
+    let more = writes-short list script slot (w ∷ earlier) writes in
+    omega (arith, first, more, length-append line (concat (more_write_lines list script slot (w ∷ earlier) writes)))
 
 -- Reads, whose lines have up to 480 digits of a message.
 
@@ -91,10 +85,7 @@ reads-short list script slot before after (r ∷ reads) (n ∷ numbers) valid ea
     let newest = newest_number (ring_messages list script after r.host r.source) in
     let within : n ≤ newest = leb-true n newest (and_parts low (nat_le n newest) parts.0).1 in
     let small : n ≤ SLOT_LIMIT = omega (arith, ring_messages-few list script after r.host r.source) in
-    let line = read_line list script slot after first in
-    omega (
-      arith,
-      read_line-short list script slot after first valid early are.0 small,
-      length-append line (concat (map (read_line list script slot after) (read_messages reads numbers))),
-      reads-short list script slot before after reads numbers valid early few are.1 parts.1,
-    )
+    let line = read_line list script slot after in
+    let short = read_line-short list script slot after first valid early are.0 small in
+    let more = reads-short list script slot before after reads numbers valid early few are.1 parts.1 in
+    omega (arith, short, more, length-append (line first) (concat (map line (read_messages reads numbers))))

@@ -32,22 +32,16 @@ use Rattle.ttp_world.proofs.WorldFacts.{plan-short}
 
 expected-short : (list : Medl) (place : Place) → IsValid list → payload_length list place.round place.slot ≤ 240
 expected-short list place valid =
-    let size = (plan_at list place.slot).payload in
-    let short = plan-short list place.slot valid in
-    cond_both (is_bare (kind_at list place.round place.slot)) 0 size (λ (n : ℕ). n ≤ 240) (λ is. omega arith)
-    (λ other. short)
+    cond_both (is_bare (kind_at list place.round place.slot)) 0 _ (λ (n : ℕ). n ≤ 240) (λ is. omega arith)
+    (λ other. plan-short list place.slot valid)
 
 heard-short : (list : Medl) (place : Place) (signal : Signal) → IsValid list
     → length (payload_heard list place signal) ≤ 240
 heard-short list place Silence valid = omega arith
 heard-short list place Noise valid = omega arith
 heard-short list place (Bits sender bytes) valid =
-    let size = payload_length list place.round place.slot in
-    omega (
-      arith,
-      expected-short list place valid,
-      length-take size (drop (1 + carried_length (member_width list) (expected_header list place)) bytes),
-    )
+    let after = drop (1 + carried_length (member_width list) (expected_header list place)) bytes in
+    omega (arith, expected-short list place valid, length-take (payload_length list place.round place.slot) after)
 
 taken-short : (list : Medl) (expected : Expected) (h : Hearing) → IsValid list
     → length (payload_taken list expected h) ≤ 240
@@ -64,14 +58,7 @@ delivery-short : (list : Medl) (k : ℕ) (past : NodePast) (h : Hearing) (e : En
 delivery-short list k past h (entry.Judged sender v deviation) valid =
     cond_both _ (Some _) None (λ (o : Option Delivered). IfSome o BringsShort)
     (λ is. taken-short list (expected_of list k past) h valid) (λ other. tt)
-delivery-short list k past h entry.Off valid = tt
-delivery-short list k past h entry.Waited valid = tt
-delivery-short list k past h entry.Retried valid = tt
-delivery-short list k past h entry.Gone valid = tt
-delivery-short list k past h entry.Started valid = tt
-delivery-short list k past h (entry.Sent message) valid = tt
-delivery-short list k past h (entry.Joined sender cstate deviation) valid = tt
-delivery-short list k past h (entry.Left why peer) valid = tt
+delivery-short list k past h _ valid = tt
 
 -- What has come to a host.
 

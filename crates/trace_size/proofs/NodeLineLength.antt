@@ -76,13 +76,7 @@ shown-small : (list : Medl) (script : Script) (row : List Entry) (before : Histo
 shown-small list script row before k (entry.Sent message) early sent = sent
 shown-small list script row before k (entry.Judged sender v deviation) early sent =
     shown-delivered list script row before k (delivered_of list script before row k) early
-shown-small list script row before k entry.Off early sent = tt
-shown-small list script row before k entry.Waited early sent = tt
-shown-small list script row before k entry.Retried early sent = tt
-shown-small list script row before k entry.Gone early sent = tt
-shown-small list script row before k entry.Started early sent = tt
-shown-small list script row before k (entry.Joined sender cstate deviation) early sent = tt
-shown-small list script row before k (entry.Left why peer) early sent = tt
+shown-small list script row before k _ early sent = tt
 
 sent-small : (list : Medl) (script : Script) (slot k : ℕ) (message : Option ℕ) → IsValid list
     → IsValidScript list script → slot < SLOT_LIMIT → is_legal_message list script slot k message ≡ true
@@ -117,12 +111,7 @@ lines_each : (line : ℕ → List ℕ) (ks : List ℕ) (n : ℕ) → ((k : ℕ) 
     → AllByRecursion (λ k. k < n) ks → length (concat (map line ks)) ≤ 128 * length ks
 lines_each line [] n each within = omega arith
 lines_each line (k ∷ ks) n each within =
-    omega (
-      arith,
-      each k within.0,
-      length-append (line k) (concat (map line ks)),
-      lines_each line ks n each within.1,
-    )
+    omega (arith, each k within.0, length-append (line k) (concat (map line ks)), lines_each line ks n each within.1)
 
 -- those of at most 24 nodes
 pub node_lines-short : (list : Medl) (script : Script) (new : SlotNumbers) (numbers : Numbers)
@@ -132,11 +121,6 @@ pub node_lines-short : (list : Medl) (script : Script) (new : SlotNumbers) (numb
 node_lines-short list script new numbers valid script_valid within legal =
     let n = length list.slots in
     let line = node_line_of list script (row_of_world list script new numbers) (world list script numbers) in
-    omega (
-      arith,
-      lines_each line (below n) n
-          (λ k node. node_line_of-short list script new numbers k valid script_valid within legal node)
-          (below-lt n),
-      length-range_with_len 0 n,
-      nodes-most list valid,
-    )
+    let all = lines_each line (below n) n
+    (λ k node. node_line_of-short list script new numbers k valid script_valid within legal node) (below-lt n) in
+    omega (arith, all, length-range_with_len 0 n, nodes-most list valid)

@@ -87,8 +87,7 @@ taken-near : (list : Medl) (from_a : Bool) (va vb : ChannelView) (a b : Option �
     → (va ≡ view.First → IsHeardNear list a) → (vb ≡ view.First → IsHeardNear list b)
     → IsNear list (entry_deviation from_a a b)
 taken-near list true va vb None b is near_a near_b = absurd (near_a is)
-taken-near list true va vb (Some d) None is near_a near_b = near_a is
-taken-near list true va vb (Some d) (Some other) is near_a near_b = near_a is
+taken-near list true va vb (Some d) _ is near_a near_b = near_a is
 taken-near list false va vb a None is near_a near_b = absurd (near_b is)
 taken-near list false va vb None (Some d) is near_a near_b = near_b is
 taken-near list false va vb (Some other) (Some d) is near_a near_b = near_b is
@@ -97,11 +96,7 @@ of_verdict : (list : Medl) (own : ℤ) (reach sender : ℕ) (v : Verdict) (devia
     → (is_correct v ≡ true → IsNear list deviation)
     → IsEntryNear list own reach (verdict_entry sender v deviation)
 of_verdict list own reach sender verdict.Denied deviation inside near = inside
-of_verdict list own reach sender verdict.Null deviation inside near = near
-of_verdict list own reach sender verdict.Invalid deviation inside near = near
-of_verdict list own reach sender verdict.Incorrect deviation inside near = near
-of_verdict list own reach sender verdict.Correct deviation inside near = near
-of_verdict list own reach sender verdict.Tentative deviation inside near = near
+of_verdict list own reach sender _ deviation inside near = near
 
 judging_entry-near : (list : Medl) (k : ℕ) (past : NodePast) (h : Hearing) (own : ℤ) (reach : ℕ)
     → (coming_place list past).slot < length list.slots
@@ -123,15 +118,11 @@ pub new_entry-near : (list : Medl) (k : ℕ) (past : NodePast) (chosen : Chosen)
     → k < length list.slots → (coming_place list past).slot < length list.slots
     → (does ≡ Listen → (p : ℕ) → unsigned_abs (own +ℤ h.deviation p) ≤ reach)
     → IsEntryNear list own reach (new_entry list k past chosen h does)
-new_entry-near list k past chosen h Off own reach node inside joins = tt
-new_entry-near list k past chosen h Gone own reach node inside joins = tt
-new_entry-near list k past chosen h Start own reach node inside joins = tt
-new_entry-near list k past chosen h Retry own reach node inside joins = tt
 new_entry-near list k past chosen h (Leave why) own reach node inside joins = node
-new_entry-near list k past chosen h Send own reach node inside joins = tt
 new_entry-near list k past chosen h Listen own reach node inside joins =
     let P = IsEntryNear list own reach in
     of_first P (channel_join list h.deviation h.a) (channel_join list h.deviation h.b) tt
     (of_channel P list h.deviation h.a (λ p c. joins refl p)) (of_channel P list h.deviation h.b (λ p c. joins refl p))
 new_entry-near list k past chosen h Judge own reach node inside joins =
     judging_entry-near list k past h own reach inside
+new_entry-near list k past chosen h _ own reach node inside joins = tt

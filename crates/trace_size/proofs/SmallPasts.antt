@@ -80,9 +80,6 @@ one_more false count slots few = omega arith
 
 accepted-small : (count slots : ℕ) (e : Entry) → count ≤ slots → accepted_after count e ≤ slots + 1
 accepted-small count slots (entry.Judged sender v deviation) few = one_more (is_correct v) count slots few
-accepted-small count slots entry.Started few = omega arith
-accepted-small count slots (entry.Sent message) few = omega arith
-accepted-small count slots (entry.Joined sender cstate deviation) few = omega arith
 accepted-small count slots _ few = omega arith
 
 rejected-small : (count slots : ℕ) (a : Ack) (e : Entry) → count ≤ slots → rejected_after count a e ≤ slots + 1
@@ -102,14 +99,12 @@ ack-small : (list : Medl) (a : Ack) (e : Entry) → IsValid list → IsOfList li
     → IsDoubtSmall (ack_after a e)
 ack-small list a (entry.Judged sender v deviation) valid of_list small =
     answered-small a v sender (omega (arith, nodes-most list valid, of_list)) small
-ack-small list a entry.Started valid of_list small = tt
-ack-small list a (entry.Sent message) valid of_list small = tt
 ack-small list a _ valid of_list small = tt
 
 -- Notes.
 
 zero-near : (list : Medl) → IsValid list → IsNear list (pos 0)
-zero-near list valid = (omega (arith, ints, valid.window.0), omega (arith, ints, valid.window.0))
+zero-near list valid = omega (arith, ints, valid.window.0)
 
 noted-near : (list : Medl) (own : ℤ) (reach : ℕ) (e : Entry) → IsValid list → IsEntryNear list own reach e
     → IfSome (deviation_noted e) (IsNear list)

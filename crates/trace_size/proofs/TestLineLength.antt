@@ -32,28 +32,15 @@ head-short list script =
 
 -- The lines of the tests.
 
-yes_text : (start : List ℕ) → length start ≤ 64 → length (codes "keeps yes start " ++ start ++ newline) ≤ 160
-yes_text start p = simp length-append (omega arith)
-
-no_text : (rule slot : List ℕ) → length rule ≤ 64 → length slot ≤ 64
-    → length (codes "keeps no H" ++ rule ++ codes " " ++ slot ++ newline) ≤ 160
-no_text rule slot p q = simp length-append (omega arith)
-
-back_yes_text : (start : List ℕ) → length start ≤ 64 → length (codes "returns yes start " ++ start ++ newline) ≤ 160
-back_yes_text start p = simp length-append (omega arith)
-
-back_no_text : (rule slot : List ℕ) → length rule ≤ 64 → length slot ≤ 64
-    → length (codes "returns no Q" ++ rule ++ codes " " ++ slot ++ newline) ≤ 160
-back_no_text rule slot p q = simp length-append (omega arith)
-
 keep_line-short : (k : Keep) → length (keep_line k) ≤ 160
-keep_line-short (keep.Yes start) = yes_text (decimal start) (decimal-any start)
-keep_line-short (keep.No rule slot) = no_text (decimal rule) (decimal slot) (decimal-any rule) (decimal-any slot)
+keep_line-short (keep.Yes start) = simp length-append (omega (arith, decimal-any start))
+keep_line-short (keep.No rule slot) =
+    simp length-append (omega (arith, decimal-any rule, decimal-any slot))
 
 back_line-short : (b : Back) → length (back_line b) ≤ 160
-back_line-short (back.Yes start) = back_yes_text (decimal start) (decimal-any start)
+back_line-short (back.Yes start) = simp length-append (omega (arith, decimal-any start))
 back_line-short (back.No rule slot) =
-    back_no_text (decimal rule) (decimal slot) (decimal-any rule) (decimal-any slot)
+    simp length-append (omega (arith, decimal-any rule, decimal-any slot))
 
 back_lines-short : (list : Medl) (script : Script) (has_some : Bool)
     → length (concat (back_lines_if list script has_some)) ≤ 160
@@ -64,9 +51,5 @@ back_lines-short list script false = omega arith
 pub tests-short : (list : Medl) (script : Script) → length (concat (test_lines list script)) ≤ 320
 tests-short list script =
     let first = keep_line (keeps list script) in
-    omega (
-      arith,
-      length-append first (concat (back_lines_if list script (has_arm script))),
-      keep_line-short (keeps list script),
-      back_lines-short list script (has_arm script),
-    )
+    let lines = length-append first (concat (back_lines_if list script (has_arm script))) in
+    omega (arith, lines, keep_line-short (keeps list script), back_lines-short list script (has_arm script))

@@ -53,16 +53,10 @@ slot-short list script new numbers valid script_valid within legal =
     (reads_of_valid list script slot script_valid)
     (subst (λ at. IsTrue (list_all (is_legal_read list script before (row ∷ before))
     (read_messages (reads_in script at) new.read))) (sym same) (legal-reads list script new numbers legal)) in
+    let few_nodes = node_lines-short list script new numbers valid script_valid within legal in
     let all : size (slot_lines list script row before new)
     ≤ 3072 + 528 * (length (writes_in script slot) + length (reads_in script slot)) =
-    omega (
-      arith,
-      size-append (nodes ++ writes) reads,
-      size-append nodes writes,
-      node_lines-short list script new numbers valid script_valid within legal,
-      few_writes,
-      few_reads,
-    ) in
+    omega (arith, size-append (nodes ++ writes) reads, size-append nodes writes, few_nodes) in
     subst (λ at. size (slot_lines list script row before new)
     ≤ 3072 + 528 * (length (writes_in script at) + length (reads_in script at))) same all
 
@@ -76,14 +70,11 @@ history-short list script [] valid script_valid within legal = omega arith
 history-short list script (new ∷ numbers) valid script_valid within legal =
     let before = world list script numbers in
     let row = row_of_world list script new numbers in
-    omega (
-      arith,
-      size-append (history_lines list script before numbers) (slot_lines list script row before new),
-      history-short list script numbers valid script_valid (omega arith)
-          (legal-older list script new numbers legal),
-      slot-short list script new numbers valid script_valid (omega arith) legal,
-      host_events-next script.events (length numbers),
-    )
+    let older = history-short list script numbers valid script_valid (omega arith)
+    (legal-older list script new numbers legal) in
+    let newest = slot-short list script new numbers valid script_valid (omega arith) legal in
+    let both = size-append (history_lines list script before numbers) (slot_lines list script row before new) in
+    omega (arith, both, older, newest, host_events-next script.events (length numbers))
 
 -- The whole.
 
@@ -97,14 +88,7 @@ pub trace-short : (list : Medl) (script : Script) (numbers : Numbers)
     → length (concat (trace_lines list script numbers)) ≤ TRACE_LIMIT
 trace-short list script numbers valid script_valid slots legal =
     let history = history_lines list script (world list script numbers) numbers in
-    let n = length numbers in
-    omega (
-      arith,
-      whole (trace_head list script) history (test_lines list script),
-      head-short list script,
-      tests-short list script,
-      history-short list script numbers valid script_valid (omega (arith, slots)) legal,
-      host_events-most script.events n,
-      script_valid.host_event_count,
-      script_valid.slots,
-    )
+    let all = whole (trace_head list script) history (test_lines list script) in
+    let long = history-short list script numbers valid script_valid (omega (arith, slots)) legal in
+    let events = host_events-most script.events (length numbers) in
+    omega (arith, all, long, events, head-short list script, tests-short list script, script_valid)

@@ -59,27 +59,16 @@ dash-six (Some n) small = decimal-six n small
 
 verdict_word-short : (v : Verdict) → length (verdict_word v) ≤ 14
 verdict_word-short verdict.Null = omega arith
-verdict_word-short verdict.Invalid = omega arith
-verdict_word-short verdict.Incorrect = omega arith
-verdict_word-short verdict.Correct = omega arith
-verdict_word-short verdict.Tentative = omega arith
-verdict_word-short verdict.Denied = omega arith
+verdict_word-short _ = omega arith
 
 reason_word-short : (why : Reason) → length (reason_word why) ≤ 14
 reason_word-short reason.Denied = omega arith
-reason_word-short reason.Unacknowledged = omega arith
-reason_word-short reason.Clique = omega arith
+reason_word-short _ = omega arith
 
 pub entry_word-short : (e : Entry) → length (entry_word e) ≤ 14
-entry_word-short entry.Off = omega arith
-entry_word-short entry.Waited = omega arith
-entry_word-short entry.Retried = omega arith
-entry_word-short entry.Gone = omega arith
-entry_word-short entry.Started = omega arith
-entry_word-short (entry.Sent message) = omega arith
-entry_word-short (entry.Joined sender cstate deviation) = omega arith
 entry_word-short (entry.Judged sender v deviation) = verdict_word-short v
 entry_word-short (entry.Left why peer) = reason_word-short why
+entry_word-short _ = omega arith
 
 pub ack_word-short : (a : Ack) → ((x : ℕ) → a ≡ ack.Doubt x → x < 256) → length (ack_word a) ≤ 9
 ack_word-short ack.Closed small = omega arith
