@@ -1,6 +1,6 @@
 -- Flipped bits are an exclusive or with a mask, which the bits make, whatever the bytes are.
 use Rattle.std.proofs.Common.{◌≡◌, ℕ, zero, suc, ◌+◌, ◌-◌, ◌*◌, ◌^◌, ◌<◌, Bool, true, false, cond}
-use Rattle.std.proofs.Common.{List, [], ◌∷◌, length, replicate, refl, ap, sym, ◌∙◌, subst, arith}
+use Rattle.std.proofs.Common.{List, [], ◌∷◌, length, replicate, refl, ap, sym, ◌∙◌, arith}
 use Rattle.std.specs.Prelude.{◌==◌, nat_lt}
 use Rattle.std.specs.Int.{bit_at}
 use Rattle.std.specs.Int.Bits.{bit_and, xor_add_and, xor_assoc, xor_zero_r}
@@ -54,10 +54,9 @@ flip_here a m bytes mask bit false behind = ap (λ xs. bit_xor a m ∷ xs) behin
 flip_bit-xor : (bytes mask : List ℕ) (bit : ℕ) → length bytes ≡ length mask
     → flip_bit (xor_bytes bytes mask) bit ≡ xor_bytes bytes (flip_bit mask bit)
 flip_bit-xor [] [] bit same = refl
-flip_bit-xor [] (m ∷ mask) bit same = absurd (omega (arith, same))
-flip_bit-xor (a ∷ bytes) [] bit same = absurd (omega (arith, same))
 flip_bit-xor (a ∷ bytes) (m ∷ mask) bit same =
     flip_here a m bytes mask bit (nat_lt bit 8) (flip_bit-xor bytes mask (bit - 8) (omega (arith, same)))
+flip_bit-xor bytes mask bit same = absurd (omega (arith, same))
 
 length-flip_bit : (bytes : List ℕ) (bit : ℕ) → length (flip_bit bytes bit) ≡ length bytes
 length-flip_bit [] bit = refl
@@ -99,7 +98,7 @@ length-mask_of size bits = length-flip_bits bits (replicate size 0) ∙ length-z
 
 flip_in_byte-small : (place byte : ℕ) → place < 8 → byte < 2 ^ 8 → flip_in_byte place byte < 2 ^ 8
 flip_in_byte-small place byte there small =
-    subst (λ n. n < 2 ^ 8) (sym (flip_in_byte-xor place byte)) (xor_of_8 byte (2 ^ place) small (pow-lt there))
+    rw (flip_in_byte-xor place byte) (xor_of_8 byte (2 ^ place) small (pow-lt there))
 
 AreBytes-cons : (byte : ℕ) (bytes : List ℕ) → byte < 2 ^ 8 → AreBytes bytes → AreBytes (byte ∷ bytes)
 AreBytes-cons byte bytes first rest zero = first

@@ -28,23 +28,17 @@ pub record AreSentAlike (list : Medl) (script : Script) (slot : ℕ) (one other 
 
 abbrev pub AreAllSentAlike : Medl → Script → ℕ → List SentFrame → List SentFrame → Type 0
 AreAllSentAlike list script slot [] [] = Unit {0}
-AreAllSentAlike list script slot [] (other ∷ others) = ⊥
-AreAllSentAlike list script slot (one ∷ ones) [] = ⊥
 AreAllSentAlike list script slot (one ∷ ones) (other ∷ others) =
     AreSentAlike list script slot one other × AreAllSentAlike list script slot ones others
+AreAllSentAlike list script slot ones others = ⊥
 
 -- Signals.
 
 abbrev pub AreSignalsAlike : Medl → Signal → Signal → Type 0
 AreSignalsAlike list Silence Silence = Unit {0}
-AreSignalsAlike list Silence Noise = ⊥
-AreSignalsAlike list Silence (Bits q other) = ⊥
-AreSignalsAlike list Noise Silence = ⊥
 AreSignalsAlike list Noise Noise = Unit {0}
-AreSignalsAlike list Noise (Bits q other) = ⊥
-AreSignalsAlike list (Bits p one) Silence = ⊥
-AreSignalsAlike list (Bits p one) Noise = ⊥
 AreSignalsAlike list (Bits p one) (Bits q other) = (p ≡ q) × AreTakenAlike list one other
+AreSignalsAlike list one other = ⊥
 
 kept-alike : (list : Medl) (script : Script) (slot : ℕ) (keeps keeps_too : Bool) (one other : SentFrame)
     (ones others : List SentFrame) → keeps ≡ keeps_too → AreSentAlike list script slot one other
@@ -52,20 +46,18 @@ kept-alike : (list : Medl) (script : Script) (slot : ℕ) (keeps keeps_too : Boo
     → AreAllSentAlike list script slot (cond keeps (one ∷ ones) ones) (cond keeps_too (other ∷ others) others)
 kept-alike list script slot true true one other ones others same alike rest = (alike, rest)
 kept-alike list script slot false false one other ones others same alike rest = rest
-kept-alike list script slot true false one other ones others same alike rest = absurd (cc)
-kept-alike list script slot false true one other ones others same alike rest = absurd (cc)
+kept-alike list script slot keeps keeps_too one other ones others same alike rest = absurd (cc)
 
 remaining-alike : (list : Medl) (script : Script) (slot : ℕ) (c : Channel) (ones others : List SentFrame)
     → AreAllSentAlike list script slot ones others
     → AreAllSentAlike list script slot (remaining_frames script slot c ones) (remaining_frames script slot c others)
 remaining-alike list script slot c [] [] alike = tt
-remaining-alike list script slot c [] (other ∷ others) alike = absurd alike
-remaining-alike list script slot c (one ∷ ones) [] alike = absurd alike
 remaining-alike list script slot c (one ∷ ones) (other ∷ others) alike =
     kept-alike list script slot (remains script slot c one) (remains script slot c other) one other
     (remaining_frames script slot c ones) (remaining_frames script slot c others)
     (ap (λ p. remains script slot c (record { sender = p; bytes = [] })) alike.0.sender) alike.0
     (remaining-alike list script slot c ones others alike.1)
+remaining-alike list script slot c ones others alike = absurd alike
 
 signal-alike : (list : Medl) (script : Script) (slot : ℕ) (c : Channel) (noisy noisy_too : Bool)
     (one other : SentFrame) → noisy ≡ noisy_too → AreSentAlike list script slot one other
@@ -74,15 +66,12 @@ signal-alike : (list : Medl) (script : Script) (slot : ℕ) (c : Channel) (noisy
     (cond noisy_too Noise (Bits other.sender (flip_bits other.bytes (flipped_bits script other.sender c slot))))
 signal-alike list script slot c true true one other same alike = tt
 signal-alike list script slot c false false one other same alike = (alike.sender, alike.taken c)
-signal-alike list script slot c true false one other same alike = absurd (cc)
-signal-alike list script slot c false true one other same alike = absurd (cc)
+signal-alike list script slot c noisy noisy_too one other same alike = absurd (cc)
 
 combined-alike : (list : Medl) (script : Script) (slot : ℕ) (c : Channel) (ones others : List SentFrame)
     → AreAllSentAlike list script slot ones others
     → AreSignalsAlike list (combined_signal script slot c ones) (combined_signal script slot c others)
 combined-alike list script slot c [] [] alike = tt
-combined-alike list script slot c [] (other ∷ others) alike = absurd alike
-combined-alike list script slot c (one ∷ ones) [] alike = absurd alike
 combined-alike list script slot c (one ∷ []) (other ∷ []) alike =
     signal-alike list script slot c (has_send_fault script fault.Noise one.sender c slot)
     (has_send_fault script fault.Noise other.sender c slot) one other
@@ -90,19 +79,15 @@ combined-alike list script slot c (one ∷ []) (other ∷ []) alike =
 combined-alike list script slot c (one ∷ []) (other ∷ another ∷ others) alike = absurd alike.1
 combined-alike list script slot c (one ∷ more ∷ ones) (other ∷ []) alike = absurd alike.1
 combined-alike list script slot c (one ∷ more ∷ ones) (other ∷ another ∷ others) alike = tt
+combined-alike list script slot c ones others alike = absurd alike
 
 noise-alike : (list : Medl) (noisy : Bool) (one other : Signal) → AreSignalsAlike list one other
     → AreSignalsAlike list (with_noise noisy one) (with_noise noisy other)
 noise-alike list noisy Silence Silence alike = tt
-noise-alike list noisy Silence Noise alike = absurd alike
-noise-alike list noisy Silence (Bits q other) alike = absurd alike
-noise-alike list noisy Noise Silence alike = absurd alike
 noise-alike list noisy Noise Noise alike = tt
-noise-alike list noisy Noise (Bits q other) alike = absurd alike
-noise-alike list noisy (Bits p one) Silence alike = absurd alike
-noise-alike list noisy (Bits p one) Noise alike = absurd alike
 noise-alike list true (Bits p one) (Bits q other) alike = tt
 noise-alike list false (Bits p one) (Bits q other) alike = alike
+noise-alike list noisy one other alike = absurd alike
 
 silenced-alike : (list : Medl) (silenced : Bool) (one other : Signal) → AreSignalsAlike list one other
     → AreSignalsAlike list (cond silenced Silence one) (cond silenced Silence other)
@@ -129,42 +114,27 @@ pub record AreHeardAlike (list : Medl) (one other : Hearing) : Type 0 where
 join-alike : (list : Medl) (deviation : ℕ → ℤ) (one other : Signal) → AreSignalsAlike list one other
     → channel_join list deviation one ≡ channel_join list deviation other
 join-alike list deviation Silence Silence alike = refl
-join-alike list deviation Silence Noise alike = refl
-join-alike list deviation Silence (Bits q other) alike = absurd alike
-join-alike list deviation Noise Silence alike = refl
 join-alike list deviation Noise Noise alike = refl
-join-alike list deviation Noise (Bits q other) alike = absurd alike
-join-alike list deviation (Bits p one) Silence alike = absurd alike
-join-alike list deviation (Bits p one) Noise alike = absurd alike
 join-alike list deviation (Bits p one) (Bits q other) alike =
     λ i. join_entry (deviation (alike.0 i)) (alike.1.joined i)
+join-alike list deviation one other alike = absurd alike
 
 view-alike : (list : Medl) (expected : Expected) (deviation : ℕ → ℤ) (one other : Signal)
     → AreSignalsAlike list one other
     → view_of list expected deviation one ≡ view_of list expected deviation other
 view-alike list expected deviation Silence Silence alike = refl
-view-alike list expected deviation Silence Noise alike = absurd alike
-view-alike list expected deviation Silence (Bits q other) alike = absurd alike
-view-alike list expected deviation Noise Silence alike = absurd alike
 view-alike list expected deviation Noise Noise alike = refl
-view-alike list expected deviation Noise (Bits q other) alike = absurd alike
-view-alike list expected deviation (Bits p one) Silence alike = absurd alike
-view-alike list expected deviation (Bits p one) Noise alike = absurd alike
 view-alike list expected deviation (Bits p one) (Bits q other) alike =
     alike.1.seen expected (deviation p)
     ∙ ap (λ s. view_of list expected deviation (Bits s other)) alike.0
+view-alike list expected deviation one other alike = absurd alike
 
 deviation-alike : (list : Medl) (deviation : ℕ → ℤ) (one other : Signal) → AreSignalsAlike list one other
     → heard_deviation deviation one ≡ heard_deviation deviation other
 deviation-alike list deviation Silence Silence alike = refl
-deviation-alike list deviation Silence Noise alike = refl
-deviation-alike list deviation Silence (Bits q other) alike = absurd alike
-deviation-alike list deviation Noise Silence alike = refl
 deviation-alike list deviation Noise Noise alike = refl
-deviation-alike list deviation Noise (Bits q other) alike = absurd alike
-deviation-alike list deviation (Bits p one) Silence alike = absurd alike
-deviation-alike list deviation (Bits p one) Noise alike = absurd alike
 deviation-alike list deviation (Bits p one) (Bits q other) alike = ap (λ s. Some (deviation s)) alike.0
+deviation-alike list deviation one other alike = absurd alike
 
 abbrev heard_so : Signal → Signal → (ℕ → ℤ) → Hearing
 heard_so a b deviation = record { a = a; b = b; deviation = deviation }

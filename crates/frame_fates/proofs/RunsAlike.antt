@@ -155,11 +155,10 @@ older runs = record {
 pub runs-pasts : (list : Medl) (script : Script) (one other : History) → AreRuns list script one other
     → HavePasts list script one other
 runs-pasts list script [] [] runs = record { slots = refl; pasts = λ k node. refl }
-runs-pasts list script [] (row ∷ other) runs = absurd (omega (arith, runs.slots))
-runs-pasts list script (row ∷ one) [] runs = absurd (omega (arith, runs.slots))
 runs-pasts list script (row ∷ one) (row_too ∷ other) runs =
     HavePasts-next list script one other row row_too runs.valid (runs-pasts list script one other (older runs))
     runs.first.0 runs.second.0
+runs-pasts list script one other runs = absurd (omega (arith, runs.slots))
 
 pub runs-clocks : (list : Medl) (script : Script) (one other : History) (k : ℕ) → AreRuns list script one other
     → k < length list.slots → (node_past list script one k).offset ≡ (node_past list script other k).offset
@@ -175,10 +174,9 @@ newest-alike list script one other row row_too runs =
 pub runs-entries : (list : Medl) (script : Script) (one other : History) → AreRuns list script one other
     → unnumbered_history one ≡ unnumbered_history other
 runs-entries list script [] [] runs = refl
-runs-entries list script [] (row ∷ other) runs = absurd (omega (arith, runs.slots))
-runs-entries list script (row ∷ one) [] runs = absurd (omega (arith, runs.slots))
 runs-entries list script (row ∷ one) (row_too ∷ other) runs = λ i.
     newest-alike list script one other row row_too runs i ∷ runs-entries list script one other (older runs) i
+runs-entries list script one other runs = absurd (omega (arith, runs.slots))
 
 -- Deliveries.
 
@@ -222,19 +220,15 @@ length-new_messages p (Some d) = one_or_none (d.sender == p) d.payload
 length-in_messages : (list : Medl) (script : Script) (one other : History) (k p : ℕ) → AreRuns list script one other
     → length (in_messages list script one k p) ≡ length (in_messages list script other k p)
 length-in_messages list script [] [] k p runs = refl
-length-in_messages list script [] (row ∷ other) k p runs = absurd (omega (arith, runs.slots))
-length-in_messages list script (row ∷ one) [] k p runs = absurd (omega (arith, runs.slots))
 length-in_messages list script (row ∷ one) (row_too ∷ other) k p runs =
     let mine = delivered_of list script one row k in
     let theirs = delivered_of list script other row_too k in
-    omega (
-      arith,
-      length-append (in_messages list script one k p) (new_messages p mine),
-      length-append (in_messages list script other k p) (new_messages p theirs),
-      length-in_messages list script one other k p (older runs),
-      length-new_messages p mine ∙ ap (count_of p) (runs-deliveries list script row row_too one other k runs)
-          ∙ sym (length-new_messages p theirs),
-    )
+    let same = length-new_messages p mine ∙ ap (count_of p) (runs-deliveries list script row row_too one other k runs)
+    ∙ sym (length-new_messages p theirs) in
+    let before = length-in_messages list script one other k p (older runs) in
+    let long = length-append (in_messages list script one k p) (new_messages p mine) in
+    omega (arith, long, before, same, length-append (in_messages list script other k p) (new_messages p theirs))
+length-in_messages list script one other k p runs = absurd (omega (arith, runs.slots))
 
 pub runs-received : (list : Medl) (script : Script) (one other : History) (k p : ℕ) → AreRuns list script one other
     → newest_number (in_messages list script one k p) ≡ newest_number (in_messages list script other k p)
@@ -268,8 +262,6 @@ status_words-unnumbered list slot past delivers =
 pub runs-status : (list : Medl) (script : Script) (one other : History) (k : ℕ) → AreRuns list script one other
     → k < length list.slots → status_messages list script one k ≡ status_messages list script other k
 runs-status list script [] [] k runs node = refl
-runs-status list script [] (row ∷ other) k runs node = absurd (omega (arith, runs.slots))
-runs-status list script (row ∷ one) [] k runs node = absurd (omega (arith, runs.slots))
 runs-status list script (row ∷ one) (row_too ∷ other) k runs node =
     let pasts = runs-pasts list script (row ∷ one) (row_too ∷ other) runs in
     let slots = (runs-pasts list script one other (older runs)).slots in
@@ -285,3 +277,4 @@ runs-status list script (row ∷ one) (row_too ∷ other) k runs node =
     ∙ (λ i. status_words list (slots i) (pasts.pasts k node i) (delivers i))
     ∙ sym (status_words-unnumbered list (length other) (node_past list script (row_too ∷ other) k) _) in
     λ i. runs-status list script one other k (older runs) node i ++ words i ∷ []
+runs-status list script one other k runs node = absurd (omega (arith, runs.slots))

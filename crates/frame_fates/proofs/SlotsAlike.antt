@@ -7,7 +7,7 @@ use Rattle.ttp_base.specs.NodeSet.{below}
 use Rattle.ttp_base.proofs.Below.{below-lt}
 use Rattle.ttp_world.specs.declared.medl.Medl.{Medl}
 use Rattle.ttp_world.specs.declared.node.Act.{Act}
-use Rattle.ttp_world.specs.declared.node.Act.TheVariants.{Off, Gone, Listen, Start, Retry, Leave, Send, Judge}
+use Rattle.ttp_world.specs.declared.node.Act.TheVariants.{Listen, Start, Send, Judge}
 use Rattle.ttp_world.specs.declared.node.Chosen.{Chosen}
 use Rattle.ttp_world.specs.declared.node.Entry.{Entry}
 use Rattle.ttp_world.specs.declared.script.Channel.{Channel}
@@ -69,21 +69,15 @@ frames-alike list script slot k past c d Send valid same = (
 )
 frames-alike list script slot k past c d Start valid same =
     (record { sender = refl; taken = λ ch. same-alike list _ }, tt)
-frames-alike list script slot k past c d Off valid same = tt
-frames-alike list script slot k past c d Gone valid same = tt
-frames-alike list script slot k past c d Listen valid same = tt
-frames-alike list script slot k past c d Retry valid same = tt
-frames-alike list script slot k past c d (Leave why) valid same = tt
-frames-alike list script slot k past c d Judge valid same = tt
+frames-alike list script slot k past c d _ valid same = tt
 
 alike-append : (list : Medl) (script : Script) (slot : ℕ) (ones others more more_too : List SentFrame)
     → AreAllSentAlike list script slot ones others → AreAllSentAlike list script slot more more_too
     → AreAllSentAlike list script slot (ones ++ more) (others ++ more_too)
 alike-append list script slot [] [] more more_too alike rest = rest
-alike-append list script slot [] (other ∷ others) more more_too alike rest = absurd alike
-alike-append list script slot (one ∷ ones) [] more more_too alike rest = absurd alike
 alike-append list script slot (one ∷ ones) (other ∷ others) more more_too alike rest =
     (alike.0, alike-append list script slot ones others more more_too alike.1 rest)
+alike-append list script slot ones others more more_too alike rest = absurd alike
 
 alike-each : (list : Medl) (script : Script) (slot n : ℕ) (f g : ℕ → List SentFrame)
     → ((k : ℕ) → k < n → AreAllSentAlike list script slot (f k) (g k)) → (ks : List ℕ)
@@ -106,12 +100,6 @@ frames_in-alike s cs ds valid long =
 new_entry-alike : (list : Medl) (k : ℕ) (past : NodePast) (c d : Chosen) (h g : Hearing) (does : Act)
     → AreSignalsAlike list h.a g.a → AreSignalsAlike list h.b g.b → h.deviation ≡ g.deviation
     → unnumbered (new_entry list k past c h does) ≡ unnumbered (new_entry list k past d g does)
-new_entry-alike list k past c d h g Send a b at = refl
-new_entry-alike list k past c d h g Off a b at = refl
-new_entry-alike list k past c d h g Gone a b at = refl
-new_entry-alike list k past c d h g Start a b at = refl
-new_entry-alike list k past c d h g Retry a b at = refl
-new_entry-alike list k past c d h g (Leave why) a b at = refl
 new_entry-alike list k past c d h g Listen a b at =
     ap unnumbered (listening-alike list h.deviation h.a h.b g.a g.b a b
     ∙ ap (λ (deviation : ℕ → ℤ). new_entry list k past d
@@ -120,6 +108,7 @@ new_entry-alike list k past c d h g Judge a b at =
     ap unnumbered (judging-alike list k past h.deviation h.a h.b g.a g.b a b
     ∙ ap (λ (deviation : ℕ → ℤ). new_entry list k past d
     (record { a = g.a; b = g.b; deviation = deviation }) Judge) at)
+new_entry-alike list k past c d h g _ a b at = refl
 
 entry_in-alike : (s : BegunSlot) (cs ds : List Chosen) (k : ℕ) → IsValidScript s.list s.script → AreAsLong s cs ds
     → unnumbered (entry_in s cs (frames_in s cs) k) ≡ unnumbered (entry_in s ds (frames_in s ds) k)

@@ -102,12 +102,8 @@ flipped-alike list header c payload other bits same kept = record {
 
     as_long : length (bytes_of other) ≡ length (bytes_of payload)
     as_long =
-        omega (
-          arith,
-          length-frame (member_width list) header c payload list.schedule,
-          length-frame (member_width list) header c other list.schedule,
-          same,
-        )
+        let short = length-frame (member_width list) header c payload list.schedule in
+        omega (arith, short, length-frame (member_width list) header c other list.schedule, same)
 
     mine : flip_bits (bytes_of payload) bits ≡ xor_bytes (bytes_of payload) mask
     mine = flip_bits-mask (bytes_of payload) bits

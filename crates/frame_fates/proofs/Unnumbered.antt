@@ -8,7 +8,7 @@ use Rattle.std.proofs.lemmas.List.{length-map}
 use Rattle.ttp_base.specs.NodeSet.{below}
 use Rattle.ttp_world.specs.declared.medl.Medl.{Medl}
 use Rattle.ttp_world.specs.declared.node.Act.{Act}
-use Rattle.ttp_world.specs.declared.node.Act.TheVariants.{Off, Gone, Listen, Start, Retry, Leave, Send, Judge}
+use Rattle.ttp_world.specs.declared.node.Act.TheVariants.{Send}
 use Rattle.ttp_world.specs.declared.node.Chosen.{Chosen}
 use Rattle.ttp_world.specs.declared.node.Delivered.{Delivered}
 use Rattle.ttp_world.specs.declared.node.Entry.{Entry}
@@ -38,55 +38,28 @@ act-unnumbered list k on armed past = by past.phase
   where
     by : (p : Phase) → phase_act p list k on armed (unnumbered_past past) ≡ phase_act p list k on armed past
     by phase.Off = refl
-    by phase.Left = refl
-    by phase.Listening = refl
-    by phase.Active = refl
+    by _ = refl
 
 node_frames-unnumbered : (list : Medl) (k : ℕ) (past : NodePast) (chosen : Chosen) (does : Act)
     → node_frames list k (unnumbered_past past) chosen does ≡ node_frames list k past chosen does
 node_frames-unnumbered list k past chosen Send = refl
-node_frames-unnumbered list k past chosen Off = refl
-node_frames-unnumbered list k past chosen Gone = refl
-node_frames-unnumbered list k past chosen Listen = refl
-node_frames-unnumbered list k past chosen Start = refl
-node_frames-unnumbered list k past chosen Retry = refl
-node_frames-unnumbered list k past chosen (Leave why) = refl
-node_frames-unnumbered list k past chosen Judge = refl
+node_frames-unnumbered list k past chosen _ = refl
 
 sends_payload-unnumbered : (list : Medl) (past : NodePast) (does : Act)
     → sends_payload list (unnumbered_past past) does ≡ sends_payload list past does
 sends_payload-unnumbered list past Send = refl
-sends_payload-unnumbered list past Off = refl
-sends_payload-unnumbered list past Gone = refl
-sends_payload-unnumbered list past Listen = refl
-sends_payload-unnumbered list past Start = refl
-sends_payload-unnumbered list past Retry = refl
-sends_payload-unnumbered list past (Leave why) = refl
-sends_payload-unnumbered list past Judge = refl
+sends_payload-unnumbered list past _ = refl
 
 new_entry-unnumbered : (list : Medl) (k : ℕ) (past : NodePast) (chosen : Chosen) (h : Hearing) (does : Act)
     → new_entry list k (unnumbered_past past) chosen h does ≡ new_entry list k past chosen h does
 new_entry-unnumbered list k past chosen h Send = refl
-new_entry-unnumbered list k past chosen h Off = refl
-new_entry-unnumbered list k past chosen h Gone = refl
-new_entry-unnumbered list k past chosen h Listen = refl
-new_entry-unnumbered list k past chosen h Start = refl
-new_entry-unnumbered list k past chosen h Retry = refl
-new_entry-unnumbered list k past chosen h (Leave why) = refl
-new_entry-unnumbered list k past chosen h Judge = refl
+new_entry-unnumbered list k past chosen h _ = refl
 
 pub past_after-unnumbered : (list : Medl) (k : ℕ) (past : NodePast) (e : Entry) (s : SlotSurroundings)
     → unnumbered_past (past_after list k past e s)
     ≡ unnumbered_past (past_after list k (unnumbered_past past) (unnumbered e) s)
 past_after-unnumbered list k past (entry.Sent message) s = refl
-past_after-unnumbered list k past entry.Off s = refl
-past_after-unnumbered list k past entry.Waited s = refl
-past_after-unnumbered list k past entry.Retried s = refl
-past_after-unnumbered list k past entry.Gone s = refl
-past_after-unnumbered list k past entry.Started s = refl
-past_after-unnumbered list k past (entry.Joined sender cstate deviation) s = refl
-past_after-unnumbered list k past (entry.Judged sender v deviation) s = refl
-past_after-unnumbered list k past (entry.Left why peer) s = refl
+past_after-unnumbered list k past _ s = refl
 
 -- what it delivers comes from the same sender, whatever it heard
 sender_if : (b : Bool) (d e : Delivered) → d.sender ≡ e.sender
@@ -99,14 +72,7 @@ pub delivery-unnumbered : (list : Medl) (k : ℕ) (past : NodePast) (h g : Heari
     ≡ sender_delivered (delivery list k (unnumbered_past past) g (unnumbered e))
 delivery-unnumbered list k past h g (entry.Judged sender v deviation) =
     sender_if (is_correct v && carries_payload list (coming_place list past)) _ _ refl
-delivery-unnumbered list k past h g (entry.Sent message) = refl
-delivery-unnumbered list k past h g entry.Off = refl
-delivery-unnumbered list k past h g entry.Waited = refl
-delivery-unnumbered list k past h g entry.Retried = refl
-delivery-unnumbered list k past h g entry.Gone = refl
-delivery-unnumbered list k past h g entry.Started = refl
-delivery-unnumbered list k past h g (entry.Joined sender cstate deviation) = refl
-delivery-unnumbered list k past h g (entry.Left why peer) = refl
+delivery-unnumbered list k past h g _ = refl
 
 -- A row: who sent in it.
 
@@ -115,14 +81,7 @@ entry_of-unnumbered row k = get_or-map unnumbered row k entry.Off
 
 pub is_sending-unnumbered : (e : Entry) → is_sending (unnumbered e) ≡ is_sending e
 is_sending-unnumbered (entry.Sent message) = refl
-is_sending-unnumbered entry.Off = refl
-is_sending-unnumbered entry.Waited = refl
-is_sending-unnumbered entry.Retried = refl
-is_sending-unnumbered entry.Gone = refl
-is_sending-unnumbered entry.Started = refl
-is_sending-unnumbered (entry.Joined sender cstate deviation) = refl
-is_sending-unnumbered (entry.Judged sender v deviation) = refl
-is_sending-unnumbered (entry.Left why peer) = refl
+is_sending-unnumbered _ = refl
 
 senders_in-unnumbered : (row : List Entry) → senders_in (unnumbered_row row) ≡ senders_in row
 senders_in-unnumbered row =
