@@ -7,9 +7,8 @@ use Rattle.std.specs.Option.{option_or}
 use Rattle.std.proofs.lemmas.Bool.{and_parts}
 use Rattle.std.proofs.lemmas.Int.{ints}
 use Rattle.ttp_world.specs.declared.medl.Medl.{Medl}
-use Rattle.ttp_world.specs.declared.node.Ack.TheVariants as ack
 use Rattle.ttp_world.specs.declared.node.Act.{Act}
-use Rattle.ttp_world.specs.declared.node.Act.TheVariants.{Off, Gone, Listen, Start, Retry, Leave, Send, Judge}
+use Rattle.ttp_world.specs.declared.node.Act.TheVariants.{Listen, Leave, Judge}
 use Rattle.ttp_world.specs.declared.node.ChannelView.{ChannelView}
 use Rattle.ttp_world.specs.declared.node.ChannelView.TheVariants as view
 use Rattle.ttp_world.specs.declared.node.Chosen.{Chosen}
@@ -87,7 +86,8 @@ taken-near : (list : Medl) (from_a : Bool) (va vb : ChannelView) (a b : Option �
     → (va ≡ view.First → IsHeardNear list a) → (vb ≡ view.First → IsHeardNear list b)
     → IsNear list (entry_deviation from_a a b)
 taken-near list true va vb None b is near_a near_b = absurd (near_a is)
-taken-near list true va vb (Some d) _ is near_a near_b = near_a is
+taken-near list true va vb (Some d) None is near_a near_b = near_a is
+taken-near list true va vb (Some d) (Some other) is near_a near_b = near_a is
 taken-near list false va vb a None is near_a near_b = absurd (near_b is)
 taken-near list false va vb None (Some d) is near_a near_b = near_b is
 taken-near list false va vb (Some other) (Some d) is near_a near_b = near_b is

@@ -9,7 +9,6 @@ use Rattle.ttp_world.specs.declared.node.Act.{Act}
 use Rattle.ttp_world.specs.declared.node.Act.TheVariants.{Off, Listen}
 use Rattle.ttp_world.specs.declared.node.Chosen.{Chosen}
 use Rattle.ttp_world.specs.declared.node.Entry.{Entry}
-use Rattle.ttp_world.specs.declared.script.Event.TheVariants as event
 use Rattle.ttp_world.specs.declared.script.Script.{Script}
 use Rattle.ttp_world.specs.declared.script.TheConstants.{DRIFT_LIMIT}
 use Rattle.ttp_world.specs.Diary.{History, entry_of}
