@@ -10,6 +10,7 @@ use Rattle.ttp_world.specs.declared.script.Source.TheVariants as source
 use Rattle.ttp_world.specs.Medl.{IsValid}
 use Rattle.ttp_world.specs.Script.{IsSource, IsValidEvent, IsValidScript}
 
+-- one that a list is valid
 pub valid_is_prop : (list : Medl) → IsProp (IsValid list)
 valid_is_prop list = hlevel props
 
@@ -27,5 +28,6 @@ event_is_prop list script (event.Arm node slot) = hlevel props
 event_is_prop list script (event.Write node slot payload) = hlevel props
 event_is_prop list script (event.Read node slot from) = hlevel (props, source_is_prop)
 
+-- one that a script is
 pub valid_script_is_prop : (list : Medl) (script : Script) → IsProp (IsValidScript list script)
 valid_script_is_prop list script = hlevel (props, event_is_prop)

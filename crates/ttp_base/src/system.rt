@@ -8,7 +8,7 @@ use crate::library::{Library, LoadError};
 use crate::pieces::{Piece, Pieces};
 use crate::sink::Sink;
 use crate::source::{Trouble, Untold};
-use crate::streams::{read_front, write_whole};
+use crate::streams::{read_front, write_rest, write_whole};
 use crate::target::Onto;
 use std::alloc::Global;
 use std::fs;
@@ -154,7 +154,7 @@ impl<W: Write + Drop> StreamSink<BufWriter<W>> {
     {
         let (writer, rest) = self.onto.writer.into_parts();
         let mut onto = Onto { writer };
-        match write_whole(&mut onto, rest.as_slice()) {
+        match write_rest(&mut onto, rest.as_slice()) {
             Ok(()) => Ok(onto.writer),
             Err(_) => Err(Failed),
         }
