@@ -381,26 +381,26 @@ fn has_lines<R: Threads + Wait + Sync + AllocGlobal + Abort>(
 
 #[test]
 fn runs_have_the_lines_that_were_worked_out(rt: HostRuntime) -> Result<(), Fail> {
-    let runs: &[&Run<'_>] = &[
-        &COLLIDING,
-        &NOISY,
-        &SILENCED,
-        &DEAF_BEFORE_IT_SENDS,
-        &DEAF_ON_ONE_CHANNEL,
-        &DEAF_IN_MID_ROUND,
-        &DEAF_AND_SENDING,
-        &DEAF_FOR_GOOD,
-        &ONE_CHANNEL_NOISY,
-        &FOUR_NODES,
-        &PAYLOAD,
-        &EIGHT_NODES,
-        &LATE,
-        &DRIFTING,
-        &JUMPING,
-        &ARMED,
-        &TWENTY_FOUR,
+    let runs = [
+        COLLIDING,
+        NOISY,
+        SILENCED,
+        DEAF_BEFORE_IT_SENDS,
+        DEAF_ON_ONE_CHANNEL,
+        DEAF_IN_MID_ROUND,
+        DEAF_AND_SENDING,
+        DEAF_FOR_GOOD,
+        ONE_CHANNEL_NOISY,
+        FOUR_NODES,
+        PAYLOAD,
+        EIGHT_NODES,
+        LATE,
+        DRIFTING,
+        JUMPING,
+        ARMED,
+        TWENTY_FOUR,
     ];
-    for run in runs {
+    for run in &runs {
         has_lines(&rt, run)?;
     }
     Ok(())
@@ -422,7 +422,7 @@ fn runs_with_equal_traces(rt: HostRuntime) -> Result<(), Fail> {
 
 #[test]
 fn scripts_that_are_refused(rt: HostRuntime) -> Result<(), Fail> {
-    let wrong: &[(&str, &str)] = &[
+    let wrong: [(&str, &str); 33] = [
         ("", "script: line 1 no slots\n"),
         ("# nothing\n\n", "script: line 3 no slots\n"),
         ("on 0 0\n", "script: line 1 no slots\n"),
@@ -471,7 +471,7 @@ fn scripts_that_are_refused(rt: HostRuntime) -> Result<(), Fail> {
         ("slots 20\nread 1 3 1\n", "script: line 2 range\n"),
     ];
     for (script, line) in wrong {
-        gives_for(&rt, "run", (HEAD, "FTSS"), script, 4, &[*line])?;
+        gives_for(&rt, "run", (HEAD, "FTSS"), script, 4, &[line])?;
     }
     let list = (ONE_BUFFER_HEAD, "FTSS");
     let line = "script: line 2 no buffer\n";
