@@ -1,6 +1,6 @@
 -- The averages that two nodes take of the deviations of the same frames bring their clocks together.
 use Rattle.std.proofs.Common.{◌≡◌, ℕ, zero, suc, ◌<◌, ◌≤◌, ℤ, pos, neg_ℤ, ◌+ℤ◌, ◌-ℤ◌, ◌≤ℤ◌, true, false}
-use Rattle.std.proofs.Common.{cond, List, [], ◌∷◌, length, take, drop, refl, ap, ◌∙◌, arith}
+use Rattle.std.proofs.Common.{List, [], ◌∷◌, length, take, drop, refl, ap, ◌∙◌, arith}
 use Rattle.std.specs.Prelude.{All, nat_lt, int_div}
 use Rattle.std.proofs.lemmas.Int.{ints}
 use Rattle.std.proofs.lemmas.List.{length-take-le}
@@ -18,9 +18,8 @@ IsUpTo w z = (neg_ℤ w ≤ℤ z) × (z ≤ℤ w)
 -- each note of a clock tells where the frame beside it was, within w: clock and note together
 abbrev pub Locate : ℤ → ℤ → List ℤ → List ℤ → Type 0
 Locate w clock [] [] = Unit {0}
-Locate w clock [] (x ∷ xs) = ⊥
-Locate w clock (d ∷ ds) [] = ⊥
 Locate w clock (d ∷ ds) (x ∷ xs) = IsUpTo w ((clock +ℤ d) -ℤ x) × Locate w clock ds xs
+Locate w clock ds xs = ⊥
 
 -- so do the newest notes, of the newest frames: there may be more frames than notes
 abbrev pub LocateNewest : ℤ → ℤ → List ℤ → List ℤ → Type 0
@@ -46,19 +45,17 @@ AreBelow-located w b c (suc n) (d ∷ ds) (e ∷ es) (x ∷ xs) p q many enough 
 
 pub length-located : (w b : ℤ) (ds xs : List ℤ) → Locate w b ds xs → length ds ≡ length xs
 length-located w b [] [] p = refl
-length-located w b [] (x ∷ xs) p = absurd p
-length-located w b (d ∷ ds) [] p = absurd p
 length-located w b (d ∷ ds) (x ∷ xs) p = ap suc (length-located w b ds xs p.1)
+length-located w b ds xs p = absurd p
 
 -- The middle two of four.
 
 first_two_below : (c : ℤ) (xs ys : List ℤ) → AreBelow c xs ys → 2 ≤ length xs
     → sum_ℤ (take 2 xs) ≤ℤ (sum_ℤ (take 2 ys) +ℤ (c +ℤ c))
-first_two_below c [] ys h two = absurd (omega (arith, two))
-first_two_below c (x ∷ []) ys h two = absurd (omega (arith, two))
+first_two_below c (x ∷ x1 ∷ xs) (y ∷ y1 ∷ ys) h two = omega (arith, ints, h.0, h.1.0)
 first_two_below c (x ∷ x1 ∷ xs) [] h two = absurd h
 first_two_below c (x ∷ x1 ∷ xs) (y ∷ []) h two = absurd h.1
-first_two_below c (x ∷ x1 ∷ xs) (y ∷ y1 ∷ ys) h two = omega (arith, ints, h.0, h.1.0)
+first_two_below c xs ys h two = absurd (omega (arith, two))
 
 middle_below : (c : ℤ) (xs ys : List ℤ) → AreBelow c xs ys → length xs ≡ 4
     → sum_ℤ (take 2 (drop 1 xs)) ≤ℤ (sum_ℤ (take 2 (drop 1 ys)) +ℤ (c +ℤ c))
@@ -75,14 +72,10 @@ half_below c y z below =
 -- Averages.
 
 fta-many : (notes : List ℤ) → 4 ≤ length notes → fta notes ≡ middle_half (take 4 notes)
-fta-many notes enough =
-    let many : nat_lt (length notes) 4 ≡ false = grind arith in
-    ap (λ b. cond b (pos 0) (middle_half (take 4 notes))) many
+fta-many notes enough = let many : nat_lt (length notes) 4 ≡ false = grind arith in rw many
 
 pub fta-few : (notes : List ℤ) → length notes < 4 → fta notes ≡ pos 0
-fta-few notes few =
-    let short : nat_lt (length notes) 4 ≡ true = grind arith in
-    ap (λ b. cond b (pos 0) (middle_half (take 4 notes))) short
+fta-few notes few = let short : nat_lt (length notes) 4 ≡ true = grind arith in rw short
 
 middle_half-below : (c : ℤ) (ds es : List ℤ) → AreBelow c (take 4 ds) (take 4 es) → 4 ≤ length ds
     → middle_half (take 4 ds) ≤ℤ (middle_half (take 4 es) +ℤ (c +ℤ pos 1))

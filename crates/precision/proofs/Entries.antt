@@ -13,7 +13,7 @@ use Rattle.ttp_world.specs.declared.node.Entry.{Entry}
 use Rattle.ttp_world.specs.declared.node.Entry.TheVariants as entry
 use Rattle.ttp_world.specs.declared.script.Script.{Script}
 use Rattle.ttp_world.specs.After.{is_active_entry}
-use Rattle.ttp_world.specs.Clock.{notes_in, begins_round, stint_notes, notes_of, fta, join_deviation, slot_change}
+use Rattle.ttp_world.specs.Clock.{notes_in, begins_round, stint_notes, notes_of, join_deviation, slot_change}
 use Rattle.ttp_world.specs.Clock.{correction_of, offset_of}
 use Rattle.ttp_world.specs.Diary.{Diary, History, SlotSurroundings, Surroundings, begins_stint, continues_stint, Place}
 use Rattle.ttp_world.specs.Diary.{next_place, stint_place, place_of, ends_round, diary_of}
@@ -113,17 +113,13 @@ correction_of-active : (list : Medl) (k : ℕ) (diary : Diary) (e : Entry) → i
     → correction_of list k (e ∷ diary)
     ≡ correction list (stint_place list k (e ∷ diary)).slot (stint_notes list k (e ∷ diary))
 correction_of-active list k diary entry.Started h =
-    elim-cond (ends_round list (stint_place list k (entry.Started ∷ diary)))
-    (fta (stint_notes list k (entry.Started ∷ diary))) (pos 0)
+    elim-cond (ends_round list (stint_place list k (entry.Started ∷ diary))) _ _
 correction_of-active list k diary (entry.Joined sender cstate deviation) h =
-    elim-cond (ends_round list (stint_place list k (entry.Joined sender cstate deviation ∷ diary)))
-    (fta (stint_notes list k (entry.Joined sender cstate deviation ∷ diary))) (pos 0)
+    elim-cond (ends_round list (stint_place list k (entry.Joined sender cstate deviation ∷ diary))) _ _
 correction_of-active list k diary (entry.Sent message) h =
-    elim-cond (ends_round list (stint_place list k (entry.Sent message ∷ diary)))
-    (fta (stint_notes list k (entry.Sent message ∷ diary))) (pos 0)
+    elim-cond (ends_round list (stint_place list k (entry.Sent message ∷ diary))) _ _
 correction_of-active list k diary (entry.Judged sender v deviation) h =
-    elim-cond (ends_round list (stint_place list k (entry.Judged sender v deviation ∷ diary)))
-    (fta (stint_notes list k (entry.Judged sender v deviation ∷ diary))) (pos 0)
+    elim-cond (ends_round list (stint_place list k (entry.Judged sender v deviation ∷ diary))) _ _
 correction_of-active list k diary _ h = absurd (false≢true h)
 
 slot_change-active : (e : Entry) (s : SlotSurroundings) (c : ℤ) → is_active_entry e ≡ true
@@ -134,21 +130,16 @@ slot_change-active (entry.Sent message) s c h = refl
 slot_change-active (entry.Judged sender v deviation) s c h = refl
 slot_change-active _ s c h = absurd (false≢true h)
 
-regroup : (o j d v c : ℤ) → o +ℤ (j +ℤ (d +ℤ (v +ℤ c))) ≡ (o +ℤ (j +ℤ (d +ℤ v))) +ℤ c
-regroup o j d v c = omega (arith, ints)
-
 pub offset_corrected : (list : Medl) (k : ℕ) (diary : Diary) (surroundings : Surroundings) (e : Entry)
     (s : SlotSurroundings) (place : Place)
     → is_active_entry e ≡ true → stint_place list k (e ∷ diary) ≡ place
     → offset_of list k (e ∷ diary) (s ∷ surroundings)
     ≡ uncorrected list k diary surroundings e s +ℤ correction list place.slot (stint_notes list k (e ∷ diary))
 offset_corrected list k diary surroundings e s place active is =
-    ap (λ z. offset_of list k diary surroundings +ℤ z)
-    (slot_change-active e s (correction_of list k (e ∷ diary)) active)
-    ∙ regroup (offset_of list k diary surroundings) s.jump s.drift (join_deviation e) (correction_of list k (e ∷ diary))
-    ∙ ap (λ c. uncorrected list k diary surroundings e s +ℤ c)
-    (correction_of-active list k diary e active ∙ ap
-    (λ (p : Place). correction list p.slot (stint_notes list k (e ∷ diary))) is)
+    let change = slot_change-active e s (correction_of list k (e ∷ diary)) active in
+    let corrected = correction_of-active list k diary e active
+    ∙ ap (λ (p : Place). correction list p.slot (stint_notes list k (e ∷ diary))) is in
+    rw (change, corrected) (omega (arith, ints))
 
 -- The beginning of a slot.
 
@@ -161,7 +152,5 @@ pub clock_at-still : (list : Medl) (script : Script) (history : History) (k : �
     → jump_of script k (length history) ≡ pos 0
     → clock_at list script history k ≡ offset_of list k (diary_of history k) (surroundings_of script history k)
 clock_at-still list script history k still =
-    let node = node_after list script history k in
-    ap (λ z. offset_of list k (diary_of history k) (surroundings_of script history k) +ℤ jump_taken node.act z) still
-    ∙ ap (λ z. offset_of list k (diary_of history k) (surroundings_of script history k) +ℤ z) (no_jump_taken node.act)
-    ∙ plus_none (offset_of list k (diary_of history k) (surroundings_of script history k))
+    rw (still, no_jump_taken (node_after list script history k).act)
+    (plus_none (offset_of list k (diary_of history k) (surroundings_of script history k)))

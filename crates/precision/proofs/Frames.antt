@@ -121,10 +121,8 @@ told_noted list script history p k place o (entry.Sent message) runs h =
     with_note (list.error +ℤ list.drift) (moved script k o (pos 0)) (pos 0) (frame_of list script history p)
     (plan_at list place.slot).sync (omega (arith, ints, own_frame list script history k p o runs h))
 told_noted list script history p k place o (entry.Judged sender v deviation) runs h =
-    rw h.0
-    (with_note (list.error +ℤ list.drift) (moved script k o (pos 0)) deviation (frame_of list script history p)
-    (plan_at list place.slot).sync
-    (omega (arith, ints, other_frame list script history k p o deviation runs h.1)))
+    rw h.0 (with_note (list.error +ℤ list.drift) (moved script k o (pos 0)) deviation (frame_of list script history p)
+    (plan_at list place.slot).sync (omega (arith, ints, other_frame list script history k p o deviation runs h.1)))
 told_noted list script history p k place o _ runs h = absurd h
 
 pub told_goes : (list : Medl) (script : Script) (history : History) (p k : ℕ) (e : Entry)

@@ -1,6 +1,7 @@
 -- Nodes that run as a company: in each slot all are at the same place, and their clocks are held.
-use Rattle.std.proofs.Common.{◌≡◌, ◌≢◌, ℕ, suc, ◌+◌, ◌<◌, ◌≤◌, ℤ, pos, ◌+ℤ◌, ◌-ℤ◌, ◌≤ℤ◌, Bool, true, false}
+use Rattle.std.proofs.Common.{◌≡◌, ℕ, suc, ◌+◌, ◌<◌, ◌≤◌, ℤ, pos, ◌+ℤ◌, ◌-ℤ◌, ◌≤ℤ◌, Bool, true, false}
 use Rattle.std.proofs.Common.{◌⊎◌, inl, inr, List, [], ◌∷◌, length, None, cond, refl, ap, sym, subst, ◌∙◌, arith}
+use Rattle.std.proofs.Common.{add-one}
 use Rattle.std.specs.Prelude.{◌==◌, ◌||◌, All, IsTrue}
 use Rattle.std.proofs.lemmas.Bool.{cond_both, eqb-true, eqb-false, false≢true}
 use Rattle.std.proofs.lemmas.Int.{ints}
@@ -9,7 +10,7 @@ use Rattle.ttp_world.specs.declared.medl.Medl.{Medl}
 use Rattle.ttp_world.specs.declared.node.Entry.{Entry}
 use Rattle.ttp_world.specs.declared.script.Script.{Script}
 use Rattle.ttp_world.specs.After.{is_active_entry}
-use Rattle.ttp_world.specs.Clock.{join_deviation, notes_in, begins_round, stint_notes, offset_of, fta}
+use Rattle.ttp_world.specs.Clock.{join_deviation, notes_in, begins_round, stint_notes, offset_of}
 use Rattle.ttp_world.specs.Diary.{History, entry_of, diary_of, continues_stint, begins_stint, Place, next_place}
 use Rattle.ttp_world.specs.Diary.{stint_place, place_of, ends_round}
 use Rattle.ttp_world.specs.Hypothesis.{needed, clocks_broken}
@@ -30,8 +31,7 @@ use Rattle.precision.proofs.Frames.{begun_near, frames_at, begun_noted, told_not
 use Rattle.precision.proofs.ClockBounds.{drift_within, error_within}
 use Rattle.precision.proofs.Rounds.{Held, Slot, IsSame, Comes, WasThere, IsNew, held_part, held_begun, held_next}
 use Rattle.precision.proofs.Rounds.{held_grown, held_corrected, frame_come, correction, corrected_last}
-use Rattle.precision.proofs.Rounds.{corrected_inside}
-use Rattle.precision.proofs.Rounds.{drifted, entry_width, product_twice}
+use Rattle.precision.proofs.Rounds.{corrected_inside, AreWithin, after_average, drifted, entry_width, product_twice}
 use Rattle.precision.proofs.Rounds.{settled_within, company_within}
 use Rattle.precision.proofs.Entries.{begun_active, continued_active, place_of-active, notes_of-active, place_continued}
 use Rattle.precision.proofs.Entries.{begins_no_stint, notes_next, begun_round_first, offset_corrected, clock_at-still}
@@ -67,20 +67,6 @@ record RunsOn (list : Medl) (script : Script) (group : ℕ → Bool) (history : 
   runs : (k : ℕ) → IsIn list group k → RunsFrom list script history k (clock_after list script history k)
   calm : AreCalm list script group history
 
--- The clock after one slot more.
-
-clock_next : (list : Medl) (script : Script) (row : List Entry) (history : History) (k : ℕ) (place : Place)
-    → jump_of script k (length history) ≡ pos 0
-    → is_active_entry (entry_of row k) ≡ true → stint_place list k (diary_of (row ∷ history) k) ≡ place
-    → clock_after list script (row ∷ history) k
-    ≡ moved script k (clock_after list script history k) (join_deviation (entry_of row k))
-    +ℤ correction list place.slot (round_notes list (row ∷ history) k)
-clock_next list script row history k place still active is =
-    offset_corrected list k (diary_of history k) (surroundings_of script history k) (entry_of row k)
-    (surroundings_in script (length history) row k) place active is
-    ∙ ap (λ j. (clock_after list script history k +ℤ (j +ℤ (drift_of script k +ℤ join_deviation (entry_of row k))))
-    +ℤ correction list place.slot (round_notes list (row ∷ history) k)) still
-
 -- One slot more.
 
 -- the clock in the slot as it is set by a frame on which the node joins, before it drifts, and after it
@@ -98,32 +84,11 @@ carried list row history place k = cond (begins_round place (entry_of row k)) []
 abbrev added : Medl → List Entry → Place → ℕ → List ℤ
 added list row place k = notes_in list place (entry_of row k)
 
-next_first : (list : Medl) (place : Place) → suc place.slot ≡ length list.slots → (next_place list place).slot ≡ 0
-next_first list place ends =
-    cond_both (suc place.slot == length list.slots) _ _ (λ (there : Place). there.slot ≡ 0)
-    (λ last. refl) (λ other. absurd (eqb-false (suc place.slot) (length list.slots) other ends))
-
-next_later : (list : Medl) (place : Place) → suc place.slot < length list.slots
-    → (next_place list place).slot ≡ suc place.slot
-next_later list place less =
-    cond_both (suc place.slot == length list.slots) _ _ (λ (there : Place). there.slot ≡ suc place.slot)
-    (λ last. absurd (omega (arith, less, eqb-true (suc place.slot) (length list.slots) last))) (λ other. omega arith)
-
 next_inside : (list : Medl) (place : Place) → place.slot < length list.slots
     → (next_place list place).slot < length list.slots
 next_inside list place inside =
     cond_both (suc place.slot == length list.slots) _ _ (λ (there : Place). there.slot < length list.slots)
     (λ last. omega arith) (λ other. omega (arith, eqb-false (suc place.slot) (length list.slots) other))
-
-before_first : (list : Medl) (history : History) (place : Place) (k : ℕ) → place.slot ≡ 0
-    → notes_before list history place k ≡ []
-before_first list history place k first = ap (λ m. cond (m == 0) [] (round_notes list history k)) first
-
-before_later : (list : Medl) (history : History) (place : Place) (k m : ℕ) → place.slot ≡ suc m
-    → notes_before list history place k ≡ round_notes list history k
-before_later list history place k m later =
-    ap (λ q. cond (q == 0) [] (round_notes list history k)) later
-    ∙ ap (λ b. cond b [] (round_notes list history k)) (suc_some m)
 
 -- what a slot makes of a group that is at one place in it
 record IsAt (list : Medl) (script : Script) (group : ℕ → Bool) (l : ℕ) (row : List Entry) (history : History)
@@ -137,276 +102,7 @@ record IsAt (list : Medl) (script : Script) (group : ℕ → Bool) (l : ℕ) (ro
       → (k : ℕ) → IsIn list group k
       → 4 ≤ length (round_notes list (row ∷ history) k)
 
-after_slot : (list : Medl) (script : Script) (may_grow : Bool) (group : ℕ → Bool) (l : ℕ) (row : List Entry)
-    (history : History) (place : Place) (width : ℤ)
-    → IsAt list script group l row history place
-    → Held list may_grow (IsIn list group) l (length history) place.slot width (set_clock list script row history)
-    (carried list row history place)
-    → Slot list may_grow (IsIn list group) (drifted list width place.slot) (set_clock list script row history)
-    (later_clock list script row history) (added list row place)
-    → Kept list script may_grow group l (row ∷ history)
-after_slot list script may_grow group l row history place width at held slot = record {
-  place = next_place list place;
-  inside = next_inside list place at.inside;
-  places = λ k p. ap (next_place list) (at.places k p);
-  width = after.0;
-  held = after.1;
-}
-  where
-    next : Held list may_grow (IsIn list group) l (suc (length history)) (suc place.slot)
-        width (later_clock list script row history) (round_notes list (row ∷ history))
-    next =
-        held_next list may_grow (IsIn list group) l (length history) place.slot width
-        (set_clock list script row history)
-        (later_clock list script row history) (carried list row history place) (added list row place)
-        (round_notes list (row ∷ history)) at.on.up held slot
-        (λ k p. notes_next list k (diary_of history k) (entry_of row k) place (at.places k p))
-
-    moves : (k : ℕ) → IsIn list group k → clock_after list script (row ∷ history) k
-        ≡ later_clock list script row history k
-        +ℤ correction list place.slot (round_notes list (row ∷ history) k)
-    moves k p = clock_next list script row history k place (at.on.calm k p) (at.active k p) (at.places k p)
-
-    by_test : (b : Bool) → (suc place.slot == length list.slots) ≡ b
-        → (w : ℤ) × Held list may_grow (IsIn list group) l (suc (length history)) (next_place list place).slot w
-        (clock_after list script (row ∷ history)) (notes_before list (row ∷ history) (next_place list place))
-    by_test true last =
-        let ends : suc place.slot ≡ length list.slots = eqb-true (suc place.slot) (length list.slots) last in
-        let average = held_corrected list may_grow (IsIn list group) l (suc (length history)) width
-        (later_clock list script row history) (round_notes list (row ∷ history)) at.on.up at.on.error_up
-        (omega (arith, at.began))
-        (subst (λ q. Held list may_grow (IsIn list group) l (suc (length history)) q width
-        (later_clock list script row history) (round_notes list (row ∷ history))) ends next) (at.enough ends) in (
-          average.0,
-          subst (λ q. Held list may_grow (IsIn list group) l (suc (length history)) q average.0
-              (clock_after list script (row ∷ history)) (notes_before list (row ∷ history) (next_place list place)))
-              (sym (next_first list place ends))
-              (held_part list may_grow (IsIn list group) (IsIn list group) l (suc (length history)) 0 average.0
-              (λ k. later_clock list script row history k +ℤ fta (round_notes list (row ∷ history) k))
-              (clock_after list script (row ∷ history)) (λ k. [])
-              (notes_before list (row ∷ history) (next_place list place))
-              (λ k p. record {
-                member = p;
-                same_clock = corrected_last list place.slot (round_notes list (row ∷ history) k)
-                    (later_clock list script row history k) (clock_after list script (row ∷ history) k) last
-                    (moves k p);
-                same_notes = before_first list (row ∷ history) (next_place list place) k (next_first list place ends);
-              }) average.1),
-        )
-    by_test false other =
-        let apart : suc place.slot ≢ length list.slots = eqb-false (suc place.slot) (length list.slots) other in
-        let later : (next_place list place).slot ≡ suc place.slot =
-        next_later list place (omega (arith, at.inside, apart)) in (
-          width,
-          subst (λ q. Held list may_grow (IsIn list group) l (suc (length history)) q width
-              (clock_after list script (row ∷ history)) (notes_before list (row ∷ history) (next_place list place)))
-              (sym later)
-              (held_part list may_grow (IsIn list group) (IsIn list group) l (suc (length history)) (suc place.slot)
-              width
-              (later_clock list script row history) (clock_after list script (row ∷ history))
-              (round_notes list (row ∷ history)) (notes_before list (row ∷ history) (next_place list place))
-              (λ k p. record {
-                member = p;
-                same_clock = corrected_inside list place.slot (round_notes list (row ∷ history) k)
-                    (later_clock list script row history k) (clock_after list script (row ∷ history) k) other
-                    (moves k p);
-                same_notes = before_later list (row ∷ history) (next_place list place) k place.slot later;
-              }) next),
-        )
-
-    after : (w : ℤ) × Held list may_grow (IsIn list group) l (suc (length history)) (next_place list place).slot w
-        (clock_after list script (row ∷ history)) (notes_before list (row ∷ history) (next_place list place))
-    after = by_test (suc place.slot == length list.slots) refl
-
--- Beginning.
-
-carried_begun : (list : Medl) (row : List Entry) (history : History) (place : Place) (k : ℕ)
-    → begins_stint (entry_of row k) ≡ true → carried list row history place k ≡ []
-carried_begun list row history place k begins =
-    ap (λ b. cond b [] (round_notes list history k)) (begun_round_first place (entry_of row k) begins)
-
--- where a frame is noted, it is near a clock
-frames_near : (w x c : ℤ) (sync : Bool) → IsUpTo w (x -ℤ c) → All (λ y. IsUpTo w (y -ℤ c)) (cond sync (x ∷ []) [])
-frames_near w x c true near = All-cons (λ y. IsUpTo w (y -ℤ c)) x [] near (All-nil (λ y. IsUpTo w (y -ℤ c)))
-frames_near w x c false near = All-nil (λ y. IsUpTo w (y -ℤ c))
-
-began_kept : (list : Medl) (script : Script) (may_grow : Bool) (group : ℕ → Bool) (l : ℕ) (row : List Entry)
-    (history : History) → length history ≡ l → RunsOn list script group history
-    → BeganTogether list script group row history → Kept list script may_grow group l (row ∷ history)
-began_kept list script may_grow group l row history first on began =
-    after_slot list script may_grow group l row history place width
-    (record {
-      on = on;
-      began = omega (arith, first);
-      inside = began.inside;
-      active = λ k p. begun_active (entry_of row k) (begins k p);
-      places = λ k p. begun_place list script history began.sender k place (diary_of history k) (entry_of row k)
-          (began.begins k p);
-      enough = λ ends late k p. absurd (omega (arith, late, first, began.inside));
-    }) held
-    (record {
-      moved = λ k p. omega (arith, ints, (on.runs k p).drift);
-      frames = frames_at list place frame;
-      noted = λ k p. begun_noted list script history began.sender k place (list.error +ℤ list.drift)
-          (later_clock list script row history k) frame (entry_of row k) (began.begins k p)
-          (begun_near list script history began.sender k place (clock_after list script history k) (entry_of row k)
-          (on.runs k p) (began.begins k p));
-      near = λ grows k p. frames_near (drifted list width place.slot) frame (set_clock list script row history k)
-          (plan_at list place.slot).sync
-          (omega (arith, ints, set k p, on.error_up, product_twice list.drift place.slot on.up));
-    })
-  where
-    place : Place
-    place = began.place
-
-    width : ℤ
-    width = list.error +ℤ list.error
-
-    frame : ℤ
-    frame = frame_of list script history began.sender
-
-    begins : (k : ℕ) → IsIn list group k → begins_stint (entry_of row k) ≡ true
-    begins k p = begun_stint list script history began.sender k place (entry_of row k) (began.begins k p)
-
-    set : (k : ℕ) → IsIn list group k → IsUpTo list.error (set_clock list script row history k -ℤ frame)
-    set k p =
-        begun_set list script history began.sender k place (clock_after list script history k) (entry_of row k)
-        (on.runs k p) (began.begins k p)
-
-    held : Held list may_grow (IsIn list group) l (length history) place.slot width
-        (set_clock list script row history) (carried list row history place)
-    held =
-        held_part list may_grow (IsIn list group) (IsIn list group) l (length history) place.slot width
-        (set_clock list script row history) (set_clock list script row history) (λ k. [])
-        (carried list row history place)
-        (λ k p. record {
-          member = p;
-          same_clock = refl;
-          same_notes = carried_begun list row history place k (begins k p);
-        })
-        (held_begun list may_grow (IsIn list group) l (length history) place.slot frame
-        (set_clock list script row history) first on.up on.error_up set)
-
--- Going on.
-
--- a node that goes on is as it was
-goes_same : (list : Medl) (script : Script) (before : ℕ → Bool) (row : List Entry) (history : History) (place : Place)
-    (k : ℕ) → IsIn list before k → continues_stint (entry_of row k) ≡ true
-    → IsSame (IsIn list before) (clock_after list script history) (set_clock list script row history)
-    (notes_before list history place) (carried list row history place) k
-goes_same list script before row history place k member goes = record {
-  member = member;
-  same_clock = ap (λ z. clock_after list script history k +ℤ z) (joins_nothing (entry_of row k) goes)
-      ∙ plus_none (clock_after list script history k);
-  same_notes = ap (λ b. cond ((place.slot == 0) || b) [] (round_notes list history k))
-      (begins_no_stint (entry_of row k) goes)
-      ∙ ap (λ b. cond b [] (round_notes list history k)) (or_none (place.slot == 0));
-}
-
--- it tells of a frame
-goes_noted : (list : Medl) (script : Script) (row : List Entry) (history : History) (place : Place) (p k : ℕ)
-    → RunsFrom list script history k (clock_after list script history k)
-    → TellsOf list script history p k (entry_of row k)
-    → Locate (list.error +ℤ list.drift) (later_clock list script row history k) (added list row place k)
-    (frames_at list place (frame_of list script history p))
-goes_noted list script row history place p k runs tells =
-    subst (λ z. Locate (list.error +ℤ list.drift) (moved script k (clock_after list script history k) z)
-    (added list row place k) (frames_at list place (frame_of list script history p)))
-    (sym (joins_nothing (entry_of row k) (told_goes list script history p k (entry_of row k) tells)))
-    (told_noted list script history p k place (clock_after list script history k) (entry_of row k) runs tells)
-
--- the frame of a node that doesn't jump in the slot
-frame_calm : (list : Medl) (script : Script) (before : ℕ → Bool) (history : History) (p : ℕ)
-    → IsCalmIn list script before history p → frame_of list script history p ≡ clock_after list script history p
-frame_calm list script before history p calm =
-    frame_of-node list script history p calm.0.0 ∙ clock_at-still list script history p calm.1
-
-stayed_slot : (list : Medl) (script : Script) (may_grow : Bool) (before group : ℕ → Bool) (l : ℕ) (row : List Entry)
-    (history : History) (place : Place) (width : ℤ)
-    → RunsOn list script group history
-    → ((k : ℕ) → IsIn list group k → place_of list k (diary_of (row ∷ history) k) ≡ place)
-    → (same : (k : ℕ) → IsIn list group k
-    → IsSame (IsIn list before) (clock_after list script history) (set_clock list script row history)
-    (notes_before list history place) (carried list row history place) k)
-    → ((j k : ℕ) → IsIn list before j → IsIn list before k
-    → (clock_after list script history j -ℤ clock_after list script history k) ≤ℤ drifted list width place.slot)
-    → (noted : NotedAlike list script group row history)
-    → (IsTrue may_grow → IsNotedOf list script before group row history noted)
-    → Slot list may_grow (IsIn list group) (drifted list width place.slot) (set_clock list script row history)
-    (later_clock list script row history) (added list row place)
-stayed_slot list script may_grow before group l row history place width on places same apart (Nothing none) from =
-    record {
-      moved = λ k p. omega (arith, ints, (on.runs k p).drift);
-      frames = [];
-      noted = λ k p. rw (← places k p, none k p) tt;
-      near = λ grows k p. All-nil (λ y. IsUpTo (drifted list width place.slot)
-          (y -ℤ set_clock list script row history k));
-    }
-stayed_slot list script may_grow before group l row history place width on places same apart (OneFrame p tells) from =
-    record {
-      moved = λ k q. omega (arith, ints, (on.runs k q).drift);
-      frames = frames_at list place (frame_of list script history p);
-      noted = λ k q. goes_noted list script row history place p k (on.runs k q) (tells k q);
-      near = λ grows k q. frames_near (drifted list width place.slot) (frame_of list script history p)
-          (set_clock list script row history k) (plan_at list place.slot).sync
-          (let calm = frame_calm list script before history p (from grows) in
-          let before_k = apart p k (from grows).0 (same k q).member in
-          omega (arith, ints, calm, (same k q).same_clock, before_k, apart k p (same k q).member (from grows).0));
-    }
-
-stayed_kept : (list : Medl) (script : Script) (may_grow : Bool) (before group : ℕ → Bool) (l : ℕ) (row : List Entry)
-    (history : History) → l < length history → RunsOn list script group history
-    → StayedInCompany list script may_grow before group l row history → Kept list script may_grow before l history
-    → Kept list script may_grow group l (row ∷ history)
-stayed_kept list script may_grow before group l row history later on stayed kept =
-    after_slot list script may_grow group l row history place kept.width
-    (record {
-      on = on;
-      began = omega (arith, later);
-      inside = kept.inside;
-      active = active;
-      places = places;
-      enough = enough;
-    })
-    (held_part list may_grow (IsIn list before) (IsIn list group) l (length history) place.slot kept.width
-    (clock_after list script history) (set_clock list script row history) (notes_before list history place)
-    (carried list row history place) same kept.held)
-    (stayed_slot list script may_grow before group l row history place kept.width on public_places same
-    kept.held.apart stayed.together.noted stayed.noted)
-  where
-    place : Place
-    place = kept.place
-
-    member : (k : ℕ) → IsIn list group k → IsIn list before k
-    member k p = (p.0, stayed.less k p)
-
-    active : (k : ℕ) → IsIn list group k → is_active_entry (entry_of row k) ≡ true
-    active k p = continued_active (entry_of row k) (stayed.together.active k p)
-
-    places : (k : ℕ) → IsIn list group k → stint_place list k (diary_of (row ∷ history) k) ≡ place
-    places k p =
-        place_continued list k (diary_of history k) (entry_of row k) (stayed.together.active k p)
-        ∙ kept.places k (member k p)
-
-    public_places : (k : ℕ) → IsIn list group k → place_of list k (diary_of (row ∷ history) k) ≡ place
-    public_places k p = place_of-active list k (diary_of history k) (entry_of row k) (active k p) ∙ places k p
-
-    same : (k : ℕ) → IsIn list group k
-        → IsSame (IsIn list before) (clock_after list script history) (set_clock list script row history)
-        (notes_before list history place) (carried list row history place) k
-    same k p = goes_same list script before row history place k (member k p) (stayed.together.active k p)
-
-    enough : suc place.slot ≡ length list.slots → l + length list.slots < suc (length history)
-        → (k : ℕ) → IsIn list group k
-        → 4 ≤ length (round_notes list (row ∷ history) k)
-    enough ends late k p =
-        let last : (suc place.slot == length list.slots) ≡ true = grind arith in
-        subst (λ ns. 4 ≤ length ns) (notes_of-active list k (diary_of history k) (entry_of row k) (active k p))
-        (stayed.together.enough k p (ap (ends_round list) (public_places k p) ∙ last, omega (arith, late)))
-
--- Growing.
-
--- a node of the group: of before, or one that comes
+-- a node of a group that grows: of before, or one that comes
 record IsRight (list : Medl) (script : Script) (before : ℕ → Bool) (p : ℕ) (row : List Entry) (history : History)
     (place : Place) (k : ℕ) : Type 0 where
   active : is_active_entry (entry_of row k) ≡ true
@@ -416,81 +112,296 @@ record IsRight (list : Medl) (script : Script) (before : ℕ → Bool) (p : ℕ)
   noted : Locate (list.error +ℤ list.drift) (later_clock list script row history k) (added list row place k)
       (frames_at list place (frame_of list script history p))
 
-grew_kept : (list : Medl) (script : Script) (before group : ℕ → Bool) (older l : ℕ) (row : List Entry)
-    (history : History) → length history ≡ l → RunsOn list script group history
-    → GrewTogether list script before group older row history → Kept list script true before older history
-    → Kept list script true group l (row ∷ history)
-grew_kept list script before group older l row history first on grew kept =
-    after_slot list script true group l row history place (entry_width list true)
-    (record {
-      on = on;
-      began = omega (arith, first);
-      inside = kept.inside;
-      active = λ k p. (by_before k p).active;
-      places = λ k p. (by_before k p).placed;
-      enough = λ ends late k p. absurd (omega (arith, late, first, kept.inside));
-    })
-    (held_grown list (IsIn list before) (IsIn list group) older l (length history) place.slot grew.sender kept.width
-    (clock_after list script history) (set_clock list script row history) (notes_before list history place)
-    (carried list row history place) first on.up on.error_up kept.inside grew.later grew.member.0
-    (λ k p. (by_before k p).comes) kept.held)
-    (record {
-      moved = λ k p. omega (arith, ints, (on.runs k p).drift);
-      frames = frames_at list place (frame_of list script history grew.sender);
-      noted = λ k p. (by_before k p).noted;
-      near = λ grows k p. frames_near (drifted list (entry_width list true) place.slot)
-          (frame_of list script history grew.sender) (set_clock list script row history k)
-          (plan_at list place.slot).sync
-          (rw (frame_calm list script before history grew.sender grew.member)
-          (frame_come list (IsIn list before) grew.sender place.slot k kept.width
-          (clock_after list script history) (set_clock list script row history) (notes_before list history place)
-          (carried list row history place) on.up on.error_up grew.member.0
-          (kept.held.wide.settled (omega (arith, kept.inside, grew.later))) kept.held.apart (by_before k p).comes));
-    })
-  where
-    place : Place
-    place = kept.place
+-- where a frame is noted, it is near a clock
+frames_near : (w x c : ℤ) (sync : Bool) → IsUpTo w (x -ℤ c) → All (λ y. IsUpTo w (y -ℤ c)) (cond sync (x ∷ []) [])
+frames_near w x c true near = All-cons (λ y. IsUpTo w (y -ℤ c)) x [] near (All-nil (λ y. IsUpTo w (y -ℤ c)))
+frames_near w x c false near = All-nil (λ y. IsUpTo w (y -ℤ c))
 
-    was_there : (k : ℕ) → IsIn list group k → before k ≡ true
-        → IsRight list script before grew.sender row history place k
-    was_there k p there =
-        let tells = grew.tells k p there in
-        let goes = told_goes list script history grew.sender k (entry_of row k) tells in
-        record {
-          active = continued_active (entry_of row k) goes;
-          placed = place_continued list k (diary_of history k) (entry_of row k) goes ∙ kept.places k (p.0, there);
-          comes = WasThere (goes_same list script before row history place k (p.0, there) goes);
-          noted = goes_noted list script row history place grew.sender k (on.runs k p) tells;
-        }
+-- the frame of a node that doesn't jump in the slot
+frame_calm : (list : Medl) (script : Script) (before : ℕ → Bool) (history : History) (p : ℕ)
+    → IsCalmIn list script before history p → frame_of list script history p ≡ clock_after list script history p
+frame_calm list script before history p calm =
+    frame_of-node list script history p calm.0.0 ∙ clock_at-still list script history p calm.1
 
-    is_new : (k : ℕ) → IsIn list group k → before k ≡ false → IsRight list script before grew.sender row history place k
-    is_new k p away =
-        let start = next_place list (stint_place list grew.sender (diary_of history grew.sender)) in
-        let begins = grew.begins k p away in
-        let stint = begun_stint list script history grew.sender k start (entry_of row k) begins in
-        record {
-          active = begun_active (entry_of row k) stint;
-          placed = begun_place list script history grew.sender k start (diary_of history k) (entry_of row k) begins
-              ∙ kept.places grew.sender grew.member.0;
-          comes = IsNew (rw (← frame_calm list script before history grew.sender grew.member)
-              (begun_set list script history grew.sender k start (clock_after list script history k) (entry_of row k)
-              (on.runs k p) begins))
-              (carried_begun list row history place k stint);
-          noted = subst (λ (there : Place). Locate (list.error +ℤ list.drift) (later_clock list script row history k)
-              (added list row there k) (frames_at list there (frame_of list script history grew.sender)))
-              (kept.places grew.sender grew.member.0)
-              (begun_noted list script history grew.sender k start (list.error +ℤ list.drift)
-              (later_clock list script row history k) (frame_of list script history grew.sender) (entry_of row k) begins
-              (begun_near list script history grew.sender k start (clock_after list script history k) (entry_of row k)
-              (on.runs k p) begins));
-        }
+module _ (list : Medl) (script : Script) (row : List Entry) (history : History) where
+  abbrev clock : ℕ → ℤ
+  clock = clock_after list script history
 
-    by_before : (k : ℕ) → IsIn list group k → IsRight list script before grew.sender row history place k
-    by_before k p = test (before k) refl
+  abbrev set : ℕ → ℤ
+  set = set_clock list script row history
+
+  abbrev later : ℕ → ℤ
+  later = later_clock list script row history
+
+  abbrev all_notes : ℕ → List ℤ
+  all_notes = round_notes list (row ∷ history)
+
+  clock_next : (k : ℕ) (place : Place) → jump_of script k (length history) ≡ pos 0
+      → is_active_entry (entry_of row k) ≡ true → stint_place list k (diary_of (row ∷ history) k) ≡ place
+      → clock_after list script (row ∷ history) k ≡ later k +ℤ correction list place.slot (all_notes k)
+  clock_next k place still active is =
+      offset_corrected list k (diary_of history k) (surroundings_of script history k) (entry_of row k)
+      (surroundings_in script (length history) row k) place active is
+      ∙ ap (λ j. (clock k +ℤ (j +ℤ (drift_of script k +ℤ join_deviation (entry_of row k))))
+      +ℤ correction list place.slot (all_notes k)) still
+
+  carried_begun : (place : Place) (k : ℕ) → begins_stint (entry_of row k) ≡ true → carried list row history place k ≡ []
+  carried_begun place k begins =
+      ap (λ b. cond b [] (round_notes list history k)) (begun_round_first place (entry_of row k) begins)
+
+  -- a node that goes on is as it was
+  goes_same : (before : ℕ → Bool) (place : Place) (k : ℕ) → IsIn list before k → continues_stint (entry_of row k) ≡ true
+      → IsSame (IsIn list before) clock set (notes_before list history place) (carried list row history place) k
+  goes_same before place k member goes = record {
+    member = member;
+    same_clock = ap (λ z. clock k +ℤ z) (joins_nothing (entry_of row k) goes) ∙ plus_none (clock k);
+    same_notes = ap (λ b. cond ((place.slot == 0) || b) [] (round_notes list history k))
+        (begins_no_stint (entry_of row k) goes)
+        ∙ ap (λ b. cond b [] (round_notes list history k)) (or_none (place.slot == 0));
+  }
+
+  -- it tells of a frame
+  goes_noted : (place : Place) (p k : ℕ) → RunsFrom list script history k (clock k)
+      → TellsOf list script history p k (entry_of row k)
+      → Locate (list.error +ℤ list.drift) (later k) (added list row place k)
+      (frames_at list place (frame_of list script history p))
+  goes_noted place p k runs tells =
+      subst (λ z. Locate (list.error +ℤ list.drift) (moved script k (clock k) z)
+      (added list row place k) (frames_at list place (frame_of list script history p)))
+      (sym (joins_nothing (entry_of row k) (told_goes list script history p k (entry_of row k) tells)))
+      (told_noted list script history p k place (clock k) (entry_of row k) runs tells)
+
+  module _ (group : ℕ → Bool) (l : ℕ) (on : RunsOn list script group history) where
+    after_slot : (may_grow : Bool) (place : Place) (width : ℤ) → IsAt list script group l row history place
+        → Held list may_grow (IsIn list group) l (length history) place.slot width set (carried list row history place)
+        → Slot list may_grow (IsIn list group) (drifted list width place.slot) set later (added list row place)
+        → Kept list script may_grow group l (row ∷ history)
+    after_slot may_grow place width at held slot = record {
+      place = next_place list place;
+      inside = next_inside list place at.inside;
+      places = λ k p. ap (next_place list) (at.places k p);
+      width = after.0;
+      held = after.1;
+    }
       where
-        test : (b : Bool) → before k ≡ b → IsRight list script before grew.sender row history place k
-        test true there = was_there k p there
-        test false away = is_new k p away
+        next : Held list may_grow (IsIn list group) l (suc (length history)) (suc place.slot) width later all_notes
+        next =
+            held_next on.up held slot
+            (λ k p. notes_next list k (diary_of history k) (entry_of row k) place (at.places k p))
+
+        moves : (k : ℕ) → IsIn list group k
+            → clock_after list script (row ∷ history) k ≡ later k +ℤ correction list place.slot (all_notes k)
+        moves k p = clock_next k place (on.calm k p) (at.active k p) (at.places k p)
+
+        after : (w : ℤ) × Held list may_grow (IsIn list group) l (suc (length history)) (next_place list place).slot w
+            (clock_after list script (row ∷ history)) (notes_before list (row ∷ history) (next_place list place))
+        after =
+            cond_both (suc place.slot == length list.slots) _ _
+            (λ (there : Place). (w : ℤ) × Held list may_grow (IsIn list group) l (suc (length history)) there.slot w
+            (clock_after list script (row ∷ history)) (notes_before list (row ∷ history) there)) (λ last.
+            let ends : suc place.slot ≡ length list.slots = eqb-true (suc place.slot) (length list.slots) last in
+            let average = held_corrected list on.up on.error_up (IsIn list group) l (suc (length history)) width later
+            all_notes may_grow (omega (arith, at.began)) (rw ends at next) (at.enough ends) in (
+              average.0,
+              held_part {width = average.0} average.1 (λ k p. record {
+                member = p;
+                same_clock = corrected_last list place.slot (all_notes k) (later k)
+                    (clock_after list script (row ∷ history) k) last (moves k p);
+                same_notes = refl;
+              }),
+            )) (λ other. rw (add-one place.slot) (
+              width,
+              held_part next (λ k p. record {
+                member = p;
+                same_clock = corrected_inside list place.slot (all_notes k) (later k)
+                    (clock_after list script (row ∷ history) k) other (moves k p);
+                same_notes = ap (λ b. cond b [] (all_notes k)) (suc_some place.slot);
+              }),
+            ))
+
+    -- Beginning.
+
+    began_kept : (may_grow : Bool) → length history ≡ l → BeganTogether list script group row history
+        → Kept list script may_grow group l (row ∷ history)
+    began_kept may_grow first began =
+        after_slot may_grow place width (record {
+          on = on;
+          began = omega (arith, first);
+          inside = began.inside;
+          active = λ k p. begun_active (entry_of row k) (begins k p);
+          places = λ k p. begun_place list script history began.sender k place (diary_of history k) (entry_of row k)
+              (began.begins k p);
+          enough = λ ends late k p. absurd (omega (arith, late, first, began.inside));
+        }) (held_part (held_begun list on.up on.error_up {group = IsIn list group} frame {clock = set} first set_near)
+        (λ k p. record { member = p; same_clock = refl; same_notes = carried_begun place k (begins k p) })) (record {
+          moved = λ k p. omega (arith, ints, (on.runs k p).drift);
+          frames = frames_at list place frame;
+          noted = λ k p. begun_noted list script history began.sender k place (list.error +ℤ list.drift) (later k) frame
+              (entry_of row k) (began.begins k p)
+              (begun_near list script history began.sender k place (clock k) (entry_of row k) (on.runs k p)
+              (began.begins k p));
+          near = λ grows k p. frames_near (drifted list width place.slot) frame (set k) (plan_at list place.slot).sync
+              (omega (arith, ints, set_near k p, on.error_up, product_twice list.drift place.slot on.up));
+        })
+      where
+        place : Place
+        place = began.place
+
+        width : ℤ
+        width = list.error +ℤ list.error
+
+        frame : ℤ
+        frame = frame_of list script history began.sender
+
+        begins : (k : ℕ) → IsIn list group k → begins_stint (entry_of row k) ≡ true
+        begins k p = begun_stint list script history began.sender k place (entry_of row k) (began.begins k p)
+
+        set_near : (k : ℕ) → IsIn list group k → IsUpTo list.error (set k -ℤ frame)
+        set_near k p =
+            begun_set list script history began.sender k place (clock k) (entry_of row k) (on.runs k p)
+            (began.begins k p)
+
+    -- Going on.
+
+    stayed_slot : (may_grow : Bool) (before : ℕ → Bool) (place : Place) (width : ℤ)
+        → ((k : ℕ) → IsIn list group k → place_of list k (diary_of (row ∷ history) k) ≡ place)
+        → (same : (k : ℕ) → IsIn list group k
+        → IsSame (IsIn list before) clock set (notes_before list history place) (carried list row history place) k)
+        → AreWithin (IsIn list before) clock (drifted list width place.slot)
+        → (noted : NotedAlike list script group row history)
+        → (IsTrue may_grow → IsNotedOf list script before group row history noted)
+        → Slot list may_grow (IsIn list group) (drifted list width place.slot) set later (added list row place)
+    stayed_slot may_grow before place width places same apart (Nothing none) from = record {
+      moved = λ k p. omega (arith, ints, (on.runs k p).drift);
+      frames = [];
+      noted = λ k p. rw (← places k p, none k p) tt;
+      near = λ grows k p. All-nil (λ y. IsUpTo (drifted list width place.slot) (y -ℤ set k));
+    }
+    stayed_slot may_grow before place width places same apart (OneFrame p tells) from = record {
+      moved = λ k q. omega (arith, ints, (on.runs k q).drift);
+      frames = frames_at list place (frame_of list script history p);
+      noted = λ k q. goes_noted place p k (on.runs k q) (tells k q);
+      near = λ grows k q. frames_near (drifted list width place.slot) (frame_of list script history p) (set k)
+          (plan_at list place.slot).sync (let calm = frame_calm list script before history p (from grows) in
+          let before_k = apart p k (from grows).0 (same k q).member in
+          omega (arith, ints, calm, (same k q).same_clock, before_k, apart k p (same k q).member (from grows).0));
+    }
+
+    stayed_kept : (may_grow : Bool) (before : ℕ → Bool) → l < length history
+        → StayedInCompany list script may_grow before group l row history → Kept list script may_grow before l history
+        → Kept list script may_grow group l (row ∷ history)
+    stayed_kept may_grow before older stayed kept =
+        after_slot may_grow place kept.width (record {
+          on = on;
+          began = omega (arith, older);
+          inside = kept.inside;
+          active = active;
+          places = places;
+          enough = enough;
+        }) (held_part kept.held same)
+        (stayed_slot may_grow before place kept.width public_places same kept.held.apart stayed.together.noted
+        stayed.noted)
+      where
+        place : Place
+        place = kept.place
+
+        member : (k : ℕ) → IsIn list group k → IsIn list before k
+        member k p = (p.0, stayed.less k p)
+
+        active : (k : ℕ) → IsIn list group k → is_active_entry (entry_of row k) ≡ true
+        active k p = continued_active (entry_of row k) (stayed.together.active k p)
+
+        places : (k : ℕ) → IsIn list group k → stint_place list k (diary_of (row ∷ history) k) ≡ place
+        places k p =
+            place_continued list k (diary_of history k) (entry_of row k) (stayed.together.active k p)
+            ∙ kept.places k (member k p)
+
+        public_places : (k : ℕ) → IsIn list group k → place_of list k (diary_of (row ∷ history) k) ≡ place
+        public_places k p = place_of-active list k (diary_of history k) (entry_of row k) (active k p) ∙ places k p
+
+        same : (k : ℕ) → IsIn list group k
+            → IsSame (IsIn list before) clock set (notes_before list history place) (carried list row history place) k
+        same k p = goes_same before place k (member k p) (stayed.together.active k p)
+
+        enough : suc place.slot ≡ length list.slots → l + length list.slots < suc (length history)
+            → (k : ℕ) → IsIn list group k → 4 ≤ length (all_notes k)
+        enough ends late k p =
+            let last : (suc place.slot == length list.slots) ≡ true = grind arith in
+            subst (λ ns. 4 ≤ length ns) (notes_of-active list k (diary_of history k) (entry_of row k) (active k p))
+            (stayed.together.enough k p (ap (ends_round list) (public_places k p) ∙ last, omega (arith, late)))
+
+    -- Growing.
+
+    grew_kept : (before : ℕ → Bool) (older : ℕ) → length history ≡ l
+        → GrewTogether list script before group older row history → Kept list script true before older history
+        → Kept list script true group l (row ∷ history)
+    grew_kept before older first grew kept =
+        after_slot true place (entry_width list true) (record {
+          on = on;
+          began = omega (arith, first);
+          inside = kept.inside;
+          active = λ k p. (by_before k p).active;
+          places = λ k p. (by_before k p).placed;
+          enough = λ ends late k p. absurd (omega (arith, late, first, kept.inside));
+        }) (held_grown list on.up on.error_up place.slot grew.sender kept.width grew.member.0 narrow (IsIn list group)
+        older l (length history) first (λ k p. (by_before k p).comes) kept.held) (record {
+          moved = λ k p. omega (arith, ints, (on.runs k p).drift);
+          frames = frames_at list place (frame_of list script history grew.sender);
+          noted = λ k p. (by_before k p).noted;
+          near = λ grows k p. frames_near (drifted list (entry_width list true) place.slot)
+              (frame_of list script history grew.sender) (set k) (plan_at list place.slot).sync
+              (rw calm (frame_come list on.up on.error_up place.slot grew.sender kept.width grew.member.0 narrow k
+              kept.held.apart (by_before k p).comes));
+        })
+      where
+        place : Place
+        place = kept.place
+
+        calm : frame_of list script history grew.sender ≡ clock grew.sender
+        calm = frame_calm list script before history grew.sender grew.member
+
+        narrow : kept.width ≤ℤ after_average list
+        narrow = kept.held.wide.settled (omega (arith, kept.inside, grew.later))
+
+        was_there : (k : ℕ) → IsIn list group k → before k ≡ true
+            → IsRight list script before grew.sender row history place k
+        was_there k p there =
+            let tells = grew.tells k p there in
+            let goes = told_goes list script history grew.sender k (entry_of row k) tells in
+            record {
+              active = continued_active (entry_of row k) goes;
+              placed = place_continued list k (diary_of history k) (entry_of row k) goes ∙ kept.places k (p.0, there);
+              comes = WasThere (goes_same before place k (p.0, there) goes);
+              noted = goes_noted place grew.sender k (on.runs k p) tells;
+            }
+
+        is_new : (k : ℕ) → IsIn list group k → before k ≡ false
+            → IsRight list script before grew.sender row history place k
+        is_new k p away =
+            let start = next_place list (stint_place list grew.sender (diary_of history grew.sender)) in
+            let begins = grew.begins k p away in
+            let stint = begun_stint list script history grew.sender k start (entry_of row k) begins in
+            record {
+              active = begun_active (entry_of row k) stint;
+              placed = begun_place list script history grew.sender k start (diary_of history k) (entry_of row k) begins
+                  ∙ kept.places grew.sender grew.member.0;
+              comes = IsNew (rw (← calm)
+                  (begun_set list script history grew.sender k start (clock k) (entry_of row k) (on.runs k p) begins))
+                  (carried_begun place k stint);
+              noted = subst (λ (there : Place). Locate (list.error +ℤ list.drift) (later k) (added list row there k)
+                  (frames_at list there (frame_of list script history grew.sender)))
+                  (kept.places grew.sender grew.member.0)
+                  (begun_noted list script history grew.sender k start (list.error +ℤ list.drift) (later k)
+                  (frame_of list script history grew.sender) (entry_of row k) begins
+                  (begun_near list script history grew.sender k start (clock k) (entry_of row k) (on.runs k p) begins));
+            }
+
+        by_before : (k : ℕ) → IsIn list group k → IsRight list script before grew.sender row history place k
+        by_before k p = test (before k) refl
+          where
+            test : (b : Bool) → before k ≡ b → IsRight list script before grew.sender row history place k
+            test true there = was_there k p there
+            test false away = is_new k p away
 
 -- The whole run.
 
@@ -502,41 +413,37 @@ ran_after list script may_grow group l (row ∷ history) (calm, inr (inl stayed)
     omega (arith, ran_after list script may_grow stayed.0 l history stayed.1.0)
 ran_after list script may_grow group l (row ∷ history) (calm, inr (inr grew)) = omega (arith, grew.0)
 
-runs_on : (list : Medl) (script : Script) (group : ℕ → Bool) (history : History) → IsValid list
-    → clocks_broken list script ≡ None → length history < script.slots → AreCalm list script group history
-    → RunsOn list script group history
-runs_on list script group history valid bounds within calm = record {
-  up = valid.drift.0;
-  error_up = valid.error.0;
-  runs = λ k p. record {
-    inside = p.0;
-    before = clock_at-still list script history k (calm k p);
-    drift = drift_within list script k bounds p.0;
-    error = error_within list script (length history) k bounds within p.0;
+module _ (list : Medl) (script : Script) (valid : IsValid list) (bounds : clocks_broken list script ≡ None) where
+  runs_on : (group : ℕ → Bool) (history : History) → length history < script.slots
+      → AreCalm list script group history → RunsOn list script group history
+  runs_on group history within calm = record {
+    up = valid.drift.0;
     error_up = valid.error.0;
-  };
-  calm = calm;
-}
+    runs = λ k p. record {
+      inside = p.0;
+      before = clock_at-still list script history k (calm k p);
+      drift = drift_within list script k bounds p.0;
+      error = error_within list script (length history) k bounds within p.0;
+      error_up = valid.error.0;
+    };
+    calm = calm;
+  }
 
-kept : (list : Medl) (script : Script) (may_grow : Bool) (group : ℕ → Bool) (l : ℕ) (history : History)
-    → IsValid list → clocks_broken list script ≡ None → length history ≤ script.slots
-    → RanAsCompany list script may_grow group l history → Kept list script may_grow group l history
-kept list script may_grow group l [] valid bounds within ran = absurd ran
-kept list script may_grow group l (row ∷ history) valid bounds within (calm, inl began) =
-    began_kept list script may_grow group l row history began.0
-    (runs_on list script group history valid bounds (omega (arith, within)) calm) began.1
-kept list script may_grow group l (row ∷ history) valid bounds within (calm, inr (inl stayed)) =
-    stayed_kept list script may_grow stayed.0 group l row history
-    (ran_after list script may_grow stayed.0 l history stayed.1.0)
-    (runs_on list script group history valid bounds (omega (arith, within)) calm) stayed.1.1
-    (kept list script may_grow stayed.0 l history valid bounds (omega (arith, within)) stayed.1.0)
-kept list script true group l (row ∷ history) valid bounds within (calm, inr (inr grew)) =
-    let run = grew.1.1 in
-    grew_kept list script run.0 group run.1.0 l row history grew.0
-    (runs_on list script group history valid bounds (omega (arith, within)) calm) run.1.1.1
-    (kept list script true run.0 run.1.0 history valid bounds (omega (arith, within)) run.1.1.0)
-kept list script false group l (row ∷ history) valid bounds within (calm, inr (inr grew)) =
-    absurd (false≢true grew.1.0)
+  kept : (may_grow : Bool) (group : ℕ → Bool) (l : ℕ) (history : History) → length history ≤ script.slots
+      → RanAsCompany list script may_grow group l history → Kept list script may_grow group l history
+  kept may_grow group l [] within ran = absurd ran
+  kept may_grow group l (row ∷ history) within (calm, inl began) =
+      began_kept list script row history group l (runs_on group history (omega (arith, within)) calm) may_grow began.0
+      began.1
+  kept may_grow group l (row ∷ history) within (calm, inr (inl stayed)) =
+      stayed_kept list script row history group l (runs_on group history (omega (arith, within)) calm) may_grow stayed.0
+      (ran_after list script may_grow stayed.0 l history stayed.1.0) stayed.1.1
+      (kept may_grow stayed.0 l history (omega (arith, within)) stayed.1.0)
+  kept true group l (row ∷ history) within (calm, inr (inr grew)) =
+      let run = grew.1.1 in
+      grew_kept list script row history group l (runs_on group history (omega (arith, within)) calm) run.0 run.1.0
+      grew.0 run.1.1.1 (kept true run.0 run.1.0 history (omega (arith, within)) run.1.1.0)
+  kept false group l (row ∷ history) within (calm, inr (inr grew)) = absurd (false≢true grew.1.0)
 
 -- a group that stayed together is a company to which none may come
 together_calm : (list : Medl) (script : Script) (group : ℕ → Bool) (s : ℕ) (history : History)
@@ -596,23 +503,17 @@ settled_round list script may_grow group l history j ran p (inr (inr late)) =
 pub settled_clocks : (list : Medl) → IsValid list → HoldsSettledClocksWithin list (spread list)
 unfolding HoldsSettledClocksWithin
 settled_clocks list valid script may_grow group l history run settled j k p q =
-    let ran : Kept list script may_grow group l history =
-    kept list script may_grow group l history valid run.bounds run.within run.together in
+    let ran = kept list script valid run.bounds may_grow group l history run.within run.together in
     rw (at_beginning list script group history j run.calm p, at_beginning list script group history k run.calm q)
-    (settled_within list may_grow (IsIn list group) l (length history) ran.place.slot ran.width
-    (clock_after list script history)
-    (notes_before list history ran.place) valid.drift.0 ran.inside
-    (settled_round list script may_grow group l history j ran p settled) ran.held j k p q)
+    (settled_within list valid.drift.0 valid.error.0 ran.inside ran.held
+    (settled_round list script may_grow group l history j ran p settled) j k p q)
 
 pub company_clocks : (list : Medl) → IsValid list → HoldsCompanyClocksWithin list (spread_rejoining list)
 unfolding HoldsCompanyClocksWithin
 company_clocks list valid script may_grow group l history run j k p q =
-    let ran : Kept list script may_grow group l history =
-    kept list script may_grow group l history valid run.bounds run.within run.together in
+    let ran = kept list script valid run.bounds may_grow group l history run.within run.together in
     rw (at_beginning list script group history j run.calm p, at_beginning list script group history k run.calm q)
-    (company_within list may_grow (IsIn list group) l (length history) ran.place.slot ran.width
-    (clock_after list script history)
-    (notes_before list history ran.place) valid.drift.0 valid.error.0 ran.inside ran.held j k p q)
+    (company_within list valid.drift.0 valid.error.0 ran.inside ran.held j k p q)
 
 pub clocks_within : (list : Medl) → IsValid list → HoldsClocksWithin list (spread list)
 unfolding HoldsClocksWithin HoldsSettledClocksWithin

@@ -135,8 +135,7 @@ four_ran =
     (told _ _ 2 _ _ (omega arith, refl) (of_four _ (refl, refl) (refl, refl) refl (refl, refl))
     (NoneLater (omega arith))
     (told _ _ 1 _ _ (omega arith, refl) (of_four _ (refl, refl) refl (refl, refl) (refl, refl))
-    (NoneLater (omega arith))
-    four_begun))))))))))
+    (NoneLater (omega arith)) four_begun))))))))))
 
 -- the slot in which node 4 joins
 grown : RanAsCompany five_nodes coming_late true every_node 22 (joining ∷ run_of_four)
@@ -184,8 +183,7 @@ five_ran =
     (told _ _ 4 _ _ (omega arith, refl) (of_five _ (refl, refl) (refl, refl) (refl, refl) (refl, refl) refl)
     (NoneLater (omega arith))
     (told _ _ 3 _ _ (omega arith, refl) (of_five _ (refl, refl) (refl, refl) (refl, refl) refl (refl, refl))
-    (NoneLater (omega arith))
-    grown)))))
+    (NoneLater (omega arith)) grown)))))
 
 pub returns-clause-world : goal.returns-clause-world
 unfolding members_in with_node
