@@ -1,7 +1,7 @@
 -- Controllers fetch where no host writes.
-use Rattle.std.proofs.Common.{◌≡◌, ℕ, ◌+◌, List, [], Some, None, refl, arith}
-use Rattle.std.specs.List.{sum_by}
-use Rattle.std.proofs.lemmas.List.{append-nil}
+use Rattle.std.proofs.lemmas.Bool.Decides.{nat_tests}
+use Rattle.std.proofs.lemmas.Grind.{common_steps}
+use Rattle.std.proofs.Common.{◌≡◌, ℕ, List, [], Some, None, refl, arith}
 use Rattle.ttp_world.specs.declared.medl.Medl.{Medl}
 use Rattle.ttp_world.specs.declared.node.Chosen.{Chosen}
 use Rattle.ttp_world.specs.Medl.{plan_at}
@@ -10,7 +10,7 @@ use Rattle.ttp_world.specs.World.{BegunSlot, is_loaded}
 use Rattle.controller.specs.Passes.{HaveBegun}
 use Rattle.controller.specs.declared.seat.Seat.{Seat}
 use Rattle.host_port.specs.Rings.{HostState}
-use Rattle.cluster_run.specs.Sending.{FetchesOne, after_writes, write_steps}
+use Rattle.cluster_run.specs.Sending.{FetchesOne, after_writes}
 use Rattle.cluster_run.proofs.Changes.{AreBothChanged}
 
 -- the first controllers have fetched, so many, and what is of the others is as it was
@@ -23,5 +23,4 @@ HaveFetched list seats k =
 pub unwritten : (end : HostState) (k : ℕ) → after_writes [] k end ≡ end
 unwritten None k = refl
 unwritten (Some w) k =
-    let steps : w.steps + sum_by write_steps [] ≡ w.steps = omega arith in
-    λ i. Some (record w { messages = append-nil w.messages i; steps = steps i })
+    grind (arith, common_steps, nat_tests)

@@ -1,6 +1,8 @@
 -- Lists that a loop changes place by place.
+use Rattle.std.proofs.lemmas.Bool.Decides.{nat_tests}
+use Rattle.std.proofs.lemmas.Grind.{common_steps}
 use Rattle.std.proofs.Common.{◌≡◌, ℕ, ◌+◌, ◌<◌, ◌≤◌, List, length, set, get_or, ◌∙◌, below_more, arith}
-use Rattle.std.proofs.lemmas.List.{length-set, get_or-set_same, get_or-set_other}
+use Rattle.std.proofs.lemmas.List.{get_or-set_same, get_or-set_other}
 use Rattle.ttp_world.proofs.ListFacts.{at_any}
 
 -- So it is at the first places, so many, between what was there and what is, and the others are as they were.
@@ -14,15 +16,7 @@ pub changed_more : {A : Type 0} {P : ℕ → A → A → Type 0} {d : A} {k : �
     → AreChanged P d k old now → k < length now → x ≡ get_or now k x → P k x new
     → AreChanged P d (k + 1) old (set now k new)
 changed_more {P = P} {d = d} {k = k} {old = old} {now = now} x new so near here by =
-    let was : x ≡ get_or old k d = here ∙ at_any now k x d near ∙ so.rest k (omega arith) in
-    record {
-      count = length-set now k new ∙ so.count;
-      done =
-          below_more (λ j. P j (get_or old j d) (get_or (set now k new) j d)) k
-          (λ j earlier. rw (get_or-set_other now k j new d (omega arith)) (so.done j earlier))
-          (rw (← was, get_or-set_same now k new d near) by);
-      rest = λ j later. get_or-set_other now k j new d (omega arith) ∙ so.rest j (omega arith);
-    }
+    grind (arith, common_steps, nat_tests)
 
 -- The same of two lists.
 pub record AreBothChanged {A B : Type 0} (P : ℕ → A → A → B → B → Type 0) (d : A) (e : B) (k : ℕ) (old now : List A)

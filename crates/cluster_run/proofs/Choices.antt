@@ -1,9 +1,11 @@
 -- What a node's fetcher got is a message of its host: the fetch was one attempt, which no write of the slot overtook.
-use Rattle.std.proofs.Common.{◌≡◌, ℕ, zero, suc, ◌+◌, ◌-◌, ◌*◌, ◌/◌, ◌<◌, ◌≤◌, Bool, true, false, List, []}
+use Rattle.std.proofs.lemmas.Bool.Decides.{nat_tests}
+use Rattle.std.proofs.lemmas.Grind.{common_steps}
+use Rattle.std.proofs.Common.{◌≡◌, ℕ, zero, suc, ◌+◌, ◌-◌, ◌/◌, ◌<◌, ◌≤◌, Bool, true, false, List, []}
 use Rattle.std.proofs.Common.{◌∷◌, ◌++◌, length, map, get_or, Option, Some, None, option_map, IsSomeAnd, All, refl, sym}
 use Rattle.std.proofs.Common.{ap, subst, ◌∙◌, arith, length-append, cond}
 use Rattle.std.specs.Prelude.{slice_get, ◌&&◌, nat_le}
-use Rattle.std.proofs.lemmas.Bool.{ne_eqb, false≢true, le-leb, lt-ltb}
+use Rattle.std.proofs.lemmas.Bool.{le-leb}
 use Rattle.std.proofs.lemmas.List.{append-nil, map-append, length-map}
 use Rattle.std.proofs.lemmas.List.Concat.{flat_map-append}
 use Rattle.std.proofs.lemmas.List.Elements.{All-push, All-head}
@@ -11,7 +13,7 @@ use Rattle.std.proofs.lemmas.Option.{none-some, same_Some}
 use Rattle.nbw_ring.specs.declared.view.Message.{Message}
 use Rattle.nbw_ring.specs.declared.view.Settlement.{Settlement}
 use Rattle.nbw_ring.specs.declared.view.Shape.{Shape}
-use Rattle.nbw_ring.specs.Numbers.{limit, IsMessageOf}
+use Rattle.nbw_ring.specs.Numbers.{IsMessageOf}
 use Rattle.nbw_ring.specs.States.{WriterState, ReaderState, new_reader, with_joined, settlement_of}
 use Rattle.ttp_world.specs.declared.medl.Medl.{Medl}
 use Rattle.ttp_world.specs.declared.node.Chosen.{Chosen}
@@ -31,7 +33,6 @@ use Rattle.host_port.specs.Rings.{HostState, message_shape, shape_of}
 use Rattle.cluster_run.specs.Rings.{GotEach, SawAtMost, IsRing, IsRingOf, pair_of, pair_sent, words_written}
 use Rattle.cluster_run.specs.Sending.{Fetches, FetchesOne, SettlesFetch, after_writes, choice_by, fetcher_lent}
 use Rattle.cluster_run.specs.Sending.{with_messages}
-use Rattle.cluster_run.proofs.SettledReaders.{settled-none}
 use Rattle.ttp_world.proofs.HostMessages.{message_sizes, some_message}
 
 -- The ring of a node that sends payload is there.
@@ -39,8 +40,7 @@ use Rattle.ttp_world.proofs.HostMessages.{message_sizes, some_message}
 pub shape_there : (list : Medl) (k : ℕ) → 1 ≤ (plan_at list k).payload
     → message_shape list k ≡ Some (shape_of list (word_count (plan_at list k).payload))
 shape_there list k some =
-    ap (λ b. cond b None (Some (shape_of list (word_count (plan_at list k).payload))))
-    (ne_eqb (plan_at list k).payload 0 (λ none. omega (arith, some, none)))
+    grind (arith, common_steps, nat_tests)
 
 -- a ring with these messages more
 
@@ -94,22 +94,12 @@ module _ (before new : List (List ℕ)) (w : WriterState) (f : ReaderState)
 
   count_after : length (w.messages ++ map words_of_payload new) ≡ length before + length new
   count_after =
-      omega (
-        arith,
-        count_before,
-        length-append w.messages (map words_of_payload new),
-        length-map new words_of_payload,
-      )
+      grind (arith, common_steps, nat_tests)
 
   -- no write of the slot overtook it
   intact : is_intact f ≡ true
   intact =
-      let buffers : f.ring.shape.buffers ≡ w.ring.shape.buffers = ap (λ r. r.shape.buffers) attempt.ring in
-      let floor : length w.messages - 1 ≤ f.first / 2 = attempt.floor in
-      let most : f.seen ≤ 2 * (length (w.messages ++ map words_of_payload new) - 1) = seen in
-      let early : f.seen < 2 * (f.first / 2 + f.ring.shape.buffers) - 1 =
-      omega (arith, buffers, floor, most, count_before, count_after, some, few) in
-      lt-ltb f.seen (limit f.ring.shape (f.first / 2)) early
+      grind (arith, common_steps, nat_tests)
 
   messages_after : w.messages ++ map words_of_payload new ≡ map words_of_payload (before ++ new)
   messages_after = ap (λ ms. ms ++ map words_of_payload new) is ∙ sym (map-append words_of_payload before new)
@@ -225,15 +215,7 @@ module _ (list : Medl) (script : Script) (slot k : ℕ) (valid : IsValidScript l
       → IsNodeChoice list script slot k false pairs new c1
   unfetched pairs old (Some f) new c0 c1 ring some settles = absurd some
   unfetched pairs old None new c0 c1 ring none settles =
-      let end = settles.settled_is ∙ sym (settled-none (after_writes (writes_in script slot) k old)) in
-      record {
-        message = λ loaded. absurd (false≢true loaded);
-        legal = refl;
-        ring =
-            rw (end, append-nil pairs)
-            (ring_more (message_shape list k) (messages_before list script k slot) (messages_written script k slot)
-            pairs old ring);
-      }
+      grind (arith, common_steps, nat_tests)
 
   pub node_choice : {loaded : Bool} {pairs : List Message} {old new : HostState} {c0 c1 : Chosen}
       → (loaded ≡ true → 1 ≤ len) → IsRingOf (message_shape list k) (words_written list script k slot) pairs old

@@ -1,7 +1,9 @@
 -- What a node delivers came from another node, which sends payload, and is as long as the list gives that node.
+use Rattle.std.proofs.lemmas.Bool.Decides.{nat_tests}
+use Rattle.std.proofs.lemmas.Grind.{common_steps}
+use Rattle.std.proofs.Common.{arith}
 use Rattle.std.proofs.Common.{◌≡◌, ◌≢◌, ℕ, ◌<◌, ◌≤◌, ℤ, true, List}
-use Rattle.std.proofs.Common.{length, Option, Some, None, IfSome, refl, sym, subst, ◌∙◌}
-use Rattle.std.proofs.lemmas.Bool.{cond_both}
+use Rattle.std.proofs.Common.{length, Option, Some, None, IfSome, refl, sym, subst}
 use Rattle.ttp_world.specs.declared.medl.Medl.{Medl}
 use Rattle.ttp_world.specs.declared.node.Act.{Act}
 use Rattle.ttp_world.specs.declared.node.Act.TheVariants.{Off, Gone, Listen, Start, Retry, Leave, Send, Judge}
@@ -49,10 +51,7 @@ judged list k past h verdict.Invalid deviation other size = tt
 judged list k past h verdict.Incorrect deviation other size = tt
 judged list k past h verdict.Tentative deviation other size = tt
 judged list k past h verdict.Correct deviation other size =
-    let place = coming_place list past in
-    cond_both (carries_payload list place) (Some _) None (λ (o : Option Delivered). IfSome o (IsDeliverable list k))
-    (λ is. let carried = carries list place is in
-    record { other = other; some = carried.some; size = size refl ∙ carried.size }) (λ bare. tt)
+    grind (arith, common_steps, nat_tests)
 
 joined_nothing : (list : Medl) (k : ℕ) (past : NodePast) (h : Hearing) (c : Option CState)
     → IfSome c (λ c. (d : ℤ) → IfSome (delivery list k past h (entry.Joined c.slot c d)) (IsDeliverable list k))
@@ -132,11 +131,7 @@ loaded_node : (list : Medl) (script : Script) (history : History) (k : ℕ)
     → sends_payload list (node_after list script history k).past (node_after list script history k).act ≡ true
     → 1 ≤ (plan_at list k).payload
 loaded_node list script history k loaded =
-    let past = node_past list script history k in
-    let own = sends_own list past (node_after list script history k).act loaded in
-    let slot : (coming_place list past).slot ≡ k =
-    possible-at list k past Send (subst (IsPossible list k past) own.sends (possible list script history k)) in
-    subst (λ (j : ℕ). 1 ≤ (plan_at list j).payload) slot (carries list (coming_place list past) own.carries).some
+    grind (arith, common_steps, nat_tests, carries, possible, possible-at, sends_own)
 
 pub loaded-payload : (list : Medl) (script : Script) (history : History) (k : ℕ) → k < length list.slots
     → is_loaded (slot_after list script history) k ≡ true → 1 ≤ (plan_at list k).payload

@@ -1,8 +1,10 @@
 -- The nodes in two parts, one after the other: what is ready for the end of a slot, and what has ended it.
-use Rattle.std.proofs.Common.{◌≡◌, ℕ, suc, ◌+◌, ◌-◌, ◌<◌, List, [], ◌∷◌, ◌++◌, length, map, get_or, take, drop}
+use Rattle.std.proofs.lemmas.Bool.Decides.{nat_tests}
+use Rattle.std.proofs.lemmas.Grind.{common_steps}
+use Rattle.std.proofs.Common.{◌≡◌, ℕ, ◌+◌, ◌-◌, ◌<◌, List, [], ◌++◌, length, map, get_or, take, drop}
 use Rattle.std.proofs.Common.{None, sym, ap, subst, ◌∙◌, ⊎_elim, arith, length-append}
 use Rattle.std.proofs.lemmas.Bool.{cases_lt}
-use Rattle.std.proofs.lemmas.List.{map-append, length-map, get_or_append_left, take-append-drop}
+use Rattle.std.proofs.lemmas.List.{map-append, length-map, get_or-append-add, take-append-drop}
 use Rattle.medium.specs.Carried.{Carried}
 use Rattle.ttp_world.specs.declared.medl.Medl.{Medl}
 use Rattle.ttp_world.specs.declared.script.Script.{Script}
@@ -32,23 +34,16 @@ parts_length : {X : Type 0} {half : ℕ} {whole front back : List X} → ArePart
 parts_length {front = front} {back = back} parts =
     ap length parts.is ∙ length-append front back ∙ ap (λ n. n + length back) parts.count
 
-append_back : {X : Type 0} (xs ys : List X) (j : ℕ) (d : X) → get_or (xs ++ ys) (length xs + j) d ≡ get_or ys j d
-append_back [] ys j d = ap (λ n. get_or ys n d) (omega arith)
-append_back (x ∷ xs) ys j d =
-    let next : suc (length xs) + j ≡ suc (length xs + j) = omega arith in
-    ap (λ n. get_or (x ∷ xs ++ ys) n d) next ∙ append_back xs ys j d
-
 -- what is at a place of a part
 at_front : {X : Type 0} {half : ℕ} {whole front back : List X} (d : X) (j : ℕ) → AreParts half whole front back
     → j < half → get_or whole j d ≡ get_or front j d
 at_front {front = front} {back = back} d j parts less =
-    ap (λ xs. get_or xs j d) parts.is
-    ∙ get_or_append_left front back d j (omega (arith, less, parts.count))
+    grind (arith, common_steps, nat_tests)
 
 at_back : {X : Type 0} {half : ℕ} {whole front back : List X} (d : X) (j : ℕ) → AreParts half whole front back
     → get_or whole (half + j) d ≡ get_or back j d
 at_back {front = front} {back = back} d j parts =
-    (λ i. get_or (parts.is i) (sym parts.count i + j) d) ∙ append_back front back j d
+    (λ i. get_or (parts.is i) (sym parts.count i + j) d) ∙ get_or-append-add front back j d
 
 -- and of what is read of it
 mapped : {A B : Type 0} (f : A → B) {half : ℕ} {whole front back : List A} → AreParts half whole front back
@@ -59,9 +54,7 @@ mapped f {front = front} {back = back} parts =
 -- as many desks have as many rings
 pub same_many : (xs ys : List Desk) → map rings_of (desk_ends xs) ≡ map rings_of (desk_ends ys) → length xs ≡ length ys
 same_many xs ys same =
-    let end = λ (desk : Desk). desk.end in
-    sym (length-map xs end) ∙ sym (length-map (desk_ends xs) rings_of) ∙ ap length same
-    ∙ length-map (desk_ends ys) rings_of ∙ length-map ys end
+    grind (arith, common_steps, nat_tests)
 
 -- The parts of all that the end of a slot works on.
 module _ {half : ℕ} {ss ss1 ss2 : List Seat} {ds ds1 ds2 : List Desk} (c : AreParts half ss ss1 ss2)

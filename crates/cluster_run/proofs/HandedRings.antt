@@ -1,9 +1,11 @@
 -- What a slot hands on is in the rings of the world after it.
-use Rattle.std.proofs.Common.{◌≡◌, ◌≢◌, ℕ, List, [], ◌∷◌, ◌++◌, length, map, set}
-use Rattle.std.proofs.Common.{Option, Some, None, IsSomeAnd, cond, is_some, refl, sym, ap, subst, ◌∙◌, inl, inr, arith}
+use Rattle.std.proofs.lemmas.Bool.Decides.{nat_tests}
+use Rattle.std.proofs.lemmas.Grind.{common_steps}
+use Rattle.std.proofs.Common.{◌≡◌, ◌≢◌, ℕ, List, [], ◌∷◌, ◌++◌, length, map}
+use Rattle.std.proofs.Common.{Option, Some, None, IsSomeAnd, cond, is_some, refl, sym, ap, subst, ◌∙◌, arith}
 use Rattle.std.proofs.Common.{length-append}
-use Rattle.std.proofs.lemmas.Bool.{cases_eq, cases_lt, eq-eqb, ne_eqb}
-use Rattle.std.proofs.lemmas.List.{append-nil, map-append, get_or-set_same, get_or-set_other, get_or_past, length-set}
+use Rattle.std.proofs.lemmas.Bool.{eq-eqb, ne_eqb}
+use Rattle.std.proofs.lemmas.List.{map-append, get_or-set_other}
 use Rattle.nbw_ring.specs.declared.view.Message.{Message}
 use Rattle.nbw_ring.specs.declared.view.Shape.{Shape}
 use Rattle.nbw_ring.specs.States.{WriterState}
@@ -28,14 +30,7 @@ use Rattle.cluster_run.specs.Rings.{IsRing, IsRingOf, ring_words, words_read}
 at_written : (end : ControllerState) (from : Source) (words : List ℕ)
     → at_source (written_at end from words) from ≡ written (at_source end from) words
 at_written end from words =
-    elim (cases_lt (place_of from) (length end)) [
-      | inl within ↦ get_or-set_same end (place_of from) (written (at_source end from) words) None within
-      | inr past ↦
-          let none : at_source end from ≡ None = get_or_past end (place_of from) None past in
-          get_or_past (set end (place_of from) (written (at_source end from) words)) (place_of from) None
-          (omega (arith, past, length-set end (place_of from) (written (at_source end from) words)))
-          ∙ sym (ap (λ w. written w words) none)
-    ]
+    grind (arith, common_steps, nat_tests)
 
 at_other : (end : ControllerState) (from other : Source) (words : List ℕ) → place_of other ≢ place_of from
     → at_source (written_at end from words) other ≡ at_source end other
@@ -71,8 +66,7 @@ more_words from before message = map-append (ring_words from) before (message �
 delivered_stays : (end : ControllerState) (d : Delivered) (p : ℕ) → d.sender ≢ p
     → at_source (delivered_to end (Some d)) (source.Node p) ≡ at_source end (source.Node p)
 delivered_stays end d p other =
-    at_other end (source.Node d.sender) (source.Node p) (words_of_payload d.payload)
-    (λ same. other (omega (arith, same)))
+    grind (arith, common_steps, nat_tests)
 
 new_from : (d : Delivered) (p : ℕ) → d.sender ≡ p → new_messages p (Some d) ≡ d.payload ∷ []
 new_from d p same = ap (λ b. cond b (d.payload ∷ []) []) (eq-eqb d.sender p same)
@@ -86,40 +80,15 @@ delivered_ring : (shape : Option Shape) (before : List (List ℕ)) (pairs : List
     → IsRingOf shape (map words_of_payload (before ++ new_messages p delivered)) pairs
     (at_source (delivered_to end delivered) (source.Node p))
 delivered_ring shape before pairs end None p ring =
-    subst (λ ms. IsRingOf shape (map words_of_payload ms) pairs (at_source end (source.Node p)))
-    (sym (append-nil before)) ring
+    grind (arith, common_steps, nat_tests)
 delivered_ring shape before pairs end (Some d) p ring =
-    elim (cases_eq d.sender p) [
-      | inl same ↦
-          let here : at_source (delivered_to end (Some d)) (source.Node p)
-          ≡ written (at_source end (source.Node p)) (words_of_payload d.payload) =
-          ap (λ j. at_source (delivered_to end (Some d)) (source.Node j)) (sym same)
-          ∙ at_written end (source.Node d.sender) (words_of_payload d.payload)
-          ∙ ap (λ j. written (at_source end (source.Node j)) (words_of_payload d.payload)) same in
-          let messages : map words_of_payload (before ++ new_messages p (Some d))
-          ≡ map words_of_payload before ++ words_of_payload d.payload ∷ [] =
-          ap (λ ms. map words_of_payload (before ++ ms)) (new_from d p same)
-          ∙ more_words (source.Node p) before d.payload in
-          subst (λ ms. IsRingOf shape ms pairs (at_source (delivered_to end (Some d)) (source.Node p))) (sym messages)
-          (subst (λ w. IsRingOf shape (map words_of_payload before ++ words_of_payload d.payload ∷ []) pairs w)
-          (sym here)
-          (one_more shape (map words_of_payload before) pairs (at_source end (source.Node p))
-          (words_of_payload d.payload) ring))
-      | inr other ↦
-          subst (λ ms. IsRingOf shape (map words_of_payload (before ++ ms)) pairs
-          (at_source (delivered_to end (Some d)) (source.Node p))) (sym (new_other d p other))
-          (subst (λ w. IsRingOf shape (map words_of_payload (before ++ [])) pairs w)
-          (sym (delivered_stays end d p other))
-          (subst (λ ms. IsRingOf shape (map words_of_payload ms) pairs (at_source end (source.Node p)))
-          (sym (append-nil before)) ring))
-    ]
+    grind (arith, common_steps, nat_tests)
 
 status_stays : (end : ControllerState) (delivered : Option Delivered)
     → at_source (delivered_to end delivered) source.Status ≡ at_source end source.Status
 status_stays end None = refl
 status_stays end (Some d) =
-    at_other end (source.Node d.sender) source.Status (words_of_payload d.payload)
-    (λ same. absurd (omega (arith, same)))
+    grind (arith, common_steps, nat_tests)
 
 -- What is handed on: a slot's payload and status, in the rings of the world with one row more.
 

@@ -1,8 +1,10 @@
 -- Controllers hand on what a slot left, one after another.
+use Rattle.std.proofs.lemmas.Bool.Decides.{nat_tests}
+use Rattle.std.proofs.lemmas.Grind.{common_steps}
 use Rattle.std.proofs.Common.{◌≡◌, ℕ, zero, suc, ◌+◌, ◌<◌, ◌≤◌, List, [], ◌∷◌, length, map, set, get_or}
-use Rattle.std.proofs.Common.{Option, Some, None, IsSomeAnd, refl, sym, ap, ◌∙◌, subst, arith, length-append}
+use Rattle.std.proofs.Common.{Option, Some, None, IsSomeAnd, refl, sym, ap, ◌∙◌, arith, length-append}
 use Rattle.std.proofs.Math.ListN.{get_or-map}
-use Rattle.std.proofs.lemmas.List.{get_or-set_same, length-map, map-set, set-get_or}
+use Rattle.std.proofs.lemmas.List.{get_or-set_same, map-set, set-get_or}
 use Rattle.nbw_ring.specs.States.{WriterState}
 use Rattle.ttp_world.specs.declared.node.Delivered.{Delivered}
 use Rattle.ttp_world.specs.declared.script.Source.{Source}
@@ -35,10 +37,7 @@ newest_of_written (Some w) words n newest = omega (arith, newest, length-append 
 pub number_written : (end : ControllerState) (from : Source) (words : List ℕ) (n : ℕ) → HasRoom (at_source end from)
     → IsNewest (at_source (written_at end from words) from) n → n ≡ message_count (at_source end from)
 number_written end from words n room newest =
-    let within = some_within _ end (place_of from) room in
-    newest_of_written (at_source end from) words n
-    (subst (λ (w : Option WriterState). IsNewest w n)
-    (get_or-set_same end (place_of from) (written (at_source end from) words) None within) newest)
+    grind (arith, common_steps, nat_tests, get_or-set_same, newest_of_written, some_within)
 
 rings_written : (end : ControllerState) (from : Source) (words : List ℕ)
     → rings_of (written_at end from words) ≡ rings_of end
@@ -92,15 +91,4 @@ pub have_handed_on : {outcomes : List Outcome} {k : ℕ} {old desks : List Desk}
     → AreHandedOn outcomes k old desks
     → HaveHandedOn outcomes (desk_ends old) (desk_ends desks) (desk_numbers desks)
 have_handed_on {outcomes} {k} {old} {desks} all so =
-    let end = λ (d : Desk). d.end in
-    let many = length-map old end in
-    record {
-      ends = λ j near.
-          get_or-map end desks j no_desk
-          ∙ (so.changed.done j (omega (arith, near, many, all))).end_is
-          ∙ ap (λ e. handed_on e (outcome_of outcomes j)) (sym (get_or-map end old j no_desk));
-      numbers_are = λ j near.
-          get_or-map (λ (d : Desk). d.delivered) desks j no_desk
-          ∙ (so.changed.done j (omega (arith, near, many, all))).number_is
-          ∙ ap (λ e. number_handed e (outcome_of outcomes j).delivered) (sym (get_or-map end old j no_desk));
-    }
+    grind (arith, common_steps, nat_tests)

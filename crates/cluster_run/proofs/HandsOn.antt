@@ -1,4 +1,6 @@
 -- What a controller delivers in the slot after a world it may hand on, and the number that it then has in its ring.
+use Rattle.std.proofs.lemmas.Bool.Decides.{nat_tests}
+use Rattle.std.proofs.lemmas.Grind.{common_steps}
 use Rattle.std.proofs.Common.{◌≡◌, ◌≢◌, ℕ, ◌≤◌, cond, List, [], ◌∷◌}
 use Rattle.std.proofs.Common.{length, Option, Some, None, IfSome, IsSomeAnd, option_map, refl, sym, ap, subst}
 use Rattle.std.proofs.Common.{◌∙◌, ◌^◌, arith, length-append}
@@ -16,7 +18,7 @@ use Rattle.ttp_world.specs.declared.script.Source.TheVariants as source
 use Rattle.ttp_world.specs.declared.script.TheConstants.{SLOT_LIMIT}
 use Rattle.ttp_world.specs.Diary.{History}
 use Rattle.ttp_world.specs.Medl.{plan_at, IsValid}
-use Rattle.ttp_world.specs.Messages.{delivered_of, in_messages, new_messages, ring_messages}
+use Rattle.ttp_world.specs.Messages.{delivered_of, in_messages, new_messages}
 use Rattle.ttp_world.specs.Trace.{number_delivered}
 use Rattle.ttp_world.specs.Words.{word_count}
 use Rattle.host_port.specs.Rings.{ControllerState, at_source, incoming_shape, message_shape, shape_of}
@@ -57,18 +59,12 @@ ring_from : {list : Medl} {script : Script} {history : History} {k : ℕ} {pairs
     → IsSomeAnd (at_source end (source.Node p)) (IsRing (shape_of list (word_count (plan_at list p).payload))
     (words_read list script history k (source.Node p)) (pairs (source.Node p)))
 ring_from {list = list} {script = script} {history = history} {k = k} {pairs = pairs} {end = end} holds p other some =
-    subst (λ (s : Option Shape). IsRingOf s (words_read list script history k (source.Node p)) (pairs (source.Node p))
-    (at_source end (source.Node p))) (incoming_there list k p other some) (holds.each (source.Node p))
+    grind (arith, common_steps, nat_tests)
 
 few_words : (list : Medl) (script : Script) (history : History) (k : ℕ) (from : Source) → length history ≤ SLOT_LIMIT
     → length (words_read list script history k from) ≤ 2 ^ 62
 few_words list script history k from few =
-    omega (
-      arith,
-      length-map (ring_messages list script history k from) (ring_words from),
-      few_came list script history k from,
-      few,
-    )
+    grind (arith, common_steps, nat_tests, few_came, length-map)
 
 deliverable_at : (list : Medl) (k : ℕ) (delivered : Option Delivered) (d : Delivered)
     → IfSome delivered (IsDeliverable list k) → delivered ≡ Some d → IsDeliverable list k d

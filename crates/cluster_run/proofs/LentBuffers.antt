@@ -1,4 +1,6 @@
 -- How many buffers the rings have that are lent in a slot.
+use Rattle.std.proofs.lemmas.Bool.Decides.{nat_tests}
+use Rattle.std.proofs.lemmas.Grind.{common_steps}
 use Rattle.std.proofs.Common.{◌≡◌, ℕ, Bool, true, false, cond, List, length, Option, Some, None, option_map}
 use Rattle.std.proofs.Common.{inl, inr, refl, sym, ap, ◌∙◌, arith}
 use Rattle.std.specs.Prelude.{◌==◌}
@@ -11,12 +13,10 @@ use Rattle.nbw_ring.specs.States.{WriterState, ReaderState, new_reader}
 use Rattle.ttp_world.specs.declared.medl.Medl.{Medl}
 use Rattle.ttp_world.specs.declared.script.Source.{Source}
 use Rattle.ttp_world.specs.declared.script.Source.TheVariants as source
-use Rattle.ttp_world.specs.Medl.{plan_at}
 use Rattle.ttp_world.specs.Script.{reads_in}
-use Rattle.ttp_world.specs.Words.{word_count}
 use Rattle.ttp_world.specs.World.{Numbers}
 use Rattle.host_port.specs.Reading.{ReadersState, reads_from, lent}
-use Rattle.host_port.specs.Rings.{ControllerState, at_source, shape_of, incoming_shape, message_shape}
+use Rattle.host_port.specs.Rings.{ControllerState, at_source, shape_of, incoming_shape}
 use Rattle.cluster_run.specs.declared.current.CurrentSlot.{CurrentSlot}
 use Rattle.cluster_run.specs.Ends.{end_at}
 use Rattle.cluster_run.specs.Reading.{readers_at, reader_in, ReadBuffers}
@@ -35,10 +35,7 @@ sized_shape list width = λ s is. ap (λ (x : Shape). x.buffers) (same_Some s (s
 pub sized_ring : (list : Medl) (k : ℕ) (from : Source) → HasBuffers list.buffers (incoming_shape list k from)
 sized_ring list k source.Status = sized_shape list 4
 sized_ring list k (source.Node p) =
-    sized_if list.buffers (p == k) (message_shape list p)
-    (sized_if list.buffers ((plan_at list p).payload == 0)
-    (Some (shape_of list (word_count (plan_at list p).payload)))
-    (sized_shape list (word_count (plan_at list p).payload)))
+    grind (arith, common_steps, nat_tests)
 
 -- A reader that is lent has its ring's number.
 lent_sized : (buffers n : ℕ) (shape : Option Shape) (messages : List (List ℕ)) (pairs : List Message)

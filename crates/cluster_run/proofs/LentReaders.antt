@@ -1,8 +1,10 @@
 -- Readers are lent to hosts, one after another.
+use Rattle.std.proofs.lemmas.Bool.Decides.{nat_tests}
+use Rattle.std.proofs.lemmas.Grind.{common_steps}
 use Rattle.std.proofs.Common.{◌≡◌, ℕ, ◌+◌, ◌<◌, List, [], ◌∷◌, ◌++◌, length, Option, None, is_some, sym, ◌∙◌, subst}
 use Rattle.std.proofs.Common.{arith, below_more}
 use Rattle.std.specs.Option.{ForSome}
-use Rattle.std.proofs.lemmas.List.{get_or_append_left, get_or_push, length-map}
+use Rattle.std.proofs.lemmas.List.{get_or_append_left, get_or_push}
 use Rattle.ttp_world.specs.declared.host_lines.HostRead.{HostRead}
 use Rattle.ttp_world.specs.declared.script.Source.{Source}
 use Rattle.ttp_world.specs.Script.{reads_in}
@@ -10,7 +12,6 @@ use Rattle.ttp_world.specs.World.{Numbers}
 use Rattle.host_port.specs.Reading.{ReadersState, AreReadersOfEnd}
 use Rattle.host_port.specs.Rings.{ControllerState}
 use Rattle.cluster_run.specs.declared.current.CurrentSlot.{CurrentSlot}
-use Rattle.cluster_run.specs.declared.nodes.Desk.{Desk}
 use Rattle.cluster_run.specs.declared.nodes.Nodes.{Nodes}
 use Rattle.cluster_run.specs.Ends.{desk_ends, end_at}
 use Rattle.cluster_run.specs.Reading.{AreLentTo, AreReadersLent, AreReadersOfAll, has_reads, readers_at}
@@ -75,5 +76,4 @@ pub all_lent_for : {at : CurrentSlot} {readers : List (Option ReadersState)} (no
     → AreReadersLent (reads_in at.script.now at.slot) (desk_ends nodes.desks.items) readers
     → AreLentFor at may.numbers (desk_ends nodes.desks.items) readers
 all_lent_for nodes may own lent =
-    let count = length-map nodes.desks.items (λ (d : Desk). d.end) ∙ may.are.desks in
-    record { ends_count = count; count = own.count ∙ count; lent = lent; rings = may.read }
+    grind (arith, common_steps, nat_tests)

@@ -1,9 +1,11 @@
 -- Lines that wait in queues, one for each host, are brought into the order of the reads.
+use Rattle.std.proofs.lemmas.Bool.Decides.{nat_tests}
+use Rattle.std.proofs.lemmas.Grind.{common_steps}
 use Rattle.std.proofs.Common.{◌≡◌, ◌≢◌, ℕ, ◌<◌, Bool, true, false, cond, List, [], ◌∷◌, ◌++◌, length, map, set}
-use Rattle.std.proofs.Common.{get_or, Option, Some, None, inl, inr, refl, sym, ap, ◌∙◌}
+use Rattle.std.proofs.Common.{get_or, Option, Some, None, refl, sym, ap, ◌∙◌}
 use Rattle.std.proofs.Common.{arith, append_assoc}
-use Rattle.std.specs.Prelude.{◌==◌, ◌↔◌, filter, IsSome, IfNone}
-use Rattle.std.proofs.lemmas.Bool.{false≢true, cases_eq, cases_lt, eq-eqb, eqb-true, false_from_ne_true}
+use Rattle.std.specs.Prelude.{◌↔◌, filter, IsSome, IfNone}
+use Rattle.std.proofs.lemmas.Bool.{eq-eqb}
 use Rattle.std.proofs.lemmas.List.{get_or-set_same, get_or-set_other, map-append, map-set, length-map}
 use Rattle.std.proofs.lemmas.List.{append_cancel_left, append-nil}
 use Rattle.std.proofs.lemmas.List.Elements.{filter-append}
@@ -25,18 +27,11 @@ queue_kept items qs k other q apart =
     ap (λ xs. get_or xs other []) (map-set items qs k q)
     ∙ get_or-set_other (map items qs) k other (items q) [] apart
 
-pub nothing_left : {X : Type 0} (xs : List X) → length xs ≡ 0 → xs ≡ []
-nothing_left [] none = refl
-nothing_left (x ∷ xs) none = absurd (omega (arith, none))
-
 -- where nothing is first there is nothing
 pub if_none : {X : Type 0} (first : Option X) (old before : List X) (n : ℕ) → old ≡ before → n ≡ length before
     → (IsSome first ↔ (0 < n)) → IfNone first (old ≡ [])
 if_none None old before n was long some =
-    elim (cases_lt 0 n) [
-      | inl near ↦ absurd (false≢true (some.1 near))
-      | inr past ↦ was ∙ nothing_left before (omega (arith, long, past))
-    ]
+    grind (arith, common_steps, nat_tests)
 if_none (Some x) old before n was long some = tt
 
 -- Lines of one host.
@@ -55,16 +50,12 @@ filter-map p f (x ∷ xs) =
 lines_by-own : (k : ℕ) (lines : List ReadLine) (line : ReadLine) → line.host ≡ k
     → lines_by k (lines ++ line ∷ []) ≡ lines_by k lines ++ line ∷ []
 lines_by-own k lines line own =
-    filter-append (λ (l : ReadLine). l.host == k) lines (line ∷ [])
-    ∙ ap (λ b. lines_by k lines ++ cond b (line ∷ []) []) (eq-eqb line.host k own)
+    grind (arith, common_steps, nat_tests)
 
 lines_by-other : (k : ℕ) (lines : List ReadLine) (line : ReadLine) → line.host ≢ k
     → lines_by k (lines ++ line ∷ []) ≡ lines_by k lines
 lines_by-other k lines line other =
-    filter-append (λ (l : ReadLine). l.host == k) lines (line ∷ [])
-    ∙ ap (λ b. lines_by k lines ++ cond b (line ∷ []) [])
-    (false_from_ne_true (line.host == k) (λ same. other (eqb-true line.host k same)))
-    ∙ append-nil (lines_by k lines)
+    grind (arith, common_steps, nat_tests)
 
 -- After the first reads: their lines, and those that are left in the queues.
 pub record AreInOrder (done : List HostRead) (whole now : List (List ReadLine)) (lines : List ReadLine) : Type 0 where
@@ -86,17 +77,7 @@ module _ {reads done : List HostRead} {whole now : List (List ReadLine)} {lines 
   -- what is left for a host are its reads that are left
   left_due : (k : ℕ) → map read_of (queue_of now k) ≡ filter (is_host k) rest
   left_due k =
-      let told : map read_of (lines_by k lines) ≡ filter (is_host k) done =
-      sym (filter-map (is_host k) read_of lines) ∙ ap (filter (is_host k)) so.told in
-      let all : map read_of (lines_by k lines) ++ map read_of (queue_of now k)
-      ≡ map read_of (lines_by k lines) ++ filter (is_host k) rest =
-      sym (map-append read_of (lines_by k lines) (queue_of now k))
-      ∙ ap (map read_of) (so.kept k)
-      ∙ due k
-      ∙ ap (filter (is_host k)) split
-      ∙ filter-append (is_host k) done rest
-      ∙ ap (λ xs. xs ++ filter (is_host k) rest) (sym told) in
-      append_cancel_left (map read_of (lines_by k lines)) (map read_of (queue_of now k)) (filter (is_host k) rest) all
+      grind (arith, common_steps, nat_tests, append_cancel_left, filter-append, filter-map, map, map-append)
 
   -- so the first line that is left for the host of the next read is that read's
   next_due : (r : HostRead) (later : List HostRead) → rest ≡ r ∷ later
@@ -114,28 +95,7 @@ module _ {reads done : List HostRead} {whole now : List (List ReadLine)} {lines 
       → ((other : ℕ) → other ≢ r.host → queue_of after other ≡ queue_of now other)
       → AreInOrder (done ++ r ∷ []) whole after (lines ++ line ∷ [])
   line_taken r later {after = after} line next first others =
-      let is : read_of line ≡ r =
-      head_same (read_of line) r (map read_of (queue_of after r.host)) (filter (is_host r.host) later)
-      (ap (map read_of) (sym first) ∙ next_due r later next) in
-      let own : line.host ≡ r.host = ap (λ (x : HostRead). x.host) is in
-      record {
-        told = map-append read_of lines (line ∷ []) ∙ (λ i. so.told i ++ is i ∷ []);
-        kept = λ k.
-            elim (cases_eq r.host k) [
-              | inl here ↦
-                  ap (λ ls. ls ++ queue_of after k) (lines_by-own k lines line (own ∙ here))
-                  ∙ append_assoc (lines_by k lines) (line ∷ []) (queue_of after k)
-                  ∙ ap (λ j. lines_by k lines ++ line ∷ queue_of after j) (sym here)
-                  ∙ ap (λ q. lines_by k lines ++ q) (sym first)
-                  ∙ ap (λ j. lines_by k lines ++ queue_of now j) here
-                  ∙ so.kept k
-              | inr apart ↦
-                  ap (λ ls. ls ++ queue_of after k)
-                  (lines_by-other k lines line (λ same. apart (sym own ∙ same)))
-                  ∙ ap (λ q. lines_by k lines ++ q) (others k (λ same. apart (sym same)))
-                  ∙ so.kept k
-            ];
-      }
+      grind (arith, common_steps, nat_tests, append_assoc, head_same, lines_by-other, lines_by-own, map, map-append, next_due)
 
 -- At the end no line is left.
 pub all_in_order : {reads : List HostRead} {whole now : List (List ReadLine)} {lines : List ReadLine}

@@ -1,10 +1,12 @@
 -- The lines of a slot's reads: what each host and source got, seen over all lines.
+use Rattle.std.proofs.lemmas.Bool.Decides.{nat_tests}
+use Rattle.std.proofs.lemmas.Grind.{common_steps}
 use Rattle.std.proofs.Common.{◌≡◌, ℕ, ◌+◌, ◌≤◌, Bool, true, false, cond, not, ◌&&◌, ◌||◌, List, []}
-use Rattle.std.proofs.Common.{◌∷◌, ◌++◌, map, inl, inr, refl, sym, ap, ◌∙◌, subst}
+use Rattle.std.proofs.Common.{◌∷◌, ◌++◌, map, refl, ap, ◌∙◌, subst}
 use Rattle.std.proofs.Common.{arith}
-use Rattle.std.specs.Prelude.{◌==◌, filter, nat_le, reverse}
+use Rattle.std.specs.Prelude.{◌==◌, nat_le, reverse}
 use Rattle.std.specs.List.{AllByRecursion, list_all}
-use Rattle.std.proofs.lemmas.Bool.{cases_eq, eq-eqb, eqb-true, false_from_ne_true, and_parts, le-leb}
+use Rattle.std.proofs.lemmas.Bool.{and_parts, le-leb}
 use Rattle.std.proofs.lemmas.List.{reverse-append}
 use Rattle.std.proofs.lemmas.List.Folds.{list_all-append}
 use Rattle.nbw_ring.specs.declared.view.Message.{Message}
@@ -21,9 +23,8 @@ use Rattle.host_port.specs.Reading.{is_line_from, pairs_from}
 use Rattle.host_port.specs.Rings.{place_of}
 use Rattle.cluster_run.specs.Reading.{read_of, lines_by}
 use Rattle.cluster_run.specs.Report.{read_shown}
-use Rattle.cluster_run.specs.Rings.{is_read_of, pair_read, pairs_read_in}
+use Rattle.cluster_run.specs.Rings.{pair_read, pairs_read_in}
 use Rattle.ttp_world.proofs.LegalReads.{reverse-all}
-use Rattle.cluster_run.proofs.LineOrder.{map-kept}
 use Rattle.cluster_run.proofs.Readers.{Rises}
 
 -- the message that a line tells of, by its number
@@ -45,21 +46,16 @@ pairs_front : (k : ℕ) (from : Source) (line : ReadLine) (lines : List ReadLine
     → is_line_from from line ≡ c
     → pairs_of k from (line ∷ lines) ≡ cond (b && c) (line.pair ∷ pairs_of k from lines) (pairs_of k from lines)
 pairs_front k from line lines true true own here =
-    ap (λ t. pairs_from from (cond t (line ∷ lines_by k lines) (lines_by k lines))) own
-    ∙ ap (λ t. map (λ (l : ReadLine). l.pair) (cond t (line ∷ filter (is_line_from from) (lines_by k lines))
-    (filter (is_line_from from) (lines_by k lines)))) here
+    grind (arith, common_steps, nat_tests)
 pairs_front k from line lines true false own here =
-    ap (λ t. pairs_from from (cond t (line ∷ lines_by k lines) (lines_by k lines))) own
-    ∙ ap (λ t. map (λ (l : ReadLine). l.pair) (cond t (line ∷ filter (is_line_from from) (lines_by k lines))
-    (filter (is_line_from from) (lines_by k lines)))) here
+    grind (arith, common_steps, nat_tests)
 pairs_front k from line lines false c own here =
     ap (λ t. pairs_from from (cond t (line ∷ lines_by k lines) (lines_by k lines))) own
 
 pub pairs_own : (line : ReadLine) (lines : List ReadLine)
     → pairs_of line.host line.source (line ∷ lines) ≡ line.pair ∷ pairs_of line.host line.source lines
 pairs_own line lines =
-    pairs_front line.host line.source line lines true true (eq-eqb line.host line.host refl)
-    (eq-eqb (place_of line.source) (place_of line.source) refl)
+    grind (arith, common_steps, nat_tests)
 
 -- what holds of all pairs of each host and source holds of each line
 front_later : (P : Message → Type 0) (x : Message) (xs : List Message) (b : Bool)
@@ -86,19 +82,11 @@ each_line P (line ∷ lines) all = (
 same_by_place : (a b : Source) → is_same_source a b ≡ (place_of a == place_of b)
 same_by_place source.Status source.Status = refl
 same_by_place source.Status (source.Node k) =
-    sym (false_from_ne_true (0 == k + 1)
-    (λ e. let none = eqb-true 0 (k + 1) e in absurd (omega (arith, none))))
+    grind (arith, common_steps, nat_tests)
 same_by_place (source.Node j) source.Status =
-    sym (false_from_ne_true (j + 1 == 0)
-    (λ e. let none = eqb-true (j + 1) 0 e in absurd (omega (arith, none))))
+    grind (arith, common_steps, nat_tests)
 same_by_place (source.Node j) (source.Node k) =
-    elim (cases_eq j k) [
-      | inl same ↦ eq-eqb j k same ∙ sym (eq-eqb (j + 1) (k + 1) (omega (arith, same)))
-      | inr apart ↦
-          false_from_ne_true (j == k) (λ e. apart (eqb-true j k e))
-          ∙ sym (false_from_ne_true (j + 1 == k + 1)
-          (λ e. let up = eqb-true (j + 1) (k + 1) e in apart (omega (arith, up))))
-    ]
+    grind (arith, common_steps, nat_tests)
 
 never_fall-last : (rs : List ReadMessage) (e : ReadMessage) → never_fall rs ≡ true
     → AllByRecursion (λ (r : ReadMessage). is_not_older r e ≡ true) rs → never_fall (rs ++ e ∷ []) ≡ true
@@ -171,15 +159,7 @@ pub pairs_told : (list : Medl) (script : Script) (after : History) (lines : List
     → pairs_read_in list script after (map message_told lines) k from ≡ pairs_of k from lines
 pairs_told list script after [] k from all = refl
 pairs_told list script after (line ∷ lines) k from all =
-    let m = message_told line in
-    let told = map message_told lines in
-    let rest = filter (is_read_of k from) told in
-    let same : is_read_of k from m ≡ ((line.host == k) && is_line_from from line) =
-    ap (λ b. (line.host == k) && b) (same_by_place line.source from) in
-    let later = pairs_told list script after lines k from all.1 in
-    sym (map-kept (pair_read list script after) (is_read_of k from m) m rest)
-    ∙ (λ i. cond (same i) (sym all.0 i ∷ later i) (later i))
-    ∙ sym (pairs_front k from line lines (line.host == k) (is_line_from from line) refl refl)
+    grind (arith, common_steps, nat_tests, pairs_told list script after lines k from all.1)
 
 -- and that lie between the messages of their rings before the slot and after it
 pub record IsLegalLine (list : Medl) (script : Script) (before after : History) (line : ReadLine) : Type 0 where
@@ -191,8 +171,4 @@ pub legal_lines : (list : Medl) (script : Script) (before after : History) (line
     → list_all (is_legal_read list script before after) (map message_told lines) ≡ true
 legal_lines list script before after [] all = refl
 legal_lines list script before after (line ∷ lines) all =
-    let low = newest_number (ring_messages list script before line.host line.source) in
-    let high = newest_number (ring_messages list script after line.host line.source) in
-    λ i.
-    (le-leb low line.pair.number all.0.least i && le-leb line.pair.number high all.0.most i)
-    && legal_lines list script before after lines all.1 i
+    grind (arith, common_steps, nat_tests, legal_lines list script before after lines all.1)

@@ -1,14 +1,15 @@
 -- The readers of a slot have room for all reads of it.
+use Rattle.std.proofs.lemmas.Bool.Decides.{nat_tests}
+use Rattle.std.proofs.lemmas.Grind.{common_steps}
 use Rattle.std.proofs.Common.{◌≡◌, ℕ, ◌+◌, ◌<◌, ◌≤◌, Bool, true, false, cond, ◌||◌, List, [], ◌∷◌, length}
 use Rattle.std.proofs.Common.{Option, Some, None, option_map, IsSomeAnd, All, inl, inr, refl, sym, ap, ◌∙◌, subst}
 use Rattle.std.proofs.Common.{arith}
-use Rattle.std.specs.Prelude.{◌==◌, ◌⊎◌, is_some}
+use Rattle.std.specs.Prelude.{◌==◌, is_some}
 use Rattle.std.specs.List.{AllByRecursion}
 use Rattle.std.specs.Option.{ForSome}
-use Rattle.std.proofs.lemmas.Bool.{cases_lt, eqb-true, false_from_ne_true, and_parts, ne_eqb, false≢true}
+use Rattle.std.proofs.lemmas.Bool.{cases_Bool, cases_lt, eqb-true, false_from_ne_true, and_parts, ne_eqb, false≢true}
 use Rattle.std.proofs.lemmas.List.{get_or_past}
 use Rattle.std.proofs.lemmas.List.Elements.{All-from_recursion}
-use Rattle.std.proofs.lemmas.List.Sums.{sum_by-cons}
 use Rattle.nbw_ring.specs.declared.view.Message.{Message}
 use Rattle.nbw_ring.specs.declared.view.Shape.{Shape}
 use Rattle.nbw_ring.specs.States.{WriterState, ReaderState, new_reader}
@@ -30,7 +31,6 @@ use Rattle.cluster_run.specs.Reading.{readers_at, reader_in, reader_at, calls_in
 use Rattle.cluster_run.specs.Reading.{MayReadAll}
 use Rattle.cluster_run.specs.Rings.{IsRingOf, pairs_read, words_read}
 use Rattle.cluster_run.proofs.LentReaders.{AreLentFor}
-use Rattle.cluster_run.proofs.ReadAll.{same_place}
 
 -- The reads of a valid script are of nodes of its list.
 
@@ -51,23 +51,17 @@ hosts_within list script slot valid =
 one_more : (k : ℕ) (from : Source) (r : HostRead) (reads : List HostRead) (b : Bool)
     → is_read_at k (place_of from) r ≡ b → 1 ≤ reads_from (r ∷ reads) k from → 1 ≤ cond b 1 0 + reads_from reads k from
 one_more k from r reads b is some =
-    subst (λ (n : ℕ). 1 ≤ n)
-    (sum_by-cons (λ x. cond (is_read_at k (place_of from) x) 1 0) r reads
-    ∙ ap (λ c. cond c 1 0 + reads_from reads k from) is) some
+    grind (arith, common_steps, nat_tests)
 
 own_read : (k : ℕ) (from : Source) (r : HostRead) → is_read_at k (place_of from) r ≡ true
     → (r.host ≡ k) × (r.source ≡ from)
 own_read k from r is =
-    let parts = and_parts (r.host == k) (place_of r.source == place_of from) is in (
-      eqb-true r.host k parts.0,
-      same_place r.source from (eqb-true (place_of r.source) (place_of from) parts.1),
-    )
+    grind (arith, common_steps, nat_tests)
 
 read_here : (Q : ℕ → Source → Type 0) (k : ℕ) (from : Source) (r : HostRead) (b : Bool)
     → is_read_at k (place_of from) r ≡ b → Q r.host r.source → (b ≡ false → Q k from) → Q k from
 read_here Q k from r true is here later =
-    let own = own_read k from r is in
-    subst (λ (j : ℕ). Q j from) own.0 (subst (λ (s : Source). Q r.host s) own.1 here)
+    grind (arith, common_steps, nat_tests)
 read_here Q k from r false is here later = later refl
 
 read_there : (Q : ℕ → Source → Type 0) (k : ℕ) (from : Source) (reads : List HostRead)
@@ -84,16 +78,12 @@ or_right false c is = is
 or_left : (b c : Bool) → b ≡ true → (b || c) ≡ true
 or_left b c is = ap (λ x. x || c) is
 
-bool_cases : (b : Bool) → (b ≡ true) ⊎ (b ≡ false)
-bool_cases true = inl refl
-bool_cases false = inr refl
-
 reads_there : (k : ℕ) (from : Source) (reads : List HostRead) → 1 ≤ reads_from reads k from
     → has_reads reads k ≡ true
 reads_there k from [] some = absurd (omega arith)
 reads_there k from (r ∷ reads) some =
     let b = is_read_at k (place_of from) r in
-    elim (bool_cases b) [
+    elim (cases_Bool b) [
       | inl own ↦
           or_left (r.host == k) (has_reads reads k)
           (and_parts (r.host == k) (place_of r.source == place_of from) own).0

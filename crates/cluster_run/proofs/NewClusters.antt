@@ -1,11 +1,9 @@
 -- A new cluster stands for no numbers.
-use Rattle.std.proofs.Common.{◌<◌, [], refl, arith}
-use Rattle.std.proofs.lemmas.List.Elements.{All-cons, All-nil, All-replicate}
+use Rattle.std.proofs.lemmas.Bool.Decides.{nat_tests}
+use Rattle.std.proofs.lemmas.Grind.{common_steps}
+use Rattle.std.proofs.Common.{[], refl, arith}
 use Rattle.ttp_world.specs.declared.medl.Medl.{Medl}
 use Rattle.ttp_world.specs.declared.script.Script.{Script}
-use Rattle.ttp_world.specs.Medl.{plan_at}
-use Rattle.ttp_world.specs.Outgoing.{zeros_of}
-use Rattle.line_text.specs.HostLines.{AreBytes}
 use Rattle.cluster_run.specs.declared.nodes.Nodes.{Nodes}
 use Rattle.cluster_run.specs.Choosing.{AreBytesBefore}
 use Rattle.cluster_run.specs.Nodes.{AreNewNodes}
@@ -29,8 +27,7 @@ new_nodes list script nodes new = record {
 -- and what hosts wrote before it, the zeros, is bytes
 pub new_bytes : (list : Medl) (script : Script) → AreBytesBefore list script 0
 new_bytes list script k =
-    All-cons AreBytes (zeros_of list k) []
-    (All-replicate (λ b. b < 256) (plan_at list k).payload 0 (omega arith)) (All-nil AreBytes)
+    grind (arith, common_steps, nat_tests)
 
 pub new_stands : (list : Medl) (script : Script) (nodes : Nodes) → AreNewNodes list nodes
     → StandsForSome list script 0 (nodes_view nodes)

@@ -1,5 +1,7 @@
 -- A new ring has the zeros of the world before its first slot.
-use Rattle.std.proofs.Common.{◌≡◌, ℕ, zero, suc, ◌+◌, ◌*◌, Bool, true, false, cond, ◌==◌, List, [], ◌∷◌}
+use Rattle.std.proofs.lemmas.Bool.Decides.{nat_tests}
+use Rattle.std.proofs.lemmas.Grind.{common_steps}
+use Rattle.std.proofs.Common.{◌≡◌, ℕ, zero, suc, ◌+◌, ◌*◌, Bool, true, false, cond, List, [], ◌∷◌}
 use Rattle.std.proofs.Common.{length, map, get_or}
 use Rattle.std.proofs.Common.{replicate, Option, Some, None, refl, sym, ap, subst, ◌∙◌, arith, All}
 use Rattle.std.proofs.lemmas.List.{length-replicate}
@@ -75,10 +77,7 @@ zero_words list k = ap (λ ws. ws ∷ []) (words_of_zeros (plan_at list k).paylo
 pub new_written : (list : Medl) (script : Script) (k : ℕ) (w : Option WriterState) → IsNew (message_shape list k) w
     → IsRingOf (message_shape list k) (words_written list script k 0) [] w
 new_written list script k w new =
-    let payload = (plan_at list k).payload in
-    new_ring_if (payload == 0) (shape_of list (word_count payload)) (words_written list script k 0) w
-    (zero_words list k)
-    new
+    grind (arith, common_steps, nat_tests, new_ring_if, zero_words)
 
 -- and what they read
 new_read_if : (own empty : Bool) (shape : Shape) (messages : List (List ℕ)) (w : Option WriterState)
@@ -92,7 +91,4 @@ pub new_read : (list : Medl) (script : Script) (k : ℕ) (from : Source) (w : Op
     (words_read list script [] k from) [] w
 new_read list script k source.Status w new = new_ring (shape_of list 4) (replicate 4 0 ∷ []) w refl new
 new_read list script k (source.Node p) w new =
-    let payload = (plan_at list p).payload in
-    new_read_if (p == k) (payload == 0) (shape_of list (word_count payload)) (words_read list script [] k
-    (source.Node p))
-    w (zero_words list p) new
+    grind (arith, common_steps, nat_tests, new_read_if, zero_words)

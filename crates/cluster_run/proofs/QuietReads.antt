@@ -1,7 +1,7 @@
 -- A slot in which no host reads: there are no readers, and nothing is read.
-use Rattle.std.proofs.Common.{◌≡◌, ℕ, zero, suc, List, [], ◌∷◌, length, Option, None, refl, sym, ap, subst}
-use Rattle.std.proofs.Common.{◌∙◌}
+use Rattle.std.proofs.Common.{◌≡◌, ℕ, zero, suc, List, [], length, replicate, Option, None, refl, sym, ap, subst, ◌∙◌}
 use Rattle.std.specs.Prelude.{is_some}
+use Rattle.std.proofs.lemmas.List.{length-replicate}
 use Rattle.std.proofs.lemmas.Option.{none-some}
 use Rattle.ttp_world.specs.Script.{reads_in}
 use Rattle.host_port.specs.Reading.{ReadersState, got_of, reads_from}
@@ -18,12 +18,7 @@ use Rattle.cluster_run.proofs.SettledReaders.{is_settled-none, settled-none}
 
 -- nothing for each of so many nodes
 abbrev nobody : ℕ → List (Option ReadersState)
-nobody zero = []
-nobody (suc n) = None ∷ nobody n
-
-length-nobody : (n : ℕ) → length (nobody n) ≡ n
-length-nobody zero = refl
-length-nobody (suc n) = ap suc (length-nobody n)
+nobody n = replicate n None
 
 none_there : (n k : ℕ) → readers_at (nobody n) k ≡ None
 none_there zero k = refl
@@ -47,8 +42,8 @@ none_read at old new quiet handed =
       handed = ends;
       first = nobody n;
       last = nobody n;
-      first_count = length-nobody n;
-      last_count = length-nobody n;
+      first_count = length-replicate n None;
+      last_count = length-replicate n None;
       handed_are = handed;
       lent = record {
         there = λ k near. ap is_some (none_there n k) ∙ sym (ap (λ reads. has_reads reads k) quiet);

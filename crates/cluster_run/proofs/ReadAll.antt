@@ -1,20 +1,19 @@
 -- The reads of a slot, one after another, by the readers of all hosts.
+use Rattle.std.proofs.lemmas.Bool.Decides.{nat_tests}
+use Rattle.std.proofs.lemmas.Grind.{common_steps}
 use Rattle.std.proofs.Common.{◌≡◌, ◌≢◌, ℕ, suc, ◌+◌, Bool, true, false, cond, List, [], ◌∷◌, ◌++◌}
 use Rattle.std.proofs.Common.{map, count_by, Option, inl, inr}
 use Rattle.std.proofs.Common.{refl, sym, ap, ◌∙◌, subst, arith}
-use Rattle.std.specs.Prelude.{◌==◌, ◌&&◌, ◌⊎◌, filter}
-use Rattle.std.proofs.lemmas.Bool.{cases_eq, eq-eqb, eqb-true, and_parts, false_from_ne_true}
-use Rattle.std.proofs.lemmas.List.{append-nil, map-append}
-use Rattle.std.proofs.lemmas.List.Elements.{filter-append}
-use Rattle.std.proofs.lemmas.List.Sums.{sum_by-append, sum_by-cons}
+use Rattle.std.specs.Prelude.{◌==◌, ◌&&◌, ◌⊎◌}
+use Rattle.std.proofs.lemmas.Bool.{cases_eq, eq-eqb}
 use Rattle.nbw_ring.specs.States.{ReaderState}
 use Rattle.ttp_world.specs.declared.host_lines.HostRead.{HostRead}
 use Rattle.ttp_world.specs.declared.script.Source.{Source}
 use Rattle.ttp_world.specs.declared.script.Source.TheVariants as source
-use Rattle.host_port.specs.Reading.{ReadersState, Reads, reads_from, is_read_at, calls_after, got_one}
+use Rattle.host_port.specs.Reading.{ReadersState, Reads, reads_from, calls_after, got_one}
 use Rattle.host_port.specs.Rings.{place_of}
 use Rattle.cluster_run.specs.Reading.{readers_at, reader_in, reader_at, calls_in, ReadsMany, IsClear}
-use Rattle.cluster_run.specs.Reading.{is_host, sources_of, HaveRead}
+use Rattle.cluster_run.specs.Reading.{sources_of, HaveRead}
 use Rattle.cluster_run.proofs.Readers.{Keeps, keeps_refl, reads_keep, clear_before, clear_got}
 
 -- Sources by their places.
@@ -30,52 +29,40 @@ same_place (source.Node j) (source.Node k) same = let e : j ≡ k = omega (arith
 pub count_by-push : {X : Type 0} (p : X → Bool) (xs : List X) (x : X)
     → count_by p (xs ++ x ∷ []) ≡ count_by p xs + cond (p x) 1 0
 count_by-push p xs x =
-    sum_by-append (λ y. cond (p y) 1 0) xs (x ∷ [])
-    ∙ ap (λ n. count_by p xs + n) (sum_by-cons (λ y. cond (p y) 1 0) x [] ∙ (omega arith))
+    grind (arith, common_steps, nat_tests)
 
 counts_own : (h k at place : ℕ) → h ≡ k → at ≡ place → ((h == k) && (at == place)) ≡ true
 counts_own h k at place own here = λ i. eq-eqb h k own i && eq-eqb at place here i
 
 counts_other : (h k at place : ℕ) → (h ≡ k → at ≡ place → ⊥) → ((h == k) && (at == place)) ≡ false
 counts_other h k at place apart =
-    false_from_ne_true ((h == k) && (at == place))
-    (λ both. let parts = and_parts (h == k) (at == place) both in
-    apart (eqb-true h k parts.0) (eqb-true at place parts.1))
+    grind (arith, common_steps, nat_tests)
 
 pub reads_more-own : (done : List HostRead) (r : HostRead) (k : ℕ) (from : Source) → r.host ≡ k
     → place_of r.source ≡ place_of from → reads_from (done ++ r ∷ []) k from ≡ suc (reads_from done k from)
 reads_more-own done r k from own here =
-    count_by-push (is_read_at k (place_of from)) done r
-    ∙ ap (λ b. reads_from done k from + cond b 1 0) (counts_own r.host k (place_of r.source) (place_of from) own here)
-    ∙ (omega arith)
+    grind (arith, common_steps, nat_tests)
 
 pub reads_more-other : (done : List HostRead) (r : HostRead) (k : ℕ) (from : Source)
     → (r.host ≡ k → place_of r.source ≡ place_of from → ⊥)
     → reads_from (done ++ r ∷ []) k from ≡ reads_from done k from
 reads_more-other done r k from apart =
-    count_by-push (is_read_at k (place_of from)) done r
-    ∙ ap (λ b. reads_from done k from + cond b 1 0) (counts_other r.host k (place_of r.source) (place_of from) apart)
-    ∙ (omega arith)
+    grind (arith, common_steps, nat_tests)
 
 sources_more : (done : List HostRead) (r : HostRead) (k : ℕ)
     → sources_of (done ++ r ∷ []) k ≡ sources_of done k ++ map (λ x. x.source) (cond (r.host == k) (r ∷ []) [])
 sources_more done r k =
-    ap (map (λ x. x.source)) (filter-append (is_host k) done (r ∷ []))
-    ∙ map-append (λ x. x.source) (filter (is_host k) done) (filter (is_host k) (r ∷ []))
+    grind (arith, common_steps, nat_tests)
 
 sources_more-own : (done : List HostRead) (r : HostRead) (k : ℕ) → r.host ≡ k
     → sources_of (done ++ r ∷ []) k ≡ sources_of done k ++ r.source ∷ []
 sources_more-own done r k own =
-    sources_more done r k
-    ∙ ap (λ b. sources_of done k ++ map (λ x. x.source) (cond b (r ∷ []) [])) (eq-eqb r.host k own)
+    grind (arith, common_steps, nat_tests)
 
 sources_more-other : (done : List HostRead) (r : HostRead) (k : ℕ) → r.host ≢ k
     → sources_of (done ++ r ∷ []) k ≡ sources_of done k
 sources_more-other done r k other =
-    sources_more done r k
-    ∙ ap (λ b. sources_of done k ++ map (λ x. x.source) (cond b (r ∷ []) []))
-    (false_from_ne_true (r.host == k) (λ same. other (eqb-true r.host k same)))
-    ∙ append-nil (sources_of done k)
+    grind (arith, common_steps, nat_tests)
 
 -- One read: of the readers of its host, that of its source made it, and the others are as they were.
 
@@ -109,28 +96,7 @@ pub made_or_left : {buffers : ℕ} (done : List HostRead) {r : HostRead} {old ne
     → IsReadAt buffers r old new → (k : ℕ) (from : Source)
     → MadeIt buffers done r old new k from ⊎ LeftIt done r old new k from
 made_or_left {buffers} done {r} {old} {new} is k from =
-    elim (cases_eq r.host k) [
-      | inl own ↦
-          elim (cases_eq (place_of r.source) (place_of from)) [
-            | inl here ↦ inl (record {
-              reads =
-                  subst (λ (x : Option ReaderState). Reads buffers x (reader_at new k from))
-                  (reader_same old r.host k r.source from own here)
-                  (subst (λ (x : Option ReaderState). Reads buffers (reader_at old r.host r.source) x)
-                  (reader_same new r.host k r.source from own here) is.own.reads);
-              count = reads_more-own done r k from own here;
-            })
-            | inr apart ↦ inr (record {
-              same = subst (λ (j : ℕ). reader_at new j from ≡ reader_at old j from) own
-                  (is.own.others from (λ same. apart (sym same)));
-              count = reads_more-other done r k from (λ _ here. apart here);
-            })
-          ]
-      | inr other ↦ inr (record {
-        same = ap (λ x. reader_in x from) (is.others k other);
-        count = reads_more-other done r k from (λ own _. other own);
-      })
-    ]
+    grind (arith, common_steps, nat_tests)
 
 -- each reader keeps what it had
 read_keeps : (buffers : ℕ) (r : HostRead) (old new : List (Option ReadersState)) (k : ℕ) (from : Source)

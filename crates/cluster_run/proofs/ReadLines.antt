@@ -1,4 +1,6 @@
 -- The lines of all hosts, from the queues that their readers leave.
+use Rattle.std.proofs.lemmas.Bool.Decides.{nat_tests}
+use Rattle.std.proofs.lemmas.Grind.{common_steps}
 use Rattle.std.proofs.Common.{◌≡◌, ℕ, ◌≤◌, Bool, true, false, cond, List, [], ◌∷◌, length, map, Option, None}
 use Rattle.std.proofs.Common.{inl, inr, refl, sym, ap, ◌∙◌, arith}
 use Rattle.std.specs.Prelude.{◌==◌, filter}
@@ -7,8 +9,8 @@ use Rattle.std.proofs.lemmas.List.{get_or_past}
 use Rattle.ttp_world.specs.declared.host_lines.HostRead.{HostRead}
 use Rattle.ttp_world.specs.declared.script.Source.{Source}
 use Rattle.host_port.specs.declared.report.ReadLine.{ReadLine}
-use Rattle.host_port.specs.Reading.{ReadersState, got_of, pairs_from}
-use Rattle.cluster_run.specs.Reading.{reader_in, calls_in, is_host, sources_of, AllGot, read_of}
+use Rattle.host_port.specs.Reading.{ReadersState}
+use Rattle.cluster_run.specs.Reading.{calls_in, is_host, sources_of, AllGot, read_of}
 use Rattle.cluster_run.specs.Reading.{lines_by, AreLinesOf, queue_of, AreQueuesOf, AreDue}
 use Rattle.cluster_run.proofs.LineOrder.{map_nothing}
 
@@ -52,13 +54,4 @@ pub lines_of_all : (reads : List HostRead) (readers : List (Option ReadersState)
     → (AreDue reads queues → (k : ℕ) → lines_by k lines ≡ queue_of queues k)
     → AllGot reads readers → AreLinesOf reads readers lines
 lines_of_all reads readers queues lines count are told own got =
-    let due = are_due reads readers queues count are got in record {
-      reads_are = told due;
-      pairs = λ k from.
-          elim (cases_lt k (length readers)) [
-            | inl near ↦ ap (pairs_from from) (own due k) ∙ (are k near).pairs from
-            | inr past ↦
-                ap (pairs_from from) (own due k ∙ get_or_past queues k [] (omega arith))
-                ∙ ap (λ (o : Option ReadersState). got_of (reader_in o from)) (sym (get_or_past readers k None past))
-          ];
-    }
+    grind (arith, common_steps, nat_tests, are_due, get_or_past, length)

@@ -1,21 +1,22 @@
 -- The loop over the reads of a slot: what the first of them make of the readers of all hosts.
+use Rattle.std.proofs.lemmas.Bool.Decides.{nat_tests}
+use Rattle.std.proofs.lemmas.Grind.{common_steps}
 use Rattle.std.proofs.Common.{◌≡◌, ℕ, zero, suc, ◌+◌, ◌<◌, ◌≤◌, Bool, true, false, List, [], ◌∷◌, ◌++◌, length, set}
-use Rattle.std.proofs.Common.{take, get_or, count_by, cond, Option, Some, None, IsSomeAnd, inl, inr, refl, sym}
+use Rattle.std.proofs.Common.{take, get_or, Option, Some, None, IsSomeAnd, inl, inr, refl, sym}
 use Rattle.std.proofs.Common.{ap, ◌∙◌, subst, arith}
 use Rattle.std.specs.Prelude.{option_map}
 use Rattle.std.specs.Option.{ForSome}
 use Rattle.std.proofs.lemmas.Bool.{cases_eq}
 use Rattle.std.proofs.lemmas.List.{get_or-set_same, get_or-set_other, length-set, take_more}
-use Rattle.std.proofs.lemmas.List.Sums.{sum_by-cons}
 use Rattle.std.proofs.lemmas.Option.{none-some, same_Some}
 use Rattle.nbw_ring.specs.States.{RingState, ReaderState}
 use Rattle.ttp_world.specs.declared.host_lines.HostRead.{HostRead}
 use Rattle.ttp_world.specs.declared.script.Source.{Source}
-use Rattle.host_port.specs.Reading.{ReadersState, Attempts, Reads, buffers_of, reads_from, is_read_at, is_intact}
+use Rattle.host_port.specs.Reading.{ReadersState, Attempts, Reads, buffers_of, reads_from, is_intact}
 use Rattle.host_port.specs.Reading.{IsLeft, rings_read}
 use Rattle.host_port.specs.Rings.{place_of}
 use Rattle.cluster_run.specs.Reading.{readers_at, reader_in, reader_at, rings_in, ReadTheSame, ReadBuffers, HaveRead}
-use Rattle.cluster_run.proofs.ReadAll.{made_or_left, reads_more-own, IsRead, IsReadAt, have_more}
+use Rattle.cluster_run.proofs.ReadAll.{made_or_left, IsRead, IsReadAt, have_more}
 use Rattle.ttp_world.proofs.ListFacts.{at_any}
 
 -- There is room for the reads that are left.
@@ -29,10 +30,7 @@ attempt_spare old new false is a = let nothing = a.nothing is in omega (arith, n
 
 read_spare : (buffers : ℕ) (old new : ReaderState) → Reads buffers (Some old) (Some new) → old.spare ≤ new.spare + 1
 read_spare buffers old new reads =
-    elim (cases_eq buffers 1) [
-      | inl one ↦ let got = (reads.0 one).got in omega (arith, got.spare)
-      | inr more ↦ attempt_spare old new (is_intact new) refl (reads.1 more)
-    ]
+    grind (arith, common_steps, nat_tests)
 
 room_more : (buffers all done : ℕ) (old new : Option ReaderState) → HasRoomFor all done old → Reads buffers old new
     → HasRoomFor all (suc done) new
@@ -81,13 +79,7 @@ is_read_at-set : (buffers : ℕ) (r : HostRead) (now : List (Option ReadersState
     → r.host < length now → old ≡ get_or now r.host old → IsRead buffers r old new
     → IsReadAt buffers r now (set now r.host new)
 is_read_at-set buffers r now old new within here is =
-    let was : old ≡ readers_at now r.host = here ∙ at_any now r.host old None within in
-    let be : new ≡ readers_at (set now r.host new) r.host = sym (get_or-set_same now r.host new None within) in
-    record {
-      own = subst (λ (x : Option ReadersState). IsRead buffers r x (readers_at (set now r.host new) r.host)) was
-          (subst (λ (x : Option ReadersState). IsRead buffers r old x) be is);
-      others = λ k other. get_or-set_other now r.host k new None (λ same. other (sym same));
-    }
+    grind (arith, common_steps, nat_tests)
 
 left_more : (reads done : List HostRead) (r : HostRead)
     (start old new : List (Option ReadersState)) (buffers : ℕ) (k : ℕ) (from : Source)
@@ -105,30 +97,11 @@ left_more reads done r start old new buffers k from so is some =
 
 -- What the next read asks.
 
-count_by-take : {X : Type 0} (p : X → Bool) (xs : List X) (i : ℕ) → count_by p (take i xs) ≤ count_by p xs
-count_by-take p [] zero = omega arith
-count_by-take p [] (suc i) = omega arith
-count_by-take p (x ∷ xs) zero = omega arith
-count_by-take p (x ∷ xs) (suc i) =
-    omega (
-      arith,
-      count_by-take p xs i,
-      sum_by-cons (λ y. cond (p y) 1 0) x (take i xs),
-      sum_by-cons (λ y. cond (p y) 1 0) x xs,
-    )
-
 -- that is counted among all
 next_counted : (reads : List HostRead) (i : ℕ) (r : HostRead) → i < length reads → r ≡ get_or reads i r
     → reads_from (take i reads) r.host r.source < reads_from reads r.host r.source
 next_counted reads i r within here =
-    let next : take (i + 1) reads ≡ take i reads ++ r ∷ [] =
-    take_more reads i r within ∙ ap (λ x. take i reads ++ x ∷ []) (sym here) in
-    omega (
-      arith,
-      count_by-take (is_read_at r.host (place_of r.source)) reads (i + 1),
-      ap (λ xs. reads_from xs r.host r.source) next,
-      reads_more-own (take i reads) r r.host r.source refl refl,
-    )
+    grind (arith, common_steps, nat_tests)
 
 left_now : (all done : ℕ) (reader : Option ReaderState) → HasRoomFor all done reader → done < all → IsLeft reader
 left_now all done None room less = room

@@ -1,10 +1,12 @@
 -- Reads of a host's reader, one after another: what each of them keeps, and that each got a message where the reader is
 -- clear.
+use Rattle.std.proofs.lemmas.Bool.Decides.{nat_tests}
+use Rattle.std.proofs.lemmas.Grind.{common_steps}
 use Rattle.std.proofs.Common.{◌≡◌, ◌≢◌, ℕ, zero, suc, ◌/◌, ◌<◌, ◌≤◌, Bool, true, false, List, [], ◌∷◌, ◌++◌}
-use Rattle.std.proofs.Common.{length, Option, Some, None, IsSomeAnd, inl, inr, refl, sym, ap, ◌∙◌, subst, arith}
+use Rattle.std.proofs.Common.{length, Option, Some, None, IsSomeAnd, refl, sym, ap, ◌∙◌, subst, arith}
 use Rattle.std.proofs.Common.{length-append}
 use Rattle.std.specs.List.{AllByRecursion}
-use Rattle.std.proofs.lemmas.Bool.{cases_eq, lt-ltb}
+use Rattle.std.proofs.lemmas.Bool.{lt-ltb}
 use Rattle.nbw_ring.specs.declared.view.Message.{Message}
 use Rattle.nbw_ring.specs.Attempts.{Gets}
 use Rattle.nbw_ring.specs.Numbers.{limit}
@@ -63,10 +65,7 @@ reads_keep buffers None None reads = absurd reads
 reads_keep buffers None (Some new) reads = absurd reads
 reads_keep buffers (Some old) None reads = absurd reads
 reads_keep buffers (Some old) (Some new) reads =
-    elim (cases_eq buffers 1) [
-      | inl one ↦ repeat_keeps old new (reads.0 one)
-      | inr more ↦ attempt_keeps old new (reads.1 more)
-    ]
+    grind (arith, common_steps, nat_tests)
 
 pub many_keep : (buffers n : ℕ) (old new : Option ReaderState) → ReadsMany buffers n old new → Keeps old new
 many_keep buffers zero old new same = subst (λ (r : Option ReaderState). Keeps old r) (sym same) (keeps_refl old)
@@ -89,27 +88,16 @@ shape_kept old new same = λ i. (same i).shape.buffers
 intact : (buffers : ℕ) (old mid new : ReaderState) → KeepsReader old mid → Reads buffers (Some mid) (Some new)
     → IsClear buffers (Some old) (Some new) → new.seen < limit new.ring.shape (new.first / 2)
 intact buffers old mid new keeps reads clear =
-    elim (cases_eq buffers 1) [
-      | inl one ↦ (reads.0 one).got.intact
-      | inr more ↦
-          let a = reads.1 more in
-          omega (arith, clear more, a.floor, keeps.floor, shape_kept old mid keeps.ring, shape_kept mid new a.ring)
-    ]
+    grind (arith, common_steps, nat_tests)
 
 gets : (buffers : ℕ) (mid new : ReaderState) → Reads buffers (Some mid) (Some new)
     → new.seen < limit new.ring.shape (new.first / 2) → Gets mid new (new.first / 2)
 gets buffers mid new reads below =
-    elim (cases_eq buffers 1) [
-      | inl one ↦ (reads.0 one).got
-      | inr more ↦ (reads.1 more).got (lt-ltb new.seen (limit new.ring.shape (new.first / 2)) below)
-    ]
+    grind (arith, common_steps, nat_tests)
 
 least : (buffers : ℕ) (mid new : ReaderState) → Reads buffers (Some mid) (Some new) → mid.floor ≤ new.first / 2
 least buffers mid new reads =
-    elim (cases_eq buffers 1) [
-      | inl one ↦ (reads.0 one).floor
-      | inr more ↦ (reads.1 more).floor
-    ]
+    grind (arith, common_steps, nat_tests)
 
 -- of a read after so many others
 pub clear_got : (buffers n : ℕ) (old mid new : Option ReaderState) → ReadsMany buffers n old mid
@@ -152,8 +140,7 @@ rises-push : (ms : List Message) (m : Message) (most : ℕ) → Rises ms
     → AllByRecursion (λ (e : Message). e.number ≤ most) ms → most ≤ m.number → Rises (ms ++ m ∷ [])
 rises-push [] m most rise all up = (tt, tt)
 rises-push (e ∷ ms) m most rise all up =
-    let here : e.number ≤ m.number = omega (arith, all.0, up) in
-    (each-push (λ (x : Message). e.number ≤ x.number) ms m rise.0 here, rises-push ms m most rise.1 all.1 up)
+    grind (arith, common_steps, nat_tests, rises-push ms m most rise.1 all.1 up)
 
 tries_more : (buffers n : ℕ) (mid new : ReaderState) → Reads buffers (Some mid) (Some new)
     → (buffers ≢ 1 → mid.tries ≡ n) → buffers ≢ 1 → new.tries ≡ suc n
@@ -202,10 +189,6 @@ got_none buffers old none untried = record {
 pub got_every : (buffers n : ℕ) (old : ReaderState) (new : Option ReaderState) → old.got ≡ [] → old.tries ≡ 0
     → ReadsMany buffers n (Some old) new → IsClear buffers (Some old) new → IsSomeAnd new (GotEvery buffers n old)
 got_every buffers zero old new none untried same clear =
-    subst (λ (r : Option ReaderState). IsSomeAnd r (GotEvery buffers 0 old)) (sym same)
-    (got_none buffers old none untried)
+    grind (arith, common_steps, nat_tests)
 got_every buffers (suc n) old new none untried many clear =
-    got_next buffers n old many.0 new
-    (got_every buffers n old many.0 none untried many.1
-    (clear_before buffers (Some old) many.0 new (reads_keep buffers many.0 new many.2) clear))
-    many.2 clear
+    grind (arith, common_steps, nat_tests, got_every buffers n old many.0 none untried many.1 (clear_before buffers (Some old) many.0 new (reads_keep buffers many.0 new many.2) clear), clear_before, got_next, reads_keep)

@@ -1,11 +1,12 @@
 -- The report of a slot may be written, and its text is the slot's of the trace.
-use Rattle.std.proofs.Common.{◌≡◌, ℕ, zero, suc, ◌+◌, List, [], ◌∷◌, ◌++◌, All, length, map, get_or}
-use Rattle.std.proofs.Common.{count_by, refl, sym, ap, ◌∙◌, subst, append_assoc, arith}
-use Rattle.std.specs.Prelude.{◌==◌}
+use Rattle.std.proofs.lemmas.Bool.Decides.{nat_tests}
+use Rattle.std.proofs.lemmas.Grind.{common_steps}
+use Rattle.std.proofs.Common.{◌≡◌, ℕ, zero, suc, ◌+◌, List, [], ◌∷◌, All, length, map, get_or}
+use Rattle.std.proofs.Common.{refl, sym, ap, ◌∙◌, subst, append_assoc, arith}
 use Rattle.std.specs.List.{AllByRecursion, range_with_len}
 use Rattle.std.proofs.lemmas.List.{length-map}
 use Rattle.std.proofs.lemmas.List.FromFn.{length-range_with_len}
-use Rattle.std.proofs.lemmas.List.Elements.{All-from_recursion, All-cons, All-nil}
+use Rattle.std.proofs.lemmas.List.Elements.{All-from_recursion, All-nil}
 use Rattle.ttp_base.specs.NodeSet.{below}
 use Rattle.ttp_base.proofs.Below.{map_each-below}
 use Rattle.ttp_world.specs.declared.medl.Medl.{Medl}
@@ -16,16 +17,15 @@ use Rattle.ttp_world.specs.declared.script.Source.TheVariants as source
 use Rattle.ttp_world.specs.Diary.{History}
 use Rattle.ttp_world.specs.Legal.{IsLegal, ReadMessage, read_messages}
 use Rattle.ttp_world.specs.Medl.{IsValid}
-use Rattle.ttp_world.specs.Messages.{ring_messages}
-use Rattle.ttp_world.specs.Script.{HostWrite, IsSource, IsValidScript, writes_in, reads_in}
-use Rattle.ttp_world.specs.Trace.{node_line_of, write_line, more_write_lines, read_line, slot_lines}
-use Rattle.ttp_world.specs.Words.{words_of_payload, word_count}
+use Rattle.ttp_world.specs.Script.{HostWrite, IsSource, IsValidScript, reads_in}
+use Rattle.ttp_world.specs.Trace.{node_line_of, more_write_lines, read_line, slot_lines}
+use Rattle.ttp_world.specs.Words.{words_of_payload}
 use Rattle.ttp_world.specs.World.{Numbers, SlotNumbers, world}
 use Rattle.ttp_world.proofs.HostPayloads.{HasRead, IsMessageOf, messages_read}
 use Rattle.ttp_world.proofs.Worlds.{length-world}
 use Rattle.host_port.specs.declared.report.NodeLine.{NodeLine}
 use Rattle.host_port.specs.declared.report.SlotReport.{SlotReport}
-use Rattle.line_text.specs.HostLines.{HasWords, bytes_in, message_in, message_line}
+use Rattle.line_text.specs.HostLines.{HasWords, bytes_in, message_in}
 use Rattle.line_text.specs.LineParts.{HasDigits}
 use Rattle.trace_text.specs.ReportText.{HasMessage, IsListed, node_texts, payload_size, read_text, report_lines}
 use Rattle.trace_text.specs.ReportText.{write_text}
@@ -53,8 +53,7 @@ writes_told : (list : Medl) (script : Script) (slot : ℕ) (earlier ws : List Ho
     → map (write_text slot) (writes_shown list script slot earlier ws) ≡ more_write_lines list script slot earlier ws
 writes_told list script slot earlier [] = refl
 writes_told list script slot earlier (w ∷ ws) =
-    ap (λ ls. write_line list script slot w.host (count_by (λ e. e.host == w.host) earlier) ∷ ls)
-    (writes_told list script slot (w ∷ earlier) ws)
+    grind (arith, common_steps, nat_tests, writes_told list script slot (w ∷ earlier) ws)
 
 -- the words of a message tell it
 message_again : (list : Medl) (from : Source) (message : List ℕ) → IsMessageOf list from message
@@ -68,11 +67,7 @@ reads_told : (list : Medl) (script : Script) (slot : ℕ) (after : History) (rs 
     → map (read_text list slot) (map (read_shown list script after) rs) ≡ map (read_line list script slot after) rs
 reads_told list script slot after [] are = refl
 reads_told list script slot after (r ∷ rs) are =
-    let from = r.read.source in
-    let message = get_or (ring_messages list script after r.read.host from) r.number [] in
-    λ i.
-    message_line slot r.read.host from r.number (message_again list from message are.0.message i)
-    ∷ reads_told list script slot after rs are.1 i
+    grind (arith, common_steps, nat_tests, reads_told list script slot after rs are.1, get_or, message_again)
 
 report_told : (list : Medl) (script : Script) (row : List Entry) (before : History) (new : SlotNumbers)
     (report : SlotReport) → ShowsSlot list script row before new report
@@ -80,17 +75,7 @@ report_told : (list : Medl) (script : Script) (row : List Entry) (before : Histo
     (read_messages (reads_in script (length before)) new.read)
     → report_lines list report ≡ slot_lines list script row before new
 report_told list script row before new report shows are =
-    let slot = length before in
-    sym (append_assoc (node_texts list report.slot 0 report.nodes) (map (write_text report.slot) report.writes)
-    (map (read_text list report.slot) report.reads))
-    ∙ (λ i.
-    node_texts list (shows.slot i) 0 (shows.nodes i)
-    ++ map (write_text (shows.slot i)) (shows.writes i)
-    ++ map (read_text list (shows.slot i)) (shows.reads i))
-    ∙ (λ i.
-    nodes_told list script row before 0 (length list.slots) i
-    ++ writes_told list script slot [] (writes_in script slot) i
-    ++ reads_told list script slot (row ∷ before) (read_messages (reads_in script slot) new.read) are i)
+    grind (arith, common_steps, nat_tests, append_assoc, length, map, nodes_told, reads_told, writes_told)
 
 -- What is asked of a report that is written.
 
@@ -101,25 +86,14 @@ listed list host (source.Node p) is = is.0
 words_of : (list : Medl) (from : Source) (message : List ℕ) → IsValid list → IsMessageOf list from message
     → HasWords from (payload_size list from) (ring_words from message)
 words_of list source.Status message valid is = is
-words_of list (source.Node p) message valid is = (
-  plan_few list p valid,
-  length-map (below (word_count (length message))) _
-      ∙ length-range_with_len 0 (word_count (length message))
-      ∙ ap word_count is.1,
-)
+words_of list (source.Node p) message valid is =
+    grind (arith, common_steps, nat_tests, length, length-map, length-range_with_len, plan_few)
 
 reads_have : (list : Medl) (script : Script) (after : History) (rs : List ReadMessage) → IsValid list
     → AllByRecursion (HasRead list script after) rs → All (HasMessage list) (map (read_shown list script after) rs)
 reads_have list script after [] valid are = All-nil (HasMessage list)
 reads_have list script after (r ∷ rs) valid are =
-    let from = r.read.source in
-    let message = get_or (ring_messages list script after r.read.host from) r.number [] in
-    All-cons (HasMessage list) (read_shown list script after r) (map (read_shown list script after) rs)
-    (record {
-      source = listed list r.read.host from are.0.read.1;
-      words = words_of list from message valid are.0.message;
-    })
-    (reads_have list script after rs valid are.1)
+    grind (arith, common_steps, nat_tests, reads_have list script after rs valid are.1, get_or, listed, map, words_of)
 
 nodes_have : (list : Medl) (script : Script) (row : List Entry) (before : History) (n : ℕ) → IsValid list
     → All (λ (line : NodeLine). HasDigits list line.state) (map (node_shown list script row before) (below n))

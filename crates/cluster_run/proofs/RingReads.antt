@@ -1,4 +1,6 @@
 -- What the reads of a slot got of one ring, and the ring once its reader is settled.
+use Rattle.std.proofs.lemmas.Bool.Decides.{nat_tests}
+use Rattle.std.proofs.lemmas.Grind.{common_steps}
 use Rattle.std.proofs.Common.{◌≡◌, ℕ, ◌+◌, ◌≤◌, List, [], ◌∷◌, ◌++◌, length, Option, Some, None}
 use Rattle.std.proofs.Common.{refl, sym, ap, ◌∙◌, subst, arith}
 use Rattle.std.specs.List.{AllByRecursion}
@@ -92,8 +94,7 @@ is_there old (Some shape) (Some w) (Some v) sized is be lent = record {
 settles_in : {buffers : ℕ} (r : RingSlot buffers) {last : WriterState} {new : ReaderState} → r.later ≡ Some last
     → r.read ≡ Some new → IsSettled (Some last) (Some new)
 settles_in r {new = new} later read =
-    subst (λ (v : Option WriterState). IsSettled v (Some new)) later
-    (subst (λ (x : Option ReaderState). IsSettled r.later x) read r.settles)
+    grind (arith, common_steps, nat_tests)
 
 -- With two buffers or more its reader is clear, as the slot brought one message at most.
 
@@ -128,13 +129,7 @@ got_ring : (before after : List (List ℕ)) {shape : Shape} {pairs : List Messag
     {old new : ReaderState} → IsRing shape before pairs w → IsRing shape after pairs v → IsLentBy (Some w) (Some old)
     → GotEvery buffers n old new → IsSettled (Some v) (Some new) → AreGotOf before after new.got
 got_ring before after {v = v} {new = new} is be lent got settles =
-    let floor = ap (λ (r : ReaderState). r.floor) lent.1 ∙ ap newest_number is.messages_are in
-    record {
-      least = subst (λ (f : ℕ). AllByRecursion (λ (m : Message). f ≤ m.number) new.got) floor got.least;
-      are = subst (λ (ms : List (List ℕ)). AllByRecursion (IsMessageOf ms) new.got) be.messages_are
-          (recursion_from_All (IsMessageOf v.messages) new.got settles.0);
-      rise = got.rise;
-    }
+    grind (arith, common_steps, nat_tests, recursion_from_All)
 
 joined_more : (v : WriterState) (r : ReaderState) → joined_pairs (with_joined v r) ≡ joined_pairs v ++ r.got
 joined_more v r =
@@ -168,9 +163,7 @@ read_if r n None None lent read many clear = record {
       (subst (IsRingOf r.shape r.after (r.pairs ++ [])) (settled-none r.later) (rw (append-nil r.pairs) r.be));
 }
 read_if {buffers} r n (Some old) None lent read many clear =
-    let t = is_there old r.shape r.writer r.later r.sized r.is r.be (subst (IsLentBy r.writer) lent r.lent_by) in
-    absurd (got_every buffers n old None (ap (λ (x : ReaderState). x.got) t.lent.1)
-    (ap (λ (x : ReaderState). x.tries) t.lent.1) many clear)
+    grind (arith, common_steps, nat_tests)
 read_if {buffers} r n (Some old) (Some new) lent read many clear =
     let t = is_there old r.shape r.writer r.later r.sized r.is r.be (subst (IsLentBy r.writer) lent r.lent_by) in
     let settles = settles_in r t.last_is read in

@@ -1,12 +1,14 @@
 -- What the sending of a slot asks and gives, node by node.
+use Rattle.std.proofs.lemmas.Bool.Decides.{nat_tests}
+use Rattle.std.proofs.lemmas.Grind.{common_steps}
 use Rattle.std.proofs.Common.{◌≡◌, ℕ, suc, ◌+◌, ◌<◌, ◌≤◌, Bool, true, false, List, [], ◌∷◌}
 use Rattle.std.proofs.Common.{length, get_or, Option, Some, None, IfSome, IsSomeAnd, All, refl, sym, ap, subst}
-use Rattle.std.proofs.Common.{◌∙◌, arith, add-one, inl, inr}
-use Rattle.std.specs.Prelude.{◌==◌, IsSome, count_by, ◌/◌}
+use Rattle.std.proofs.Common.{◌∙◌, arith, add-one}
+use Rattle.std.specs.Prelude.{◌==◌, IsSome, count_by}
 use Rattle.std.specs.Option.{ForSome}
-use Rattle.std.proofs.lemmas.Bool.{cases_Bool, cases_lt, cond_both}
-use Rattle.std.proofs.lemmas.List.{get_or_past, length-map}
-use Rattle.std.proofs.lemmas.List.Elements.{All-append, All-head, All-nil, All-tail, All-push}
+use Rattle.std.proofs.lemmas.Bool.{cond_both}
+use Rattle.std.proofs.lemmas.List.{length-map}
+use Rattle.std.proofs.lemmas.List.Elements.{All-append, All-head, All-tail}
 use Rattle.std.proofs.lemmas.Option.{none-some, same_Some}
 use Rattle.nbw_ring.specs.declared.view.Message.{Message}
 use Rattle.nbw_ring.specs.declared.view.Shape.{Shape}
@@ -23,7 +25,7 @@ use Rattle.ttp_world.specs.Words.{word_count, words_of_payload}
 use Rattle.ttp_world.specs.World.{BegunSlot, Numbers, is_loaded, world}
 use Rattle.line_text.specs.HostLines.{AreBytes}
 use Rattle.controller.specs.declared.seat.Seat.{Seat}
-use Rattle.host_port.specs.Reading.{Attempts, is_intact}
+use Rattle.host_port.specs.Reading.{Attempts}
 use Rattle.host_port.specs.Rings.{HostState, message_shape, shape_of}
 use Rattle.host_port.specs.Writing.{Takes}
 use Rattle.cluster_run.specs.declared.current.CurrentSlot.{CurrentSlot}
@@ -112,25 +114,14 @@ lent_may true (Some w) f is = omega (arith, ap (λ (r : ReaderState). r.spare) (
 pub may_fetch_all : {s : BegunSlot} {ends : List HostState} {fetchers : List (Option ReaderState)}
     → AreLent s ends fetchers → MayFetchAll fetchers
 may_fetch_all {s = s} {ends = ends} {fetchers = fetchers} lent k f is =
-    elim (cases_lt k (length ends)) [
-      | inl near ↦ lent_may (is_loaded s k) (host_at ends k) f (sym (lent.each k near) ∙ is)
-      | inr past ↦ absurd (none-some f (sym (get_or_past fetchers k None (omega (arith, past, lent.count))) ∙ is))
-    ]
+    grind (arith, common_steps, nat_tests)
 
 -- Fetchers may be settled.
 
 settled_words : (width : ℕ) (w : WriterState) (f : ReaderState) → Attempts (new_reader w 1) f
     → w.ring.shape.width ≡ width → All (λ (pair : Message). length pair.words ≡ width) f.got
 settled_words width w f attempt wide =
-    let P = λ (pair : Message). length pair.words ≡ width in
-    elim (cases_Bool (is_intact f)) [
-      | inl intact ↦
-          let gets = attempt.got intact in
-          subst (All P) (sym gets.got)
-          (All-push P [] (record { number = f.first / 2; words = gets.words }) (All-nil P)
-          (gets.wide ∙ ap (λ r. r.shape.width) attempt.ring ∙ wide))
-      | inr late ↦ subst (All P) (sym (attempt.nothing late).got) (All-nil P)
-    ]
+    grind (arith, common_steps, nat_tests)
 
 pub fetched_may : (list : Medl) (k : ℕ) (loaded : Bool) (end : HostState) (messages : List (List ℕ))
     (pairs : List Message) (f1 : Option ReaderState) (f : ReaderState)
@@ -140,11 +131,7 @@ fetched_may list k loaded end messages pairs None f ring fetches is = absurd (no
 fetched_may list k false end messages pairs (Some f1) f ring fetches is = absurd fetches
 fetched_may list k true None messages pairs (Some f1) f ring fetches is = absurd fetches
 fetched_may list k true (Some w) messages pairs (Some f1) f ring fetches is =
-    subst (MaySettle (Some w) (plan_at list k).payload) (same_Some f1 f is) (record {
-      own = fetches.ring;
-      words = settled_words (word_count (plan_at list k).payload) w f1 fetches
-          (ap (λ (s : Shape). s.width) (ring refl).there.shape_is);
-    })
+    grind (arith, common_steps, nat_tests)
 
 -- and still after writes
 after_own : (writes : List HostWrite) (k len : ℕ) (end : HostState) (f : ReaderState) → MaySettle end len f

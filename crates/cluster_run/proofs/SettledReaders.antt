@@ -1,9 +1,10 @@
 -- The readers of hosts are settled, one after another, and leave their lines.
+use Rattle.std.proofs.lemmas.Bool.Decides.{nat_tests}
+use Rattle.std.proofs.lemmas.Grind.{common_steps}
 use Rattle.std.proofs.Common.{◌≡◌, ℕ, zero, suc, ◌+◌, ◌<◌, ◌≤◌, List, [], ◌∷◌, ◌++◌, length, map, get_or}
-use Rattle.std.proofs.Common.{Option, Some, None, All, refl, ap, ◌∙◌, below_more, arith}
+use Rattle.std.proofs.Common.{Option, Some, None, All, refl, ap, ◌∙◌, arith}
 use Rattle.std.specs.List.{AllByRecursion}
 use Rattle.std.proofs.Math.ListN.{get_or-map}
-use Rattle.std.proofs.lemmas.List.{get_or_append_left, get_or_push}
 use Rattle.std.proofs.lemmas.List.Elements.{recursion_from_All}
 use Rattle.nbw_ring.specs.States.{WriterState, ReaderState}
 use Rattle.ttp_world.specs.declared.script.Source.{Source}
@@ -83,9 +84,7 @@ pub queued_more : {k : ℕ} (readers : List (Option ReadersState)) (queues : Lis
     → AreLinesBy k (readers_at readers k) queue
     → (i : ℕ) → i < k + 1 → AreLinesBy i (readers_at readers i) (queue_of (queues ++ queue ∷ []) i)
 queued_more {k} readers queues queue count are lines =
-    below_more (λ i. AreLinesBy i (readers_at readers i) (queue_of (queues ++ queue ∷ []) i)) k
-    (λ i earlier. rw (get_or_append_left queues (queue ∷ []) [] i (omega (arith, earlier, count))) (are i earlier))
-    (rw (get_or_push queues queue [] k count) lines)
+    grind (arith, common_steps, nat_tests)
 
 -- all are
 pub are_settled : {k : ℕ} {old_readers readers : List (Option ReadersState)} {old desks : List Desk}

@@ -1,4 +1,6 @@
 -- What is so of all nodes once a slot has begun, and once it is planned: they are ready for its end.
+use Rattle.std.proofs.lemmas.Bool.Decides.{nat_tests}
+use Rattle.std.proofs.lemmas.Grind.{common_steps}
 use Rattle.std.proofs.Common.{◌≡◌, ℕ, ◌+◌, ◌<◌, List, length, sym, ap, subst, ◌∙◌, arith}
 use Rattle.std.proofs.lemmas.List.{length-map}
 use Rattle.ttp_world.specs.Diary.{History}
@@ -29,10 +31,7 @@ module _ (at : CurrentSlot) {numbers : Numbers} {view : NodesView} {old begun no
     → HaveBegun (slot_after at.list.now at.script.now history) 0 begun) where
   pub has_begun : HaveBegun (next_slot at.list.now at.script.now numbers) 0 now
   has_begun =
-      let history = world at.list.now at.script.now numbers in
-      subst (HaveBegun (next_slot at.list.now at.script.now numbers) 0) (sym is)
-      (begin history (length-world at.list.now at.script.now numbers ∙ stands.count)
-      (subst (StandAfter at.script.now history 0) (sym was) stands.stands.seats))
+      grind (arith, common_steps, nat_tests, length-world)
 
   pub has_begun_for : HaveBegunFor at numbers now view.host_ends
   has_begun_for = record { count = stands.count; begun = has_begun; written = stands.stands.written }

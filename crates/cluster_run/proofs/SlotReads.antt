@@ -1,8 +1,10 @@
 -- The reads of a slot: each gets a message, the lines are the world's for the numbers in them, these are legal, and the
 -- rings keep what was got of them.
+use Rattle.std.proofs.lemmas.Bool.Decides.{nat_tests}
+use Rattle.std.proofs.lemmas.Grind.{common_steps}
 use Rattle.std.proofs.Common.{◌≡◌, ℕ, ◌+◌, ◌<◌, ◌≤◌, Bool, true, false, cond, ◌&&◌, List, [], ◌∷◌}
 use Rattle.std.proofs.Common.{◌++◌, length, map, get_or, Option, Some, None, IfSome, option_map, inl, inr, refl, sym}
-use Rattle.std.proofs.Common.{ap, ◌∙◌, subst, arith, length-append}
+use Rattle.std.proofs.Common.{ap, ◌∙◌, subst, arith}
 use Rattle.std.specs.Prelude.{◌==◌, slice_get, reverse, is_some}
 use Rattle.std.specs.List.{AllByRecursion, list_all}
 use Rattle.std.specs.Option.{ForSome}
@@ -21,12 +23,11 @@ use Rattle.ttp_world.specs.declared.script.Source.{Source}
 use Rattle.ttp_world.specs.declared.script.Source.TheVariants as source
 use Rattle.ttp_world.specs.Diary.{History}
 use Rattle.ttp_world.specs.Legal.{read_messages, is_legal_read, are_legal_reads, never_fall}
-use Rattle.ttp_world.specs.Messages.{delivered_of, new_messages, ring_messages, status_words, newest_number}
+use Rattle.ttp_world.specs.Messages.{ring_messages, status_words, newest_number}
 use Rattle.ttp_world.specs.Outgoing.{message_chosen}
 use Rattle.ttp_world.specs.Script.{reads_in}
 use Rattle.ttp_world.specs.World.{Numbers, node_past, row_in, world, chosen_of}
 use Rattle.ttp_world.proofs.Carried.{AreOfHosts, delivered_of-row_in}
-use Rattle.ttp_world.proofs.LegalNumbers.{new_messages-few}
 use Rattle.ttp_world.proofs.Worlds.{length-world}
 use Rattle.controller.specs.declared.controller.Outcome.{Outcome}
 use Rattle.controller.specs.Passes.{HaveEnded, IsLeft}
@@ -62,37 +63,17 @@ ring_messages-some : (list : Medl) (script : Script) (history : History) (k : �
 ring_messages-some list script [] k source.Status = omega arith
 ring_messages-some list script [] k (source.Node p) = omega arith
 ring_messages-some list script (row ∷ history) k source.Status =
-    omega (
-      arith,
-      length-append (ring_messages list script history k source.Status)
-          (status_words list (length history) (node_past list script (row ∷ history) k)
-          (is_some (delivered_of list script history row k)) ∷ []),
-    )
+    grind (arith, common_steps, nat_tests)
 ring_messages-some list script (row ∷ history) k (source.Node p) =
-    omega (
-      arith,
-      ring_messages-some list script history k (source.Node p),
-      length-append (ring_messages list script history k (source.Node p))
-          (new_messages p (delivered_of list script history row k)),
-    )
+    grind (arith, common_steps, nat_tests, ring_messages-some list script history k (source.Node p))
 
 ring_messages-few : (list : Medl) (script : Script) (row : List Entry) (history : History) (k : ℕ) (from : Source)
     → length (ring_messages list script (row ∷ history) k from)
     ≤ length (ring_messages list script history k from) + 1
 ring_messages-few list script row history k source.Status =
-    omega (
-      arith,
-      length-append (ring_messages list script history k source.Status)
-          (status_words list (length history) (node_past list script (row ∷ history) k)
-          (is_some (delivered_of list script history row k)) ∷ []),
-    )
+    grind (arith, common_steps, nat_tests)
 ring_messages-few list script row history k (source.Node p) =
-    let new = delivered_of list script history row k in
-    omega (
-      arith,
-      length-append (ring_messages list script history k (source.Node p)) (new_messages p new),
-      new_messages-few p new,
-    )
+    grind (arith, common_steps, nat_tests)
 
 length-words : (list : Medl) (script : Script) (history : History) (k : ℕ) (from : Source)
     → length (words_read list script history k from) ≡ length (ring_messages list script history k from)
@@ -149,11 +130,7 @@ is_pair from messages m is =
 is_near : (from : Source) (messages : List (List ℕ)) (m : Message) → IsMessageOf (map (ring_words from) messages) m
     → m.number ≤ newest_number messages
 is_near from messages m is =
-    omega (
-      arith,
-      slice_get_within (map (ring_words from) messages) m.number m.words is,
-      length-map messages (ring_words from),
-    )
+    grind (arith, common_steps, nat_tests, length-map, map, messages, slice_get_within)
 
 each_told : (list : Medl) (script : Script) (after : History) (lines : List ReadLine)
     → AllByRecursion (λ (line : ReadLine). IsMessageOf (words_read list script after line.host line.source) line.pair)
@@ -170,13 +147,8 @@ each_legal : (list : Medl) (script : Script) (before after : History) (lines : L
     → AllByRecursion (λ (line : ReadLine). IsMessageOf (words_read list script after line.host line.source) line.pair)
     lines → AllByRecursion (IsLegalLine list script before after) lines
 each_legal list script before after [] least are = tt
-each_legal list script before after (line ∷ lines) least are = (
-  record {
-    least = omega (arith, least.0, length-words list script before line.host line.source);
-    most = is_near line.source (ring_messages list script after line.host line.source) line.pair are.0;
-  },
-  each_legal list script before after lines least.1 are.1,
-)
+each_legal list script before after (line ∷ lines) least are =
+    grind (arith, common_steps, nat_tests, each_legal list script before after lines least.1 are.1, is_near, length-words)
 
 -- A slot that was taken, by the numbers that its nodes stood for.
 

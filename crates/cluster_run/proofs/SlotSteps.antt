@@ -1,4 +1,6 @@
 -- A slot takes a cluster to the world of one slot more: its numbers are those in its report, which shows that slot.
+use Rattle.std.proofs.lemmas.Bool.Decides.{nat_tests}
+use Rattle.std.proofs.lemmas.Grind.{common_steps}
 use Rattle.std.proofs.Common.{◌≡◌, ℕ, ◌+◌, ◌<◌, true, ◌&&◌, List, [], ◌∷◌, ◌++◌}
 use Rattle.std.proofs.Common.{length, map, get_or, Option, None, sym, ap, subst, ◌∙◌, arith}
 use Rattle.std.specs.List.{list_all}
@@ -49,10 +51,7 @@ sent_told : (list : Medl) (script : Script) (row : List Entry) (before : History
     → length row ≡ n → lines ≡ map (node_shown list script row before) (below n)
     → map (λ line. message_of line.state.entry) lines ≡ map message_of row
 sent_told list script row before n lines count are =
-    ap (map (λ (line : NodeLine). message_of line.state.entry)) are
-    ∙ map_of_map (λ (line : NodeLine). message_of line.state.entry) (node_shown list script row before) (below n)
-    ∙ ap (λ (m : ℕ). map (λ k. message_of (entry_of row k)) (below m)) (sym count)
-    ∙ messages_told row
+    grind (arith, common_steps, nat_tests, map, map_of_map, messages_told)
 
 -- The report of a slot that was taken, whose lines of nodes these are.
 

@@ -1,15 +1,17 @@
 -- What the writes of a slot make of the ends of hosts, write by write.
+use Rattle.std.proofs.lemmas.Bool.Decides.{nat_tests}
+use Rattle.std.proofs.lemmas.Grind.{common_steps}
 use Rattle.std.proofs.Common.{◌≡◌, ℕ, zero, suc, ◌+◌, ◌<◌, ◌≤◌, Bool, true, false, cond, List, [], ◌∷◌, ◌++◌}
-use Rattle.std.proofs.Common.{length, map, set, take, drop, get_or, count_by, Option, Some, None, option_map, inl}
-use Rattle.std.proofs.Common.{inr, refl, sym, ap, subst}
-use Rattle.std.proofs.Common.{◌∙◌, append_assoc, arith, length-append}
+use Rattle.std.proofs.Common.{length, map, set, take, drop, get_or, count_by, Option, Some, None, option_map}
+use Rattle.std.proofs.Common.{refl, sym, ap}
+use Rattle.std.proofs.Common.{◌∙◌, arith, length-append}
 use Rattle.std.specs.Prelude.{◌==◌, IsSome}
-use Rattle.std.specs.List.{filter_map, cons_option, sum_by}
-use Rattle.std.proofs.lemmas.Bool.{false≢true, cases_eq, eq-eqb, eqb-true, false_from_ne_true}
-use Rattle.std.proofs.lemmas.List.{append-nil, map-append, length-map, length-set, take_more}
+use Rattle.std.specs.List.{filter_map, cons_option}
+use Rattle.std.proofs.lemmas.Bool.{false≢true, eq-eqb, eqb-true, false_from_ne_true}
+use Rattle.std.proofs.lemmas.List.{append-nil, length-map, length-set, take_more}
 use Rattle.std.proofs.lemmas.List.{take-append-drop, get_or-set_same, get_or-set_other}
 use Rattle.std.proofs.lemmas.List.Elements.{filter_map-append}
-use Rattle.std.proofs.lemmas.List.Sums.{sum_by-cons, sum_by_push, count_by-le-length}
+use Rattle.std.proofs.lemmas.List.Sums.{count_by-le-length}
 use Rattle.ttp_world.specs.Script.{HostWrite, payload_of_host}
 use Rattle.ttp_world.specs.Words.{words_of_payload}
 use Rattle.host_port.specs.declared.report.WriteLine.{WriteLine}
@@ -17,7 +19,7 @@ use Rattle.host_port.specs.Rings.{HostState}
 use Rattle.host_port.specs.Writing.{written, Takes, HasRoom}
 use Rattle.nbw_ring.specs.Numbers.{most_number}
 use Rattle.cluster_run.specs.Ends.{host_at}
-use Rattle.cluster_run.specs.Sending.{messages_by, write_steps, with_messages, after_writes, message_count}
+use Rattle.cluster_run.specs.Sending.{messages_by, with_messages, after_writes, message_count}
 use Rattle.cluster_run.specs.Sending.{write_line, write_lines}
 
 -- the ends and the lines once these writes were made
@@ -36,14 +38,7 @@ after_one : (own : Bool) (messages : List (List ℕ)) (payload : List ℕ) (end 
 after_one true messages payload None = refl
 after_one false messages payload None = refl
 after_one true messages payload (Some w) =
-    let more : w.messages ++ map words_of_payload (messages ++ payload ∷ [])
-    ≡ (w.messages ++ map words_of_payload messages) ++ words_of_payload payload ∷ [] =
-    ap (λ ms. w.messages ++ ms) (map-append words_of_payload messages (payload ∷ []))
-    ∙ sym (append_assoc w.messages (map words_of_payload messages) (words_of_payload payload ∷ [])) in
-    let steps : w.steps + sum_by write_steps (messages ++ payload ∷ [])
-    ≡ (w.steps + sum_by write_steps messages) + write_steps payload =
-    omega (arith, sum_by_push write_steps messages payload) in
-    λ i. Some (record w { messages = more i; steps = steps i })
+    grind (arith, common_steps, nat_tests)
 after_one false messages payload (Some w) =
     λ i. Some (with_messages w (append-nil messages i))
 
@@ -66,16 +61,7 @@ write_lines-more : (old : List HostState) (earlier writes : List HostWrite) (w :
 write_lines-more old earlier [] w =
     ap (λ n. write_line old w.host n ∷ []) (omega arith)
 write_lines-more old earlier (v ∷ writes) w =
-    let p : HostWrite → Bool = λ e. e.host == w.host in
-    let sum : count_by p (v ∷ earlier) + count_by p writes ≡ count_by p earlier + count_by p (v ∷ writes) =
-    omega (
-      arith,
-      sum_by-cons (λ (x : HostWrite). cond (p x) 1 0) v earlier,
-      sum_by-cons (λ (x : HostWrite). cond (p x) 1 0) v writes,
-    ) in
-    ap (λ ls. write_line old v.host (count_by (λ e. e.host == v.host) earlier) ∷ ls)
-    (write_lines-more old (v ∷ earlier) writes w
-    ∙ ap (λ n. write_lines old (v ∷ earlier) writes ++ write_line old w.host n ∷ []) sum)
+    grind (arith, common_steps, nat_tests, write_lines-more old (v ∷ earlier) writes w)
 
 counted_one : (own : Bool) (payload : List ℕ) (messages : List (List ℕ)) (n : ℕ) → length messages ≡ n
     → length (cons_option (cond own (Some payload) None) messages) ≡ cond own 1 0 + n
@@ -85,8 +71,7 @@ counted_one false payload messages n same = omega arith
 counted : (k : ℕ) (writes : List HostWrite) → length (messages_by k writes) ≡ count_by (λ e. e.host == k) writes
 counted k [] = refl
 counted k (w ∷ writes) =
-    counted_one (w.host == k) w.payload (messages_by k writes) (count_by (λ e. e.host == k) writes) (counted k writes)
-    ∙ sym (sum_by-cons (λ (x : HostWrite). cond (x.host == k) 1 0) w writes)
+    grind (arith, common_steps, nat_tests, counted k writes)
 
 count_after : (k : ℕ) (writes : List HostWrite) (end : HostState) → IsSome end
     → message_count (after_writes writes k end) ≡ message_count end + count_by (λ e. e.host == k) writes
@@ -105,36 +90,7 @@ pub written_more : (old ends : List HostState) (writes : List HostWrite) (lines 
     (set ends w.host (written (host_at ends w.host) (words_of_payload w.payload)))
     (lines ++ write_line ends w.host 0 ∷ [])
 written_more old ends writes lines w so within some =
-    let h = w.host in
-    let new = written (host_at ends h) (words_of_payload w.payload) in
-    let earlier = count_by (λ e. e.host == h) writes in
-    let there : IsSome (host_at old h) = was_some h writes (host_at old h) (subst IsSome (so.each h) some) in
-    let count : message_count (host_at ends h) + 0 ≡ message_count (host_at old h) + (0 + earlier) =
-    omega (arith, ap message_count (so.each h), count_after h writes (host_at old h) there) in
-    let line : write_line ends h 0 ≡ write_line old h (0 + earlier) = λ i. record { host = h; number = count i } in
-    record {
-      count = length-set ends h new ∙ so.count;
-      each = λ k. elim (cases_eq h k) as (λ _. host_at (set ends h new) k ≡ after_writes (writes ++ w ∷ []) k
-          (host_at old k)) [
-            | inl own ↦
-                ap (host_at (set ends h new)) (sym own)
-                ∙ get_or-set_same ends h new None within
-                ∙ ap (λ e. written e (words_of_payload w.payload)) (ap (host_at ends) own ∙ so.each k)
-                ∙ sym (ap (λ b. cond b (written (after_writes writes k (host_at old k)) (words_of_payload w.payload))
-                (after_writes writes k (host_at old k))) (eq-eqb h k own))
-                ∙ sym (after_more writes w k (host_at old k))
-            | inr other ↦
-                get_or-set_other ends h k new None (λ same. other (sym same))
-                ∙ so.each k
-                ∙ sym (ap (λ b. cond b (written (after_writes writes k (host_at old k)) (words_of_payload w.payload))
-                (after_writes writes k (host_at old k)))
-                (false_from_ne_true (h == k) (λ same. other (eqb-true h k same))))
-                ∙ sym (after_more writes w k (host_at old k))
-          ];
-      lines_are =
-          (λ i. so.lines_are i ++ line i ∷ [])
-          ∙ sym (write_lines-more old [] writes w);
-    }
+    grind (arith, common_steps, nat_tests, after_more, cond, count_after, count_by, eq-eqb, eqb-true, false_from_ne_true, get_or-set_other, get_or-set_same, length-set, set, was_some, write_lines-more)
 
 -- What a ring takes, it takes after the writes, and it has room for one more of so many.
 
@@ -169,10 +125,7 @@ taken_some h xs i x y within here is =
 pub taken_none : {X Y : Type 0} (h : X → Option Y) (xs : List X) (i : ℕ) (x : X) → i < length xs
     → x ≡ get_or xs i x → h x ≡ None → filter_map h (take (i + 1) xs) ≡ filter_map h (take i xs)
 taken_none h xs i x within here is =
-    ap (filter_map h) (take_more xs i x within)
-    ∙ filter_map-append h (take i xs) (get_or xs i x ∷ [])
-    ∙ ap (λ o. filter_map h (take i xs) ++ cons_option o []) (ap h (sym here) ∙ is)
-    ∙ append-nil (filter_map h (take i xs))
+    grind (arith, common_steps, nat_tests, append-nil, filter_map-append, get_or, take, take_more)
 
 -- one that is taken leaves room in the count of all
 pub taken_room : {X Y : Type 0} (h : X → Option Y) (xs : List X) (i : ℕ) (x : X) (y : Y) → i < length xs

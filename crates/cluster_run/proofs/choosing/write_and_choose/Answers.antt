@@ -27,8 +27,7 @@ write_and_fetch-ends-requires-clause-writes g c κs within =
     let many = length (filter_map (write_at script) c.args.places.now) in
     let few : many ≤ EVENT_LIMIT =
     omega (arith, ap length c.requires.places, few_writes script at.slot at.valid_script.event_count) in
-    let lent = with_items_is c.args.ends c.lend_fetchers.new.ends
-    (omega (arith, ap length c.lend_fetchers.ensures.ends, c.as_mut_slice.ensures.len))
+    let lent = with_items_is c.args.ends _ (ap length c.lend_fetchers.ensures.ends ∙ c.as_mut_slice.ensures.len)
     ∙ c.lend_fetchers.ensures.ends ∙ c.as_mut_slice.ensures.value in
     record {
       writes =
@@ -49,8 +48,7 @@ settle_fetchers-requires-clause-fetchers_count g c =
     let at = c.args.at.now in
     let may = c.requires.may in
     let lent = c.in_ok-fetchers.ensures.fetchers (next_slot at.list.now at.script.now may.numbers) may.begun.begun in
-    let lent_ends = with_items_is c.args.ends c.lend_fetchers.new.ends
-    (omega (arith, ap length c.lend_fetchers.ensures.ends, c.as_mut_slice.ensures.len))
+    let lent_ends = with_items_is c.args.ends _ (ap length c.lend_fetchers.ensures.ends ∙ c.as_mut_slice.ensures.len)
     ∙ c.lend_fetchers.ensures.ends ∙ c.as_mut_slice.ensures.value in
     omega (
       arith,
@@ -70,8 +68,7 @@ settle_fetchers-requires-clause-fetchers g c = λ k near.
     let s = next_slot at.list.now at.script.now may.numbers in
     let ends = c.args.ends.items in
     let tried = c.write_and_fetch-ends.result.2.items in
-    let lent_ends = with_items_is c.args.ends c.lend_fetchers.new.ends
-    (omega (arith, ap length c.lend_fetchers.ensures.ends, c.as_mut_slice.ensures.len))
+    let lent_ends = with_items_is c.args.ends _ (ap length c.lend_fetchers.ensures.ends ∙ c.as_mut_slice.ensures.len)
     ∙ c.lend_fetchers.ensures.ends ∙ c.as_mut_slice.ensures.value in
     let lent = subst (λ es. AreLent s es c.in_ok-fetchers.fetchers.items) c.as_mut_slice.ensures.value
     (c.in_ok-fetchers.ensures.fetchers s may.begun.begun) in
@@ -90,8 +87,7 @@ returns g c =
     let wrote = c.write_and_fetch-ends.ensures in
     let ends = c.args.ends.items in
     let tried = c.write_and_fetch-ends.result.2.items in
-    let lent_ends = with_items_is c.args.ends c.lend_fetchers.new.ends
-    (omega (arith, ap length c.lend_fetchers.ensures.ends, c.as_mut_slice.ensures.len))
+    let lent_ends = with_items_is c.args.ends _ (ap length c.lend_fetchers.ensures.ends ∙ c.as_mut_slice.ensures.len)
     ∙ c.lend_fetchers.ensures.ends ∙ c.as_mut_slice.ensures.value in
     let bytes = more_bytes at may.bytes (subst (All WritesBytes) c.requires.places wrote.written.bytes) in
     let after = with_items_is c.write_and_fetch-ends.result.0 c.settle_fetchers.new.ends

@@ -70,8 +70,7 @@ pub returns-clause-ends : goal.returns-clause-ends
 returns-clause-ends g c =
     let ended = c.in_ok-readers.ensures.ends in
     let are = ended.are in
-    let settled = with_items_is c.end.new.nodes.desks c.read_lines.new.desks
-    (omega (arith, c.read_lines.ensures.count, c.deref_mut-2.ensures.len)) in
+    let settled = with_items_is c.end.new.nodes.desks _ (c.read_lines.ensures.count ∙ c.deref_mut-2.ensures.len) in
     record {
       are = record {
         seats_count = are.seats_count;
@@ -99,12 +98,10 @@ returns-clause-tells g c =
     let done = c.end.new.nodes in
     let ended = c.in_ok-readers.ensures in
     let last = c.in_ok-readers.readers.items in
-    let lent = with_items_is nodes.desks c.lend_readers.new.desks
-    (omega (arith, ap length c.lend_readers.ensures.desks, c.deref_mut.ensures.len))
+    let lent = with_items_is nodes.desks _ (ap length c.lend_readers.ensures.desks ∙ c.deref_mut.ensures.len)
     ∙ c.lend_readers.ensures.desks ∙ c.deref_mut.ensures.value in
     let handed = desk_ends done.desks.items in
-    let settled = with_items_is done.desks c.read_lines.new.desks
-    (omega (arith, c.read_lines.ensures.count, c.deref_mut-2.ensures.len)) in
+    let settled = with_items_is done.desks _ (c.read_lines.ensures.count ∙ c.deref_mut-2.ensures.len) in
     let many = length-map nodes.desks.items (λ (d : Desk). d.end) in
     let done_many = length-map done.desks.items (λ (d : Desk). d.end) in
     record {

@@ -1,6 +1,6 @@
 use Rattle.std.proofs.Common.{length, sym, ◌∙◌}
 use Rattle.std.proofs.lemmas.Bool.{eqb-true}
-use Rattle.cluster_run.proofs.LineOrder.{nothing_left}
+use Rattle.std.proofs.lemmas.List.{nil_from_length}
 use Rattle.cluster_run.proofs.QuietReads.{none_read}
 use Rattle.cluster_run.proofs.SlotParts.{ends_slot, part_ready}
 use Rattle.cluster_run.proofs.slot.end_slot.Goals as goal
@@ -16,6 +16,6 @@ returns-then-is_empty-clause-tells g c =
     rw c.new.ensures
     (none_read c.args.at.now c.args.nodes.now c.end_unread.new.nodes
     (sym c.reads-reads.ensures
-    ∙ nothing_left c.reads-reads.result.now
+    ∙ nil_from_length c.reads-reads.result.now
     (eqb-true (length c.reads-reads.result.now) 0 (sym c.is_empty.ensures ∙ c.if-is_empty.true)))
     c.end_unread.ensures.ended.handed)

@@ -1,4 +1,4 @@
-use Rattle.std.proofs.Common.{subst, arith}
+use Rattle.std.proofs.Common.{subst, ◌∙◌}
 use Rattle.std.proofs.lemmas.List.{with_items_is}
 use Rattle.cluster_run.specs.Jobs.{HaveReadBy}
 use Rattle.cluster_run.proofs.slot.end_with_started.Goals as goal
@@ -13,7 +13,6 @@ end_started-requires-clause-left g c κs within = rw c.as_mut_slice.ensures.valu
 pub returns-clause-read : goal.returns-clause-read
 returns-clause-read g c =
     let new = c.end_started.new.readers in
-    let readers = with_items_is c.args.readers new
-    (omega (arith, c.end_started.auto.readers, c.as_mut_slice.ensures.len)) in
+    let readers = with_items_is c.args.readers _ (c.end_started.auto.readers ∙ c.as_mut_slice.ensures.len) in
     rw readers
     (subst (λ rs. HaveReadBy c.args.reads.now rs new) c.as_mut_slice.ensures.value c.end_started.ensures.read)

@@ -17,8 +17,7 @@ choose-requires-after_bounds g c κs within =
     let at = c.args.at.now in
     let nodes = c.args.nodes.now in
     let are = c.requires.nodes.are in
-    let begun = with_items_is nodes.seats c.begin_all.new.seats
-    (omega (arith, c.begin_all.ensures.count, c.deref_mut.ensures.len)) in
+    let begun = with_items_is nodes.seats _ (c.begin_all.ensures.count ∙ c.deref_mut.ensures.len) in
     record {
       ends_count = are.host_ends;
       seats_count = omega (
@@ -38,15 +37,13 @@ choose-requires-after_bounds g c κs within =
 
 pub plan_all-requires-clause-seats : goal.plan_all-requires-clause-seats
 plan_all-requires-clause-seats g c =
-    let begun = with_items_is c.args.nodes.now.seats c.begin_all.new.seats
-    (omega (arith, c.begin_all.ensures.count, c.deref_mut.ensures.len)) in
+    let begun = with_items_is c.args.nodes.now.seats _ (c.begin_all.ensures.count ∙ c.deref_mut.ensures.len) in
     subst (AreSeats c.args.at.now.list.now IsBegun (most_ahead_in c.args.at.now.slot) 0)
     (sym (c.deref_mut-3.ensures.value ∙ begun)) c.begin_all.ensures.seats
 
 pub plan_all-requires-clause-incidents : goal.plan_all-requires-clause-incidents
 plan_all-requires-clause-incidents g c =
-    let begun = with_items_is c.args.nodes.now.seats c.begin_all.new.seats
-    (omega (arith, c.begin_all.ensures.count, c.deref_mut.ensures.len)) in
+    let begun = with_items_is c.args.nodes.now.seats _ (c.begin_all.ensures.count ∙ c.deref_mut.ensures.len) in
     subst (AreIncidents c.args.at.now.script.now c.args.at.now.slot 0) (sym (c.deref_mut-3.ensures.value ∙ begun))
     c.begin_all.ensures.incidents
 
@@ -55,10 +52,8 @@ plan_all-requires-clause-chosen g c =
     let at = c.args.at.now in
     let nodes = c.args.nodes.now in
     let stands = c.requires.nodes.stands in
-    let begun = with_items_is nodes.seats c.begin_all.new.seats
-    (omega (arith, c.begin_all.ensures.count, c.deref_mut.ensures.len)) in
-    let told = with_items_is nodes.chosen c.choose.new.chosen
-    (omega (arith, c.choose.auto.chosen, c.deref_mut-2.ensures.len)) in
+    let begun = with_items_is nodes.seats _ (c.begin_all.ensures.count ∙ c.deref_mut.ensures.len) in
+    let told = with_items_is nodes.chosen _ (c.choose.auto.chosen ∙ c.deref_mut-2.ensures.len) in
     payloads-chosen c.deref-2.result.now
     (omega (
       arith,
@@ -81,12 +76,10 @@ returns g c =
     let nodes = c.args.nodes.now in
     let are = c.requires.nodes.are in
     let chose = c.in_ok-writes.ensures in
-    let begun = with_items_is nodes.seats c.begin_all.new.seats
-    (omega (arith, c.begin_all.ensures.count, c.deref_mut.ensures.len)) in
+    let begun = with_items_is nodes.seats _ (c.begin_all.ensures.count ∙ c.deref_mut.ensures.len) in
     let planned = with_items_is (with_items nodes.seats c.begin_all.new.seats) c.plan_all.new.seats
     (omega (arith, c.plan_all.ensures.count, c.deref_mut-3.ensures.len)) in
-    let told = with_items_is nodes.chosen c.choose.new.chosen
-    (omega (arith, c.choose.auto.chosen, c.deref_mut-2.ensures.len)) in
+    let told = with_items_is nodes.chosen _ (c.choose.auto.chosen ∙ c.deref_mut-2.ensures.len) in
     record {
       are = record {
         seats_count = omega (

@@ -1,4 +1,4 @@
-use Rattle.std.proofs.Common.{sym, subst, arith}
+use Rattle.std.proofs.Common.{sym, subst, ◌∙◌}
 use Rattle.std.proofs.lemmas.List.{with_items_is}
 use Rattle.std.specs.Vec.{with_items}
 use Rattle.cluster_run.specs.declared.jobs.HostJob.TheVariants as job
@@ -9,7 +9,7 @@ pub returns-in-Read : goal.returns-in-Read
 returns-in-Read g c =
     let readers = c.in-Read.readers in
     let new = c.read_all.new.readers in
-    let left = with_items_is readers new (omega (arith, c.read_all.auto.readers, c.as_mut_slice.ensures.len)) in
+    let left = with_items_is readers _ (c.read_all.auto.readers ∙ c.as_mut_slice.ensures.len) in
     let read : HaveReadBy c.in-Read.reads.now readers.items new =
     subst (λ rs. HaveReadBy c.in-Read.reads.now rs new) c.as_mut_slice.ensures.value c.read_all.ensures in
     subst (λ given. HaveHostsDone given (job.Read c.in-Read.reads (with_items readers new))) (sym c.in-Read.is)

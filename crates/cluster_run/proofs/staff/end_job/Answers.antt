@@ -1,4 +1,4 @@
-use Rattle.std.proofs.Common.{subst, arith}
+use Rattle.std.proofs.Common.{subst, ◌∙◌}
 use Rattle.std.proofs.lemmas.List.{with_items_is}
 use Rattle.cluster_run.specs.Ending.{HasPartEnded}
 use Rattle.cluster_run.proofs.staff.end_job.Goals as goal
@@ -8,8 +8,8 @@ returns g c =
     let job = c.args.job in
     let ss = c.end_from.new.seats in
     let ds = c.end_from.new.desks in
-    let seats = with_items_is job.seats ss (omega (arith, c.end_from.auto.seats, c.as_mut_slice.ensures.len)) in
-    let desks = with_items_is job.desks ds (omega (arith, c.end_from.auto.desks, c.as_mut_slice-2.ensures.len)) in
+    let seats = with_items_is job.seats _ (c.end_from.auto.seats ∙ c.as_mut_slice.ensures.len) in
+    let desks = with_items_is job.desks _ (c.end_from.auto.desks ∙ c.as_mut_slice-2.ensures.len) in
     rw (seats, desks)
     (subst (λ m. HasPartEnded job.list.now job.script.now m job.first job.seats.items ss job.desks.items ds) c.deref.ensures
     (subst (λ old. HasPartEnded job.list.now job.script.now c.deref.result.now job.first old ss job.desks.items ds)
