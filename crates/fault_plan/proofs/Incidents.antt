@@ -1,6 +1,6 @@
--- The incidents of the plan of the single-fault hypothesis: each slot's is the node that it makes faulty.
+-- The incidents of a plan of a run's faults: each slot's is the node that it makes faulty.
 use Rattle.std.proofs.Common.{◌≡◌, ◌≢◌, ℕ, zero, suc, ◌+◌, ◌-◌, ◌<◌, ◌≤◌, Bool, true, false, cond, List, [], ◌∷◌, map}
-use Rattle.std.proofs.Common.{Option, Some, None, refl, ap, sym, ◌∙◌, inl, inr, arith}
+use Rattle.std.proofs.Common.{Option, Some, None, refl, ap, sym, ◌∙◌, inl, inr, arith, subst, ◌++◌, ◌⊎◌}
 use Rattle.std.specs.Prelude.{◌==◌, find}
 use Rattle.std.specs.List.{AllByRecursion}
 use Rattle.std.specs.Option.{option_or}
@@ -8,11 +8,17 @@ use Rattle.std.proofs.lemmas.Bool.{cases_eq, eq-eqb, eqb-true, ne_eqb}
 use Rattle.std.proofs.lemmas.List.{map-append}
 use Rattle.std.proofs.lemmas.List.Folds.{find-append}
 use Rattle.std.proofs.lemmas.Option.{none-some, same_Some}
+use Rattle.std.proofs.Math.Nat.{eq-or-lt_of_le}
+use Rattle.ttp_base.specs.NodeSet.{has_node}
 use Rattle.ttp_world.specs.declared.medl.Medl.{Medl}
 use Rattle.ttp_world.specs.declared.script.Script.{Script}
-use Rattle.ttp_world.specs.Hypothesis.{ClusterStart, FaultyNode, faulty_nodes_before}
+use Rattle.ttp_world.specs.Hypothesis.{ClusterStart, FaultyNode}
 use Rattle.fault_plan.specs.Plan.{Incident, is_in_slot, planned_incident}
-use Rattle.fault_plan.proofs.Spaced.{IsSpaced, made_in, all_in}
+use Rattle.fault_plan.proofs.Spaced.{IsSpaced, all_in, IsOneMade, one-made, spaced-later}
+use Rattle.fault_plan.proofs.Courses.{IsCourse, made_of}
+use Rattle.fault_plan.proofs.FateSteps.{strikes}
+use Rattle.ttp_world.specs.Returning.{two_rounds}
+use Rattle.fault_plan.proofs.Tests.{never-found, or-false}
 
 abbrev pub planned_incidents : Medl → Script → ClusterStart → List FaultyNode → List Incident
 planned_incidents list script start faulty = map (planned_incident list script start) faulty
@@ -138,43 +144,130 @@ pub or-none : (found : Option Incident) → option_or found None ≡ found
 or-none None = refl
 or-none (Some incident) = refl
 
-found-next : (list : Medl) (script : Script) (start : ClusterStart) (turn slot : ℕ)
-    → incident_among list script start turn (faulty_nodes_before list script start (suc slot))
-    ≡ option_or
-    (incident_among list script start turn (all_in slot (made_in list script start slot)))
-    (incident_among list script start turn (faulty_nodes_before list script start slot))
-found-next list script start turn slot =
-    let newer = all_in slot (made_in list script start slot) in
-    let older = faulty_nodes_before list script start slot in
-    ap (find (is_in_slot turn)) (map-append (planned_incident list script start) newer older)
-    ∙ find-append (is_in_slot turn) (planned_incidents list script start newer)
-    (planned_incidents list script start older)
+-- Of the run.
 
-none-before : (list : Medl) (script : Script) (start : ClusterStart) (turn slot : ℕ) → 0 < turn
-    → slot ≤ start.slot + turn
-    → incident_among list script start turn (faulty_nodes_before list script start slot) ≡ None
-none-before list script start turn zero later within = refl
-none-before list script start turn (suc slot) later within =
-    found-next list script start turn slot ∙ (λ i. option_or
-    (none-slot list script start turn slot (made_in list script start slot) (λ same. omega arith) i)
-    (none-before list script start turn slot later (omega arith) i))
+module _ {list : Medl} {script : Script} {start : ClusterStart} {at : ℕ → List ℕ} {all : ℕ → List FaultyNode}
+    (course : IsCourse list script start at all) where
+  abbrev made : ℕ → List ℕ
+  made slot = made_of list script start (at slot) slot
 
-pub some-before : (list : Medl) (script : Script) (start : ClusterStart) (turn at last : ℕ) → 0 < turn
-    → at ≡ start.slot + turn → at < last
-    → incident_among list script start turn (faulty_nodes_before list script start last)
-    ≡ incident_made list script start at (made_in list script start at)
-some-before list script start turn at zero later is within = absurd (omega arith)
-some-before list script start turn at (suc last) later is within =
-    let older = incident_among list script start turn (faulty_nodes_before list script start last) in
-    elim (cases_eq last at) [
-      | inl same ↦
-          found-next list script start turn last ∙ (λ i. option_or
-          (some-slot list script start turn last (made_in list script start last) (omega arith) i)
-          (none-before list script start turn last later (omega arith) i))
-          ∙ or-none (incident_made list script start last (made_in list script start last))
-          ∙ ap (λ t. incident_made list script start t (made_in list script start t)) same
-      | inr other ↦
-          found-next list script start turn last ∙ ap (λ found. option_or found older)
-          (none-slot list script start turn last (made_in list script start last) (λ same. omega arith))
-          ∙ some-before list script start turn at last later is (omega arith)
-    ]
+  abbrev AreSpaced : List FaultyNode → Type 0
+  AreSpaced faulty = IsSpaced (two_rounds list) (start.slot + two_rounds list) faulty
+
+  -- those of the first slots of the run are spaced too
+  spaced-before : (slot last : ℕ) → slot ≤ last → AreSpaced (all last) → AreSpaced (all slot)
+  spaced-before slot zero within spaced =
+      let none : zero ≡ slot = omega arith in
+      subst (λ t. AreSpaced (all t)) none spaced
+  spaced-before slot (suc last) within spaced = elim (eq-or-lt_of_le within) [
+    | inl same ↦ subst (λ t. AreSpaced (all t)) (sym same) spaced
+    | inr less ↦
+        spaced-before slot last (omega arith) (spaced-later (two_rounds list) (start.slot + two_rounds list)
+        (all_in last (made last)) (all last) (subst AreSpaced (course.next last) spaced))
+  ]
+
+  -- what a slot makes faulty
+  pub makes-slot : (slot : ℕ) → slot < script.slots → (made_of list script start (at slot) slot ≡ [])
+      ⊎ ((k : ℕ) × IsOneMade (two_rounds list) (start.slot + two_rounds list) slot k
+      (made_of list script start (at slot) slot) (all slot))
+  makes-slot slot within =
+      one-made (two_rounds list) (start.slot + two_rounds list) slot (made slot) (all slot)
+      (omega (arith, course.valid.count))
+      (subst AreSpaced (course.next slot) (spaced-before (suc slot) script.slots within course.spaced))
+
+  pub made-early : (slot : ℕ) → slot < script.slots → slot < start.slot + two_rounds list
+      → made_of list script start (at slot) slot ≡ []
+  made-early slot within early = elim (makes-slot slot within) [
+    | inl none ↦ none
+    | inr one ↦ absurd (omega (arith, one.1.late))
+  ]
+
+  pub all-early : (slot : ℕ) → slot ≤ script.slots → slot ≤ start.slot + two_rounds list → all slot ≡ []
+  all-early zero within early = course.none
+  all-early (suc slot) within early =
+      let before : all slot ≡ [] = all-early slot (omega arith) (omega arith) in
+      course.next slot ∙ (λ i. all_in slot (made-early slot within early i) ++ before i)
+
+  -- The incident of a slot.
+
+  found-next : (turn slot : ℕ) → incident_among list script start turn (all (suc slot))
+      ≡ option_or (incident_among list script start turn (all_in slot (made slot)))
+      (incident_among list script start turn (all slot))
+  found-next turn slot =
+      ap (incident_among list script start turn) (course.next slot)
+      ∙ ap (find (is_in_slot turn)) (map-append (planned_incident list script start) (all_in slot (made slot))
+      (all slot))
+      ∙ find-append (is_in_slot turn) (planned_incidents list script start (all_in slot (made slot)))
+      (planned_incidents list script start (all slot))
+
+  none-before : (turn slot : ℕ) → 0 < turn → slot ≤ start.slot + turn
+      → incident_among list script start turn (all slot) ≡ None
+  none-before turn zero later within = ap (incident_among list script start turn) course.none
+  none-before turn (suc slot) later within =
+      found-next turn slot ∙ (λ i. option_or (none-slot list script start turn slot (made slot) (λ same. omega arith) i)
+      (none-before turn slot later (omega arith) i))
+
+  some-before : (turn slot last : ℕ) → 0 < turn → slot ≡ start.slot + turn → slot < last
+      → incident_among list script start turn (all last) ≡ incident_made list script start slot (made slot)
+  some-before turn slot zero later is within = absurd (omega arith)
+  some-before turn slot (suc last) later is within = found-next turn last ∙ elim (cases_eq last slot) [
+    | inl same ↦
+        (λ i. option_or (some-slot list script start turn last (made last) (omega arith) i)
+        (none-before turn last later (omega arith) i))
+        ∙ or-none (incident_made list script start last (made last))
+        ∙ ap (λ t. incident_made list script start t (made t)) same
+    | inr other ↦
+        ap (λ found. option_or found (incident_among list script start turn (all last)))
+        (none-slot list script start turn last (made last) (λ same. omega arith))
+        ∙ some-before turn slot last later is (omega arith)
+  ]
+
+  pub incident-slot : (turn slot : ℕ) → slot ≡ start.slot + turn → slot < script.slots
+      → incident_among list script start turn (all script.slots)
+      ≡ incident_made list script start slot (made_of list script start (at slot) slot)
+  incident-slot zero slot is within =
+      let some : 0 < two_rounds list = omega (arith, course.valid.count) in
+      never-found (incident_among list script start 0 (all script.slots)) (λ incident found.
+      let late = late-found list script start (two_rounds list) 0 incident (all script.slots) course.spaced found in
+      omega (arith, some, late))
+      ∙ ap (incident_made list script start slot) (sym (made-early slot within (omega (arith, some))))
+  incident-slot (suc turn) slot is within = some-before (suc turn) slot script.slots (omega arith) is within
+
+  -- Whom it strikes.
+
+  pub strikes-slot : (turn slot k : ℕ) → slot ≡ start.slot + turn → slot < script.slots
+      → strikes (incident_among list script start turn (all script.slots)) k
+      ≡ has_node (made_of list script start (at slot) slot) k
+  strikes-slot turn slot k is within =
+      ap (λ found. strikes found k) (incident-slot turn slot is within) ∙ by (makes-slot slot within)
+    where
+      Strikes : List ℕ → Type 0
+      Strikes = λ ks. strikes (incident_made list script start slot ks) k ≡ has_node ks k
+
+      by : (made slot ≡ []) ⊎ ((k : ℕ)
+          × IsOneMade (two_rounds list) (start.slot + two_rounds list) slot k (made slot) (all slot))
+          → strikes (incident_made list script start slot (made slot)) k ≡ has_node (made slot) k
+      by (inl none) = subst Strikes (sym none) refl
+      by (inr one) = subst Strikes (sym one.1.only) (or-false (one.0 == k))
+
+  -- Those that became faulty in the first slots did so in them.
+
+  within-all : (last slot : ℕ) → slot ≤ last → AllByRecursion (λ f. f.slot < last) (all slot)
+  within-all last zero within = subst (AllByRecursion (λ f. f.slot < last)) (sym course.none) tt
+  within-all last (suc slot) within =
+      subst (AllByRecursion (λ f. f.slot < last)) (sym (course.next slot))
+      (added (made slot) (within-all last slot (omega arith)))
+    where
+      added : (ks : List ℕ) → AllByRecursion (λ f. f.slot < last) (all slot)
+          → AllByRecursion (λ f. f.slot < last) (all_in slot ks ++ all slot)
+      added [] older = older
+      added (k ∷ ks) older = (omega arith, added ks older)
+
+  -- so an incident lies in the run
+  pub found-within : (turn : ℕ) (incident : Incident)
+      → incident_among list script start turn (all script.slots) ≡ Some incident → start.slot + turn < script.slots
+  found-within turn incident found =
+      let late = late-found list script start (two_rounds list) turn incident (all script.slots) course.spaced found in
+      let tells = found-tells (λ f. f.slot < script.slots) list script start turn incident (all script.slots)
+      (within-all script.slots script.slots (omega arith)) found in
+      omega (arith, tells.1.at, tells.1.holds, late, course.valid.count)

@@ -4,6 +4,7 @@ pub mod Sieves
 pub mod Rules
 pub mod Bounds
 pub mod Spaced
+pub mod Courses
 pub mod FateSteps
 pub mod Returns
 pub mod Incidents
@@ -11,6 +12,7 @@ pub mod Losses
 pub mod FaultySets
 pub mod Hearing
 pub mod SlotFacts
+pub mod CoursePlans
 pub mod KeptPlan
 pub mod FateTells
 pub mod Persists

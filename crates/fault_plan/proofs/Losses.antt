@@ -13,6 +13,7 @@ use Rattle.ttp_world.specs.Hypothesis.{others_in, receivers_loss, sender_loss}
 use Rattle.ttp_world.specs.Script.{is_ever_on}
 use Rattle.ttp_world.proofs.Filters.{each-sieve}
 use Rattle.ttp_world.proofs.ListFacts.{few-left}
+use Rattle.fault_plan.specs.Plan.{sender}
 
 -- a node of a list, of which each has a property, has it
 member-step : (P : ℕ → Type 0) (x r : ℕ) (rest b : Bool) → (x == r) ≡ b → P x → (rest ≡ true → P r) → (b || rest) ≡ true
@@ -25,7 +26,7 @@ each-member P [] r each has = absurd (both_ways _ refl has)
 each-member P (x ∷ xs) r each has =
     member-step P x r (has_node xs r) (x == r) refl each.0 (λ later. each-member P xs r each.1 later) has
 
-one-member : (k r : ℕ) → has_node (k ∷ []) r ≡ true → k ≡ r
+pub one-member : (k r : ℕ) → has_node (k ∷ []) r ≡ true → k ≡ r
 one-member k r has = each-member (λ j. k ≡ j) (k ∷ []) r (refl, tt) has
 
 -- Where a filter keeps as many as there are, all pass.

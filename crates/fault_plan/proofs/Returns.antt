@@ -120,7 +120,8 @@ begin-deaf false = refl
 
 deaf-always : (plan : Plan) (slot k : ℕ) → plan.returns ≡ [] → is_listening (fate_of plan slot k) ≡ false
 deaf-always plan zero k none = listens-next plan 0 k (fate_at_begin plan k) none (begin-deaf (has_node plan.begin k))
-deaf-always plan (suc slot) k none = listens-next plan (suc slot) k (fate_of plan slot k) none (deaf-always plan slot k none)
+deaf-always plan (suc slot) k none =
+    listens-next plan (suc slot) k (fate_of plan slot k) none (deaf-always plan slot k none)
 
 pub never-listens : (plan : Plan) (slot k since : ℕ) → plan.returns ≡ [] → fate_of plan slot k ≡ Listening since → ⊥
 never-listens plan slot k since none is = both_ways _ (deaf-always plan slot k none) (ap is_listening is)

@@ -1,16 +1,12 @@
 -- The faulty nodes of a script that keeps the rule on distances.
-use Rattle.std.proofs.Common.{◌≡◌, ℕ, zero, suc, ◌+◌, ◌<◌, ◌≤◌, Bool, true, false, cond, List, [], ◌∷◌, ◌++◌, map}
-use Rattle.std.proofs.Common.{reverse, Option, Some, None, ◌⊎◌, refl, ap, sym, subst, ◌∙◌, inl, inr, arith}
+use Rattle.std.proofs.Common.{◌≡◌, ℕ, ◌+◌, ◌<◌, ◌≤◌, Bool, true, false, cond, List, [], ◌∷◌, ◌++◌, map, reverse, Option}
+use Rattle.std.proofs.Common.{Some, None, ◌⊎◌, refl, ap, sym, subst, ◌∙◌, inl, inr, arith}
 use Rattle.std.specs.Prelude.{nat_lt}
 use Rattle.std.specs.List.{AllByRecursion}
 use Rattle.std.proofs.lemmas.Bool.{ltb-false}
 use Rattle.std.proofs.lemmas.Grind.{reverse_onto}
 use Rattle.std.proofs.lemmas.Option.{none-some}
-use Rattle.std.proofs.Math.Nat.{eq-or-lt_of_le}
-use Rattle.ttp_world.specs.declared.medl.Medl.{Medl}
-use Rattle.ttp_world.specs.declared.script.Script.{Script}
-use Rattle.ttp_world.specs.Hypothesis.{ClusterStart, FaultyNode, numbers_of, nodes_made, loss_in, jumpers_in}
-use Rattle.ttp_world.specs.Hypothesis.{faulty_nodes_before, first_too_early}
+use Rattle.ttp_world.specs.Hypothesis.{FaultyNode, numbers_of, first_too_early}
 
 -- Faulty nodes, the newest first, that became faulty some way apart, and none before a slot.
 
@@ -69,11 +65,6 @@ spaced-later gap earliest (f ∷ newer) faulty spaced = spaced-later gap earlies
 
 -- The nodes that a slot makes faulty.
 
-abbrev pub made_in : Medl → Script → ClusterStart → ℕ → List ℕ
-made_in list script start slot =
-    let faulty = numbers_of (faulty_nodes_before list script start slot) in
-    nodes_made (loss_in list script start faulty slot) ++ jumpers_in list script faulty slot
-
 abbrev pub all_in : ℕ → List ℕ → List FaultyNode
 all_in slot ks = map (λ k. record { slot = slot; node = k }) ks
 
@@ -81,21 +72,6 @@ pub numbers-next : (slot : ℕ) (ks : List ℕ) (faulty : List FaultyNode)
     → numbers_of (all_in slot ks ++ faulty) ≡ ks ++ numbers_of faulty
 numbers-next slot [] faulty = refl
 numbers-next slot (k ∷ ks) faulty = ap (λ rest. k ∷ rest) (numbers-next slot ks faulty)
-
--- those of the first slots of the run are spaced too
-pub spaced-before : (list : Medl) (script : Script) (start : ClusterStart) (gap earliest last slot : ℕ) → slot ≤ last
-    → IsSpaced gap earliest (faulty_nodes_before list script start last)
-    → IsSpaced gap earliest (faulty_nodes_before list script start slot)
-spaced-before list script start gap earliest zero slot within spaced =
-    let none : zero ≡ slot = omega arith in
-    subst (λ t. IsSpaced gap earliest (faulty_nodes_before list script start t)) none spaced
-spaced-before list script start gap earliest (suc last) slot within spaced = elim (eq-or-lt_of_le within) [
-  | inl same ↦ subst (λ t. IsSpaced gap earliest (faulty_nodes_before list script start t)) (sym same) spaced
-  | inr less ↦
-      spaced-before list script start gap earliest last slot (omega arith)
-      (spaced-later gap earliest (all_in last (made_in list script start last))
-      (faulty_nodes_before list script start last) spaced)
-]
 
 -- what a slot makes faulty, where faults lie apart: nothing, or one node some way after all others
 pub record IsOneMade (gap earliest slot k : ℕ) (made : List ℕ) (faulty : List FaultyNode) : Type 0 where
@@ -112,25 +88,3 @@ one-made gap earliest slot (k ∷ []) faulty some spaced =
 one-made gap earliest slot (k ∷ j ∷ made) faulty some spaced =
     let soon : slot + gap ≤ slot = spaced.1.0 in
     absurd (omega arith)
-
-pub slot-makes : (list : Medl) (script : Script) (start : ClusterStart) (gap earliest last slot : ℕ) → 0 < gap
-    → slot < last → IsSpaced gap earliest (faulty_nodes_before list script start last)
-    → (made_in list script start slot ≡ [])
-    ⊎ ((k : ℕ)
-    × IsOneMade gap earliest slot k (made_in list script start slot) (faulty_nodes_before list script start slot))
-slot-makes list script start gap earliest last slot some within spaced =
-    one-made gap earliest slot (made_in list script start slot) (faulty_nodes_before list script start slot) some
-    (spaced-before list script start gap earliest last (suc slot) within spaced)
-
--- none is faulty early
-pub none-early : (list : Medl) (script : Script) (start : ClusterStart) (gap earliest last slot : ℕ) → 0 < gap
-    → slot ≤ last → slot ≤ earliest → IsSpaced gap earliest (faulty_nodes_before list script start last)
-    → faulty_nodes_before list script start slot ≡ []
-none-early list script start gap earliest last zero some within early spaced = refl
-none-early list script start gap earliest last (suc slot) some within early spaced =
-    let before : faulty_nodes_before list script start slot ≡ [] =
-    none-early list script start gap earliest last slot some (omega arith) (omega arith) spaced in
-    elim (slot-makes list script start gap earliest last slot some within spaced) [
-      | inl none ↦ (λ i. all_in slot (none i) ++ faulty_nodes_before list script start slot) ∙ before
-      | inr made ↦ absurd (omega (arith, made.1.late))
-    ]

@@ -6,13 +6,13 @@ use Rattle.std.specs.List.{AllByRecursion, Contains, list_any, filter_map}
 use Rattle.std.proofs.lemmas.Bool.{and_parts, and_from, eqb-true, eq-eqb, ne_eqb, cases_eq, both_ways}
 use Rattle.ttp_world.specs.declared.medl.Medl.{Medl}
 use Rattle.ttp_world.specs.declared.script.Event.{Event}
-use Rattle.ttp_world.specs.declared.script.Event.TheVariants as event
 use Rattle.ttp_world.specs.declared.script.Script.{Script}
 use Rattle.ttp_world.specs.Hypothesis.{ClusterStart}
 use Rattle.ttp_world.specs.Script.{arms, is_armed, IsValidScript, IsValidEvent}
 use Rattle.fault_plan.specs.Plan.{Return, is_armed_there, is_armed_by}
 use Rattle.rejoin.specs.BackPlan.{entry_slot, return_of, back_plan_of}
 use Rattle.rejoin.proofs.EventLines.{arm-line}
+use Rattle.ttp_world.specs.declared.script.Event.TheVariants as event
 
 abbrev returns_in : Medl → Script → ClusterStart → List Event → List Return
 returns_in list script start events = filter_map (return_of list script start) events

@@ -1,6 +1,6 @@
 -- Clocks and bits of a script that keeps the rules on them, where nodes may be armed.
-use Rattle.std.proofs.Common.{◌≡◌, ℕ, ◌*◌, ◌≤◌, ℤ, pos, negsuc, ◌+ℤ◌, ◌*ℤ◌, ◌≤ℤ◌, not, List, [], ◌∷◌, length, None}
-use Rattle.std.proofs.Common.{refl, sym, mul-le-mul_left, arith}
+use Rattle.std.proofs.Common.{◌≡◌, ℕ, ◌*◌, ◌≤◌, ℤ, pos, negsuc, ◌+ℤ◌, ◌*ℤ◌, ◌≤ℤ◌, List, [], ◌∷◌, length, None, refl}
+use Rattle.std.proofs.Common.{sym, mul-le-mul_left, arith}
 use Rattle.std.specs.Prelude.{int_le}
 use Rattle.std.specs.List.{AllByRecursion, filter_map}
 use Rattle.std.proofs.lemmas.Int.{ints}
@@ -8,7 +8,6 @@ use Rattle.std.proofs.lemmas.Option.{none-some}
 use Rattle.ttp_world.specs.declared.medl.Medl.{Medl}
 use Rattle.ttp_world.specs.declared.script.Channel.{Channel}
 use Rattle.ttp_world.specs.declared.script.Event.{Event}
-use Rattle.ttp_world.specs.declared.script.Event.TheVariants as event
 use Rattle.ttp_world.specs.declared.script.Script.{Script}
 use Rattle.ttp_world.specs.Hypothesis.{clocks_broken, needed}
 use Rattle.ttp_world.specs.Medl.{IsValid}
@@ -18,6 +17,7 @@ use Rattle.ttp_world.proofs.Jumps.{each-none, undisturbed-jump}
 use Rattle.fault_plan.specs.Kept.{IsWithinBounds}
 use Rattle.fault_plan.proofs.Bounds.{bounds-of, wide}
 use Rattle.ttp_world.proofs.SmallTests.{le_of_test}
+use Rattle.ttp_world.specs.declared.script.Event.TheVariants as event
 
 -- Events.
 

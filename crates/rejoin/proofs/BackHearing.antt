@@ -6,63 +6,25 @@ use Rattle.std.specs.List.{list_any, filter, range_with_len}
 use Rattle.std.proofs.lemmas.Bool.{and_parts, and_from, or_from, or_left, both_ways, eq-eqb, eqb-false, ne_eqb}
 use Rattle.std.proofs.lemmas.Bool.{not-true, or_parts, or_cases, cases_lt, not_from_false, false_from_ne_true, leb-true}
 use Rattle.std.proofs.lemmas.Bool.{cases_eq}
-use Rattle.ttp_base.specs.NodeSet.{has_node, below}
+use Rattle.ttp_base.specs.NodeSet.{below}
 use Rattle.ttp_world.specs.declared.medl.Medl.{Medl}
 use Rattle.ttp_world.specs.declared.script.Channel.{Channel}
-use Rattle.ttp_world.specs.declared.script.Channel.TheVariants as channel
 use Rattle.ttp_world.specs.declared.script.Fault.{Fault}
-use Rattle.ttp_world.specs.declared.script.Fault.TheVariants as fault
 use Rattle.ttp_world.specs.declared.script.Script.{Script}
-use Rattle.ttp_world.specs.Hypothesis.{ClusterStart, nodes_of, is_breaking, is_covered, loses, is_other}
-use Rattle.ttp_world.specs.Hypothesis.{expected_sender, is_steady}
-use Rattle.ttp_world.specs.Medl.{plan_at}
-use Rattle.ttp_world.specs.Returning.{four_rounds, run_slots, is_deaf, is_deaf_on, is_missed_in, is_sound}
-use Rattle.ttp_world.specs.Script.{is_ever_on, is_on, has_send_fault, has_receive_fault}
-use Rattle.fault_plan.proofs.Hearing.{on-since, made-itself}
-use Rattle.fault_plan.proofs.Losses.{loser-tells}
+use Rattle.ttp_world.specs.Hypothesis.{ClusterStart, nodes_of, is_covered, loses, expected_sender, is_steady}
+use Rattle.ttp_world.specs.Returning.{four_rounds, is_deaf, is_deaf_on, is_missed_in, is_sound}
+use Rattle.ttp_world.specs.Script.{has_send_fault, has_receive_fault}
+use Rattle.fault_plan.proofs.Hearing.{IsClear, clear-loses, on-now}
 use Rattle.fault_plan.proofs.Sieves.{none-found}
 use Rattle.rejoin.proofs.Arms.{arm-only}
-use Rattle.rejoin.proofs.BackLosses.{fallen, loss_of, loss-asked}
 use Rattle.rejoin.proofs.Entries.{first-found}
 use Rattle.rejoin.proofs.EventLines.{alone-sends, alone-hears}
 use Rattle.rejoin.proofs.Lists.{none-below}
 use Rattle.rejoin.proofs.Runs.{IsBackRun}
-use Rattle.rejoin.proofs.Sounds.{IsClear, clear-after, IsNearArm}
+use Rattle.rejoin.proofs.Sounds.{IsNearArm, clear-now}
 use Rattle.rejoin.proofs.Walk.{at, after}
-
--- Nodes that are on.
-
-pub on-now : (list : Medl) (script : Script) (start : ClusterStart) (slot k : ℕ) → IsBackRun list script start
-    → start.slot ≤ slot → k < length list.slots → is_ever_on script k ≡ true → is_on script k slot ≡ true
-on-now list script start slot k run from less ever = on-since list script start k slot run.on less from ever
-
-pub other-clear : (list : Medl) (script : Script) (start : ClusterStart) (slot k : ℕ) → IsBackRun list script start
-    → start.slot ≤ slot → k < length list.slots → k ≢ expected_sender list start slot → IsClear list script start slot k
-    → is_other script (fallen list script start slot) (expected_sender list start slot) slot k ≡ true
-other-clear list script start slot k run from less other clear =
-    let away = fallen list script start slot in
-    let e = expected_sender list start slot in
-    and_from _ _ (on-now list script start slot k run from less clear.ever)
-    (and_from _ _ (not_from_false _ clear.fallen) (not_from_false _ (ne_eqb k e other)))
-
--- a clear node that loses a clear node's frame makes one of the two faulty
-pub clear-loses : (list : Medl) (script : Script) (start : ClusterStart) (slot r : ℕ) → IsBackRun list script start
-    → start.slot ≤ slot → slot < script.slots → r < length list.slots → r ≢ expected_sender list start slot
-    → IsClear list script start slot (expected_sender list start slot) → IsClear list script start slot r
-    → loses script (expected_sender list start slot) slot r ≡ false
-clear-loses list script start slot r run from within less other sends hears =
-    let e = expected_sender list start slot in
-    let away = fallen list script start slot in
-    let asked = loss-asked list script start slot from in
-    false_from_ne_true _ (λ lost.
-    elim (loser-tells list script away slot e r sends.ever sends.fallen less
-    (other-clear list script start slot r run from less other hears) lost
-    (ap is_breaking (sym asked) ∙ run.whole slot within)) [
-      | inl all ↦ made-itself (loss_of list script start slot) e (asked ∙ all) sends.lost
-      | inr one ↦ made-itself (loss_of list script start slot) r (asked ∙ one) hears.lost
-    ])
-
--- There is another clear node.
+use Rattle.ttp_world.specs.declared.script.Channel.TheVariants as channel
+use Rattle.ttp_world.specs.declared.script.Fault.TheVariants as fault
 
 filter-none : (p : ℕ → Bool) (a n : ℕ) → ((k : ℕ) → a ≤ k → k < a + n → p k ≡ false)
     → length (filter p (range_with_len a n)) ≡ 0
@@ -112,21 +74,6 @@ another-of p n e some = by (find other (below n)) refl
         let parts = and_parts _ _ first.passes in
         (q, (omega (arith, first.to), (parts.0, eqb-false q e (not-true _ parts.1))))
 
-another-clear : (list : Medl) (script : Script) (start : ClusterStart) (slot e : ℕ) → IsBackRun list script start
-    → start.slot ≤ slot → slot < script.slots
-    → (q : ℕ) × ((q < length list.slots) × (IsClear list script start slot q × (q ≢ e)))
-another-clear list script start slot e run from within =
-    let gone = after list script start slot in
-    let four : 4 ≤ length (filter (is_steady list script gone) (nodes_of list)) =
-    leb-true _ _ (run.steady slot from within) in
-    let found = another-of (is_steady list script gone) (length list.slots) e (omega (arith, four)) in
-    let q = found.0 in
-    let parts = and_parts _ _ found.1.1.0 in
-    let rest = and_parts _ _ parts.1 in
-    (q, (found.1.0, (clear-after list script start slot q rest.0 (not-true _ rest.1), found.1.1.1)))
-
--- Frames near an arm line.
-
 covered-parts : (script : Script) (e r slot : ℕ) (c : Channel) → is_covered script e r slot c ≡ true
     → has_receive_fault script fault.Silence r c slot ≡ false → has_receive_fault script fault.Noise r c slot ≡ false
     → (has_send_fault script fault.Silence e c slot || has_send_fault script fault.Noise e c slot) ≡ true
@@ -135,25 +82,6 @@ covered-parts script e r slot c is silent noisy =
       | inl sends ↦ sends
       | inr hears ↦ absurd (both_ways _ (or_from _ _ silent noisy) hears)
     ]
-
--- a node near its arm line hears what a clear node sends, since else all others would lose it
-pub near-hears : (list : Medl) (script : Script) (start : ClusterStart) (slot r : ℕ) → IsBackRun list script start
-    → start.slot ≤ slot → slot < script.slots → expected_sender list start slot < length list.slots
-    → IsClear list script start slot (expected_sender list start slot) → IsNearArm list script start slot r
-    → loses script (expected_sender list start slot) slot r ≡ false
-near-hears list script start slot r run from within small sends near =
-    let e = expected_sender list start slot in
-    let alone : (kind : Fault) (c : Channel) → has_receive_fault script kind r c slot ≡ false =
-    λ kind c. alone-hears list script kind r near.arm slot c near.from near.to near.is.alone in
-    false_from_ne_true _ (λ lost.
-    let both = and_parts _ _ lost in
-    let a =
-    covered-parts script e r slot channel.A both.0 (alone fault.Silence channel.A) (alone fault.Noise channel.A) in
-    let b =
-    covered-parts script e r slot channel.B both.1 (alone fault.Silence channel.B) (alone fault.Noise channel.B) in
-    let q = another-clear list script start slot e run from within in
-    both_ways _ (clear-loses list script start slot q.0 run from within q.1.0 q.1.1.1 sends q.1.1.0) (and_from _ _
-    (or_left _ _ a) (or_left _ _ b)))
 
 receiver-covered : (script : Script) (e r slot : ℕ) (c : Channel) → is_covered script e r slot c ≡ true
     → has_send_fault script fault.Silence e c slot ≡ false → has_send_fault script fault.Noise e c slot ≡ false
@@ -180,37 +108,73 @@ listed : (p : ℕ → Bool) (arm slot many slots : ℕ) → arm ≤ slot → slo
 listed p arm slot many slots from to within none =
     none-range p arm (min (arm + many) slots - arm) slot none from (omega arith)
 
--- and a clear node hears what a node near its arm line sends
-pub near-heard : (list : Medl) (script : Script) (start : ClusterStart) (slot r : ℕ) → IsBackRun list script start
-    → start.slot ≤ slot → slot < script.slots → r < length list.slots
-    → IsNearArm list script start slot (expected_sender list start slot) → IsClear list script start slot r
-    → loses script (expected_sender list start slot) slot r ≡ false
-near-heard list script start slot r run from within less near hears =
-    let e = expected_sender list start slot in
-    let faulty = at list script start slot in
-    let alone : (kind : Fault) (c : Channel) → has_send_fault script kind e c slot ≡ false =
-    λ kind c. alone-sends list script kind e near.arm slot c near.from near.to near.is.alone in
-    let missed : is_missed_in list script start e slot ≡ false =
-    listed (is_missed_in list script start e) near.arm slot (four_rounds list) script.slots near.from near.to within
-    (not-true _ near.is.heard) in
-    let deaf : list_any (is_deaf script faulty slot) (nodes_of list) ≡ false =
-    second (expected_sender list start slot == e) (list_any (is_deaf script faulty slot) (nodes_of list)) missed
-    (eq-eqb _ _ refl) in
-    let here = none-below (is_deaf script faulty slot) (length list.slots) r deaf less in
-    let sound : is_sound script faulty slot r ≡ true =
-    and_from _ _ (on-now list script start slot r run from less hears.ever) (not_from_false _ hears.was) in
-    let hearing : (is_deaf_on script r slot channel.A && is_deaf_on script r slot channel.B) ≡ false =
-    second (is_sound script faulty slot r) (is_deaf_on script r slot channel.A && is_deaf_on script r slot channel.B)
-    here sound in
-    false_from_ne_true _ (λ lost.
-    let both = and_parts _ _ lost in
-    both_ways _ hearing (and_from _ _
-    (receiver-covered script e r slot channel.A both.0 (alone fault.Silence channel.A) (alone fault.Noise channel.A))
-    (receiver-covered script e r slot channel.B both.1 (alone fault.Silence channel.B) (alone fault.Noise channel.B))))
-  where
-    second : (b c : Bool) → (b && c) ≡ false → b ≡ true → c ≡ false
-    second true c none is = none
-    second false c none is = absurd (both_ways _ refl is)
+module _ {list : Medl} {script : Script} {start : ClusterStart} (run : IsBackRun list script start) where
+  -- There is another clear node.
+
+  another-clear : (slot e : ℕ) → start.slot ≤ slot → slot < script.slots
+      → (q : ℕ) × ((q < length list.slots) × (IsClear list script start (at list script start slot) slot q × (q ≢ e)))
+  another-clear slot e from within =
+      let gone = after list script start slot in
+      let four : 4 ≤ length (filter (is_steady list script gone) (nodes_of list)) =
+      leb-true _ _ (run.steady slot from within) in
+      let found = another-of (is_steady list script gone) (length list.slots) e (omega (arith, four)) in
+      let q = found.0 in
+      let parts = and_parts _ _ found.1.1.0 in
+      let rest = and_parts _ _ parts.1 in
+      (q, (found.1.0, (clear-now run slot q rest.0 (not-true _ rest.1), found.1.1.1)))
+
+  -- Frames near an arm line.
+
+  -- a node near its arm line hears what a clear node sends, since else all others would lose it
+  pub near-hears : (slot r : ℕ) → start.slot ≤ slot → slot < script.slots
+      → IsClear list script start (at list script start slot) slot (expected_sender list start slot)
+      → IsNearArm list script start slot r → loses script (expected_sender list start slot) slot r ≡ false
+  near-hears slot r from within sends near =
+      let e = expected_sender list start slot in
+      let alone : (kind : Fault) (c : Channel) → has_receive_fault script kind r c slot ≡ false =
+      λ kind c. alone-hears list script kind r near.arm slot c near.from near.to near.is.alone in
+      false_from_ne_true _ (λ lost.
+      let both = and_parts _ _ lost in
+      let a =
+      covered-parts script e r slot channel.A both.0 (alone fault.Silence channel.A) (alone fault.Noise channel.A) in
+      let b =
+      covered-parts script e r slot channel.B both.1 (alone fault.Silence channel.B) (alone fault.Noise channel.B) in
+      let q = another-clear slot e from within in
+      both_ways _ (clear-loses run.course slot q.0 from within q.1.0 q.1.1.1 sends q.1.1.0) (and_from _ _
+      (or_left _ _ a) (or_left _ _ b)))
+
+  -- and a clear node hears what a node near its arm line sends
+  pub near-heard : (slot r : ℕ) → start.slot ≤ slot → slot < script.slots → r < length list.slots
+      → IsNearArm list script start slot (expected_sender list start slot)
+      → IsClear list script start (at list script start slot) slot r
+      → loses script (expected_sender list start slot) slot r ≡ false
+  near-heard slot r from within less near hears =
+      let e = expected_sender list start slot in
+      let faulty = at list script start slot in
+      let alone : (kind : Fault) (c : Channel) → has_send_fault script kind e c slot ≡ false =
+      λ kind c. alone-sends list script kind e near.arm slot c near.from near.to near.is.alone in
+      let missed : is_missed_in list script start e slot ≡ false =
+      listed (is_missed_in list script start e) near.arm slot (four_rounds list) script.slots near.from near.to within
+      (not-true _ near.is.heard) in
+      let deaf : list_any (is_deaf script faulty slot) (nodes_of list) ≡ false =
+      second (expected_sender list start slot == e) (list_any (is_deaf script faulty slot) (nodes_of list)) missed
+      (eq-eqb _ _ refl) in
+      let here = none-below (is_deaf script faulty slot) (length list.slots) r deaf less in
+      let sound : is_sound script faulty slot r ≡ true =
+      and_from _ _ (on-now run.course slot r from less hears.ever) (not_from_false _ hears.was) in
+      let hearing : (is_deaf_on script r slot channel.A && is_deaf_on script r slot channel.B) ≡ false =
+      second (is_sound script faulty slot r) (is_deaf_on script r slot channel.A && is_deaf_on script r slot channel.B)
+      here sound in
+      false_from_ne_true _ (λ lost.
+      let both = and_parts _ _ lost in
+      both_ways _ hearing (and_from _ _
+      (receiver-covered script e r slot channel.A both.0 (alone fault.Silence channel.A) (alone fault.Noise channel.A))
+      (receiver-covered script e r slot channel.B both.1 (alone fault.Silence channel.B)
+      (alone fault.Noise channel.B))))
+    where
+      second : (b c : Bool) → (b && c) ≡ false → b ≡ true → c ≡ false
+      second true c none is = none
+      second false c none is = absurd (both_ways _ refl is)
 
 -- two of them are one
 pub near-same : (list : Medl) (script : Script) (start : ClusterStart) (slot j k : ℕ)

@@ -1,7 +1,7 @@
 -- The slot in which an armed node enters.
 use Rattle.std.proofs.Common.{◌≡◌, ℕ, zero, suc, ◌+◌, ◌-◌, ◌<◌, ◌≤◌, Bool, true, false, cond, ◌||◌, Option, Some, None}
 use Rattle.std.proofs.Common.{refl, ap, sym, ◌∙◌, inl, inr, arith}
-use Rattle.std.specs.Prelude.{nat_lt, min, unwrap_or, find}
+use Rattle.std.specs.Prelude.{min, unwrap_or, find}
 use Rattle.std.specs.List.{list_any, range_with_len}
 use Rattle.std.proofs.lemmas.Bool.{both_ways, or_cases, ltb-true, cases_eq}
 use Rattle.std.proofs.lemmas.Option.{none-some, same_Some}

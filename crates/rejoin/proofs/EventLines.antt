@@ -7,15 +7,14 @@ use Rattle.std.proofs.lemmas.Bool.{and_parts, and_from, both_ways, eqb-true, leb
 use Rattle.ttp_world.specs.declared.medl.Medl.{Medl}
 use Rattle.ttp_world.specs.declared.script.Channel.{Channel}
 use Rattle.ttp_world.specs.declared.script.Event.{Event}
-use Rattle.ttp_world.specs.declared.script.Event.TheVariants as event
 use Rattle.ttp_world.specs.declared.script.Fault.{Fault}
 use Rattle.ttp_world.specs.declared.script.Script.{Script}
-use Rattle.ttp_world.specs.Events.{is_among, is_same_fault, covers}
 use Rattle.ttp_world.specs.Returning.{four_rounds, touches, is_line_of, is_arm_line}
-use Rattle.ttp_world.specs.Script.{arms, is_armed, is_send_fault, is_receive_fault, has_send_fault, has_receive_fault}
-use Rattle.ttp_world.specs.Script.{jump_in, has_jump}
+use Rattle.ttp_world.specs.Script.{covers, arms, is_armed, is_send_fault, is_receive_fault, has_send_fault}
+use Rattle.ttp_world.specs.Script.{has_receive_fault, jump_in, has_jump}
 use Rattle.fault_plan.proofs.Returns.{any-of}
 use Rattle.rejoin.proofs.Lists.{none-stricter}
+use Rattle.ttp_world.specs.declared.script.Event.TheVariants as event
 
 -- An arm line.
 

@@ -4,10 +4,8 @@ pub mod Lists
 pub mod EventLines
 pub mod Runs
 pub mod Arms
-pub mod BackIncidents
 pub mod ArmLines
 pub mod Entries
-pub mod BackLosses
 pub mod Standing
 pub mod ReturnedPlan
 pub mod Sounds

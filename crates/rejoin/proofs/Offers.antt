@@ -1,5 +1,5 @@
 -- An armed node enters by the first frame of a sound node that carries a place.
-use Rattle.std.proofs.Common.{◌≡◌, ◌≢◌, ℕ, zero, suc, ◌+◌, ◌-◌, ◌*◌, ◌/◌, ◌%◌, ◌<◌, ◌≤◌, Bool, true, false, cond, not}
+use Rattle.std.proofs.Common.{◌≡◌, ◌≢◌, ℕ, zero, suc, ◌+◌, ◌-◌, ◌*◌, ◌/◌, ◌%◌, ◌<◌, ◌≤◌, Bool, true, false, cond}
 use Rattle.std.proofs.Common.{length, refl, ap, sym, subst, ◌∙◌, inl, inr, mod-lt, arith}
 use Rattle.std.specs.Prelude.{◌==◌}
 use Rattle.std.specs.List.{Contains}
@@ -13,20 +13,18 @@ use Rattle.ttp_world.specs.declared.script.Script.{Script}
 use Rattle.ttp_world.specs.Diary.{Place, next_place}
 use Rattle.ttp_world.specs.Hypothesis.{ClusterStart, expected_sender}
 use Rattle.ttp_world.specs.Medl.{kind_at}
-use Rattle.ttp_world.specs.Returning.{two_rounds, four_rounds, round_of, carries_place, is_sound as is_sound_in}
-use Rattle.ttp_world.specs.Returning.{offers_place}
+use Rattle.ttp_world.specs.Returning.{two_rounds, four_rounds, round_of, carries_place}
 use Rattle.ttp_world.specs.Script.{is_on}
 use Rattle.fault_plan.specs.Plan.{Return, Plan}
 use Rattle.fault_plan.specs.Fates.{is_sound_after, is_good_slot}
 use Rattle.fault_plan.specs.Kept.{kind_in, IsOffered}
 use Rattle.fault_plan.specs.Places.{planned_place}
-use Rattle.fault_plan.proofs.Hearing.{on-since}
 use Rattle.fault_plan.proofs.Places.{place-sender}
+use Rattle.fault_plan.proofs.Hearing.{on-now, sender-less, sender-same}
 use Rattle.rejoin.specs.BackPlan.{entry_slot, back_plan_of}
 use Rattle.rejoin.proofs.ArmLines.{armed-valid, IsOfLine, return-of}
-use Rattle.rejoin.proofs.Arms.{IsArmedIn, armed-in, arm-only}
+use Rattle.rejoin.proofs.Arms.{IsArmedIn, armed-in, arm-only, arm-stays}
 use Rattle.rejoin.proofs.Entries.{IsEntryOf, entry-of}
-use Rattle.rejoin.proofs.ReturnedPlan.{armed-after}
 use Rattle.rejoin.proofs.Runs.{IsBackRun}
 use Rattle.rejoin.proofs.Sounds.{Soundly, BeingClear, NearArm, sound-how}
 use Rattle.rejoin.proofs.Standing.{arm-late}
@@ -87,7 +85,7 @@ planned-round list plan (suc slot) same less rounds =
         mod-add-mod q list.rounds 1 ∙ ap (λ t. t % list.rounds) one
     turn false = refl
 
-module _ (list : Medl) (script : Script) (start : ClusterStart) (run : IsBackRun list script start) where
+module _ {list : Medl} {script : Script} {start : ClusterStart} (run : IsBackRun list script start) where
   abbrev plan : Plan
   plan = back_plan_of list script start
 
@@ -98,10 +96,10 @@ module _ (list : Medl) (script : Script) (start : ClusterStart) (run : IsBackRun
   kind-same : (turn : ℕ) → kind_in list plan turn
       ≡ kind_at list (round_of list start (start.slot + turn)) (expected_sender list start (start.slot + turn))
   kind-same turn =
-      let rounds = run.valid.rounds in
-      (λ i. kind_at list ((planned-round list plan turn refl run.alone.node (omega (arith, rounds))
+      let rounds = run.course.valid.rounds in
+      (λ i. kind_at list ((planned-round list plan turn refl run.course.alone.node (omega (arith, rounds))
       ∙ ap (λ t. (start.node + t) / length list.slots % list.rounds) (sym (turns turn))) i)
-      ((place-sender list plan turn refl run.alone.node
+      ((place-sender list plan turn refl run.course.alone.node
       ∙ ap (λ t. (start.node + t) % length list.slots) (sym (turns turn))) i))
 
   -- what an arm line offers
@@ -109,13 +107,13 @@ module _ (list : Medl) (script : Script) (start : ClusterStart) (run : IsBackRun
     line : IsArmedIn list script start r.node of.arm
     line =
         let fits = armed-valid list script r.node of.arm run.script_valid of.armed in
-        armed-in list script start r.node of.arm run fits.0 fits.1 of.armed
+        armed-in run r.node of.arm fits.0 fits.1 of.armed
 
     entry : IsEntryOf list script start r.node of.arm (entry_slot list script start r.node of.arm)
     entry = entry-of list script start r.node of.arm line
 
     late : start.slot + four_rounds list ≤ of.arm
-    late = arm-late list script start r.node of.arm run line
+    late = arm-late run r.node of.arm line
 
     armed-is : start.slot + r.armed ≡ of.arm
     armed-is =
@@ -143,99 +141,64 @@ module _ (list : Medl) (script : Script) (start : ClusterStart) (run : IsBackRun
         ∙ carries.1
 
     -- a good slot before has no such frame
-    none-before : (turn : ℕ) → r.armed ≤ turn → turn < r.entered → turn < plan.slots → is_good_slot plan turn ≡ true
-        → carries_place (kind_in list plan turn) ≡ false
-    none-before turn from to within good =
-        ap carries_place (kind-same turn)
-        ∙ false_from_ne_true _ (λ carries.
-        both_ways _ (entry.none slot (omega (arith, arm_at, from)) (omega (arith, entry_at, to)) inside)
-        (and_from _ _ (not_from_false _ (ne_eqb _ _ other)) (and_from _ _ (and_from _ _ on
-        (not_from_false _ clear.1)) carries)))
-      where
-        slot : ℕ
-        slot = start.slot + turn
+    module _ (turn : ℕ) (from : r.armed ≤ turn) (to : turn < r.entered) (within : turn < plan.slots)
+        (good : is_good_slot plan turn ≡ true) where
+      abbrev slot : ℕ
+      slot = start.slot + turn
 
-        e : ℕ
-        e = expected_sender list start (start.slot + turn)
+      abbrev e : ℕ
+      e = expected_sender list start slot
 
-        arm_at : start.slot + r.armed ≡ of.arm
-        arm_at = armed-is
+      near : of.arm ≤ slot
+      near = let arm_at = armed-is in omega (arith, arm_at, from)
 
-        entry_at : start.slot + r.entered ≡ entry_slot list script start r.node of.arm
-        entry_at = entered-is
+      soon : slot < of.arm + two_rounds list
+      soon =
+          let entry_at = entered-is in
+          let last = entry.to in
+          omega (arith, entry_at, to, last)
 
-        inside : start.slot + turn < script.slots
-        inside = omega (arith, within)
+      before : slot < entry_slot list script start r.node of.arm
+      before = let entry_at = entered-is in omega (arith, entry_at, to)
 
-        e-node : expected_sender list start (start.slot + turn) < length list.slots
-        e-node = let count = run.valid.count in mod-lt _ (omega (arith, count))
+      clear : Soundly list script start slot e
+          → (is_on script e slot ≡ true) × (has_node (at list script start slot) e ≡ false)
+      clear (BeingClear is) = (on-now run.course slot e (omega arith) (sender-less run.course slot) is.ever, is.was)
+      clear (NearArm also entered) =
+          let count = run.course.valid.count in
+          let first = also.from in
+          let last = also.to in
+          let behind = soon in
+          let here = near in
+          absurd (elim (cases_lt of.arm also.arm) [
+            | inl before ↦
+                let same = arm-only list script start r.node of.arm e also.arm line also.is.armed (omega arith)
+                (omega (arith, first, behind, count)) in
+                let one = same.1 in
+                omega (arith, one, before)
+            | inr later ↦
+                let same = arm-only list script start e also.arm r.node of.arm also.is line.armed later
+                (omega (arith, here, last)) in
+                let there : entry_slot list script start r.node of.arm ≤ slot =
+                subst (λ j. entry_slot list script start j of.arm ≤ slot) same.0
+                (subst (λ a. entry_slot list script start e a ≤ slot) same.1 entered) in
+                let early = before in
+                omega (arith, there, early)
+          ])
 
-        sound : is_sound_after plan turn (expected_sender list start (start.slot + turn)) ≡ true
-        sound = ap (λ t. is_sound_after plan turn ((start.node + t) % length list.slots)) (turns turn) ∙ good
-
-        near : of.arm ≤ start.slot + turn
-        near = omega (arith, arm_at, from)
-
-        soon : start.slot + turn < of.arm + two_rounds list
-        soon = let last = entry.to in omega (arith, entry_at, to, last)
-
-        how : Soundly list script start (start.slot + turn) (expected_sender list start (start.slot + turn))
-            → (is_on script (expected_sender list start (start.slot + turn)) (start.slot + turn) ≡ true)
-            × (has_node (after list script start (start.slot + turn)) (expected_sender list start (start.slot + turn))
-            ≡ false)
-            × (has_node (at list script start (start.slot + turn)) (expected_sender list start (start.slot + turn))
-            ≡ false)
-        how (BeingClear is) = (
-          on-since list script start (expected_sender list start (start.slot + turn)) (start.slot + turn) run.on e-node
-              (omega arith) is.ever,
-          is.none,
-          is.was,
-        )
-        how (NearArm also entered) =
-            let count = run.valid.count in
-            let first = also.from in
-            let last = also.to in
-            absurd (elim (cases_lt of.arm also.arm) [
-              | inl before ↦
-                  let same =
-                  arm-only list script start r.node of.arm (expected_sender list start (start.slot + turn)) also.arm
-                  line also.is.armed (omega arith) (omega (arith, first, soon, count)) in
-                  let one = same.1 in
-                  omega (arith, one, before)
-              | inr later ↦
-                  let same =
-                  arm-only list script start (expected_sender list start (start.slot + turn)) also.arm r.node of.arm
-                  also.is line.armed later (omega (arith, near, last)) in
-                  let there : entry_slot list script start r.node of.arm ≤ start.slot + turn =
-                  subst (λ j. entry_slot list script start j of.arm ≤ start.slot + turn) same.0 (subst
-                  (λ a. entry_slot list script start (expected_sender list start (start.slot + turn)) a
-                  ≤ start.slot + turn) same.1 entered) in
-                  omega (arith, there, entry_at, to)
-            ])
-
-        known : (is_on script (expected_sender list start (start.slot + turn)) (start.slot + turn) ≡ true)
-            × (has_node (after list script start (start.slot + turn)) (expected_sender list start (start.slot + turn))
-            ≡ false)
-            × (has_node (at list script start (start.slot + turn)) (expected_sender list start (start.slot + turn))
-            ≡ false)
-        known =
-            how (sound-how list script start turn (start.slot + turn) (expected_sender list start (start.slot + turn))
-            run refl inside e-node sound)
-
-        on : is_on script (expected_sender list start (start.slot + turn)) (start.slot + turn) ≡ true
-        on = known.0
-
-        clear : (has_node (after list script start (start.slot + turn)) (expected_sender list start (start.slot + turn))
-            ≡ false)
-            × (has_node (at list script start (start.slot + turn)) (expected_sender list start (start.slot + turn))
-            ≡ false)
-        clear = (known.1, known.2)
-
-        other : expected_sender list start (start.slot + turn) ≢ r.node
-        other same =
-            let count = run.valid.count in
-            both_ways _ (ap (has_node (after list script start (start.slot + turn))) (sym same) ∙ clear.0)
-            (armed-after list script start run (start.slot + turn) r.node of.arm line near (omega (arith, soon, count)))
+      none-before : carries_place (kind_in list plan turn) ≡ false
+      none-before =
+          let inside : slot < script.slots = omega (arith, within) in
+          let known = clear (sound-how run turn slot e refl inside (sender-less run.course slot)
+          (ap (is_sound_after plan turn) (sender-same run.course slot turn refl inside) ∙ good)) in
+          let has : has_node (at list script start slot) r.node ≡ true =
+          arm-stays run r.node of.arm (slot - of.arm) slot line
+          (let here = near in omega (arith, here)) (let behind = soon in omega (arith, behind)) in
+          ap carries_place (kind-same turn) ∙ false_from_ne_true _ (λ carries.
+          both_ways _ (entry.none slot near before inside)
+          (and_from _ _ (not_from_false _ (ne_eqb _ _ (λ same.
+          both_ways _ (ap (has_node (at list script start slot)) (sym same) ∙ known.1) has)))
+          (and_from _ _ (and_from _ _ known.0 (not_from_false _ known.1)) carries)))
 
   pub offered : (r : Return) → Contains plan.returns r → IsOffered list plan r
   offered r among =

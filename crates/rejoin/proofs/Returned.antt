@@ -1,13 +1,12 @@
 -- A script whose armed nodes get their places again, by its plan.
 use Rattle.std.proofs.Common.{◌≡◌, ℕ, suc, ◌+◌, ◌-◌, ◌<◌, ◌≤◌, length, ◌∙◌, arith}
-use Rattle.ttp_world.specs.declared.keep.Back.TheVariants as back
 use Rattle.ttp_world.specs.declared.medl.Medl.{Medl}
 use Rattle.ttp_world.specs.declared.script.Script.{Script}
 use Rattle.ttp_world.specs.BackSafety.{IsBackSafe}
 use Rattle.ttp_world.specs.Legal.{IsLegal}
 use Rattle.ttp_world.specs.Medl.{IsValid}
 use Rattle.ttp_world.specs.Returning.{returns}
-use Rattle.ttp_world.specs.Script.{IsValidScript}
+use Rattle.ttp_world.specs.Script.{IsValidScript, arms}
 use Rattle.ttp_world.specs.World.{Numbers, world}
 use Rattle.ttp_world.proofs.Worlds.{length-world}
 use Rattle.rejoin.specs.BackPlan.{back_plan_of, ReturnsByPlan}
@@ -16,6 +15,7 @@ use Rattle.safety_laws.specs.PlannedRun.{IsBegun, StandsBack}
 use Rattle.safety_laws.specs.ByPlan.{IsByPlan}
 use Rattle.safety_laws.proofs.SafeBack.{safe-back}
 use Rattle.safety_laws.proofs.Together.{clocks-hold, run-by_plan}
+use Rattle.ttp_world.specs.declared.keep.Back.TheVariants as back
 
 module _ (list : Medl) (script : Script) (slot : ℕ) (valid : IsValid list) (script_valid : IsValidScript list script)
     (kept : returns list script ≡ back.Yes slot) where

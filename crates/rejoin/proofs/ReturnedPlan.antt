@@ -1,70 +1,32 @@
 -- The plan of a run whose armed nodes return is that of its faulty nodes and its arm lines.
 use Rattle.std.proofs.Common.{◌≡◌, ◌≢◌, ℕ, zero, suc, ◌+◌, ◌-◌, ◌<◌, ◌≤◌, true, false, not, ◌&&◌, ◌||◌, List, [], ◌∷◌}
-use Rattle.std.proofs.Common.{◌++◌, length, Some, ◌⊎◌, refl, ap, sym, subst, ◌∙◌, inl, inr, mod-lt, arith}
-use Rattle.std.specs.Prelude.{◌==◌}
+use Rattle.std.proofs.Common.{◌++◌, length, Some, ◌⊎◌, refl, ap, sym, subst, ◌∙◌, inl, inr, arith}
 use Rattle.std.specs.List.{AllByRecursion}
-use Rattle.std.proofs.lemmas.Bool.{and_parts, and_from, or_left, or_right, or_cases, both_ways, cases_lt, cases_eq}
-use Rattle.std.proofs.lemmas.Bool.{eq-eqb, false_from_ne_true, not-true}
+use Rattle.std.proofs.lemmas.Bool.{and_parts, and_from, or_left, or_right, both_ways, cases_lt, cases_eq, eq-eqb}
+use Rattle.std.proofs.lemmas.Bool.{false_from_ne_true, not-true}
 use Rattle.ttp_base.specs.NodeSet.{has_node}
 use Rattle.ttp_world.specs.declared.medl.Medl.{Medl}
 use Rattle.ttp_world.specs.declared.script.Script.{Script}
 use Rattle.ttp_world.specs.BackSafety.{is_armed_among}
-use Rattle.ttp_world.specs.Hypothesis.{ClusterStart, FaultyNode, numbers_of, expected_sender, start_of}
+use Rattle.ttp_world.specs.Hypothesis.{ClusterStart, FaultyNode, numbers_of, start_of}
 use Rattle.ttp_world.specs.Returning.{four_rounds, slots_before, faulty_since, is_forgiven, started_since}
 use Rattle.ttp_world.specs.Returning.{is_back_correct_after}
-use Rattle.ttp_world.specs.Script.{is_armed, is_ever_on, is_on}
+use Rattle.ttp_world.specs.Script.{is_armed, is_on}
 use Rattle.ttp_world.proofs.Filters.{each-filter}
 use Rattle.fault_plan.specs.Fates.{fate_of, is_sound, is_sound_after, lost_since}
-use Rattle.fault_plan.specs.Plan.{Plan, enters}
+use Rattle.fault_plan.specs.Plan.{Plan}
 use Rattle.fault_plan.specs.Returned.{IsSoundAgain, IsPlanOfReturns}
-use Rattle.fault_plan.proofs.Hearing.{on-ever}
-use Rattle.fault_plan.proofs.Incidents.{incident_made}
+use Rattle.fault_plan.proofs.Hearing.{on-ever, made-was}
+use Rattle.fault_plan.proofs.Incidents.{incident_made, incident-slot}
 use Rattle.fault_plan.proofs.Spaced.{all_in}
 use Rattle.rejoin.specs.BackPlan.{back_plan_of}
-use Rattle.rejoin.proofs.Arms.{IsArmedIn, armed-in, arm-quiet, arm-only, arm-stays}
-use Rattle.rejoin.proofs.BackIncidents.{incident-slot}
-use Rattle.rejoin.proofs.BackLosses.{Origin, ByJump, ByLoss, origin-of, made-fresh}
+use Rattle.rejoin.proofs.Arms.{IsArmedIn, armed-in, arm-quiet, arm-only, arm-stays, armed-after}
 use Rattle.rejoin.proofs.Entries.{entry-of}
 use Rattle.rejoin.proofs.Runs.{IsBackRun}
-use Rattle.rejoin.proofs.Standing.{Standing, Clear, LostSince, ArmedSince, standing, entry-by, arm-late}
+use Rattle.rejoin.proofs.Standing.{Standing, Clear, LostSince, ArmedSince, standing, entry-by, arm-late, clear-sound}
 use Rattle.rejoin.proofs.Walk.{at, made, after, after-has, at-next}
 use Rattle.ttp_world.proofs.RangeFacts.{any-range}
-
--- Whoever is faulty is a node of the list that is on at some time.
-
-abbrev IsEverNode : Medl → Script → ℕ → Type 0
-IsEverNode list script k = (k < length list.slots) × (is_ever_on script k ≡ true)
-
-made-node : (list : Medl) (script : Script) (start : ClusterStart) (slot k : ℕ) → IsBackRun list script start
-    → has_node (made list script start slot) k ≡ true → IsEverNode list script k
-made-node list script start slot k run has = by (origin-of list script start slot k has)
-  where
-    by : Origin list script start slot k → IsEverNode list script k
-    by (ByJump jumper) = (jumper.less, on-ever script k slot jumper.on)
-    by (ByLoss made is) = elim made.how [
-      | inl own ↦
-          let less : expected_sender list start slot < length list.slots =
-          mod-lt _ (let count = run.valid.count in omega (arith, count)) in (
-            subst (λ j. j < length list.slots) (sym own.0) less,
-            ap (is_ever_on script) own.0 ∙ made.on,
-          )
-      | inr other ↦ (other.0, on-ever script k slot (and_parts _ _ other.1).0)
-    ]
-
-pub faulty-node : (list : Medl) (script : Script) (start : ClusterStart) (slot k : ℕ) → IsBackRun list script start
-    → has_node (after list script start slot) k ≡ true → IsEverNode list script k
-faulty-node list script start zero k run has =
-    elim (or_cases _ _ (sym (after-has list script start 0 k) ∙ has)) [
-      | inl now ↦ made-node list script start 0 k run now
-      | inr before ↦ absurd (both_ways _ refl before)
-    ]
-faulty-node list script start (suc slot) k run has =
-    by (or_cases _ _ (sym (after-has list script start (suc slot) k) ∙ has)) (faulty-node list script start slot k run)
-  where
-    by : (has_node (made list script start (suc slot)) k ≡ true) ⊎ (has_node (at list script start (suc slot)) k ≡ true)
-        → (has_node (after list script start slot) k ≡ true → IsEverNode list script k) → IsEverNode list script k
-    by (inl now) older = made-node list script start (suc slot) k run now
-    by (inr before) older = older (and_parts _ _ (sym (at-next list script start slot k) ∙ before)).0
+use Rattle.rejoin.proofs.Sounds.{IsEverNode, faulty-node, made-node}
 
 -- Whoever is faulty after a slot became so in the slot that is told, and was not forgiven since.
 
@@ -158,45 +120,22 @@ told-at list script start slot f told (suc later) from to =
 
 -- An arm line among slots.
 
-module _ (list : Medl) (script : Script) (start : ClusterStart) (run : IsBackRun list script start) where
+module _ {list : Medl} {script : Script} {start : ClusterStart} (run : IsBackRun list script start) where
   abbrev plan : Plan
   plan = back_plan_of list script start
-
-  -- an armed node stays faulty for four rounds
-  pub armed-has : (slot k arm : ℕ) → IsArmedIn list script start k arm → arm ≤ slot → slot < arm + four_rounds list
-      → has_node (at list script start slot) k ≡ true
-  armed-has slot k arm is from to =
-      arm-stays list script start k arm (slot - arm) slot run is (omega arith) (omega arith)
-
-  pub armed-after : (slot k arm : ℕ) → IsArmedIn list script start k arm → arm ≤ slot → slot < arm + four_rounds list
-      → has_node (after list script start slot) k ≡ true
-  armed-after slot k arm is from to =
-      after-has list script start slot k ∙ or_right _ _ (armed-has slot k arm is from to)
-
-  -- Nodes that are not faulty are sound.
-  pub clear-sound : (turn slot k : ℕ) → slot ≡ start.slot + turn → slot < script.slots → k < length list.slots
-      → is_ever_on script k ≡ true → has_node (after list script start slot) k ≡ false
-      → is_sound_after plan turn k ≡ true
-  clear-sound turn slot k now within less ever none =
-      by (standing list script start turn slot k run now within less ever)
-    where
-      by : Standing list script start slot k (fate_of plan turn k) → is_sound_after plan turn k ≡ true
-      by (Clear out sound) = ap is_sound sound
-      by (LostSince since lost) = absurd (both_ways _ none lost.has)
-      by (ArmedSince arm armed) = absurd (both_ways _ none (armed-after slot k arm armed.is armed.from armed.to))
 
   -- A faulty node that was not armed since is lost since it became faulty.
   told-lost : (turn slot : ℕ) (f : FaultyNode) → slot ≡ start.slot + turn → slot < script.slots
       → IsTold list script start slot f → is_armed_among script f.node f.slot (suc slot - f.slot) ≡ false
       → lost_since (fate_of plan turn f.node) ≡ Some (f.slot - start.slot)
   told-lost turn slot f now within told unarmed =
-      by (standing list script start turn slot f.node run now within node.0 node.1)
+      by (standing run turn slot f.node now within node.0 node.1)
     where
       node : IsEverNode list script f.node
-      node = made-node list script start f.slot f.node run told.made_in
+      node = made-node run f.slot f.node told.made_in
 
       fresh : has_node (at list script start f.slot) f.node ≡ false
-      fresh = made-fresh list script start f.slot f.node told.made_in
+      fresh = (made-was run.course f.slot f.node told.made_in).none
 
       by : Standing list script start slot f.node (fate_of plan turn f.node)
           → lost_since (fate_of plan turn f.node) ≡ Some (f.slot - start.slot)
@@ -214,7 +153,8 @@ module _ (list : Medl) (script : Script) (start : ClusterStart) (run : IsBackRun
         | inl before ↦
             let to = told.to in
             let soon = armed.to in
-            absurd (both_ways _ fresh (armed-has f.slot f.node arm armed.is (omega arith) (omega (arith, to, soon))))
+            absurd (both_ways _ fresh
+            (arm-stays run f.node arm (f.slot - arm) f.slot armed.is (omega arith) (omega (arith, to, soon))))
         | inr from ↦
             let to = armed.from in
             absurd (both_ways _ unarmed
@@ -226,14 +166,14 @@ module _ (list : Medl) (script : Script) (start : ClusterStart) (run : IsBackRun
   again : (turn slot k arm : ℕ) → slot ≡ start.slot + turn → slot < script.slots → suc slot ≡ arm + four_rounds list
       → IsArmedIn list script start k arm → IsSoundAgain plan turn k
   again turn slot k arm now within due is = record {
-    late = let late = arm-late list script start k arm run is in omega (arith, late, now, due);
-    sound = by (standing list script start turn slot k run now within node.0 node.1);
+    late = let late = arm-late run k arm is in omega (arith, late, now, due);
+    sound = by (standing run turn slot k now within node.0 node.1);
     quiet = λ u to near.
-        incident-slot list script start u (start.slot + u) run refl (omega arith)
+        incident-slot run.course u (start.slot + u) refl (omega arith)
         ∙ ap (incident_made list script start (start.slot + u))
         (arm-quiet list script start k arm (start.slot + u) is (omega arith) (omega arith) (omega arith));
     entered = λ u to near. false_from_ne_true _ (λ enter.
-        let by = entry-by list script start u (start.slot + u) k run refl (omega arith) enter in
+        let by = entry-by run u (start.slot + u) k refl (omega arith) enter in
         let from = by.from in
         let soon = by.to in
         let same = arm-only list script start k arm k by.arm is by.is.armed (omega (arith, soon, near, due, now))
@@ -243,22 +183,23 @@ module _ (list : Medl) (script : Script) (start : ClusterStart) (run : IsBackRun
   }
     where
       count : 4 ≤ length list.slots
-      count = run.valid.count.0
+      count = run.course.valid.count.0
 
       node : IsEverNode list script k
-      node = faulty-node list script start arm k run
-          (armed-after arm k arm is (omega arith) (omega (arith, count)))
+      node = faulty-node run arm k
+          (armed-after run arm k arm is (omega arith) (omega (arith, count)))
 
       has : has_node (at list script start slot) k ≡ true
-      has = armed-has slot k arm is (omega (arith, due, count)) (omega (arith, due))
+      has = arm-stays run k arm (slot - arm) slot is (omega (arith, due, count)) (omega (arith, due))
 
       by : Standing list script start slot k (fate_of plan turn k) → is_sound_after plan turn k ≡ true
       by (Clear out sound) =
-          absurd (both_ways _ out (armed-after slot k arm is (omega (arith, due, count)) (omega (arith, due))))
+          absurd (both_ways _ out (armed-after run slot k arm is (omega (arith, due, count)) (omega (arith, due))))
       by (LostSince since lost) = elim (cases_lt arm since) [
         | inl before ↦
             let to = lost.to in
-            absurd (both_ways _ lost.before (armed-has since k arm is (omega arith) (omega (arith, to, due))))
+            absurd (both_ways _ lost.before
+            (arm-stays run k arm (since - arm) since is (omega arith) (omega (arith, to, due))))
         | inr from ↦ absurd (both_ways _ (lost.unarmed arm from (omega (arith, due, count)))
             is.armed)
       ]
@@ -291,16 +232,16 @@ module _ (list : Medl) (script : Script) (start : ClusterStart) (run : IsBackRun
         ap (λ found. is_on script k slot && not (has_node (numbers_of (started_since list script slot found)) k))
         started in
         let parts = and_parts _ _ (sym known ∙ correct) in
-        clear-sound turn slot k refl within less (on-ever script k slot parts.0) (not-true _ parts.1);
+        clear-sound run turn slot k refl within less (on-ever script k slot parts.0) (not-true _ parts.1);
     faulty = λ turn within.
         subst (AllByRecursion (IsLost turn)) (sym (ap (started_since list script (start.slot + turn)) started))
         (each-told turn (start.slot + turn) refl within _ (told-all list script start (start.slot + turn)));
     returned = λ turn k less within long armed.
         let slot = start.slot + turn in
         let due : suc slot ≡ suc slot - four_rounds list + four_rounds list = omega (arith, long) in
-        let count = run.valid.count in
+        let count = run.course.valid.count in
         again turn slot k (suc slot - four_rounds list) refl within due
-        (armed-in list script start k (suc slot - four_rounds list) run less (omega (arith, within, due, count)) armed);
+        (armed-in run k (suc slot - four_rounds list) less (omega (arith, within, due, count)) armed);
   }
     where
       each-told : (turn slot : ℕ) → slot ≡ start.slot + turn → slot < script.slots → (fs : List FaultyNode)

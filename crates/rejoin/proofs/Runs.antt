@@ -1,6 +1,6 @@
 -- What the rules say of a run whose armed nodes are owed their places.
-use Rattle.std.proofs.Common.{◌≡◌, ℕ, zero, suc, ◌+◌, ◌<◌, ◌≤◌, true, false, [], length, ◌⊎◌, ap, sym, subst, ◌∙◌, inl}
-use Rattle.std.proofs.Common.{inr, arith}
+use Rattle.std.proofs.Common.{◌≡◌, ℕ, zero, suc, ◌<◌, ◌≤◌, true, false, [], length, ◌⊎◌, ap, sym, subst, ◌∙◌, inl, inr}
+use Rattle.std.proofs.Common.{arith}
 use Rattle.std.specs.List.{AllByRecursion}
 use Rattle.std.proofs.lemmas.Bool.{not-false}
 use Rattle.std.proofs.Math.Nat.{eq-or-lt_of_le}
@@ -8,27 +8,21 @@ use Rattle.ttp_world.specs.declared.medl.Medl.{Medl}
 use Rattle.ttp_world.specs.declared.script.Channel.{Channel}
 use Rattle.ttp_world.specs.declared.script.Script.{Script}
 use Rattle.ttp_world.specs.Hypothesis.{ClusterStart, FaultyNode}
-use Rattle.ttp_world.specs.Medl.{IsValid}
-use Rattle.ttp_world.specs.Returning.{two_rounds, slots_before, joinings, breaks_back_in, has_four_before, may_return}
-use Rattle.ttp_world.specs.Returning.{fails_if_armed, breaks_arm_in}
+use Rattle.ttp_world.specs.Returning.{slots_before, joinings, has_four_before, may_return, fails_if_armed}
+use Rattle.ttp_world.specs.Returning.{breaks_arm_in}
 use Rattle.ttp_world.specs.Script.{is_armed, flipped_bits, IsValidScript}
-use Rattle.ttp_world.specs.Starts.{StartsAlone}
 use Rattle.fault_plan.specs.Kept.{IsWithinBounds}
-use Rattle.fault_plan.proofs.FaultySets.{AreOnBy}
-use Rattle.fault_plan.proofs.Spaced.{IsSpaced, all_in, each-split as any-append}
+use Rattle.fault_plan.proofs.Spaced.{all_in, each-split as any-append}
+use Rattle.fault_plan.proofs.Courses.{IsCourse}
 use Rattle.rejoin.proofs.Lists.{none-below}
-use Rattle.rejoin.proofs.Walk.{made}
+use Rattle.rejoin.proofs.Walk.{at, made}
 
 pub record IsBackRun (list : Medl) (script : Script) (start : ClusterStart) : Type 0 where
-  pub valid : IsValid list
+  pub course : IsCourse list script start (at list script start)
+      (λ slot. joinings (slots_before list script start slot))
   pub script_valid : IsValidScript list script
   pub bounds : IsWithinBounds list script
   pub flips : (k slot : ℕ) (c : Channel) → flipped_bits script k c slot ≡ []
-  pub alone : StartsAlone list script start
-  pub on : AreOnBy list script start.slot
-  pub whole : (slot : ℕ) → slot < script.slots → breaks_back_in list script start slot ≡ false
-  pub spaced : IsSpaced (two_rounds list) (start.slot + two_rounds list)
-      (joinings (slots_before list script start script.slots))
   pub steady : (slot : ℕ) → start.slot ≤ slot → slot < script.slots
       → has_four_before list script start (suc slot) ≡ true
   pub armed : (k slot : ℕ) → k < length list.slots → slot < script.slots → is_armed script k slot ≡ true

@@ -1,27 +1,26 @@
 -- The slots of a run in which faulty nodes may be forgiven: who is faulty in them.
 use Rattle.std.proofs.Common.{◌≡◌, ℕ, zero, suc, ◌+◌, ◌-◌, ◌<◌, Bool, true, false, cond, not, ◌&&◌, ◌||◌, List, [], ◌∷◌}
-use Rattle.std.proofs.Common.{◌++◌, get_or, refl, ap, sym, ◌∙◌, arith}
+use Rattle.std.proofs.Common.{get_or, refl, ap, sym, ◌∙◌, arith}
 use Rattle.std.specs.Prelude.{◌==◌}
 use Rattle.std.specs.List.{filter}
 use Rattle.std.proofs.lemmas.Bool.{eqb-true, and_right}
 use Rattle.ttp_base.specs.NodeSet.{has_node}
 use Rattle.ttp_world.specs.declared.medl.Medl.{Medl}
 use Rattle.ttp_world.specs.declared.script.Script.{Script}
-use Rattle.ttp_world.specs.Hypothesis.{ClusterStart, FaultyNode, numbers_of, nodes_made, loss_in, jumpers_in}
+use Rattle.ttp_world.specs.Hypothesis.{ClusterStart, FaultyNode, numbers_of}
 use Rattle.ttp_world.specs.Returning.{no_slot, faulty_since, four_rounds, is_forgiven, faulty_slot, slots_before}
 use Rattle.ttp_world.specs.Returning.{faulty_at}
 use Rattle.ttp_world.specs.Script.{is_armed}
 use Rattle.fault_plan.proofs.Spaced.{numbers-next}
 use Rattle.ttp_world.proofs.WorldFacts.{get-none, has_node-append}
+use Rattle.fault_plan.proofs.Courses.{made_of}
 
 -- the nodes that are faulty at the beginning of a slot, those that it makes faulty, and those that are after it
 abbrev pub at : Medl → Script → ClusterStart → ℕ → List ℕ
 at list script start slot = numbers_of (faulty_at list script start slot)
 
 abbrev pub made : Medl → Script → ClusterStart → ℕ → List ℕ
-made list script start slot =
-    let faulty = at list script start slot in
-    nodes_made (loss_in list script start faulty slot) ++ jumpers_in list script faulty slot
+made list script start slot = made_of list script start (at list script start slot) slot
 
 abbrev pub after : Medl → Script → ClusterStart → ℕ → List ℕ
 after list script start slot = numbers_of (faulty_since (slots_before list script start (suc slot)))

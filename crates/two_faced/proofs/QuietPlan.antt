@@ -23,7 +23,7 @@ use Rattle.fault_plan.specs.Fates.{fate_of, is_sound_after, is_lost, is_steady_a
 use Rattle.fault_plan.specs.GoodPlan.{IsGoodPlan}
 use Rattle.fault_plan.specs.Kept.{FollowsPlan, IsHeardByPlan}
 use Rattle.fault_plan.proofs.Bounds.{both-hold, wide}
-use Rattle.fault_plan.proofs.KeptPlan.{on-always, due-ever}
+use Rattle.fault_plan.proofs.CoursePlans.{on-always, due-ever}
 use Rattle.fault_plan.proofs.Returns.{none-among, never-listens}
 use Rattle.fault_plan.proofs.Sieves.{none-found}
 use Rattle.safety_laws.specs.PlannedRun.{IsBegun}
