@@ -14,9 +14,9 @@ use Rattle.ttp_world.specs.declared.script.Event.{Event}
 use Rattle.ttp_world.specs.declared.script.Event.TheVariants as event
 use Rattle.ttp_world.specs.declared.script.Script.{Script}
 use Rattle.ttp_world.specs.Hypothesis.{drifts_hold, errors_hold_in, clocks_broken, window_broken, needed, outside_slot}
-use Rattle.ttp_world.specs.Hypothesis.{outside_broken, is_far_jump, is_allowed_jump, is_within_bound, has_jumped_before}
+use Rattle.ttp_world.specs.Hypothesis.{outside_broken, is_allowed_jump, is_within_bound}
 use Rattle.ttp_world.specs.Hypothesis.{is_jump_before}
-use Rattle.ttp_world.specs.Script.{arms, is_armed, flipped_bit, jump_in, jump_of, has_jump, drift_of, reading_error}
+use Rattle.ttp_world.specs.Script.{arms, is_armed, flipped_bit, jump_in, has_jump, drift_of, reading_error}
 use Rattle.ttp_world.specs.Script.{flipped_bits}
 use Rattle.ttp_world.proofs.Jumps.{each-none, allowed-jump, no_jump-sum}
 use Rattle.fault_plan.specs.Kept.{IsWithinBounds}

@@ -4,7 +4,7 @@ use Rattle.std.proofs.Common.{subst, ◌∙◌, inl, inr, arith}
 use Rattle.std.specs.Prelude.{if◌then◌else◌}
 use Rattle.std.specs.List.{filter}
 use Rattle.std.proofs.lemmas.Bool.{cases_lt, cases_eq, eqb-true, both_ways, and_parts, and_from, false_from_ne_true}
-use Rattle.ttp_base.specs.NodeSet.{below, has_node}
+use Rattle.ttp_base.specs.NodeSet.{below}
 use Rattle.std.proofs.lemmas.Option.{same_Some}
 use Rattle.fault_plan.specs.Plan.{Change, Incident, Plan, sender, incident_at, enters}
 use Rattle.fault_plan.specs.Fates.{Fate, Absent, Sound, Falling, Fallen, Listening, fate_of, is_good_slot}

@@ -12,7 +12,7 @@ use Rattle.ttp_world.specs.Hypothesis.{ClusterStart, FaultyNode, numbers_of, fau
 use Rattle.ttp_world.specs.Hypothesis.{started_faulty_nodes, start_of, is_steady, breaks_in, has_four_steady}
 use Rattle.ttp_world.specs.Hypothesis.{lacks_steady_after, keeps}
 use Rattle.ttp_world.specs.Medl.{IsValid, plan_at}
-use Rattle.ttp_world.specs.Script.{is_on, arms}
+use Rattle.ttp_world.specs.Script.{is_on}
 use Rattle.ttp_world.proofs.Starts.{alone-start, on-start}
 use Rattle.fault_plan.specs.Plan.{plan_of, Plan}
 use Rattle.fault_plan.specs.Fates.{fate_of, is_sound_after, is_steady_after, steady_nodes, lost_since}

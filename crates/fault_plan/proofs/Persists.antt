@@ -2,14 +2,14 @@
 -- strikes it.
 use Rattle.std.proofs.Common.{◌≡◌, ℕ, zero, suc, ◌+◌, ◌<◌, ◌≤◌, Bool, true, false, cond, not, ◌&&◌, Option, Some, None}
 use Rattle.std.proofs.Common.{refl, ap, sym, subst, ◌∙◌, inl, inr, arith, []}
-use Rattle.std.specs.Prelude.{◌==◌, nat_le, nat_lt}
+use Rattle.std.specs.Prelude.{◌==◌}
 use Rattle.std.proofs.lemmas.Bool.{and_parts, and_from, not_from_false, not-true, eqb-true, eq-eqb, both_ways}
 use Rattle.std.proofs.lemmas.Bool.{false_from_ne_true, le-leb, lt-ltb}
 use Rattle.std.proofs.Math.Nat.{eq-or-lt_of_le}
 use Rattle.ttp_base.specs.NodeSet.{has_node}
 use Rattle.fault_plan.specs.Plan.{Incident, Plan, incident_at, is_armed_by, enters, sender}
 use Rattle.fault_plan.specs.Fates.{Fate, Absent, Sound, Falling, Fallen, Listening, fate_at_begin, struck, fate_of}
-use Rattle.fault_plan.specs.Fates.{is_sound, is_sound_after, is_lost, is_absent, is_entry_near, is_new_after}
+use Rattle.fault_plan.specs.Fates.{is_sound, is_sound_after, is_lost, is_absent, is_entry_near}
 use Rattle.fault_plan.specs.Fates.{is_lasting_after}
 use Rattle.fault_plan.specs.GoodPlan.{IsGoodPlan}
 use Rattle.fault_plan.proofs.FateTells.{none-first}

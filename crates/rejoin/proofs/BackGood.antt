@@ -30,7 +30,7 @@ use Rattle.rejoin.proofs.Entries.{entry-of}
 use Rattle.rejoin.proofs.Runs.{IsBackRun}
 use Rattle.rejoin.proofs.Sounds.{faulty-ever}
 use Rattle.rejoin.proofs.Standing.{Standing, Clear, LostSince, ArmedSince, standing, arm-late, clear-sound}
-use Rattle.rejoin.proofs.Walk.{at, made, after, after-has, at-next, forgiven-late, forgiven}
+use Rattle.rejoin.proofs.Walk.{at, made, after, after-has, at-next, forgiven-late}
 
 since-lost : (fate : Fate) (since : ℕ) → lost_since fate ≡ Some since → is_lost fate ≡ true
 since-lost Absent since is = absurd (none-some _ is)

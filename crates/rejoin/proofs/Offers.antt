@@ -28,7 +28,7 @@ use Rattle.rejoin.proofs.Entries.{IsEntryOf, entry-of}
 use Rattle.rejoin.proofs.Runs.{IsBackRun}
 use Rattle.rejoin.proofs.Sounds.{Soundly, BeingClear, NearArm, sound-how}
 use Rattle.rejoin.proofs.Standing.{arm-late}
-use Rattle.rejoin.proofs.Walk.{at, after}
+use Rattle.rejoin.proofs.Walk.{at}
 
 -- The round of a slot.
 

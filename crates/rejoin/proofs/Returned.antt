@@ -6,7 +6,7 @@ use Rattle.ttp_world.specs.BackSafety.{IsBackSafe}
 use Rattle.ttp_world.specs.Legal.{IsLegal}
 use Rattle.ttp_world.specs.Medl.{IsValid}
 use Rattle.ttp_world.specs.Returning.{returns}
-use Rattle.ttp_world.specs.Script.{IsValidScript, arms}
+use Rattle.ttp_world.specs.Script.{IsValidScript}
 use Rattle.ttp_world.specs.World.{Numbers, world}
 use Rattle.ttp_world.proofs.Worlds.{length-world}
 use Rattle.rejoin.specs.BackPlan.{back_plan_of, ReturnsByPlan}

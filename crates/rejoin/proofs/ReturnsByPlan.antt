@@ -7,7 +7,7 @@ use Rattle.ttp_world.specs.Hypothesis.{ClusterStart}
 use Rattle.ttp_world.specs.Medl.{IsValid}
 use Rattle.ttp_world.specs.Returning.{two_rounds, slots_before, joinings, breaks_back_in, has_four_before}
 use Rattle.ttp_world.specs.Returning.{lacks_four_after, breaks_arm_in, returns}
-use Rattle.ttp_world.specs.Script.{is_armed, IsValidScript, arms}
+use Rattle.ttp_world.specs.Script.{is_armed, IsValidScript}
 use Rattle.ttp_world.proofs.Starts.{alone-start, on-start}
 use Rattle.fault_plan.specs.Kept.{FollowsPlan}
 use Rattle.fault_plan.proofs.Sieves.{none-found}
