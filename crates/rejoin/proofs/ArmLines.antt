@@ -1,6 +1,6 @@
 -- The returns of the plan are the arm lines.
-use Rattle.std.proofs.Common.{◌≡◌, ℕ, zero, suc, ◌+◌, ◌-◌, ◌<◌, Bool, true, false, ◌&&◌, ◌||◌, List, [], ◌∷◌, length}
-use Rattle.std.proofs.Common.{refl, ap, sym, subst, ◌∙◌, inl, inr, arith}
+use Rattle.std.proofs.Common.{◌≡◌, ℕ, zero, suc, ◌+◌, ◌-◌, Bool, true, false, ◌&&◌, ◌||◌, List, [], ◌∷◌, refl, ap, sym}
+use Rattle.std.proofs.Common.{subst, ◌∙◌, inl, inr, arith}
 use Rattle.std.specs.Prelude.{◌==◌}
 use Rattle.std.specs.List.{AllByRecursion, Contains, list_any, filter_map}
 use Rattle.std.proofs.lemmas.Bool.{and_parts, and_from, eqb-true, eq-eqb, ne_eqb, cases_eq, both_ways}
@@ -8,21 +8,13 @@ use Rattle.ttp_world.specs.declared.medl.Medl.{Medl}
 use Rattle.ttp_world.specs.declared.script.Event.{Event}
 use Rattle.ttp_world.specs.declared.script.Script.{Script}
 use Rattle.ttp_world.specs.Hypothesis.{ClusterStart}
-use Rattle.ttp_world.specs.Script.{arms, is_armed, IsValidScript, IsValidEvent}
+use Rattle.ttp_world.specs.Script.{arms, is_armed}
 use Rattle.fault_plan.specs.Plan.{Return, is_armed_there, is_armed_by}
 use Rattle.rejoin.specs.BackPlan.{entry_slot, return_of, back_plan_of}
-use Rattle.rejoin.proofs.EventLines.{arm-line}
 use Rattle.ttp_world.specs.declared.script.Event.TheVariants as event
 
 abbrev returns_in : Medl → Script → ClusterStart → List Event → List Return
 returns_in list script start events = filter_map (return_of list script start) events
-
--- a node that is armed is one of the list, in a slot of the run
-pub armed-valid : (list : Medl) (script : Script) (k slot : ℕ) → IsValidScript list script
-    → is_armed script k slot ≡ true → (k < length list.slots) × (slot < script.slots)
-armed-valid list script k slot valid armed =
-    let line = arm-line script k slot armed in
-    subst (IsValidEvent list script) line.2 (valid.events line.0 (event.Arm k slot) line.1)
 
 -- Whether a node listens again.
 

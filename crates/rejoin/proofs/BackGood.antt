@@ -1,10 +1,9 @@
 -- The plan of a run whose armed nodes return is good.
-use Rattle.std.proofs.Common.{◌≡◌, ◌≢◌, ℕ, zero, suc, ◌+◌, ◌-◌, ◌*◌, ◌<◌, ◌≤◌, Bool, true, false, cond, not, ◌&&◌, ◌||◌}
-use Rattle.std.proofs.Common.{◌∷◌, length, Some, ◌⊎◌, refl, ap, sym, subst, ◌∙◌, inl, inr, arith}
-use Rattle.std.specs.Prelude.{◌==◌, nat_le, nat_lt}
+use Rattle.std.proofs.Common.{◌≡◌, ◌≢◌, ℕ, zero, suc, ◌+◌, ◌-◌, ◌*◌, ◌<◌, ◌≤◌, Bool, true, false, cond, not, ◌||◌, ◌∷◌}
+use Rattle.std.proofs.Common.{length, Some, ◌⊎◌, refl, ap, sym, subst, ◌∙◌, inl, inr, arith}
 use Rattle.std.specs.List.{Contains, filter, range_with_len}
 use Rattle.std.proofs.lemmas.Bool.{and_parts, and_from, both_ways, cases_lt, eqb-true, eqb-false, not-true}
-use Rattle.std.proofs.lemmas.Bool.{not_from_false, false_from_ne_true, leb-true, ltb-true, or_right}
+use Rattle.std.proofs.lemmas.Bool.{not_from_false, false_from_ne_true, leb-true, ltb-true}
 use Rattle.std.proofs.lemmas.Option.{none-some}
 use Rattle.ttp_base.specs.NodeSet.{has_node}
 use Rattle.ttp_base.proofs.NodeSets.{has_node-sieve}
@@ -13,7 +12,6 @@ use Rattle.ttp_world.specs.declared.script.Script.{Script}
 use Rattle.ttp_world.specs.Hypothesis.{ClusterStart, is_steady, expected_sender}
 use Rattle.ttp_world.specs.Medl.{plan_at}
 use Rattle.ttp_world.specs.Returning.{two_rounds, four_rounds, slots_before, is_forgiven, offers_place}
-use Rattle.ttp_world.specs.Script.{is_armed}
 use Rattle.fault_plan.specs.Plan.{Incident, Return, sender, incident_at, enters}
 use Rattle.fault_plan.specs.Fates.{Fate, Absent, Sound, Falling, Fallen, Listening, fate_of, is_sound_after, is_lost}
 use Rattle.fault_plan.specs.Fates.{lost_since, is_good_slot, is_entry_near, is_new_after, is_steady_after}
@@ -24,13 +22,13 @@ use Rattle.fault_plan.proofs.Returns.{any-of}
 use Rattle.fault_plan.proofs.CoursePlans.{good-by}
 use Rattle.rejoin.proofs.BackSlots.{sound-earlier}
 use Rattle.rejoin.specs.BackPlan.{entry_slot, back_plan_of}
-use Rattle.rejoin.proofs.ArmLines.{armed-valid, return_at, IsOfLine, return-of}
-use Rattle.rejoin.proofs.Arms.{IsArmedIn, armed-in, arm-faulty, arm-quiet, arm-only, arm-stays}
+use Rattle.rejoin.proofs.ArmLines.{return_at}
+use Rattle.rejoin.proofs.Arms.{IsArmedIn, arm-faulty, arm-quiet, arm-only, armed-after}
 use Rattle.rejoin.proofs.Entries.{entry-of}
 use Rattle.rejoin.proofs.Runs.{IsBackRun}
 use Rattle.rejoin.proofs.Sounds.{faulty-ever}
-use Rattle.rejoin.proofs.Standing.{Standing, Clear, LostSince, ArmedSince, standing, arm-late, clear-sound}
-use Rattle.rejoin.proofs.Walk.{at, made, after, after-has, at-next, forgiven-late}
+use Rattle.rejoin.proofs.Standing.{Standing, Clear, LostSince, ArmedSince, standing, clear-sound, HasLine, line-of}
+use Rattle.rejoin.proofs.Walk.{at, after, after-has, at-next, forgiven-late}
 
 since-lost : (fate : Fate) (since : ℕ) → lost_since fate ≡ Some since → is_lost fate ≡ true
 since-lost Absent since is = absurd (none-some _ is)
@@ -38,12 +36,6 @@ since-lost Sound since is = absurd (none-some _ is)
 since-lost (Falling change from) since is = refl
 since-lost (Fallen change from shown) since is = refl
 since-lost (Listening from) since is = absurd (none-some _ is)
-
-same-return : (list : Medl) (script : Script) (start : ClusterStart) (q r : Return)
-    → (one : IsOfLine list script start script.events q) → (two : IsOfLine list script start script.events r)
-    → q.node ≡ r.node → one.arm ≡ two.arm → q ≡ r
-same-return list script start q r one two node arm =
-    one.is ∙ (λ i. return_at list script start (node i) (arm i)) ∙ sym two.is
 
 filter-more : (p q : ℕ → Bool) (a n : ℕ) → ((k : ℕ) → a ≤ k → k < a + n → p k ≡ true → q k ≡ true)
     → length (filter p (range_with_len a n)) ≤ length (filter q (range_with_len a n))
@@ -71,7 +63,7 @@ module _ {list : Medl} {script : Script} {start : ClusterStart} (run : IsBackRun
       by (standing run turn slot k now (omega (arith, is.within)) is.less (faulty-ever run (suc slot) k has))
     where
       has : has_node (at list script start (suc slot)) k ≡ true
-      has = arm-faulty list script start k (suc slot) is
+      has = arm-faulty is
 
       kept : (has_node (after list script start slot) k ≡ true)
           × (not (is_forgiven list script (slots_before list script start (suc slot)) (suc slot) k) ≡ true)
@@ -85,12 +77,12 @@ module _ {list : Medl} {script : Script} {start : ClusterStart} (run : IsBackRun
       by (ArmedSince arm armed) = elim (cases_lt (suc slot) (arm + four_rounds list)) [
         | inl soon ↦
             let same =
-            arm-only list script start k arm k (suc slot) armed.is is.armed (omega (arith, armed.from)) soon in
+            arm-only armed.is k (suc slot) is.armed (omega (arith, armed.from)) soon in
             absurd (omega (arith, same.1, armed.from))
         | inr over ↦
             let forgiven =
             forgiven-late list script start (suc slot) arm k (omega (arith, run.course.valid.count))
-            (omega (arith, over, armed.to)) ∙ and_from _ _ (arm-faulty list script start k arm armed.is)
+            (omega (arith, over, armed.to)) ∙ and_from _ _ (arm-faulty armed.is)
             armed.is.armed in
             absurd (both_ways _ (not-true _ kept.1) forgiven)
       ]
@@ -102,7 +94,7 @@ module _ {list : Medl} {script : Script} {start : ClusterStart} (run : IsBackRun
   entry-good turn slot k arm is now within enters =
       let e = expected_sender list start slot in
       let faulty = at list script start slot in
-      let entry = entry-of list script start k arm is in
+      let entry = entry-of is in
       let offers : offers_place list script start k slot ≡ true =
       ap (offers_place list script start k) (sym enters) ∙ entry.offered (omega (arith, enters, within)) in
       let parts = and_parts _ _ offers in
@@ -110,7 +102,7 @@ module _ {list : Medl} {script : Script} {start : ClusterStart} (run : IsBackRun
       let clear = and_parts _ _ sounds.0 in
       let same = sender-same run.course slot turn now within in
       let quiet =
-      arm-quiet list script start k arm slot is within (omega (arith, enters, entry.from, run.course.valid.count))
+      arm-quiet is slot within (omega (arith, enters, entry.from, run.course.valid.count))
       (omega (arith, enters, entry.to, run.course.valid.count)) in
       let none : has_node (after list script start slot) e ≡ false =
       after-has list script start slot e ∙ ap (λ ks. has_node ks e || has_node faulty e) quiet ∙ not-true _ clear.1 in (
@@ -122,88 +114,63 @@ module _ {list : Medl} {script : Script} {start : ClusterStart} (run : IsBackRun
   pub back-return : (r : Return) → Contains (back_plan_of list script start).returns r
       → IsReturn (back_plan_of list script start) r
   back-return r among =
-      let plan = back_plan_of list script start in
-      let k = r.node in
-      let of = return-of list script start r among in
-      let fits = armed-valid list script k of.arm run.script_valid of.armed in
-      let is = armed-in run k of.arm fits.0 fits.1 of.armed in
-      let late = arm-late run k of.arm is in
-      let entry = entry-of list script start k of.arm is in
+      let line = line-of run r among in
+      let entry = entry-of line.is in
       let some = run.course.valid.count in
-      let armed_is : r.armed ≡ of.arm - start.slot = ap (λ (q : Return). q.armed) of.is in
-      let entered_is : r.entered ≡ entry_slot list script start k of.arm - start.slot =
-      ap (λ (q : Return). q.entered) of.is in
       record {
-        node = fits.0;
+        node = line.is.less;
         was = (
           r.armed - 1,
           (
-            omega (arith, armed_is, late, some),
-            armed-was (r.armed - 1) (of.arm - 1) k (omega (arith, armed_is, late, some))
-                (subst (IsArmedIn list script start k) (omega (arith, late, some)) is),
+            omega (arith, line.armed, line.late, some),
+            armed-was (r.armed - 1) (line.arm - 1) r.node (omega (arith, line.armed, line.late, some))
+                (subst (IsArmedIn list script start r.node) (omega (arith, line.late, some)) line.is),
           ),
         );
-        after = omega (arith, armed_is, entered_is, entry.from);
+        after = omega (arith, line.armed, line.entered, entry.from);
         entry = λ within.
-            entry-good r.entered (entry_slot list script start k of.arm) k of.arm is
-            (omega (arith, entered_is, entry.from, late)) (omega (arith, entered_is, within, entry.from, late)) refl;
-        losses = λ slot incident found.
-            loss-far slot incident r of.arm is armed_is entered_is found (found-within run.course slot incident found);
-        others = λ q among_too. other-far q r (return-of list script start q among_too) of;
+            entry-good r.entered (entry_slot list script start r.node line.arm) r.node line.arm line.is
+            (sym line.entered) (omega (arith, line.entered, within)) refl;
+        losses = λ slot incident found. loss-far slot incident r line found;
+        others = λ q among_too. other-far q r (line-of run q among_too) line;
       }
     where
-      loss-far : (slot : ℕ) (incident : Incident) (r : Return) (arm : ℕ) → IsArmedIn list script start r.node arm
-          → r.armed ≡ arm - start.slot → r.entered ≡ entry_slot list script start r.node arm - start.slot
-          → incident_at (back_plan_of list script start) slot ≡ Some incident → start.slot + slot < script.slots
+      loss-far : (slot : ℕ) (incident : Incident) (r : Return) → (line : HasLine list script start r)
+          → incident_at (back_plan_of list script start) slot ≡ Some incident
           → (slot + 2 * length list.slots ≤ r.armed) ⊎ (r.entered + 2 * length list.slots < slot)
-      loss-far slot incident r arm is armed_is entered_is found within =
-          let late = arm-late run r.node arm is in
-          let entry = entry-of list script start r.node arm is in
+      loss-far slot incident r line found =
+          let within = found-within run.course slot incident found in
+          let entry = entry-of line.is in
           let only = incident-made run.course (start.slot + slot) slot refl within incident found in
-          elim (cases_lt arm (start.slot + slot + two_rounds list)) [
-            | inr early ↦ inl (omega (arith, armed_is, early))
-            | inl near ↦ elim (cases_lt (start.slot + slot) (arm + four_rounds list)) [
+          elim (cases_lt line.arm (start.slot + slot + two_rounds list)) [
+            | inr early ↦ inl (omega (arith, line.armed, early))
+            | inl near ↦ elim (cases_lt (start.slot + slot) (line.arm + four_rounds list)) [
               | inl soon ↦
                   absurd (both_ways _ (ap (λ ks. has_node ks incident.node)
-                  (arm-quiet list script start r.node arm (start.slot + slot) is within near soon)) only.has)
+                  (arm-quiet line.is (start.slot + slot) within near soon)) only.has)
               | inr far ↦
                   let soon = entry.soon (omega (arith, entry.to, within, far, run.course.valid.count)) in
-                  inr (omega (arith, entered_is, soon, entry.from, late, far))
+                  inr (omega (arith, line.entered, soon, far))
             ]
           ]
 
-      other-far : (q r : Return) → IsOfLine list script start script.events q
-          → IsOfLine list script start script.events r
+      other-far : (q r : Return) → (one : HasLine list script start q) → (two : HasLine list script start r)
           → (q ≡ r) ⊎ ((q.entered + 2 * length list.slots ≤ r.armed) ⊎ (r.entered + 2 * length list.slots ≤ q.armed))
       other-far q r one two =
-          let first_fits = armed-valid list script q.node one.arm run.script_valid one.armed in
-          let second_fits = armed-valid list script r.node two.arm run.script_valid two.armed in
-          let first = armed-in run q.node one.arm first_fits.0 first_fits.1 one.armed in
-          let second = armed-in run r.node two.arm second_fits.0 second_fits.1 two.armed in
-          let entry = entry-of list script start q.node one.arm first in
-          let later = entry-of list script start r.node two.arm second in
-          let late = arm-late run q.node one.arm first in
-          let too = arm-late run r.node two.arm second in
-          let q_entered : q.entered ≡ entry_slot list script start q.node one.arm - start.slot =
-          ap (λ (x : Return). x.entered) one.is in
-          let r_entered : r.entered ≡ entry_slot list script start r.node two.arm - start.slot =
-          ap (λ (x : Return). x.entered) two.is in
-          let q_armed : q.armed ≡ one.arm - start.slot = ap (λ (x : Return). x.armed) one.is in
-          let r_armed : r.armed ≡ two.arm - start.slot = ap (λ (x : Return). x.armed) two.is in
+          let entry = entry-of one.is in
+          let later = entry-of two.is in
           elim (cases_lt two.arm one.arm) [
             | inl before ↦ elim (cases_lt one.arm (two.arm + four_rounds list)) [
               | inl near ↦
-                  let same =
-                  arm-only list script start r.node two.arm q.node one.arm second one.armed (omega (arith, before)) near
-                  in
+                  let same = arm-only two.is q.node one.arm one.is.armed (omega (arith, before)) near in
                   absurd (omega (arith, before, same.1))
-              | inr far ↦ inr (inr (omega (arith, r_entered, q_armed, later.to, later.from, late, too, far)))
+              | inr far ↦ inr (inr (omega (arith, two.entered, one.armed, later.to, far)))
             ]
             | inr from ↦ elim (cases_lt two.arm (one.arm + four_rounds list)) [
               | inl near ↦
-                  let same = arm-only list script start q.node one.arm r.node two.arm first two.armed from near in
-                  inl (same-return list script start q r one two same.0 same.1)
-              | inr far ↦ inr (inl (omega (arith, q_entered, r_armed, entry.to, entry.from, late, too, far)))
+                  let same = arm-only one.is r.node two.arm two.is.armed from near in
+                  inl (one.same ∙ (λ i. return_at list script start (same.0 i) (same.1 i)) ∙ sym two.same)
+              | inr far ↦ inr (inl (omega (arith, one.entered, two.armed, entry.to, far)))
             ]
           ]
 
@@ -214,27 +181,19 @@ module _ {list : Medl} {script : Script} {start : ClusterStart} (run : IsBackRun
       → is_new_after (back_plan_of list script start) turn k ≡ false
   old-enough turn slot k now none =
       let plan = back_plan_of list script start in
-      false_from_ne_true (is_new_after plan turn k) (λ new.
+      false_from_ne_true _ (λ new.
       let found = any-of (is_entry_near plan.nodes turn k) plan.returns new in
       let r = found.0 in
-      let parts = and_parts (r.node == k) (nat_le r.entered turn && nat_lt turn (r.entered + plan.nodes)) found.1.1 in
-      let times = and_parts (nat_le r.entered turn) (nat_lt turn (r.entered + plan.nodes)) parts.1 in
-      let node : r.node ≡ k = eqb-true r.node k parts.0 in
-      let of = return-of list script start r found.1.0 in
-      let armed : is_armed script k of.arm ≡ true = subst (λ j. is_armed script j of.arm ≡ true) node of.armed in
-      let fits = armed-valid list script k of.arm run.script_valid armed in
-      let is = armed-in run k of.arm fits.0 fits.1 armed in
-      let late = arm-late run k of.arm is in
-      let entry = entry-of list script start k of.arm is in
-      let entered : r.entered ≡ entry_slot list script start k of.arm - start.slot =
-      ap (λ (q : Return). q.entered) of.is ∙ ap (λ j. entry_slot list script start j of.arm - start.slot) node in
-      let low = leb-true r.entered turn times.0 in
-      let high = ltb-true turn (r.entered + plan.nodes) times.1 in
-      let stays =
-      arm-stays run k of.arm (slot - of.arm) slot is (omega (arith, entered, low, now, entry.from, late))
-      (omega (arith, entered, low, high, now, entry.from, entry.to, late)) in
-      both_ways (has_node (after list script start slot) k) none (after-has list script start slot k
-      ∙ or_right (has_node (made list script start slot) k) (has_node (at list script start slot) k) stays))
+      let parts = and_parts _ _ found.1.1 in
+      let times = and_parts _ _ parts.1 in
+      let node : r.node ≡ k = eqb-true _ _ parts.0 in
+      let line = line-of run r found.1.0 in
+      let entry = entry-of line.is in
+      let low : r.entered ≤ turn = leb-true _ _ times.0 in
+      let high : turn < r.entered + length list.slots = ltb-true _ _ times.1 in
+      both_ways _ none (ap (has_node (after list script start slot)) (sym node)
+      ∙ armed-after run line.is slot (omega (arith, line.entered, low, now, entry.from))
+      (omega (arith, line.entered, high, now, entry.to))))
 
   steady-is : (turn slot k : ℕ) → slot ≡ start.slot + turn → slot < script.slots → k < length list.slots
       → is_steady list script (after list script start slot) k ≡ true

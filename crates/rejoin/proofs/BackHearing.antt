@@ -181,8 +181,8 @@ pub near-same : (list : Medl) (script : Script) (start : ClusterStart) (slot j k
     → IsNearArm list script start slot j → IsNearArm list script start slot k → j ≡ k
 near-same list script start slot j k one two = elim (cases_lt two.arm one.arm) [
   | inl later ↦
-      sym (arm-only list script start k two.arm j one.arm two.is one.is.armed (omega (arith, later))
+      sym (arm-only two.is j one.arm one.is.armed (omega (arith, later))
       (omega (arith, one.from, two.to))).0
   | inr earlier ↦
-      (arm-only list script start j one.arm k two.arm one.is two.is.armed earlier (omega (arith, two.from, one.to))).0
+      (arm-only one.is k two.arm two.is.armed earlier (omega (arith, two.from, one.to))).0
 ]

@@ -1,6 +1,6 @@
 -- A slot of the plan: who hears its frame, and who is sound before it.
-use Rattle.std.proofs.Common.{◌≡◌, ◌≢◌, ℕ, suc, ◌+◌, ◌-◌, ◌<◌, ◌≤◌, true, false, length, Some, refl, ap, subst, ◌∙◌}
-use Rattle.std.proofs.Common.{inl, inr, arith}
+use Rattle.std.proofs.Common.{◌≡◌, ◌≢◌, ℕ, suc, ◌+◌, ◌<◌, ◌≤◌, true, false, length, Some, refl, ap, subst, ◌∙◌, inl}
+use Rattle.std.proofs.Common.{inr, arith}
 use Rattle.std.proofs.lemmas.Bool.{both_ways, cases_lt}
 use Rattle.ttp_base.specs.NodeSet.{has_node}
 use Rattle.ttp_world.specs.declared.medl.Medl.{Medl}
@@ -39,7 +39,7 @@ module _ {list : Medl} {script : Script} {start : ClusterStart} (run : IsBackRun
   made-far : (slot k : ℕ) (incident : Incident) → slot < script.slots
       → IsMadeIn list script start (at list script start slot) slot incident → IsNearArm list script start slot k → ⊥
   made-far slot k incident within is near =
-      let quiet = arm-quiet list script start k near.arm slot near.is within
+      let quiet = arm-quiet near.is slot within
       (omega (arith, near.from, run.course.valid.count)) near.to in
       both_ways _ (ap (λ ks. has_node ks incident.node) quiet) is.has
 
@@ -121,14 +121,14 @@ module _ {list : Medl} {script : Script} {start : ClusterStart} (run : IsBackRun
       by (ArmedSince arm armed) = elim (cases_lt (suc slot) (arm + four_rounds list)) [
         | inl soon ↦
             absurd (both_ways _ out
-            (arm-stays run k arm (suc slot - arm) (suc slot) armed.is (omega (arith, armed.from))
+            (arm-stays run armed.is (suc slot) (omega (arith, armed.from))
             (omega (arith, soon, armed.from))))
         | inr over ↦
             ap is_sound (armed.entered (omega (
               arith,
               over,
               armed.to,
-              (entry-of list script start k arm armed.is).to,
+              (entry-of armed.is).to,
               run.course.valid.count,
             )))
       ]

@@ -65,9 +65,9 @@ pub record IsEntryOf (list : Medl) (script : Script) (start : ClusterStart) (k a
   pub none : (slot : ℕ) → arm ≤ slot → slot < entry → slot < script.slots
       → offers_place list script start k slot ≡ false
 
-pub entry-of : (list : Medl) (script : Script) (start : ClusterStart) (k arm : ℕ) → IsArmedIn list script start k arm
+pub entry-of : {list : Medl} {script : Script} {start : ClusterStart} {k arm : ℕ} → IsArmedIn list script start k arm
     → IsEntryOf list script start k arm (entry_slot list script start k arm)
-entry-of list script start k arm is =
+entry-of {list = list} {script = script} {start = start} {k = k} {arm = arm} is =
     by (find p (range_with_len arm many)) refl
   where
     p : ℕ → Bool

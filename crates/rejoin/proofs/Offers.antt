@@ -13,7 +13,7 @@ use Rattle.ttp_world.specs.declared.script.Script.{Script}
 use Rattle.ttp_world.specs.Diary.{Place, next_place}
 use Rattle.ttp_world.specs.Hypothesis.{ClusterStart, expected_sender}
 use Rattle.ttp_world.specs.Medl.{kind_at}
-use Rattle.ttp_world.specs.Returning.{two_rounds, four_rounds, round_of, carries_place}
+use Rattle.ttp_world.specs.Returning.{two_rounds, round_of, carries_place}
 use Rattle.ttp_world.specs.Script.{is_on}
 use Rattle.fault_plan.specs.Plan.{Return, Plan}
 use Rattle.fault_plan.specs.Fates.{is_sound_after, is_good_slot}
@@ -22,12 +22,11 @@ use Rattle.fault_plan.specs.Places.{planned_place}
 use Rattle.fault_plan.proofs.Places.{place-sender}
 use Rattle.fault_plan.proofs.Hearing.{on-now, sender-less, sender-same}
 use Rattle.rejoin.specs.BackPlan.{entry_slot, back_plan_of}
-use Rattle.rejoin.proofs.ArmLines.{armed-valid, IsOfLine, return-of}
-use Rattle.rejoin.proofs.Arms.{IsArmedIn, armed-in, arm-only, arm-stays}
+use Rattle.rejoin.proofs.Arms.{arm-only, arm-stays}
 use Rattle.rejoin.proofs.Entries.{IsEntryOf, entry-of}
 use Rattle.rejoin.proofs.Runs.{IsBackRun}
 use Rattle.rejoin.proofs.Sounds.{Soundly, BeingClear, NearArm, sound-how}
-use Rattle.rejoin.proofs.Standing.{arm-late}
+use Rattle.rejoin.proofs.Standing.{HasLine, line-of}
 use Rattle.rejoin.proofs.Walk.{at}
 
 -- The round of a slot.
@@ -103,36 +102,14 @@ module _ {list : Medl} {script : Script} {start : ClusterStart} (run : IsBackRun
       ∙ ap (λ t. (start.node + t) % length list.slots) (sym (turns turn))) i))
 
   -- what an arm line offers
-  module _ (r : Return) (of : IsOfLine list script start script.events r) where
-    line : IsArmedIn list script start r.node of.arm
-    line =
-        let fits = armed-valid list script r.node of.arm run.script_valid of.armed in
-        armed-in run r.node of.arm fits.0 fits.1 of.armed
-
-    entry : IsEntryOf list script start r.node of.arm (entry_slot list script start r.node of.arm)
-    entry = entry-of list script start r.node of.arm line
-
-    late : start.slot + four_rounds list ≤ of.arm
-    late = arm-late run r.node of.arm line
-
-    armed-is : start.slot + r.armed ≡ of.arm
-    armed-is =
-        let is : r.armed ≡ of.arm - start.slot = ap (λ (q : Return). q.armed) of.is in
-        let after = late in
-        omega (arith, is, after)
-
-    entered-is : start.slot + r.entered ≡ entry_slot list script start r.node of.arm
-    entered-is =
-        let is : r.entered ≡ entry_slot list script start r.node of.arm - start.slot =
-        ap (λ (q : Return). q.entered) of.is in
-        let after = late in
-        let from = entry.from in
-        omega (arith, is, after, from)
+  module _ (r : Return) (line : HasLine list script start r) where
+    entry : IsEntryOf list script start r.node line.arm (entry_slot list script start r.node line.arm)
+    entry = entry-of line.is
 
     offers-entry : r.entered < plan.slots → carries_place (kind_in list plan r.entered) ≡ true
     offers-entry within =
-        let slot = entry_slot list script start r.node of.arm in
-        let there = entered-is in
+        let slot = entry_slot list script start r.node line.arm in
+        let there = line.entered in
         let inside : slot < script.slots = omega (arith, within, there) in
         let parts = and_parts _ _ (entry.offered inside) in
         let carries = and_parts _ _ parts.1 in
@@ -149,17 +126,17 @@ module _ {list : Medl} {script : Script} {start : ClusterStart} (run : IsBackRun
       abbrev e : ℕ
       e = expected_sender list start slot
 
-      near : of.arm ≤ slot
-      near = let arm_at = armed-is in omega (arith, arm_at, from)
+      near : line.arm ≤ slot
+      near = let arm_at = line.armed in omega (arith, arm_at, from)
 
-      soon : slot < of.arm + two_rounds list
+      soon : slot < line.arm + two_rounds list
       soon =
-          let entry_at = entered-is in
+          let entry_at = line.entered in
           let last = entry.to in
           omega (arith, entry_at, to, last)
 
-      before : slot < entry_slot list script start r.node of.arm
-      before = let entry_at = entered-is in omega (arith, entry_at, to)
+      before : slot < entry_slot list script start r.node line.arm
+      before = let entry_at = line.entered in omega (arith, entry_at, to)
 
       clear : Soundly list script start slot e
           → (is_on script e slot ≡ true) × (has_node (at list script start slot) e ≡ false)
@@ -170,17 +147,17 @@ module _ {list : Medl} {script : Script} {start : ClusterStart} (run : IsBackRun
           let last = also.to in
           let behind = soon in
           let here = near in
-          absurd (elim (cases_lt of.arm also.arm) [
+          absurd (elim (cases_lt line.arm also.arm) [
             | inl before ↦
-                let same = arm-only list script start r.node of.arm e also.arm line also.is.armed (omega arith)
+                let same = arm-only line.is e also.arm also.is.armed (omega arith)
                 (omega (arith, first, behind, count)) in
                 let one = same.1 in
                 omega (arith, one, before)
             | inr later ↦
-                let same = arm-only list script start e also.arm r.node of.arm also.is line.armed later
+                let same = arm-only also.is r.node line.arm line.is.armed later
                 (omega (arith, here, last)) in
-                let there : entry_slot list script start r.node of.arm ≤ slot =
-                subst (λ j. entry_slot list script start j of.arm ≤ slot) same.0
+                let there : entry_slot list script start r.node line.arm ≤ slot =
+                subst (λ j. entry_slot list script start j line.arm ≤ slot) same.0
                 (subst (λ a. entry_slot list script start e a ≤ slot) same.1 entered) in
                 let early = before in
                 omega (arith, there, early)
@@ -192,7 +169,7 @@ module _ {list : Medl} {script : Script} {start : ClusterStart} (run : IsBackRun
           let known = clear (sound-how run turn slot e refl inside (sender-less run.course slot)
           (ap (is_sound_after plan turn) (sender-same run.course slot turn refl inside) ∙ good)) in
           let has : has_node (at list script start slot) r.node ≡ true =
-          arm-stays run r.node of.arm (slot - of.arm) slot line
+          arm-stays run line.is slot
           (let here = near in omega (arith, here)) (let behind = soon in omega (arith, behind)) in
           ap carries_place (kind-same turn) ∙ false_from_ne_true _ (λ carries.
           both_ways _ (entry.none slot near before inside)
@@ -202,5 +179,5 @@ module _ {list : Medl} {script : Script} {start : ClusterStart} (run : IsBackRun
 
   pub offered : (r : Return) → Contains plan.returns r → IsOffered list plan r
   offered r among =
-      let of = return-of list script start r among in
-      record { place = offers-entry r of; none = none-before r of }
+      let line = line-of run r among in
+      record { place = offers-entry r line; none = none-before r line }

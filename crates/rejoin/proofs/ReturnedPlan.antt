@@ -154,7 +154,7 @@ module _ {list : Medl} {script : Script} {start : ClusterStart} (run : IsBackRun
             let to = told.to in
             let soon = armed.to in
             absurd (both_ways _ fresh
-            (arm-stays run f.node arm (f.slot - arm) f.slot armed.is (omega arith) (omega (arith, to, soon))))
+            (arm-stays run armed.is f.slot (omega arith) (omega (arith, to, soon))))
         | inr from ↦
             let to = armed.from in
             absurd (both_ways _ unarmed
@@ -166,17 +166,17 @@ module _ {list : Medl} {script : Script} {start : ClusterStart} (run : IsBackRun
   again : (turn slot k arm : ℕ) → slot ≡ start.slot + turn → slot < script.slots → suc slot ≡ arm + four_rounds list
       → IsArmedIn list script start k arm → IsSoundAgain plan turn k
   again turn slot k arm now within due is = record {
-    late = let late = arm-late run k arm is in omega (arith, late, now, due);
+    late = let late = arm-late run is in omega (arith, late, now, due);
     sound = by (standing run turn slot k now within node.0 node.1);
     quiet = λ u to near.
         incident-slot run.course u (start.slot + u) refl (omega arith)
         ∙ ap (incident_made list script start (start.slot + u))
-        (arm-quiet list script start k arm (start.slot + u) is (omega arith) (omega arith) (omega arith));
+        (arm-quiet is (start.slot + u) (omega arith) (omega arith) (omega arith));
     entered = λ u to near. false_from_ne_true _ (λ enter.
         let by = entry-by run u (start.slot + u) k refl (omega arith) enter in
         let from = by.from in
         let soon = by.to in
-        let same = arm-only list script start k arm k by.arm is by.is.armed (omega (arith, soon, near, due, now))
+        let same = arm-only is k by.arm by.is.armed (omega (arith, soon, near, due, now))
         (omega (arith, from, due, now, to)) in
         let one = same.1 in
         omega (arith, one, soon, near, due, now, count));
@@ -187,19 +187,19 @@ module _ {list : Medl} {script : Script} {start : ClusterStart} (run : IsBackRun
 
       node : IsEverNode list script k
       node = faulty-node run arm k
-          (armed-after run arm k arm is (omega arith) (omega (arith, count)))
+          (armed-after run is arm (omega arith) (omega (arith, count)))
 
       has : has_node (at list script start slot) k ≡ true
-      has = arm-stays run k arm (slot - arm) slot is (omega (arith, due, count)) (omega (arith, due))
+      has = arm-stays run is slot (omega (arith, due, count)) (omega (arith, due))
 
       by : Standing list script start slot k (fate_of plan turn k) → is_sound_after plan turn k ≡ true
       by (Clear out sound) =
-          absurd (both_ways _ out (armed-after run slot k arm is (omega (arith, due, count)) (omega (arith, due))))
+          absurd (both_ways _ out (armed-after run is slot (omega (arith, due, count)) (omega (arith, due))))
       by (LostSince since lost) = elim (cases_lt arm since) [
         | inl before ↦
             let to = lost.to in
             absurd (both_ways _ lost.before
-            (arm-stays run k arm (since - arm) since is (omega arith) (omega (arith, to, due))))
+            (arm-stays run is since (omega arith) (omega (arith, to, due))))
         | inr from ↦ absurd (both_ways _ (lost.unarmed arm from (omega (arith, due, count)))
             is.armed)
       ]
@@ -208,12 +208,12 @@ module _ {list : Medl} {script : Script} {start : ClusterStart} (run : IsBackRun
           let soon = armed.to in
           let same : other ≡ arm = elim (cases_lt arm other) [
             | inl before ↦
-                sym (arm-only list script start k arm k other is armed.is.armed (omega arith)
+                sym (arm-only is k other armed.is.armed (omega arith)
                 (omega (arith, from, due))).1
             | inr after ↦
-                (arm-only list script start k other k arm armed.is is.armed after (omega (arith, soon, due, count))).1
+                (arm-only armed.is k arm is.armed after (omega (arith, soon, due, count))).1
           ] in
-          let entry = entry-of list script start k other armed.is in
+          let entry = entry-of armed.is in
           let to = entry.to in
           ap is_sound (armed.entered (omega (arith, to, same, due, count)))
 
@@ -241,7 +241,7 @@ module _ {list : Medl} {script : Script} {start : ClusterStart} (run : IsBackRun
         let due : suc slot ≡ suc slot - four_rounds list + four_rounds list = omega (arith, long) in
         let count = run.course.valid.count in
         again turn slot k (suc slot - four_rounds list) refl within due
-        (armed-in run k (suc slot - four_rounds list) less (omega (arith, within, due, count)) armed);
+        (armed-in run k (suc slot - four_rounds list) armed);
   }
     where
       each-told : (turn slot : ℕ) → slot ≡ start.slot + turn → slot < script.slots → (fs : List FaultyNode)

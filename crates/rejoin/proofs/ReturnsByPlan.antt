@@ -7,14 +7,14 @@ use Rattle.ttp_world.specs.Hypothesis.{ClusterStart}
 use Rattle.ttp_world.specs.Medl.{IsValid}
 use Rattle.ttp_world.specs.Returning.{two_rounds, slots_before, joinings, breaks_back_in, has_four_before}
 use Rattle.ttp_world.specs.Returning.{lacks_four_after, breaks_arm_in, returns}
-use Rattle.ttp_world.specs.Script.{is_armed, IsValidScript}
+use Rattle.ttp_world.specs.Script.{is_armed, IsValidScript, arms}
 use Rattle.ttp_world.proofs.Starts.{alone-start, on-start}
 use Rattle.fault_plan.specs.Kept.{FollowsPlan}
 use Rattle.fault_plan.proofs.Sieves.{none-found}
 use Rattle.fault_plan.proofs.Spaced.{spaced-all}
 use Rattle.fault_plan.proofs.CoursePlans.{enough, follows-by, start-heard}
 use Rattle.rejoin.specs.BackPlan.{back_plan_of, ReturnsByPlan}
-use Rattle.rejoin.proofs.ArmLines.{armed-valid, armed-same}
+use Rattle.rejoin.proofs.ArmLines.{armed-same}
 use Rattle.rejoin.proofs.Arms.{armed-in}
 use Rattle.rejoin.proofs.BackBounds.{back-bounds, back-flipped, back-window}
 use Rattle.rejoin.proofs.BackGood.{back-good}
@@ -65,8 +65,7 @@ module _ {list : Medl} {script : Script} {start : ClusterStart} (run : IsBackRun
   -- no node is armed before the start
   early-unarmed : (k slot : ℕ) → k < length list.slots → slot ≤ start.slot → is_armed script k slot ≡ false
   early-unarmed k slot less early = false_from_ne_true _ (λ armed.
-      let fits = armed-valid list script k slot run.script_valid armed in
-      let late = arm-late run k slot (armed-in run k slot less fits.1 armed) in
+      let late = arm-late run (armed-in run k slot armed) in
       omega (arith, late, early, run.course.valid.count))
 
 pub returned-by_plan : (list : Medl) (script : Script) (slot : ℕ) → IsValid list → IsValidScript list script

@@ -93,10 +93,10 @@ module _ {list : Medl} {script : Script} {start : ClusterStart} (run : IsBackRun
       let plan = back_plan_of list script start in
       let armed : is_armed_by plan turn k ≡ false = false_from_ne_true _ (λ is.
       let line = armed-by-line run turn k is in
-      both_ways _ never (faulty-ever line.0 k (arm-faulty list script start k line.0 line.1.0))) in
+      both_ways _ never (faulty-ever line.0 k (arm-faulty line.1.0))) in
       let entered : enters plan turn k ≡ false = false_from_ne_true _ (λ enter.
       let by = entry-by run turn slot k now within enter in
-      both_ways _ never (faulty-ever by.arm k (arm-faulty list script start k by.arm by.is))) in
+      both_ways _ never (faulty-ever by.arm k (arm-faulty by.is))) in
       let missed : strikes (incident_at plan turn) k ≡ false =
       strikes-slot run.course turn slot k now within
       ∙ false_from_ne_true _ (λ hit.

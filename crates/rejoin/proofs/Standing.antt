@@ -2,7 +2,7 @@
 use Rattle.std.proofs.Common.{◌≡◌, ℕ, zero, suc, ◌+◌, ◌-◌, ◌<◌, ◌≤◌, Bool, true, false, cond, not, ◌&&◌, List, [], ◌∷◌}
 use Rattle.std.proofs.Common.{◌++◌, length, Some, None, refl, ap, sym, subst, ◌∙◌, inl, inr, arith}
 use Rattle.std.specs.Prelude.{◌==◌, nat_le}
-use Rattle.std.specs.List.{AllByRecursion, list_any, filter}
+use Rattle.std.specs.List.{AllByRecursion, list_any, filter, Contains}
 use Rattle.std.proofs.lemmas.Bool.{and_parts, and_from, and_left, and_right, or_from, or_left, or_right, both_ways}
 use Rattle.std.proofs.lemmas.Bool.{cases_lt, cases_eq, false_from_ne_true, eqb-true, not_from_false, leb-true}
 use Rattle.ttp_base.specs.NodeSet.{has_node}
@@ -22,7 +22,7 @@ use Rattle.fault_plan.proofs.Returns.{any-of, enters-by}
 use Rattle.fault_plan.proofs.Spaced.{all_in}
 use Rattle.fault_plan.proofs.Hearing.{made-was}
 use Rattle.rejoin.specs.BackPlan.{entry_slot, back_plan_of}
-use Rattle.rejoin.proofs.ArmLines.{armed-valid, armed-same, return_at, return-of, among-line, each-at}
+use Rattle.rejoin.proofs.ArmLines.{armed-same, return_at, return-of, among-line, each-at}
 use Rattle.rejoin.proofs.Arms.{IsArmedIn, armed-in, arm-faulty, arm-quiet, arm-only, arm-stays, armed-after}
 use Rattle.rejoin.proofs.Entries.{entry-of}
 use Rattle.rejoin.proofs.Runs.{IsBackRun}
@@ -67,6 +67,15 @@ long-late list script start k arm fs each has =
     let late : start.slot + two_rounds list ≤ f.slot = (each-at (IsDated list start arm) fs f each found.1.0).0 in
     let long : f.slot + two_rounds list ≤ arm = leb-true _ _ (and_parts _ _ found.1.1).1 in
     omega (arith, late, long)
+
+-- the arm line of a return
+pub record HasLine (list : Medl) (script : Script) (start : ClusterStart) (r : Return) : Type 0 where
+  pub arm : ℕ
+  pub is : IsArmedIn list script start r.node arm
+  pub late : start.slot + four_rounds list ≤ arm
+  pub same : r ≡ return_at list script start r.node arm
+  pub armed : start.slot + r.armed ≡ arm
+  pub entered : start.slot + r.entered ≡ entry_slot list script start r.node arm
 
 pub record EntersBy (list : Medl) (script : Script) (start : ClusterStart) (slot k : ℕ) : Type 0 where
   pub arm : ℕ
@@ -121,35 +130,51 @@ module _ {list : Medl} {script : Script} {start : ClusterStart} (run : IsBackRun
       (λ f. not (is_forgiven list script (slots_before list script start slot) slot f.node))
       (faulty_since (slots_before list script start slot)) (late-after slot (omega arith))))
 
-  pub arm-late : (k arm : ℕ) → IsArmedIn list script start k arm → start.slot + four_rounds list ≤ arm
-  arm-late k arm is =
+  pub arm-late : {k arm : ℕ} → IsArmedIn list script start k arm → start.slot + four_rounds list ≤ arm
+  arm-late {k = k} {arm = arm} is =
       long-late list script start k arm (faulty_at list script start arm) (weaker (IsDated list start arm)
       (λ f. not (is_forgiven list script (slots_before list script start arm) arm f.node))
       (faulty_since (slots_before list script start arm)) (late-after arm (omega (arith, is.within)))) is.long
+
+  pub line-of : (r : Return) → Contains (back_plan_of list script start).returns r → HasLine list script start r
+  line-of r among =
+      let of = return-of list script start r among in
+      let is = armed-in run r.node of.arm of.armed in
+      let late = arm-late is in
+      let entry = entry-of is in
+      let armed : r.armed ≡ of.arm - start.slot = ap (λ (q : Return). q.armed) of.is in
+      let entered : r.entered ≡ entry_slot list script start r.node of.arm - start.slot =
+      ap (λ (q : Return). q.entered) of.is in
+      record {
+        arm = of.arm;
+        is = is;
+        late = late;
+        same = of.is;
+        armed = omega (arith, armed, late);
+        entered = omega (arith, entered, entry.from, late);
+      }
 
   -- a node that listens again by the plan has its arm line
   pub armed-by-line : (turn k : ℕ) → is_armed_by (back_plan_of list script start) turn k ≡ true
       → (arm : ℕ) × (IsArmedIn list script start k arm × (arm ≡ start.slot + turn))
   armed-by-line turn k is =
-      let plan = back_plan_of list script start in
-      let found = any-of (is_armed_there turn k) plan.returns is in
-      let r = found.0 in
+      let found = any-of (is_armed_there turn k) (back_plan_of list script start).returns is in
       let parts = and_parts _ _ found.1.1 in
-      let of = return-of list script start r found.1.0 in
-      let node : r.node ≡ k = eqb-true _ _ parts.1 in
-      let line : is_armed script k of.arm ≡ true = subst (λ j. is_armed script j of.arm ≡ true) node of.armed in
-      let fits = armed-valid list script k of.arm run.script_valid line in
-      let known = armed-in run k of.arm fits.0 fits.1 line in
-      let late = arm-late k of.arm known in
-      let armed : r.armed ≡ of.arm - start.slot = ap (λ (q : Return). q.armed) of.is in
-      (of.arm, (known, omega (arith, armed, eqb-true _ _ parts.0, late)))
+      let line = line-of found.0 found.1.0 in
+      let turns : found.0.armed ≡ turn = eqb-true _ _ parts.0 in (
+        line.arm,
+        (
+          subst (λ j. IsArmedIn list script start j line.arm) (eqb-true _ _ parts.1) line.is,
+          omega (arith, line.armed, turns),
+        ),
+      )
 
   -- no node is armed at the start
   none-armed-first : (k : ℕ) → is_armed_by (back_plan_of list script start) 0 k ≡ false
   none-armed-first k =
       false_from_ne_true _ (λ is.
       let line = armed-by-line 0 k is in
-      let late = arm-late k line.0 line.1.0 in
+      let late = arm-late line.1.0 in
       omega (arith, line.1.1, late, run.course.valid.count))
 
   -- A node enters by its arm line.
@@ -157,25 +182,19 @@ module _ {list : Medl} {script : Script} {start : ClusterStart} (run : IsBackRun
   pub entry-by : (turn slot k : ℕ) → slot ≡ start.slot + turn → slot < script.slots
       → enters (back_plan_of list script start) turn k ≡ true → EntersBy list script start slot k
   entry-by turn slot k now within is =
-      let plan = back_plan_of list script start in
-      let whole = and_parts _ _ is in
-      let found = any-of (enters_there turn k) plan.returns whole.0 in
-      let r = found.0 in
+      let found = any-of (enters_there turn k) (back_plan_of list script start).returns (and_parts _ _ is).0 in
       let parts = and_parts _ _ found.1.1 in
-      let of = return-of list script start r found.1.0 in
-      let node : r.node ≡ k = eqb-true _ _ parts.1 in
-      let armed : is_armed script k of.arm ≡ true = subst (λ j. is_armed script j of.arm ≡ true) node of.armed in
-      let fits = armed-valid list script k of.arm run.script_valid armed in
-      let line = armed-in run k of.arm fits.0 fits.1 armed in
-      let late = arm-late k of.arm line in
-      let entry = entry-of list script start k of.arm line in
-      let same : r.entered ≡ entry_slot list script start k of.arm - start.slot =
-      ap (λ (q : Return). q.entered) of.is ∙ ap (λ j. entry_slot list script start j of.arm - start.slot) node in
-      let at : entry_slot list script start k of.arm ≡ slot =
-      omega (arith, same, eqb-true _ _ parts.0, entry.from, late, now) in
+      let line = line-of found.0 found.1.0 in
+      let node : found.0.node ≡ k = eqb-true _ _ parts.1 in
+      let turns : found.0.entered ≡ turn = eqb-true _ _ parts.0 in
+      let known : IsArmedIn list script start k line.arm =
+      subst (λ j. IsArmedIn list script start j line.arm) node line.is in
+      let entry = entry-of known in
+      let at : entry_slot list script start k line.arm ≡ slot =
+      ap (λ j. entry_slot list script start j line.arm) (sym node) ∙ sym line.entered ∙ omega (arith, turns, now) in
       record {
-        arm = of.arm;
-        is = line;
+        arm = line.arm;
+        is = known;
         entry = at;
         from = omega (arith, at, entry.from);
         to = omega (arith, at, entry.soon (omega (arith, at, within)));
@@ -197,8 +216,7 @@ module _ {list : Medl} {script : Script} {start : ClusterStart} (run : IsBackRun
 
   unarmed-out : (slot k : ℕ) → has_node (at list script start slot) k ≡ false → is_armed script k slot ≡ false
   unarmed-out slot k out = false_from_ne_true _ (λ armed.
-      let fits = armed-valid list script k slot run.script_valid armed in
-      both_ways _ out (arm-faulty list script start k slot (armed-in run k slot fits.0 fits.1 armed)))
+      both_ways _ out (arm-faulty (armed-in run k slot armed)))
 
   module _ (turn slot : ℕ) (now : suc slot ≡ start.slot + suc turn) (within : suc slot < script.slots) where
     plan-unarmed : (k : ℕ) → is_armed script k (suc slot) ≡ false
@@ -259,7 +277,7 @@ module _ {list : Medl} {script : Script} {start : ClusterStart} (run : IsBackRun
           | inl same ↦ both_ways _ unarmed (ap (is_armed script k) (sym same) ∙ by.is.armed)
           | inr other ↦
               let stays =
-              arm-stays run k by.arm (slot - by.arm) slot by.is (omega (arith, by.from, other))
+              arm-stays run by.is slot (omega (arith, by.from, other))
               (omega (arith, by.from, by.to, other)) in
               both_ways _ none (after-has list script start slot k ∙ or_right _ _ stays)
         ]))
@@ -278,10 +296,9 @@ module _ {list : Medl} {script : Script} {start : ClusterStart} (run : IsBackRun
               let armed = (and_parts (has_node (at list script start then) k) (is_armed script k then) both).1 in
               elim (cases_lt then since) [
                 | inl before ↦
-                    let fits = armed-valid list script k then run.script_valid armed in
-                    let line = armed-in run k then fits.0 fits.1 armed in
+                    let line = armed-in run k then armed in
                     both_ways (has_node (at list script start since) k) lost.before
-                    (arm-stays run k then (since - then) since line (omega (arith, before))
+                    (arm-stays run line since (omega (arith, before))
                     (omega (arith, lost.to, late, before)))
                 | inr from ↦
                     both_ways (is_armed script k then) (lost.unarmed then from (omega (arith, late, some))) armed
@@ -303,7 +320,7 @@ module _ {list : Medl} {script : Script} {start : ClusterStart} (run : IsBackRun
           | inl same ↦ both_ways _ unarmed (ap (is_armed script k) (sym same) ∙ by.is.armed)
           | inr other ↦ elim (cases_lt by.arm since) [
             | inl before ↦
-                both_ways _ lost.before (arm-stays run k by.arm (since - by.arm) since by.is (omega (arith, before))
+                both_ways _ lost.before (arm-stays run by.is since (omega (arith, before))
                 (omega (arith, lost.to, by.to, before)))
             | inr from ↦ both_ways _ (lost.unarmed by.arm from (omega (arith, by.from, other))) by.is.armed
           ]
@@ -314,7 +331,7 @@ module _ {list : Medl} {script : Script} {start : ClusterStart} (run : IsBackRun
         → incident_at (back_plan_of list script start) (suc turn) ≡ None
     quiet-next k arm is from to =
         incident-slot run.course (suc turn) (suc slot) now within ∙ ap (incident_made list script start (suc slot))
-        (arm-quiet list script start k arm (suc slot) is within (omega (arith, from, run.course.valid.count)) to)
+        (arm-quiet is (suc slot) within (omega (arith, from, run.course.valid.count)) to)
 
     -- a node that is armed in the slot
     armed-now : (k : ℕ) (fate : Fate) → IsArmedIn list script start k (suc slot)
@@ -330,7 +347,7 @@ module _ {list : Medl} {script : Script} {start : ClusterStart} (run : IsBackRun
               (false_from_ne_true _ (λ enter.
               let by = entry-by (suc turn) (suc slot) k now within enter in
               let same =
-              arm-only list script start k by.arm k (suc slot) by.is is.armed by.from (omega (arith, by.to)) in
+              arm-only by.is k (suc slot) is.armed by.from (omega (arith, by.to)) in
               let entry : entry_slot list script start k (suc slot) ≡ suc slot =
               ap (entry_slot list script start k) (sym same.1) ∙ by.entry in
               omega (arith, waits, entry))) (quiet-next k (suc slot) is (omega arith)
@@ -338,7 +355,7 @@ module _ {list : Medl} {script : Script} {start : ClusterStart} (run : IsBackRun
               ∙ ap Listening turns;
           entered = λ there.
               next-entered plan (suc turn) k fate (entry-enters (suc turn) (suc slot) k (suc slot) now within is
-              (omega (arith, there, (entry-of list script start k (suc slot) is).from)));
+              (omega (arith, there, (entry-of is).from)));
         })
       where
         plan : Plan
@@ -361,8 +378,7 @@ module _ {list : Medl} {script : Script} {start : ClusterStart} (run : IsBackRun
         by : (armed : Bool) → is_armed script k (suc slot) ≡ armed
             → Standing list script start (suc slot) k (next_fate (back_plan_of list script start) (suc turn) k fate)
         by true armed =
-            let fits = armed-valid list script k (suc slot) run.script_valid armed in
-            armed-now k fate (armed-in run k (suc slot) fits.0 fits.1 armed)
+            armed-now k fate (armed-in run k (suc slot) armed)
         by false unarmed =
             let missed : has_node (made list script start (suc slot)) k ≡ false =
             false_from_ne_true _ (λ hit.
@@ -396,12 +412,12 @@ module _ {list : Medl} {script : Script} {start : ClusterStart} (run : IsBackRun
           | inr other ↦ elim (cases_lt arm by.arm) [
             | inl before ↦
                 let same =
-                arm-only list script start k arm k by.arm is by.is.armed (omega (arith, before))
+                arm-only is k by.arm by.is.armed (omega (arith, before))
                 (omega (arith, by.from, other, to)) in
                 absurd (omega (arith, before, same.1))
             | inr after ↦
                 let same =
-                arm-only list script start k by.arm k arm by.is is.armed after (omega (arith, from, by.to)) in
+                arm-only by.is k arm is.armed after (omega (arith, from, by.to)) in
                 ap (entry_slot list script start k) (sym same.1) ∙ by.entry
           ]
         ]
@@ -412,11 +428,11 @@ module _ {list : Medl} {script : Script} {start : ClusterStart} (run : IsBackRun
       | inl over ↦
           let is = armed.is in
           let some : 0 < four_rounds list = omega (arith, run.course.valid.count) in
-          let entry = entry-of list script start k arm is in
+          let entry = entry-of is in
           let out : has_node (at list script start (suc slot)) k ≡ false =
           at-next list script start slot k ∙ and_right _ _
           (ap not (forgiven-late list script start (suc slot) arm k some over ∙ and_from _ _
-          (arm-faulty list script start k arm is) is.armed)) in
+          (arm-faulty is) is.armed)) in
           let unarmed = unarmed-out (suc slot) k out in
           out-next k fate out (armed.entered (omega (arith, entry.to, over, some)))
           (false_from_ne_true _ (λ enter.
@@ -427,7 +443,7 @@ module _ {list : Medl} {script : Script} {start : ClusterStart} (run : IsBackRun
           let soon : suc slot < arm + four_rounds list = omega (arith, armed.to, other) in
           let unarmed : is_armed script k (suc slot) ≡ false =
           false_from_ne_true _ (λ again.
-          let same = arm-only list script start k arm k (suc slot) is again (omega (arith, armed.from)) soon in
+          let same = arm-only is k (suc slot) again (omega (arith, armed.from)) soon in
           omega (arith, same.1, armed.from)) in
           let quiet = plan-unarmed k unarmed in
           let none = quiet-next k arm is (omega (arith, armed.from)) soon in
@@ -470,7 +486,7 @@ module _ {list : Medl} {script : Script} {start : ClusterStart} (run : IsBackRun
       (sound-next plan 0 k (fate_at_begin plan k) (none-armed-first k)
       (false_from_ne_true _ (λ enter.
       let by = entry-by 0 start.slot k (omega arith) within enter in
-      let late = arm-late k by.arm by.is in
+      let late = arm-late by.is in
       omega (arith, late, by.from, some)))
       ∙ and_from _ _
       (begins (has_node plan.begin k) (has_node-sieve (is_ever_on script) (length list.slots) k less ∙ ever))
@@ -514,4 +530,4 @@ module _ {list : Medl} {script : Script} {start : ClusterStart} (run : IsBackRun
           → is_sound_after (back_plan_of list script start) turn k ≡ true
       by (Clear out sound) = ap is_sound sound
       by (LostSince since lost) = absurd (both_ways _ none lost.has)
-      by (ArmedSince arm armed) = absurd (both_ways _ none (armed-after run slot k arm armed.is armed.from armed.to))
+      by (ArmedSince arm armed) = absurd (both_ways _ none (armed-after run armed.is slot armed.from armed.to))
