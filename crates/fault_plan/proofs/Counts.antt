@@ -164,8 +164,7 @@ seen-round plan slot k good less turn own =
     let fewer =
     count-fewer (λ u. p (sender plan u)) (is_good_slot plan) (suc base) (slot - base) (λ u above to lasting.
     lasting-before plan u slot (sender plan u) (omega (arith, to, told.within))
-    (omega (arith, above, told.near)) lasting)
-    in
+    (omega (arith, above, told.near)) lasting) in
     omega (arith, all, front, fewer, told.seen)
 
 -- of which there are four or more

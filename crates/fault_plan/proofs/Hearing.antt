@@ -224,8 +224,7 @@ module _ {list : Medl} {script : Script} {start : ClusterStart} {at : ℕ → Li
       let asked = loss-asked from in
       false_from_ne_true _ (λ lost.
       elim (loser-tells list script away slot e r sends.ever sends.fallen less
-      (clear-other r from less other hears) lost
-      (ap is_breaking (sym asked) ∙ course.whole slot within)) [
+      (clear-other r from less other hears) lost (ap is_breaking (sym asked) ∙ course.whole slot within)) [
         | inl all ↦ made-itself (loss_in list script start (at slot) slot) e (asked ∙ all) sends.lost
         | inr one ↦ made-itself (loss_in list script start (at slot) slot) r (asked ∙ one) hears.lost
       ])

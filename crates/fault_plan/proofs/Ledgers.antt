@@ -113,5 +113,4 @@ pub ledger-told : (plan : Plan) (slot k : ℕ) → IsGoodPlan plan → k < plan.
 ledger-told plan zero k good less = first-told plan k (sender plan 0 == k) good refl
 ledger-told plan (suc slot) k good less =
     next-told plan slot k (ledger_of plan slot k) (sender plan (suc slot) == k)
-    (enters plan (suc slot) k) good less refl
-    refl (ledger-told plan slot k good less)
+    (enters plan (suc slot) k) good less refl refl (ledger-told plan slot k good less)

@@ -135,11 +135,13 @@ module _ {list : Medl} {script : Script} {start : ClusterStart} (run : IsBackRun
             let then = slot - four_rounds list in
             forgiven-late list script start slot then k some (omega (arith, late)) ∙ and_right _ _
             (false_from_ne_true _ (λ armed.
-            let same = arm-only (armed-in run k then armed) k arm is.armed (omega (arith, late)) (omega (arith, late)) in
+            let same =
+            arm-only (armed-in run k then armed) k arm is.armed (omega (arith, late)) (omega (arith, late)) in
             omega (arith, same.1, late)))
       ]
 
-  pub arm-stays : (slot : ℕ) → arm ≤ slot → slot < arm + four_rounds list → has_node (at list script start slot) k ≡ true
+  pub arm-stays : (slot : ℕ) → arm ≤ slot → slot < arm + four_rounds list
+      → has_node (at list script start slot) k ≡ true
   arm-stays zero from to =
       let same : arm ≡ zero = omega arith in
       subst (λ t. has_node (at list script start t) k ≡ true) same (arm-faulty is)

@@ -76,14 +76,12 @@ module _ {list : Medl} {script : Script} {start : ClusterStart} (run : IsBackRun
           since-lost (fate_of (back_plan_of list script start) turn k) (since - start.slot) lost.fate_is
       by (ArmedSince arm armed) = elim (cases_lt (suc slot) (arm + four_rounds list)) [
         | inl soon ↦
-            let same =
-            arm-only armed.is k (suc slot) is.armed (omega (arith, armed.from)) soon in
+            let same = arm-only armed.is k (suc slot) is.armed (omega (arith, armed.from)) soon in
             absurd (omega (arith, same.1, armed.from))
         | inr over ↦
             let forgiven =
             forgiven-late list script start (suc slot) arm k (omega (arith, run.course.valid.count))
-            (omega (arith, over, armed.to)) ∙ and_from _ _ (arm-faulty armed.is)
-            armed.is.armed in
+            (omega (arith, over, armed.to)) ∙ and_from _ _ (arm-faulty armed.is) armed.is.armed in
             absurd (both_ways _ (not-true _ kept.1) forgiven)
       ]
 
@@ -217,6 +215,5 @@ module _ {list : Medl} {script : Script} {start : ClusterStart} (run : IsBackRun
       let four = leb-true 4 _ (run.steady slot (omega arith) within) in
       let more =
       filter-more (is_steady list script (after list script start slot)) (is_steady_after plan turn) 0
-      (length list.slots)
-      (λ k from to steady. steady-is turn slot k refl within (omega (arith, to)) steady) in
+      (length list.slots) (λ k from to steady. steady-is turn slot k refl within (omega (arith, to)) steady) in
       omega (arith, four, more))

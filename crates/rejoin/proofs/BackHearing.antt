@@ -180,9 +180,6 @@ module _ {list : Medl} {script : Script} {start : ClusterStart} (run : IsBackRun
 pub near-same : (list : Medl) (script : Script) (start : ClusterStart) (slot j k : ℕ)
     → IsNearArm list script start slot j → IsNearArm list script start slot k → j ≡ k
 near-same list script start slot j k one two = elim (cases_lt two.arm one.arm) [
-  | inl later ↦
-      sym (arm-only two.is j one.arm one.is.armed (omega (arith, later))
-      (omega (arith, one.from, two.to))).0
-  | inr earlier ↦
-      (arm-only one.is k two.arm two.is.armed earlier (omega (arith, two.from, one.to))).0
+  | inl later ↦ sym (arm-only two.is j one.arm one.is.armed (omega (arith, later)) (omega (arith, one.from, two.to))).0
+  | inr earlier ↦ (arm-only one.is k two.arm two.is.armed earlier (omega (arith, two.from, one.to))).0
 ]

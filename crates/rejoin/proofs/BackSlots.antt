@@ -39,8 +39,7 @@ module _ {list : Medl} {script : Script} {start : ClusterStart} (run : IsBackRun
   made-far : (slot k : ℕ) (incident : Incident) → slot < script.slots
       → IsMadeIn list script start (at list script start slot) slot incident → IsNearArm list script start slot k → ⊥
   made-far slot k incident within is near =
-      let quiet = arm-quiet near.is slot within
-      (omega (arith, near.from, run.course.valid.count)) near.to in
+      let quiet = arm-quiet near.is slot within (omega (arith, near.from, run.course.valid.count)) near.to in
       both_ways _ (ap (λ ks. has_node ks incident.node) quiet) is.has
 
   still-by : (slot r : ℕ) → start.slot ≤ slot → r < length list.slots → IsSound slot r → has_jump script r slot ≡ false
@@ -120,8 +119,7 @@ module _ {list : Medl} {script : Script} {start : ClusterStart} (run : IsBackRun
           absurd (both_ways _ out (lost-in run turn slot (omega arith) within k since fate lost))
       by (ArmedSince arm armed) = elim (cases_lt (suc slot) (arm + four_rounds list)) [
         | inl soon ↦
-            absurd (both_ways _ out
-            (arm-stays run armed.is (suc slot) (omega (arith, armed.from))
+            absurd (both_ways _ out (arm-stays run armed.is (suc slot) (omega (arith, armed.from))
             (omega (arith, soon, armed.from))))
         | inr over ↦
             ap is_sound (armed.entered (omega (

@@ -154,8 +154,7 @@ module _ {list : Medl} {script : Script} {start : ClusterStart} (run : IsBackRun
                 let one = same.1 in
                 omega (arith, one, before)
             | inr later ↦
-                let same = arm-only also.is r.node line.arm line.is.armed later
-                (omega (arith, here, last)) in
+                let same = arm-only also.is r.node line.arm line.is.armed later (omega (arith, here, last)) in
                 let there : entry_slot list script start r.node line.arm ≤ slot =
                 subst (λ j. entry_slot list script start j line.arm ≤ slot) same.0
                 (subst (λ a. entry_slot list script start e a ≤ slot) same.1 entered) in

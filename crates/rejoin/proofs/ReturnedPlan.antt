@@ -153,8 +153,7 @@ module _ {list : Medl} {script : Script} {start : ClusterStart} (run : IsBackRun
         | inl before ↦
             let to = told.to in
             let soon = armed.to in
-            absurd (both_ways _ fresh
-            (arm-stays run armed.is f.slot (omega arith) (omega (arith, to, soon))))
+            absurd (both_ways _ fresh (arm-stays run armed.is f.slot (omega arith) (omega (arith, to, soon))))
         | inr from ↦
             let to = armed.from in
             absurd (both_ways _ unarmed
@@ -198,8 +197,7 @@ module _ {list : Medl} {script : Script} {start : ClusterStart} (run : IsBackRun
       by (LostSince since lost) = elim (cases_lt arm since) [
         | inl before ↦
             let to = lost.to in
-            absurd (both_ways _ lost.before
-            (arm-stays run is since (omega arith) (omega (arith, to, due))))
+            absurd (both_ways _ lost.before (arm-stays run is since (omega arith) (omega (arith, to, due))))
         | inr from ↦ absurd (both_ways _ (lost.unarmed arm from (omega (arith, due, count)))
             is.armed)
       ]
@@ -207,11 +205,8 @@ module _ {list : Medl} {script : Script} {start : ClusterStart} (run : IsBackRun
           let from = armed.from in
           let soon = armed.to in
           let same : other ≡ arm = elim (cases_lt arm other) [
-            | inl before ↦
-                sym (arm-only is k other armed.is.armed (omega arith)
-                (omega (arith, from, due))).1
-            | inr after ↦
-                (arm-only armed.is k arm is.armed after (omega (arith, soon, due, count))).1
+            | inl before ↦ sym (arm-only is k other armed.is.armed (omega arith) (omega (arith, from, due))).1
+            | inr after ↦ (arm-only armed.is k arm is.armed after (omega (arith, soon, due, count))).1
           ] in
           let entry = entry-of armed.is in
           let to = entry.to in

@@ -277,8 +277,7 @@ module _ {list : Medl} {script : Script} {start : ClusterStart} (run : IsBackRun
           | inl same ↦ both_ways _ unarmed (ap (is_armed script k) (sym same) ∙ by.is.armed)
           | inr other ↦
               let stays =
-              arm-stays run by.is slot (omega (arith, by.from, other))
-              (omega (arith, by.from, by.to, other)) in
+              arm-stays run by.is slot (omega (arith, by.from, other)) (omega (arith, by.from, by.to, other)) in
               both_ways _ none (after-has list script start slot k ∙ or_right _ _ stays)
         ]))
 
@@ -298,8 +297,7 @@ module _ {list : Medl} {script : Script} {start : ClusterStart} (run : IsBackRun
                 | inl before ↦
                     let line = armed-in run k then armed in
                     both_ways (has_node (at list script start since) k) lost.before
-                    (arm-stays run line since (omega (arith, before))
-                    (omega (arith, lost.to, late, before)))
+                    (arm-stays run line since (omega (arith, before)) (omega (arith, lost.to, late, before)))
                 | inr from ↦
                     both_ways (is_armed script k then) (lost.unarmed then from (omega (arith, late, some))) armed
               ])
@@ -346,8 +344,7 @@ module _ {list : Medl} {script : Script} {start : ClusterStart} (run : IsBackRun
               (armed-same list script start turn k ∙ ap (is_armed script k) (sym now) ∙ is.armed)
               (false_from_ne_true _ (λ enter.
               let by = entry-by (suc turn) (suc slot) k now within enter in
-              let same =
-              arm-only by.is k (suc slot) is.armed by.from (omega (arith, by.to)) in
+              let same = arm-only by.is k (suc slot) is.armed by.from (omega (arith, by.to)) in
               let entry : entry_slot list script start k (suc slot) ≡ suc slot =
               ap (entry_slot list script start k) (sym same.1) ∙ by.entry in
               omega (arith, waits, entry))) (quiet-next k (suc slot) is (omega arith)
@@ -377,8 +374,7 @@ module _ {list : Medl} {script : Script} {start : ClusterStart} (run : IsBackRun
 
         by : (armed : Bool) → is_armed script k (suc slot) ≡ armed
             → Standing list script start (suc slot) k (next_fate (back_plan_of list script start) (suc turn) k fate)
-        by true armed =
-            armed-now k fate (armed-in run k (suc slot) armed)
+        by true armed = armed-now k fate (armed-in run k (suc slot) armed)
         by false unarmed =
             let missed : has_node (made list script start (suc slot)) k ≡ false =
             false_from_ne_true _ (λ hit.
@@ -412,12 +408,10 @@ module _ {list : Medl} {script : Script} {start : ClusterStart} (run : IsBackRun
           | inr other ↦ elim (cases_lt arm by.arm) [
             | inl before ↦
                 let same =
-                arm-only is k by.arm by.is.armed (omega (arith, before))
-                (omega (arith, by.from, other, to)) in
+                arm-only is k by.arm by.is.armed (omega (arith, before)) (omega (arith, by.from, other, to)) in
                 absurd (omega (arith, before, same.1))
             | inr after ↦
-                let same =
-                arm-only by.is k arm is.armed after (omega (arith, from, by.to)) in
+                let same = arm-only by.is k arm is.armed after (omega (arith, from, by.to)) in
                 ap (entry_slot list script start k) (sym same.1) ∙ by.entry
           ]
         ]
