@@ -1,12 +1,14 @@
 -- Tests of the numbers below a number, and the first that passes.
-use Rattle.std.proofs.Common.{◌≡◌, ◌≢◌, ℕ, zero, suc, ◌+◌, ◌<◌, ◌≤◌, Bool, true, false, cond, ◌&&◌, ◌||◌, Option, Some}
-use Rattle.std.proofs.Common.{None, get_or, refl, ap, sym, subst, ◌∙◌, arith}
+use Rattle.std.proofs.Common.{◌≡◌, ◌≢◌, ℕ, zero, suc, ◌+◌, ◌-◌, ◌<◌, ◌≤◌, Bool, true, false, cond, ◌&&◌, ◌||◌, Option, Some}
+use Rattle.std.proofs.Common.{[], ◌∷◌, length, None, get_or, refl, ap, sym, subst, ◌∙◌, arith}
 use Rattle.std.specs.Prelude.{◌==◌}
 use Rattle.std.proofs.lemmas.Bool.{eqb-true, eqb-false}
-use Rattle.std.proofs.lemmas.List.Elements.{All-filter}
+use Rattle.std.proofs.lemmas.List.{length-append}
+use Rattle.std.proofs.lemmas.List.Elements.{All-filter, filter-append}
 use Rattle.std.proofs.lemmas.List.FromFn.{length-range_with_len, get_or-range_with_len}
 use Rattle.std.specs.List.{All, filter, list_all, find, range_with_len}
 use Rattle.ttp_base.specs.NodeSet.{below}
+use Rattle.ttp_base.proofs.Below.{below-next}
 use Rattle.ttp_world.proofs.RangeFacts.{none-range}
 
 -- Where one fails, not all pass.
@@ -78,3 +80,27 @@ passes-step p a k rest true same passes from later = ap (λ b. b || rest) (ap p 
 passes-step p a k rest false other passes from later =
     let apart : a ≢ k = eqb-false a k other in
     ap (λ b. p a || b) (later (omega (arith, apart))) ∙ or-true (p a)
+
+-- Among more numbers no fewer pass.
+
+one-more : (p : ℕ → Bool) (n : ℕ) → length (filter p (below n)) ≤ length (filter p (below (n + 1)))
+one-more p n =
+    let is =
+    ap (λ xs. length (filter p xs)) (below-next n) ∙ ap length (filter-append p (below n) (n ∷ []))
+    ∙ length-append (filter p (below n)) (filter p (n ∷ [])) in
+    omega (arith, is)
+
+grow : (p : ℕ → Bool) (m d n : ℕ) → n ≡ m + d → length (filter p (below m)) ≤ length (filter p (below n))
+grow p m zero n is =
+    let all : n ≡ m = omega (arith, is) in
+    let same = ap (λ k. length (filter p (below k))) all in
+    omega (arith, same)
+grow p m (suc d) n is =
+    let all : n ≡ m + d + 1 = omega (arith, is) in
+    let same = ap (λ k. length (filter p (below k))) all in
+    let before = grow p m d (m + d) refl in
+    let next = one-more p (m + d) in
+    omega (arith, same, before, next)
+
+pub no-fewer : (p : ℕ → Bool) (m n : ℕ) → m ≤ n → length (filter p (below m)) ≤ length (filter p (below n))
+no-fewer p m n less = grow p m (n - m) n (omega arith)

@@ -1,16 +1,17 @@
 //! Clocks and the window: each drift and each sum of reading errors is within its bound, and the
 //! window is as wide as a deviation between correct nodes needs.
 ghost use Rattle.std.specs.Prelude.{◌≡◌, ◌*◌, ◌<◌, pos, ◌*ℤ◌, ◌≤ℤ◌, length, All};
+ghost use Rattle.std.specs.List.{list_any};
 ghost use Rattle.ttp_world.specs.Hypothesis.{is_within_bound, drifts_hold, errors_hold_in, clocks_broken};
 ghost use Rattle.ttp_world.specs.Hypothesis.{window_broken};
 ghost use Rattle.ttp_world.specs.Medl.{IsWithin, IsValid};
 ghost use Rattle.ttp_world.specs.Returning.{needed_back, back_window_broken};
 ghost use Rattle.ttp_world.specs.Script.{drift_of, IsWithinSpan, IsValidScript};
-ghost use Rattle.hypothesis.specs.Errors.{errors_hold_within};
+ghost use Rattle.hypothesis.specs.Errors.{errors_hold_within, is_error};
 
 use crate::incidents::{LastLookUps, no_look_ups};
 use precision::needed;
-use ttp_world::{DRIFT_LIMIT, Medl, Script};
+use ttp_world::{DRIFT_LIMIT, Event, Medl, Script};
 
 // Whether a number lies within plus or minus a bound.
 fn is_within_bound(bound: i64, value: i64) -> bool
@@ -83,8 +84,22 @@ fn errors_hold_in(list: &Medl, script: &Script, slot: u32, last: &mut LastLookUp
     errors_within(list, script, list.error, slot, last)
 }
 
+// Whether an event is a reading error.
+fn is_error(event: &Event) -> bool
+    ensures { result ≡ is_error event.now }
+{
+    matches!(event, Event::Error { .. })
+}
+
+// Whether one of these events is.
+fn has_errors(events: &[Event]) -> bool
+    ensures { result ≡ list_any is_error events.now }
+{
+    events.iter().any(|event| is_error(event))
+}
+
 /// The slot that is named where a drift or a sum of reading errors is past its bound: 0 for a
-/// drift, else the first with such a sum.
+/// drift, else the first with such a sum. Where no event is a reading error, no slot is looked at.
 pub(crate) fn clocks_broken(list: &Medl, script: &Script) -> Option<u32>
     requires valid { IsValid list.now }
     requires script { IsValidScript list.now script.now }
@@ -92,6 +107,9 @@ pub(crate) fn clocks_broken(list: &Medl, script: &Script) -> Option<u32>
 {
     if !drifts_hold(list, script) {
         return Some(0);
+    }
+    if !has_errors(script.events.as_slice()) {
+        return None;
     }
     let mut last = no_look_ups();
     for slot in 0..script.slots {

@@ -28,17 +28,10 @@ pub(crate) enum SlotLoss {
     Breaks,
 }
 
-/// Those that are due to hear a frame, and those of them that lost it.
-#[derive(Clone, Copy)]
-struct Hearers {
-    others: NodeSet,
-    lost: NodeSet,
-}
-
 // Whether a frame is lost on both channels, where this happens to its sender and that to its receiver.
-fn is_lost(sending: Incidents, hearing: Incidents) -> bool
-    ensures { (script : Script) (sender slot receiver : ℕ) → sending ≡ incidents_of script sender slot
-        → hearing ≡ incidents_of script receiver slot → result ≡ loses script sender slot receiver }
+fn is_lost(sending: &Incidents, hearing: &Incidents) -> bool
+    ensures { (script : Script) (sender slot receiver : ℕ) → sending.now ≡ incidents_of script sender slot
+        → hearing.now ≡ incidents_of script receiver slot → result ≡ loses script sender slot receiver }
 {
     let is_lost_on_a = (sending.send_silence.a || sending.send_noise.a)
         || (hearing.receive_silence.a || hearing.receive_noise.a);
@@ -56,37 +49,47 @@ fn is_other(script: &Script, faulty: NodeSet, sender: u8, slot: u32, node: u8) -
     script.is_on(node, slot) && !faulty.has(node) && node != sender
 }
 
-// Those that are due to hear a sender's frame in a slot, where these nodes are faulty, and those of
-// them that lose it.
-fn hearers_in(
+// Those that are due to hear a sender's frame in a slot, where these nodes are faulty.
+fn others_in(list: &Medl, script: &Script, faulty: NodeSet, sender: u8, slot: u32) -> NodeSet
+    requires valid { IsValid list.now }
+    requires script { IsValidScript list.now script.now }
+    ensures { result ≡ others_in list.now script.now faulty sender slot }
+{
+    let mut others = NodeSet::empty();
+    for node in 0..list.nodes() {
+        if is_other(script, faulty, sender, slot, node) {
+            others = others.with(node);
+        }
+    }
+    others
+}
+
+// Those of them that lose it. What happens to a node is asked first, since mostly nothing does.
+fn losers_in(
     list: &Medl,
     script: &Script,
     incidents: &SlotIncidents,
     faulty: NodeSet,
     sender: u8,
     slot: u32,
-) -> Hearers
+) -> NodeSet
     requires valid { IsValid list.now }
     requires script { IsValidScript list.now script.now }
     requires sender { sender < length list.now.slots }
     requires incidents { AreIncidentsIn list.now script.now slot incidents.now }
-    ensures others { result.others ≡ others_in list.now script.now faulty sender slot }
-    ensures nodes { All (λ k. k < most_nodes) result.lost }
-    ensures lost { result.lost
-        ≡ filter (loses script.now sender slot) (others_in list.now script.now faulty sender slot) }
+    ensures nodes { All (λ k. k < most_nodes) result }
+    ensures lost { result ≡ filter (loses script.now sender slot) (others_in list.now script.now faulty sender slot) }
 {
-    let mut others = NodeSet::empty();
+    let sending = &incidents.nodes[sender as usize];
     let mut lost = NodeSet::empty();
     for node in 0..list.nodes() {
-        if is_other(script, faulty, sender, slot, node) {
-            others = others.with(node);
-            let hearing = incidents.nodes[node as usize];
-            if is_lost(incidents.nodes[sender as usize], hearing) {
-                lost = lost.with(node);
-            }
+        if is_lost(sending, &incidents.nodes[node as usize])
+            && is_other(script, faulty, sender, slot, node)
+        {
+            lost = lost.with(node);
         }
     }
-    Hearers { others, lost }
+    lost
 }
 
 // What it means that these of the others lost a sender's frame.
@@ -123,8 +126,11 @@ fn sender_loss(
     if !is_ever_on(script, sender) || faulty.has(sender) {
         return SlotLoss::Harmless;
     }
-    let hearers = hearers_in(list, script, incidents, faulty, sender, slot);
-    loss_among(sender, hearers.others, hearers.lost)
+    let lost = losers_in(list, script, incidents, faulty, sender, slot);
+    if lost.first().is_none() {
+        return SlotLoss::Harmless;
+    }
+    loss_among(sender, others_in(list, script, faulty, sender, slot), lost)
 }
 
 /// Which jumps a script may have.
@@ -137,9 +143,9 @@ pub(crate) enum Jumps {
 
 // Whether the clock of a node to which this happens jumps, where each jump goes far: so the sum of a slot's
 // is not 0.
-fn has_far_jump(incidents: Incidents) -> bool
+fn has_far_jump(incidents: &Incidents) -> bool
     ensures { (list : Medl) (script : Script) (k slot : ℕ) → IsValid list → disturbance_broken list script ≡ None
-        → incidents ≡ incidents_of script k slot → result ≡ has_jump script k slot }
+        → incidents.now ≡ incidents_of script k slot → result ≡ has_jump script k slot }
 {
     incidents.jump != 0
 }
@@ -172,9 +178,9 @@ fn has_jump_among(events: &[Event], node: u8, slot: u32) -> bool
 
 // Whether the clock of a node to which this happens in a slot jumps. Where any jumps may stand, all events
 // are gone over.
-fn has_jump(script: &Script, jumps: Jumps, incidents: Incidents, slot: u32, node: u8) -> bool
+fn has_jump(script: &Script, jumps: Jumps, incidents: &Incidents, slot: u32, node: u8) -> bool
     ensures { (list : Medl) → IsValid list → (jumps ≡ Jumps.Far → disturbance_broken list script.now ≡ None)
-        → incidents ≡ incidents_of script.now node slot → result ≡ has_jump script.now node slot }
+        → incidents.now ≡ incidents_of script.now node slot → result ≡ has_jump script.now node slot }
 {
     match jumps {
         Jumps::Far => has_far_jump(incidents),
@@ -186,7 +192,7 @@ fn has_jump(script: &Script, jumps: Jumps, incidents: Incidents, slot: u32, node
 fn jumps_now(
     script: &Script,
     jumps: Jumps,
-    incidents: Incidents,
+    incidents: &Incidents,
     faulty: NodeSet,
     slot: u32,
     node: u8,
@@ -194,9 +200,9 @@ fn jumps_now(
     requires on { node < length script.now.on }
     requires node { node < most_nodes }
     ensures { (list : Medl) → IsValid list → (jumps ≡ Jumps.Far → disturbance_broken list script.now ≡ None)
-        → incidents ≡ incidents_of script.now node slot → result ≡ jumps_now script.now faulty slot node }
+        → incidents.now ≡ incidents_of script.now node slot → result ≡ jumps_now script.now faulty slot node }
 {
-    script.is_on(node, slot) && !faulty.has(node) && has_jump(script, jumps, incidents, slot, node)
+    has_jump(script, jumps, incidents, slot, node) && script.is_on(node, slot) && !faulty.has(node)
 }
 
 /// The nodes that become faulty in a slot since their clocks jump, where these are faulty before it.
@@ -216,7 +222,7 @@ pub(crate) fn jumpers_in(
 {
     let mut jumpers = NodeSet::empty();
     for node in 0..list.nodes() {
-        let happens = incidents.nodes[node as usize];
+        let happens = &incidents.nodes[node as usize];
         if jumps_now(script, jumps, happens, faulty, slot, node) {
             jumpers = jumpers.with(node);
         }
@@ -228,6 +234,9 @@ pub(crate) fn jumpers_in(
 pub(crate) fn united(first: NodeSet, second: NodeSet) -> NodeSet
     ensures { HaveSameNodes result (first ++ second) }
 {
+    if first.first().is_none() {
+        return second;
+    }
     let mut all = second;
     for node in 0..24u8 {
         if first.has(node) {

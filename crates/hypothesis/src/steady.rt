@@ -23,7 +23,7 @@ fn is_steady(list: &Medl, script: &Script, faulty: NodeSet, node: u8) -> bool
 }
 
 /// Whether four nodes with `sync` are ever on and not faulty, where these are faulty. Takes no
-/// memory, and goes over the nodes.
+/// memory, and goes over the nodes up to the fourth.
 pub fn has_four_steady(list: &Medl, script: &Script, faulty: NodeSet) -> bool
     requires valid { IsValid list.now }
     requires script { IsValidScript list.now script.now }
@@ -33,9 +33,12 @@ pub fn has_four_steady(list: &Medl, script: &Script, faulty: NodeSet) -> bool
     for node in 0..list.nodes() {
         if is_steady(list, script, faulty, node) {
             steady = steady.with(node);
+            if steady.count() >= 4 {
+                return true;
+            }
         }
     }
-    steady.count() >= 4
+    false
 }
 
 /// The first slot, from that of the start on, after which there are fewer than four, once one slot

@@ -1,9 +1,17 @@
-use Rattle.std.proofs.Common.{ℕ, Bool, cond, not, Some, sym, ◌∙◌, ap, rules, arith}
-use Rattle.std.specs.List.{find}
+use Rattle.std.proofs.Common.{◌≡◌, ℕ, ℤ, pos, ◌≤ℤ◌, Bool, true, false, cond, not, Some, sym, ◌∙◌, ap, length, rules, arith}
+use Rattle.std.specs.List.{find, list_any}
+use Rattle.std.proofs.lemmas.Int.{ints}
+use Rattle.ttp_base.proofs.Below.{all-below}
 use Rattle.ttp_base.specs.NodeSet.{below}
-use Rattle.ttp_world.specs.Hypothesis.{errors_hold_in}
+use Rattle.ttp_world.specs.Hypothesis.{errors_hold_in, drifts_hold, is_within_bound}
+use Rattle.ttp_world.specs.Script.{reading_error}
+use Rattle.hypothesis.specs.Errors.{is_error}
+use Rattle.hypothesis.proofs.ErrorFree.{no_errors-sum}
 use Rattle.hypothesis.proofs.Ranges.{none-below, first-below}
 use Rattle.hypothesis.proofs.clocks.clocks_broken.Goals as goal
+
+nothing-within : (bound : ℤ) → pos 0 ≤ℤ bound → is_within_bound bound (pos 0) ≡ true
+nothing-within bound least = grind (arith, ints)
 
 pub returns-then-not-errors_hold_in : goal.returns-then-not-errors_hold_in
 returns-then-not-errors_hold_in c =
@@ -18,3 +26,16 @@ returns c =
     let holds = c.loop-slot.invariant.0 in
     sym (ap (λ b. cond b (find fails (below c.args.script.now.slots)) (Some 0)) holds
     ∙ none-below fails c.args.script.now.slots (λ k less. c.loop-slot.invariant.1 k (omega arith)))
+
+pub returns-then-not-has_errors : goal.returns-then-not-has_errors
+returns-then-not-has_errors c =
+    let list = c.args.list.now in
+    let script = c.args.script.now in
+    let fails : ℕ → Bool = λ slot. not (errors_hold_in list script slot) in
+    let none : list_any is_error script.events ≡ false = search rules in
+    let holds : drifts_hold list script ≡ true = search rules in
+    sym (ap (λ b. cond b (find fails (below script.slots)) (Some 0)) holds
+    ∙ none-below fails script.slots
+    (λ slot less. ap not (all-below (λ k. is_within_bound list.error (reading_error script k slot)) (length list.slots)
+    (λ k less. ap (is_within_bound list.error) (no_errors-sum k slot script.events none)
+    ∙ nothing-within list.error c.requires.valid.error.0))))

@@ -15,8 +15,8 @@ tells jump false kept none some = ap (λ z. not (nat_eq (of_z w64 z) 0)) (none r
 
 pub returns : goal.returns
 returns c = λ list script k slot valid inside told.
-    let fits : FitsSigned w64 c.args.incidents.jump = search rules in
-    let is : c.args.incidents.jump ≡ jump_of script k slot = ap (λ incidents. incidents.jump) told in
-    tells c.args.incidents.jump (has_jump script k slot) (to_z-of_z w64 c.args.incidents.jump fits)
+    let fits : FitsSigned w64 c.args.incidents.now.jump = search rules in
+    let is : c.args.incidents.now.jump ≡ jump_of script k slot = ap (λ incidents. incidents.jump) told in
+    tells c.args.incidents.now.jump (has_jump script k slot) (to_z-of_z w64 c.args.incidents.now.jump fits)
     (λ none. is ∙ no_jump-sum script k slot none)
     (λ some nothing. far_jump-sum list script k slot valid.window.0 inside some (sym is ∙ nothing))
