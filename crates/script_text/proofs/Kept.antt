@@ -1,7 +1,7 @@
 -- What is kept of the lines that were read, beside what those lines state.
 use Rattle.std.proofs.Common.{◌≡◌, Bool, true, false, ℕ, ◌+◌, ◌<◌, ◌≤◌, ◌==◌, ◌&&◌, nat_le, nat_lt, ℤ}
 use Rattle.std.proofs.Common.{List, [], ◌∷◌, ◌++◌, length, get_or, set, lit≤, count_by, cond}
-use Rattle.std.proofs.Common.{Option, Some, None, is_some, unwrap_or, Ok}
+use Rattle.std.proofs.Common.{Option, Some, None, is_some, unwrap_or, Ok, Err}
 use Rattle.std.proofs.Common.{get_or-set_same, get_or-set_other, arith, refl, ap, sym, ◌∙◌}
 use Rattle.std.specs.Prelude.{if◌then◌else◌}
 use Rattle.std.specs.Option.{option_or}
@@ -19,11 +19,11 @@ use Rattle.script_text.specs.declared.error.Refusal.TheVariants as refusals
 use Rattle.script_text.specs.declared.keyword.Keyword.{Keyword}
 use Rattle.script_text.specs.declared.keyword.Keyword.TheVariants as keyword
 use Rattle.script_text.specs.declared.so_far.SoFar.{SoFar}
-use Rattle.script_text.specs.Statement.{Statement, says_on, says_drift, says_event}
+use Rattle.script_text.specs.Statement.{Statement, says_slots, says_on, says_drift, says_event}
 use Rattle.script_text.specs.Lines.{word_at}
 use Rattle.script_text.specs.Numbers.{value_in, hex_bytes_in}
 use Rattle.script_text.specs.Statement.{number_at, word_count, is_spelled, statement_of}
-use Rattle.script_text.specs.Faults.{slots_of, is_write_at, when, statement_faults}
+use Rattle.script_text.specs.Faults.{slots_of, is_write_at, when, keyword_faults, statement_faults}
 use Rattle.script_text.specs.Faults.{further_faults, stated_faults, is_after_slots, form_faults}
 use Rattle.script_text.specs.SoFar.{StandsFor, writes_at, CountsMore, is_event_form, is_uncounted}
 use Rattle.script_text.specs.SoFar.{ReadsEvent, TakesStated, RefusesStated}
@@ -349,14 +349,16 @@ word_count-le keyword.Read = lit≤ tt
 not_spelled : (form : Keyword) (words : List (List ℕ)) → 6 < length words → is_spelled form words ≡ false
 not_spelled form words long = grind (arith, common_steps, nat_tests, word_count-le form)
 
-pub form_faults-too_long : (list : Medl) (before : List Statement) (words : List (List ℕ)) (form : Keyword)
-    → 6 < length words → first_fault (form_faults list before words form) ≡ Some faults.Word
-form_faults-too_long list before words form long =
+pub keyword_faults-too_long : (list : Medl) (before : List Statement) (words : List (List ℕ))
+    (form : Option Keyword)
+    → 6 < length words → first_fault (keyword_faults list before words form) ≡ Some faults.Word
+keyword_faults-too_long list before words None long = refl
+keyword_faults-too_long list before words (Some form) long =
     form_faults-word list before words form (not_spelled form words long)
 
 pub ruleset kept = (
   form_faults-word,
   form_faults-no_slots,
   form_faults-stated,
-  form_faults-too_long,
+  keyword_faults-too_long,
 )

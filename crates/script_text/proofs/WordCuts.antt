@@ -1,6 +1,7 @@
 -- A line cut at its words.
-use Rattle.std.proofs.Common.{◌≡◌, ℕ, zero, suc, ◌+◌, ◌<◌, ◌==◌, Bool, true, false, not, ◌&&◌, List, [], ◌∷◌}
-use Rattle.std.proofs.Common.{length, take, drop, get_or, arith, refl, sym, ◌∙◌}
+use Rattle.std.proofs.Common.{◌≡◌, ℕ, zero, suc, ◌+◌, ◌<◌, Bool, true, false, List, [], ◌∷◌}
+use Rattle.std.proofs.Common.{length, take, drop, get_or, arith, refl, sym}
+use Rattle.std.specs.Prelude.{if◌then◌else◌}
 use Rattle.std.specs.Char.{is_ascii_digit}
 use Rattle.std.specs.List.{list_all}
 use Rattle.std.proofs.lemmas.Bool.Decides.{nat_tests}
@@ -8,7 +9,6 @@ use Rattle.std.proofs.lemmas.List.Sums.{AllPass-from_list_all, list_all-from_All
 use Rattle.script_text.specs.Lines.{is_blank, is_part, has_bytes, word_at}
 use Rattle.script_text.specs.Words.{CutsWord, held, AreHeld}
 use Rattle.script_text.proofs.Cuts.{has_bytes-take, words_of-empty, words_of-front, words_of-whole}
-use Rattle.ttp_world.proofs.SmallTests.{not_zero}
 
 -- a digit is no blank
 digit_is_part : (b : ℕ) → is_ascii_digit b ≡ true → is_part b ≡ true
@@ -46,42 +46,25 @@ CutsWord-whole (x ∷ xs) end whole parts =
 
 -- How many words there are.
 
-suc_is : (m n : ℕ) → (suc m == suc n) ≡ (m == n)
-suc_is m n = grind (arith, nat_tests)
+abbrev pub held_count : List (List ℕ) → ℕ
+held_count [] = 0
+held_count (word ∷ words) = (if has_bytes word then 1 else 0) + held_count words
 
-none_suc : (m : ℕ) → (0 == suc m) ≡ false
-none_suc m = grind (arith, nat_tests)
+count_none : (words : List (List ℕ)) → ((i : ℕ) → word_at words i ≡ []) → held_count words ≡ 0
+count_none [] none = refl
+count_none (word ∷ words) none = rw (none 0) (omega (arith, count_none words (λ i. none (suc i))))
 
--- by the first that has no bytes
-first_of : (word : List ℕ) (words : List (List ℕ)) (b : Bool) → has_bytes word ≡ b
-    → (length (held (word ∷ words)) == 0) ≡ not (has_bytes word)
-first_of word words true some = rw some (not_zero (length (held words)))
-first_of word words false none = rw none refl
+length-held_at : (word : List ℕ) (words : List (List ℕ)) (b : Bool) → has_bytes word ≡ b → AreHeld (word ∷ words)
+    → (AreHeld words → length (held words) ≡ held_count words)
+    → length (held (word ∷ words)) ≡ held_count (word ∷ words)
+length-held_at word words true some are more =
+    let rest : AreHeld words = λ i. (rw some at are (suc i)) in
+    rw some (omega (arith, more rest))
+length-held_at word words false none are more =
+    let rest : (i : ℕ) → word_at words i ≡ [] = λ i. sym (rw none at are (suc i)) in
+    rw none (omega (arith, count_none words rest))
 
-empty_of : (words : List (List ℕ)) → (length (held words) == 0) ≡ not (has_bytes (word_at words 0))
-empty_of [] = refl
-empty_of (word ∷ words) = first_of word words (has_bytes word) refl
-
-last_at : (word : List ℕ) (words : List (List ℕ)) (b : Bool) (n : ℕ) → has_bytes word ≡ b → AreHeld (word ∷ words)
-    → (AreHeld words → (k : ℕ)
-    → (length (held words) == suc k) ≡ (has_bytes (word_at words k) && not (has_bytes (word_at words (suc k)))))
-    → (length (held (word ∷ words)) == suc n)
-    ≡ (has_bytes (word_at (word ∷ words) n) && not (has_bytes (word_at words n)))
-last_at word words true zero some are more = rw some (suc_is (length (held words)) 0 ∙ empty_of words)
-last_at word words true (suc n) some are more =
-    rw some (suc_is (length (held words)) (suc n) ∙ more (λ i. (rw some at are (suc i))) n)
-last_at word words false zero none are more = rw none (none_suc 0)
-last_at word words false (suc n) none are more =
-    let empty : [] ≡ word_at words n = rw none at are (suc n) in
-    rw (none, ← empty) (none_suc (suc n))
-
-last_of : (words : List (List ℕ)) → AreHeld words → (n : ℕ)
-    → (length (held words) == suc n) ≡ (has_bytes (word_at words n) && not (has_bytes (word_at words (suc n))))
-last_of [] are n = none_suc n
-last_of (word ∷ words) are n = last_at word words (has_bytes word) n refl are (last_of words)
-
-pub has_words : (first : List ℕ) (words all : List (List ℕ)) (count n : ℕ) → first ∷ held words ≡ all → AreHeld words
-    → count ≡ suc (suc n)
-    → (has_bytes (word_at words n) && not (has_bytes (word_at words (suc n)))) ≡ (length all == count)
-has_words first words all count n view are is =
-    rw (← view, is) (sym (suc_is (length (held words)) (suc n) ∙ last_of words are n))
+pub length-held : (words : List (List ℕ)) → AreHeld words → length (held words) ≡ held_count words
+length-held [] are = refl
+length-held (word ∷ words) are =
+    length-held_at word words (has_bytes word) refl are (length-held words)

@@ -1,5 +1,5 @@
 //! The form of a line, and whether its words are those of the form.
-ghost use Rattle.std.specs.Prelude.{◌≡◌, ◌≤◌};
+ghost use Rattle.std.specs.Prelude.{◌≡◌};
 ghost use Rattle.script_text.specs.Numbers.{is_text, is_channels, channels_in, is_fault, fault_in};
 ghost use Rattle.script_text.specs.Statement.{keyword_of, word_count, has_channels, is_spelled};
 
@@ -54,11 +54,8 @@ pub(crate) fn keyword_of(word: &[u8]) -> Option<Keyword>
     }
 }
 
-#[inline(always)]
 fn word_count(form: Keyword) -> usize
-    ensures value { result ≡ word_count form }
-    ensures low { 2 ≤ result }
-    ensures high { result ≤ 6 }
+    ensures { result ≡ word_count form }
 {
     match form {
         Keyword::Slots => 2,
@@ -118,9 +115,8 @@ fn has_channels(form: Keyword, words: &Words) -> bool
 }
 
 /// Whether a line has the words of its form, as many, and spelled as they are due.
-#[inline(always)]
 pub(crate) fn is_spelled(form: Keyword, words: &Words) -> bool
     ensures { result ≡ is_spelled form words.now }
 {
-    words.has(word_count(form)) && has_channels(form, words)
+    words.len() == word_count(form) && has_channels(form, words)
 }

@@ -1,5 +1,5 @@
 //! From the bytes of a file to the script.
-ghost use Rattle.std.specs.Prelude.{List as Items, ◌≡◌, ◌⊎◌, ◌≤◌, [], ◌∷◌, length, pos, Err};
+ghost use Rattle.std.specs.Prelude.{List as Items, ◌≡◌, ◌⊎◌, ◌≤◌, [], length, pos, Err};
 ghost use Rattle.std.specs.Prelude.{IfOk, IfErr, OnOk, All, map, unwrap_or};
 ghost use Rattle.ttp_world.specs.Medl.{IsValid};
 ghost use Rattle.ttp_world.specs.Script.{IsValidScript, IsBounded};
@@ -17,7 +17,7 @@ use crate::first::first_word;
 use crate::form::is_spelled;
 use crate::host::read_in;
 use crate::keyword::Keyword;
-use crate::lines::{Cut, next_line};
+use crate::lines::next_line;
 use crate::so_far::SoFar;
 use crate::words::{Words, words_after};
 use std::alloc::Global;
@@ -56,59 +56,27 @@ fn take_stated(list: &Medl, form: Keyword, words: &Words, so_far: &mut SoFar) ->
     }
 }
 
-// Takes a line of a form, of which the first word was cut off.
+// Takes a line of a form.
 #[inline(always)]
 #[tactic(auto, using(crate::proofs::Kept::kept))]
-fn take_form(list: &Medl, form: Keyword, first: Cut<'_>, so_far: &mut SoFar) -> Result<(), Refusal>
+fn take_form(list: &Medl, form: Keyword, words: &Words, so_far: &mut SoFar) -> Result<(), Refusal>
     requires valid { IsValid list.now }
     requires nodes { HasNodes list.now so_far.old }
-    ensures ok { OnOk result
-        (TakesForm list.now (first.entry.piece.now ∷ words_of first.entry.rest.now) so_far.old so_far.new form) }
-    ensures err { IfErr result
-        (RefusesForm list.now (first.entry.piece.now ∷ words_of first.entry.rest.now) so_far.old form) }
+    ensures ok { OnOk result (TakesForm list.now words.now so_far.old so_far.new form) }
+    ensures err { IfErr result (RefusesForm list.now words.now so_far.old form) }
     ensures nodes { HasNodes list.now so_far.new }
 {
-    let Some(words) = words_after(first) else {
-        return Err(LineFault::Word.into());
-    };
-    if !is_spelled(form, &words) {
+    if !is_spelled(form, words) {
         return Err(LineFault::Word.into());
     }
     if !is_after_slots(form, so_far.slots) {
         return Err(LineFault::NoSlots.into());
     }
-    take_stated(list, form, &words, so_far)
-}
-
-// Takes a line of any form, of which the first word was cut off. A compiler that knows the form of most lines makes
-// of each such form a way of its own.
-#[inline(always)]
-fn take_any(list: &Medl, form: Keyword, first: Cut<'_>, so_far: &mut SoFar) -> Result<(), Refusal>
-    requires valid { IsValid list.now }
-    requires nodes { HasNodes list.now so_far.old }
-    ensures ok { OnOk result
-        (TakesForm list.now (first.entry.piece.now ∷ words_of first.entry.rest.now) so_far.old so_far.new form) }
-    ensures err { IfErr result
-        (RefusesForm list.now (first.entry.piece.now ∷ words_of first.entry.rest.now) so_far.old form) }
-    ensures nodes { HasNodes list.now so_far.new }
-{
-    match form {
-        Keyword::Slots => take_form(list, Keyword::Slots, first, so_far),
-        Keyword::On => take_form(list, Keyword::On, first, so_far),
-        Keyword::Drift => take_form(list, Keyword::Drift, first, so_far),
-        Keyword::Send => take_form(list, Keyword::Send, first, so_far),
-        Keyword::Receive => take_form(list, Keyword::Receive, first, so_far),
-        Keyword::Flip => take_form(list, Keyword::Flip, first, so_far),
-        Keyword::Error => take_form(list, Keyword::Error, first, so_far),
-        Keyword::Jump => take_form(list, Keyword::Jump, first, so_far),
-        Keyword::Arm => take_form(list, Keyword::Arm, first, so_far),
-        Keyword::Read => take_form(list, Keyword::Read, first, so_far),
-        Keyword::Write => take_form(list, Keyword::Write, first, so_far),
-    }
+    take_stated(list, form, words, so_far)
 }
 
 // Takes a line.
-#[tactic(auto, unfolding(crate::specs::Faults::line_faults, crate::specs::Faults::statements_after))]
+#[tactic(auto, using(crate::proofs::Kept::kept), unfolding(crate::specs::Faults::line_faults, crate::specs::Faults::statements_after))]
 fn take_line(list: &Medl, line: &[u8], so_far: &mut SoFar) -> Result<(), Refusal>
     requires valid { IsValid list.now }
     requires nodes { HasNodes list.now so_far.old }
@@ -123,7 +91,10 @@ fn take_line(list: &Medl, line: &[u8], so_far: &mut SoFar) -> Result<(), Refusal
     let Some(form) = first.form else {
         return Err(LineFault::Word.into());
     };
-    take_any(list, form, first.cut, so_far)
+    let Some(words) = words_after(first.cut) else {
+        return Err(LineFault::Word.into());
+    };
+    take_form(list, form, &words, so_far)
 }
 
 fn is_comment(word: &[u8]) -> bool

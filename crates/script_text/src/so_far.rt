@@ -85,7 +85,6 @@ impl SoFar {
         }
     }
 
-    // Sets how a node's clock drifts.
     fn set_drift(&mut self, node: u8, value: i64)
         requires { node < length self.old.drift.items }
         ensures value { self.new ≡ record self.old { drift = self.new.drift } }

@@ -1,6 +1,6 @@
 //! A line cut into words.
-ghost use Rattle.std.specs.Prelude.{◌≡◌, ◌<◌, ◌≤◌, ◌∷◌, ◌==◌, ◌&&◌, not, true, false, length, take, drop, slice_index, position};
-ghost use Rattle.std.specs.Prelude.{IfSome, IfNone, SomeIff, IsTrue};
+ghost use Rattle.std.specs.Prelude.{◌≡◌, ◌<◌, ◌≤◌, ◌∷◌, true, false, length, take, drop, slice_index, position};
+ghost use Rattle.std.specs.Prelude.{IfSome, IfNone, SomeIff, IsTrue, if◌then◌else◌};
 ghost use Rattle.std.specs.List.{list_all};
 ghost use Rattle.script_text.specs.Lines.{is_blank, is_part, has_bytes, words_of, word_at};
 ghost use Rattle.script_text.specs.Numbers.{is_number, number_in, is_value, value_in};
@@ -59,6 +59,13 @@ impl<'a> Word<'a> {
         ensures { result ≡ has_bytes self.now }
     {
         !self.text.is_empty()
+    }
+
+    // 1 for such a word, and else 0.
+    fn count(&self) -> usize
+        ensures { result ≡ (if has_bytes self.now then 1 else 0) }
+    {
+        if self.has_bytes() { 1 } else { 0 }
     }
 }
 
@@ -208,29 +215,17 @@ impl<'a> Model for Words<'a> {
     ghost invariant = { λ w. AreHeld (w.second ∷ w.third ∷ w.fourth ∷ w.fifth ∷ w.sixth ∷ []) };
 }
 
-// Whether there is a word, and none behind it.
-#[inline(always)]
-fn is_last(word: &Word, next: &Word) -> bool
-    ensures { result ≡ (has_bytes word.now && not (has_bytes next.now)) }
-{
-    word.has_bytes() && !next.has_bytes()
-}
-
 impl<'a> Words<'a> {
-    /// Whether there are so many words.
+    /// How many words there are.
     #[inline(always)]
-    pub(crate) fn has(&self, count: usize) -> bool
-        requires low { 2 ≤ count }
-        requires high { count ≤ 6 }
-        ensures { result ≡ (length self.now == count) }
+    pub(crate) fn len(&self) -> usize
+        ensures { result ≡ length self.now }
     {
-        match count {
-            2 => is_last(&self.second, &self.third),
-            3 => is_last(&self.third, &self.fourth),
-            4 => is_last(&self.fourth, &self.fifth),
-            5 => is_last(&self.fifth, &self.sixth),
-            _ => self.sixth.has_bytes(),
-        }
+        1 + self.second.count()
+            + self.third.count()
+            + self.fourth.count()
+            + self.fifth.count()
+            + self.sixth.count()
     }
 
     /// The word at a place after the first, which has no bytes where there is none.
