@@ -30,7 +30,6 @@ use Rattle.ttp_world.proofs.Slots.{node_of-slot_after, entry_of-row_in}
 use Rattle.medium.specs.declared.arrival.Arrival.{Arrival}
 use Rattle.medium.specs.Carried.{Carried}
 use Rattle.medium.specs.StandsFor as medium
-use Rattle.controller.specs.declared.controller.Intent.TheVariants as intent
 use Rattle.controller.specs.declared.controller.Outcome.{Outcome}
 use Rattle.controller.specs.declared.seat.Seat.{Seat}
 use Rattle.controller.specs.Hearing.{hearing_of}
@@ -40,7 +39,7 @@ use Rattle.controller.specs.Passes.{StandsAfter, StandsForNode, jump_begun, HasB
 use Rattle.controller.specs.Passes.{Carries, payload_handed, HaveBegun, IsFromClocks, KeepsClocks}
 use Rattle.controller.specs.Passes.{IsPlannedFrom, PlansIn, PutsFrames}
 use Rattle.controller.specs.StandsFor.{Stands, IsSameNode, Begins, Plans, Ends, view_past, frames_planned, most_slots}
-use Rattle.controller.specs.StandsFor.{message_planned, payload_planned, clock_begun}
+use Rattle.controller.specs.StandsFor.{message_planned, clock_begun}
 use Rattle.controller.specs.ControllerView.{Turn, Ended, Begun, Planned, ControllerView}
 use Rattle.controller.specs.PlantWithin.{AreSeats, IsFromWithin}
 use Rattle.controller.proofs.Near.{AreHanded}

@@ -2,6 +2,7 @@ pub mod Endings
 pub mod Flags
 pub mod Heard
 pub mod InSlot
+pub mod KnownFrames
 pub mod Near
 pub mod Parts
 pub mod Payloads

@@ -68,7 +68,6 @@ pub record IsFormOf (list : Medl) (place : Place) (form : Expect) : Type 0 where
 pub record IsReceiver (list : Medl) (receiver : Receiver) : Type 0 where
   pub number : receiver.number < length list.slots
   pub coming : StandsFor receiver.coming list receiver.coming.place
-  pub form : IsFormOf list receiver.coming.place receiver.form
   pub doubt : (x : ℕ) → receiver.ack ≡ ack.Doubt x → x < length list.slots
   pub members : AreNodes list receiver.members
 
@@ -95,7 +94,6 @@ awaited_meant expected = record {
 -- the list has the place, and its frames have room for the members of the candidates
 pub record IsExpected (list : Medl) (expected : Expected) : Type 0 where
   pub place : StandsFor expected.place list expected.place.place
-  pub form : IsFormOf list expected.place.place expected.form
   pub first : HaveRoom (is_wide list) expected.first
   pub second : IfSome expected.second (HaveRoom (is_wide list))
 

@@ -5,6 +5,8 @@ pub mod ControllerView
 pub mod ControllerWithin
 pub mod Sending
 pub mod Limits
+pub mod KnownFrame
+pub mod KnownFrames
 pub mod Hearing
 pub mod StandsFor
 pub mod Parts

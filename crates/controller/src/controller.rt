@@ -4,6 +4,7 @@ ghost use Rattle.ttp_world.specs.Act.{act};
 ghost use Rattle.ttp_world.specs.Medl.{IsValid};
 ghost use Rattle.ttp_world.specs.World.{jump_taken};
 ghost use Rattle.controller.specs.Hearing.{is_silent_arrival};
+ghost use Rattle.controller.specs.KnownFrames.{AreKnownOf};
 ghost use Rattle.controller.specs.Limits.{JumpFits, ArrivalFits, StaysNear, IsBegun, IsPlanned, view_clock};
 ghost use Rattle.controller.specs.Limits.{intent_by, view_intent, payload_wanted};
 ghost use Rattle.controller.specs.StandsFor.{StandsFor, IsSameNode, Begins, Plans, Ends, ShowsState};
@@ -11,6 +12,7 @@ ghost use Rattle.controller.specs.ControllerView.{Ended};
 
 use crate::ending::ending_of;
 use crate::hearing::Reading;
+use crate::known_frames::KnownFrames;
 use crate::node::{Node, Outside};
 use crate::sending::{frame_of, intent_of, message_of};
 use crate::status::status_words;
@@ -213,8 +215,34 @@ impl Controller {
         ensures clock { StaysNear self.new.past.offset self.old a.now b.now error drift }
         ensures turn { self.new.turn ≡ Ended }
     {
+        let mut known = KnownFrames::of(list, a, b);
+        self.take_known(list, a, b, &mut known, error, drift, outcome);
+    }
+
+    /// The same, where some is known of the frames that came.
+    pub(crate) fn take_known(
+        &mut self,
+        list: &Medl,
+        a: &Arrival,
+        b: &Arrival,
+        known: &mut KnownFrames,
+        error: i64,
+        drift: i64,
+        outcome: &mut Outcome,
+    )
+        requires list { list.now ≡ self.old.list }
+        requires turn { IsPlanned self.old.turn }
+        requires a { ArrivalFits self.old.list (view_clock self.old) a.now error drift }
+        requires b { ArrivalFits self.old.list (view_clock self.old) b.now error drift }
+        requires known { AreKnownOf list.now a.now b.now known.old }
+        ensures keeps { known.new ≡ known.old }
+        ensures same { IsSameNode self.old self.new }
+        ensures ends { Ends self.old self.new outcome.new a.now b.now error drift }
+        ensures clock { StaysNear self.new.past.offset self.old a.now b.now error drift }
+        ensures turn { self.new.turn ≡ Ended }
+    {
         if let Turn::Planned { act, jump, message } = self.turn {
-            self.end(list, act, jump, message, a, b, error, drift, outcome);
+            self.end(list, act, jump, message, a, b, known, error, drift, outcome);
         }
     }
 
@@ -228,6 +256,7 @@ impl Controller {
         message: Option<u64>,
         a: &Arrival,
         b: &Arrival,
+        known: &mut KnownFrames,
         error: i64,
         drift: i64,
         outcome: &mut Outcome,
@@ -236,6 +265,8 @@ impl Controller {
         requires turn { self.old.turn ≡ Turn.Planned act jump message }
         requires a { ArrivalFits self.old.list (view_clock self.old) a.now error drift }
         requires b { ArrivalFits self.old.list (view_clock self.old) b.now error drift }
+        requires known { AreKnownOf list.now a.now b.now known.old }
+        ensures keeps { known.new ≡ known.old }
         ensures same { IsSameNode self.old self.new }
         ensures ends { Ends self.old self.new outcome.new a.now b.now error drift }
         ensures clock { StaysNear self.new.past.offset self.old a.now b.now error drift }
@@ -251,6 +282,7 @@ impl Controller {
             &Reading { own, error },
             a,
             b,
+            known,
             &mut outcome.delivered,
         );
         let outside = Outside {

@@ -1,13 +1,15 @@
 //! How a slot ends for a node: the entry that it makes, and what it hands to its host.
-ghost use Rattle.std.specs.Prelude.{◌<◌, length};
+ghost use Rattle.std.specs.Prelude.{◌≡◌, ◌<◌, length};
 ghost use Rattle.ttp_world.specs.Medl.{IsValid};
 ghost use Rattle.controller.specs.Ending.{EndsAs};
 ghost use Rattle.controller.specs.Hearing.{ReadingFits};
+ghost use Rattle.controller.specs.KnownFrames.{AreKnownOf};
 ghost use Rattle.controller.specs.Within.{IsWithin};
 
 use crate::hearing::{
     Reading, deliver, judged_entry, judging, listening_entry, receiver_of, take_away,
 };
+use crate::known_frames::KnownFrames;
 use crate::node::Node;
 use medium::Arrival;
 use ttp_world::{Act, Delivered, Entry, Medl};
@@ -20,6 +22,7 @@ fn judged(
     reading: &Reading,
     a: &Arrival,
     b: &Arrival,
+    known: &mut KnownFrames,
     delivered: &mut Option<Delivered>,
 ) -> Entry
     requires valid { IsValid list.now }
@@ -27,11 +30,13 @@ fn judged(
     requires within { IsWithin list.now k node.now }
     requires a { ReadingFits reading.now.own a.now reading.now.error }
     requires b { ReadingFits reading.now.own b.now reading.now.error }
-    ensures { EndsAs result delivered.new list.now k node.now Act.Judge None a.now b.now
+    requires known { AreKnownOf list.now a.now b.now known.old }
+    ensures keeps { known.new ≡ known.old }
+    ensures ends { EndsAs result delivered.new list.now k node.now Act.Judge None a.now b.now
         reading.now.own reading.now.error }
 {
     let receiver = receiver_of(list, k, node);
-    let judgement = judging(list, &receiver, reading, a, b);
+    let judgement = judging(list, &receiver, reading, a, b, known);
     deliver(list, &receiver, &judgement, a, b, delivered);
     judged_entry(receiver.coming.sender(), &judgement)
 }
@@ -48,6 +53,7 @@ pub(crate) fn ending_of(
     reading: &Reading,
     a: &Arrival,
     b: &Arrival,
+    known: &mut KnownFrames,
     delivered: &mut Option<Delivered>,
 ) -> Entry
     requires valid { IsValid list.now }
@@ -55,7 +61,9 @@ pub(crate) fn ending_of(
     requires within { IsWithin list.now k node.now }
     requires a { ReadingFits reading.now.own a.now reading.now.error }
     requires b { ReadingFits reading.now.own b.now reading.now.error }
-    ensures { EndsAs result delivered.new list.now k node.now act message a.now b.now
+    requires known { AreKnownOf list.now a.now b.now known.old }
+    ensures keeps { known.new ≡ known.old }
+    ensures ends { EndsAs result delivered.new list.now k node.now act message a.now b.now
         reading.now.own reading.now.error }
 {
     take_away(delivered);
@@ -67,6 +75,6 @@ pub(crate) fn ending_of(
         Act::Leave(reason) => Entry::Left { reason, peer: k },
         Act::Send => Entry::Sent { message },
         Act::Listen => listening_entry(list, reading, a, b),
-        Act::Judge => judged(list, k, node, reading, a, b, delivered),
+        Act::Judge => judged(list, k, node, reading, a, b, known, delivered),
     }
 }

@@ -14,19 +14,22 @@ ghost use Rattle.ttp_world.specs.Reception.{view_of_bits, view_of_frame};
 ghost use Rattle.slot_clock.specs.StandsFor.{StandsFor};
 ghost use Rattle.controller.specs.Hearing.{ForSignals, ForHearings, ReadingFits, IsReceiver, Receives, awaited_by};
 ghost use Rattle.controller.specs.Hearing.{awaited_meant, IsExpected, IsFormOf, IsSeen, IsJudgement};
+ghost use Rattle.controller.specs.KnownFrame.{IsKnownOf};
+ghost use Rattle.controller.specs.KnownFrames.{AreKnownOf};
 ghost use Rattle.ttp_world.specs.declared.medl.Medl.{Medl};
 ghost use Rattle.ttp_world.specs.Diary.{Place};
 ghost use Rattle.controller.specs.Limits.{most_clock};
 ghost use Rattle.controller.specs.Within.{IsWithin};
 
 use crate::form::form_of;
+use crate::known_frames::{KnownFrame, KnownFrames};
 use crate::node::Node;
 use ack_check::AckState;
 use medium::Arrival;
 use reception::{is_taken_from_a, slot_verdict};
 use slot_clock::SlotClock;
 use ttp_base::NodeSet;
-use ttp_frame::{Expect, FrameMatch, judge, read_explicit};
+use ttp_frame::{Expect, FrameMatch, read_explicit};
 use ttp_world::{Ack, CState, ChannelView, Delivered, Entry, Medl, Payload, Reason, Verdict};
 
 /// What a node measures by how late a frame comes to it: its clock in this slot, and its reading error, in
@@ -42,9 +45,8 @@ pub(crate) struct Reading {
 pub(crate) struct Receiver {
     /// The node's own number.
     pub(crate) number: u8,
-    /// The place of the slot that it judges, and the form of the frame there.
+    /// The place of the slot that it judges.
     pub(crate) coming: SlotClock,
-    pub(crate) form: Expect,
     pub(crate) ack: AckState,
     pub(crate) members: NodeSet,
 }
@@ -63,7 +65,6 @@ pub(crate) struct Judgement {
 #[derive(Clone, Copy, Debug)]
 struct Expected {
     place: SlotClock,
-    form: Expect,
     first: NodeSet,
     second: Option<NodeSet>,
 }
@@ -143,7 +144,6 @@ pub(crate) fn receiver_of(list: &Medl, k: u8, node: &Node) -> Receiver
     Receiver {
         number: k,
         coming,
-        form: form_of(list, &coming),
         ack: node.acknowledgement(),
         members: node.members(),
     }
@@ -162,56 +162,60 @@ fn expected_of(list: &Medl, receiver: &Receiver) -> Expected
         .candidates(receiver.number, receiver.members, sender);
     Expected {
         place: receiver.coming,
-        form: receiver.form,
         first,
         second,
     }
 }
 
-// Whether bytes are the expected frame with these members, with others, or no frame of its form.
-fn match_with(list: &Medl, expected: &Expected, members: NodeSet, bytes: &[u8]) -> FrameMatch
+// Whether the bytes are the expected frame with these members, with others, or no frame of its form.
+fn match_with(
+    list: &Medl,
+    expected: &Expected,
+    members: NodeSet,
+    known: &mut KnownFrame,
+) -> FrameMatch
     requires valid { IsValid list.now }
     requires place { StandsFor expected.now.place list.now expected.now.place.place }
-    requires form { IsFormOf list.now expected.now.place.place expected.now.form }
     requires members { HaveRoom (is_wide list.now) members }
+    requires known { known.old.list ≡ list.now }
+    ensures keeps { known.new ≡ known.old }
     ensures fits { (result ≡ FrameMatch.Match)
-        ↔ IsTrue (fits_members list.now (awaited_meant expected.now) bytes.now members) }
+        ↔ IsTrue (fits_members list.now (awaited_meant expected.now) known.old.bytes members) }
     ensures formed { (result ≡ FrameMatch.Invalid)
-        ↔ IsTrue (not (is_expected_form list.now (awaited_meant expected.now) bytes.now)) }
+        ↔ IsTrue (not (is_expected_form list.now (awaited_meant expected.now) known.old.bytes)) }
 {
-    judge(
-        bytes,
-        list.schedule,
-        &expected.form,
-        &expected.place.cstate(members),
-    )
+    known.judge(list, &expected.place, members)
 }
 
-// Whether bytes are the expected frame with the members of the second candidate.
-fn fits_second(list: &Medl, expected: &Expected, bytes: &[u8]) -> bool
+// Whether the bytes are the expected frame with the members of the second candidate.
+fn fits_second(list: &Medl, expected: &Expected, known: &mut KnownFrame) -> bool
     requires valid { IsValid list.now }
     requires expected { IsExpected list.now expected.now }
-    ensures { result ≡ fits_second list.now (awaited_meant expected.now) bytes.now }
+    requires known { known.old.list ≡ list.now }
+    ensures keeps { known.new ≡ known.old }
+    ensures value { result ≡ fits_second list.now (awaited_meant expected.now) known.old.bytes }
 {
     match expected.second {
-        Some(members) => match_with(list, expected, members, bytes) == FrameMatch::Match,
+        Some(members) => match_with(list, expected, members, known) == FrameMatch::Match,
         None => false,
     }
 }
 
 // How bytes are seen that came within the window.
-fn view_of_frame(list: &Medl, expected: &Expected, bytes: &[u8]) -> ChannelView
+fn view_of_frame(list: &Medl, expected: &Expected, known: &mut KnownFrame) -> ChannelView
     requires valid { IsValid list.now }
     requires expected { IsExpected list.now expected.now }
-    ensures { result
-        ≡ if is_expected_form list.now (awaited_meant expected.now) bytes.now
-        then view_of_frame list.now (awaited_meant expected.now) bytes.now else ChannelView.Bad }
+    requires known { known.old.list ≡ list.now }
+    ensures keeps { known.new ≡ known.old }
+    ensures view { result
+        ≡ if is_expected_form list.now (awaited_meant expected.now) known.old.bytes
+        then view_of_frame list.now (awaited_meant expected.now) known.old.bytes else ChannelView.Bad }
 {
-    match match_with(list, expected, expected.first, bytes) {
+    match match_with(list, expected, expected.first, known) {
         FrameMatch::Match => ChannelView::First,
         FrameMatch::Invalid => ChannelView::Bad,
         FrameMatch::Differs => {
-            if fits_second(list, expected, bytes) {
+            if fits_second(list, expected, known) {
                 ChannelView::Second
             } else {
                 ChannelView::Other
@@ -227,24 +231,39 @@ fn is_within_window(list: &Medl, deviation: i64) -> bool
     -list.window <= deviation && deviation <= list.window
 }
 
-fn view_of_bits(list: &Medl, expected: &Expected, bytes: &[u8], deviation: i64) -> ChannelView
+fn view_of_bits(
+    list: &Medl,
+    expected: &Expected,
+    known: &mut KnownFrame,
+    deviation: i64,
+) -> ChannelView
     requires valid { IsValid list.now }
     requires expected { IsExpected list.now expected.now }
-    ensures { result ≡ view_of_bits list.now (awaited_meant expected.now) bytes.now deviation }
+    requires known { known.old.list ≡ list.now }
+    ensures keeps { known.new ≡ known.old }
+    ensures view { result ≡ view_of_bits list.now (awaited_meant expected.now) known.old.bytes deviation }
 {
     if is_within_window(list, deviation) {
-        view_of_frame(list, expected, bytes)
+        view_of_frame(list, expected, known)
     } else {
         ChannelView::Bad
     }
 }
 
 // What a receiver sees on a channel.
-fn see(list: &Medl, expected: &Expected, reading: &Reading, came: &Arrival) -> Seen
+fn see(
+    list: &Medl,
+    expected: &Expected,
+    reading: &Reading,
+    came: &Arrival,
+    known: &mut KnownFrame,
+) -> Seen
     requires valid { IsValid list.now }
     requires expected { IsExpected list.now expected.now }
     requires fits { ReadingFits reading.now.own came.now reading.now.error }
-    ensures { ForSignals came.now reading.now.own reading.now.error (λ sent deviation.
+    requires known { IsKnownOf list.now came.now known.old }
+    ensures keeps { known.new ≡ known.old }
+    ensures seen { ForSignals came.now reading.now.own reading.now.error (λ sent deviation.
         IsSeen result list.now (awaited_meant expected.now) sent deviation) }
 {
     match came {
@@ -256,10 +275,10 @@ fn see(list: &Medl, expected: &Expected, reading: &Reading, came: &Arrival) -> S
             view: ChannelView::Bad,
             deviation: None,
         },
-        Arrival::Bits { bytes, offset } => {
+        Arrival::Bits { offset, .. } => {
             let deviation = deviation_of(*offset, reading);
             Seen {
-                view: view_of_bits(list, expected, bytes, deviation),
+                view: view_of_bits(list, expected, known, deviation),
                 deviation: Some(deviation),
             }
         }
@@ -291,15 +310,18 @@ fn judged_by(
     reading: &Reading,
     a: &Arrival,
     b: &Arrival,
+    known: &mut KnownFrames,
 ) -> Judgement
     requires valid { IsValid list.now }
     requires expected { IsExpected list.now expected.now }
     requires a { ReadingFits reading.now.own a.now reading.now.error }
     requires b { ReadingFits reading.now.own b.now reading.now.error }
-    ensures { ForHearings a.now b.now reading.now.own reading.now.error (λ h.
+    requires known { AreKnownOf list.now a.now b.now known.old }
+    ensures keeps { known.new ≡ known.old }
+    ensures judgement { ForHearings a.now b.now reading.now.own reading.now.error (λ h.
         IsJudgement result list.now (awaited_meant expected.now) ack h) }
 {
-    let on_a = see(list, expected, reading, a);
+    let on_a = see(list, expected, reading, a, &mut known.a);
     if is_first_view(on_a.view) {
         return Judgement {
             verdict: Verdict::Correct,
@@ -307,7 +329,7 @@ fn judged_by(
             from_a: true,
         };
     }
-    let on_b = see(list, expected, reading, b);
+    let on_b = see(list, expected, reading, b, &mut known.b);
     let taken_from_a = is_taken_from_a(on_a.view, on_b.view);
     Judgement {
         verdict: slot_verdict(on_a.view, on_b.view, ack),
@@ -325,17 +347,20 @@ pub(crate) fn judging(
     reading: &Reading,
     a: &Arrival,
     b: &Arrival,
+    known: &mut KnownFrames,
 ) -> Judgement
     requires valid { IsValid list.now }
     requires receiver { IsReceiver list.now receiver.now }
     requires a { ReadingFits reading.now.own a.now reading.now.error }
     requires b { ReadingFits reading.now.own b.now reading.now.error }
-    ensures { (past : NodePast) → Receives list.now past receiver.now
+    requires known { AreKnownOf list.now a.now b.now known.old }
+    ensures keeps { known.new ≡ known.old }
+    ensures judgement { (past : NodePast) → Receives list.now past receiver.now
         → ForHearings a.now b.now reading.now.own reading.now.error (λ h.
         IsJudgement result list.now (expected_of list.now receiver.now.number past) past.ack h) }
 {
     let expected = expected_of(list, receiver);
-    judged_by(list, &expected, receiver.ack.value(), reading, a, b)
+    judged_by(list, &expected, receiver.ack.value(), reading, a, b, known)
 }
 
 /// The entry of a verdict on this sender. A node that is denied leaves.
@@ -405,21 +430,23 @@ pub(crate) fn deliver(
     b: &Arrival,
     delivered: &mut Option<Delivered>,
 )
-    requires { IsReceiver list.now receiver.now }
+    requires valid { IsValid list.now }
+    requires receiver { IsReceiver list.now receiver.now }
     ensures { (k : ℕ) (past : NodePast) (own error : ℤ)
         → StandsFor receiver.now.coming list.now (coming_place list.now past)
         → ForHearings a.now b.now own error (λ h.
         IsJudgement judgement.now list.now (expected_of list.now k past) past.ack h
         → delivered.new ≡ delivery list.now k past h (judging_entry list.now k past h)) }
 {
-    if judgement.verdict != Verdict::Correct || receiver.form.payload == 0 {
+    let form = form_of(list, &receiver.coming);
+    if judgement.verdict != Verdict::Correct || form.payload == 0 {
         take_away(delivered);
         return;
     }
     let payload = if judgement.from_a {
-        payload_heard(&receiver.form, a)
+        payload_heard(&form, a)
     } else {
-        payload_heard(&receiver.form, b)
+        payload_heard(&form, b)
     };
     *delivered = Some(Delivered {
         sender: receiver.coming.sender(),

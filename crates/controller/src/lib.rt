@@ -37,6 +37,7 @@ mod controller;
 mod ending;
 mod form;
 mod hearing;
+mod known_frames;
 pub mod laws;
 mod node;
 mod passes;

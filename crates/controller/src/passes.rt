@@ -17,6 +17,9 @@ ghost use Rattle.ttp_world.specs.Diary.{History};
 ghost use Rattle.ttp_world.specs.Medl.{IsValid};
 ghost use Rattle.ttp_world.specs.Script.{IsWithinSpan};
 ghost use Rattle.ttp_world.specs.World.{BegunSlot, slot_after, is_loaded, frames_in};
+ghost use Rattle.medium.specs.StandsFor.{ShowsCarried};
+ghost use Rattle.ttp_world.specs.declared.script.Channel.TheVariants as ScriptChannel;
+ghost use Rattle.controller.specs.KnownFrames.{AreKnownOf};
 ghost use Rattle.controller.specs.Limits.{IsBegun, IsPlanned};
 ghost use Rattle.controller.specs.Passes.{StandAfter, HasBegun, HaveBegun, HavePlanned, Carries, HaveEnded};
 ghost use Rattle.controller.specs.Passes.{BeginsSlot, PlansSlot, PlansIn, PutsFrames, EndsSlot, IsPlannedFrom};
@@ -26,8 +29,9 @@ ghost use Rattle.controller.specs.PlantWithin.{most_ahead, most_ahead_in, IsEnde
 ghost use Rattle.controller.specs.PlantWithin.{IsIncidentsOf, AreIncidents, IsFromWithin};
 
 use crate::controller::{Controller, Intent};
+use crate::known_frames::KnownFrames;
 use crate::seat::Seat;
-use medium::{Medium, Outgoing};
+use medium::{Arrival, Medium, Outgoing, received};
 use ttp_world::{Channel, Chosen, Medl, Script};
 
 // A controller begins the slot. What happens to its node in it is written in place.
@@ -164,7 +168,16 @@ pub fn plan_all(
 }
 
 // A controller takes what its node hears.
-fn take_one(seat: &mut Seat, medium: &Medium, list: &Medl, script: &Script, k: u8)
+fn take_one(
+    seat: &mut Seat,
+    medium: &Medium,
+    list: &Medl,
+    script: &Script,
+    k: u8,
+    there_a: &Arrival,
+    there_b: &Arrival,
+    known: &mut KnownFrames,
+)
     requires list { IsValid list.now }
     requires node { k < length list.now.slots }
     requires drifts { length script.now.drift ≡ length list.now.slots }
@@ -173,16 +186,21 @@ fn take_one(seat: &mut Seat, medium: &Medium, list: &Medl, script: &Script, k: u
     requires medium { IsFromWithin medium.now script.now (most_ahead_in medium.now.slot) }
     requires incidents { IsIncidentsOf script.now medium.now.slot k seat.old.incidents }
     requires controller { IsControllerOf list.now IsPlanned (most_ahead_in medium.now.slot) k seat.old.controller }
+    requires there_a { ShowsCarried medium.now ScriptChannel.A there_a.now }
+    requires there_b { ShowsCarried medium.now ScriptChannel.B there_b.now }
+    requires known { AreKnownOf list.now there_a.now there_b.now known.old }
+    ensures keeps { known.new ≡ known.old }
     ensures controller { IsControllerOf list.now IsEnded (most_ahead (medium.now.slot + 1)) k seat.new.controller }
     ensures ends { EndsSlot list.now script.now medium.now k seat.old.controller seat.new.controller
         seat.new.outcome }
 {
-    let a = medium.heard(&seat.incidents, Channel::A);
-    let b = medium.heard(&seat.incidents, Channel::B);
-    seat.controller.take(
+    let a = received(there_a, &seat.incidents, Channel::A);
+    let b = received(there_b, &seat.incidents, Channel::B);
+    seat.controller.take_known(
         list,
-        &a,
-        &b,
+        a,
+        b,
+        known,
         seat.incidents.error,
         *script.drift.get(k as usize),
         &mut seat.outcome,
@@ -210,7 +228,19 @@ pub fn take_all(seats: &mut [Seat], medium: &Medium, list: &Medl, script: &Scrip
         (frames_in (slot_after list.now script.now history) chosen) medium.now
         → HaveEnded list.now script.now history chosen first seats.new }
 {
+    let a = medium.carried(Channel::A);
+    let b = medium.carried(Channel::B);
+    let mut known = KnownFrames::of(list, &a, &b);
     for j in 0..seats.len() {
-        take_one(&mut seats[j], medium, list, script, first + j as u8);
+        take_one(
+            &mut seats[j],
+            medium,
+            list,
+            script,
+            first + j as u8,
+            &a,
+            &b,
+            &mut known,
+        );
     }
 }

@@ -22,3 +22,9 @@ abbrev pub ShowsReceived : Arrival → Bool → Bool → Arrival → Type 0
 ShowsReceived there silenced noisy received =
     (s : Signal) (clock : ℕ → ℤ) → Shows there s clock
     → Shows received (if silenced then Silence else with_noise noisy s) clock
+
+-- Of what is there, this comes to a receiver: all of it, or bits as noise, or nothing.
+abbrev pub IsPartOf : Arrival → Arrival → Type 0
+IsPartOf there arrival.Silence = Unit {0}
+IsPartOf there arrival.Noise = Unit {0}
+IsPartOf there (arrival.Bits bytes offset) = there ≡ arrival.Bits bytes offset

@@ -40,6 +40,12 @@ StandsAfterPut old new script sent offset =
     (slot : ℕ) (frames : List SentFrame) (clock : ℕ → ℤ) → offset ≡ clock sent.sender
     → StandsFor old script slot frames clock → StandsFor new script slot (frames ++ sent ∷ []) clock
 
+-- whatever frames a medium stands for, the arrival shows what is made of them on a channel
+abbrev pub ShowsCarried : Carried → Channel → Arrival → Type 0
+ShowsCarried medium c arrival =
+    (script : Script) (slot : ℕ) (frames : List SentFrame) (clock : ℕ → ℤ) → StandsFor medium script slot frames clock
+    → Shows arrival (channel_signal script slot c frames) clock
+
 -- whatever frames a medium stands for, the arrival shows what the node hears of them on a channel
 abbrev pub ShowsHeard : Carried → Script → ℕ → Channel → Arrival → Type 0
 ShowsHeard medium script node c arrival =

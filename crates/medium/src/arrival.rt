@@ -1,5 +1,13 @@
 //! What comes to a receiver.
-ghost use Rattle.medium.specs.Shows.{ShowsReceived};
+ghost use Rattle.std.specs.Prelude.{◌≡◌, ℕ};
+ghost use Rattle.ttp_world.specs.declared.script.Script.{Script};
+ghost use Rattle.ttp_world.specs.Script.{incidents_of};
+ghost use Rattle.medium.specs.Carried.{Carried};
+ghost use Rattle.medium.specs.Shows.{ShowsReceived, IsPartOf};
+ghost use Rattle.medium.specs.StandsFor.{ShowsCarried, ShowsHeard};
+
+use crate::flip::is_among;
+use ttp_world::{Channel, Incidents};
 
 /// What comes to a receiver on one channel in a slot.
 #[derive(Clone, Copy, Debug)]
@@ -13,13 +21,30 @@ pub enum Arrival<'a> {
     Bits { bytes: &'a [u8], offset: i64 },
 }
 
-/// What of this arrival comes through a receiver's faults on its channel.
-pub(crate) fn received(there: Arrival<'_>, silenced: bool, noisy: bool) -> Arrival<'_>
-    ensures { ShowsReceived there.entry silenced noisy result }
+// What of this arrival comes through a receiver's faults on its channel.
+fn through<'a, 'b>(there: &'b Arrival<'a>, silenced: bool, noisy: bool) -> &'b Arrival<'a>
+    ensures shows { ShowsReceived there.now silenced noisy result.now }
+    ensures part { IsPartOf there.now result.now }
 {
     match there {
-        _ if silenced => Arrival::Silence,
-        Arrival::Bits { .. } if noisy => Arrival::Noise,
+        _ if silenced => &Arrival::Silence,
+        Arrival::Bits { .. } if noisy => &Arrival::Noise,
         _ => there,
     }
+}
+
+/// What a node hears of what is on a channel, if `incidents` are what the script says of it in the slot.
+pub fn received<'a, 'b>(
+    there: &'b Arrival<'a>,
+    incidents: &Incidents,
+    channel: Channel,
+) -> &'b Arrival<'a>
+    ensures heard { (carried : Carried) (script : Script) (node : ℕ)
+        → incidents.now ≡ incidents_of script node carried.slot → ShowsCarried carried channel there.now
+        → ShowsHeard carried script node channel result.now }
+    ensures part { IsPartOf there.now result.now }
+{
+    let silenced = is_among(channel, incidents.receive_silence);
+    let noisy = is_among(channel, incidents.receive_noise);
+    through(there, silenced, noisy)
 }

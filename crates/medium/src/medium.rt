@@ -3,11 +3,10 @@ ghost use Rattle.std.specs.Prelude.{◌≡◌, ℕ, IsOk, IfOk};
 ghost use Rattle.ttp_world.specs.declared.script.Channel.{Channel};
 ghost use Rattle.ttp_world.specs.declared.script.Script.{Script};
 ghost use Rattle.ttp_world.specs.Script.{incidents_of, flipped_bits, bits_on};
-ghost use Rattle.medium.specs.StandsFor.{StandsAtBeginning, StandsAfterPut, ShowsHeard, sent_by};
+ghost use Rattle.medium.specs.StandsFor.{StandsAtBeginning, StandsAfterPut, ShowsCarried, ShowsHeard, sent_by};
 
 use crate::arrival::{Arrival, received};
 use crate::channel_state::{ChannelState, Sent};
-use crate::flip::is_among;
 use crate::outgoing::Outgoing;
 use std::alloc::Global;
 use std::marker::Model;
@@ -110,6 +109,16 @@ impl Medium {
         self.b.put(&sent, Channel::B);
     }
 
+    /// What is on a channel in this slot, for a receiver without faults.
+    pub fn carried(&self, channel: Channel) -> Arrival<'_>
+        ensures { ShowsCarried self.now channel result }
+    {
+        match channel {
+            Channel::A => self.a.arrival(),
+            Channel::B => self.b.arrival(),
+        }
+    }
+
     /// What a node hears on a channel in this slot, if `incidents` are what the script says of it in
     /// the slot, and if all frames were put with that script: of other ones nothing is promised. Bits
     /// are lent as they lie in the medium, with the offset that was put with them. It costs the same
@@ -118,12 +127,7 @@ impl Medium {
         ensures { (script : Script) (node : ℕ) → incidents.now ≡ incidents_of script node self.now.slot
             → ShowsHeard self.now script node channel result }
     {
-        let there = match channel {
-            Channel::A => self.a.arrival(),
-            Channel::B => self.b.arrival(),
-        };
-        let silenced = is_among(channel, incidents.receive_silence);
-        let noisy = is_among(channel, incidents.receive_noise);
-        received(there, silenced, noisy)
+        let there = self.carried(channel);
+        *received(&there, incidents, channel)
     }
 }

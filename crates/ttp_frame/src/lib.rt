@@ -18,15 +18,15 @@
 //! expects from its own C-state, and [`read_explicit`] gives the C-state on which a listening node
 //! joins; [`is_joinable_state`] is the part of that which looks at the C-state alone. Each is exactly
 //! what `ttp_world`'s definitions say. controller makes a frame in `outgoing`, and judges one in
-//! `match_with`:
+//! `judge_anew`:
 //!
 //! ```text
-//! judge(
-//!     bytes,
+//! let found = judge(
+//!     self.bytes,
 //!     list.schedule,
-//!     &expected.form,
-//!     &expected.place.cstate(members),
-//! )
+//!     &form_of(list, place),
+//!     &cstate,
+//! );
 //! ```
 //!
 //! By [`laws::members_told`] bytes tell their sender's members also where they carry no C-state,

@@ -1,12 +1,12 @@
 use Rattle.std.proofs.Common.{◌∙◌}
 use Rattle.controller.proofs.ending.judged.Goals as goal
 
-pub returns : goal.returns
-returns c = λ chosen is sent_a sent_b clock shows_a shows_b.
+pub returns-clause-ends : goal.returns-clause-ends
+returns-clause-ends c = λ chosen is sent_a sent_b clock shows_a shows_b.
     let k = c.args.k in
     let past = c.args.node.now in
     let received = c.receiver_of-receiver.ensures in
-    let judgement = c.judging-judgement.ensures past received.receives sent_a sent_b clock shows_a shows_b in
+    let judgement = c.judging-judgement.ensures.judgement past received.receives sent_a sent_b clock shows_a shows_b in
     let judged = rw received.number at judgement in
     let sender = c.sender.ensures.value ∙ (λ i. (received.receives.coming.place i).slot) in
     record {

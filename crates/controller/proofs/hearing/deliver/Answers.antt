@@ -16,7 +16,7 @@ returns c k past own error coming sent_a sent_b clock shows_a shows_b is =
     let h = hearing_of sent_a sent_b clock own error in
     let correct : c.args.judgement.now.verdict ≡ Correct = search rules in
     let place = c.args.receiver.now.coming.place in
-    let form = c.requires.form in
+    let form = c.form_of-form.ensures in
     let taken : c.if-judgement.payload.now ≡ payload_taken list (expected_of list k past) h =
     elim c.if-judgement.branch [
       | then-judgement w ↦ search (
@@ -37,6 +37,6 @@ returns c k past own error coming sent_a sent_b clock shows_a shows_b is =
     let view_a = view_of list (expected_of list k past) h.deviation h.a in
     let view_b = view_of list (expected_of list k past) h.deviation h.b in
     let verdict : verdict_of view_a view_b past.ack ≡ Correct = sym is.verdict ∙ correct in
-    let carries = sym (carries_some list place (coming_place list past) c.args.receiver.now.form.payload
-    c.if-receiver-eq0.false form.payload coming.place) in
+    let carries = sym (carries_some list place (coming_place list past) c.form_of-form.result.payload
+    c.if-form-eq0.false form.payload coming.place) in
     search (rules, verdict, carries, taken, coming.place)

@@ -12,4 +12,4 @@ returns-clause-expected c =
     omega (arith, c.sender-sender.ensures.exists, is.coming.slots) in
     let rooms = candidates-room list receiver.ack receiver.number receiver.members c.sender-sender.result
     c.requires.valid is.number sends is.doubt is.members in
-    record { place = is.coming; form = is.form; first = search (rules, rooms.first); second = search (rules, rooms.second) }
+    record { place = is.coming; first = search (rules, rooms.first); second = search (rules, rooms.second) }

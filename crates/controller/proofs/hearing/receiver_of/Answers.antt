@@ -9,7 +9,6 @@ returns-clause-receiver c =
     record {
       number = c.requires.number;
       coming = record { place = refl; rounds = c.coming-coming.ensures.rounds; slots = c.coming-coming.ensures.slots };
-      form = c.form_of.ensures;
       doubt = λ x doubts. (subst (IsAckWithin c.args.list.now c.args.k slot)
           (sym c.acknowledgement.ensures ∙ doubts) c.requires.within.ack).0;
       members = search rules;

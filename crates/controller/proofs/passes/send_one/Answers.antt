@@ -1,4 +1,4 @@
-use Rattle.std.proofs.Common.{[], w64, ◌∙◌}
+use Rattle.std.proofs.Common.{w64, ◌∙◌}
 use Rattle.std.proofs.lemmas.Int.{to_z-of_z}
 use Rattle.controller.proofs.InSlot.{clock-node}
 use Rattle.controller.proofs.passes.send_one.Goals as goal

@@ -1,4 +1,5 @@
 use Rattle.std.proofs.Common.{◌+◌}
+use Rattle.controller.specs.KnownFrames.{AreKnownOf}
 use Rattle.controller.specs.Passes.{EndsSlot}
 use Rattle.controller.specs.PlantWithin.{IsEnded, IsControllerOf, most_ahead}
 use Rattle.controller.proofs.Parts.{ArePassed}
@@ -9,3 +10,4 @@ invariant-loop-j l = ArePassed
     (λ j old new. IsControllerOf l.list IsEnded (most_ahead (l.medium.slot + 1)) (l.first + j) new.controller
     × EndsSlot l.list l.script l.medium (l.first + j) old.controller new.controller new.outcome)
     l.j l.fn.seats l.seats
+    × AreKnownOf l.list l.a l.b l.known

@@ -21,7 +21,7 @@ enter-requires-clause-entry c =
     a.act a.jump a.message a.a.now a.b.now a.error a.drift c.offset.result c.self.invariant.valid
     (subst (IsTurnWithin n.given.value n.number n.node) turn c.self.invariant.turn)
     (rw (← c.self.view_is, turn) at c.requires.a) (rw (← c.self.view_is, turn) at c.requires.b)
-    (search rules) (search rules) (search rules) same c.offset.ensures c.ending_of-entry.ensures in
+    (search rules) (search rules) (search rules) same c.offset.ensures c.ending_of-entry.ensures.ends in
     subst (λ l. IsEntryWithin l n.number n.node c.ending_of-entry.result) (sym same) is.made.within
 
 -- the slot as it ended
@@ -35,7 +35,7 @@ ended c =
     (subst (IsTurnWithin n.given.value n.number n.node) turn c.self.invariant.turn)
     (rw (← c.self.view_is, turn) at c.requires.a) (rw (← c.self.view_is, turn) at c.requires.b)
     (search rules) (search rules) (search rules)
-    (c.requires.list ∙ ap (λ view. view.list) (sym c.self.view_is)) c.offset.ensures c.ending_of-entry.ensures
+    (c.requires.list ∙ ap (λ view. view.list) (sym c.self.view_is)) c.offset.ensures c.ending_of-entry.ensures.ends
 
 abbrev around : goal.After-self-2-1 → SlotSurroundings
 around c = record { jump = c.args.jump; drift = c.args.drift; is_silent = c.are_silent.result }

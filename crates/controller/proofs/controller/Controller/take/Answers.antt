@@ -2,6 +2,7 @@ use Rattle.std.proofs.Common.{w64, rules}
 use Rattle.std.proofs.lemmas.Int.{to_z-of_z}
 use Rattle.controller.proofs.controller.Controller.take.Goals as goal
 
-pub returns-in-Planned-clause-ends : goal.returns-in-Planned-clause-ends
-returns-in-Planned-clause-ends c =
-    rw (to_z-of_z w64 c.args.error (search rules), to_z-of_z w64 c.args.drift (search rules)) at c.end.ensures.ends
+pub returns-clause-ends : goal.returns-clause-ends
+returns-clause-ends c =
+    rw (to_z-of_z w64 c.args.error (search rules), to_z-of_z w64 c.args.drift (search rules))
+    at c.take_known.ensures.ends
