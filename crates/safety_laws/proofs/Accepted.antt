@@ -50,8 +50,8 @@ silent-gives list script slot k _ silent = refl
 
 -- In a turn.
 
-module _ (list : Medl) (script : Script) (start : ClusterStart) (plan : Plan) (turn : ℕ) (new : SlotNumbers)
-    (numbers : Numbers) (t : IsTurn list script start plan turn new numbers) (stay : plan.returns ≡ []) where
+module _ {list : Medl} {script : Script} {start : ClusterStart} {plan : Plan} {turn : ℕ} {new : SlotNumbers}
+    {numbers : Numbers} (t : IsTurn list script start plan turn new numbers) (stay : plan.returns ≡ []) where
   made : List Entry
   made =
       row_in (slot_after list script (world list script numbers))
@@ -68,21 +68,17 @@ module _ (list : Medl) (script : Script) (start : ClusterStart) (plan : Plan) (t
     where
       by : (good : Bool) → is_good_slot plan (suc turn) ≡ good → Judges k
       by true good =
-          let was = stayed-before list script start plan turn new numbers t stay in
-          let judge = sound-judge list script start plan turn new numbers t k sound.0 other (was k sound.1) in
-          let judged = judges-good list script start plan turn new numbers t k sound.0 other (was k sound.1) good
-          (was (sender plan (suc turn)) good) sound.1 in
+          let was = stayed-before t stay in
+          let judge = sound-judge t k sound.0 other (was k sound.1) in
+          let judged = judges-good t k sound.0 other (was k sound.1) good (was (sender plan (suc turn)) good) sound.1 in
           record {
             accepts_by_plan = λ p.
-                in-row list script start plan turn new numbers t
-                (λ e. accepts p e ≡ is_accepted_by plan (suc turn) p) k _ sound.0 judged.entry
-                (and-true _ ∙ ap (λ owner. owner == p) judge.owner
-                ∙ ap (λ b. b && (sender plan (suc turn) == p)) (sym good));
-            silent = in-row list script start plan turn new numbers t (λ e. sends_frame e ≡ false) k _ sound.0
-                judged.entry refl;
+                in-row t (λ e. accepts p e ≡ is_accepted_by plan (suc turn) p) k _ sound.0 judged.entry (and-true _
+                ∙ ap (λ owner. owner == p) judge.owner ∙ ap (λ b. b && (sender plan (suc turn) == p)) (sym good));
+            silent = in-row t (λ e. sends_frame e ≡ false) k _ sound.0 judged.entry refl;
           }
       by false wrong =
-          let none = notes-other list script start plan turn new numbers t k wrong sound in
+          let none = notes-other t k wrong sound in
           record {
             accepts_by_plan = λ p.
                 silent-accepts p (entry_of made k) none ∙ ap (λ b. b && (sender plan (suc turn) == p)) (sym wrong);
@@ -93,17 +89,15 @@ module _ (list : Medl) (script : Script) (start : ClusterStart) (plan : Plan) (t
   own-sends : (k : ℕ) → IsSoundIn list plan (suc turn) k → sender plan (suc turn) ≡ k
       → (p : ℕ) → accepts p (entry_of made k) ≡ false
   unfolding made
-  own-sends k sound own p = ap (accepts p) (own-sent list script start plan turn new numbers t k sound own).1
+  own-sends k sound own p = ap (accepts p) (own-sent t k sound own).1
 
   -- so each accepts another's frame by the plan
   by-plan : (k p : ℕ) → IsSoundIn list plan (suc turn) k → p ≢ k
       → accepts p (entry_of made k) ≡ is_accepted_by plan (suc turn) p
   by-plan k p sound apart = elim (cases_eq (sender plan (suc turn)) k) [
     | inl own ↦
-        own-sends k sound own p
-        ∙ sym (ap (λ b. is_good_slot plan (suc turn) && b)
-        (ne_eqb (sender plan (suc turn)) p (λ same. apart (sym same ∙ own)))
-        ∙ and-false (is_good_slot plan (suc turn)))
+        own-sends k sound own p ∙ sym (ap (λ b. is_good_slot plan (suc turn) && b)
+        (ne_eqb (sender plan (suc turn)) p (λ same. apart (sym same ∙ own))) ∙ and-false (is_good_slot plan (suc turn)))
     | inr other ↦ (judges k sound other).accepts_by_plan p
   ]
 
@@ -126,12 +120,11 @@ module _ (list : Medl) (script : Script) (start : ClusterStart) (plan : Plan) (t
             subst (λ p. new_messages p (delivered_of list script (world list script numbers)
             (row_of_world list script new numbers) j)
             ≡ message_given list script (length numbers) p (entry_of (row_of_world list script new numbers) p)) own
-            (given-good list script start plan turn new numbers t stay
+            (given-good t stay
             (ap (is_sound_after plan (suc turn)) own ∙ sound_k.1) j sound_j (λ same. apart (sym same ∙ own)))
         | inr other ↦
-            messages-other list script start plan turn new numbers t stay j k sound_j (λ same. apart (sym same)) other
-            ∙ sym (silent-gives list script (length numbers) k (entry_of (row_of_world list script new numbers) k)
-            (judges k sound_k other).silent)
+            messages-other t stay j k sound_j (λ same. apart (sym same)) other ∙ sym (silent-gives list script
+            (length numbers) k (entry_of (row_of_world list script new numbers) k) (judges k sound_k other).silent)
       ]
       ∙ ap (λ slot. message_given list script slot k (entry_of (row_of_world list script new numbers) k))
       (sym (length-world list script numbers))
@@ -144,12 +137,11 @@ module _ (list : Medl) (script : Script) (start : ClusterStart) (plan : Plan) (t
     third = λ j k p sound_j sound_k apart_j apart_k. by-plan j p sound_j apart_j ∙ sym (by-plan k p sound_k apart_k);
     sent = λ j k sound_j sound_k apart sends.
         let own = sends-own k sound_k sends in
-        by-plan j k sound_j (λ same. apart (sym same))
-        ∙ (λ i. (ap (is_sound_after plan (suc turn)) own ∙ sound_k.1) i
+        by-plan j k sound_j (λ same. apart (sym same)) ∙ (λ i. (ap (is_sound_after plan (suc turn)) own ∙ sound_k.1) i
         && eq-eqb (sender plan (suc turn)) k own i);
-    received = messages-alike list script start plan turn new numbers t stay;
+    received = messages-alike t stay;
     given = given-next;
-    own = messages-own list script start plan turn new numbers t stay;
+    own = messages-own t stay;
   }
 
 -- In the slot of the start nobody judges.
@@ -180,18 +172,14 @@ alike-started list script start plan row history started = record {
       ∙ sym ((begins-quietly list script start plan row history k started sound_k).accepts_none p);
   sent = λ j k sound_j sound_k apart sends.
       absurd (false≢true (sym (begins-quietly list script start plan row history k started sound_k).silent ∙ sends));
-  received = λ j k p sound_j sound_k apart_j apart_k.
-      ap (new_messages p) (delivers-unjudged list script history row j
+  received = λ j k p sound_j sound_k apart_j apart_k. ap (new_messages p) (delivers-unjudged list script history row j
       (begins-quietly list script start plan row history j started sound_j).unjudged)
       ∙ sym (ap (new_messages p) (delivers-unjudged list script history row k
       (begins-quietly list script start plan row history k started sound_k).unjudged));
-  given = λ j k sound_j sound_k apart.
-      ap (new_messages k) (delivers-unjudged list script history row j
-      (begins-quietly list script start plan row history j started sound_j).unjudged)
-      ∙ sym (silent-gives list script (length history) k (entry_of row k)
-      (begins-quietly list script start plan row history k started sound_k).silent);
-  own = λ k sound.
-      ap (new_messages k) (delivers-unjudged list script history row k
+  given = λ j k sound_j sound_k apart. ap (new_messages k) (delivers-unjudged list script history row j
+      (begins-quietly list script start plan row history j started sound_j).unjudged) ∙ sym (silent-gives list script
+      (length history) k (entry_of row k) (begins-quietly list script start plan row history k started sound_k).silent);
+  own = λ k sound. ap (new_messages k) (delivers-unjudged list script history row k
       (begins-quietly list script start plan row history k started sound).unjudged);
 }
 
@@ -201,8 +189,7 @@ abbrev pub IsAmong : Medl → (ℕ → Bool) → (ℕ → Bool) → Type 0
 IsAmong list less group = (k : ℕ) → IsIn list less k → group k ≡ true
 
 alike-among : (list : Medl) (script : Script) (less group : ℕ → Bool) (row : List Entry) (history : History)
-    → IsAmong list less group → AcceptsAlike list script group row history
-    → AcceptsAlike list script less row history
+    → IsAmong list less group → AcceptsAlike list script group row history → AcceptsAlike list script less row history
 alike-among list script less group row history among alike = record {
   third = λ j k p of_j of_k. alike.third j k p (of_j.0, among j of_j) (of_k.0, among k of_k);
   sent = λ j k of_j of_k. alike.sent j k (of_j.0, among j of_j) (of_k.0, among k of_k);
@@ -219,8 +206,8 @@ none-since list script group s (row ∷ history) early =
     ((λ from. absurd (omega (arith, from, early))), none-since list script group s history (omega (arith, early)))
 
 -- The run.
-module _ (list : Medl) (script : Script) (start : ClusterStart) (plan : Plan) (is : IsBegun list script start plan)
-    (clocks : KeepsClocks list script start plan) (stay : plan.returns ≡ []) where
+module _ {list : Medl} {script : Script} {start : ClusterStart} {plan : Plan}
+    (is : IsBegun list script start plan) (clocks : KeepsClocks list script start plan) (stay : plan.returns ≡ []) where
   pub alike-run : (group : ℕ → Bool) (turn : ℕ) (numbers : Numbers) → IsAmong list group (is_sound_after plan turn)
       → length numbers ≡ suc (start.slot + turn) → start.slot + turn < script.slots → IsLegal list script numbers
       → AcceptsAlikeSince list script group start.slot (world list script numbers)
@@ -239,8 +226,7 @@ module _ (list : Medl) (script : Script) (start : ClusterStart) (plan : Plan) (i
       let t =
       turn-next list script start plan is clocks turn new numbers (omega (arith, number)) within legal before in (
         (λ from. alike-among list script group (is_sound_after plan (suc turn)) _ (world list script numbers) among
-            (alike-next list script start plan turn new numbers t stay)),
-        alike-run group turn numbers
-            (λ k of_k. sound-earlier plan turn (suc turn) k stay (omega arith) (among k of_k)) (omega (arith, number))
-            (omega (arith, within)) (legal-older list script new numbers legal),
+            (alike-next t stay)),
+        alike-run group turn numbers (λ k of_k. sound-earlier plan turn (suc turn) k stay (omega arith) (among k of_k))
+            (omega (arith, number)) (omega (arith, within)) (legal-older list script new numbers legal),
       )

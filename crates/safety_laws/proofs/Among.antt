@@ -62,8 +62,7 @@ held-member group ack.First j small has = has
 held-member group (ack.Doubt y) j small has = has_node-with_member group y j small has
 
 held-none : (group : List ℕ) (a : Ack) (j : ℕ) → j < most_nodes → has_node group j ≡ false
-    → ((y : ℕ) → a ≡ ack.Doubt y → y ≢ j)
-    → has_node (held_with group a) j ≡ false
+    → ((y : ℕ) → a ≡ ack.Doubt y → y ≢ j) → has_node (held_with group a) j ≡ false
 held-none group ack.Closed j small none apart = none
 held-none group ack.First j small none apart = none
 held-none group (ack.Doubt y) j small none apart =
@@ -73,7 +72,7 @@ pub not-settled : (b : Bool) → not b ≡ true → b ≡ false
 not-settled true is = absurd (false≢true is)
 not-settled false is = refl
 
-module _ (list : Medl) (script : Script) (start : ClusterStart) (plan : Plan) (turn : ℕ) (history : History)
+module _ {list : Medl} {script : Script} {start : ClusterStart} {plan : Plan} {turn : ℕ} {history : History}
     (is : StandsAt list script start plan turn history) where
   good : IsGoodPlan plan
   good = is.planned.follows.good
@@ -121,8 +120,7 @@ module _ (list : Medl) (script : Script) (start : ClusterStart) (plan : Plan) (t
   pub in-sound : (nodes : List ℕ) → AllByRecursion IsSoundNode nodes → (j : ℕ) → IsSoundNode j
       → (ledger_of plan turn j).own ≡ true → is_in_among list history nodes j ≡ true
   in-sound nodes all j of_j own =
-      all-by IsSoundNode (λ k. has_node (members_of_node list history k) j) nodes
-      (λ k of_k.
+      all-by IsSoundNode (λ k. has_node (members_of_node list history k) j) nodes (λ k of_k.
       ap (λ s. has_node s j) (at-sound k of_k).group.members
       ∙ held-member (planned_members plan turn) (node_past list script history k).ack j (small j of_j.0)
       (sound-member plan turn j good (less j of_j.0) of_j.1 own)) all
@@ -132,12 +130,10 @@ module _ (list : Medl) (script : Script) (start : ClusterStart) (plan : Plan) (t
   -- A node has left two rounds after it was lost, less two slots, and no sound node holds it.
 
   fallen-stands : (k since shown : ℕ) (change : Change) → k < length list.slots
-      → fate_of plan turn k ≡ Fallen change since shown
-      → ((node_past list script history k).phase ≡ phase.Left)
+      → fate_of plan turn k ≡ Fallen change since shown → ((node_past list script history k).phase ≡ phase.Left)
       ⊎ IsFallenAt list plan turn k since shown (node_past list script history k)
   fallen-stands k since shown change node fate =
-      subst (λ (f : Fate). IsByFate list plan turn k (node_past list script history k) f) fate
-      (is.holds.nodes k node)
+      subst (λ (f : Fate). IsByFate list plan turn k (node_past list script history k) f) fate (is.holds.nodes k node)
 
   -- it leaves in its first own slot, where that is the last of a round, and else a round later
   left-fallen : (k since shown : ℕ) (change : Change) → k < length list.slots
@@ -165,16 +161,12 @@ module _ (list : Medl) (script : Script) (start : ClusterStart) (plan : Plan) (t
       → k < length list.slots → fate_of plan turn k ≡ Fallen change since shown → since + plan.nodes ≤ turn
       → is_out_among list history nodes k ≡ true
   out-fallen nodes all k since shown change node fate late =
-      all-by IsSoundNode (λ j. not (has_node (members_of_node list history j) k)) nodes
-      (λ j of_j.
+      all-by IsSoundNode (λ j. not (has_node (members_of_node list history j) k)) nodes (λ j of_j.
       let at = at-sound j of_j in
-      not_from_false _
-      (ap (λ s. has_node s k) at.group.members
+      not_from_false _ (ap (λ s. has_node s k) at.group.members
       ∙ held-none (planned_members plan turn) (node_past list script history j).ack k (small k node)
-      (fallen-member plan turn k since shown change good (less k node) fate)
-      (λ y doubt same.
-      let early = doubted-early j k since shown change of_j fate
-      (doubt ∙ ap (λ (z : ℕ). ack.Doubt z) same) in
+      (fallen-member plan turn k since shown change good (less k node) fate) (λ y doubt same.
+      let early = doubted-early j k since shown change of_j fate (doubt ∙ ap (λ (z : ℕ). ack.Doubt z) same) in
       omega (arith, early, late)))) all
 
   -- and so by what its fate tells of its loss
@@ -225,16 +217,14 @@ module _ (list : Medl) (script : Script) (start : ClusterStart) (plan : Plan) (t
 
   -- so a sender has left a round after it was lost,
   pub left-sender : (k since shown : ℕ) → k < length list.slots → fate_of plan turn k ≡ Fallen Sending since shown
-      → since + plan.nodes ≤ turn
-      → (node_past list script history k).phase ≡ phase.Left
+      → since + plan.nodes ≤ turn → (node_past list script history k).phase ≡ phase.Left
   left-sender k since shown node fate past =
       let at_once = (told-fallen plan turn k since shown Sending good fate).sending refl in
       left-after k since shown Sending node fate (omega (arith, at_once, past))
 
   -- and each lost node two rounds after, less two slots
   pub left-lost : (k since : ℕ) → k < length list.slots → lost_since (fate_of plan turn k) ≡ Some since
-      → since + 2 * plan.nodes ≤ suc (suc turn)
-      → (node_past list script history k).phase ≡ phase.Left
+      → since + 2 * plan.nodes ≤ suc (suc turn) → (node_past list script history k).phase ≡ phase.Left
   left-lost k since node lost late = by (fate_of plan turn k) refl lost
     where
       by : (fate : Fate) → fate_of plan turn k ≡ fate → lost_since fate ≡ Some since

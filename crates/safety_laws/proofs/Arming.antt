@@ -35,8 +35,8 @@ left-gone list script plan turn k numbers (Fallen change s shown) lost gone (inl
 left-gone list script plan turn k numbers (Fallen change s shown) lost gone (inr at) =
     absurd (both_ways (nat_lt turn (shown + plan.nodes)) gone (lt-ltb turn (shown + plan.nodes) at.soon))
 
-module _ (list : Medl) (script : Script) (start : ClusterStart) (plan : Plan) (turn : ℕ) (new : SlotNumbers)
-    (numbers : Numbers) (t : IsTurn list script start plan turn new numbers) (k : ℕ) (node : k < length list.slots)
+module _ {list : Medl} {script : Script} {start : ClusterStart} {plan : Plan} {turn : ℕ} {new : SlotNumbers}
+    {numbers : Numbers} (t : IsTurn list script start plan turn new numbers) (k : ℕ) (node : k < length list.slots)
   where
     record Listens : Type 0 where
       since : ℕ
@@ -46,10 +46,8 @@ module _ (list : Medl) (script : Script) (start : ClusterStart) (plan : Plan) (t
     still : (since : ℕ) → fate_of plan turn k ≡ Listening since → Listens
     still since is = record {
       since = since;
-      awaited = awaited-listening plan turn k since t.planned.follows.good
-          (within-plan list script start plan turn new numbers t) is;
-      listens = listens-still list script start plan turn new numbers t k node since is
-          (at-fate list script start plan turn new numbers t k (Listening since) node is);
+      awaited = awaited-listening plan turn k since t.planned.follows.good (within-plan t) is;
+      listens = listens-still t k node since is (at-fate t k (Listening since) node is);
     }
 
     now : is_armed_by plan (suc turn) k ≡ true → Listens
@@ -60,15 +58,14 @@ module _ (list : Medl) (script : Script) (start : ClusterStart) (plan : Plan) (t
         record {
           since = suc turn;
           awaited = awaited;
-          listens = listens-now list script start plan turn new numbers t k node
-              (left-gone list script plan turn k numbers (fate_of plan turn k) lost
+          listens = listens-now t k node (left-gone list script plan turn k numbers (fate_of plan turn k) lost
               (gone-awaited plan turn k (suc turn) good awaited k) (t.before.nodes k node))
-              (armed-planned list script start plan turn new numbers t k node lost ∙ armed);
+              (armed-planned t k node lost ∙ armed);
         }
 
     next : Listens
         → IsByFate list plan (suc turn) k (next_past (slot_of list script new numbers k)) (fate_of plan (suc turn) k)
-    next l = returner-next list script start plan turn new numbers t k node l.since l.awaited l.listens
+    next l = returner-next t k node l.since l.awaited l.listens
 
     pub listening-next : (since : ℕ) → fate_of plan turn k ≡ Listening since
         → IsByFate list plan (suc turn) k (next_past (slot_of list script new numbers k)) (fate_of plan (suc turn) k)
@@ -87,7 +84,7 @@ module _ (list : Medl) (script : Script) (start : ClusterStart) (plan : Plan) (t
         StandsBy (next_past x) (joined_on place members deviation) (joined_standing list place members deviation)
     entered-joins entered =
         let l = listener in
-        joins-entry list script start plan turn new numbers t k node l.since l.awaited l.listens
+        joins-entry t k node l.since l.awaited l.listens
         (entry-good plan (suc turn) k t.planned.follows.good entered).0 entered
       where
         listener : Listens

@@ -39,8 +39,7 @@ awaited-armed plan turn k good is =
     }
 
 pub awaited-listening : (plan : Plan) (turn k since : ℕ) → IsGoodPlan plan → suc turn < plan.slots
-    → fate_of plan turn k ≡ Listening since
-    → IsAwaited plan turn k since
+    → fate_of plan turn k ≡ Listening since → IsAwaited plan turn k since
 awaited-listening plan turn k since good within is =
     let told : IsListening plan turn k since = subst (IsTold plan turn k) is (fate-told plan turn k good) in
     let from = told.from in
@@ -60,8 +59,7 @@ some_of : (test : ℕ → Bool) (from many : ℕ) → 1 ≤ tally test from many
 some_of test from zero some = absurd (omega (arith, some))
 some_of test from (suc many) some = by (test (from + many)) refl (some_of test from many)
   where
-    by : (passes : Bool) → test (from + many) ≡ passes
-        → (1 ≤ tally test from many
+    by : (passes : Bool) → test (from + many) ≡ passes → (1 ≤ tally test from many
         → (slot : ℕ) × ((from ≤ slot) × (slot < from + many) × (test slot ≡ true)))
         → (slot : ℕ) × ((from ≤ slot) × (slot < from + suc many) × (test slot ≡ true))
     by true passes before = (from + many, (omega arith, omega arith, passes))
@@ -113,8 +111,7 @@ module _ (plan : Plan) (turn k since : ℕ) (good : IsGoodPlan plan) (is : IsAwa
       let waits = is.waits in
       let from = is.from in
       let at = is.armed in
-      let later : suc turn ≢ is.return.entered = λ same.
-      both_ways (enters plan (suc turn) k) unentered
+      let later : suc turn ≢ is.return.entered = λ same. both_ways (enters plan (suc turn) k) unentered
       ((λ i. enters plan (same i) (sym is.node i))
       ∙ enters-by plan is.return is.among (subst (λ slot. slot < plan.slots) same within)) in
       let before : suc turn < is.return.entered = omega (arith, waits, later) in (

@@ -66,14 +66,11 @@ since-ever : (diary : Diary) → has_sent_since_begin diary ≡ true → has_eve
 since-ever [] sent = sent
 since-ever (e ∷ diary) sent = by (is_sending e) refl (since-ever diary)
   where
-    by : (sends : Bool) → is_sending e ≡ sends
-        → (has_sent_since_begin diary ≡ true → has_ever_sent diary ≡ true)
+    by : (sends : Bool) → is_sending e ≡ sends → (has_sent_since_begin diary ≡ true → has_ever_sent diary ≡ true)
         → (is_sending e || has_ever_sent diary) ≡ true
     by true sends before = ap (λ b. b || has_ever_sent diary) sends
     by false sends before =
-        ap (λ b. b || has_ever_sent diary) sends
-        ∙ before
-        (and_parts (not (begins_stint e)) (has_sent_since_begin diary)
+        ap (λ b. b || has_ever_sent diary) sends ∙ before (and_parts (not (begins_stint e)) (has_sent_since_begin diary)
         (sym (ap (λ b. b || (not (begins_stint e) && has_sent_since_begin diary)) sends) ∙ sent)).1
 
 stint-ever : (diary : Diary) → has_sent_in_stint diary ≡ true → has_ever_sent diary ≡ true
@@ -87,8 +84,7 @@ settled-ack a (inr closed) = ap doubts closed
 
 counted-first : (own : Bool) (past : NodePast) → past.accepted ≡ 1 → past.rejected ≡ 0
     → (is_open past.ack ≡ true → own ≡ true) → (past.cold_start ≡ true → own ≡ true)
-    → (past.ack ≡ ack.First) ⊎ (past.ack ≡ ack.Closed)
-    → IsCounted (opened own 0) past
+    → (past.ack ≡ ack.First) ⊎ (past.ack ≡ ack.Closed) → IsCounted (opened own 0) past
 counted-first own past accepted rejected opens cold settles =
     let none = settled-ack past.ack settles in
     record {
@@ -102,7 +98,8 @@ no-doubt : (a : Ack) (y : ℕ) → (a ≡ ack.First) ⊎ (a ≡ ack.Closed) → 
 no-doubt a y (inl first) doubt = cc
 no-doubt a y (inr closed) doubt = cc
 
-module _ (list : Medl) (script : Script) (start : ClusterStart) (plan : Plan) (is : IsBegun list script start plan)
+module _ {list : Medl} {script : Script} {start : ClusterStart} {plan : Plan}
+    (is : IsBegun list script start plan)
   where
     start-heard : IsStartHeard list script start
     start-heard = record {
@@ -171,10 +168,8 @@ module _ (list : Medl) (script : Script) (start : ClusterStart) (plan : Plan) (i
           node other on
 
       -- all that are sound are on
-      pub on-begun : (k : ℕ) → k < length list.slots → is_sound_after plan 0 k ≡ true
-          → is_on script k start.slot ≡ true
-      on-begun k node sound =
-          sym (on-first k node) ∙ sym (sound-first plan k is.planned.follows.good) ∙ sound
+      pub on-begun : (k : ℕ) → k < length list.slots → is_sound_after plan 0 k ≡ true → is_on script k start.slot ≡ true
+      on-begun k node sound = sym (on-first k node) ∙ sym (sound-first plan k is.planned.follows.good) ∙ sound
 
       -- a starter counts its own frame, and a node that joins the starter's
       counts : (k : ℕ) → k < length list.slots → is_on script k start.slot ≡ true
@@ -215,8 +210,7 @@ module _ (list : Medl) (script : Script) (start : ClusterStart) (plan : Plan) (i
                 (node_past list script (world list script (new ∷ numbers)) k)) (sym starter-same) begun.group;
             counted = counted.0;
             doubted = λ y doubt. absurd (no-doubt _ y counted.1 doubt);
-            fresh = λ own.
-                subst (λ j. (node_past list script (world list script (new ∷ numbers)) j).ack ≡ ack.First)
+            fresh = λ own. subst (λ j. (node_past list script (world list script (new ∷ numbers)) j).ack ≡ ack.First)
                 (sym sender-first ∙ own) starter-begun.ack;
           }
 
@@ -225,8 +219,7 @@ module _ (list : Medl) (script : Script) (start : ClusterStart) (plan : Plan) (i
       off-begun k node off =
           off-stays list script start (world list script numbers)
           (messages_chosen list script (length numbers) new.sent) is.planned.valid is.alone waited number k node
-          (λ same. both_ways (is_on script k start.slot) off
-          (sym (on-first k node)
+          (λ same. both_ways (is_on script k start.slot) off (sym (on-first k node)
           ∙ ap (has_node plan.begin) (same ∙ sym starter-same) ∙ is.planned.follows.good.starter.1)) off
 
       absent-fate : (fate : Fate) → is_absent fate ≡ true → fate ≡ Absent
@@ -241,23 +234,20 @@ module _ (list : Medl) (script : Script) (start : ClusterStart) (plan : Plan) (i
       node-begun k node = by (has_node plan.begin k) refl
         where
           by : (on : Bool) → has_node plan.begin k ≡ on
-              → IsByFate list plan 0 k (node_past list script (world list script (new ∷ numbers)) k)
-              (fate_of plan 0 k)
+              → IsByFate list plan 0 k (node_past list script (world list script (new ∷ numbers)) k) (fate_of plan 0 k)
           by true on =
               let fate = sound-fate (fate_of plan 0 k) (sound-first plan k is.planned.follows.good ∙ on) in
               subst (λ (f : Fate). IsByFate list plan 0 k
               (node_past list script (world list script (new ∷ numbers)) k) f) (sym fate)
               (sound-begun k node (sym (on-first k node) ∙ on))
           by false off =
-              let fate = absent-fate (fate_of plan 0 k)
-              (absent-always plan 0 k is.planned.follows.good ∙ ap not off) in
+              let fate = absent-fate (fate_of plan 0 k) (absent-always plan 0 k is.planned.follows.good ∙ ap not off) in
               subst (λ (f : Fate). IsByFate list plan 0 k
               (node_past list script (world list script (new ∷ numbers)) k) f) (sym fate)
               (off-begun k node (sym (on-first k node) ∙ off))
 
       sent-begun : (k : ℕ) → k < length list.slots → is_sound_after plan 0 k ≡ true
-          → has_ever_sent (diary_of (world list script (new ∷ numbers)) k) ≡ true
-          → (ledger_of plan 0 k).own ≡ true
+          → has_ever_sent (diary_of (world list script (new ∷ numbers)) k) ≡ true → (ledger_of plan 0 k).own ≡ true
       sent-begun k node sound sent = elim (cases_eq k start.node) [
         | inl same ↦ eq-eqb (sender plan 0) k (sender-first ∙ sym same)
         | inr other ↦
@@ -273,8 +263,7 @@ module _ (list : Medl) (script : Script) (start : ClusterStart) (plan : Plan) (i
       stay-begun : (k : ℕ) → k < length list.slots → is_there (fate_of plan 0 k) ≡ true
           → has_left_since_arm script (world list script (new ∷ numbers)) k ≡ false
       stay-begun k node there =
-          left_since-next script (world list script numbers) _ k
-          (by (fate_of plan 0 k) there (node-begun k node))
+          left_since-next script (world list script numbers) _ k (by (fate_of plan 0 k) there (node-begun k node))
           (λ unarmed. unleft-waiting numbers k (omega (arith, now)) node)
         where
           past : NodePast

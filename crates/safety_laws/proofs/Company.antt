@@ -50,8 +50,7 @@ entry-or-none plan slot within = by (list_any is_there plan.returns) refl
         let at : r.entered ≡ slot = eqb-true r.entered slot found.1.1 in
         inr (
           r.node,
-          subst (λ t. enters plan t r.node ≡ true) at
-              (enters-by plan r found.1.0 (omega (arith, at, within))),
+          subst (λ t. enters plan t r.node ≡ true) at (enters-by plan r found.1.0 (omega (arith, at, within))),
         )
     by false none = inl (λ k. false_from_ne_true (enters plan slot k) (λ is.
         let entry = entry-is plan slot k is in
@@ -84,8 +83,7 @@ new-enters plan slot k sound away = by (enters plan (suc slot) k) refl
 
 -- the entry after the newest one comes two rounds later
 entry-later : (plan : Plan) (slot newest k : ℕ) → IsGoodPlan plan → IsNewest plan slot newest
-    → enters plan (suc slot) k ≡ true
-    → newest + 2 * plan.nodes ≤ suc slot
+    → enters plan (suc slot) k ≡ true → newest + 2 * plan.nodes ≤ suc slot
 entry-later plan slot newest k good is enter =
     let found = entry-is plan (suc slot) k enter in
     let r = found.return in
@@ -115,8 +113,7 @@ pub sound-calm : (list : Medl) (script : Script) (start : ClusterStart) (plan : 
     → FollowsPlan list script start plan → length history ≡ start.slot + slot → length history < script.slots
     → AreCalm list script (is_sound_after plan slot) history
 sound-calm list script start plan slot history follows number within k p =
-    subst (λ t. jump_of script k t ≡ pos 0) (sym number)
-    (follows.clocks slot k p.0 (omega (arith, number, within)) p.1)
+    subst (λ t. jump_of script k t ≡ pos 0) (sym number) (follows.clocks slot k p.0 (omega (arith, number, within)) p.1)
 
 -- the sender of a good slot was one of the sound nodes
 sender-calm : (list : Medl) (script : Script) (start : ClusterStart) (plan : Plan) (slot : ℕ) (history : History)
@@ -134,10 +131,8 @@ sender-calm list script start plan slot history follows number within good =
     )
 
 noted-alike : (list : Medl) (script : Script) (plan : Plan) (slot : ℕ) (row : List Entry) (history : History)
-    (good : Bool)
-    → ((k : ℕ) → enters plan slot k ≡ false)
-    → is_good_slot plan slot ≡ good → NotedInSlot list script plan slot row history
-    → NotedAlike list script (is_sound_after plan slot) row history
+    (good : Bool) → ((k : ℕ) → enters plan slot k ≡ false) → is_good_slot plan slot ≡ good
+    → NotedInSlot list script plan slot row history → NotedAlike list script (is_sound_after plan slot) row history
 noted-alike list script plan slot row history true none is noted =
     OneFrame (sender plan slot) (λ k p. noted.good k is p (none k))
 noted-alike list script plan slot row history false none is noted =
@@ -145,9 +140,8 @@ noted-alike list script plan slot row history false none is noted =
     (noted.other k is p))
 
 noted-of : (list : Medl) (script : Script) (start : ClusterStart) (plan : Plan) (slot : ℕ) (row : List Entry)
-    (history : History) (good : Bool)
-    → (none : (k : ℕ) → enters plan (suc slot) k ≡ false) → (is : is_good_slot plan (suc slot) ≡ good)
-    → (noted : NotedInSlot list script plan (suc slot) row history)
+    (history : History) (good : Bool) → (none : (k : ℕ) → enters plan (suc slot) k ≡ false)
+    → (is : is_good_slot plan (suc slot) ≡ good) → (noted : NotedInSlot list script plan (suc slot) row history)
     → FollowsPlan list script start plan → length history ≡ start.slot + suc slot → length history < script.slots
     → IsNotedOf list script (is_sound_after plan slot) (is_sound_after plan (suc slot)) row history
     (noted-alike list script plan (suc slot) row history good none is noted)
@@ -158,9 +152,8 @@ noted-of list script start plan slot row history false none is noted follows num
 
 -- four measured slots were in each round that began after the newest entry
 noted-four : (list : Medl) (script : Script) (start : ClusterStart) (plan : Plan) (slot newest k : ℕ) (row : List Entry)
-    (history : History)
-    → FollowsPlan list script start plan → suc slot < plan.slots → length history ≡ start.slot + suc slot
-    → IsNewest plan (suc slot) newest
+    (history : History) → FollowsPlan list script start plan → suc slot < plan.slots
+    → length history ≡ start.slot + suc slot → IsNewest plan (suc slot) newest
     → NotedInSlot list script plan (suc slot) row history → Counted list plan (suc slot) (row ∷ history)
     → IsSoundIn list plan (suc slot) k → enters plan (suc slot) k ≡ false
     → EndsLaterRound list (start.slot + newest) k row history
@@ -187,9 +180,8 @@ noted-four list script start plan slot newest k row history follows within numbe
 
 -- a slot in which none enters
 stayed : (list : Medl) (script : Script) (start : ClusterStart) (plan : Plan) (may_grow : Bool) (slot newest : ℕ)
-    (row : List Entry) (history : History)
-    → FollowsPlan list script start plan → length history ≡ start.slot + suc slot → length history < script.slots
-    → IsNewest plan (suc slot) newest → ((k : ℕ) → enters plan (suc slot) k ≡ false)
+    (row : List Entry) (history : History) → FollowsPlan list script start plan → length history ≡ start.slot + suc slot
+    → length history < script.slots → IsNewest plan (suc slot) newest → ((k : ℕ) → enters plan (suc slot) k ≡ false)
     → NotedInSlot list script plan (suc slot) row history → Counted list plan (suc slot) (row ∷ history)
     → StayedInCompany list script may_grow (is_sound_after plan slot) (is_sound_after plan (suc slot))
     (start.slot + newest) row history
@@ -207,9 +199,8 @@ stayed list script start plan may_grow slot newest row history follows number wi
 
 -- a slot in which some node does
 grew : (list : Medl) (script : Script) (start : ClusterStart) (plan : Plan) (slot newest r : ℕ) (row : List Entry)
-    (history : History)
-    → FollowsPlan list script start plan → length history ≡ start.slot + suc slot → length history < script.slots
-    → IsNewest plan slot newest → enters plan (suc slot) r ≡ true
+    (history : History) → FollowsPlan list script start plan → length history ≡ start.slot + suc slot
+    → length history < script.slots → IsNewest plan slot newest → enters plan (suc slot) r ≡ true
     → NotedInSlot list script plan (suc slot) row history → Counted list plan slot history
     → GrewTogether list script (is_sound_after plan slot) (is_sound_after plan (suc slot)) (start.slot + newest) row
     history
@@ -224,21 +215,18 @@ grew list script start plan slot newest r row history follows number within is e
       member = calm;
       tells = λ k p there. noted.good k good p (sound-stays plan slot k follows.good there);
       begins = λ k p away. subst (λ at. BeginsOn list script history e at k (entry_of row k))
-          (ap (next_place list) (sym (counted.places e calm.0)))
-          (noted.begins k p.0 (new-enters plan slot k p.1 away));
+          (ap (next_place list) (sym (counted.places e calm.0))) (noted.begins k p.0 (new-enters plan slot k p.1 away));
     }
 
 -- The run.
 
 -- where a node enters, some may
 grows : (plan : Plan) (may_grow : Bool) (slot k : ℕ) → (may_grow ≡ false → NoneEnters plan slot)
-    → enters plan slot k ≡ true
-    → IsTrue may_grow
+    → enters plan slot k ≡ true → IsTrue may_grow
 grows plan true slot k stay is = refl
 grows plan false slot k stay is = absurd (both_ways (enters plan slot k) (stay refl slot k (omega arith)) is)
 
-newest-same : (plan : Plan) (slot newest : ℕ) → IsNewest plan slot newest
-    → ((k : ℕ) → enters plan (suc slot) k ≡ false)
+newest-same : (plan : Plan) (slot newest : ℕ) → IsNewest plan slot newest → ((k : ℕ) → enters plan (suc slot) k ≡ false)
     → IsNewest plan (suc slot) newest
 newest-same plan slot newest is none = record {
   within = omega (arith, is.within);
@@ -251,8 +239,7 @@ newest-same plan slot newest is none = record {
 
 -- where none may come, none entered
 pub ran-company : (list : Medl) (script : Script) (start : ClusterStart) (plan : Plan) (may_grow : Bool) (slot : ℕ)
-    (history : History)
-    → FollowsPlan list script start plan → NotedByPlan list script start plan slot history
+    (history : History) → FollowsPlan list script start plan → NotedByPlan list script start plan slot history
     → length history ≤ script.slots → (may_grow ≡ false → NoneEnters plan slot)
     → (newest : ℕ) × (IsNewest plan slot newest
     × RanAsCompany list script may_grow (is_sound_after plan slot) (start.slot + newest) history)

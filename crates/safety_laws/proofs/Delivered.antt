@@ -73,12 +73,11 @@ module _ (list : Medl) (script : Script) (history : History) (row : List Entry) 
 -- of another node's frame nothing is told
 other-none : (carries : Bool) (owner p : ℕ) (payload : List ℕ) → p ≢ owner
     → new_messages p (cond carries (Some (record { sender = owner; payload = payload })) None) ≡ []
-other-none true owner p payload apart =
-    ap (λ b. cond b (payload ∷ []) []) (ne_eqb owner p (λ same. apart (sym same)))
+other-none true owner p payload apart = ap (λ b. cond b (payload ∷ []) []) (ne_eqb owner p (λ same. apart (sym same)))
 other-none false owner p payload apart = refl
 
-module _ (list : Medl) (script : Script) (start : ClusterStart) (plan : Plan) (turn : ℕ) (new : SlotNumbers)
-    (numbers : Numbers) (t : IsTurn list script start plan turn new numbers) (stay : plan.returns ≡ []) where
+module _ {list : Medl} {script : Script} {start : ClusterStart} {plan : Plan} {turn : ℕ} {new : SlotNumbers}
+    {numbers : Numbers} (t : IsTurn list script start plan turn new numbers) (stay : plan.returns ≡ []) where
   -- what comes of a node's delivery in the row is what its slot makes
   delivered-made : (k : ℕ) → k < length list.slots →
       let x = slot_of list script new numbers k in
@@ -90,12 +89,10 @@ module _ (list : Medl) (script : Script) (start : ClusterStart) (plan : Plan) (t
       let row = row_of_world list script new numbers in
       let x = slot_of list script new numbers k in
       let told = (legal-shapes list script (new ∷ numbers) t.legal).0.sent in
-      delivered_of-told list script (world list script numbers) row k
-      ∙ (λ i. delivered_in s
+      delivered_of-told list script (world list script numbers) row k ∙ (λ i. delivered_in s
       (frames_in s (messages_chosen list script (length-world list script numbers i) (sym told i))) k (entry_of row k))
       ∙ ap (λ (n : BegunNode). delivery list k n.past (hearing_in s (frames_in s chosen) k) (entry_of row k))
-      (node_of-slot_after list script (world list script numbers) k node)
-      ∙ ap (delivery list k x.past x.hearing)
+      (node_of-slot_after list script (world list script numbers) k node) ∙ ap (delivery list k x.past x.hearing)
       (entry_of-made list script (world list script numbers) chosen k node)
 
   -- the frame of the turn's sender
@@ -115,16 +112,14 @@ module _ (list : Medl) (script : Script) (start : ClusterStart) (plan : Plan) (t
   unfolding bytes place
   delivers-good k sound other good =
       let e = sender plan (suc turn) in
-      let was = stayed-before list script start plan turn new numbers t stay in
-      let judge = sound-judge list script start plan turn new numbers t k sound.0 other (was k sound.1) in
-      let judged =
-      judges-good list script start plan turn new numbers t k sound.0 other (was k sound.1) good (was e good) sound.1 in
+      let was = stayed-before t stay in
+      let judge = sound-judge t k sound.0 other (was k sound.1) in
+      let judged = judges-good t k sound.0 other (was k sound.1) good (was e good) sound.1 in
       let less = subst (λ n. k < n) (sym t.planned.follows.nodes) sound.0 in
       let kept =
-      ap (λ n. loses script e n k) (slot_number list script start plan turn new numbers t)
+      ap (λ n. loses script e n k) (slot_number t)
       ∙ (t.planned.follows.hearing (suc turn) t.within).heard k less (λ same. other (sym same)) good sound.1 in
-      let comes = comes-alone list script (world list script numbers) _ e k
-      (sound-alone list script start plan turn new numbers t (was e good)) kept in
+      let comes = comes-alone k (sound-alone t (was e good)) kept in
       delivered-made k sound.0
       ∙ delivers-correct (slot_of list script new numbers k) _ _ judge.judging comes judged.entry
       ∙ ap (λ (p : Place). delivery_at list p bytes) (ap (next_place list) judge.at.place)
@@ -137,27 +132,23 @@ module _ (list : Medl) (script : Script) (start : ClusterStart) (plan : Plan) (t
   planned_messages : ℕ → List (List ℕ)
   planned_messages p = new_messages p (cond (is_good_slot plan (suc turn)) (delivery_at list place bytes) None)
 
-  messages-by_plan : (k p : ℕ) → IsSoundIn list plan (suc turn) k → p ≢ k
-      → new_messages p
+  messages-by_plan : (k p : ℕ) → IsSoundIn list plan (suc turn) k → p ≢ k → new_messages p
       (delivered_of list script (world list script numbers) (row_of_world list script new numbers) k)
       ≡ planned_messages p
   unfolding planned_messages
   messages-by_plan k p sound apart = by (is_good_slot plan (suc turn)) refl
     where
-      by : (good : Bool) → is_good_slot plan (suc turn) ≡ good
-          → new_messages p
+      by : (good : Bool) → is_good_slot plan (suc turn) ≡ good → new_messages p
           (delivered_of list script (world list script numbers) (row_of_world list script new numbers) k)
           ≡ new_messages p (cond (is_good_slot plan (suc turn)) (delivery_at list place bytes) None)
       by false wrong =
           ap (new_messages p) (delivers-wrong list script (world list script numbers)
-          (row_of_world list script new numbers) k
-          (notes-other list script start plan turn new numbers t k wrong sound))
+          (row_of_world list script new numbers) k (notes-other t k wrong sound))
           ∙ ap (λ good. new_messages p (cond good (delivery_at list place bytes) None)) (sym wrong)
       by true good = elim (cases_eq (sender plan (suc turn)) k) [
         | inl own ↦
             ap (new_messages p) (delivers-unjudged list script (world list script numbers)
-            (row_of_world list script new numbers) k
-            (ap is_judgement (own-sent list script start plan turn new numbers t k sound own).1))
+            (row_of_world list script new numbers) k (ap is_judgement (own-sent t k sound own).1))
             ∙ sym (other-none (carries_payload list place) place.slot p (payload_of_frame list place bytes)
             (λ same. apart (same ∙ owner ∙ own)))
             ∙ ap (λ good. new_messages p (cond good (delivery_at list place bytes) None)) (sym good)
@@ -166,12 +157,9 @@ module _ (list : Medl) (script : Script) (start : ClusterStart) (plan : Plan) (t
             ∙ ap (λ good. new_messages p (cond good (delivery_at list place bytes) None)) (sym good)
       ]
 
-  pub messages-alike : (j k p : ℕ) → IsSoundIn list plan (suc turn) j → IsSoundIn list plan (suc turn) k
-      → p ≢ j → p ≢ k
-      → new_messages p
-      (delivered_of list script (world list script numbers) (row_of_world list script new numbers) j)
-      ≡ new_messages p
-      (delivered_of list script (world list script numbers) (row_of_world list script new numbers) k)
+  pub messages-alike : (j k p : ℕ) → IsSoundIn list plan (suc turn) j → IsSoundIn list plan (suc turn) k → p ≢ j → p ≢ k
+      → new_messages p (delivered_of list script (world list script numbers) (row_of_world list script new numbers) j)
+      ≡ new_messages p (delivered_of list script (world list script numbers) (row_of_world list script new numbers) k)
   messages-alike j k p sound_j sound_k apart_j apart_k =
       messages-by_plan j p sound_j apart_j ∙ sym (messages-by_plan k p sound_k apart_k)
 
@@ -193,24 +181,20 @@ module _ (list : Medl) (script : Script) (start : ClusterStart) (plan : Plan) (t
       (delivered_of list script (world list script numbers) (row_of_world list script new numbers) k) ≡ []
   messages-other k p sound apart other = messages-by_plan k p sound apart ∙ planned-other p other
 
-  pub messages-own : (k : ℕ) → IsSoundIn list plan (suc turn) k
-      → new_messages k
+  pub messages-own : (k : ℕ) → IsSoundIn list plan (suc turn) k → new_messages k
       (delivered_of list script (world list script numbers) (row_of_world list script new numbers) k) ≡ []
   messages-own k sound = elim (cases_eq (sender plan (suc turn)) k) [
     | inl own ↦
         ap (new_messages k) (delivers-unjudged list script (world list script numbers)
-        (row_of_world list script new numbers) k
-        (ap is_judgement (own-sent list script start plan turn new numbers t k sound own).1))
+        (row_of_world list script new numbers) k (ap is_judgement (own-sent t k sound own).1))
     | inr other ↦ by (is_good_slot plan (suc turn)) refl other
   ]
     where
-      by : (good : Bool) → is_good_slot plan (suc turn) ≡ good → sender plan (suc turn) ≢ k
-          → new_messages k
+      by : (good : Bool) → is_good_slot plan (suc turn) ≡ good → sender plan (suc turn) ≢ k → new_messages k
           (delivered_of list script (world list script numbers) (row_of_world list script new numbers) k) ≡ []
       by false wrong other =
           ap (new_messages k) (delivers-wrong list script (world list script numbers)
-          (row_of_world list script new numbers) k
-          (notes-other list script start plan turn new numbers t k wrong sound))
+          (row_of_world list script new numbers) k (notes-other t k wrong sound))
       by true good other =
           ap (new_messages k) (delivers-good k sound other good)
           ∙ other-none (carries_payload list place) place.slot k (payload_of_frame list place bytes)

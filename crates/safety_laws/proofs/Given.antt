@@ -51,8 +51,8 @@ payload-of_own x carries fits =
     ∙ ap (λ n. payload_in width header n (frame width header cstate x.chosen.payload x.list.schedule)) (sym fits)
     ∙ payload_in-frame width header cstate x.chosen.payload x.list.schedule
 
-module _ (list : Medl) (script : Script) (start : ClusterStart) (plan : Plan) (turn : ℕ) (new : SlotNumbers)
-    (numbers : Numbers) (t : IsTurn list script start plan turn new numbers) (stay : plan.returns ≡ [])
+module _ {list : Medl} {script : Script} {start : ClusterStart} {plan : Plan} {turn : ℕ} {new : SlotNumbers}
+    {numbers : Numbers} (t : IsTurn list script start plan turn new numbers) (stay : plan.returns ≡ [])
     (good : is_good_slot plan (suc turn) ≡ true) where
   row : List Entry
   row = row_of_world list script new numbers
@@ -64,20 +64,19 @@ module _ (list : Medl) (script : Script) (start : ClusterStart) (plan : Plan) (t
   x = slot_of list script new numbers (sender plan (suc turn))
 
   sends : fate_of plan turn (sender plan (suc turn)) ≡ Sound
-  sends = sender-before list script start plan turn new numbers t good
+  sends = sender-before t good
 
   owner : IsSoundOwner plan turn (slot_of list script new numbers (sender plan (suc turn)))
-  owner = sound-owner list script start plan turn new numbers t sends
+  owner = sound-owner t sends
 
   may : MaySend (slot_of list script new numbers (sender plan (suc turn)))
-  may = sound-sends plan turn _ owner
+  may = sound-sends owner
 
   entry_is : entry_of row e ≡ entry.Sent (message_sent list (coming_place x) x.chosen)
   unfolding row e x
   entry_is =
       entry_of-made list script (world list script numbers) (messages_chosen list script (length numbers) new.sent)
-      (sender plan (suc turn)) owner.own.node
-      ∙ (sent-own _ owner.own may.closed may.more).entry
+      (sender plan (suc turn)) owner.own.node ∙ (sent-own _ owner.own may.closed may.more).entry
 
   chosen_is : x.chosen ≡ message_chosen list script (length numbers) e (message_of (entry_of row e))
   unfolding row e x
@@ -130,8 +129,7 @@ module _ (list : Medl) (script : Script) (start : ClusterStart) (plan : Plan) (t
       (entry_of (row_of_world list script new numbers) (sender plan (suc turn)))
   unfolding e x row
   given-good j sound other =
-      ap (new_messages e) (delivers-frame list script start plan turn new numbers t stay j sound other good
+      ap (new_messages e) (delivers-frame t stay j sound other good
       ∙ ap (λ (p : Place). delivery_at list (next_place list p) (own_frame list e x.past x.chosen))
-      (sym owner.at.place))
-      ∙ gives
+      (sym owner.at.place)) ∙ gives
       ∙ ap (payload_of_number list script (length numbers) e) (sym (ap message_of entry_is))

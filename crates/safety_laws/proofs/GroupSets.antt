@@ -14,18 +14,15 @@ use Rattle.safety_laws.proofs.ListedSets.{AreNodes-with, AreNodes-without, AreNo
 
 -- One node.
 
-pub has_node-with_other : (s : List ℕ) (k j : ℕ) → j < most_nodes → j ≢ k
-    → has_node (with_node s k) j ≡ has_node s j
+pub has_node-with_other : (s : List ℕ) (k j : ℕ) → j < most_nodes → j ≢ k → has_node (with_node s k) j ≡ has_node s j
 has_node-with_other s k j small other = has_node-with s k j small ∙ ap (λ b. b || has_node s j) (ne_eqb j k other)
 
 pub has_node-without_other : (s : List ℕ) (k j : ℕ) → j ≢ k → has_node (without_node s k) j ≡ has_node s j
-has_node-without_other s k j other =
-    has_node-without s k j ∙ ap (λ b. not b && has_node s j) (ne_eqb j k other)
+has_node-without_other s k j other = has_node-without s k j ∙ ap (λ b. not b && has_node s j) (ne_eqb j k other)
 
 pub has_node-with_member : (s : List ℕ) (k j : ℕ) → j < most_nodes → has_node s j ≡ true
     → has_node (with_node s k) j ≡ true
-has_node-with_member s k j small has =
-    has_node-with s k j small ∙ ap (λ b. (j == k) || b) has ∙ or-true (j == k)
+has_node-with_member s k j small has = has_node-with s k j small ∙ ap (λ b. (j == k) || b) has ∙ or-true (j == k)
 
 pub has_node-without_none : (s : List ℕ) (k j : ℕ) → has_node s j ≡ false → has_node (without_node s k) j ≡ false
 has_node-without_none s k j none = has_node-without s k j ∙ ap (λ b. not (j == k) && b) none ∙ and_false (not (j == k))
@@ -43,8 +40,7 @@ module _ (list : Medl) (valid : IsValid list) where
   pub with-member : (s : List ℕ) (k : ℕ) → AreNodes list s → k < length list.slots → has_node s k ≡ true
       → with_node s k ≡ s
   with-member s k are node has =
-      AreNodes-same list (with_node s k) s (AreNodes-with list s k valid are node) are
-      (λ j less. elim (cases_eq j k) [
+      AreNodes-same list (with_node s k) s (AreNodes-with list s k valid are node) are (λ j less. elim (cases_eq j k) [
         | inl same ↦
             has_node-with_member s k j (small j less) (ap (has_node s) same ∙ has) ∙ sym (ap (has_node s) same ∙ has)
         | inr other ↦ has_node-with_other s k j (small j less) other
@@ -60,8 +56,7 @@ module _ (list : Medl) (valid : IsValid list) where
         | inl same ↦
             has_node-without (with_node s k) k j ∙ ap (λ b. not b && has_node (with_node s k) j) (eq-eqb j k same)
             ∙ sym (ap (has_node s) same ∙ none)
-        | inr other ↦
-            has_node-without_other (with_node s k) k j other ∙ has_node-with_other s k j (small j less) other
+        | inr other ↦ has_node-without_other (with_node s k) k j other ∙ has_node-with_other s k j (small j less) other
       ])
 
   -- taking out and putting in again
@@ -70,8 +65,7 @@ module _ (list : Medl) (valid : IsValid list) where
   with-without s k are node =
       AreNodes-same list (with_node (without_node s k) k) (with_node s k)
       (AreNodes-with list (without_node s k) k valid (AreNodes-without list s k are) node)
-      (AreNodes-with list s k valid are node)
-      (λ j less. elim (cases_eq j k) [
+      (AreNodes-with list s k valid are node) (λ j less. elim (cases_eq j k) [
         | inl same ↦
             has_node-with (without_node s k) k j (small j less)
             ∙ ap (λ b. b || has_node (without_node s k) j) (eq-eqb j k same)
@@ -108,8 +102,7 @@ module _ (list : Medl) (valid : IsValid list) where
       (AreNodes-with list (with_node s y) k valid (AreNodes-with list s y valid are node_too) node)
       (AreNodes-with list (with_node s k) y valid (AreNodes-with list s k valid are node) node_too)
       (λ j less. has_node-with (with_node s y) k j (small j less)
-      ∙ ap (λ b. (j == k) || b) (has_node-with s y j (small j less))
-      ∙ turned (j == k) (j == y) (has_node s j)
+      ∙ ap (λ b. (j == k) || b) (has_node-with s y j (small j less)) ∙ turned (j == k) (j == y) (has_node s j)
       ∙ sym (has_node-with (with_node s k) y j (small j less)
       ∙ ap (λ b. (j == y) || b) (has_node-with s k j (small j less))))
     where

@@ -35,9 +35,8 @@ use Rattle.safety_laws.proofs.Verdicts.{judged-correct, judged-incorrect, judged
 module _ (list : Medl) (valid : IsValid list) (group : List ℕ) (k owner : ℕ) (nodes : AreNodes list group)
     (node : k < length list.slots) (owned : owner < length list.slots) where
   -- the first is the group with the slot's owner
-  first-group : (a : Ack) → IsAboutListed list a → IsAboutOther group a
-      → (IsTrue (is_open a) → has_node group k ≡ true) → IsNotAbout owner a
-      → (candidates a k (held_with group a) owner).first ≡ with_node group owner
+  first-group : (a : Ack) → IsAboutListed list a → IsAboutOther group a → (IsTrue (is_open a) → has_node group k ≡ true)
+      → IsNotAbout owner a → (candidates a k (held_with group a) owner).first ≡ with_node group owner
   first-group ack.Closed listed other own apart = refl
   first-group ack.First listed other own apart =
       with-member list valid (with_node group owner) k (AreNodes-with list group owner valid nodes owned) node
@@ -84,8 +83,7 @@ module _ (list : Medl) (valid : IsValid list) (group : List ℕ) (k owner : ℕ)
       let few : p < most_nodes = omega (arith, listed, nodes-most list valid) in
       let held = with_node (with_node group y) owner in
       ap (λ (s : List ℕ). has_node s p) (sym (same_Some _ second is))
-      ∙ has_node-with_member (without_node held k) y p few
-      (has_node-without_other held k p other
+      ∙ has_node-with_member (without_node held k) y p few (has_node-without_other held k p other
       ∙ has_node-with_member (with_node group y) owner p few (has_node-with_member group y p few has))
 
 -- What a verdict makes of a group.
@@ -157,8 +155,7 @@ module _ (x : NodeSlot) (group : List ℕ) (is : IsJudging x) (holds : HoldsGrou
 
   -- the frame of an owner that holds the same group is correct
   pub correct-group : (sender : ℕ) → IsNotAbout (owner_of x) x.past.ack
-      → HearsMembers x sender (with_node group (owner_of x))
-      → IsJudgedAs x verdict.Correct (x.hearing.deviation sender)
+      → HearsMembers x sender (with_node group (owner_of x)) → IsJudgedAs x verdict.Correct (x.hearing.deviation sender)
   correct-group sender apart hears =
       judged-correct x sender (with_node group (owner_of x)) is hears
       (sym (ap (λ (c : Candidates). c.first) candidates-held
@@ -171,8 +168,7 @@ module _ (x : NodeSlot) (group : List ℕ) (is : IsJudging x) (holds : HoldsGrou
   holds-correct deviation judged =
       let closed = judged.ack ∙ answered-correct x.past.ack (owner_of x) in (
         holds-by x.list x.node (with_node group (owner_of x)) (next_past x) ack.Closed closed
-            (AreNodes-with x.list group (owner_of x) is.valid holds.nodes is.owner)
-            (judged.members
+            (AreNodes-with x.list group (owner_of x) is.valid holds.nodes is.owner) (judged.members
             ∙ ap (λ (s : List ℕ). with_node (settled_members s x.past.ack) (owner_of x)) holds.members
             ∙ ap (λ (s : List ℕ). with_node s (owner_of x))
             (settled-group x.list group x.past.ack is.valid holds.nodes is.doubted holds.doubted))
@@ -203,13 +199,11 @@ module _ (x : NodeSlot) (group : List ℕ) (is : IsJudging x) (holds : HoldsGrou
   holds-tentative deviation judged first =
       let doubts = judged.ack ∙ ap (λ (a : Ack). ack_answered a verdict.Tentative (owner_of x)) first in (
         holds-by x.list x.node (without_node group (owner_of x)) (next_past x) (ack.Doubt (owner_of x)) doubts
-            (AreNodes-without x.list group (owner_of x) holds.nodes)
-            (judged.members
+            (AreNodes-without x.list group (owner_of x) holds.nodes) (judged.members
             ∙ ap (λ (s : List ℕ). with_node s (owner_of x)) (holds.members ∙ ap (held_with group) first)
             ∙ sym (with-without x.list is.valid group (owner_of x) holds.nodes is.owner))
             (λ opened. has_node-without_other group (owner_of x) x.node (λ eq. is.other (sym eq))
-            ∙ holds.own (ap is_open first))
-            (has_node-taken_out group (owner_of x)),
+            ∙ holds.own (ap is_open first)) (has_node-taken_out group (owner_of x)),
         doubts,
       )
 
@@ -219,22 +213,18 @@ module _ (x : NodeSlot) (group : List ℕ) (is : IsJudging x) (holds : HoldsGrou
       → (p ≢ x.node) ⊎ (x.past.ack ≡ ack.Closed) → has_node members p ≡ false → HearsMembers x sender members
       → IsJudgedAs x verdict.Incorrect (x.hearing.deviation sender)
   incorrect-group sender p members listed has other lacks hears =
-      judged-incorrect x sender members is hears
-      (λ same. false≢true (sym lacks ∙ ap (λ (s : List ℕ). has_node s p) same
+      judged-incorrect x sender members is hears (λ same. false≢true (sym lacks ∙ ap (λ (s : List ℕ). has_node s p) same
       ∙ ap (λ (c : Candidates). has_node c.first p) candidates-held
       ∙ in_first x.list is.valid group x.node (owner_of x) holds.nodes is.node is.owner x.past.ack p holds.doubted
-      listed has))
-      (λ same. false≢true (sym lacks
+      listed has)) (λ same. false≢true (sym lacks
       ∙ in_second x.list is.valid group x.node (owner_of x) holds.nodes is.node is.owner x.past.ack p members listed has
       other (ap (λ (c : Candidates). c.second) (sym candidates-held) ∙ same)))
 
   -- One that lacks the node itself, which waits for its first successor, is incorrect or tentative.
   pub lacked-group : (sender : ℕ) (members : List ℕ) → x.past.ack ≡ ack.First → has_node members x.node ≡ false
-      → HearsMembers x sender members
-      → IsJudgedAs x verdict.Incorrect (x.hearing.deviation sender)
+      → HearsMembers x sender members → IsJudgedAs x verdict.Incorrect (x.hearing.deviation sender)
       ⊎ IsJudgedAs x verdict.Tentative (x.hearing.deviation sender)
-  lacked-group sender members first lacks hears =
-      by (bytes_eq members held_out) refl
+  lacked-group sender members first lacks hears = by (bytes_eq members held_out) refl
     where
       held_out : List ℕ
       held_out = without_node (with_node x.past.members (owner_of x)) x.node
@@ -249,12 +239,10 @@ module _ (x : NodeSlot) (group : List ℕ) (is : IsJudging x) (holds : HoldsGrou
       by : (same : Bool) → bytes_eq members held_out ≡ same
           → IsJudgedAs x verdict.Incorrect (x.hearing.deviation sender)
           ⊎ IsJudgedAs x verdict.Tentative (x.hearing.deviation sender)
-      by true same =
-          inr (judged-tentative x sender members is hears first ((bytes_eq-Decides members held_out).0 same))
+      by true same = inr (judged-tentative x sender members is hears first ((bytes_eq-Decides members held_out).0 same))
       by false other =
-          inl (judged-incorrect x sender members is hears not_first
-          (λ some. false≢true (sym other ∙ (bytes_eq-Decides members held_out).1
-          (sym (same_Some held_out members
+          inl (judged-incorrect x sender members is hears not_first (λ some. false≢true (sym other
+          ∙ (bytes_eq-Decides members held_out).1 (sym (same_Some held_out members
           (sym (ap (λ (a : Ack). (candidates a x.node x.past.members (owner_of x)).second) first) ∙ some))))))
 
 -- A node that sends holds the group with itself, and waits for its first successor.

@@ -29,8 +29,7 @@ one_combined : (script : Script) (slot : ℕ) (c : Channel) (sent : SentFrame) (
 one_combined script slot c sent true = refl
 one_combined script slot c sent false = refl
 
-heard-comes : (script : Script) (slot r : ℕ) (c : Channel) (sent : SentFrame)
-    → heard script slot r c (sent ∷ [])
+heard-comes : (script : Script) (slot r : ℕ) (c : Channel) (sent : SentFrame) → heard script slot r c (sent ∷ [])
     ≡ comes (has_send_fault script fault.Silence sent.sender c slot)
     (has_send_fault script fault.Noise sent.sender c slot) (has_receive_fault script fault.Silence r c slot)
     (has_receive_fault script fault.Noise r c slot)
@@ -68,8 +67,7 @@ pub heard-uncovered : (script : Script) (slot r : ℕ) (c : Channel) (sent : Sen
     → flipped_bits script sent.sender c slot ≡ [] → is_covered script sent.sender r slot c ≡ false
     → heard script slot r c (sent ∷ []) ≡ signal_as_sent sent
 heard-uncovered script slot r c sent unflipped clear =
-    heard-comes script slot r c sent
-    ∙ ap (λ bits. comes (has_send_fault script fault.Silence sent.sender c slot)
+    heard-comes script slot r c sent ∙ ap (λ bits. comes (has_send_fault script fault.Silence sent.sender c slot)
     (has_send_fault script fault.Noise sent.sender c slot) (has_receive_fault script fault.Silence r c slot)
     (has_receive_fault script fault.Noise r c slot) (Bits sent.sender (flip_bits sent.bytes bits))) unflipped
     ∙ comes-uncovered _ _ _ _ sent.sender sent.bytes clear

@@ -85,8 +85,7 @@ record NotesNear (list : Medl) (script : Script) (plan : Plan) (slot x k : ℕ) 
   near : AreNear (noted_width list (sender plan (suc slot))) (clock_moved list script history x -ℤ jumped)
       (clock_moved list script history k) (notes_in list (planned_place list plan (suc slot)) (entry_of row x))
 
-drift-jumps : (o j d a b w : ℤ) → b ≡ a +ℤ j → IsUpTo w d
-    → IsUpTo w (((o +ℤ (j +ℤ (d +ℤ pos 0))) -ℤ b) -ℤ (o -ℤ a))
+drift-jumps : (o j d a b w : ℤ) → b ≡ a +ℤ j → IsUpTo w d → IsUpTo w (((o +ℤ (j +ℤ (d +ℤ pos 0))) -ℤ b) -ℤ (o -ℤ a))
 drift-jumps o j d a b w is h = (omega (arith, ints, is, h.0, h.1), omega (arith, ints, is, h.0, h.1))
 
 shift-jump : (z c r j : ℤ) → z ≡ c +ℤ r → z -ℤ j ≡ (c -ℤ j) +ℤ r
@@ -98,8 +97,7 @@ module _ {list : Medl} {script : Script} {start : ClusterStart} {plan : Plan} {x
   jumped-next : (slot q : ℕ) → start.slot + suc slot < script.slots → slot ≡ base + q
       → jumped_in jump (suc q) ≡ jumped_in jump q +ℤ jump_of script x (start.slot + suc slot)
   jumped-next slot zero within is =
-      none-of (jump_of script x (start.slot + suc slot))
-      (jumps.follows.planned.clocks (suc slot) x jumps.inside within
+      none-of (jump_of script x (start.slot + suc slot)) (jumps.follows.planned.clocks (suc slot) x jumps.inside within
       (subst (λ t. is_sound_after plan (suc t) x ≡ true) (sym same) jumps.sound))
     where
       same : slot ≡ base
@@ -122,20 +120,18 @@ module _ {list : Medl} {script : Script} {start : ClusterStart} {plan : Plan} {x
 
   -- Slot base.
 
-  stays-base : {slot : ℕ} {history : History} (k : ℕ) → GoesOnByPlan list script start plan slot history
-      → slot ≡ base → IsSoundIn list plan (suc slot) k
-      → StaysApart list script plan slot x k 0 (pos 0) history
+  stays-base : {slot : ℕ} {history : History} (k : ℕ) → GoesOnByPlan list script start plan slot history → slot ≡ base
+      → IsSoundIn list plan (suc slot) k → StaysApart list script plan slot x k 0 (pos 0) history
   stays-base {slot = slot} {history = history} k goes is q = record {
     place = (counted-run list script start plan slot history jumps.follows.planned goes.noted).places x
         (sound-back list plan slot x (tight-stays plan (suc slot) x tight) p);
     apart = elim (cases_lt (suc m) (length list.slots)) [
       | inl less ↦
-          Before less (omega arith) (near (noted_width list m) (fits m))
-          (same-near (noted_width list m) (clock_after list script history x) (clock_after list script history k)
-          (clock_after list script history x -ℤ pos 0) (clock_after list script history k)
-          (round_notes list history x) (less-none (clock_after list script history x)) refl
-          (known.near (tight-back plan slot (goes-in less) tight) early less x k
-          (sound-back list plan slot x (tight-stays plan (suc slot) x tight) p)
+          Before less (omega arith) (near (noted_width list m) (fits m)) (same-near (noted_width list m)
+          (clock_after list script history x) (clock_after list script history k)
+          (clock_after list script history x -ℤ pos 0) (clock_after list script history k) (round_notes list history x)
+          (less-none (clock_after list script history x)) refl (known.near (tight-back plan slot (goes-in less) tight)
+          early less x k (sound-back list plan slot x (tight-stays plan (suc slot) x tight) p)
           (sound-back list plan slot k (tight-stays plan (suc slot) k tight) q)))
       | inr ends ↦
           Fresh refl (omega (arith, ends, inside))
@@ -151,8 +147,7 @@ module _ {list : Medl} {script : Script} {start : ClusterStart} {plan : Plan} {x
 
       goes-in : suc (sender plan slot) < length list.slots → sender plan (suc slot) ≡ suc (sender plan slot)
       goes-in less =
-          index-of list script start plan slot jumps.follows.planned
-          ∙ ap (λ b. cond b 0 (suc (sender plan slot)))
+          index-of list script start plan slot jumps.follows.planned ∙ ap (λ b. cond b 0 (suc (sender plan slot)))
           (ne_eqb (suc (sender plan slot)) (length list.slots) (λ same. omega (arith, less, same)))
 
       inside : sender plan slot < length list.slots
@@ -170,21 +165,16 @@ module _ {list : Medl} {script : Script} {start : ClusterStart} {plan : Plan} {x
 
       begun : (j : ℕ) → IsSoundIn list plan (suc slot) j
           → clock_at list script history j ≡ clock_after list script history j
-      begun j r =
-          clock_at-still list script history j
-          (still-of goes j r)
+      begun j r = clock_at-still list script history j (still-of goes j r)
 
       near : (w : ℤ) → spread list ≤ℤ w
           → IsUpTo w ((clock_after list script history x -ℤ pos 0) -ℤ clock_after list script history k)
       near w wide =
           both-sides (spread list) w (clock_after list script history x) (clock_after list script history k)
-          (clock_at list script history x) (clock_at list script history k)
-          (tight-clocks goes tight x k p q)
-          (tight-clocks goes tight k x q p)
-          (begun x p) (begun k q) wide
+          (clock_at list script history x) (clock_at list script history k) (tight-clocks goes tight x k p q)
+          (tight-clocks goes tight k x q p) (begun x p) (begun k q) wide
 
-      fewer : (share e : ℤ) → pos 0 ≤ℤ e
-          → (share +ℤ (e *ℤ pos 2 +ℤ pos 1)) ≤ℤ (share +ℤ (e *ℤ pos 3 +ℤ pos 1))
+      fewer : (share e : ℤ) → pos 0 ≤ℤ e → (share +ℤ (e *ℤ pos 2 +ℤ pos 1)) ≤ℤ (share +ℤ (e *ℤ pos 3 +ℤ pos 1))
       fewer share e up = omega (arith, ints, up)
 
       fits : (i : ℕ) → spread list ≤ℤ noted_width list i
@@ -194,9 +184,8 @@ module _ {list : Medl} {script : Script} {start : ClusterStart} {plan : Plan} {x
   -- One slot more.
 
   stays-next : {slot : ℕ} {row : List Entry} {history : History} (k q : ℕ)
-      → NextSlot list script start plan slot row history
-      → slot ≡ base + q → suc q ≤ length list.slots → IsSoundIn list plan (suc slot) k
-      → NotesNear list script plan slot x k (jumped_in jump (suc q)) row history
+      → NextSlot list script start plan slot row history → slot ≡ base + q → suc q ≤ length list.slots
+      → IsSoundIn list plan (suc slot) k → NotesNear list script plan slot x k (jumped_in jump (suc q)) row history
       → StaysApart list script plan slot x k q (jumped_in jump q) history
       → StaysApart list script plan (suc slot) x k (suc q) (jumped_in jump (suc q)) (row ∷ history)
   stays-next {slot = slot} {row = row} {history = history} k q s is few p new before = record {
@@ -204,8 +193,7 @@ module _ {list : Medl} {script : Script} {start : ClusterStart} {plan : Plan} {x
     apart = apart-next list (sender plan slot) q (clock_after list script history x -ℤ jumped_in jump q)
         (clock_after list script history k) (round_notes list history x) (sender plan (suc slot))
         (clock_after list script (row ∷ history) x -ℤ jumped_in jump (suc q))
-        (clock_after list script (row ∷ history) k) (round_notes list (row ∷ history) x)
-        (record {
+        (clock_after list script (row ∷ history) k) (round_notes list (row ∷ history) x) (record {
           many = jumps.valid.count.0;
           needs = needed-up list jumps.valid;
           later_c = clock_moved list script history x -ℤ jumped_in jump (suc q);
@@ -244,8 +232,7 @@ module _ {list : Medl} {script : Script} {start : ClusterStart} {plan : Plan} {x
       number = omega (arith, number-of list script start plan slot history s.before.noted)
 
       added : jumped_in jump (suc q) ≡ jumped_in jump q +ℤ jump_of script x (length history)
-      added = jumped-next slot q s.before.within is
-          ∙ ap (λ t. jumped_in jump q +ℤ jump_of script x t) number
+      added = jumped-next slot q s.before.within is ∙ ap (λ t. jumped_in jump q +ℤ jump_of script x t) number
 
       known : NotesKnown list script plan (suc slot) (row ∷ history)
       known = notes-known list script start plan (suc slot) (row ∷ history) jumps.valid jumps.follows
@@ -256,8 +243,7 @@ module _ {list : Medl} {script : Script} {start : ClusterStart} {plan : Plan} {x
 
   -- x is sound in the first of these slots, and has jumped in the others
   notes-near : {slot : ℕ} {row : List Entry} {history : History} (k q : ℕ)
-      → NextSlot list script start plan slot row history
-      → slot ≡ base + q → IsSoundIn list plan (suc slot) k
+      → NextSlot list script start plan slot row history → slot ≡ base + q → IsSoundIn list plan (suc slot) k
       → (suc (suc base) ≤ suc slot → fate_of plan (suc slot) x ≡ Falling Jumping (suc (suc base)))
       → NotesNear list script plan slot x k (jumped_in jump (suc q)) row history
   notes-near {slot = slot} {row = row} {history = history} k zero s is p falls =
@@ -270,8 +256,7 @@ module _ {list : Medl} {script : Script} {start : ClusterStart} {plan : Plan} {x
         near = same-near (noted_width list (sender plan (suc slot))) (clock_moved list script history x)
             (clock_moved list script history k) (clock_moved list script history x -ℤ pos 0)
             (clock_moved list script history k) (notes_in list (planned_place list plan (suc slot)) (entry_of row x))
-            (less-none (clock_moved list script history x)) refl
-            (near-new s x k sound p);
+            (less-none (clock_moved list script history x)) refl (near-new s x k sound p);
       }
   notes-near {slot = slot} {row = row} {history = history} k (suc q) s is p falls =
       let none : NotesNothing (entry_of row x) =
@@ -286,15 +271,12 @@ module _ {list : Medl} {script : Script} {start : ClusterStart} {plan : Plan} {x
       }
 
   pub stays-apart : (k slot : ℕ) (history : History) (q : ℕ) → GoesOnByPlan list script start plan slot history
-      → slot ≡ base + q → q ≤ length list.slots
-      → IsSoundIn list plan (suc slot) k
+      → slot ≡ base + q → q ≤ length list.slots → IsSoundIn list plan (suc slot) k
       → (suc (suc base) ≤ slot → fate_of plan slot x ≡ Falling Jumping (suc (suc base)))
       → StaysApart list script plan slot x k q (jumped_in jump q) history
   stays-apart k slot [] q goes is few p falls = absurd goes.noted
-  stays-apart k zero (row ∷ history) q goes is few p falls =
-      absurd (omega (arith, is, jumps.late, jumps.valid.count.0))
-  stays-apart k (suc slot) (row ∷ history) zero goes is few p falls =
-      stays-base k goes (omega (arith, is)) p
+  stays-apart k zero (row ∷ history) q goes is few p falls = absurd (omega (arith, is, jumps.late, jumps.valid.count.0))
+  stays-apart k (suc slot) (row ∷ history) zero goes is few p falls = stays-base k goes (omega (arith, is)) p
   stays-apart k (suc slot) (row ∷ history) (suc q) goes is few p falls =
       let tight : IsTight plan (suc slot) = jumps.tight (suc slot) (omega (arith, is)) (omega (arith, is, few)) in
       let s : NextSlot list script start plan slot row history = record {
@@ -312,8 +294,7 @@ module _ {list : Medl} {script : Script} {start : ClusterStart} {plan : Plan} {x
       jumps.tight (suc (suc slot)) (omega (arith, is)) (omega (arith, is, few)) in
       let back : IsSoundIn list plan (suc slot) k =
       sound-back list plan (suc slot) k (tight-stays plan (suc (suc slot)) k later) p in
-      stays-next k q s same (omega (arith, few)) back
-      (notes-near k q s same back falls)
-      (stays-apart k slot history q s.before same
-      (omega (arith, few)) back (λ late. jumped-back plan slot x (suc (suc base)) jumps.follows.planned.good
+      stays-next k q s same (omega (arith, few)) back (notes-near k q s same back falls) (stays-apart k slot history q
+      s.before same (omega (arith, few)) back
+      (λ late. jumped-back plan slot x (suc (suc base)) jumps.follows.planned.good
       (inl (falls (omega (arith, late)))) (λ now. omega (arith, now, late))))

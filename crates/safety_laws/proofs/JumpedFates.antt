@@ -90,25 +90,22 @@ changed-back : (plan : Plan) (slot k : ℕ) (fate : Fate) (change : Change) (sin
 changed-back plan slot k fate change since is other =
     let armed = armed_in (is_armed_by plan slot k) slot fate in
     let hit = struck slot k armed (incident_at plan slot) in
-    armed-back (is_armed_by plan slot k) slot fate change since
-    (struck-back slot k armed (incident_at plan slot) change since
-    (entered-back (enters plan slot k) hit change since is) other)
+    armed-back (is_armed_by plan slot k) slot fate change since (struck-back slot k armed (incident_at plan slot) change
+    since (entered-back (enters plan slot k) hit change since is) other)
 
 changed-fallen : (plan : Plan) (slot k : ℕ) (fate : Fate) (change : Change) (since shown : ℕ)
     → changed plan slot k fate ≡ Fallen change since shown → fate ≡ Fallen change since shown
 changed-fallen plan slot k fate change since shown is =
     let armed = armed_in (is_armed_by plan slot k) slot fate in
     let hit = struck slot k armed (incident_at plan slot) in
-    armed-fallen (is_armed_by plan slot k) slot fate change since shown
-    (struck-fallen slot k armed (incident_at plan slot) change since shown
-    (entered-fallen (enters plan slot k) hit change since shown is))
+    armed-fallen (is_armed_by plan slot k) slot fate change since shown (struck-fallen slot k armed
+    (incident_at plan slot) change since shown (entered-fallen (enters plan slot k) hit change since shown is))
 
 pub jumped-back : (plan : Plan) (slot k since : ℕ) → IsGoodPlan plan → HasJumped plan (suc slot) k since
     → since ≢ suc slot → fate_of plan slot k ≡ Falling Jumping since
 jumped-back plan slot k since good (inl is) other =
-    changed-back plan (suc slot) k (fate_of plan slot k) Jumping since
-    (turned-back (sender plan (suc slot) == k) (suc slot) (changed plan (suc slot) k (fate_of plan slot k)) Jumping since
-    is) other
+    changed-back plan (suc slot) k (fate_of plan slot k) Jumping since (turned-back (sender plan (suc slot) == k)
+    (suc slot) (changed plan (suc slot) k (fate_of plan slot k)) Jumping since is) other
 jumped-back plan slot k since good (inr is) other =
     changed-back plan (suc slot) k (fate_of plan slot k) Jumping since
     (shown-back (sender plan (suc slot) == k) (suc slot) (changed plan (suc slot) k (fate_of plan slot k)) Jumping since

@@ -24,8 +24,8 @@ use Rattle.safety_laws.proofs.Silence.{frameless-silent}
 use Rattle.safety_laws.proofs.PlanTurns.{slot_of, within-plan, e-node, judges}
 use Rattle.fault_plan.proofs.SlotKinds.{sender-stays as sender-unentered}
 
-module _ (list : Medl) (script : Script) (start : ClusterStart) (plan : Plan) (turn : ℕ) (new : SlotNumbers)
-    (numbers : Numbers) (t : IsTurn list script start plan turn new numbers) (k : ℕ) (node : k < length list.slots)
+module _ {list : Medl} {script : Script} {start : ClusterStart} {plan : Plan} {turn : ℕ} {new : SlotNumbers}
+    {numbers : Numbers} (t : IsTurn list script start plan turn new numbers) (k : ℕ) (node : k < length list.slots)
     (since : ℕ) (jumped : fate_of plan (suc turn) k ≡ Falling Jumping since) where
   -- the turn is another's,
   pub turn-other : sender plan (suc turn) ≢ k
@@ -40,16 +40,13 @@ module _ (list : Medl) (script : Script) (start : ClusterStart) (plan : Plan) (t
   none-shown change s shown =
       let count = t.planned.follows.good.count in
       let stays : may_stay plan.nodes (suc turn) (fate_of plan (suc turn) (sender plan (suc turn))) ≡ true =
-      ap (may_stay plan.nodes (suc turn)) shown
-      ∙ lt-ltb (suc turn) (suc turn + plan.nodes) (omega (arith, count)) in
+      ap (may_stay plan.nodes (suc turn)) shown ∙ lt-ltb (suc turn) (suc turn + plan.nodes) (omega (arith, count)) in
       turn-other (one-stays plan (suc turn) (sender plan (suc turn)) k t.planned.follows.good stays
       (ap (may_stay plan.nodes (suc turn)) jumped))
 
-  by-silence : NoneSends list script (world list script numbers)
-      (messages_chosen list script (length numbers) new.sent)
+  by-silence : NoneSends list script (world list script numbers) (messages_chosen list script (length numbers) new.sent)
       → HearsLate (slot_of list script new numbers k)
-  by-silence none =
-      NoFrame (frameless-silent _ (silent-none_sends list script (world list script numbers) _ k none))
+  by-silence none = NoFrame (frameless-silent _ (silent-none_sends list script (world list script numbers) _ k none))
 
   by-sound : fate_of plan turn (sender plan (suc turn)) ≡ Sound
       → strikes (incident_at plan (suc turn)) (sender plan (suc turn)) ≡ false
@@ -58,23 +55,18 @@ module _ (list : Medl) (script : Script) (start : ClusterStart) (plan : Plan) (t
     where
       by : (lost : Bool) → loses script (sender plan (suc turn)) (length (world list script numbers)) k ≡ lost
           → HearsLate (slot_of list script new numbers k)
-      by true lost =
-          NoFrame (none-alone list script (world list script numbers) _ (sender plan (suc turn)) k
-          (sound-alone list script start plan turn new numbers t sends) lost)
+      by true lost = NoFrame (none-alone k (sound-alone t sends) lost)
       by false kept =
-          Outside (sender plan (suc turn))
-          (outside-alone list script (world list script numbers) _ (sender plan (suc turn)) k
-          (sound-alone list script start plan turn new numbers t sends) kept
-          (t.clocks.others k (sender plan (suc turn)) since node (e-node list script start plan turn new numbers t)
-          jumped (ap is_sound (sound-stays plan turn (sender plan (suc turn)) t.planned.follows.good missed sends))
+          Outside (sender plan (suc turn)) (outside-alone k (sound-alone t sends) kept (t.clocks.others k
+          (sender plan (suc turn)) since node (e-node t) jumped
+          (ap is_sound (sound-stays plan turn (sender plan (suc turn)) t.planned.follows.good missed sends))
           (sender-unentered plan (suc turn) t.planned.follows.good)))
 
   hears-late : (fate : Fate) → fate_of plan turn (sender plan (suc turn)) ≡ fate
       → HearsLate (slot_of list script new numbers k)
-  hears-late Absent is = by-silence (silent-absent list script start plan turn new numbers t is)
-  hears-late (Listening s) is = by-silence (silent-listening list script start plan turn new numbers t s is)
-  hears-late (Fallen change s shown) is =
-      by-silence (silent-fallen list script start plan turn new numbers t change s shown is)
+  hears-late Absent is = by-silence (silent-absent t is)
+  hears-late (Listening s) is = by-silence (silent-listening t s is)
+  hears-late (Fallen change s shown) is = by-silence (silent-fallen t change s shown is)
   hears-late (Falling change s) is =
       absurd (none-shown change s
       (falling-shown plan turn (sender plan (suc turn)) s change t.planned.follows.good refl is))
@@ -91,8 +83,7 @@ module _ (list : Medl) (script : Script) (start : ClusterStart) (plan : Plan) (t
   -- one that returns does not jump
   none-awaited : (s : ℕ) → IsAwaited plan turn k s → ⊥
   none-awaited s awaited =
-      elim (fate-awaited plan turn k s t.planned.follows.good awaited
-      (within-plan list script start plan turn new numbers t)) [
+      elim (fate-awaited plan turn k s t.planned.follows.good awaited (within-plan t)) [
         | inl sound ↦ let both = sym sound ∙ jumped in cc
         | inr listens ↦ let both = sym listens ∙ jumped in cc
       ]
@@ -104,18 +95,16 @@ module _ (list : Medl) (script : Script) (start : ClusterStart) (plan : Plan) (t
   stands-jumped Absent is =
       let both = sym (absent-stays plan turn k t.planned.follows.good is) ∙ jumped in cc
   stands-jumped (Listening s) is =
-      absurd (none-awaited s
-      (awaited-listening plan turn k s t.planned.follows.good
-      (within-plan list script start plan turn new numbers t) is))
+      absurd (none-awaited s (awaited-listening plan turn k s t.planned.follows.good (within-plan t) is))
   stands-jumped (Fallen change s shown) is =
       let unarmed = false_from_ne_true (is_armed_by plan (suc turn) k) (λ armed.
       none-awaited (suc turn) (awaited-armed plan turn k t.planned.follows.good armed)) in
       let both = sym (fallen-stays plan turn k s shown change t.planned.follows.good unarmed is) ∙ jumped in cc
   stands-jumped Sound is =
-      let at = at-fate list script start plan turn new numbers t k Sound node is in (at.phase, at.place)
+      let at = at-fate t k Sound node is in (at.phase, at.place)
   stands-jumped (Falling change s) is =
       let both = sym (falling-stays plan turn k s change t.planned.follows.good turn-other is) ∙ jumped in
-      elim (at-fate list script start plan turn new numbers t k (Falling change s) node is) [
+      elim (at-fate t k (Falling change s) node is) [
         | inl left ↦ let deaf = left.1 in cc
         | inr at ↦ (at.phase, at.place)
       ]
@@ -124,6 +113,5 @@ module _ (list : Medl) (script : Script) (start : ClusterStart) (plan : Plan) (t
   pub jumped-wrong : IsJudgedWrong (slot_of list script new numbers k)
   jumped-wrong =
       let stands = stands-jumped (fate_of plan turn k) refl in
-      late-wrong (slot_of list script new numbers k)
-      (judges list script start plan turn new numbers t k node stands.0 stands.1 turn-other)
+      late-wrong (slot_of list script new numbers k) (judges t k node stands.0 stands.1 turn-other)
       (hears-late (fate_of plan turn (sender plan (suc turn))) refl)

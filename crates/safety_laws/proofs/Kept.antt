@@ -45,8 +45,7 @@ module _ (list : Medl) (script : Script) (slot : ℕ) (valid : IsValid list) (sc
       arms = λ k turn node lost. by_plan.arms k (by_plan.start.slot + suc turn);
     };
     alone = by_plan.alone;
-    heard = λ k node other on.
-        by_plan.heard k (let from = by_plan.from in omega (arith, inside, from)) node other on;
+    heard = λ k node other on. by_plan.heard k (let from = by_plan.from in omega (arith, inside, from)) node other on;
   }
 
   clocks : KeepsClocks list script by_plan.start (plan_of list script by_plan.start)
@@ -62,9 +61,8 @@ module _ (list : Medl) (script : Script) (slot : ℕ) (valid : IsValid list) (sc
         (world list script numbers)
     run =
         let number = count in
-        run-by_plan list script by_plan.start (plan_of list script by_plan.start)
-        (begun (omega (arith, after, within))) clocks (length numbers - suc slot) numbers number
-        (omega (arith, number, within)) legal
+        run-by_plan list script by_plan.start (plan_of list script by_plan.start) (begun (omega (arith, after, within)))
+        clocks (length numbers - suc slot) numbers number (omega (arith, number, within)) legal
 
     pub kept-stands : StandsAfter list script by_plan.start (plan_of list script by_plan.start)
         (length numbers - suc slot) (world list script numbers)
@@ -81,14 +79,10 @@ module _ (list : Medl) (script : Script) (slot : ℕ) (valid : IsValid list) (sc
         }
 
     pub kept-safe : IsSafe list script (world list script numbers)
-    kept-safe =
-        safe-after list script by_plan.start (plan_of list script by_plan.start) (length numbers - suc slot)
-        (world list script numbers) kept-stands
+    kept-safe = safe-after kept-stands
 
     pub kept-leave : FaultyLeave list script (world list script numbers)
-    kept-leave =
-        faulty-leave list script by_plan.start (plan_of list script by_plan.start) (length numbers - suc slot)
-        (world list script numbers) kept-stands
+    kept-leave = faulty-leave kept-stands
 
     -- the correct nodes are the sound ones
     correct-sound : (k : ℕ) → IsIn list (is_correct_after list script (newest_slot (world list script numbers))) k
@@ -106,24 +100,20 @@ module _ (list : Medl) (script : Script) (slot : ℕ) (valid : IsValid list) (sc
         let number = count in
         subst (λ s. AcceptsAlikeSince list script
         (is_correct_after list script (newest_slot (world list script numbers))) s (world list script numbers))
-        by_plan.from
-        (alike-run list script by_plan.start (plan_of list script by_plan.start) (begun (omega (arith, after, within)))
-        clocks refl (is_correct_after list script (newest_slot (world list script numbers))) (length numbers - suc slot)
-        numbers correct-sound number (omega (arith, number, within)) legal)
+        by_plan.from (alike-run (begun (omega (arith, after, within))) clocks refl
+        (is_correct_after list script (newest_slot (world list script numbers))) (length numbers - suc slot) numbers
+        correct-sound number (omega (arith, number, within)) legal)
 
     pub kept-stands_alike : StandsAlikeSince list
         (is_correct_after list script (newest_slot (world list script numbers))) slot (world list script numbers)
     kept-stands_alike =
         let number = count in
         subst (λ s. StandsAlikeSince list (is_correct_after list script (newest_slot (world list script numbers))) s
-        (world list script numbers)) by_plan.from
-        (stands-run list script by_plan.start (plan_of list script by_plan.start)
-        (begun (omega (arith, after, within))) clocks refl
+        (world list script numbers)) by_plan.from (stands-run (begun (omega (arith, after, within))) clocks refl
         (is_correct_after list script (newest_slot (world list script numbers))) (length numbers - suc slot) numbers
         correct-sound number (omega (arith, number, within)) legal)
 
-    pub kept-places : (j k : ℕ)
-        → IsIn list (is_correct_after list script (newest_slot (world list script numbers))) j
+    pub kept-places : (j k : ℕ) → IsIn list (is_correct_after list script (newest_slot (world list script numbers))) j
         → IsIn list (is_correct_after list script (newest_slot (world list script numbers))) k
         → place_of list j (diary_of (world list script numbers) j)
         ≡ place_of list k (diary_of (world list script numbers) k)
@@ -135,9 +125,7 @@ module _ (list : Medl) (script : Script) (slot : ℕ) (valid : IsValid list) (sc
             → is_correct_after list script (newest_slot (world list script numbers)) k ≡ true
             → IsSoundAt list (plan_of list script by_plan.start) (length numbers - suc slot) k
             (node_past list script (world list script numbers) k)
-        safe-nodes =
-            correct-at list script by_plan.start (plan_of list script by_plan.start) (length numbers - suc slot)
-            (world list script numbers) kept-stands
+        safe-nodes = correct-at kept-stands
 
   -- at the beginning of the slot that comes
   module _ (numbers : Numbers) (legal : IsLegal list script numbers) (after : slot < length numbers)

@@ -87,8 +87,7 @@ module _ (ledger : Ledger) (past next : NodePast) (counted : IsCounted ledger pa
 
 module _ (x : NodeSlot) (ledger : Ledger) (counted : IsCounted ledger x.past) where
   pub counted-correct : (deviation : ℤ) (first : Bool) → IsJudgedAs x verdict.Correct deviation
-      → (next_past x).ack ≡ ack.Closed
-      → IsCounted (with_slot true first ledger) (next_past x)
+      → (next_past x).ack ≡ ack.Closed → IsCounted (with_slot true first ledger) (next_past x)
   counted-correct deviation first judged closed =
       by-correct ledger x.past (next_past x) counted first (counted-on x verdict.Correct deviation judged) closed
 
@@ -99,7 +98,6 @@ module _ (x : NodeSlot) (ledger : Ledger) (counted : IsCounted ledger x.past) wh
       by-wrong ledger x.past (next_past x) counted v first (counted-on x v deviation judged) wrong only same
 
   pub counted-tentative : (deviation : ℤ) (y : ℕ) → IsJudgedAs x verdict.Tentative deviation → x.past.ack ≡ ack.First
-      → (next_past x).ack ≡ ack.Doubt y
-      → IsCounted (with_slot false true ledger) (next_past x)
+      → (next_past x).ack ≡ ack.Doubt y → IsCounted (with_slot false true ledger) (next_past x)
   counted-tentative deviation y judged first doubt =
       by-tentative ledger x.past (next_past x) counted y (counted-on x verdict.Tentative deviation judged) first doubt

@@ -17,8 +17,7 @@ use Rattle.ttp_world.specs.Script.{is_armed}
 range-more : (a n : ℕ) → range_with_len a (suc n) ≡ range_with_len a n ++ (a + n) ∷ []
 range-more a zero = ap (λ j. j ∷ []) (omega arith)
 range-more a (suc n) =
-    ap (λ rest. a ∷ rest)
-    (range-more (a + 1) n ∙ ap (λ j. range_with_len (a + 1) n ++ j ∷ []) (omega arith))
+    ap (λ rest. a ∷ rest) (range-more (a + 1) n ∙ ap (λ j. range_with_len (a + 1) n ++ j ∷ []) (omega arith))
 
 newest_arm-next : (script : Script) (k slots : ℕ)
     → newest_arm script k (suc slots) ≡ cond (is_armed script k slots) (Some slots) (newest_arm script k slots)
@@ -29,8 +28,7 @@ newest_arm-next script k slots =
 
 newest_arm-less : (script : Script) (k slots slot : ℕ) → newest_arm script k slots ≡ Some slot → slot < slots
 newest_arm-less script k zero slot is = cc
-newest_arm-less script k (suc slots) slot is =
-    by (is_armed script k slots) refl (newest_arm-less script k slots slot)
+newest_arm-less script k (suc slots) slot is = by (is_armed script k slots) refl (newest_arm-less script k slots slot)
   where
     by : (armed : Bool) → is_armed script k slots ≡ armed → (newest_arm script k slots ≡ Some slot → slot < slots)
         → slot < suc slots
@@ -74,8 +72,7 @@ left_since-next script history row k stays before = by (is_armed script k (lengt
     long : length diary ≡ length history
     long = length-map history (λ r. entry_of r k)
 
-    arm-is : (armed : Bool) → is_armed script k (length history) ≡ armed
-        → newest_arm script k (suc (length history))
+    arm-is : (armed : Bool) → is_armed script k (length history) ≡ armed → newest_arm script k (suc (length history))
         ≡ cond armed (Some (length history)) (newest_arm script k (length history))
     arm-is armed is =
         newest_arm-next script k (length history)
@@ -94,8 +91,7 @@ left_since-next script history row k stays before = by (is_armed script k (lengt
         → has_left_since_arm script (row ∷ history) k ≡ false
     by true armed =
         ap (λ slot. list_any is_left_after (since_slot slot (e ∷ diary))) (arm-is true armed)
-        ∙ ap (list_any is_left_after) (since-newest e diary (length history) long)
-        ∙ ap (λ b. b || false) stays
+        ∙ ap (list_any is_left_after) (since-newest e diary (length history) long) ∙ ap (λ b. b || false) stays
     by false unarmed =
         ap (λ slot. list_any is_left_after (since_slot slot (e ∷ diary))) (arm-is false unarmed)
         ∙ older (newest_arm script k (length history)) refl (before unarmed)

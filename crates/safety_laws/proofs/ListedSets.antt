@@ -20,16 +20,14 @@ use Rattle.ttp_world.proofs.WorldFacts.{AreNodes-filter}
 pub AreNodes-with : (list : Medl) (members : List ℕ) (k : ℕ) → IsValid list → AreNodes list members
     → k < length list.slots → AreNodes list (with_node members k)
 AreNodes-with list members k valid are node =
-    subst (AreNodes list)
-    (sym (ap (λ (s : List ℕ). with_node s k) are
+    subst (AreNodes list) (sym (ap (λ (s : List ℕ). with_node s k) are
     ∙ with_node-filter (has_node members) (length list.slots) k node (nodes-most list valid)))
     (AreNodes-filter list (λ j. (j == k) || has_node members j))
 
 pub AreNodes-without : (list : Medl) (members : List ℕ) (k : ℕ) → AreNodes list members
     → AreNodes list (without_node members k)
 AreNodes-without list members k are =
-    subst (AreNodes list)
-    (sym (ap (λ (s : List ℕ). without_node s k) are
+    subst (AreNodes list) (sym (ap (λ (s : List ℕ). without_node s k) are
     ∙ without_node-filter (has_node members) (length list.slots) k))
     (AreNodes-filter list (λ j. has_node members j && not (j == k)))
 
@@ -42,12 +40,10 @@ AreNodes-same list one other are are_too same =
 -- what is put in is there, and what is taken out is not
 
 pub has_node-put_in : (members : List ℕ) (k : ℕ) → k < most_nodes → has_node (with_node members k) k ≡ true
-has_node-put_in members k small =
-    has_node-with members k k small ∙ ap (λ b. b || has_node members k) (eq-eqb k k refl)
+has_node-put_in members k small = has_node-with members k k small ∙ ap (λ b. b || has_node members k) (eq-eqb k k refl)
 
 pub has_node-taken_out : (members : List ℕ) (k : ℕ) → has_node (without_node members k) k ≡ false
-has_node-taken_out members k =
-    has_node-without members k k ∙ ap (λ b. not b && has_node members k) (eq-eqb k k refl)
+has_node-taken_out members k = has_node-without members k k ∙ ap (λ b. not b && has_node members k) (eq-eqb k k refl)
 
 -- so a set with a node is none without it
 pub put_in≢taken_out : (one other : List ℕ) (k : ℕ) → k < most_nodes → with_node one k ≢ without_node other k

@@ -20,8 +20,7 @@ pub record ListensSince (plan : Plan) (turn since : ℕ) (x : NodeSlot) : Type 0
       → x.past.silent_slots + good ≤ turn
 
 -- One that listened before: a good slot came less than a round ago, so it has not waited for its limit.
-pub listens-before : (plan : Plan) (turn since : ℕ) (x : NodeSlot) → plan.nodes ≡ length x.list.slots
-    → 0 < plan.nodes
+pub listens-before : (plan : Plan) (turn since : ℕ) (x : NodeSlot) → plan.nodes ≡ length x.list.slots → 0 < plan.nodes
     → (slot : ℕ) × ((slot ≤ turn) × (turn < slot + plan.nodes) × (is_good_slot plan slot ≡ true))
     → IsListeningAt x.list plan turn x.node since x.past → ListensSince plan turn since x
 listens-before plan turn since x nodes some lately at = record {
@@ -48,8 +47,7 @@ listens-before plan turn since x nodes some lately at = record {
 
 -- One that is armed in the turn has counted none.
 pub listens-first : (plan : Plan) (turn : ℕ) (x : NodeSlot) → x.past.phase ≡ phase.Left → x.armed ≡ true
-    → x.past.silent_slots ≡ 0 → x.past.limit ≡ 2 * length x.list.slots + x.node
-    → ListensSince plan turn (suc turn) x
+    → x.past.silent_slots ≡ 0 → x.past.limit ≡ 2 * length x.list.slots + x.node → ListensSince plan turn (suc turn) x
 listens-first plan turn x left armed none limit = record {
   listens = listens-armed x left armed;
   limit = limit;

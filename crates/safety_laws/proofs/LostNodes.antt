@@ -107,15 +107,14 @@ module _ (plan : Plan) (turn : ℕ) (x : NodeSlot) (judging : IsJudging x) where
 
 -- two rounds after the start no sound node's newest own frame is a cold start
 pub sound-late : (plan : Plan) (turn : ℕ) (x : NodeSlot) → IsGoodPlan plan → x.node < plan.nodes
-    → IsSoundAt x.list plan turn x.node x.past → 2 * plan.nodes ≤ suc turn
-    → x.past.cold_start ≡ false
+    → IsSoundAt x.list plan turn x.node x.past → 2 * plan.nodes ≤ suc turn → x.past.cold_start ≡ false
 sound-late plan turn x good less at late =
     false_from_ne_true x.past.cold_start (λ cold.
     let told = ledger-told plan turn x.node good less in
     let first = (at.counted.cold_start cold).1 in
     omega (arith, first, told.near, late, good.count))
 
-module _ (plan : Plan) (turn : ℕ) (x : NodeSlot) (is : IsSoundJudge plan turn x) (late : 2 * plan.nodes ≤ suc turn)
+module _ {plan : Plan} {turn : ℕ} {x : NodeSlot} (is : IsSoundJudge plan turn x) (late : 2 * plan.nodes ≤ suc turn)
   where
     falls-by : (change : Change) (v : Verdict) (deviation : ℤ) → IsJudgedAs x v deviation → is_correct v ≡ false
         → (change ≡ Receiving → has_node (next_past x).members (sender plan (suc turn)) ≡ false)
@@ -133,11 +132,9 @@ module _ (plan : Plan) (turn : ℕ) (x : NodeSlot) (is : IsSoundJudge plan turn 
     }
 
     without_owner : (v : Verdict) (deviation : ℤ) → IsJudgedAs x v deviation
-        → ((v ≡ verdict.Null) ⊎ (v ≡ verdict.Invalid))
-        → has_node (next_past x).members (sender plan (suc turn)) ≡ false
+        → ((v ≡ verdict.Null) ⊎ (v ≡ verdict.Invalid)) → has_node (next_past x).members (sender plan (suc turn)) ≡ false
     without_owner v deviation judged how =
-        ap (has_node (next_past x).members) (sym is.owner)
-        ∙ ap (λ s. has_node s (owner_of x)) judged.members ∙ by v how
+        ap (has_node (next_past x).members) (sym is.owner) ∙ ap (λ s. has_node s (owner_of x)) judged.members ∙ by v how
       where
         by : (v : Verdict) → ((v ≡ verdict.Null) ⊎ (v ≡ verdict.Invalid))
             → has_node (judged_members x.past.members x.past.ack v (owner_of x)) (owner_of x) ≡ false
@@ -155,8 +152,7 @@ module _ (plan : Plan) (turn : ℕ) (x : NodeSlot) (is : IsSoundJudge plan turn 
         → IsFallingAt x.list plan (suc turn) x.node Receiving (suc turn) (next_past x)
     deaf-falls none = elim (judged-none x is.judging none) [
       | inl null ↦
-          falls-by Receiving verdict.Null (pos 0) null refl
-          (λ deaf. without_owner verdict.Null (pos 0) null (inl refl))
+          falls-by Receiving verdict.Null (pos 0) null refl (λ deaf. without_owner verdict.Null (pos 0) null (inl refl))
       | inr invalid ↦
           falls-by Receiving verdict.Invalid (pos 0) invalid refl
           (λ deaf. without_owner verdict.Invalid (pos 0) invalid (inr refl))

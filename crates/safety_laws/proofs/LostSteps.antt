@@ -37,8 +37,8 @@ use Rattle.safety_laws.proofs.Receivers.{sound-judge}
 use Rattle.safety_laws.proofs.PlanTurns.{slot_of, slot_number, owner-is, judges, armed-planned, unarmed-falling}
 use Rattle.fault_plan.proofs.FateSteps.{sound-fate}
 
-module _ (list : Medl) (script : Script) (start : ClusterStart) (plan : Plan) (turn : ℕ) (new : SlotNumbers)
-    (numbers : Numbers) (t : IsTurn list script start plan turn new numbers) (k : ℕ) (node : k < length list.slots)
+module _ {list : Medl} {script : Script} {start : ClusterStart} {plan : Plan} {turn : ℕ} {new : SlotNumbers}
+    {numbers : Numbers} (t : IsTurn list script start plan turn new numbers) (k : ℕ) (node : k < length list.slots)
     (other : sender plan (suc turn) ≢ k) where
   few_nodes : 0 < plan.nodes
   few_nodes = let count = t.planned.follows.good.count in omega (arith, count)
@@ -53,45 +53,33 @@ module _ (list : Medl) (script : Script) (start : ClusterStart) (plan : Plan) (t
       let loss = t.planned.follows.good.losses turn is.incident is.found in
       let sends = sound-fate (fate_of plan turn (sender plan (suc turn))) (loss.receiving deaf).1 in
       let hearing = t.planned.follows.hearing (suc turn) t.within in
-      deaf-falls plan turn (slot_of list script new numbers k)
-      (sound-judge list script start plan turn new numbers t k node other sound)
-      (t.planned.follows.good.late (suc turn) is.incident is.found)
-      (none-alone list script (world list script numbers) _ (sender plan (suc turn)) k
-      (sound-alone list script start plan turn new numbers t sends)
-      (ap (λ n. loses script (sender plan (suc turn)) n k)
-      (slot_number list script start plan turn new numbers t)
+      deaf-falls (sound-judge t k node other sound) (t.planned.follows.good.late (suc turn) is.incident is.found)
+      (none-alone k (sound-alone t sends) (ap (λ n. loses script (sender plan (suc turn)) n k) (slot_number t)
       ∙ ap (loses script (sender plan (suc turn)) (start.slot + suc turn)) (sym is.node)
       ∙ hearing.deaf is.incident is.found deaf))
 
   pub struck-next : fate_of plan turn k ≡ Sound → (is : IsStruck plan (suc turn) k)
-      → IsFallingAt list plan (suc turn) k is.incident.change (suc turn)
-      (next_past (slot_of list script new numbers k))
+      → IsFallingAt list plan (suc turn) k is.incident.change (suc turn) (next_past (slot_of list script new numbers k))
   struck-next sound is = by is.incident.change refl
     where
       by : (change : Change) → is.incident.change ≡ change
           → IsFallingAt list plan (suc turn) k is.incident.change (suc turn)
           (next_past (slot_of list script new numbers k))
-      by Sending how =
-          absurd (other ((t.planned.follows.good.losses turn is.incident is.found).sending how ∙ is.node))
+      by Sending how = absurd (other ((t.planned.follows.good.losses turn is.incident is.found).sending how ∙ is.node))
       by Receiving how =
           subst (λ (c : Change). IsFallingAt list plan (suc turn) k c (suc turn)
           (next_past (slot_of list script new numbers k))) (sym how) (deaf-next sound is how)
       by Jumping how =
           subst (λ (c : Change). IsFallingAt list plan (suc turn) k c (suc turn)
-          (next_past (slot_of list script new numbers k))) (sym how)
-          (jumped-falls plan turn (slot_of list script new numbers k)
-          (sound-judge list script start plan turn new numbers t k node other sound)
-          (t.planned.follows.good.late (suc turn) is.incident is.found)
-          (jumped-wrong list script start plan turn new numbers t k node (suc turn)
+          (next_past (slot_of list script new numbers k))) (sym how) (jumped-falls (sound-judge t k node other sound)
+          (t.planned.follows.good.late (suc turn) is.incident is.found) (jumped-wrong t k node (suc turn)
           (struck-falls plan turn k t.planned.follows.good is other ∙ ap (λ (c : Change). Falling c (suc turn)) how)))
 
   -- What comes to a node that was lost and may still stay: what a sound sender's frame is to it, or none.
 
-  by-silence : NoneSends list script (world list script numbers)
-      (messages_chosen list script (length numbers) new.sent)
+  by-silence : NoneSends list script (world list script numbers) (messages_chosen list script (length numbers) new.sent)
       → HearsNoAnswer (slot_of list script new numbers k)
-  by-silence none =
-      NoFrame (frameless-silent _ (silent-none_sends list script (world list script numbers) _ k none))
+  by-silence none = NoFrame (frameless-silent _ (silent-none_sends list script (world list script numbers) _ k none))
 
   module _ (place : (slot_of list script new numbers k).past.place ≡ planned_place list plan turn)
       (told : HearsMembers (slot_of list script new numbers k) (sender plan (suc turn))
@@ -100,31 +88,21 @@ module _ (list : Medl) (script : Script) (start : ClusterStart) (plan : Plan) (t
     by-sound : fate_of plan turn (sender plan (suc turn)) ≡ Sound → HearsNoAnswer (slot_of list script new numbers k)
     by-sound sends = by _ _ refl refl
       where
-        by : (lost within : Bool)
-            → loses script (sender plan (suc turn)) (length (world list script numbers)) k ≡ lost
+        by : (lost within : Bool) → loses script (sender plan (suc turn)) (length (world list script numbers)) k ≡ lost
             → is_within_window list
-            (deviation_in (slot_after list script (world list script numbers)) k (sender plan (suc turn)))
-            ≡ within
+            (deviation_in (slot_after list script (world list script numbers)) k (sender plan (suc turn))) ≡ within
             → HearsNoAnswer (slot_of list script new numbers k)
-        by true within lost _ =
-            NoFrame (none-alone list script (world list script numbers) _ (sender plan (suc turn)) k
-            (sound-alone list script start plan turn new numbers t sends) lost)
+        by true within lost _ = NoFrame (none-alone k (sound-alone t sends) lost)
         by false false kept outside =
-            Outside (sender plan (suc turn))
-            (outside-alone list script (world list script numbers) _ (sender plan (suc turn)) k
-            (sound-alone list script start plan turn new numbers t sends) kept outside)
-        by false true kept within =
-            told (hears-planned list script start plan turn new numbers t sends k place kept within)
+            Outside (sender plan (suc turn)) (outside-alone k (sound-alone t sends) kept outside)
+        by false true kept within = told (hears-planned t sends k place kept within)
 
-    no-answer : may_stay plan.nodes turn (fate_of plan turn k) ≡ true
-        → (fate : Fate) → fate_of plan turn (sender plan (suc turn)) ≡ fate
-        → HearsNoAnswer (slot_of list script new numbers k)
+    no-answer : may_stay plan.nodes turn (fate_of plan turn k) ≡ true → (fate : Fate)
+        → fate_of plan turn (sender plan (suc turn)) ≡ fate → HearsNoAnswer (slot_of list script new numbers k)
     no-answer stays Sound sends = by-sound sends
-    no-answer stays Absent sends = by-silence (silent-absent list script start plan turn new numbers t sends)
-    no-answer stays (Listening s) sends =
-        by-silence (silent-listening list script start plan turn new numbers t s sends)
-    no-answer stays (Fallen c s sh) sends =
-        by-silence (silent-fallen list script start plan turn new numbers t c s sh sends)
+    no-answer stays Absent sends = by-silence (silent-absent t sends)
+    no-answer stays (Listening s) sends = by-silence (silent-listening t s sends)
+    no-answer stays (Fallen c s sh) sends = by-silence (silent-fallen t c s sh sends)
     no-answer stays (Falling c s) sends =
         absurd (other (one-stays plan turn (sender plan (suc turn)) k t.planned.follows.good
         (ap (may_stay plan.nodes turn) sends) stays))
@@ -135,29 +113,23 @@ module _ (list : Medl) (script : Script) (start : ClusterStart) (plan : Plan) (t
       (past.phase ≡ phase.Left) ⊎ IsFallingAt list plan (suc turn) k Receiving since past
   deaf-on since is =
       let x = slot_of list script new numbers k in
-      elim (at-fate list script start plan turn new numbers t k (Falling Receiving since) node is) [
-        | inl left ↦
-            inl (idle-left x left.0
-            (unarmed-falling list script start plan turn new numbers t k node Receiving since is)).0
+      elim (at-fate t k (Falling Receiving since) node is) [
+        | inl left ↦ inl (idle-left x left.0 (unarmed-falling t k node Receiving since is)).0
         | inr at ↦
             let told = told-falling plan turn k since Receiving t.planned.follows.good is in
             let lost_less : sender plan since < plan.nodes = mod-lt (plan.starter + since) few_nodes in
             let listed = subst (λ n. sender plan since < n) t.planned.follows.nodes lost_less in
-            let owner = owner-is list script start plan turn new numbers t k node at.place in
+            let owner = owner-is t k node at.place in
             let from = told.from in
-            let apart : sender plan since ≢ sender plan (suc turn) =
-            λ same.
+            let apart : sender plan since ≢ sender plan (suc turn) = λ same.
             let soon = told.soon in
             let round = turns_apart plan since (suc turn) few_nodes (omega (arith, from)) same in
             omega (arith, soon, round) in
             let not_owner = λ (same : sender plan since ≡ owner_of x). apart (same ∙ owner) in
             let lost = sender-lost plan turn k since t.planned.follows.good is in
             let few = nodes-most list t.planned.valid in
-            deaf-judges plan turn x
-            (judges list script start plan turn new numbers t k node at.phase at.place other) since at listed not_owner
-            (no-answer at.place
-            (λ hears. HasThird (sender plan (suc turn)) (sender plan since) _ hears
-            (record {
+            deaf-judges plan turn x (judges t k node at.phase at.place other) since at listed not_owner
+            (no-answer at.place (λ hears. HasThird (sender plan (suc turn)) (sender plan since) _ hears (record {
               listed = listed;
               not_self = told.unshown since (omega arith) from;
               not_owner = not_owner;
@@ -182,13 +154,11 @@ module _ (list : Medl) (script : Script) (start : ClusterStart) (plan : Plan) (t
       (loss-sending plan k since Sending t.planned.follows.good told.loss refl))
   falling-next Jumping since is =
       let x = slot_of list script new numbers k in
-      elim (at-fate list script start plan turn new numbers t k (Falling Jumping since) node is) [
+      elim (at-fate t k (Falling Jumping since) node is) [
         | inl left ↦ let deaf = left.1 in cc
         | inr at ↦
-            inr (jumped-judges plan turn x
-            (judges list script start plan turn new numbers t k node at.phase at.place other) since at
-            (jumped-wrong list script start plan turn new numbers t k node since
-            (falling-stays plan turn k since Jumping t.planned.follows.good other is)))
+            inr (jumped-judges plan turn x (judges t k node at.phase at.place other) since at (jumped-wrong t k node
+            since (falling-stays plan turn k since Jumping t.planned.follows.good other is)))
       ]
 
   -- one that was lost, and has had its first slot since: no frame answers its own
@@ -217,15 +187,11 @@ module _ (list : Medl) (script : Script) (start : ClusterStart) (plan : Plan) (t
         (past.phase ≡ phase.Left) ⊎ IsFallenAt list plan (suc turn) k since shown past
     fallen-next =
         let x = slot_of list script new numbers k in
-        elim (at-fate list script start plan turn new numbers t k (Fallen change since shown) node is) [
-          | inl left ↦
-              inl (idle-left x left
-              (armed-planned list script start plan turn new numbers t k node (ap is_lost is) ∙ unarmed)).0
+        elim (at-fate t k (Fallen change since shown) node is) [
+          | inl left ↦ inl (idle-left x left (armed-planned t k node (ap is_lost is) ∙ unarmed)).0
           | inr at ↦
               let soon = at.soon in
-              fallen-judges plan turn x
-              (judges list script start plan turn new numbers t k node at.phase at.place other) since shown at
-              (no-answer at.place lacks-fallen
-              (ap (may_stay plan.nodes turn) is ∙ lt-ltb turn (shown + plan.nodes) soon)
+              fallen-judges plan turn x (judges t k node at.phase at.place other) since shown at (no-answer at.place
+              lacks-fallen (ap (may_stay plan.nodes turn) is ∙ lt-ltb turn (shown + plan.nodes) soon)
               (fate_of plan turn (sender plan (suc turn))) refl) (still-soon soon)
         ]

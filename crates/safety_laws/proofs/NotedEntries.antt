@@ -41,19 +41,17 @@ use Rattle.safety_laws.proofs.PlanTurns.{slot_of}
 -- the slot of the start
 pub started-by_plan : (list : Medl) (script : Script) (start : ClusterStart) (plan : Plan) (new : SlotNumbers)
     (numbers : Numbers) → IsBegun list script start plan → length numbers ≡ start.slot
-    → StartedByPlan list script start plan
-    (row_in (slot_after list script (world list script numbers))
+    → StartedByPlan list script start plan (row_in (slot_after list script (world list script numbers))
     (messages_chosen list script (length numbers) new.sent)) (world list script numbers)
 started-by_plan list script start plan new numbers is now = record {
   number = length-world list script numbers ∙ now;
-  starter = (starter-begun list script start plan is new numbers now).entry;
-  joins = λ k sound other.
-      (joiner-begun list script start plan is new numbers now k sound.0 other
-      (on-begun list script start plan is new numbers now k sound.0 sound.1)).entry;
+  starter = (starter-begun is new numbers now).entry;
+  joins = λ k sound other. (joiner-begun is new numbers now k sound.0 other
+      (on-begun is new numbers now k sound.0 sound.1)).entry;
 }
 
-module _ (list : Medl) (script : Script) (start : ClusterStart) (plan : Plan) (turn : ℕ) (new : SlotNumbers)
-    (numbers : Numbers) (t : IsTurn list script start plan turn new numbers) where
+module _ {list : Medl} {script : Script} {start : ClusterStart} {plan : Plan} {turn : ℕ} {new : SlotNumbers}
+    {numbers : Numbers} (t : IsTurn list script start plan turn new numbers) where
   -- what is so of the entry that a node makes is so of its entry in the row
   pub in-row : (P : Entry → Type 0) (k : ℕ) (e : Entry) → k < length list.slots
       → entry_made (slot_of list script new numbers k) ≡ e → P e
@@ -85,24 +83,21 @@ module _ (list : Medl) (script : Script) (start : ClusterStart) (plan : Plan) (t
       both_ways (is_good_slot plan (suc turn)) wrong (entry-good plan (suc turn) k t.planned.follows.good enter).0)
 
   -- in its own slot a sound node sends
-  pub own-sent : (k : ℕ) → IsSoundIn list plan (suc turn) k → sender plan (suc turn) ≡ k
-      → (message : Option ℕ)
+  pub own-sent : (k : ℕ) → IsSoundIn list plan (suc turn) k → sender plan (suc turn) ≡ k → (message : Option ℕ)
       × (entry_of (row_in (slot_after list script (world list script numbers))
       (messages_chosen list script (length numbers) new.sent)) k ≡ entry.Sent message)
   own-sent k sound own =
       let sends = sender-before (ap (is_sound_after plan (suc turn)) own ∙ sound.1) in
-      let owner = sound-owner list script start plan turn new numbers t sends in
-      let may = sound-sends plan turn _ owner in
+      let owner = sound-owner t sends in
+      let may = sound-sends owner in
       let sent = sent-own (slot_of list script new numbers (sender plan (suc turn))) owner.own may.closed may.more in
-      subst (λ j. (message : Option ℕ)
-      × (entry_of (row_in (slot_after list script (world list script numbers))
+      subst (λ j. (message : Option ℕ) × (entry_of (row_in (slot_after list script (world list script numbers))
       (messages_chosen list script (length numbers) new.sent)) j ≡ entry.Sent message)) own
       (_, entry_of-made list script (world list script numbers) _ (sender plan (suc turn)) owner.own.node ∙ sent.entry)
 
   -- in a good slot the sender sends, and each other sound node that does not enter judges its frame correct
   tells-good : (k : ℕ) → is_good_slot plan (suc turn) ≡ true → IsSoundIn list plan (suc turn) k
-      → enters plan (suc turn) k ≡ false
-      → TellsOf list script (world list script numbers) (sender plan (suc turn)) k
+      → enters plan (suc turn) k ≡ false → TellsOf list script (world list script numbers) (sender plan (suc turn)) k
       (entry_of (row_in (slot_after list script (world list script numbers))
       (messages_chosen list script (length numbers) new.sent)) k)
   tells-good k good_is sound none = elim (cases_eq (sender plan (suc turn)) k) [
@@ -110,7 +105,7 @@ module _ (list : Medl) (script : Script) (start : ClusterStart) (plan : Plan) (t
         subst (TellsOf list script (world list script numbers) (sender plan (suc turn)) k)
         (sym (own-sent k sound own).1) (sym own)
     | inr other ↦
-        let judged = judges-good list script start plan turn new numbers t k sound.0 other
+        let judged = judges-good t k sound.0 other
         (fate-before k none sound.1) good_is (sender-before good_is) sound.1 in
         in-row (TellsOf list script (world list script numbers) (sender plan (suc turn)) k) k _ sound.0 judged.entry
         (refl, refl)
@@ -118,8 +113,7 @@ module _ (list : Medl) (script : Script) (start : ClusterStart) (plan : Plan) (t
 
   -- in every other slot a sound node accepts no frame
   same-accepted : (correct : Bool) (before after seen seen_after : ℕ) → after ≡ cond correct 1 0 + before
-      → before ≡ suc seen → after ≡ suc seen_after → seen_after ≡ 0 + seen
-      → correct ≡ false
+      → before ≡ suc seen → after ≡ suc seen_after → seen_after ≡ 0 + seen → correct ≡ false
   same-accepted true before after seen seen_after judged was is same = absurd (omega arith)
   same-accepted false before after seen seen_after judged was is same = refl
 
@@ -130,32 +124,28 @@ module _ (list : Medl) (script : Script) (start : ClusterStart) (plan : Plan) (t
       let x = slot_of list script new numbers k in
       let other : sender plan (suc turn) ≢ k =
       λ own. both_ways (is_good_slot plan (suc turn)) wrong (ap (is_sound_after plan (suc turn)) own ∙ sound.1) in
-      let judge = sound-judge list script start plan turn new numbers t k sound.0 other
-      (fate-before k (wrong-stays k wrong) sound.1) in
+      let judge = sound-judge t k sound.0 other (fate-before k (wrong-stays k wrong) sound.1) in
       let after : IsSoundAt list plan (suc turn) k (next_past x) =
       subst (λ (f : Fate). IsByFate list plan (suc turn) k (next_past x) f) (sound-fate _ sound.1)
-      (node-next list script start plan turn new numbers t k sound.0) in
+      (node-next t k sound.0) in
       elim (judged-whatever x judge.judging) [
         | inl some ↦
-            in-row NotesNothing k _ sound.0 some.1.1.entry
-            (same-accepted (is_correct some.0) x.past.accepted (next_past x).accepted _ _ some.1.1.accepted
-            judge.at.counted.accepted after.counted.accepted
+            in-row NotesNothing k _ sound.0 some.1.1.entry (same-accepted (is_correct some.0) x.past.accepted
+            (next_past x).accepted _ _ some.1.1.accepted judge.at.counted.accepted after.counted.accepted
             (ap (λ l. l.seen) (ledger-other plan turn k other (wrong-stays k wrong))
             ∙ ap (λ good. (with_slot good (is_first_slot plan (suc turn)) (ledger_of plan turn k)).seen) wrong))
         | inr left ↦ let both : phase.Active ≡ phase.Left = sym after.phase ∙ left.phase in cc
       ]
 
-  pub noted-next : NotedInSlot list script plan (suc turn)
-      (row_in (slot_after list script (world list script numbers))
+  pub noted-next : NotedInSlot list script plan (suc turn) (row_in (slot_after list script (world list script numbers))
       (messages_chosen list script (length numbers) new.sent)) (world list script numbers)
   noted-next = record {
     good = tells-good;
     begins = λ k node entered.
         in-row (BeginsOn list script (world list script numbers) (sender plan (suc turn))
-        (planned_place list plan (suc turn)) k) k _ node
-        (entered-joins list script start plan turn new numbers t k node entered).entry (refl, refl);
+        (planned_place list plan (suc turn)) k) k _ node (entered-joins t k node entered).entry (refl, refl);
     other = notes-other;
     jumped = λ k since node jumped.
-        let wrong = jumped-wrong list script start plan turn new numbers t k node since jumped in
+        let wrong = jumped-wrong t k node since jumped in
         in-row NotesNothing k _ node wrong.judged.entry wrong.wrong;
   }

@@ -46,7 +46,7 @@ pub record IsSoundOwner (plan : Plan) (turn : ℕ) (x : NodeSlot) : Type 0 where
   pub at : IsSoundAt x.list plan turn x.node x.past
   pub owner : sender plan (suc turn) ≡ x.node
 
-module _ (plan : Plan) (turn : ℕ) (x : NodeSlot) (is : IsSoundOwner plan turn x) where
+module _ {plan : Plan} {turn : ℕ} {x : NodeSlot} (is : IsSoundOwner plan turn x) where
   less : x.node < plan.nodes
   less = subst (λ n. x.node < n) (sym is.nodes) is.own.node
 
@@ -71,8 +71,7 @@ module _ (plan : Plan) (turn : ℕ) (x : NodeSlot) (is : IsSoundOwner plan turn 
 
   pub sound-sends : MaySend x
   sound-sends = record {
-    closed = closed-ack x.past.ack
-        (false_from_ne_true (is_open x.past.ack) (λ opened.
+    closed = closed-ack x.past.ack (false_from_ne_true (is_open x.past.ack) (λ opened.
         let none = is.at.counted.opened opened in
         let seen = seen-three none.0 in
         let zero_seen = none.1 in
@@ -154,8 +153,7 @@ module _ (plan : Plan) (turn : ℕ) (x : NodeSlot) (good : IsGoodPlan plan) (own
         | inr over ↦ let soon = told.soon in absurd (not_last closed (omega (arith, soon, over)))
       ]
 
-      leaves-or-sends : x.past.ack ≡ ack.Closed
-          → (((next_past x).phase ≡ phase.Left) × (frames_made x ≡ []))
+      leaves-or-sends : x.past.ack ≡ ack.Closed → (((next_past x).phase ≡ phase.Left) × (frames_made x ≡ []))
           ⊎ (MaySend x × IsFallenAt x.list plan (suc turn) x.node since (suc turn) (next_past x))
       leaves-or-sends closed = elim (cases_lt x.past.rejected x.past.accepted) [
         | inl more ↦
@@ -174,8 +172,7 @@ module _ (plan : Plan) (turn : ℕ) (x : NodeSlot) (good : IsGoodPlan plan) (own
         | inr few ↦ let left = left-clique x own closed few in inl (left.0.phase, left.1)
       ]
 
-      by : (opened : Bool) → is_open x.past.ack ≡ opened
-          → (((next_past x).phase ≡ phase.Left) × (frames_made x ≡ []))
+      by : (opened : Bool) → is_open x.past.ack ≡ opened → (((next_past x).phase ≡ phase.Left) × (frames_made x ≡ []))
           ⊎ (MaySend x × IsFallenAt x.list plan (suc turn) x.node since (suc turn) (next_past x))
       by true opened = let left = left-unacknowledged x own opened at.later in inl (left.0.phase, left.1)
       by false closed = leaves-or-sends (closed-ack x.past.ack closed)

@@ -47,8 +47,8 @@ pub data Stance (list : Medl) (plan : Plan) (turn : ℕ) (x : NodeSlot) : Type 0
   IsOff : x.past.phase ≡ phase.Off → x.on ≡ false → Stance list plan turn x
   Listens : IsListening x → Stance list plan turn x
 
-module _ (list : Medl) (script : Script) (start : ClusterStart) (plan : Plan) (turn : ℕ) (new : SlotNumbers)
-    (numbers : Numbers) (t : IsTurn list script start plan turn new numbers) where
+module _ {list : Medl} {script : Script} {start : ClusterStart} {plan : Plan} {turn : ℕ} {new : SlotNumbers}
+    {numbers : Numbers} (t : IsTurn list script start plan turn new numbers) where
   pub slot_number : length (world list script numbers) ≡ start.slot + suc turn
   slot_number = length-world list script numbers ∙ t.number
 
@@ -75,16 +75,14 @@ module _ (list : Medl) (script : Script) (start : ClusterStart) (plan : Plan) (t
     owner-is place = owner-planned _ place
 
     pub judges : (slot_of list script new numbers k).past.phase ≡ phase.Active
-        → (slot_of list script new numbers k).past.place ≡ planned_place list plan turn
-        → sender plan (suc turn) ≢ k
+        → (slot_of list script new numbers k).past.place ≡ planned_place list plan turn → sender plan (suc turn) ≢ k
         → IsJudging (slot_of list script new numbers k)
     judges active place other =
         IsJudging-world list script numbers (messages_chosen list script (length numbers) new.sent) k
         t.planned.valid node active (λ own. other (sym (owner-is place) ∙ own))
 
     pub has-turn : (slot_of list script new numbers k).past.phase ≡ phase.Active
-        → (slot_of list script new numbers k).past.place ≡ planned_place list plan turn
-        → sender plan (suc turn) ≡ k
+        → (slot_of list script new numbers k).past.place ≡ planned_place list plan turn → sender plan (suc turn) ≡ k
         → IsAtOwnSlot (slot_of list script new numbers k)
     has-turn active place own =
         IsAtOwnSlot-world list script numbers (messages_chosen list script (length numbers) new.sent) k
@@ -131,8 +129,7 @@ module _ (list : Medl) (script : Script) (start : ClusterStart) (plan : Plan) (t
       where
         by : (armed : Bool) → (slot_of list script new numbers k).armed ≡ armed
             → frames_made (slot_of list script new numbers k) ≡ []
-        by true armed =
-            frames_made-listening (slot_of list script new numbers k) (listens-now left armed).listens
+        by true armed = frames_made-listening (slot_of list script new numbers k) (listens-now left armed).listens
         by false unarmed = (idle-left (slot_of list script new numbers k) left unarmed).1
 
     pub stance : Stance list plan turn (slot_of list script new numbers k)
@@ -155,8 +152,7 @@ module _ (list : Medl) (script : Script) (start : ClusterStart) (plan : Plan) (t
       where
         by : Stance list plan turn (slot_of list script new numbers k)
             → frames_made (slot_of list script new numbers k) ≡ []
-        by (IsActive active place) =
-            frames_made-judging (slot_of list script new numbers k) (judges active place other)
+        by (IsActive active place) = frames_made-judging (slot_of list script new numbers k) (judges active place other)
         by (HasLeft left) = silent-left left
         by (IsOff off never) = (idle-off (slot_of list script new numbers k) off never).1
         by (Listens listens) = frames_made-listening (slot_of list script new numbers k) listens

@@ -50,8 +50,7 @@ explicit-kind kind.X = refl
 
 -- a node that has just joined counts the frame on which it did
 counted-joined : (slot : ℕ) (past : NodePast) → past.accepted ≡ 1 → past.rejected ≡ 0 → past.ack ≡ ack.Closed
-    → past.cold_start ≡ false
-    → IsCounted (opened false slot) past
+    → past.cold_start ≡ false → IsCounted (opened false slot) past
 counted-joined slot past accepted rejected closed later =
     let none : doubts past.ack ≡ 0 = ap doubts closed in
     record {
@@ -71,8 +70,8 @@ group-joined list k group past nodes members closed = record {
   doubted = subst (IsAboutOther group) (sym closed) tt;
 }
 
-module _ (list : Medl) (script : Script) (start : ClusterStart) (plan : Plan) (turn : ℕ) (new : SlotNumbers)
-    (numbers : Numbers) (t : IsTurn list script start plan turn new numbers) (k : ℕ) (node : k < length list.slots)
+module _ {list : Medl} {script : Script} {start : ClusterStart} {plan : Plan} {turn : ℕ} {new : SlotNumbers}
+    {numbers : Numbers} (t : IsTurn list script start plan turn new numbers) (k : ℕ) (node : k < length list.slots)
     (since : ℕ) (awaited : IsAwaited plan turn k since)
     (listens : ListensSince plan turn since (slot_of list script new numbers k)) where
   -- Where the slot is not good nobody sends.
@@ -83,25 +82,23 @@ module _ (list : Medl) (script : Script) (start : ClusterStart) (plan : Plan) (t
     where
       by : (fate : Fate) → fate_of plan turn (sender plan (suc turn)) ≡ fate
           → NoneSends list script (world list script numbers) (messages_chosen list script (length numbers) new.sent)
-      by Absent is = silent-absent list script start plan turn new numbers t is
-      by (Listening s) is = silent-listening list script start plan turn new numbers t s is
-      by (Fallen change s shown) is = silent-fallen list script start plan turn new numbers t change s shown is
+      by Absent is = silent-absent t is
+      by (Listening s) is = silent-listening t s is
+      by (Fallen change s shown) is = silent-fallen t change s shown is
       by (Falling change s) is =
           absurd (both_ways (may_stay plan.nodes turn (fate_of plan turn (sender plan (suc turn))))
           (gone-awaited plan turn k since t.planned.follows.good awaited (sender plan (suc turn)))
           (ap (may_stay plan.nodes turn) is))
       by Sound is =
-          absurd (both_ways (is_good_slot plan (suc turn)) wrong
-          (ap is_sound (sound-stays plan turn (sender plan (suc turn)) t.planned.follows.good
-          (ap (λ found. strikes found (sender plan (suc turn)))
+          absurd (both_ways (is_good_slot plan (suc turn)) wrong (ap is_sound (sound-stays plan turn
+          (sender plan (suc turn)) t.planned.follows.good (ap (λ found. strikes found (sender plan (suc turn)))
           (quiet-awaited plan turn k since t.planned.follows.good awaited)) is)))
 
   waits-silent : is_good_slot plan (suc turn) ≡ false
       → IsListeningAt list plan (suc turn) k since (next_past (slot_of list script new numbers k))
   waits-silent wrong =
       let x = slot_of list script new numbers k in
-      waits-on plan turn since x awaited.from listens
-      (waited-none x listens.listens
+      waits-on plan turn since x awaited.from listens (waited-none x listens.listens
       (frameless-silent _ (silent-none_sends list script (world list script numbers) _ k (silent-wrong wrong))))
       (λ good_is. absurd (both_ways (is_good_slot plan (suc turn)) wrong good_is))
 
@@ -113,16 +110,16 @@ module _ (list : Medl) (script : Script) (start : ClusterStart) (plan : Plan) (t
 
     alone : SendsAlone list script (world list script numbers)
         (messages_chosen list script (length numbers) new.sent) (sender plan (suc turn))
-    alone = sound-alone list script start plan turn new numbers t sends
+    alone = sound-alone t sends
 
     place_is : coming_place (slot_of list script new numbers (sender plan (suc turn))) ≡ planned_place list plan (suc turn)
-    place_is = ap (next_place list) (sound-owner list script start plan turn new numbers t sends).at.place
+    place_is = ap (next_place list) (sound-owner t sends).at.place
 
     less : k < plan.nodes
     less = subst (λ n. k < n) (sym t.planned.follows.nodes) node
 
     number : length (world list script numbers) ≡ start.slot + suc turn
-    number = slot_number list script start plan turn new numbers t
+    number = slot_number t
 
     -- it carries its place where the list says so
     explicit-is : is_explicit (expected_header list
@@ -137,30 +134,25 @@ module _ (list : Medl) (script : Script) (start : ClusterStart) (plan : Plan) (t
         → IsListeningAt list plan (suc turn) k since (next_past (slot_of list script new numbers k))
     waits-passing unentered =
         let x = slot_of list script new numbers k in
-        let on = listens-on plan turn k since t.planned.follows.good awaited
-        (within-plan list script start plan turn new numbers t) unentered in
+        let on = listens-on plan turn k since t.planned.follows.good awaited (within-plan t) unentered in
         let at = awaited.armed in
         let from = awaited.from in
-        let within = within-plan list script start plan turn new numbers t in
+        let within = within-plan t in
         let none = (t.planned.follows.returns awaited.return awaited.among).none (suc turn)
         (omega (arith, at, from)) on.0 within good_is in
         let hearing = t.planned.follows.hearing (suc turn) t.within in
         let kept = ap (λ n. loses script (sender plan (suc turn)) n k) number ∙ hearing.listens k since less good_is on.1
         in
-        let hears = no_place-alone list script numbers (messages_chosen list script (length numbers) new.sent)
-        (sender plan (suc turn)) k t.planned.valid alone kept (explicit-is ∙ none) in
-        waits-on plan turn since x awaited.from listens (waited-passing x (sender plan (suc turn)) listens.listens hears)
-        (λ again.
-        around-silent list script (world list script numbers)
-        (messages_chosen list script (length numbers) new.sent) k
+        let hears = no_place-alone numbers k t.planned.valid alone kept (explicit-is ∙ none) in
+        waits-on plan turn since x awaited.from listens
+        (waited-passing x (sender plan (suc turn)) listens.listens hears) (λ again.
+        around-silent list script (world list script numbers) (messages_chosen list script (length numbers) new.sent) k
         ∙ frame-silent x.hearing _ hears.comes)
 
     members_are : with_node (slot_of list script new numbers (sender plan (suc turn))).past.members
-        (sender plan (suc turn))
-        ≡ planned_members plan (suc turn)
+        (sender plan (suc turn)) ≡ planned_members plan (suc turn)
     members_are =
-        ap (λ (members : List ℕ). with_node members (sender plan (suc turn)))
-        (sound-members list script start plan turn new numbers t sends)
+        ap (λ (members : List ℕ). with_node members (sender plan (suc turn))) (sound-members t sends)
         ∙ sym (members-good plan turn good_is)
 
     -- When it enters it does.
@@ -176,9 +168,7 @@ module _ (list : Medl) (script : Script) (start : ClusterStart) (plan : Plan) (t
           let other = (entry-good plan (suc turn) k t.planned.follows.good entered).1 in
           subst (λ (told : Place × List ℕ).
           HearsPlace (slot_of list script new numbers k) (sender plan (suc turn)) told.0 told.1)
-          (λ i. (place_is i, members_are i))
-          (place-alone list script numbers (messages_chosen list script (length numbers) new.sent)
-          (sender plan (suc turn)) k t.planned.valid alone
+          (λ i. (place_is i, members_are i)) (place-alone numbers k t.planned.valid alone
           (ap (λ n. loses script (sender plan (suc turn)) n k) number
           ∙ hearing.heard k less (λ same. other (sym same)) good_is sound)
           (explicit-is ∙ ap (λ slot. carries_place (kind_in list plan slot)) (sym found.entered) ∙ offers))
@@ -229,7 +219,6 @@ module _ (list : Medl) (script : Script) (start : ClusterStart) (plan : Plan) (t
           (sym (next-entered plan (suc turn) k (fate_of plan turn k) entered))
           (sound-entered (entry-good plan (suc turn) k t.planned.follows.good entered).0 entered)
       by false unentered =
-          subst (λ (f : Fate). IsByFate list plan (suc turn) k past f)
-          (sym (listens-on plan turn k since t.planned.follows.good awaited
-          (within-plan list script start plan turn new numbers t) unentered).1)
+          subst (λ (f : Fate). IsByFate list plan (suc turn) k past f) (sym (listens-on plan turn k since
+          t.planned.follows.good awaited (within-plan t) unentered).1)
           (waits (is_good_slot plan (suc turn)) refl unentered)

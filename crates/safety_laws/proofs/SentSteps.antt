@@ -37,8 +37,7 @@ judged-goes-on x is = elim (judged-whatever x is) [
 
 -- what an active node sent in its stint before an entry with which that goes on
 stint-before : (e : Entry) (diary : Diary) → is_active diary ≡ true → is_sending e ≡ false → begins_stint e ≡ false
-    → has_sent_in_stint (e ∷ diary) ≡ true
-    → has_sent_in_stint diary ≡ true
+    → has_sent_in_stint (e ∷ diary) ≡ true → has_sent_in_stint diary ≡ true
 stint-before e diary active unsent goes_on sent =
     and_from (is_active diary) (has_sent_since_begin diary) active
     ((λ i. sym unsent i || (not (sym goes_on i) && has_sent_since_begin diary))
@@ -52,22 +51,21 @@ stint-joined e f diary is unsent begins =
     ∙ (λ i. is_active (f ∷ diary) && (unsent i || (not (begins i) && has_sent_since_begin diary)))
     ∙ and_right (is_active (f ∷ diary)) false refl
 
-module _ (list : Medl) (script : Script) (start : ClusterStart) (plan : Plan) (turn : ℕ) (new : SlotNumbers)
-    (numbers : Numbers) (t : IsTurn list script start plan turn new numbers) where
+module _ {list : Medl} {script : Script} {start : ClusterStart} {plan : Plan} {turn : ℕ} {new : SlotNumbers}
+    {numbers : Numbers} (t : IsTurn list script start plan turn new numbers) where
   abbrev row_now : List Entry
   row_now =
       row_in (slot_after list script (world list script numbers))
       (messages_chosen list script (length numbers) new.sent)
 
-  row-made : (k : ℕ) → k < length list.slots
-      → entry_of row_now k ≡ entry_made (slot_of list script new numbers k)
+  row-made : (k : ℕ) → k < length list.slots → entry_of row_now k ≡ entry_made (slot_of list script new numbers k)
   row-made k node = entry_of-made list script (world list script numbers) _ k node
 
   -- one that was sound before, and is not the sender
   module _ (k : ℕ) (node : k < length list.slots) (other : sender plan (suc turn) ≢ k)
       (was : is_sound_after plan turn k ≡ true) where
     judges-on : IsSoundJudge plan turn (slot_of list script new numbers k)
-    judges-on = sound-judge list script start plan turn new numbers t k node other (sound-fate _ was)
+    judges-on = sound-judge t k node other (sound-fate _ was)
 
     goes-on : (is_sending (entry_of row_now k) ≡ false) × (begins_stint (entry_of row_now k) ≡ false)
     goes-on =
@@ -80,8 +78,7 @@ module _ (list : Medl) (script : Script) (start : ClusterStart) (plan : Plan) (t
     sent-on : has_sent_in_stint (diary_of (world list script (new ∷ numbers)) k) ≡ true
         → (ledger_of plan (suc turn) k).own ≡ true
     sent-on sent =
-        own-kept (t.before.sent k node was
-        (stint-before (entry_of row_now k) (diary_of (world list script numbers) k)
+        own-kept (t.before.sent k node was (stint-before (entry_of row_now k) (diary_of (world list script numbers) k)
         (ap (λ (p : Phase). is_active_phase p) judges-on.at.phase) goes-on.0 goes-on.1 sent))
 
     ever_sent-on : ((slot : ℕ) → slot ≤ suc turn → enters plan slot k ≡ false)
@@ -96,7 +93,7 @@ module _ (list : Medl) (script : Script) (start : ClusterStart) (plan : Plan) (t
       → has_sent_in_stint (diary_of (world list script (new ∷ numbers)) k) ≡ false
   sent-entered k node entered =
       stint-joined _ _ (diary_of (world list script numbers) k)
-      (row-made k node ∙ (entered-joins list script start plan turn new numbers t k node entered).entry) refl refl
+      (row-made k node ∙ (entered-joins t k node entered).entry) refl refl
 
   pub sent-next : (k : ℕ) → k < length list.slots → is_sound_after plan (suc turn) k ≡ true
       → has_sent_in_stint (diary_of (world list script (new ∷ numbers)) k) ≡ true
@@ -114,8 +111,7 @@ module _ (list : Medl) (script : Script) (start : ClusterStart) (plan : Plan) (t
 
   pub ever_sent-next : (k : ℕ) → k < length list.slots → is_sound_after plan (suc turn) k ≡ true
       → ((slot : ℕ) → slot ≤ suc turn → enters plan slot k ≡ false)
-      → has_ever_sent (diary_of (world list script (new ∷ numbers)) k) ≡ true
-      → (ledger_of plan (suc turn) k).own ≡ true
+      → has_ever_sent (diary_of (world list script (new ∷ numbers)) k) ≡ true → (ledger_of plan (suc turn) k).own ≡ true
   ever_sent-next k node sound never sent = elim (cases_eq (sender plan (suc turn)) k) [
     | inl own ↦ ap (λ (l : Ledger). l.own) (ledger-own plan turn k own)
     | inr other ↦

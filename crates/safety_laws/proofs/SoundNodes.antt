@@ -38,15 +38,14 @@ pub record IsSoundJudge (plan : Plan) (turn : ℕ) (x : NodeSlot) : Type 0 where
   pub owner : owner_of x ≡ sender plan (suc turn)
   pub entered : enters plan (suc turn) x.node ≡ false
 
-module _ (plan : Plan) (turn : ℕ) (x : NodeSlot) (is : IsSoundJudge plan turn x) where
+module _ {plan : Plan} {turn : ℕ} {x : NodeSlot} (is : IsSoundJudge plan turn x) where
   others-slot : sender plan (suc turn) ≢ x.node
   others-slot same = is.judging.other (is.owner ∙ same)
 
   -- it does not doubt the owner
   pub not_about : IsNotAbout (owner_of x) x.past.ack
   not_about =
-      about-other x.past.ack (owner_of x)
-      (λ y doubt same.
+      about-other x.past.ack (owner_of x) (λ y doubt same.
       let found = is.at.doubted y doubt in
       doubt-apart plan turn x.node y found.0 is.good (subst (λ n. x.node < n) (sym is.nodes) is.judging.node)
       others-slot (is.at.counted.opened (ap is_open doubt)).0 found.1 (same ∙ is.owner))
@@ -55,8 +54,7 @@ module _ (plan : Plan) (turn : ℕ) (x : NodeSlot) (is : IsSoundJudge plan turn 
       → IsCounted (with_slot good first (ledger_of plan turn x.node)) (next_past x)
       → IsCounted (ledger_of plan (suc turn) x.node) (next_past x)
   counted-next good first good_is first_is counted =
-      subst (λ (l : Ledger). IsCounted l (next_past x))
-      (sym (ledger-other plan turn x.node others-slot is.entered
+      subst (λ (l : Ledger). IsCounted l (next_past x)) (sym (ledger-other plan turn x.node others-slot is.entered
       ∙ (λ i. with_slot (good_is i) (first_is i) (ledger_of plan turn x.node)))) counted
 
   -- the frame of a good slot, judged correct
@@ -113,9 +111,8 @@ module _ (plan : Plan) (turn : ℕ) (x : NodeSlot) (is : IsSoundJudge plan turn 
         place = judged.place ∙ ap (next_place x.list) is.at.place;
         group = subst (λ (group : List ℕ). HoldsGroup x.list x.node group (next_past x))
             (ap (without_node (planned_members plan turn)) is.owner ∙ sym (members-wrong plan turn wrong_is)) holds.0;
-        counted = counted-next false true wrong_is first_is
-            (counted-tentative x (ledger_of plan turn x.node) is.at.counted deviation (owner_of x) judged first
-            holds.1);
+        counted = counted-next false true wrong_is first_is (counted-tentative x (ledger_of plan turn x.node)
+            is.at.counted deviation (owner_of x) judged first holds.1);
         doubted = λ y doubt. (
           shown,
           let same : y ≡ owner_of x = let both : ack.Doubt y ≡ ack.Doubt (owner_of x) = sym doubt ∙ holds.1 in cc in

@@ -23,8 +23,8 @@ use Rattle.safety_laws.proofs.Receivers.{receives-good, receives-silence, receiv
 use Rattle.safety_laws.proofs.Receivers.{receives-jumped, receives-deaf}
 use Rattle.safety_laws.proofs.PlanTurns.{slot_of, slot_number, none-sends}
 
-module _ (list : Medl) (script : Script) (start : ClusterStart) (plan : Plan) (turn : ℕ) (new : SlotNumbers)
-    (numbers : Numbers) (t : IsTurn list script start plan turn new numbers) (k : ℕ) (node : k < length list.slots)
+module _ {list : Medl} {script : Script} {start : ClusterStart} {plan : Plan} {turn : ℕ} {new : SlotNumbers}
+    {numbers : Numbers} (t : IsTurn list script start plan turn new numbers) (k : ℕ) (node : k < length list.slots)
     (other : sender plan (suc turn) ≢ k) (sound : fate_of plan turn k ≡ Sound)
     (stays : is_sound_after plan (suc turn) k ≡ true) where
   -- the sender is lost in its own slot
@@ -46,26 +46,20 @@ module _ (list : Medl) (script : Script) (start : ClusterStart) (plan : Plan) (t
       by Sending how =
           let hearing = t.planned.follows.hearing (suc turn) t.within in
           let nodes = t.planned.follows.nodes in
-          receives-none list script start plan turn new numbers t k node other sound wrong first
-          (sound-alone list script start plan turn new numbers t sends)
-          (ap (λ n. loses script (sender plan (suc turn)) n k)
-          (slot_number list script start plan turn new numbers t)
+          receives-none t k node other sound wrong first (sound-alone t sends)
+          (ap (λ n. loses script (sender plan (suc turn)) n k) (slot_number t)
           ∙ hearing.unheard k struck.incident (subst (λ n. k < n) (sym nodes) node) struck.found how stays)
       by Receiving how =
-          absurd (((t.planned.follows.good.losses turn struck.incident struck.found).receiving how).0
-          (sym struck.node))
+          absurd (((t.planned.follows.good.losses turn struck.incident struck.found).receiving how).0 (sym struck.node))
       by Jumping how =
-          receives-jumped list script start plan turn new numbers t k node other sound wrong first
-          (sound-alone list script start plan turn new numbers t sends) (suc turn) stays
+          receives-jumped t k node other sound wrong first (sound-alone t sends) (suc turn) stays
           (shown ∙ ap (λ (c : Change). Fallen c (suc turn) (suc turn)) how)
 
   -- it is the sender's first own slot since it was lost
   by-falling : (change : Change) (since : ℕ) → fate_of plan turn (sender plan (suc turn)) ≡ Falling change since
       → IsSoundAt list plan (suc turn) k (next_past (slot_of list script new numbers k))
-  by-falling change since falls = elim (falling-acts list script start plan turn new numbers t change since falls) [
-    | inl left ↦
-        receives-silence list script start plan turn new numbers t k node other sound wrong
-        (none-sends list script start plan turn new numbers t left.1)
+  by-falling change since falls = elim (falling-acts t change since falls) [
+    | inl left ↦ receives-silence t k node other sound wrong (none-sends t left.1)
     | inr sends ↦ by change refl sends
   ]
     where
@@ -73,8 +67,7 @@ module _ (list : Medl) (script : Script) (start : ClusterStart) (plan : Plan) (t
       told = told-falling plan turn (sender plan (suc turn)) since change t.planned.follows.good falls
 
       shown : fate_of plan (suc turn) (sender plan (suc turn)) ≡ Fallen change since (suc turn)
-      shown =
-          falling-shown plan turn (sender plan (suc turn)) since change t.planned.follows.good refl falls
+      shown = falling-shown plan turn (sender plan (suc turn)) since change t.planned.follows.good refl falls
 
       wrong : is_good_slot plan (suc turn) ≡ false
       wrong = ap is_sound shown
@@ -85,22 +78,19 @@ module _ (list : Medl) (script : Script) (start : ClusterStart) (plan : Plan) (t
       apart : sender plan since ≢ sender plan (suc turn)
       apart = let from = told.from in told.unshown since (omega arith) from
 
-      by : (c : Change) → change ≡ c
-          → ((SendsAlone list script (world list script numbers)
-          (messages_chosen list script (length numbers) new.sent) (sender plan (suc turn)))
-          × (IsFallingAt list plan turn (sender plan (suc turn)) change since
-          (slot_of list script new numbers (sender plan (suc turn))).past)
+      by : (c : Change) → change ≡ c → ((SendsAlone list script (world list script numbers)
+          (messages_chosen list script (length numbers) new.sent) (sender plan (suc turn))) × (IsFallingAt list plan
+          turn (sender plan (suc turn)) change since (slot_of list script new numbers (sender plan (suc turn))).past)
           × (IsFallenAt list plan (suc turn) (sender plan (suc turn)) since (suc turn)
           (next_past (slot_of list script new numbers (sender plan (suc turn))))))
           → IsSoundAt list plan (suc turn) k (next_past (slot_of list script new numbers k))
       by Sending how sends =
           absurd (apart (loss-sending plan (sender plan (suc turn)) since change t.planned.follows.good told.loss how))
       by Jumping how sends =
-          receives-jumped list script start plan turn new numbers t k node other sound wrong first sends.0 since stays
+          receives-jumped t k node other sound wrong first sends.0 since stays
           (shown ∙ ap (λ (c : Change). Fallen c since (suc turn)) how)
       by Receiving how sends =
-          receives-deaf list script start plan turn new numbers t k node other sound wrong first sends.0 since
-          (record {
+          receives-deaf t k node other sound wrong first sends.0 since (record {
             falling = falls ∙ ap (λ (c : Change). Falling c since) how;
             shown = shown ∙ ap (λ (c : Change). Fallen c since (suc turn)) how;
           })
@@ -112,17 +102,14 @@ module _ (list : Medl) (script : Script) (start : ClusterStart) (plan : Plan) (t
       → NoneSends list script (world list script numbers) (messages_chosen list script (length numbers) new.sent)
       → IsSoundAt list plan (suc turn) k (next_past (slot_of list script new numbers k))
   by-silence is unsound none =
-      receives-silence list script start plan turn new numbers t k node other sound
+      receives-silence t k node other sound
       (wrong-slot plan turn t.planned.follows.good (ap is_sound is ∙ unsound)) none
 
   by-fate : (fate : Fate) → fate_of plan turn (sender plan (suc turn)) ≡ fate
       → IsSoundAt list plan (suc turn) k (next_past (slot_of list script new numbers k))
-  by-fate Absent is =
-      by-silence is refl (silent-absent list script start plan turn new numbers t is)
-  by-fate (Listening since) is =
-      by-silence is refl (silent-listening list script start plan turn new numbers t since is)
-  by-fate (Fallen change since shown) is =
-      by-silence is refl (silent-fallen list script start plan turn new numbers t change since shown is)
+  by-fate Absent is = by-silence is refl (silent-absent t is)
+  by-fate (Listening since) is = by-silence is refl (silent-listening t since is)
+  by-fate (Fallen change since shown) is = by-silence is refl (silent-fallen t change since shown is)
   by-fate (Falling change since) is = by-falling change since is
   by-fate Sound is = by (strikes (incident_at plan (suc turn)) (sender plan (suc turn))) refl
     where
@@ -130,7 +117,7 @@ module _ (list : Medl) (script : Script) (start : ClusterStart) (plan : Plan) (t
           → IsSoundAt list plan (suc turn) k (next_past (slot_of list script new numbers k))
       by true hit = by-struck is (struck-known plan (suc turn) (sender plan (suc turn)) hit)
       by false missed =
-          receives-good list script start plan turn new numbers t k node other sound
+          receives-good t k node other sound
           (ap is_sound (sound-stays plan turn (sender plan (suc turn)) t.planned.follows.good missed is)) is stays
 
   pub sound-next : IsSoundAt list plan (suc turn) k (next_past (slot_of list script new numbers k))

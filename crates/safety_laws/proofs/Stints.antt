@@ -4,7 +4,6 @@ use Rattle.std.proofs.Common.{subst, ◌∙◌, inl, inr, arith}
 use Rattle.std.proofs.lemmas.Bool.{cases_eq}
 use Rattle.ttp_world.specs.declared.medl.Medl.{Medl}
 use Rattle.ttp_world.specs.declared.node.Entry.{Entry}
-use Rattle.ttp_world.specs.declared.node.Entry.TheVariants as entry
 use Rattle.ttp_world.specs.declared.script.Script.{Script}
 use Rattle.ttp_world.specs.Diary.{History, entry_of, diary_of, continues_stint, place_of}
 use Rattle.ttp_world.specs.Hypothesis.{ClusterStart}
@@ -44,8 +43,7 @@ noted-on : (list : Medl) (script : Script) (plan : Plan) (slot : ℕ) (row : Lis
 noted-on list script plan slot row history k noted sound none = by (is_good_slot plan slot) refl
   where
     by : (good : Bool) → is_good_slot plan slot ≡ good → continues_stint (entry_of row k) ≡ true
-    by true good =
-        tells-on list script history (sender plan slot) k (entry_of row k) (noted.good k good sound none)
+    by true good = tells-on list script history (sender plan slot) k (entry_of row k) (noted.good k good sound none)
     by false wrong = nothing-on (entry_of row k) (noted.other k wrong sound)
 
 -- Places.
@@ -67,8 +65,8 @@ none-before list group s (row ∷ history) early =
     ((λ from. absurd (omega (arith, from, early))), none-before list group s history (omega (arith, early)))
 
 -- The run.
-module _ (list : Medl) (script : Script) (start : ClusterStart) (plan : Plan) (is : IsBegun list script start plan)
-    (clocks : KeepsClocks list script start plan) (stay : plan.returns ≡ []) where
+module _ {list : Medl} {script : Script} {start : ClusterStart} {plan : Plan}
+    (is : IsBegun list script start plan) (clocks : KeepsClocks list script start plan) (stay : plan.returns ≡ []) where
   pub stands-run : (group : ℕ → Bool) (turn : ℕ) (numbers : Numbers) → IsAmong list group (is_sound_after plan turn)
       → length numbers ≡ suc (start.slot + turn) → start.slot + turn < script.slots → IsLegal list script numbers
       → StandsAlikeSince list group start.slot (world list script numbers)
@@ -80,8 +78,7 @@ module _ (list : Medl) (script : Script) (start : ClusterStart) (plan : Plan) (i
           begins = λ k of_k now.
               begun-zero list script start plan _ (world list script numbers) k by_plan.noted (of_k.0, among k of_k);
           goes_on = λ k of_k later. absurd (omega (arith, later, before, number));
-          places = λ j k of_j of_k.
-              by_plan-place list script start plan zero _ j by_plan (of_j.0, among j of_j)
+          places = λ j k of_j of_k. by_plan-place list script start plan zero _ j by_plan (of_j.0, among j of_j)
               ∙ sym (by_plan-place list script start plan zero _ k by_plan (of_k.0, among k of_k));
         }),
         none-before list group start.slot (world list script numbers) (omega (arith, before, number)),
@@ -91,11 +88,9 @@ module _ (list : Medl) (script : Script) (start : ClusterStart) (plan : Plan) (i
       let before = length-world list script numbers in (
         (λ from. record {
           begins = λ k of_k now. absurd (omega (arith, now, before, number));
-          goes_on = λ k of_k later.
-              noted-on list script plan (suc turn) _ (world list script numbers) k by_plan.noted.1
+          goes_on = λ k of_k later. noted-on list script plan (suc turn) _ (world list script numbers) k by_plan.noted.1
               (of_k.0, among k of_k) (none-enters plan (suc turn) k stay);
-          places = λ j k of_j of_k.
-              by_plan-place list script start plan (suc turn) _ j by_plan (of_j.0, among j of_j)
+          places = λ j k of_j of_k. by_plan-place list script start plan (suc turn) _ j by_plan (of_j.0, among j of_j)
               ∙ sym (by_plan-place list script start plan (suc turn) _ k by_plan (of_k.0, among k of_k));
         }),
         stands-run group turn numbers (λ k of_k. sound-earlier plan turn (suc turn) k stay (omega arith) (among k of_k))

@@ -103,10 +103,9 @@ stays-unanswered x is unanswered (Lacks sender members hears lacks) =
     ∙ own_in_first x.node (owner_of x) x.past.members x.past.ack (omega (arith, is.node, nodes-most x.list is.valid))
     unanswered))
 stays-unanswered x is unanswered (HasThird sender p members hears third has) =
-    stays-apart x sender members is unanswered hears
-    (λ same. false≢true (sym (third-apart x.node (owner_of x) p x.past.members x.past.ack
-    (omega (arith, third.listed, nodes-most x.list is.valid)) third.not_self third.not_owner third.held unanswered)
-    ∙ sym (ap (λ (s : List ℕ). has_node s p) same) ∙ has))
+    stays-apart x sender members is unanswered hears (λ same. false≢true (sym (third-apart x.node (owner_of x) p
+    x.past.members x.past.ack (omega (arith, third.listed, nodes-most x.list is.valid)) third.not_self third.not_owner
+    third.held unanswered) ∙ sym (ap (λ (s : List ℕ). has_node s p) same) ∙ has))
 stays-unanswered x is unanswered (Outside sender hears) =
     inl (stays-judged x verdict.Invalid (x.hearing.deviation sender) is unanswered refl
     (judged-outside x sender is hears))

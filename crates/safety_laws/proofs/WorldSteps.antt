@@ -31,11 +31,10 @@ use Rattle.safety_laws.proofs.SentSteps.{sent-next, ever_sent-next}
 use Rattle.safety_laws.proofs.SoundSteps.{sound-next}
 use Rattle.safety_laws.proofs.PlanTurns.{slot_of, e-node, absent-off, armed-planned}
 
-module _ (list : Medl) (script : Script) (start : ClusterStart) (plan : Plan) (turn : ℕ) (new : SlotNumbers)
-    (numbers : Numbers) (t : IsTurn list script start plan turn new numbers) where
+module _ {list : Medl} {script : Script} {start : ClusterStart} {plan : Plan} {turn : ℕ} {new : SlotNumbers}
+    {numbers : Numbers} (t : IsTurn list script start plan turn new numbers) where
   of-fate : (k : ℕ) (past : NodePast) (fate : Fate) → fate_of plan (suc turn) k ≡ fate
-      → IsByFate list plan (suc turn) k past fate
-      → IsByFate list plan (suc turn) k past (fate_of plan (suc turn) k)
+      → IsByFate list plan (suc turn) k past fate → IsByFate list plan (suc turn) k past (fate_of plan (suc turn) k)
   of-fate k past fate is = subst (λ (f : Fate). IsByFate list plan (suc turn) k past f) (sym is)
 
   -- A node in another's slot.
@@ -44,41 +43,34 @@ module _ (list : Medl) (script : Script) (start : ClusterStart) (plan : Plan) (t
   other-next k node other = by (fate_of plan turn k) refl
     where
       by-sound : fate_of plan turn k ≡ Sound → (hit : Bool) → strikes (incident_at plan (suc turn)) k ≡ hit
-          → IsByFate list plan (suc turn) k (next_past (slot_of list script new numbers k))
-          (fate_of plan (suc turn) k)
+          → IsByFate list plan (suc turn) k (next_past (slot_of list script new numbers k)) (fate_of plan (suc turn) k)
       by-sound is true hit =
           let struck = struck-known plan (suc turn) k hit in
           of-fate k _ _ (struck-falls plan turn k t.planned.follows.good struck other)
-          (inr (struck-next list script start plan turn new numbers t k node other is struck))
+          (inr (struck-next t k node other is struck))
       by-sound is false missed =
           let stays = sound-stays plan turn k t.planned.follows.good missed is in
-          of-fate k _ Sound stays
-          (sound-next list script start plan turn new numbers t k node other is (ap is_sound stays))
+          of-fate k _ Sound stays (sound-next t k node other is (ap is_sound stays))
 
-      by-fallen : (change : Change) (since shown : ℕ) → fate_of plan turn k ≡ Fallen change since shown
-          → (armed : Bool) → is_armed_by plan (suc turn) k ≡ armed
-          → IsByFate list plan (suc turn) k (next_past (slot_of list script new numbers k))
-          (fate_of plan (suc turn) k)
-      by-fallen change since shown is true armed = armed-next list script start plan turn new numbers t k node armed
+      by-fallen : (change : Change) (since shown : ℕ) → fate_of plan turn k ≡ Fallen change since shown → (armed : Bool)
+          → is_armed_by plan (suc turn) k ≡ armed
+          → IsByFate list plan (suc turn) k (next_past (slot_of list script new numbers k)) (fate_of plan (suc turn) k)
+      by-fallen change since shown is true armed = armed-next t k node armed
       by-fallen change since shown is false unarmed =
           of-fate k _ (Fallen change since shown)
           (fallen-stays plan turn k since shown change t.planned.follows.good unarmed is)
-          (fallen-next list script start plan turn new numbers t k node other change since shown is unarmed)
+          (fallen-next t k node other change since shown is unarmed)
 
       by : (fate : Fate) → fate_of plan turn k ≡ fate
-          → IsByFate list plan (suc turn) k (next_past (slot_of list script new numbers k))
-          (fate_of plan (suc turn) k)
+          → IsByFate list plan (suc turn) k (next_past (slot_of list script new numbers k)) (fate_of plan (suc turn) k)
       by Absent is =
           of-fate k _ Absent (absent-stays plan turn k t.planned.follows.good is)
-          (idle-off (slot_of list script new numbers k)
-          (at-fate list script start plan turn new numbers t k Absent node is)
-          (absent-off list script start plan turn new numbers t k node is)).0
+          (idle-off (slot_of list script new numbers k) (at-fate t k Absent node is) (absent-off t k node is)).0
       by Sound is = by-sound is (strikes (incident_at plan (suc turn)) k) refl
       by (Falling change since) is =
-          of-fate k _ (Falling change since)
-          (falling-stays plan turn k since change t.planned.follows.good other is)
-          (falling-next list script start plan turn new numbers t k node other change since is)
-      by (Listening since) is = listening-next list script start plan turn new numbers t k node since is
+          of-fate k _ (Falling change since) (falling-stays plan turn k since change t.planned.follows.good other is)
+          (falling-next t k node other change since is)
+      by (Listening since) is = listening-next t k node since is
       by (Fallen change since shown) is = by-fallen change since shown is (is_armed_by plan (suc turn) k) refl
 
   -- The sender.
@@ -94,11 +86,10 @@ module _ (list : Medl) (script : Script) (start : ClusterStart) (plan : Plan) (t
       by-sound is true hit =
           let struck = struck-known plan (suc turn) (sender plan (suc turn)) hit in
           of-fate (sender plan (suc turn)) _ _ (struck-shown plan turn (sender plan (suc turn)) t.planned.follows.good struck refl)
-          (inr (lost-sent plan turn _ (sound-owner list script start plan turn new numbers t is)))
+          (inr (lost-sent (sound-owner t is)))
       by-sound is false missed =
           let stays = sound-stays plan turn (sender plan (suc turn)) t.planned.follows.good missed is in
-          of-fate (sender plan (suc turn)) _ Sound stays
-          (sound-sent plan turn _ (sound-owner list script start plan turn new numbers t is) (ap is_sound stays))
+          of-fate (sender plan (suc turn)) _ Sound stays (sound-sent (sound-owner t is) (ap is_sound stays))
 
       by-fallen : (change : Change) (since shown : ℕ)
           → fate_of plan turn (sender plan (suc turn)) ≡ Fallen change since shown
@@ -106,36 +97,31 @@ module _ (list : Medl) (script : Script) (start : ClusterStart) (plan : Plan) (t
           → IsByFate list plan (suc turn) (sender plan (suc turn))
           (next_past (slot_of list script new numbers (sender plan (suc turn))))
           (fate_of plan (suc turn) (sender plan (suc turn)))
-      by-fallen change since shown is true armed =
-          armed-next list script start plan turn new numbers t (sender plan (suc turn))
-          (e-node list script start plan turn new numbers t) armed
+      by-fallen change since shown is true armed = armed-next t (sender plan (suc turn)) (e-node t) armed
       by-fallen change since shown is false unarmed =
           of-fate (sender plan (suc turn)) _ (Fallen change since shown)
           (fallen-stays plan turn (sender plan (suc turn)) since shown change t.planned.follows.good unarmed is)
-          (inl (fallen-leaves list script start plan turn new numbers t change since shown is unarmed))
+          (inl (fallen-leaves t change since shown is unarmed))
 
       by : (fate : Fate) → fate_of plan turn (sender plan (suc turn)) ≡ fate
           → IsByFate list plan (suc turn) (sender plan (suc turn))
           (next_past (slot_of list script new numbers (sender plan (suc turn))))
           (fate_of plan (suc turn) (sender plan (suc turn)))
       by Absent is =
-          let node = e-node list script start plan turn new numbers t in
+          let node = e-node t in
           of-fate (sender plan (suc turn)) _ Absent
           (absent-stays plan turn (sender plan (suc turn)) t.planned.follows.good is)
           (idle-off (slot_of list script new numbers (sender plan (suc turn)))
-          (at-fate list script start plan turn new numbers t (sender plan (suc turn)) Absent node is)
-          (absent-off list script start plan turn new numbers t (sender plan (suc turn)) node is)).0
+          (at-fate t (sender plan (suc turn)) Absent node is) (absent-off t (sender plan (suc turn)) node is)).0
       by Sound is = by-sound is (strikes (incident_at plan (suc turn)) (sender plan (suc turn))) refl
       by (Falling change since) is =
           of-fate (sender plan (suc turn)) _ (Fallen change since (suc turn))
           (falling-shown plan turn (sender plan (suc turn)) since change t.planned.follows.good refl is)
-          (elim (falling-acts list script start plan turn new numbers t change since is) [
+          (elim (falling-acts t change since is) [
             | inl left ↦ inl left.0
             | inr sends ↦ inr sends.2
           ])
-      by (Listening since) is =
-          listening-next list script start plan turn new numbers t (sender plan (suc turn))
-          (e-node list script start plan turn new numbers t) since is
+      by (Listening since) is = listening-next t (sender plan (suc turn)) (e-node t) since is
       by (Fallen change since shown) is =
           by-fallen change since shown is (is_armed_by plan (suc turn) (sender plan (suc turn))) refl
 
@@ -161,8 +147,7 @@ module _ (list : Medl) (script : Script) (start : ClusterStart) (plan : Plan) (t
 
   -- it was so before, unless it is armed now
   there-before : (k : ℕ) → k < length list.slots → is_there (fate_of plan (suc turn) k) ≡ true
-      → is_armed script k (length (world list script numbers)) ≡ false
-      → is_there (fate_of plan turn k) ≡ true
+      → is_armed script k (length (world list script numbers)) ≡ false → is_there (fate_of plan turn k) ≡ true
   there-before k node there unarmed = by (fate_of plan turn k) refl
     where
       apart : is_there (fate_of plan (suc turn) k) ≡ false → ⊥
@@ -180,27 +165,23 @@ module _ (list : Medl) (script : Script) (start : ClusterStart) (plan : Plan) (t
       by Absent is = absurd (apart (ap is_there (absent-stays plan turn k t.planned.follows.good is)))
       by (Falling change since) is = absurd (falling-apart change since is)
       by (Fallen change since shown) is =
-          let planned = sym (armed-planned list script start plan turn new numbers t k node (ap is_lost is)) ∙ unarmed in
+          let planned = sym (armed-planned t k node (ap is_lost is)) ∙ unarmed in
           absurd (apart (ap is_there (fallen-stays plan turn k since shown change t.planned.follows.good planned is)))
 
   stay-next : (k : ℕ) → k < length list.slots → is_there (fate_of plan (suc turn) k) ≡ true
       → has_left_since_arm script (world list script (new ∷ numbers)) k ≡ false
   stay-next k node there =
-      left_since-next script (world list script numbers) _ k
-      (ap (λ (e : Entry). is_left_after e)
-      (entry_of-made list script (world list script numbers)
-      (messages_chosen list script (length numbers) new.sent) k node)
+      left_since-next script (world list script numbers) _ k (ap (λ (e : Entry). is_left_after e) (entry_of-made list
+      script (world list script numbers) (messages_chosen list script (length numbers) new.sent) k node)
       ∙ there-unleft k (next_past (slot_of list script new numbers k)) (fate_of plan (suc turn) k) (node-next k node)
-      there)
-      (λ unarmed. t.before.stay k node (there-before k node there unarmed))
+      there) (λ unarmed. t.before.stay k node (there-before k node there unarmed))
 
   pub holds-next : HoldsAfter list script plan (suc turn) (world list script (new ∷ numbers))
   holds-next = record {
-    nodes = λ k node.
-        subst (λ (past : NodePast). IsByFate list plan (suc turn) k past (fate_of plan (suc turn) k))
+    nodes = λ k node. subst (λ (past : NodePast). IsByFate list plan (suc turn) k past (fate_of plan (suc turn) k))
         (sym (node_past-step list script (world list script numbers)
         (messages_chosen list script (length numbers) new.sent) k node)) (node-next k node);
-    sent = sent-next list script start plan turn new numbers t;
-    ever_sent = ever_sent-next list script start plan turn new numbers t;
+    sent = sent-next t;
+    ever_sent = ever_sent-next t;
     stay = stay-next;
   }

@@ -98,11 +98,9 @@ ack_of-listed list diary all =
     (IsAboutListed list)
     (ack_since-listed list (newest_sent_or_joined diary) (since_sent_or_joined diary) (since-listed list diary all)) tt
 
-diary-listed : (list : Medl) (history : History) (k : ℕ) → AreOfList list history
-    → AreEntries list (diary_of history k)
+diary-listed : (list : Medl) (history : History) (k : ℕ) → AreOfList list history → AreEntries list (diary_of history k)
 diary-listed list [] k all = tt
-diary-listed list (row ∷ history) k all =
-    (entry_of-of_list list row k all.0, diary-listed list history k all.1)
+diary-listed list (row ∷ history) k all = (entry_of-of_list list row k all.0, diary-listed list history k all.1)
 
 -- The node in the slot after a world.
 module _ (list : Medl) (script : Script) (numbers : Numbers) (chosen : List Chosen) (k : ℕ) (valid : IsValid list)

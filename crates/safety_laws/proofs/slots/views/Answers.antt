@@ -8,8 +8,7 @@ pub returns-clause-inside : goal.returns-clause-inside
 returns-clause-inside c = λ x members bytes deviation is frame within.
     view_of_bits-members x.list (coming_place x) (candidates_of x) members bytes deviation is.valid frame
     (AreCandidates-node x.list x.past.ack x.node (owner_of x) x.past.members is.valid is.node is.owner is.doubted
-    is.members)
-    within
+    is.members) within
 
 pub returns-clause-cold_start : goal.returns-clause-cold_start
 returns-clause-cold_start c = λ x p deviation.
