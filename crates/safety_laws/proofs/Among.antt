@@ -51,22 +51,19 @@ each-of (x ∷ xs) gives all = (gives x all.0, each-of xs gives all.1)
 -- What a sound node holds.
 
 held-settled : (group : List ℕ) (a : Ack) → is_doubt a ≡ false → held_with group a ≡ group
-held-settled group ack.Closed settled = refl
-held-settled group ack.First settled = refl
 held-settled group (ack.Doubt y) settled = absurd (false≢true (sym settled))
+held-settled group _ settled = refl
 
 held-member : (group : List ℕ) (a : Ack) (j : ℕ) → j < most_nodes → has_node group j ≡ true
     → has_node (held_with group a) j ≡ true
-held-member group ack.Closed j small has = has
-held-member group ack.First j small has = has
 held-member group (ack.Doubt y) j small has = has_node-with_member group y j small has
+held-member group _ j small has = has
 
 held-none : (group : List ℕ) (a : Ack) (j : ℕ) → j < most_nodes → has_node group j ≡ false
     → ((y : ℕ) → a ≡ ack.Doubt y → y ≢ j) → has_node (held_with group a) j ≡ false
-held-none group ack.Closed j small none apart = none
-held-none group ack.First j small none apart = none
 held-none group (ack.Doubt y) j small none apart =
     has_node-with_other group y j small (λ same. apart y refl (sym same)) ∙ none
+held-none group _ j small none apart = none
 
 pub not-settled : (b : Bool) → not b ≡ true → b ≡ false
 not-settled true is = absurd (false≢true is)
@@ -180,18 +177,13 @@ module _ {list : Medl} {script : Script} {start : ClusterStart} {plan : Plan} {t
   gone-by nodes all k slot (Falling change since) fate lost late =
       let told = told-falling plan turn k since change good fate in
       let same = same_Some _ _ lost in
-      let after = told.loss.late in
-      let soon = told.soon in
-      let width = is.planned.follows.nodes in
-      let count = good.count in
-      absurd (omega (arith, same, late, after, soon, width, count))
+      absurd (omega (arith, same, late, told.loss.late, told.soon, is.planned.follows.nodes, good.count))
   gone-by nodes all k slot (Fallen change since shown) fate lost late =
       let told = told-fallen plan turn k since shown change good fate in
       let same = same_Some _ _ lost in
-      let after = told.loss.late in
-      let width = is.planned.follows.nodes in
       let count = good.count in
-      let over : since + 2 * plan.nodes ≤ suc (suc turn) = omega (arith, same, late, after, width, count) in
+      let over : since + 2 * plan.nodes ≤ suc (suc turn) =
+      omega (arith, same, late, told.loss.late, is.planned.follows.nodes, count) in
       let node : k < length list.slots =
       subst (λ n. k < n) is.planned.follows.nodes (loss-node plan k since change good told.loss) in
       and_from (has_left history k) (is_out_among list history nodes k)
@@ -235,9 +227,7 @@ module _ {list : Medl} {script : Script} {start : ClusterStart} {plan : Plan} {t
       by (Falling change s) is of_loss =
           let told = told-falling plan turn k s change good is in
           let same = same_Some _ _ of_loss in
-          let soon = told.soon in
-          let count = good.count in
-          absurd (omega (arith, same, soon, count, late))
+          absurd (omega (arith, same, told.soon, good.count, late))
       by (Fallen change s shown) is of_loss =
           let same = same_Some _ _ of_loss in
           left-fallen k s shown change node is (omega (arith, same, late))

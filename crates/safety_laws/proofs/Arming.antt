@@ -27,13 +27,10 @@ left-gone : (list : Medl) (script : Script) (plan : Plan) (turn k : ℕ) (number
     → is_lost fate ≡ true → may_stay plan.nodes turn fate ≡ false
     → IsByFate list plan turn k (node_past list script (world list script numbers) k) fate
     → (node_past list script (world list script numbers) k).phase ≡ phase.Left
-left-gone list script plan turn k numbers Absent lost gone at = cc
-left-gone list script plan turn k numbers Sound lost gone at = cc
-left-gone list script plan turn k numbers (Listening s) lost gone at = cc
-left-gone list script plan turn k numbers (Falling change s) lost gone at = cc
 left-gone list script plan turn k numbers (Fallen change s shown) lost gone (inl left) = left
 left-gone list script plan turn k numbers (Fallen change s shown) lost gone (inr at) =
     absurd (both_ways (nat_lt turn (shown + plan.nodes)) gone (lt-ltb turn (shown + plan.nodes) at.soon))
+left-gone list script plan turn k numbers _ lost gone at = cc
 
 module _ {list : Medl} {script : Script} {start : ClusterStart} {plan : Plan} {turn : ℕ} {new : SlotNumbers}
     {numbers : Numbers} (t : IsTurn list script start plan turn new numbers) (k : ℕ) (node : k < length list.slots)
@@ -52,14 +49,13 @@ module _ {list : Medl} {script : Script} {start : ClusterStart} {plan : Plan} {t
 
     now : is_armed_by plan (suc turn) k ≡ true → Listens
     now armed =
-        let good = t.planned.follows.good in
-        let awaited = awaited-armed plan turn k good armed in
-        let lost = armed-lost plan turn k good armed in
+        let awaited = awaited-armed plan turn k t.planned.follows.good armed in
+        let lost = armed-lost plan turn k t.planned.follows.good armed in
         record {
           since = suc turn;
           awaited = awaited;
           listens = listens-now t k node (left-gone list script plan turn k numbers (fate_of plan turn k) lost
-              (gone-awaited plan turn k (suc turn) good awaited k) (t.before.nodes k node))
+              (gone-awaited plan turn k (suc turn) t.planned.follows.good awaited k) (t.before.nodes k node))
               (armed-planned t k node lost ∙ armed);
         }
 

@@ -28,14 +28,13 @@ pub awaited-armed : (plan : Plan) (turn k : ℕ) → IsGoodPlan plan → is_arme
 awaited-armed plan turn k good is =
     let found = armed-is plan (suc turn) k is in
     let after = (good.returns found.return found.among).after in
-    let at = found.armed in
     record {
       return = found.return;
       among = found.among;
       node = found.node;
       armed = found.armed;
       from = omega arith;
-      waits = omega (arith, after, at);
+      waits = omega (arith, after, found.armed);
     }
 
 pub awaited-listening : (plan : Plan) (turn k since : ℕ) → IsGoodPlan plan → suc turn < plan.slots
@@ -66,26 +65,19 @@ some_of test from (suc many) some = by (test (from + many)) refl (some_of test f
     by false fails before =
         let none : cond {A = ℕ} (test (from + many)) 1 0 ≡ 0 = ap (λ b. cond {A = ℕ} b 1 0) fails in
         let found = before (omega (arith, some, none)) in
-        let to = found.1.1 in
-        (found.0, (found.1.0, omega (arith, to), found.1.2))
+        (found.0, (found.1.0, omega (arith, found.1.1), found.1.2))
 
 module _ (plan : Plan) (turn k since : ℕ) (good : IsGoodPlan plan) (is : IsAwaited plan turn k since) where
   -- Nobody is lost then, and nobody that was lost may still stay.
 
   pub quiet-awaited : incident_at plan (suc turn) ≡ None
-  quiet-awaited =
-      let from = is.from in
-      let at = is.armed in
-      quiet-within plan is.return (suc turn) good is.among (omega (arith, from, at)) is.waits
+  quiet-awaited = quiet-within plan is.return (suc turn) good is.among (omega (arith, is.from, is.armed)) is.waits
 
   gone-lost : (j at : ℕ) → lost_since (fate_of plan turn j) ≡ Some at → at ≤ turn
       → ((change : Change) × IsLossOf plan j change at) → may_stay plan.nodes turn (fate_of plan turn j) ≡ false
   gone-lost j at lost before loss =
       elim ((good.returns is.return is.among).losses at loss.1.incident loss.1.found) [
-        | inl early ↦
-            let from = is.from in
-            let armed = is.armed in
-            over plan turn j at good lost (omega (arith, early, from, armed))
+        | inl early ↦ over plan turn j at good lost (omega (arith, early, is.from, is.armed))
         | inr late ↦ let waits = is.waits in absurd (omega (arith, late, waits, before, good.count))
       ]
 
@@ -99,25 +91,20 @@ module _ (plan : Plan) (turn k since : ℕ) (good : IsGoodPlan plan) (is : IsAwa
       by (Listening s) same told = ap (may_stay plan.nodes turn) same
       by (Falling change at) same told = gone-lost j at (ap lost_since same) told.from (change, told.loss)
       by (Fallen change at shown) same told =
-          let from = told.from.0 in
-          let to = told.from.1 in
-          gone-lost j at (ap lost_since same) (omega (arith, from, to)) (change, told.loss)
+          gone-lost j at (ap lost_since same) (omega (arith, told.from.0, told.from.1)) (change, told.loss)
 
   -- It goes on to listen, unless it enters.
 
   pub listens-on : suc turn < plan.slots → enters plan (suc turn) k ≡ false
       → (suc turn < is.return.entered) × (fate_of plan (suc turn) k ≡ Listening since)
   listens-on within unentered =
-      let waits = is.waits in
-      let from = is.from in
-      let at = is.armed in
       let later : suc turn ≢ is.return.entered = λ same. both_ways (enters plan (suc turn) k) unentered
       ((λ i. enters plan (same i) (sym is.node i))
       ∙ enters-by plan is.return is.among (subst (λ slot. slot < plan.slots) same within)) in
-      let before : suc turn < is.return.entered = omega (arith, waits, later) in (
+      let before : suc turn < is.return.entered = omega (arith, is.waits, later) in (
         before,
         ap (fate_of plan (suc turn)) (sym is.node)
-            ∙ listens-until plan is.return (suc turn) good is.among (omega (arith, from, at)) before
+            ∙ listens-until plan is.return (suc turn) good is.among (omega (arith, is.from, is.armed)) before
             ∙ ap (λ slot. Listening slot) is.armed,
       )
 
@@ -135,40 +122,29 @@ module _ (plan : Plan) (turn k since : ℕ) (good : IsGoodPlan plan) (is : IsAwa
   late-armed : 2 * plan.nodes < since
   late-armed =
       let was = (good.returns is.return is.among).was in
-      let at = is.armed in
-      let next = was.1.0 in
       by (fate_of plan was.0 is.return.node) refl was.1.1 (fate-told plan was.0 is.return.node good)
-      (omega (arith, next, at))
+      (omega (arith, was.1.0, is.armed))
     where
       by : {slot : ℕ} (fate : Fate) → fate_of plan slot is.return.node ≡ fate → is_lost (fate_of plan slot is.return.node) ≡ true
           → IsTold plan slot is.return.node fate → since ≡ suc slot → 2 * plan.nodes < since
       by Absent same lost told at = let both = ap is_lost (sym same) ∙ lost in cc
       by Sound same lost told at = let both = ap is_lost (sym same) ∙ lost in cc
       by (Listening s) same lost told at = let both = ap is_lost (sym same) ∙ lost in cc
-      by (Falling change s) same lost told at =
-          let late = told.loss.late in
-          let from = told.from in
-          omega (arith, late, from, at)
-      by (Fallen change s shown) same lost told at =
-          let late = told.loss.late in
-          let from = told.from.0 in
-          let to = told.from.1 in
-          omega (arith, late, from, to, at)
+      by (Falling change s) same lost told at = omega (arith, told.loss.late, told.from, at)
+      by (Fallen change s shown) same lost told at = omega (arith, told.loss.late, told.from.0, told.from.1, at)
 
   pub good-lately : turn < plan.slots
       → (slot : ℕ) × ((slot ≤ turn) × (turn < slot + plan.nodes) × (is_good_slot plan slot ≡ true))
   good-lately within =
       let late = late-armed in
-      let from = is.from in
-      let round : (suc turn - plan.nodes) + plan.nodes ≡ suc turn = omega (arith, late, from) in
+      let round : (suc turn - plan.nodes) + plan.nodes ≡ suc turn = omega (arith, late, is.from) in
       let four = four-measured plan turn (suc turn - plan.nodes) good within round in
       let found = some_of (is_measured plan) (suc turn - plan.nodes) plan.nodes (omega (arith, four)) in
-      let after = found.1.0 in
       let to = found.1.1 in (
         found.0,
         (
           omega (arith, to, round),
-          omega (arith, after, round),
+          omega (arith, found.1.0, round),
           (and_parts (is_good_slot plan found.0) (has_node plan.measured (sender plan found.0)) found.1.2).0,
         ),
       )

@@ -53,13 +53,7 @@ waiting-unleft false = refl
 inactive-unsent : (e : Entry) → phase_after e ≢ phase.Active → is_sending e ≡ false
 inactive-unsent entry.Started inactive = absurd (inactive refl)
 inactive-unsent (entry.Sent message) inactive = absurd (inactive refl)
-inactive-unsent entry.Off inactive = refl
-inactive-unsent entry.Waited inactive = refl
-inactive-unsent entry.Retried inactive = refl
-inactive-unsent entry.Gone inactive = refl
-inactive-unsent (entry.Left why peer) inactive = refl
-inactive-unsent (entry.Joined sender c deviation) inactive = refl
-inactive-unsent (entry.Judged sender v deviation) inactive = refl
+inactive-unsent _ inactive = refl
 
 -- what was sent in a stint was sent
 since-ever : (diary : Diary) → has_sent_since_begin diary ≡ true → has_ever_sent diary ≡ true
@@ -224,10 +218,7 @@ module _ {list : Medl} {script : Script} {start : ClusterStart} {plan : Plan}
 
       absent-fate : (fate : Fate) → is_absent fate ≡ true → fate ≡ Absent
       absent-fate Absent absent = refl
-      absent-fate Sound absent = absurd (false≢true absent)
-      absent-fate (Falling change since) absent = absurd (false≢true absent)
-      absent-fate (Fallen change since shown) absent = absurd (false≢true absent)
-      absent-fate (Listening since) absent = absurd (false≢true absent)
+      absent-fate _ absent = absurd (false≢true absent)
 
       node-begun : (k : ℕ) → k < length list.slots
           → IsByFate list plan 0 k (node_past list script (world list script (new ∷ numbers)) k) (fate_of plan 0 k)
@@ -273,9 +264,7 @@ module _ {list : Medl} {script : Script} {start : ClusterStart} {plan : Plan}
               → is_left_phase past.phase ≡ false
           by Sound there at = ap (λ (p : Phase). is_left_phase p) at.phase
           by (Listening since) there at = ap (λ (p : Phase). is_left_phase p) at.phase
-          by Absent there at = cc
-          by (Falling change since) there at = cc
-          by (Fallen change since shown) there at = cc
+          by _ there at = cc
 
       pub holds-begun : HoldsAfter list script plan 0 (world list script (new ∷ numbers))
       holds-begun = record {

@@ -54,9 +54,8 @@ entry-or-none plan slot within = by (list_any is_there plan.returns) refl
         )
     by false none = inl (λ k. false_from_ne_true (enters plan slot k) (λ is.
         let entry = entry-is plan slot k is in
-        let r = entry.return in
         both_ways (list_any is_there plan.returns) none
-        (of-any is_there plan.returns r entry.among (eq-eqb r.entered slot entry.entered))))
+        (of-any is_there plan.returns entry.return entry.among (eq-eqb entry.return.entered slot entry.entered))))
 
 -- a node that enters was not sound
 entry-unsound : (plan : Plan) (slot k : ℕ) → IsGoodPlan plan → enters plan (suc slot) k ≡ true
@@ -89,20 +88,15 @@ entry-later plan slot newest k good is enter =
     let r = found.return in
     let of_r = good.returns r found.among in
     let at = found.entered in
-    let after = of_r.after in
-    let within = is.within in
     elim is.by [
       | inl first ↦
-          let was = of_r.was in
-          let armed = was.1.0 in
-          let lost = armed-fallen plan was.0 r.node good
-          (subst (λ t. is_armed_by plan t r.node ≡ true) armed (armed-by plan r found.among)) in
-          let early = lost.early in
-          omega (arith, first, early, armed, after, at)
+          let lost = armed-fallen plan of_r.was.0 r.node good
+          (subst (λ t. is_armed_by plan t r.node ≡ true) of_r.was.1.0 (armed-by plan r found.among)) in
+          omega (arith, first, lost.early, of_r.was.1.0, of_r.after, at)
       | inr other ↦ elim (entry-beside plan r newest other.0 good found.among other.1) [
-        | Itself same ↦ absurd (omega (arith, same, at, within))
-        | Before early ↦ omega (arith, early, after, at)
-        | After late ↦ absurd (omega (arith, late, at, within))
+        | Itself same ↦ absurd (omega (arith, same, at, is.within))
+        | Before early ↦ omega (arith, early, of_r.after, at)
+        | After late ↦ absurd (omega (arith, late, at, is.within))
       ]
     ]
 

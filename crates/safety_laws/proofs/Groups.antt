@@ -90,38 +90,24 @@ module _ (list : Medl) (valid : IsValid list) (group : List ℕ) (k owner : ℕ)
 
 settled-group : (list : Medl) (group : List ℕ) (a : Ack) → IsValid list → AreNodes list group → IsAboutListed list a
     → IsAboutOther group a → settled_members (held_with group a) a ≡ group
-settled-group list group ack.Closed valid nodes listed other = refl
-settled-group list group ack.First valid nodes listed other = refl
 settled-group list group (ack.Doubt y) valid nodes listed other = without-with list valid group y nodes listed other
+settled-group list group _ valid nodes listed other = refl
 
 answered-correct : (a : Ack) (owner : ℕ) → ack_answered a verdict.Correct owner ≡ ack.Closed
 answered-correct ack.Closed owner = refl
-answered-correct ack.First owner = refl
-answered-correct (ack.Doubt y) owner = refl
+answered-correct _ owner = refl
 
 answered-wrong : (a : Ack) (v : Verdict) (owner : ℕ) → is_accepted v ≡ false → ack_answered a v owner ≡ a
 answered-wrong ack.Closed v owner wrong = refl
-answered-wrong ack.First verdict.Null owner wrong = refl
-answered-wrong ack.First verdict.Invalid owner wrong = refl
-answered-wrong ack.First verdict.Incorrect owner wrong = refl
-answered-wrong ack.First verdict.Denied owner wrong = refl
-answered-wrong ack.First verdict.Correct owner wrong = cc
-answered-wrong ack.First verdict.Tentative owner wrong = cc
-answered-wrong (ack.Doubt y) verdict.Null owner wrong = refl
-answered-wrong (ack.Doubt y) verdict.Invalid owner wrong = refl
-answered-wrong (ack.Doubt y) verdict.Incorrect owner wrong = refl
-answered-wrong (ack.Doubt y) verdict.Denied owner wrong = refl
-answered-wrong (ack.Doubt y) verdict.Correct owner wrong = cc
-answered-wrong (ack.Doubt y) verdict.Tentative owner wrong = cc
+answered-wrong _ verdict.Correct owner wrong = cc
+answered-wrong _ verdict.Tentative owner wrong = cc
+answered-wrong _ _ owner wrong = refl
 
 taken_out-wrong : (members : List ℕ) (a : Ack) (v : Verdict) (owner : ℕ) → is_accepted v ≡ false
     → judged_members members a v owner ≡ without_node members owner
-taken_out-wrong members a verdict.Null owner wrong = refl
-taken_out-wrong members a verdict.Invalid owner wrong = refl
-taken_out-wrong members a verdict.Incorrect owner wrong = refl
-taken_out-wrong members a verdict.Denied owner wrong = refl
 taken_out-wrong members a verdict.Correct owner wrong = cc
 taken_out-wrong members a verdict.Tentative owner wrong = cc
+taken_out-wrong members a _ owner wrong = refl
 
 taken_out-held : (list : Medl) (group : List ℕ) (a : Ack) (owner : ℕ) → IsValid list → AreNodes list group
     → IsAboutListed list a → IsNotAbout owner a
@@ -132,9 +118,8 @@ taken_out-held list group (ack.Doubt y) owner valid nodes listed apart =
     without-with_other list valid group owner y nodes listed apart
 
 still_other : (group : List ℕ) (a : Ack) (owner : ℕ) → IsAboutOther group a → IsAboutOther (without_node group owner) a
-still_other group ack.Closed owner other = tt
-still_other group ack.First owner other = tt
 still_other group (ack.Doubt y) owner other = has_node-without_none group owner y other
+still_other group _ owner other = tt
 
 -- by the acknowledgement after the slot
 pub holds-by : (list : Medl) (k : ℕ) (group : List ℕ) (past : NodePast) (a : Ack) → past.ack ≡ a → AreNodes list group

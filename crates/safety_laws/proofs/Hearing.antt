@@ -45,22 +45,16 @@ comes-uncovered : (silenced noisy deaf disturbed : Bool) (sender : ℕ) (bytes :
     → comes silenced noisy deaf disturbed (Bits sender bytes) ≡ Bits sender bytes
 unfolding comes
 comes-uncovered false false false false sender bytes clear = refl
-comes-uncovered true noisy deaf disturbed sender bytes clear = absurd (false≢true (sym clear))
-comes-uncovered false true deaf disturbed sender bytes clear = absurd (false≢true (sym clear))
-comes-uncovered false false true disturbed sender bytes clear = absurd (false≢true (sym clear))
-comes-uncovered false false false true sender bytes clear = absurd (false≢true (sym clear))
+comes-uncovered _ _ _ _ sender bytes clear = absurd (false≢true (sym clear))
 
 comes-covered : (silenced noisy deaf disturbed : Bool) (sender : ℕ) (bytes : List ℕ)
     → ((silenced || noisy) || (deaf || disturbed)) ≡ true
     → is_frameless (comes silenced noisy deaf disturbed (Bits sender bytes)) ≡ true
 unfolding comes
 comes-covered silenced noisy true disturbed sender bytes covered = refl
-comes-covered true noisy false true sender bytes covered = refl
-comes-covered true noisy false false sender bytes covered = refl
-comes-covered false true false true sender bytes covered = refl
-comes-covered false true false false sender bytes covered = refl
-comes-covered false false false true sender bytes covered = refl
 comes-covered false false false false sender bytes covered = absurd (false≢true covered)
+comes-covered _ _ _ true sender bytes covered = refl
+comes-covered _ _ _ _ sender bytes covered = refl
 
 -- a receiver that is not covered hears the frame as it was sent
 pub heard-uncovered : (script : Script) (slot r : ℕ) (c : Channel) (sent : SentFrame)

@@ -41,26 +41,17 @@ view_of_bits-seen list expected bytes deviation =
 
 better-same : (v : ChannelView) → better_view v v ≡ v
 better-same view.First = refl
-better-same view.Second = refl
-better-same view.Other = refl
-better-same view.Bad = refl
-better-same view.Silent = refl
+better-same _ = refl
 
 -- a view of bits is taken where the other channel is silent or noisy
 
 taken_over_silence : (v : ChannelView) → (better_view v view.Silent ≡ v) × (better_view view.Silent v ≡ v)
 taken_over_silence view.First = (refl, refl)
-taken_over_silence view.Second = (refl, refl)
-taken_over_silence view.Other = (refl, refl)
-taken_over_silence view.Bad = (refl, refl)
-taken_over_silence view.Silent = (refl, refl)
+taken_over_silence _ = (refl, refl)
 
 taken_over_noise : (v : ChannelView) → is_seen v ≡ true → (better_view v view.Bad ≡ v) × (better_view view.Bad v ≡ v)
-taken_over_noise view.First seen = (refl, refl)
-taken_over_noise view.Second seen = (refl, refl)
-taken_over_noise view.Other seen = (refl, refl)
-taken_over_noise view.Bad seen = (refl, refl)
 taken_over_noise view.Silent seen = cc
+taken_over_noise _ seen = (refl, refl)
 
 either_deviation : (from_a : Bool) (d : ℤ) → entry_deviation from_a (Some d) (Some d) ≡ d
 either_deviation true d = refl
@@ -128,9 +119,8 @@ module _ (list : Medl) (expected : Expected) (deviation : ℕ → ℤ) (owner : 
   judged-none Silence Noise none none_too = inr refl
   judged-none Noise Silence none none_too = inr refl
   judged-none Noise Noise none none_too = inr refl
-  judged-none Silence (Bits p bs) none none_too = cc
-  judged-none Noise (Bits p bs) none none_too = cc
   judged-none (Bits p bs) other none none_too = cc
+  judged-none _ (Bits p bs) none none_too = cc
 
   judged-silence : judged_as Silence Silence ≡ entry.Judged owner verdict.Null (pos 0)
   unfolding judged_as

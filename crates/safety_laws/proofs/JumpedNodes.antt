@@ -31,16 +31,15 @@ module _ {list : Medl} {script : Script} {start : ClusterStart} {plan : Plan} {t
   pub turn-other : sender plan (suc turn) ≢ k
   turn-other =
       let told = told-falling plan (suc turn) k since Jumping t.planned.follows.good jumped in
-      let from = told.from in
-      told.unshown (suc turn) from (omega arith)
+      told.unshown (suc turn) told.from (omega arith)
 
   -- of a node that is not lost by then, and not lost in it
   none-shown : (change : Change) (s : ℕ)
       → fate_of plan (suc turn) (sender plan (suc turn)) ≡ Fallen change s (suc turn) → ⊥
   none-shown change s shown =
-      let count = t.planned.follows.good.count in
       let stays : may_stay plan.nodes (suc turn) (fate_of plan (suc turn) (sender plan (suc turn))) ≡ true =
-      ap (may_stay plan.nodes (suc turn)) shown ∙ lt-ltb (suc turn) (suc turn + plan.nodes) (omega (arith, count)) in
+      ap (may_stay plan.nodes (suc turn)) shown
+      ∙ lt-ltb (suc turn) (suc turn + plan.nodes) (omega (arith, t.planned.follows.good.count)) in
       turn-other (one-stays plan (suc turn) (sender plan (suc turn)) k t.planned.follows.good stays
       (ap (may_stay plan.nodes (suc turn)) jumped))
 

@@ -30,11 +30,7 @@ counted-on x v deviation judged = record {
 
 wrong-accepted : (v : Verdict) → is_accepted v ≡ false → is_correct v ≡ false
 wrong-accepted verdict.Correct wrong = absurd (false≢true (sym wrong))
-wrong-accepted verdict.Tentative wrong = refl
-wrong-accepted verdict.Null wrong = refl
-wrong-accepted verdict.Invalid wrong = refl
-wrong-accepted verdict.Incorrect wrong = refl
-wrong-accepted verdict.Denied wrong = refl
+wrong-accepted _ wrong = refl
 
 one-at-most : (counts first : Bool) → (counts ≡ true → first ≡ true) → cond counts 1 0 ≤ cond first 1 0
 one-at-most true first only = let is = only refl in rw is (omega arith)
@@ -48,10 +44,9 @@ module _ (ledger : Ledger) (past next : NodePast) (counted : IsCounted ledger pa
       → IsCounted (with_slot true first ledger) next
   by-correct first on closed =
       let none : doubts next.ack ≡ 0 = ap doubts closed in
-      let few = counted.rejected in
       record {
         accepted = omega (arith, on.accepted, counted.accepted);
-        rejected = omega (arith, on.rejected, none, few);
+        rejected = omega (arith, on.rejected, none, counted.rejected);
         opened = λ opened. absurd (false≢true (ap is_open (sym closed) ∙ opened));
         cold_start = λ cold. counted.cold_start (sym on.cold_start ∙ cold);
       }
@@ -63,10 +58,9 @@ module _ (ledger : Ledger) (past next : NodePast) (counted : IsCounted ledger pa
       let none : cond {A = ℕ} (is_correct v) 1 0 ≡ 0 = ap (λ b. cond {A = ℕ} b 1 0) (wrong-accepted v wrong) in
       let more = one-at-most (is_rejection past.ack v) first only in
       let still : doubts next.ack ≡ doubts past.ack = ap doubts same in
-      let few = counted.rejected in
       record {
         accepted = omega (arith, on.accepted, none, counted.accepted);
-        rejected = omega (arith, on.rejected, more, still, few);
+        rejected = omega (arith, on.rejected, more, still, counted.rejected);
         opened = λ opened. none-more (counted.opened (ap is_open (sym same) ∙ opened));
         cold_start = λ cold. counted.cold_start (sym on.cold_start ∙ cold);
       }
@@ -75,10 +69,9 @@ module _ (ledger : Ledger) (past next : NodePast) (counted : IsCounted ledger pa
       → IsCounted (with_slot false true ledger) next
   by-tentative y on first doubt =
       let one : doubts next.ack ≡ 1 = ap doubts doubt in
-      let few = counted.rejected in
       record {
         accepted = omega (arith, on.accepted, counted.accepted);
-        rejected = omega (arith, on.rejected, one, few);
+        rejected = omega (arith, on.rejected, one, counted.rejected);
         opened = λ opened. none-more (counted.opened (ap is_open first));
         cold_start = λ cold. counted.cold_start (sym on.cold_start ∙ cold);
       }

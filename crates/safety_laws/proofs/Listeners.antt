@@ -32,14 +32,10 @@ listens-before plan turn since x nodes some lately at = record {
   where
     few : x.past.silent_slots ≤ plan.nodes
     few = elim (cases_lt lately.0 since) [
-      | inl before ↦
-          let silent = at.silent in
-          let near = lately.1.1 in
-          omega (arith, before, silent, near)
+      | inl before ↦ omega (arith, before, at.silent, lately.1.1)
       | inr from ↦
           let broken = at.broken lately.0 from lately.1.0 lately.1.2 in
-          let near = lately.1.1 in
-          omega (arith, broken, near)
+          omega (arith, broken, lately.1.1)
     ]
 
     early : x.past.silent_slots < x.past.limit
@@ -63,15 +59,12 @@ waits-on plan turn since x from is waited heard = record {
   phase = waited.phase;
   limit = waited.limit ∙ is.limit;
   silent = let few = one-more x.around.is_silent in
-      let before = is.silent in
-      let count = waited.silent_slots in
-      omega (arith, few, before, count, from);
+      omega (arith, few, is.silent, waited.silent_slots, from);
   broken = λ good since_is to good_is. elim (cases_lt good (suc turn)) [
     | inl before ↦
         let few = one-more x.around.is_silent in
         let broken = is.broken good since_is (omega (arith, before)) good_is in
-        let count = waited.silent_slots in
-        omega (arith, few, broken, count)
+        omega (arith, few, broken, waited.silent_slots)
     | inr now ↦
         let same : good ≡ suc turn = omega (arith, now, to) in
         let none : (next_past x).silent_slots ≡ 0 =

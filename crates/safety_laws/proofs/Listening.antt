@@ -48,16 +48,9 @@ listens-early x listens early =
 
 left-waited : (list : Medl) (k : ℕ) (diary : Diary) (surroundings : Surroundings) → phase_of diary ≡ phase.Left
     → (silent_slots_of diary surroundings ≡ 0) × (limit_of list k diary ≡ 2 * length list.slots + k)
-left-waited list k [] surroundings left = cc
 left-waited list k (entry.Left why peer ∷ diary) surroundings left = (refl, refl)
 left-waited list k (entry.Gone ∷ diary) surroundings left = (refl, refl)
-left-waited list k (entry.Off ∷ diary) surroundings left = cc
-left-waited list k (entry.Waited ∷ diary) surroundings left = cc
-left-waited list k (entry.Retried ∷ diary) surroundings left = cc
-left-waited list k (entry.Started ∷ diary) surroundings left = cc
-left-waited list k (entry.Sent message ∷ diary) surroundings left = cc
-left-waited list k (entry.Joined sender c deviation ∷ diary) surroundings left = cc
-left-waited list k (entry.Judged sender v deviation ∷ diary) surroundings left = cc
+left-waited list k _ surroundings left = cc
 
 pub left-world : (list : Medl) (script : Script) (history : History) (k : ℕ)
     → (node_past list script history k).phase ≡ phase.Left → ((node_past list script history k).silent_slots ≡ 0)

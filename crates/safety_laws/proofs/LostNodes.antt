@@ -138,14 +138,11 @@ module _ {plan : Plan} {turn : ℕ} {x : NodeSlot} (is : IsSoundJudge plan turn 
       where
         by : (v : Verdict) → ((v ≡ verdict.Null) ⊎ (v ≡ verdict.Invalid))
             → has_node (judged_members x.past.members x.past.ack v (owner_of x)) (owner_of x) ≡ false
-        by verdict.Null how = has_node-taken_out x.past.members (owner_of x)
-        by verdict.Invalid how = has_node-taken_out x.past.members (owner_of x)
-        by verdict.Incorrect how = has_node-taken_out x.past.members (owner_of x)
-        by verdict.Denied how = has_node-taken_out x.past.members (owner_of x)
         by verdict.Correct (inl is) = cc
         by verdict.Correct (inr is) = cc
         by verdict.Tentative (inl is) = cc
         by verdict.Tentative (inr is) = cc
+        by _ how = has_node-taken_out x.past.members (owner_of x)
 
     -- a receiver to which no frame comes
     pub deaf-falls : HearsNoFrame x.hearing

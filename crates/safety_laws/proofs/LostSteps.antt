@@ -120,18 +120,16 @@ module _ {list : Medl} {script : Script} {start : ClusterStart} {plan : Plan} {t
             let lost_less : sender plan since < plan.nodes = mod-lt (plan.starter + since) few_nodes in
             let listed = subst (λ n. sender plan since < n) t.planned.follows.nodes lost_less in
             let owner = owner-is t k node at.place in
-            let from = told.from in
             let apart : sender plan since ≢ sender plan (suc turn) = λ same.
-            let soon = told.soon in
-            let round = turns_apart plan since (suc turn) few_nodes (omega (arith, from)) same in
-            omega (arith, soon, round) in
+            let round = turns_apart plan since (suc turn) few_nodes (omega (arith, told.from)) same in
+            omega (arith, told.soon, round) in
             let not_owner = λ (same : sender plan since ≡ owner_of x). apart (same ∙ owner) in
             let lost = sender-lost plan turn k since t.planned.follows.good is in
             let few = nodes-most list t.planned.valid in
             deaf-judges plan turn x (judges t k node at.phase at.place other) since at listed not_owner
             (no-answer at.place (λ hears. HasThird (sender plan (suc turn)) (sender plan since) _ hears (record {
               listed = listed;
-              not_self = told.unshown since (omega arith) from;
+              not_self = told.unshown since (omega arith) told.from;
               not_owner = not_owner;
               held = at.lacks refl;
             })
@@ -149,8 +147,7 @@ module _ {list : Medl} {script : Script} {start : ClusterStart} {plan : Plan} {t
   ]
   falling-next Sending since is =
       let told = told-falling plan turn k since Sending t.planned.follows.good is in
-      let from = told.from in
-      absurd (told.unshown since (omega arith) from
+      absurd (told.unshown since (omega arith) told.from
       (loss-sending plan k since Sending t.planned.follows.good told.loss refl))
   falling-next Jumping since is =
       let x = slot_of list script new numbers k in
@@ -190,8 +187,7 @@ module _ {list : Medl} {script : Script} {start : ClusterStart} {plan : Plan} {t
         elim (at-fate t k (Fallen change since shown) node is) [
           | inl left ↦ inl (idle-left x left (armed-planned t k node (ap is_lost is) ∙ unarmed)).0
           | inr at ↦
-              let soon = at.soon in
               fallen-judges plan turn x (judges t k node at.phase at.place other) since shown at (no-answer at.place
-              lacks-fallen (ap (may_stay plan.nodes turn) is ∙ lt-ltb turn (shown + plan.nodes) soon)
-              (fate_of plan turn (sender plan (suc turn))) refl) (still-soon soon)
+              lacks-fallen (ap (may_stay plan.nodes turn) is ∙ lt-ltb turn (shown + plan.nodes) at.soon)
+              (fate_of plan turn (sender plan (suc turn))) refl) (still-soon at.soon)
         ]

@@ -32,8 +32,7 @@ pub record MaySend (x : NodeSlot) : Type 0 where
 
 closed-ack : (a : Ack) → is_open a ≡ false → a ≡ ack.Closed
 closed-ack ack.Closed closed = refl
-closed-ack ack.First closed = absurd (false≢true (sym closed))
-closed-ack (ack.Doubt y) closed = absurd (false≢true (sym closed))
+closed-ack _ closed = absurd (false≢true (sym closed))
 
 -- A sound node.
 
@@ -62,23 +61,19 @@ module _ {plan : Plan} {turn : ℕ} {x : NodeSlot} (is : IsSoundOwner plan turn 
   few_rejected true own =
       let seen = seen-three own in
       let bad = bad-own plan turn x.node is.good less in
-      let few = is.at.counted.rejected in
-      omega (arith, seen, bad, few)
+      omega (arith, seen, bad, is.at.counted.rejected)
   few_rejected false first =
       let bad = bad-first plan turn x.node is.good less first in
-      let few = is.at.counted.rejected in
-      omega (arith, bad, few)
+      omega (arith, bad, is.at.counted.rejected)
 
   pub sound-sends : MaySend x
   sound-sends = record {
     closed = closed-ack x.past.ack (false_from_ne_true (is_open x.past.ack) (λ opened.
         let none = is.at.counted.opened opened in
         let seen = seen-three none.0 in
-        let zero_seen = none.1 in
-        omega (arith, seen, zero_seen)));
+        omega (arith, seen, none.1)));
     more = let few = few_rejected (ledger_of plan turn x.node).own refl in
-        let counted = is.at.counted.accepted in
-        omega (arith, few, counted);
+        omega (arith, few, is.at.counted.accepted);
   }
 
   stands : let message = message_sent x.list (coming_place x) x.chosen in
@@ -138,14 +133,13 @@ module _ (plan : Plan) (turn : ℕ) (x : NodeSlot) (good : IsGoodPlan plan) (own
       -- a round before that last slot it had one, and no answer to its frame since
       not_last : x.past.ack ≡ ack.Closed → suc (suc turn) ≡ since + plan.nodes → ⊥
       not_last closed last =
-          let late = told.loss.late in
           let some = good.count in
           let before = since - 1 in
-          let round : before + plan.nodes ≡ suc turn = omega (arith, late, some, last) in
+          let round : before + plan.nodes ≡ suc turn = omega (arith, told.loss.late, some, last) in
           let own : sender plan before ≡ x.node =
           sym (round-turn plan before (sender plan before) (omega (arith, some))
           (mod-lt (plan.starter + before) (omega (arith, some))) refl) ∙ ap (sender plan) round ∙ owner in
-          subst (IsUnanswered x.node) closed (at.waits before (omega (arith, late, some)) own)
+          subst (IsUnanswered x.node) closed (at.waits before (omega (arith, told.loss.late, some)) own)
 
       early-sent : x.past.ack ≡ ack.Closed → suc (suc turn) < since + plan.nodes
       early-sent closed = elim (cases_lt (suc (suc turn)) (since + plan.nodes)) [
@@ -179,8 +173,7 @@ module _ (plan : Plan) (turn : ℕ) (x : NodeSlot) (good : IsGoodPlan plan) (own
 
   open-unanswered : (k : ℕ) (a : Ack) → IsUnanswered k a → is_open a ≡ true
   open-unanswered k ack.Closed unanswered = absurd unanswered
-  open-unanswered k ack.First unanswered = refl
-  open-unanswered k (ack.Doubt y) unanswered = refl
+  open-unanswered k _ unanswered = refl
 
   -- in its second it leaves
   pub fallen-own : (since shown : ℕ) → IsFallenAt x.list plan turn x.node since shown x.past

@@ -281,9 +281,7 @@ pub round-turn : (plan : Plan) (turn k : ℕ) → 0 < plan.nodes → k < plan.no
 round-turn plan turn k some less own =
     let next = next_turn plan (suc turn) k some less in
     let apart = turns_apart plan turn next.0 some (let from = next.1.0 in omega (arith, from)) (own ∙ sym next.1.2) in
-    let from = next.1.0 in
-    let to = next.1.1 in
-    let same : next.0 ≡ turn + plan.nodes = omega (arith, from, to, apart) in
+    let same : next.0 ≡ turn + plan.nodes = omega (arith, next.1.0, next.1.1, apart) in
     ap (sender plan) (sym same) ∙ next.1.2
 
 -- a node that lost a frame less than a round ago, and has had a slot since, may still stay
@@ -293,5 +291,4 @@ pub doubted-stays : (plan : Plan) (turn k y shown : ℕ) → IsGoodPlan plan →
 doubted-stays plan turn k y shown good less is =
     let told = told-fallen plan turn y (ledger_of plan turn k).base shown Receiving good is in
     let near = (ledger-told plan turn k good less).near in
-    let from = told.from in
-    ap (may_stay plan.nodes turn) is ∙ lt-ltb turn (shown + plan.nodes) (omega (arith, near, from))
+    ap (may_stay plan.nodes turn) is ∙ lt-ltb turn (shown + plan.nodes) (omega (arith, near, told.from))

@@ -80,8 +80,7 @@ module _ {plan : Plan} {turn since : ℕ} {x : NodeSlot} (is : IsSoundJudge plan
       → IsSoundAt x.list plan (suc turn) x.node (next_past x)
   by_other members hears lacks other =
       let lost = sender-lost plan turn (sender plan (suc turn)) since is.good deaf.falling in
-      let count = is.good.count in
-      let less : sender plan since < plan.nodes = mod-lt (plan.starter + since) (omega (arith, count)) in
+      let less : sender plan since < plan.nodes = mod-lt (plan.starter + since) (omega (arith, is.good.count)) in
       incorrect-sound is wrong first (sender plan (suc turn))
       (incorrect-group x (planned_members plan turn) is.judging is.at.group (sender plan (suc turn))
       (sender plan since) members (subst (λ n. sender plan since < n) is.nodes less) lost.member other lacks hears)
@@ -222,9 +221,8 @@ module _ {list : Medl} {script : Script} {start : ClusterStart} {plan : Plan} {t
                 let e = sender plan (suc turn) in
                 let judge = sound-judge in
                 let hears = members-alone k alone kept (ap (next_place list) (at.place ∙ sym judge.at.place)) inside in
-                let count = t.planned.follows.good.count in
-                let p_less : sender plan since < plan.nodes = mod-lt (plan.starter + since) (omega (arith, count)) in
-                let few = t.planned.follows.good.count.1 in
+                let p_less : sender plan since < plan.nodes =
+                mod-lt (plan.starter + since) (omega (arith, t.planned.follows.good.count)) in
                 shown-sound judge wrong first deaf _ hears
                 (has_node-with_other (slot_of list script new numbers e).past.members e (sender plan since)
-                (omega (arith, p_less, few)) apart ∙ at.lacks refl)
+                (omega (arith, p_less, t.planned.follows.good.count.1)) apart ∙ at.lacks refl)

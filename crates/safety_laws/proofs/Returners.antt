@@ -135,11 +135,9 @@ module _ {list : Medl} {script : Script} {start : ClusterStart} {plan : Plan} {t
     waits-passing unentered =
         let x = slot_of list script new numbers k in
         let on = listens-on plan turn k since t.planned.follows.good awaited (within-plan t) unentered in
-        let at = awaited.armed in
-        let from = awaited.from in
         let within = within-plan t in
         let none = (t.planned.follows.returns awaited.return awaited.among).none (suc turn)
-        (omega (arith, at, from)) on.0 within good_is in
+        (omega (arith, awaited.armed, awaited.from)) on.0 within good_is in
         let hearing = t.planned.follows.hearing (suc turn) t.within in
         let kept = ap (λ n. loses script (sender plan (suc turn)) n k) number ∙ hearing.listens k since less good_is on.1
         in

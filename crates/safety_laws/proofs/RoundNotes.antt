@@ -59,8 +59,7 @@ none-silent list place _ none = absurd none
 pub sender-in : (list : Medl) (script : Script) (start : ClusterStart) (plan : Plan) (slot : ℕ)
     → FollowsPlan list script start plan → sender plan slot < length list.slots
 sender-in list script start plan slot follows =
-    let few = follows.good.count.0 in
-    let less : sender plan slot < plan.nodes = mod-lt (plan.starter + slot) (omega (arith, few)) in
+    let less : sender plan slot < plan.nodes = mod-lt (plan.starter + slot) (omega (arith, follows.good.count.0)) in
     omega (arith, less, follows.nodes)
 
 pub place-slot : (list : Medl) (script : Script) (start : ClusterStart) (plan : Plan) (slot : ℕ)

@@ -109,12 +109,11 @@ module _ (list : Medl) (script : Script) (start : ClusterStart) (plan : Plan) (t
           (or_left (is_armed_among script f.node f.slot (length history - f.slot)) _ armed)
       by true false over unarmed =
           let passed = leb-true (f.slot + two_rounds list) (length history) over in
-          let number = is.stands.number in
           or_right (not (nat_le (f.slot + two_rounds list) (length history))) _
           (or_right (is_armed_among script f.node f.slot (length history - f.slot)) _
           (gone-lost is.stands nodes corrects f.node f.slot
-          (lost (ap (λ slots. is_armed_among script f.node f.slot (slots - f.slot)) (sym number) ∙ unarmed))
-          (omega (arith, passed, number, newest-is))))
+          (lost (ap (λ slots. is_armed_among script f.node f.slot (slots - f.slot)) (sym is.stands.number) ∙ unarmed))
+          (omega (arith, passed, is.stands.number, newest-is))))
 
   faulty : back_faulty_are_gone list script history ≡ true
   faulty = all-by IsLost _ (back_faulty_after list script (newest_slot history)) gone all-lost
@@ -145,10 +144,7 @@ module _ (list : Medl) (script : Script) (start : ClusterStart) (plan : Plan) (t
             let told = ledger-told plan turn k is.stands.planned.follows.good
             (subst (λ n. k < n) (sym is.stands.planned.follows.nodes) node) in
             elim (told.began first) [
-              | inl at_start ↦
-                  let near = told.near in
-                  let late = again.late in
-                  absurd (omega (arith, at_start, near, late))
+              | inl at_start ↦ absurd (omega (arith, at_start, told.near, again.late))
               | inr entered ↦
                   absurd (both_ways (enters plan (ledger_of plan turn k).base k)
                   (again.entered (ledger_of plan turn k).base told.within told.near) entered)
@@ -169,9 +165,8 @@ module _ (list : Medl) (script : Script) (start : ClusterStart) (plan : Plan) (t
   returned-due k due =
       let parts = and_parts (nat_le (four_rounds list) (length history)) _ due.1 in
       let long = leb-true (four_rounds list) (length history) parts.0 in
-      let number = is.stands.number in
-      returned k due.0 (is.returns.returned turn k due.0 is.stands.within (omega (arith, long, number))
-      (ap (λ slots. is_armed script k (slots - four_rounds list)) (sym number) ∙ parts.1))
+      returned k due.0 (is.returns.returned turn k due.0 is.stands.within (omega (arith, long, is.stands.number))
+      (ap (λ slots. is_armed script k (slots - four_rounds list)) (sym is.stands.number) ∙ parts.1))
 
   have-returned : armed_have_returned list script history ≡ true
   have-returned =

@@ -25,9 +25,8 @@ use Rattle.safety_laws.proofs.PlanSteps.{members-good, members-wrong, ledger-oth
 use Rattle.safety_laws.proofs.PlanSteps.{staying-unarmed, doubted-stays}
 
 about-other : (a : Ack) (j : ℕ) → ((y : ℕ) → a ≡ ack.Doubt y → y ≢ j) → IsNotAbout j a
-about-other ack.Closed j apart = tt
-about-other ack.First j apart = tt
 about-other (ack.Doubt y) j apart = apart y refl
+about-other _ j apart = tt
 
 -- what is so of a good plan and of a node that judges in its next turn
 pub record IsSoundJudge (plan : Plan) (turn : ℕ) (x : NodeSlot) : Type 0 where

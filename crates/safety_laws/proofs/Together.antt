@@ -36,8 +36,10 @@ clocks-hold list script start plan valid follows turn numbers noted within =
     record { valid = valid; follows = follows; noted = noted; within = within } in
     record {
       within = λ r p node sends sound steady none stays. sound-inside goes r p (node, sound) (sends, steady) none stays;
-      frame = λ r p since node sends sound none jumped. (jumped-outside goes p sends r since (inr jumped) (node, sound)).0;
-      others = λ r p since node sends jumped sound none. (jumped-outside goes r node p since (inl jumped) (sends, sound)).1;
+      frame = λ r p since node sends sound none jumped.
+          (jumped-outside goes p sends r since (inr jumped) (node, sound)).0;
+      others = λ r p since node sends jumped sound none.
+          (jumped-outside goes r node p since (inl jumped) (sends, sound)).1;
     }
 
 module _ (list : Medl) (script : Script) (start : ClusterStart) (plan : Plan) (is : IsBegun list script start plan)

@@ -31,18 +31,9 @@ use Rattle.safety_laws.proofs.Verdicts.{judged-whatever}
 answered-unanswered : (k owner : ℕ) (a : Ack) (v : Verdict) → IsUnanswered k a → is_correct v ≡ false → owner ≢ k
     → IsUnanswered k (ack_answered a v owner)
 answered-unanswered k owner ack.Closed v unanswered wrong other = absurd unanswered
-answered-unanswered k owner ack.First verdict.Null unanswered wrong other = tt
-answered-unanswered k owner ack.First verdict.Invalid unanswered wrong other = tt
-answered-unanswered k owner ack.First verdict.Incorrect unanswered wrong other = tt
-answered-unanswered k owner ack.First verdict.Denied unanswered wrong other = tt
-answered-unanswered k owner ack.First verdict.Tentative unanswered wrong other = other
-answered-unanswered k owner ack.First verdict.Correct unanswered wrong other = cc
-answered-unanswered k owner (ack.Doubt y) verdict.Null unanswered wrong other = unanswered
-answered-unanswered k owner (ack.Doubt y) verdict.Invalid unanswered wrong other = unanswered
-answered-unanswered k owner (ack.Doubt y) verdict.Incorrect unanswered wrong other = unanswered
-answered-unanswered k owner (ack.Doubt y) verdict.Denied unanswered wrong other = unanswered
-answered-unanswered k owner (ack.Doubt y) verdict.Tentative unanswered wrong other = other
-answered-unanswered k owner (ack.Doubt y) verdict.Correct unanswered wrong other = cc
+answered-unanswered k owner _ verdict.Tentative unanswered wrong other = other
+answered-unanswered k owner _ verdict.Correct unanswered wrong other = cc
+answered-unanswered k owner _ _ unanswered wrong other = unanswered
 
 pub stays-judged : (x : NodeSlot) (v : Verdict) (deviation : ℤ) → IsJudging x → IsUnanswered x.node x.past.ack
     → is_correct v ≡ false → IsJudgedAs x v deviation → StaysUnanswered x
@@ -79,8 +70,7 @@ third-apart k owner p members (ack.Doubt y) small other apart none unanswered =
 -- so a frame without the node, or with the third one, is not correct
 wrong_view : (second : Bool) (a : Ack) → is_correct (verdict_of_view (cond second view.Second view.Other) a) ≡ false
 wrong_view true ack.Closed = refl
-wrong_view true ack.First = refl
-wrong_view true (ack.Doubt y) = refl
+wrong_view true _ = refl
 wrong_view false a = refl
 
 stays-apart : (x : NodeSlot) (sender : ℕ) (members : List ℕ) → IsJudging x → IsUnanswered x.node x.past.ack
@@ -118,9 +108,8 @@ stays-unanswered x is unanswered (NoFrame none) = elim (judged-none x is none) [
 
 settled-none : (members : List ℕ) (a : Ack) (j : ℕ) → has_node members j ≡ false
     → has_node (settled_members members a) j ≡ false
-settled-none members ack.Closed j none = none
-settled-none members ack.First j none = none
 settled-none members (ack.Doubt y) j none = has_node-without_none members y j none
+settled-none members _ j none = none
 
 judged-none_held : (members : List ℕ) (a : Ack) (v : Verdict) (owner j : ℕ) → j < most_nodes → j ≢ owner
     → has_node members j ≡ false → has_node (judged_members members a v owner) j ≡ false
@@ -128,10 +117,7 @@ judged-none_held members a verdict.Correct owner j small other none =
     has_node-with_other (settled_members members a) owner j small other ∙ settled-none members a j none
 judged-none_held members a verdict.Tentative owner j small other none =
     has_node-with_other members owner j small other ∙ none
-judged-none_held members a verdict.Null owner j small other none = has_node-without_none members owner j none
-judged-none_held members a verdict.Invalid owner j small other none = has_node-without_none members owner j none
-judged-none_held members a verdict.Incorrect owner j small other none = has_node-without_none members owner j none
-judged-none_held members a verdict.Denied owner j small other none = has_node-without_none members owner j none
+judged-none_held members a _ owner j small other none = has_node-without_none members owner j none
 
 pub not_held-judging : (x : NodeSlot) (j : ℕ) → IsJudging x → j < length x.list.slots → j ≢ owner_of x
     → has_node x.past.members j ≡ false → has_node (next_past x).members j ≡ false

@@ -192,11 +192,7 @@ pub judged-by_verdict : (x : NodeSlot) (v : Verdict) (deviation : ℤ) → IsJud
     → judging_entry x.list x.node x.past x.hearing ≡ verdict_entry (owner_of x) v deviation
     → IsJudgedAs x v deviation ⊎ HasJustLeft (next_past x) reason.Denied (owner_of x)
 judged-by_verdict x verdict.Denied deviation is made = inr (left-by_entry x is made)
-judged-by_verdict x verdict.Null deviation is made = inl (judged-by_entry x verdict.Null deviation is made)
-judged-by_verdict x verdict.Invalid deviation is made = inl (judged-by_entry x verdict.Invalid deviation is made)
-judged-by_verdict x verdict.Incorrect deviation is made = inl (judged-by_entry x verdict.Incorrect deviation is made)
-judged-by_verdict x verdict.Correct deviation is made = inl (judged-by_entry x verdict.Correct deviation is made)
-judged-by_verdict x verdict.Tentative deviation is made = inl (judged-by_entry x verdict.Tentative deviation is made)
+judged-by_verdict x v deviation is made = inl (judged-by_entry x v deviation is made)
 
 -- So it does whatever comes.
 pub judged-whatever : (x : NodeSlot) → IsJudging x → ((v : Verdict) × ((deviation : ℤ) × IsJudgedAs x v deviation))

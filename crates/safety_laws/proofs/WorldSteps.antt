@@ -141,9 +141,7 @@ module _ {list : Medl} {script : Script} {start : ClusterStart} {plan : Plan} {t
       → is_there fate ≡ true → is_left_phase past.phase ≡ false
   there-unleft k past Sound at there = ap (λ (p : Phase). is_left_phase p) at.phase
   there-unleft k past (Listening since) at there = ap (λ (p : Phase). is_left_phase p) at.phase
-  there-unleft k past Absent at there = cc
-  there-unleft k past (Falling change since) at there = cc
-  there-unleft k past (Fallen change since shown) at there = cc
+  there-unleft k past _ at there = cc
 
   -- it was so before, unless it is armed now
   there-before : (k : ℕ) → k < length list.slots → is_there (fate_of plan (suc turn) k) ≡ true
