@@ -24,7 +24,7 @@ use Rattle.ttp_world.specs.Script.{is_on}
 use Rattle.ttp_world.specs.World.{SlotNumbers, Numbers, node_past, slot_after, messages_chosen, row_in, world}
 use Rattle.ttp_world.proofs.Worlds.{length-world}
 use Rattle.fault_plan.specs.Plan.{Plan, sender}
-use Rattle.fault_plan.specs.Fates.{Fate, Absent, Sound, Falling, Fallen, Listening, fate_of, is_sound_after, is_absent}
+use Rattle.fault_plan.specs.Fates.{Fate, Absent, Sound, Listening, fate_of, is_sound_after, is_absent}
 use Rattle.fault_plan.specs.Ledger.{opened, ledger_of}
 use Rattle.fault_plan.proofs.Members.{first-sender}
 use Rattle.fault_plan.proofs.Persists.{absent-always, sound-first}

@@ -1,6 +1,6 @@
 -- The sound nodes' clocks at the beginning of a slot, and what they measure of each other in it.
-use Rattle.std.proofs.Common.{◌≡◌, ℕ, zero, suc, ◌+◌, ◌<◌, ℤ, neg_ℤ, ◌-ℤ◌, ◌≤ℤ◌, Bool, true, false, ◌&&◌, length}
-use Rattle.std.proofs.Common.{inl, inr, refl, ap, sym, ◌∙◌, arith}
+use Rattle.std.proofs.Common.{◌≡◌, ℕ, zero, suc, ◌+◌, ◌<◌, ℤ, neg_ℤ, ◌-ℤ◌, ◌≤ℤ◌, Bool, true, false, ◌&&◌, length, inl}
+use Rattle.std.proofs.Common.{inr, refl, ap, sym, ◌∙◌, arith}
 use Rattle.std.specs.Prelude.{int_le}
 use Rattle.std.proofs.lemmas.Bool.{and_parts, and_from, both_ways, false≢true}
 use Rattle.std.proofs.lemmas.Int.{ints}
@@ -24,9 +24,8 @@ use Rattle.fault_plan.proofs.FateSteps.{sound-from}
 use Rattle.fault_plan.proofs.Returns.{enters-late, none-enters}
 use Rattle.safety_laws.specs.Entries.{NoneEnters, IsNewest}
 use Rattle.safety_laws.specs.NotedByPlan.{IsSoundIn, GoesOnByPlan, IsTight}
-use Rattle.safety_laws.proofs.Company.{sound-calm, ran-company}
+use Rattle.safety_laws.proofs.Company.{sound-calm, ran-company, company-in}
 use Rattle.safety_laws.proofs.RoundNotes.{tight-stays, place-slot}
-use Rattle.safety_laws.proofs.SmallerGroups.{company-in}
 use Rattle.safety_laws.proofs.BeganTogether.{number-of, counted-run}
 use Rattle.fta_sync.proofs.Sorted.{le_trans as no-more}
 

@@ -1,6 +1,6 @@
 -- A node that holds a group goes on doing so, with the slot's owner put in or taken out.
-use Rattle.std.proofs.Common.{◌≡◌, ◌≢◌, ℕ, ◌<◌, ℤ, Bool, true, false, List, length, Option, Some}
-use Rattle.std.proofs.Common.{refl, ap, sym, ◌∙◌, ◌⊎◌, inl, inr, subst, arith}
+use Rattle.std.proofs.Common.{◌≡◌, ◌≢◌, ℕ, ◌<◌, ℤ, Bool, true, false, List, length, Option, Some, refl, ap, sym, ◌∙◌}
+use Rattle.std.proofs.Common.{◌⊎◌, inl, inr, subst, arith}
 use Rattle.std.specs.Prelude.{IsTrue}
 use Rattle.std.specs.Str.{bytes_eq}
 use Rattle.std.proofs.lemmas.Bool.{false≢true}
@@ -26,8 +26,8 @@ use Rattle.safety_laws.specs.Standing.{StandsBy, IsJudgedAs, sent_standing}
 use Rattle.safety_laws.specs.Turns.{IsAboutListed, IsJudging, HearsMembers, IsAtOwnSlot}
 use Rattle.safety_laws.proofs.GroupSets.{has_node-with_other, has_node-without_other, has_node-with_member}
 use Rattle.safety_laws.proofs.GroupSets.{has_node-without_none, with-member, without-with, with-without}
-use Rattle.safety_laws.proofs.GroupSets.{without-with_other, with-with}
-use Rattle.safety_laws.proofs.ListedSets.{AreNodes-with, AreNodes-without, has_node-put_in, has_node-taken_out}
+use Rattle.safety_laws.proofs.GroupSets.{without-with_other, with-with, AreNodes-with, AreNodes-without}
+use Rattle.safety_laws.proofs.GroupSets.{has_node-put_in, has_node-taken_out}
 use Rattle.safety_laws.proofs.Verdicts.{judged-correct, judged-incorrect, judged-tentative}
 
 -- The candidates of a node that holds a group.

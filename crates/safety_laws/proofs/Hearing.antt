@@ -13,8 +13,7 @@ use Rattle.ttp_world.specs.Reception.{Hearing}
 use Rattle.ttp_world.specs.Script.{has_send_fault, has_receive_fault, flipped_bits}
 use Rattle.ttp_world.specs.World.{BegunSlot, hearing_in}
 use Rattle.safety_laws.specs.Heard.{is_frameless, IsUnflipped, signal_as_sent, HearsFrame, OnBoth, OnA, OnB}
-use Rattle.safety_laws.specs.Heard.{HearsNoFrame}
-use Rattle.safety_laws.specs.Heard.{HearsSilence}
+use Rattle.safety_laws.specs.Heard.{HearsNoFrame, HearsSilence}
 
 -- One channel.
 
@@ -128,4 +127,12 @@ pub HearsSilence-none : (s : BegunSlot) (frames : List SentFrame) (r : ℕ) → 
 HearsSilence-none s frames r is = record {
   a = ap (heard s.script s.number r channel.A) is ∙ heard-none s.script s.number r channel.A;
   b = ap (heard s.script s.number r channel.B) is ∙ heard-none s.script s.number r channel.B;
+}
+
+-- Where nothing comes no frame comes.
+
+pub frameless-silent : (h : Hearing) → HearsSilence h → HearsNoFrame h
+frameless-silent h silent = record {
+  a = ap (λ (s : Signal). is_frameless s) silent.a;
+  b = ap (λ (s : Signal). is_frameless s) silent.b;
 }

@@ -27,7 +27,7 @@ use Rattle.ttp_frame.proofs.FlippedFrames.{joinable-implicit}
 use Rattle.ttp_frame.proofs.Undisturbed.{FitsBytes, HavePlaces-AreNodes, carried-frame, is_formed-frame}
 use Rattle.safety_laws.specs.Heard.{is_frameless, HearsFrame, OnBoth, OnA, OnB, HearsNoFrame}
 use Rattle.safety_laws.specs.SlotFrames.{IsSlotFrame}
-use Rattle.safety_laws.proofs.ListedSets.{AreNodes-with}
+use Rattle.safety_laws.proofs.GroupSets.{AreNodes-with}
 use Rattle.safety_laws.proofs.Views.{is_expected_form-own}
 
 -- the set of one node of the list

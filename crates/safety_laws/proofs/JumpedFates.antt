@@ -3,7 +3,7 @@ use Rattle.std.proofs.Common.{◌≡◌, ◌≢◌, ℕ, suc, ◌+◌, ◌<◌, 
 use Rattle.std.proofs.Common.{inl, inr, sym, subst, mod-lt, arith}
 use Rattle.std.specs.Prelude.{◌==◌}
 use Rattle.fault_plan.specs.Plan.{Change, Jumping, Incident, Plan, sender, incident_at, is_armed_by, enters}
-use Rattle.fault_plan.specs.Fates.{Fate, Absent, Sound, Falling, Fallen, Listening, fate_of, armed_in, entered_in}
+use Rattle.fault_plan.specs.Fates.{Fate, Sound, Falling, Fallen, Listening, fate_of, armed_in, entered_in}
 use Rattle.fault_plan.specs.Fates.{struck, changed, turned, is_sound_after}
 use Rattle.fault_plan.specs.GoodPlan.{IsGoodPlan}
 use Rattle.fault_plan.specs.Told.{IsLossOf, IsTold}

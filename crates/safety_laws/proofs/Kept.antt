@@ -27,8 +27,7 @@ use Rattle.safety_laws.specs.ByPlan.{IsByPlan}
 use Rattle.safety_laws.specs.SameFrames.{AcceptsAlikeSince, StandsAlikeSince}
 use Rattle.safety_laws.proofs.Bounds.{tight-clocks, tight-deviations}
 use Rattle.safety_laws.proofs.SafeByFate.{safe-after, faulty-leave, correct-sound as correct-at}
-use Rattle.safety_laws.proofs.Accepted.{alike-run}
-use Rattle.safety_laws.proofs.Stints.{stands-run}
+use Rattle.safety_laws.proofs.Accepted.{alike-run, stands-run}
 use Rattle.safety_laws.proofs.Together.{KeepsClocks, clocks-hold, run-by_plan}
 
 module _ (list : Medl) (script : Script) (slot : ℕ) (valid : IsValid list) (script_valid : IsValidScript list script)

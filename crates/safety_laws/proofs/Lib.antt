@@ -6,7 +6,6 @@ pub mod Idle
 pub mod Joins
 pub mod Judging
 pub mod Listening
-pub mod ListedSets
 pub mod NodeSlots
 pub mod OneSender
 pub mod OwnSlots
@@ -19,10 +18,8 @@ pub mod Deliveries
 pub mod Views
 pub mod Waiting
 pub mod WorldTurns
-pub mod Awaited
 pub mod PlanSteps
 pub mod Ledgers
-pub mod SoundNodes
 pub mod LostNodes
 pub mod OwnTurns
 pub mod Listeners
@@ -30,19 +27,14 @@ pub mod PlanTurns
 pub mod Arrivals
 pub mod Receivers
 pub mod SoundSteps
-pub mod Silence
 pub mod LeftSince
-pub mod JumpedNodes
 pub mod LostSteps
 pub mod Returners
-pub mod Arming
-pub mod SentSteps
 pub mod WorldSteps
 pub mod Begins
 pub mod Among
 pub mod SafeByFate
 pub mod SafeBack
-pub mod SmallerGroups
 pub mod RoundNotes
 pub mod BeganTogether
 pub mod Company
@@ -56,7 +48,5 @@ pub mod OutsideWindow
 pub mod NotedEntries
 pub mod Together
 pub mod Delivered
-pub mod Given
 pub mod Accepted
-pub mod Stints
 pub mod Kept

@@ -28,10 +28,10 @@ use Rattle.safety_laws.specs.PlanTurn.{IsTurn}
 use Rattle.safety_laws.proofs.NodeSlots.{entry_of-made}
 use Rattle.safety_laws.proofs.OwnSlots.{sent-own}
 use Rattle.safety_laws.proofs.Verdicts.{judged-whatever}
-use Rattle.safety_laws.proofs.Arming.{entered-joins}
+use Rattle.safety_laws.proofs.Returners.{entered-joins}
 use Rattle.safety_laws.proofs.Arrivals.{sound-owner}
 use Rattle.safety_laws.proofs.Begins.{starter-begun, joiner-begun, on-begun}
-use Rattle.safety_laws.proofs.JumpedNodes.{jumped-wrong}
+use Rattle.safety_laws.proofs.LostSteps.{jumped-wrong}
 use Rattle.safety_laws.proofs.OwnTurns.{sound-sends}
 use Rattle.safety_laws.proofs.PlanSteps.{ledger-other}
 use Rattle.safety_laws.proofs.Receivers.{sound-judge, judges-good}

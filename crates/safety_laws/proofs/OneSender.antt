@@ -24,7 +24,7 @@ use Rattle.safety_laws.specs.SlotFrames.{IsSlotFrame}
 use Rattle.safety_laws.specs.Turns.{HearsMembers, HearsOutside}
 use Rattle.safety_laws.proofs.Hearing.{HearsFrame-kept, HearsNoFrame-lost, HearsSilence-none}
 use Rattle.safety_laws.proofs.Joins.{joinable-explicit, joinable-without}
-use Rattle.safety_laws.proofs.ListedSets.{has_node-put_in}
+use Rattle.safety_laws.proofs.GroupSets.{has_node-put_in}
 use Rattle.safety_laws.proofs.NodeSlots.{frames_of-made}
 use Rattle.safety_laws.proofs.OwnSlots.{frames_made-own, IsSlotFrame-own}
 use Rattle.safety_laws.proofs.Senders.{frames_in-none, frames_in-one}

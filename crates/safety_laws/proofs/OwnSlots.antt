@@ -27,7 +27,7 @@ use Rattle.safety_laws.specs.NodeSlot.{NodeSlot, act_made, frames_made, entry_ma
 use Rattle.safety_laws.specs.SlotFrames.{IsSlotFrame}
 use Rattle.safety_laws.specs.Standing.{StandsBy, HasJustLeft, sent_standing}
 use Rattle.safety_laws.specs.Turns.{IsAtOwnSlot, HasPayload}
-use Rattle.safety_laws.proofs.ListedSets.{AreNodes-with}
+use Rattle.safety_laws.proofs.GroupSets.{AreNodes-with}
 
 -- What the node does, by its past alone.
 

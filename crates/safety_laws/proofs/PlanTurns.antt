@@ -1,6 +1,6 @@
 -- A turn of a world: who sends in it, and what comes to each node.
-use Rattle.std.proofs.Common.{◌≡◌, ◌≢◌, ℕ, suc, ◌+◌, ◌<◌, true, false, [], length, refl, ap, sym, subst}
-use Rattle.std.proofs.Common.{◌∙◌, inl, inr, mod-lt, Bool, arith}
+use Rattle.std.proofs.Common.{◌≡◌, ◌≢◌, ℕ, suc, ◌+◌, ◌<◌, true, false, [], length, refl, ap, sym, subst, ◌∙◌, inl, inr}
+use Rattle.std.proofs.Common.{mod-lt, Bool, arith}
 use Rattle.std.proofs.lemmas.Bool.{cases_eq, not-true}
 use Rattle.ttp_base.specs.NodeSet.{has_node}
 use Rattle.ttp_world.specs.declared.medl.Medl.{Medl}
@@ -29,8 +29,7 @@ use Rattle.safety_laws.proofs.Listening.{frames_made-listening, left-world}
 use Rattle.safety_laws.proofs.OwnSlots.{act_made-sends}
 use Rattle.safety_laws.proofs.Payloads.{HasPayload-world}
 use Rattle.safety_laws.proofs.WorldTurns.{IsJudging-world, IsAtOwnSlot-world}
-use Rattle.safety_laws.proofs.Awaited.{awaited-listening, good-lately}
-use Rattle.safety_laws.proofs.Listeners.{ListensSince, listens-before, listens-first}
+use Rattle.safety_laws.proofs.Listeners.{awaited-listening, good-lately, ListensSince, listens-before, listens-first}
 use Rattle.safety_laws.proofs.OwnTurns.{MaySend}
 use Rattle.safety_laws.proofs.PlanSteps.{staying-unarmed}
 

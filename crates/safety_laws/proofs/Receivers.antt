@@ -13,8 +13,8 @@ use Rattle.ttp_world.specs.Hypothesis.{ClusterStart, loses}
 use Rattle.ttp_world.specs.Reception.{is_within_window}
 use Rattle.ttp_world.specs.World.{SlotNumbers, Numbers, slot_after, deviation_in, messages_chosen, world}
 use Rattle.fault_plan.specs.Plan.{Receiving, Jumping, Plan, sender}
-use Rattle.fault_plan.specs.Fates.{Sound, Falling, Fallen, fate_of, is_sound_after, may_stay}
-use Rattle.fault_plan.specs.Fates.{is_good_slot, is_first_slot}
+use Rattle.fault_plan.specs.Fates.{Sound, Falling, Fallen, fate_of, is_sound_after, may_stay, is_good_slot}
+use Rattle.fault_plan.specs.Fates.{is_first_slot}
 use Rattle.fault_plan.specs.Kept.{IsHeardByPlan}
 use Rattle.fault_plan.specs.Ledger.{planned_members, ledger_of}
 use Rattle.fault_plan.proofs.FateTells.{one-stays}
@@ -32,7 +32,7 @@ use Rattle.safety_laws.proofs.OneSender.{members-alone, outside-alone, none-alon
 use Rattle.safety_laws.proofs.Verdicts.{judged-outside, judged-none, judged-silent}
 use Rattle.safety_laws.proofs.Arrivals.{at-fate, hears-planned}
 use Rattle.safety_laws.proofs.PlanSteps.{doubted-stays, sound-unentered}
-use Rattle.safety_laws.proofs.SoundNodes.{IsSoundJudge, not_about, sound-correct, sound-wrong, sound-tentative}
+use Rattle.safety_laws.proofs.LostNodes.{IsSoundJudge, not_about, sound-correct, sound-wrong, sound-tentative}
 use Rattle.safety_laws.proofs.PlanTurns.{slot_of, slot_number, owner-is, judges, e-node}
 use Rattle.fault_plan.proofs.SlotKinds.{sender-stays as sender-unentered}
 

@@ -1,7 +1,7 @@
 -- A node whose frame is not acknowledged stays so while no frame has it among its members, or each has one that it
 -- lacks; and another's slot brings no node but its owner into what a node holds.
-use Rattle.std.proofs.Common.{◌≡◌, ◌≢◌, ℕ, ◌<◌, ℤ, pos, Bool, true, false, cond, List, length, refl, ap, sym}
-use Rattle.std.proofs.Common.{◌∙◌, ◌⊎◌, inl, inr, subst, arith}
+use Rattle.std.proofs.Common.{◌≡◌, ◌≢◌, ℕ, ◌<◌, ℤ, pos, Bool, true, false, cond, List, length, refl, ap, sym, ◌∙◌, ◌⊎◌}
+use Rattle.std.proofs.Common.{inl, inr, subst, arith}
 use Rattle.std.proofs.lemmas.Bool.{false≢true}
 use Rattle.ttp_base.specs.NodeSet.{most_nodes, has_node, with_node}
 use Rattle.ttp_world.specs.declared.node.Ack.{Ack}
@@ -14,14 +14,13 @@ use Rattle.ttp_world.specs.Acknowledgement.{is_correct}
 use Rattle.ttp_world.specs.After.{settled_members, judged_members, ack_answered}
 use Rattle.ttp_world.specs.Reception.{candidates, verdict_of_view}
 use Rattle.ttp_world.proofs.Lists.{nodes-most}
-use Rattle.safety_laws.specs.Groups.{IsUnanswered, HearsNoAnswer, Lacks, HasThird, Outside}
-use Rattle.safety_laws.specs.Groups.{NoFrame, StaysUnanswered}
+use Rattle.safety_laws.specs.Groups.{IsUnanswered, HearsNoAnswer, Lacks, HasThird, Outside, NoFrame, StaysUnanswered}
 use Rattle.safety_laws.specs.NodeSlot.{NodeSlot, next_past, owner_of, candidates_of}
 use Rattle.safety_laws.specs.SlotFrames.{is_second}
 use Rattle.safety_laws.specs.Standing.{HasJustLeft, IsJudgedAs}
 use Rattle.safety_laws.specs.Turns.{IsJudging, HearsMembers}
 use Rattle.safety_laws.proofs.GroupSets.{has_node-with_other, has_node-without_other, has_node-without_none}
-use Rattle.safety_laws.proofs.ListedSets.{has_node-put_in}
+use Rattle.safety_laws.proofs.GroupSets.{has_node-put_in}
 use Rattle.safety_laws.proofs.Verdicts.{view-later, entry-by_view, judged-outside, judged-none, judged-by_verdict}
 use Rattle.safety_laws.proofs.Verdicts.{judged-whatever}
 

@@ -1,6 +1,6 @@
 -- What an active node holds after another's slot, by what comes to it.
-use Rattle.std.proofs.Common.{◌≡◌, ◌≢◌, ℕ, ◌<◌, ℤ, pos, false, cond, List, Option, Some, None, refl, ap, sym}
-use Rattle.std.proofs.Common.{◌∙◌, ◌⊎◌, inl, inr, subst, length, arith}
+use Rattle.std.proofs.Common.{◌≡◌, ◌≢◌, ℕ, ◌<◌, ℤ, pos, false, cond, List, Option, Some, None, refl, ap, sym, ◌∙◌, ◌⊎◌}
+use Rattle.std.proofs.Common.{inl, inr, subst, length, arith}
 use Rattle.std.specs.Str.{bytes_eq}
 use Rattle.std.proofs.lemmas.Bool.{ne_eqb, false_from_ne_true}
 use Rattle.std.proofs.lemmas.Slice.Eq.{bytes_eq-Decides}
@@ -29,7 +29,7 @@ use Rattle.safety_laws.specs.SlotFrames.{is_second, view_of_members}
 use Rattle.safety_laws.specs.Standing.{StandsBy, HasJustLeft, judged_standing, IsJudgedAs}
 use Rattle.safety_laws.specs.Turns.{IsAboutListed, IsJudging, HearsMembers, HearsOutside}
 use Rattle.safety_laws.proofs.Judging.{judging_entry-frame, judging_entry-none, judging_entry-silence}
-use Rattle.safety_laws.proofs.ListedSets.{AreCandidates-node, put_in≢taken_out}
+use Rattle.safety_laws.proofs.GroupSets.{AreCandidates-node, put_in≢taken_out}
 use Rattle.safety_laws.proofs.Views.{view_of_bits-members, view_of_bits-outside}
 
 -- What the node does: it judges.

@@ -1,5 +1,4 @@
-use Rattle.safety_laws.proofs.Company.{ran-company}
-use Rattle.safety_laws.proofs.SmallerGroups.{company-in}
+use Rattle.safety_laws.proofs.Company.{ran-company, company-in}
 use Rattle.safety_laws.proofs.BeganTogether.{began}
 use Rattle.safety_laws.proofs.clocks.runs_as_company.Goals as goal
 
