@@ -37,17 +37,10 @@ newest-more list script start newest next s are is end slots =
       told = λ t nothing less near. elim (cases_eq t newest.end) [
         | inl same ↦
             let place : newest.end % kept_slots < length newest.slots = omega (arith, are.room) in
-            let here : get_or next.slots (t % kept_slots) nothing ≡ s =
-            (λ i. get_or (slots i) (same i % kept_slots) nothing)
-            ∙ get_or-set_same newest.slots (newest.end % kept_slots) s nothing place in
-            subst (IsFaultySlot list script start t) (sym here)
-            (subst (λ j. IsFaultySlot list script start j s) (sym same) is)
+            rw (same, slots, get_or-set_same newest.slots (newest.end % kept_slots) s nothing place) is
         | inr other ↦
             let apart : t % kept_slots ≢ newest.end % kept_slots = λ same. omega (arith, same, other) in
-            let there : get_or next.slots (t % kept_slots) nothing ≡ get_or newest.slots (t % kept_slots) nothing =
-            ap (λ kept. get_or kept (t % kept_slots) nothing) slots
-            ∙ get_or-set_other newest.slots (newest.end % kept_slots) (t % kept_slots) s nothing apart in
-            subst (IsFaultySlot list script start t) (sym there)
+            rw (slots, get_or-set_other newest.slots (newest.end % kept_slots) (t % kept_slots) s nothing apart)
             (are.told t nothing (omega (arith, end, other)) (omega (arith, end)))
       ];
     }

@@ -28,15 +28,12 @@ find-next lacks a (suc n) =
 pub lack-before : (enough : Bool) (lacks : ℕ → Bool) (from slot : ℕ) → slot < from
     → first_lack enough lacks from slot ≡ None
 lack-before enough lacks from slot less =
-    ap (λ b. cond b None (cond enough (find lacks (range_with_len from (slot - from))) (Some from)))
-    (lt-ltb slot from less)
+    rw (lt-ltb slot from less) refl
 
 pub lack-since : (enough : Bool) (lacks : ℕ → Bool) (from slot n : ℕ) → from ≤ slot → slot - from ≡ n
     → first_lack enough lacks from slot ≡ cond enough (find lacks (range_with_len from n)) (Some from)
 lack-since enough lacks from slot n since size =
-    ap (λ b. cond b None (cond enough (find lacks (range_with_len from (slot - from))) (Some from)))
-    (le-ltb slot from since)
-    ∙ ap (λ m. cond enough (find lacks (range_with_len from m)) (Some from)) size
+    rw (le-ltb slot from since, size) refl
 
 lack-more : (enough : Bool) (lacks : ℕ → Bool) (from slot : ℕ) → from ≤ slot
     → first_lack enough lacks from (slot + 1)
@@ -44,9 +41,7 @@ lack-more : (enough : Bool) (lacks : ℕ → Bool) (from slot : ℕ) → from �
 lack-more enough lacks from slot since =
     let here : from + (slot - from) ≡ slot = omega arith in
     lack-since enough lacks from (slot + 1) (suc (slot - from)) (omega arith) (omega arith)
-    ∙ ap (λ found. cond enough found (Some from)) (find-next lacks from (slot - from))
-    ∙ ap (λ k. cond enough (option_or (find lacks (range_with_len from (slot - from))) (if_lacks lacks k))
-    (Some from)) here
+    ∙ ap (λ found. cond enough found (Some from)) (find-next lacks from (slot - from) ∙ rw here refl)
 
 stays : (enough : Bool) (found more : Option ℕ) (from : ℕ) → is_some (cond enough found (Some from)) ≡ true
     → cond enough found (Some from) ≡ cond enough (option_or found more) (Some from)

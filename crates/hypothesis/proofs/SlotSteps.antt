@@ -1,5 +1,5 @@
 -- What a slot makes of the faulty nodes is told by any set that has the same nodes.
-use Rattle.std.proofs.Common.{◌≡◌, ℕ, suc, ◌+◌, ◌<◌, ◌≤◌, Bool, true, false, cond, subst, not, ◌&&◌, ◌||◌, List, []}
+use Rattle.std.proofs.Common.{◌≡◌, ℕ, ◌+◌, ◌<◌, ◌≤◌, not, ◌&&◌, List, []}
 use Rattle.std.proofs.Common.{◌∷◌, ◌++◌, length, refl, ap, sym, ◌∙◌, arith}
 use Rattle.std.specs.Prelude.{◌==◌, map, nat_lt, if◌then◌else◌}
 use Rattle.std.specs.List.{filter}
@@ -9,8 +9,8 @@ use Rattle.ttp_base.specs.NodeSet.{most_nodes, has_node, below}
 use Rattle.ttp_base.proofs.NodeSets.{same_sieve}
 use Rattle.ttp_world.specs.declared.medl.Medl.{Medl}
 use Rattle.ttp_world.specs.declared.script.Script.{Script}
-use Rattle.ttp_world.specs.Hypothesis.{ClusterStart, FaultyNode, Loss, Harmless, Makes, Breaks, numbers_of, nodes_made}
-use Rattle.ttp_world.specs.Hypothesis.{faulty_nodes_in, is_other, others_in, receivers_loss, sender_loss, loss_in}
+use Rattle.ttp_world.specs.Hypothesis.{ClusterStart, FaultyNode, Loss, Harmless, numbers_of, nodes_made}
+use Rattle.ttp_world.specs.Hypothesis.{faulty_nodes_in, is_other, others_in, sender_loss, loss_in}
 use Rattle.ttp_world.specs.Hypothesis.{expected_sender, jumps_now, jumpers_in, is_steady}
 use Rattle.ttp_world.specs.Medl.{plan_at}
 use Rattle.ttp_world.specs.Script.{is_on, is_ever_on, has_jump}
@@ -37,16 +37,11 @@ same_sender_loss : (list : Medl) (script : Script) (s t : List ℕ) (slot sender
     → sender < most_nodes → HaveSameNodes s t
     → sender_loss list script s slot sender ≡ sender_loss list script t slot sender
 same_sender_loss list script s t slot sender few small same =
-    ap (λ b. if not (is_ever_on script sender) || b then Harmless
-    else receivers_loss script sender slot (others_in list script s sender slot)) (same sender small)
-    ∙ ap (λ others. if not (is_ever_on script sender) || has_node t sender then Harmless
-    else receivers_loss script sender slot others)
-    (same_others list script s t sender slot few same)
+    rw (same sender small, same_others list script s t sender slot few same) refl
 
 same-append : (s t xs ys : List ℕ) → s ≡ t → HaveSameNodes xs ys → HaveSameNodes (s ++ xs) (t ++ ys)
 same-append s t xs ys is same k small =
-    has_node-append s xs k ∙ ap (λ members. has_node members k || has_node xs k) is
-    ∙ ap (λ b. has_node t k || b) (same k small) ∙ sym (has_node-append t ys k)
+    rw (has_node-append s xs k, has_node-append t ys k, is, same k small) refl
 
 numbers-of_slot : (slot : ℕ) (ks : List ℕ) (faulty : List FaultyNode)
     → numbers_of (map (λ k. record { slot = slot; node = k }) ks ++ faulty) ≡ ks ++ numbers_of faulty
@@ -59,8 +54,7 @@ numbers-next : (list : Medl) (script : Script) (start : ClusterStart) (slot : �
     ≡ (nodes_made (loss_in list script start (numbers_of faulty) slot)
     ++ jumpers_in list script (numbers_of faulty) slot) ++ numbers_of faulty
 numbers-next list script start slot faulty =
-    numbers-of_slot slot
-    (nodes_made (loss_in list script start (numbers_of faulty) slot)
+    numbers-of_slot slot (nodes_made (loss_in list script start (numbers_of faulty) slot)
     ++ jumpers_in list script (numbers_of faulty) slot) faulty
 
 -- the faulty nodes once their clocks have jumped
@@ -79,9 +73,8 @@ pub same_loss : (list : Medl) (script : Script) (start : ClusterStart) (t fallen
     → (if nat_lt slot start.slot then Harmless
     else sender_loss list script fallen slot (expected_sender list start slot)) ≡ loss_in list script start t slot
 same_loss list script start t fallen slot few small same =
-    ap (λ loss. if nat_lt slot start.slot then Harmless else loss)
-    (same_sender_loss list script fallen (jumpers_in list script t slot ++ t) slot
-    (expected_sender list start slot) few small same)
+    rw (same_sender_loss list script fallen (jumpers_in list script t slot ++ t) slot
+    (expected_sender list start slot) few small same) refl
 
 pub faulty-next : (list : Medl) (script : Script) (start : ClusterStart) (slot : ℕ) (faulty : List FaultyNode)
     (made fallen all : List ℕ)
@@ -102,27 +95,20 @@ pub count-next : (list : Medl) (script : Script) (start : ClusterStart) (slot : 
     → jumpers ≡ jumpers_in list script (numbers_of faulty) slot
     → length made + length jumpers ≡ length (made_in list script start slot faulty)
 count-next list script start slot faulty made jumpers is jump =
-    let M = nodes_made (loss_in list script start (numbers_of faulty) slot) in
-    let J = jumpers_in list script (numbers_of faulty) slot in
-    (λ i. length (is i) + length (jump i)) ∙ sym (length-append M J)
+    rw (is, jump) (sym (length-append (nodes_made (loss_in list script start (numbers_of faulty) slot)) _))
 
 few_made : (loss : Loss) → length (nodes_made loss) ≤ 1
 few_made Harmless = omega arith
-few_made (Makes node) = omega arith
-few_made Breaks = omega arith
-
-left-step : (x m : ℕ) (xs : List ℕ) (b : Bool) → length xs ≤ m → length (cond b (x ∷ xs) xs) ≤ suc m
-left-step x m xs true fits = omega arith
-left-step x m xs false fits = omega arith
+few_made _ = omega arith
 
 pub count-fits : (list : Medl) (script : Script) (s made jumpers : List ℕ) (slot : ℕ) (loss : Loss)
     → length list.slots ≤ most_nodes → made ≡ nodes_made loss
     → jumpers ≡ jumpers_in list script s slot → length made + length jumpers ≤ 25
 count-fits list script s made jumpers slot loss few is jump =
-    let one : length made ≤ 1 = subst (λ nodes. length nodes ≤ 1) (sym is) (few_made loss) in
+    let one : length made ≤ 1 = rw is (few_made loss) in
     let left = few_left (jumps_now script s slot) (below (length list.slots)) in
     let size = length-range_with_len 0 (length list.slots) in
-    let others : length jumpers ≤ 24 = subst (λ nodes. length nodes ≤ 24) (sym jump) (omega (arith, left, size)) in
+    let others : length jumpers ≤ 24 = rw jump (omega (arith, left, size)) in
     omega arith
 
 -- as many nodes to measure

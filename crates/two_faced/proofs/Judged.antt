@@ -1,6 +1,6 @@
 -- A run of a script in which one sender may be two-faced, after each slot from the start on.
-use Rattle.std.proofs.Common.{◌≡◌, ◌≢◌, ℕ, suc, ◌+◌, ◌-◌, ◌<◌, ◌≤◌, ◌-ℤ◌, ◌≤ℤ◌, Bool, true, false, cond, List, []}
-use Rattle.std.proofs.Common.{◌∷◌, length, refl, ap, sym, subst, ◌∙◌, inl, inr, arith}
+use Rattle.std.proofs.Common.{◌≡◌, ◌≢◌, ℕ, suc, ◌+◌, ◌-◌, ◌<◌, ◌≤◌, ◌-ℤ◌, ◌≤ℤ◌, Bool, true, false, List, []}
+use Rattle.std.proofs.Common.{◌∷◌, length, refl, ap, sym, ◌∙◌, inl, inr, arith}
 use Rattle.std.proofs.lemmas.Bool.{both_ways, cases_eq}
 use Rattle.ttp_base.specs.NodeSet.{has_node}
 use Rattle.ttp_world.specs.declared.medl.Medl.{Medl}
@@ -39,10 +39,7 @@ use Rattle.two_faced.specs.Halved.{AreJudgedCorrect, JudgedCorrectSince}
 use Rattle.two_faced.proofs.QuietPlan.{quiet_plan, follows, on-sound, begun, clocks}
 use Rattle.two_faced.proofs.Rules.{RulesHold}
 use Rattle.fault_plan.proofs.FateSteps.{sound-fate as sound-only}
-
-never-falling : (begins : Bool) (fate : Fate) → cond begins Sound Absent ≡ fate → (is_lost fate ≡ true) → ⊥
-never-falling true fate is lost = both_ways (is_lost fate) (ap is_lost (sym is)) lost
-never-falling false fate is lost = both_ways (is_lost fate) (ap is_lost (sym is)) lost
+use Rattle.fault_plan.proofs.FaultySets.{lost-begin}
 
 -- a node that doubts none holds the group
 undoubted : (group : List ℕ) (a : Ack) → ((y : ℕ) → a ≡ ack.Doubt y → ⊥) → held_with group a ≡ group
@@ -86,7 +83,8 @@ module _ (list : Medl) (script : Script) (z slot : ℕ) (valid : IsValid list) (
 
   never-lost : (turn k : ℕ) (fate : Fate) → fate_of plan turn k ≡ fate → is_lost fate ≡ true → ⊥
   never-lost turn k fate is =
-      never-falling (has_node plan.begin k) fate (sym (fate-always plan turn k refl refl) ∙ is)
+      both_ways (is_lost fate)
+      (ap is_lost (sym is ∙ fate-always plan turn k refl refl) ∙ lost-begin (has_node plan.begin k))
 
   keeps : KeepsClocks list script start plan
   keeps turn numbers noted within = record {
@@ -140,8 +138,7 @@ module _ (list : Medl) (script : Script) (z slot : ℕ) (valid : IsValid list) (
       by : (good : Bool) → is_good_slot plan (suc turn) ≡ good → TellsOf list script history p r (entry_of row r)
       by true good = elim (cases_eq p (sender plan (suc turn))) [
         | inl own ↦
-            subst (λ j. TellsOf list script history j r (entry_of row r)) (sym own)
-            (noted.good r good (hears, receiver_sound) refl)
+            rw own (noted.good r good (hears, receiver_sound) refl)
         | inr apart ↦
             absurd (both_ways (is_sending (entry_of row p))
             (hearing-entry list script history (sender plan (suc turn)) p (entry_of row p) apart
@@ -195,8 +192,7 @@ module _ (list : Medl) (script : Script) (z slot : ℕ) (valid : IsValid list) (
     at-sound : (k : ℕ) → k < length list.slots → is_on script k (newest_slot history) ≡ true
         → IsSoundAt list plan turn k (node_past list script history k)
     at-sound k node on =
-        subst (IsByFate list plan turn k (node_past list script history k))
-        (sound-only (fate_of plan turn k) (sound-node k node on)) (run.holds.nodes k node)
+        rw (sound-only (fate_of plan turn k) (sound-node k node on)) at (run.holds.nodes k node)
 
     pub runs-active : (k : ℕ) → k < length list.slots → is_on script k (newest_slot history) ≡ true
         → (node_past list script history k).phase ≡ phase.Active

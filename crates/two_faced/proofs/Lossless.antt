@@ -7,7 +7,7 @@ use Rattle.std.proofs.lemmas.Bool.{both_ways}
 use Rattle.std.proofs.lemmas.Option.{none-some}
 use Rattle.ttp_base.specs.NodeSet.{has_node}
 use Rattle.fault_plan.specs.Plan.{Return, Plan, sender, incident_at, is_in_slot}
-use Rattle.fault_plan.specs.Fates.{Fate, Absent, Sound, Falling, Fallen, Listening, fate_at_begin, fate_of, next_fate}
+use Rattle.fault_plan.specs.Fates.{Fate, Absent, Sound, Falling, Fallen, fate_at_begin, fate_of, next_fate}
 use Rattle.fault_plan.specs.Fates.{turned, struck, is_sound, is_lost, is_sound_after}
 use Rattle.fault_plan.specs.GoodPlan.{IsGoodPlan}
 use Rattle.fault_plan.specs.Told.{IsTold}
@@ -50,13 +50,11 @@ sound-always plan slot k none stay =
 
 never-lost : (plan : Plan) (slot k : ℕ) (fate : Fate) → plan.incidents ≡ [] → IsTold plan slot k fate
     → is_lost fate ≡ true → ⊥
-never-lost plan slot k Absent none told lost = both_ways false refl lost
-never-lost plan slot k Sound none told lost = both_ways false refl lost
-never-lost plan slot k (Listening since) none told lost = both_ways false refl lost
 never-lost plan slot k (Falling change since) none told lost =
     none-some told.loss.incident (sym (none-at plan since none) ∙ told.loss.found)
 never-lost plan slot k (Fallen change since shown) none told lost =
     none-some told.loss.incident (sym (none-at plan since none) ∙ told.loss.found)
+never-lost plan slot k _ none told lost = both_ways false refl lost
 
 pub none-returns : (plan : Plan) → IsGoodPlan plan → plan.incidents ≡ [] → plan.returns ≡ []
 none-returns plan good none = by plan.returns refl

@@ -42,5 +42,4 @@ returns c =
     let script = c.args.script.now in
     let slot = c.args.slot in
     sym (ap not (none-passes (is_missed_in list script (told_start c.args.start) c.args.node) slot
-    (min (slot + four_rounds list) script.slots - slot)
-    (λ t from to. c.loop-at.invariant t (omega arith) from)))
+    (min (slot + four_rounds list) script.slots - slot) (λ t from to. c.loop-at.invariant t (omega arith) from)))

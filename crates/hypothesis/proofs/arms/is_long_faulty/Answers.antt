@@ -5,7 +5,7 @@ use Rattle.ttp_world.proofs.Lists.{nodes-most}
 use Rattle.hypothesis.specs.Standing.{told_start}
 use Rattle.hypothesis.proofs.LongFaulty.{long-faulty}
 use Rattle.ttp_base.proofs.NodeSets.{and-true}
-use Rattle.hypothesis.proofs.Ranges.{and-false}
+use Rattle.std.proofs.Math.Bool.{and-false}
 use Rattle.hypothesis.proofs.arms.is_long_faulty.Goals as goal
 
 pub returns-then-not-is_apart : goal.returns-then-not-is_apart

@@ -5,7 +5,7 @@ use Rattle.std.proofs.lemmas.Bool.{le-ltb}
 use Rattle.ttp_world.specs.Returning.{two_rounds, offers_place, run_slots}
 use Rattle.ttp_world.proofs.Lists.{nodes-most}
 use Rattle.hypothesis.specs.Standing.{told_start}
-use Rattle.hypothesis.proofs.Ranges.{or-true}
+use Rattle.std.proofs.Math.Bool.{or-true}
 use Rattle.ttp_world.proofs.RangeFacts.{any-range as one-passes, none-passes}
 use Rattle.hypothesis.proofs.arms.is_offered.Goals as goal
 
@@ -52,6 +52,5 @@ returns c =
     le-ltb script.slots (slot + two_rounds list) (omega arith) in
     sym (ap (λ b. b || list_any (offers_place list script start c.args.node)
     (run_slots script slot (two_rounds list))) whole
-    ∙ none-passes (offers_place list script start c.args.node) slot
-    (min (slot + two_rounds list) script.slots - slot)
+    ∙ none-passes (offers_place list script start c.args.node) slot (min (slot + two_rounds list) script.slots - slot)
     (λ t from to. c.loop-at.invariant t (omega arith) from))

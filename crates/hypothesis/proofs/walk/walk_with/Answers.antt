@@ -20,8 +20,7 @@ returns c = λ course walked made.
     let count = c.if-is_within_run-2.count in
     let before = fault_slots_before script course slot in
     let within : slot < script.slots → count ≡ length (course.joined slot) =
-    λ less.
-    elim c.if-is_within_run-2.branch [
+    λ less. elim c.if-is_within_run-2.branch [
       | then-is_within_run-2 w ↦ w.count-is ∙ made.count
       | else-is_within_run-2 w ↦ absurd (omega arith)
     ] in

@@ -60,11 +60,9 @@ loop-k-preserved c =
       | else-k-node w ↦
           let none : clock k ≡ None = elim w.else-k-node.branch [
             | else-k-node-via-then-k-node+else-is_on v ↦
-                clock_off (k == c.args.node) (is_on script k slot) past.offset
-                (sym v.is_on.ensures ∙ v.if-is_on.false)
+                clock_off (k == c.args.node) (is_on script k slot) past.offset (sym v.is_on.ensures ∙ v.if-is_on.false)
             | else-k-node-via-else-k-node v ↦
-                clock_own (k == c.args.node) (is_on script k slot) past.offset
-                (eq-eqb k c.args.node v.if-k-node.false)
+                clock_own (k == c.args.node) (is_on script k slot) past.offset (eq-eqb k c.args.node v.if-k-node.false)
           ] in (
             (λ i. widest_with (w.span-is i) (filter_map clock rest))
                 ∙ widest-none clock k rest c.loop-k.span none ∙ so_far,

@@ -15,10 +15,8 @@ returns-clause-at c =
       start = c.requires.at.start;
       jumps = c.requires.at.jumps;
       faulty =
-          subst
-          (λ (n : ℕ). HaveSameNodes c.faults_in-faults.result.faulty
-          (numbers_of (faulty_nodes_before list script start n)))
-          (sym (add-one slot)) made.faulty;
+          subst (λ (n : ℕ). HaveSameNodes c.faults_in-faults.result.faulty
+          (numbers_of (faulty_nodes_before list script start n))) (sym (add-one slot)) made.faulty;
     }
 
 pub returns-clause-faulty : goal.returns-clause-faulty

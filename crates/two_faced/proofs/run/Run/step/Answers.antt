@@ -4,12 +4,8 @@ use Rattle.two_faced.proofs.run.Run.step.Goals as goal
 
 pub slot-requires-clause-slot : goal.slot-requires-clause-slot
 slot-requires-clause-slot c =
-    omega (
-      arith,
-      c.requires.stands.plant.slot,
-      length-zeros_world c.args.list.now c.args.script.now c.args.slot,
-      c.requires.slot,
-    )
+    let count = length-zeros_world c.args.list.now c.args.script.now c.args.slot in
+    omega (arith, c.requires.stands.plant.slot, count, c.requires.slot)
 
 pub slot-requires-clause-count : goal.slot-requires-clause-count
 slot-requires-clause-count c =
