@@ -138,8 +138,7 @@ module _ {list : Medl} {script : Script} {start : ClusterStart} {plan : Plan} {t
       (sym (length-world list script numbers))
 
   pub alike-next : AcceptsAlike list script (is_sound_after plan (suc turn))
-      (row_in (slot_after list script (world list script numbers))
-      (messages_chosen list script (length numbers) new.sent)) (world list script numbers)
+      (row_of_world list script new numbers) (world list script numbers)
   unfolding made
   alike-next = record {
     third = λ j k p sound_j sound_k apart_j apart_k. by-plan j p sound_j apart_j ∙ sym (by-plan k p sound_k apart_k);

@@ -8,14 +8,13 @@ use Rattle.ttp_world.specs.declared.script.Script.{Script}
 use Rattle.ttp_world.specs.Diary.{next_place}
 use Rattle.ttp_world.specs.Hypothesis.{ClusterStart, loses}
 use Rattle.ttp_world.specs.Reception.{is_within_window}
-use Rattle.ttp_world.specs.World.{SlotNumbers, Numbers, node_past, slot_after, deviation_in, messages_chosen, world}
+use Rattle.ttp_world.specs.World.{SlotNumbers, Numbers, node_past, slot_after, deviation_in, world}
 use Rattle.fault_plan.specs.Plan.{Change, Plan, sender, is_armed_by}
 use Rattle.fault_plan.specs.Fates.{Fate, Absent, Sound, Falling, Fallen, Listening, fate_of, is_lost}
 use Rattle.fault_plan.specs.Ledger.{planned_members}
 use Rattle.fault_plan.specs.Places.{planned_place}
 use Rattle.safety_laws.specs.Groups.{held_with}
 use Rattle.safety_laws.specs.NodeSlot.{frames_made, next_past}
-use Rattle.safety_laws.specs.Senders.{SendsAlone, NoneSends}
 use Rattle.safety_laws.specs.Turns.{HearsMembers}
 use Rattle.safety_laws.specs.ByFate.{IsByFate, IsFallingAt, IsFallenAt}
 use Rattle.safety_laws.specs.PlanTurn.{IsTurn}
@@ -24,7 +23,8 @@ use Rattle.safety_laws.proofs.Listening.{frames_made-listening}
 use Rattle.safety_laws.proofs.OneSender.{members-alone}
 use Rattle.safety_laws.proofs.OwnTurns.{IsSoundOwner, sound-sends, falling-own, fallen-own}
 use Rattle.safety_laws.proofs.PlanSteps.{told-falling}
-use Rattle.safety_laws.proofs.PlanTurns.{slot_of, e-node, has-turn, absent-off, armed-planned, unarmed-falling}
+use Rattle.safety_laws.proofs.PlanTurns.{SendsNone, SendsOne, slot_of, e-node, has-turn, absent-off, armed-planned}
+use Rattle.safety_laws.proofs.PlanTurns.{unarmed-falling}
 use Rattle.safety_laws.proofs.PlanTurns.{listens-still, silent-left, none-sends, sends-alone}
 
 module _ {list : Medl} {script : Script} {start : ClusterStart} {plan : Plan} {turn : ℕ} {new : SlotNumbers}
@@ -53,8 +53,7 @@ module _ {list : Medl} {script : Script} {start : ClusterStart} {plan : Plan} {t
           owner = refl;
         }
 
-    pub sound-alone : SendsAlone list script (world list script numbers)
-        (messages_chosen list script (length numbers) new.sent) (sender plan (suc turn))
+    pub sound-alone : SendsOne t
     sound-alone =
         let may = sound-sends sound-owner in
         sends-alone t sound-owner.own may
@@ -78,15 +77,13 @@ module _ {list : Medl} {script : Script} {start : ClusterStart} {plan : Plan} {t
 
   -- A sender that is absent, or has had its first slot since it was lost, is silent.
 
-  pub silent-absent : fate_of plan turn (sender plan (suc turn)) ≡ Absent
-      → NoneSends list script (world list script numbers) (messages_chosen list script (length numbers) new.sent)
+  pub silent-absent : fate_of plan turn (sender plan (suc turn)) ≡ Absent → SendsNone t
   silent-absent is =
       let e = sender plan (suc turn) in
       let node = e-node t in
       none-sends t (idle-off (slot_of list script new numbers e) (at-fate e Absent node is) (absent-off t e node is)).1
 
-  pub silent-listening : (since : ℕ) → fate_of plan turn (sender plan (suc turn)) ≡ Listening since
-      → NoneSends list script (world list script numbers) (messages_chosen list script (length numbers) new.sent)
+  pub silent-listening : (since : ℕ) → fate_of plan turn (sender plan (suc turn)) ≡ Listening since → SendsNone t
   silent-listening since is =
       let e = sender plan (suc turn) in
       let node = e-node t in
@@ -124,8 +121,7 @@ module _ {list : Medl} {script : Script} {start : ClusterStart} {plan : Plan} {t
 
   -- and sends nothing, armed or not
   pub silent-fallen : (change : Change) (since shown : ℕ)
-      → fate_of plan turn (sender plan (suc turn)) ≡ Fallen change since shown
-      → NoneSends list script (world list script numbers) (messages_chosen list script (length numbers) new.sent)
+      → fate_of plan turn (sender plan (suc turn)) ≡ Fallen change since shown → SendsNone t
   silent-fallen change since shown is =
       let e = sender plan (suc turn) in
       let node = e-node t in
@@ -138,8 +134,7 @@ module _ {list : Medl} {script : Script} {start : ClusterStart} {plan : Plan} {t
   -- One that was lost, and has its first slot since then, has left, or leaves, or sends what it holds.
   pub falling-acts : (change : Change) (since : ℕ) → fate_of plan turn (sender plan (suc turn)) ≡ Falling change since →
       let x = slot_of list script new numbers (sender plan (suc turn)) in
-      (((next_past x).phase ≡ phase.Left) × (frames_made x ≡ [])) ⊎ ((SendsAlone list script (world list script numbers)
-      (messages_chosen list script (length numbers) new.sent) (sender plan (suc turn)))
+      (((next_past x).phase ≡ phase.Left) × (frames_made x ≡ [])) ⊎ ((SendsOne t)
       × (IsFallingAt list plan turn (sender plan (suc turn)) change since x.past)
       × (IsFallenAt list plan (suc turn) (sender plan (suc turn)) since (suc turn) (next_past x)))
   falling-acts change since is =

@@ -8,7 +8,7 @@ use Rattle.ttp_world.specs.declared.node.Phase.TheVariants as phase
 use Rattle.ttp_world.specs.declared.script.Script.{Script}
 use Rattle.ttp_world.specs.Hypothesis.{ClusterStart, loses}
 use Rattle.ttp_world.specs.Reception.{is_within_window}
-use Rattle.ttp_world.specs.World.{SlotNumbers, Numbers, slot_after, deviation_in, messages_chosen, world}
+use Rattle.ttp_world.specs.World.{SlotNumbers, Numbers, slot_after, deviation_in, world}
 use Rattle.fault_plan.specs.Plan.{Change, Sending, Receiving, Jumping, Plan, sender, is_armed_by, incident_at}
 use Rattle.fault_plan.specs.Fates.{Fate, Absent, Sound, Falling, Fallen, Listening, fate_of, is_lost, may_stay}
 use Rattle.fault_plan.specs.Fates.{is_sound}
@@ -19,7 +19,6 @@ use Rattle.fault_plan.proofs.Members.{fallen-member, sender-lost}
 use Rattle.fault_plan.proofs.Turns.{turns_apart}
 use Rattle.safety_laws.specs.Groups.{HearsNoAnswer, Lacks, HasThird, Outside, NoFrame}
 use Rattle.safety_laws.specs.NodeSlot.{next_past, owner_of}
-use Rattle.safety_laws.specs.Senders.{NoneSends}
 use Rattle.safety_laws.specs.Turns.{HearsMembers}
 use Rattle.ttp_world.proofs.Lists.{nodes-most}
 use Rattle.safety_laws.specs.ByFate.{IsFallingAt, IsFallenAt}
@@ -36,7 +35,8 @@ use Rattle.safety_laws.proofs.PlanSteps.{IsStruck, falling-stays, struck-falls, 
 use Rattle.safety_laws.proofs.PlanSteps.{struck-known, absent-stays, fallen-stays, sound-stays, falling-shown}
 use Rattle.safety_laws.proofs.PlanSteps.{struck-shown}
 use Rattle.safety_laws.proofs.Receivers.{sound-judge}
-use Rattle.safety_laws.proofs.PlanTurns.{slot_of, slot_number, owner-is, judges, armed-planned, unarmed-falling}
+use Rattle.safety_laws.proofs.PlanTurns.{SendsNone, slot_of, slot_number, owner-is, judges, armed-planned}
+use Rattle.safety_laws.proofs.PlanTurns.{unarmed-falling}
 use Rattle.safety_laws.proofs.PlanTurns.{within-plan, e-node}
 use Rattle.fault_plan.proofs.FateSteps.{sound-fate, strikes}
 use Rattle.safety_laws.proofs.Listeners.{IsAwaited, awaited-armed, awaited-listening, fate-awaited}
@@ -61,8 +61,7 @@ module _ {list : Medl} {script : Script} {start : ClusterStart} {plan : Plan} {t
       turn-other (one-stays plan (suc turn) (sender plan (suc turn)) k t.planned.follows.good stays
       (ap (may_stay plan.nodes (suc turn)) jumped))
 
-  late-silence : NoneSends list script (world list script numbers) (messages_chosen list script (length numbers) new.sent)
-      → HearsLate (slot_of list script new numbers k)
+  late-silence : SendsNone t → HearsLate (slot_of list script new numbers k)
   late-silence none = NoFrame (frameless-silent _ (silent-none_sends list script (world list script numbers) _ k none))
 
   late-sound : fate_of plan turn (sender plan (suc turn)) ≡ Sound
@@ -175,8 +174,7 @@ module _ {list : Medl} {script : Script} {start : ClusterStart} {plan : Plan} {t
 
   -- What comes to a node that was lost and may still stay: what a sound sender's frame is to it, or none.
 
-  by-silence : NoneSends list script (world list script numbers) (messages_chosen list script (length numbers) new.sent)
-      → HearsNoAnswer (slot_of list script new numbers k)
+  by-silence : SendsNone t → HearsNoAnswer (slot_of list script new numbers k)
   by-silence none = NoFrame (frameless-silent _ (silent-none_sends list script (world list script numbers) _ k none))
 
   module _ (place : (slot_of list script new numbers k).past.place ≡ planned_place list plan turn)

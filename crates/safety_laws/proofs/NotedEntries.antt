@@ -10,8 +10,8 @@ use Rattle.ttp_world.specs.declared.script.Script.{Script}
 use Rattle.ttp_world.specs.Acknowledgement.{is_correct}
 use Rattle.ttp_world.specs.Diary.{entry_of}
 use Rattle.ttp_world.specs.Hypothesis.{ClusterStart}
-use Rattle.ttp_world.specs.World.{SlotNumbers, Numbers, slot_after, messages_chosen, row_in, world}
-use Rattle.ttp_world.proofs.Worlds.{length-world}
+use Rattle.ttp_world.specs.World.{SlotNumbers, Numbers, messages_chosen, world}
+use Rattle.ttp_world.proofs.Worlds.{row_of_world, length-world}
 use Rattle.precision.specs.Together.{BeginsOn, TellsOf}
 use Rattle.fault_plan.specs.Plan.{Plan, sender, enters}
 use Rattle.fault_plan.specs.Fates.{Fate, Sound, fate_of, is_sound_after, is_good_slot, is_first_slot}
@@ -41,8 +41,7 @@ use Rattle.safety_laws.proofs.PlanTurns.{slot_of}
 -- the slot of the start
 pub started-by_plan : (list : Medl) (script : Script) (start : ClusterStart) (plan : Plan) (new : SlotNumbers)
     (numbers : Numbers) → IsBegun list script start plan → length numbers ≡ start.slot
-    → StartedByPlan list script start plan (row_in (slot_after list script (world list script numbers))
-    (messages_chosen list script (length numbers) new.sent)) (world list script numbers)
+    → StartedByPlan list script start plan (row_of_world list script new numbers) (world list script numbers)
 started-by_plan list script start plan new numbers is now = record {
   number = length-world list script numbers ∙ now;
   starter = (starter-begun is new numbers now).entry;
@@ -54,9 +53,7 @@ module _ {list : Medl} {script : Script} {start : ClusterStart} {plan : Plan} {t
     {numbers : Numbers} (t : IsTurn list script start plan turn new numbers) where
   -- what is so of the entry that a node makes is so of its entry in the row
   pub in-row : (P : Entry → Type 0) (k : ℕ) (e : Entry) → k < length list.slots
-      → entry_made (slot_of list script new numbers k) ≡ e → P e
-      → P (entry_of (row_in (slot_after list script (world list script numbers))
-      (messages_chosen list script (length numbers) new.sent)) k)
+      → entry_made (slot_of list script new numbers k) ≡ e → P e → P (entry_of (row_of_world list script new numbers) k)
   in-row P k e node made holds =
       subst P (sym (entry_of-made list script (world list script numbers)
       (messages_chosen list script (length numbers) new.sent) k node ∙ made)) holds
@@ -84,22 +81,19 @@ module _ {list : Medl} {script : Script} {start : ClusterStart} {plan : Plan} {t
 
   -- in its own slot a sound node sends
   pub own-sent : (k : ℕ) → IsSoundIn list plan (suc turn) k → sender plan (suc turn) ≡ k → (message : Option ℕ)
-      × (entry_of (row_in (slot_after list script (world list script numbers))
-      (messages_chosen list script (length numbers) new.sent)) k ≡ entry.Sent message)
+      × (entry_of (row_of_world list script new numbers) k ≡ entry.Sent message)
   own-sent k sound own =
       let sends = sender-before (ap (is_sound_after plan (suc turn)) own ∙ sound.1) in
       let owner = sound-owner t sends in
       let may = sound-sends owner in
       let sent = sent-own (slot_of list script new numbers (sender plan (suc turn))) owner.own may.closed may.more in
-      subst (λ j. (message : Option ℕ) × (entry_of (row_in (slot_after list script (world list script numbers))
-      (messages_chosen list script (length numbers) new.sent)) j ≡ entry.Sent message)) own
+      subst (λ j. (message : Option ℕ) × (entry_of (row_of_world list script new numbers) j ≡ entry.Sent message)) own
       (_, entry_of-made list script (world list script numbers) _ (sender plan (suc turn)) owner.own.node ∙ sent.entry)
 
   -- in a good slot the sender sends, and each other sound node that does not enter judges its frame correct
   tells-good : (k : ℕ) → is_good_slot plan (suc turn) ≡ true → IsSoundIn list plan (suc turn) k
       → enters plan (suc turn) k ≡ false → TellsOf list script (world list script numbers) (sender plan (suc turn)) k
-      (entry_of (row_in (slot_after list script (world list script numbers))
-      (messages_chosen list script (length numbers) new.sent)) k)
+      (entry_of (row_of_world list script new numbers) k)
   tells-good k good_is sound none = elim (cases_eq (sender plan (suc turn)) k) [
     | inl own ↦
         subst (TellsOf list script (world list script numbers) (sender plan (suc turn)) k)
@@ -118,8 +112,7 @@ module _ {list : Medl} {script : Script} {start : ClusterStart} {plan : Plan} {t
   same-accepted false before after seen seen_after judged was is same = refl
 
   pub notes-other : (k : ℕ) → is_good_slot plan (suc turn) ≡ false → IsSoundIn list plan (suc turn) k
-      → NotesNothing (entry_of (row_in (slot_after list script (world list script numbers))
-      (messages_chosen list script (length numbers) new.sent)) k)
+      → NotesNothing (entry_of (row_of_world list script new numbers) k)
   notes-other k wrong sound =
       let x = slot_of list script new numbers k in
       let other : sender plan (suc turn) ≢ k =
@@ -137,8 +130,7 @@ module _ {list : Medl} {script : Script} {start : ClusterStart} {plan : Plan} {t
         | inr left ↦ let both : phase.Active ≡ phase.Left = sym after.phase ∙ left.phase in cc
       ]
 
-  pub noted-next : NotedInSlot list script plan (suc turn) (row_in (slot_after list script (world list script numbers))
-      (messages_chosen list script (length numbers) new.sent)) (world list script numbers)
+  pub noted-next : NotedInSlot list script plan (suc turn) (row_of_world list script new numbers) (world list script numbers)
   noted-next = record {
     good = tells-good;
     begins = λ k node entered.

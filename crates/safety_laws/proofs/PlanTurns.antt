@@ -19,10 +19,10 @@ use Rattle.fault_plan.specs.Places.{planned_place}
 use Rattle.fault_plan.proofs.Persists.{absent-always}
 use Rattle.fault_plan.proofs.Places.{place-sender}
 use Rattle.safety_laws.specs.Listening.{IsListening}
-use Rattle.safety_laws.specs.NodeSlot.{NodeSlot, node_slot, frames_made, owner_of}
+use Rattle.safety_laws.specs.NodeSlot.{next_past, NodeSlot, node_slot, frames_made, owner_of}
 use Rattle.safety_laws.specs.Senders.{SendsAlone, NoneSends}
 use Rattle.safety_laws.specs.Turns.{IsJudging, IsAtOwnSlot}
-use Rattle.safety_laws.specs.ByFate.{IsListeningAt, IsByFate}
+use Rattle.safety_laws.specs.ByFate.{IsSoundAt, IsListeningAt, IsByFate}
 use Rattle.safety_laws.specs.PlanTurn.{IsTurn}
 use Rattle.safety_laws.proofs.Idle.{frames_made-judging, idle-off, idle-left}
 use Rattle.safety_laws.proofs.Listening.{frames_made-listening, left-world}
@@ -48,6 +48,23 @@ pub data Stance (list : Medl) (plan : Plan) (turn : ℕ) (x : NodeSlot) : Type 0
 
 module _ {list : Medl} {script : Script} {start : ClusterStart} {plan : Plan} {turn : ℕ} {new : SlotNumbers}
     {numbers : Numbers} (t : IsTurn list script start plan turn new numbers) where
+  -- what a node is by its fate after the turn, or as a sound one, and that none sends in it, or its sender alone
+
+  abbrev pub NextByFate : ℕ → Type 0
+  NextByFate k =
+      IsByFate list plan (suc turn) k (next_past (slot_of list script new numbers k)) (fate_of plan (suc turn) k)
+
+  abbrev pub NextSound : ℕ → Type 0
+  NextSound k = IsSoundAt list plan (suc turn) k (next_past (slot_of list script new numbers k))
+
+  abbrev pub SendsNone : Type 0
+  SendsNone = NoneSends list script (world list script numbers) (messages_chosen list script (length numbers) new.sent)
+
+  abbrev pub SendsOne : Type 0
+  SendsOne =
+      SendsAlone list script (world list script numbers) (messages_chosen list script (length numbers) new.sent)
+      (sender plan (suc turn))
+
   pub slot_number : length (world list script numbers) ≡ start.slot + suc turn
   slot_number = length-world list script numbers ∙ t.number
 
@@ -163,17 +180,14 @@ module _ {list : Medl} {script : Script} {start : ClusterStart} {plan : Plan} {t
       sender-less : sender plan (suc turn) < plan.nodes
       sender-less = mod-lt (plan.starter + suc turn) (let count = good.count in omega (arith, count))
 
-  pub none-sends : frames_made (slot_of list script new numbers (sender plan (suc turn))) ≡ []
-      → NoneSends list script (world list script numbers) (messages_chosen list script (length numbers) new.sent)
+  pub none-sends : frames_made (slot_of list script new numbers (sender plan (suc turn))) ≡ [] → SendsNone
   none-sends none k node = elim (cases_eq (sender plan (suc turn)) k) [
     | inl own ↦ subst (λ j. frames_made (slot_of list script new numbers j) ≡ []) own none
     | inr other ↦ quiet k node other
   ]
 
   pub sends-alone : IsAtOwnSlot (slot_of list script new numbers (sender plan (suc turn)))
-      → MaySend (slot_of list script new numbers (sender plan (suc turn)))
-      → SendsAlone list script (world list script numbers) (messages_chosen list script (length numbers) new.sent)
-      (sender plan (suc turn))
+      → MaySend (slot_of list script new numbers (sender plan (suc turn))) → SendsOne
   sends-alone own may = record {
     own = own;
     closed = may.closed;

@@ -11,7 +11,7 @@ use Rattle.ttp_world.specs.declared.script.Script.{Script}
 use Rattle.ttp_world.specs.Diary.{next_place}
 use Rattle.ttp_world.specs.Hypothesis.{ClusterStart, loses}
 use Rattle.ttp_world.specs.Reception.{is_within_window}
-use Rattle.ttp_world.specs.World.{SlotNumbers, Numbers, slot_after, deviation_in, messages_chosen, world}
+use Rattle.ttp_world.specs.World.{SlotNumbers, Numbers, slot_after, deviation_in, world}
 use Rattle.fault_plan.specs.Plan.{Receiving, Jumping, Plan, sender}
 use Rattle.fault_plan.specs.Fates.{Sound, Falling, Fallen, fate_of, is_sound_after, may_stay, is_good_slot}
 use Rattle.fault_plan.specs.Fates.{is_first_slot}
@@ -21,7 +21,6 @@ use Rattle.fault_plan.proofs.FateTells.{one-stays}
 use Rattle.fault_plan.proofs.Members.{sender-lost}
 use Rattle.safety_laws.specs.Heard.{HearsNoFrame, HearsSilence}
 use Rattle.safety_laws.specs.NodeSlot.{NodeSlot, next_past}
-use Rattle.safety_laws.specs.Senders.{SendsAlone, NoneSends}
 use Rattle.safety_laws.specs.Standing.{IsJudgedAs}
 use Rattle.safety_laws.specs.Turns.{HearsMembers, HearsOutside}
 use Rattle.safety_laws.specs.ByFate.{IsSoundAt, IsFallingAt}
@@ -33,7 +32,7 @@ use Rattle.safety_laws.proofs.Verdicts.{judged-outside, judged-none, judged-sile
 use Rattle.safety_laws.proofs.Arrivals.{at-fate, hears-planned}
 use Rattle.safety_laws.proofs.PlanSteps.{doubted-stays, sound-unentered}
 use Rattle.safety_laws.proofs.LostNodes.{IsSoundJudge, not_about, sound-correct, sound-wrong, sound-tentative}
-use Rattle.safety_laws.proofs.PlanTurns.{slot_of, slot_number, owner-is, judges, e-node}
+use Rattle.safety_laws.proofs.PlanTurns.{NextSound, SendsNone, SendsOne, slot_of, slot_number, owner-is, judges, e-node}
 use Rattle.fault_plan.proofs.SlotKinds.{sender-stays as sender-unentered}
 
 -- A sound node that judges, where the slot is not good: what leaves it sound.
@@ -163,41 +162,36 @@ module _ {list : Medl} {script : Script} {start : ClusterStart} {plan : Plan} {t
       correct-group x (planned_members plan turn) judge.judging judge.at.group e (not_about judge)
       (subst (λ o. HearsMembers x e (with_node (planned_members plan turn) o)) (sym judge.owner) hears)
 
-  pub receives-good : is_good_slot plan (suc turn) ≡ true
-      → fate_of plan turn (sender plan (suc turn)) ≡ Sound → is_sound_after plan (suc turn) k ≡ true
-      → IsSoundAt list plan (suc turn) k (next_past (slot_of list script new numbers k))
+  pub receives-good : is_good_slot plan (suc turn) ≡ true → fate_of plan turn (sender plan (suc turn)) ≡ Sound
+      → is_sound_after plan (suc turn) k ≡ true → NextSound t k
   receives-good good_is sends stays = sound-correct sound-judge _ good_is (judges-good good_is sends stays)
 
   module _ (wrong : is_good_slot plan (suc turn) ≡ false) where
     -- where nobody sends it is null
-    pub receives-silence : NoneSends list script (world list script numbers)
-        (messages_chosen list script (length numbers) new.sent)
-        → IsSoundAt list plan (suc turn) k (next_past (slot_of list script new numbers k))
+    pub receives-silence : SendsNone t → NextSound t k
     receives-silence none =
         silent-sound sound-judge wrong (silent-none_sends list script (world list script numbers) _ k none)
 
-    module _ (first : is_first_slot plan (suc turn) ≡ true) (alone : SendsAlone list script
-        (world list script numbers) (messages_chosen list script (length numbers) new.sent) (sender plan (suc turn)))
+    module _ (first : is_first_slot plan (suc turn) ≡ true) (alone : SendsOne t)
       where
         pub receives-none : loses script (sender plan (suc turn)) (length (world list script numbers)) k ≡ true
-            → IsSoundAt list plan (suc turn) k (next_past (slot_of list script new numbers k))
+            → NextSound t k
         receives-none lost = deaf-sound sound-judge wrong first (none-alone k alone lost)
 
         receives-outside : loses script (sender plan (suc turn)) (length (world list script numbers)) k ≡ false
             → is_within_window list
             (deviation_in (slot_after list script (world list script numbers)) k (sender plan (suc turn))) ≡ false
-            → IsSoundAt list plan (suc turn) k (next_past (slot_of list script new numbers k))
+            → NextSound t k
         receives-outside kept outside =
             outside-sound sound-judge wrong first (sender plan (suc turn)) (outside-alone k alone kept outside)
 
         -- the frame of a node whose clock jumped comes outside the window, or not at all
         pub receives-jumped : (since : ℕ) → is_sound_after plan (suc turn) k ≡ true
-            → fate_of plan (suc turn) (sender plan (suc turn)) ≡ Fallen Jumping since (suc turn)
-            → IsSoundAt list plan (suc turn) k (next_past (slot_of list script new numbers k))
+            → fate_of plan (suc turn) (sender plan (suc turn)) ≡ Fallen Jumping since (suc turn) → NextSound t k
         receives-jumped since stays jumped = by _ refl
           where
             by : (lost : Bool) → loses script (sender plan (suc turn)) (length (world list script numbers)) k ≡ lost
-                → IsSoundAt list plan (suc turn) k (next_past (slot_of list script new numbers k))
+                → NextSound t k
             by true lost = receives-none lost
             by false kept =
                 receives-outside kept (t.clocks.frame k (sender plan (suc turn)) since node (e-node t) stays
@@ -207,14 +201,14 @@ module _ {list : Medl} {script : Script} {start : ClusterStart} {plan : Plan} {t
         pub receives-deaf : (since : ℕ) → IsDeafSender plan turn since
             → IsFallingAt list plan turn (sender plan (suc turn)) Receiving since
             (slot_of list script new numbers (sender plan (suc turn))).past → sender plan since ≢ sender plan (suc turn)
-            → IsSoundAt list plan (suc turn) k (next_past (slot_of list script new numbers k))
+            → NextSound t k
         receives-deaf since deaf at apart = by _ _ refl refl
           where
             by : (lost within : Bool)
                 → loses script (sender plan (suc turn)) (length (world list script numbers)) k ≡ lost
                 → is_within_window list
                 (deviation_in (slot_after list script (world list script numbers)) k (sender plan (suc turn))) ≡ within
-                → IsSoundAt list plan (suc turn) k (next_past (slot_of list script new numbers k))
+                → NextSound t k
             by true within lost _ = receives-none lost
             by false false kept outside = receives-outside kept outside
             by false true kept inside =

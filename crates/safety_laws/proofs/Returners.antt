@@ -28,9 +28,8 @@ use Rattle.fault_plan.proofs.Returns.{entry-is, entry-good, armed-lost, entry-fr
 use Rattle.safety_laws.specs.Groups.{held_with, IsAboutOther, HoldsGroup}
 use Rattle.safety_laws.specs.Listening.{HearsPlace}
 use Rattle.safety_laws.specs.NodeSlot.{next_past, coming_place}
-use Rattle.safety_laws.specs.Senders.{SendsAlone, NoneSends}
 use Rattle.safety_laws.specs.Standing.{StandsBy, joined_on, joined_standing}
-use Rattle.safety_laws.specs.ByFate.{doubts, IsCounted, IsSoundAt, IsListeningAt, IsByFate}
+use Rattle.safety_laws.specs.ByFate.{doubts, IsCounted, IsListeningAt, IsByFate}
 use Rattle.safety_laws.specs.PlanTurn.{IsTurn}
 use Rattle.safety_laws.proofs.Listening.{around-silent, frame-silent, waited-none, waited-passing, joined-place}
 use Rattle.safety_laws.proofs.OneSender.{silent-none_sends, place-alone, no_place-alone}
@@ -40,7 +39,8 @@ use Rattle.safety_laws.proofs.Listeners.{IsAwaited, quiet-awaited, gone-awaited,
 use Rattle.safety_laws.proofs.Listeners.{awaited-listening, ListensSince, waits-on}
 use Rattle.safety_laws.proofs.PlanSteps.{members-good, ledger-entered, sound-stays, good-sender}
 use Rattle.safety_laws.proofs.Hearing.{frameless-silent}
-use Rattle.safety_laws.proofs.PlanTurns.{slot_of, slot_number, within-plan, armed-planned, listens-still, listens-now}
+use Rattle.safety_laws.proofs.PlanTurns.{NextByFate, NextSound, SendsNone, SendsOne, slot_of, slot_number, within-plan}
+use Rattle.safety_laws.proofs.PlanTurns.{armed-planned, listens-still, listens-now}
 use Rattle.std.specs.Prelude.{nat_lt}
 use Rattle.ttp_world.specs.declared.node.Phase.TheVariants as phase
 
@@ -78,12 +78,10 @@ module _ {list : Medl} {script : Script} {start : ClusterStart} {plan : Plan} {t
     (listens : ListensSince plan turn since (slot_of list script new numbers k)) where
   -- Where the slot is not good nobody sends.
 
-  silent-wrong : is_good_slot plan (suc turn) ≡ false
-      → NoneSends list script (world list script numbers) (messages_chosen list script (length numbers) new.sent)
+  silent-wrong : is_good_slot plan (suc turn) ≡ false → SendsNone t
   silent-wrong wrong = by (fate_of plan turn (sender plan (suc turn))) refl
     where
-      by : (fate : Fate) → fate_of plan turn (sender plan (suc turn)) ≡ fate
-          → NoneSends list script (world list script numbers) (messages_chosen list script (length numbers) new.sent)
+      by : (fate : Fate) → fate_of plan turn (sender plan (suc turn)) ≡ fate → SendsNone t
       by Absent is = silent-absent t is
       by (Listening s) is = silent-listening t s is
       by (Fallen change s shown) is = silent-fallen t change s shown is
@@ -110,8 +108,7 @@ module _ {list : Medl} {script : Script} {start : ClusterStart} {plan : Plan} {t
     sends : fate_of plan turn (sender plan (suc turn)) ≡ Sound
     sends = sound-fate _ (good-sender plan turn t.planned.follows.good good_is)
 
-    alone : SendsAlone list script (world list script numbers)
-        (messages_chosen list script (length numbers) new.sent) (sender plan (suc turn))
+    alone : SendsOne t
     alone = sound-alone t sends
 
     place_is : coming_place (slot_of list script new numbers (sender plan (suc turn))) ≡ planned_place list plan (suc turn)
@@ -183,7 +180,7 @@ module _ {list : Medl} {script : Script} {start : ClusterStart} {plan : Plan} {t
           joined-place (slot_of list script new numbers k) (sender plan (suc turn)) (planned_place list plan (suc turn))
           (planned_members plan (suc turn)) listens.listens hears-entry
 
-      sound-entered : IsSoundAt list plan (suc turn) k (next_past (slot_of list script new numbers k))
+      sound-entered : NextSound t k
       sound-entered =
           let past = next_past (slot_of list script new numbers k) in
           let stands = joins-entry in
@@ -200,8 +197,7 @@ module _ {list : Medl} {script : Script} {start : ClusterStart} {plan : Plan} {t
           }
 
   -- So it is what its fate says.
-  pub returner-next : IsByFate list plan (suc turn) k (next_past (slot_of list script new numbers k))
-      (fate_of plan (suc turn) k)
+  pub returner-next : NextByFate t k
   returner-next = by (enters plan (suc turn) k) refl
     where
       past : NodePast
@@ -262,16 +258,13 @@ module _ {list : Medl} {script : Script} {start : ClusterStart} {plan : Plan} {t
               (armed-planned t k node lost ∙ armed);
         }
 
-    next : Listens
-        → IsByFate list plan (suc turn) k (next_past (slot_of list script new numbers k)) (fate_of plan (suc turn) k)
+    next : Listens → NextByFate t k
     next l = returner-next t k node l.since l.awaited l.listens
 
-    pub listening-next : (since : ℕ) → fate_of plan turn k ≡ Listening since
-        → IsByFate list plan (suc turn) k (next_past (slot_of list script new numbers k)) (fate_of plan (suc turn) k)
+    pub listening-next : (since : ℕ) → fate_of plan turn k ≡ Listening since → NextByFate t k
     listening-next since is = next (still since is)
 
-    pub armed-next : is_armed_by plan (suc turn) k ≡ true
-        → IsByFate list plan (suc turn) k (next_past (slot_of list script new numbers k)) (fate_of plan (suc turn) k)
+    pub armed-next : is_armed_by plan (suc turn) k ≡ true → NextByFate t k
     armed-next armed = next (now armed)
 
     -- where it enters it joins at the plan's place, with the plan's members, by what it measures of the sender's frame

@@ -29,7 +29,7 @@ use Rattle.safety_laws.proofs.OwnTurns.{sound-sent, lost-sent}
 use Rattle.safety_laws.proofs.PlanSteps.{struck-known, absent-stays, fallen-stays, sound-stays, falling-stays}
 use Rattle.safety_laws.proofs.PlanSteps.{falling-shown, struck-falls, struck-shown, ledger-other, ledger-own}
 use Rattle.safety_laws.proofs.SoundSteps.{sound-next}
-use Rattle.safety_laws.proofs.PlanTurns.{slot_of, e-node, absent-off, armed-planned}
+use Rattle.safety_laws.proofs.PlanTurns.{NextByFate, slot_of, e-node, absent-off, armed-planned}
 use Rattle.ttp_world.specs.Diary.{Diary, entry_of, diary_of, is_active_phase, is_active, begins_stint}
 use Rattle.ttp_world.specs.Medium.{is_sending}
 use Rattle.ttp_world.specs.Safety.{has_ever_sent}
@@ -140,12 +140,11 @@ module _ {list : Medl} {script : Script} {start : ClusterStart} {plan : Plan} {t
   of-fate k past fate is = subst (λ (f : Fate). IsByFate list plan (suc turn) k past f) (sym is)
 
   -- A node in another's slot.
-  other-next : (k : ℕ) → k < length list.slots → sender plan (suc turn) ≢ k
-      → IsByFate list plan (suc turn) k (next_past (slot_of list script new numbers k)) (fate_of plan (suc turn) k)
+  other-next : (k : ℕ) → k < length list.slots → sender plan (suc turn) ≢ k → NextByFate t k
   other-next k node other = by (fate_of plan turn k) refl
     where
       by-sound : fate_of plan turn k ≡ Sound → (hit : Bool) → strikes (incident_at plan (suc turn)) k ≡ hit
-          → IsByFate list plan (suc turn) k (next_past (slot_of list script new numbers k)) (fate_of plan (suc turn) k)
+          → NextByFate t k
       by-sound is true hit =
           let struck = struck-known plan (suc turn) k hit in
           of-fate k _ _ (struck-falls plan turn k t.planned.follows.good struck other)
@@ -155,16 +154,14 @@ module _ {list : Medl} {script : Script} {start : ClusterStart} {plan : Plan} {t
           of-fate k _ Sound stays (sound-next t k node other is (ap is_sound stays))
 
       by-fallen : (change : Change) (since shown : ℕ) → fate_of plan turn k ≡ Fallen change since shown → (armed : Bool)
-          → is_armed_by plan (suc turn) k ≡ armed
-          → IsByFate list plan (suc turn) k (next_past (slot_of list script new numbers k)) (fate_of plan (suc turn) k)
+          → is_armed_by plan (suc turn) k ≡ armed → NextByFate t k
       by-fallen change since shown is true armed = armed-next t k node armed
       by-fallen change since shown is false unarmed =
           of-fate k _ (Fallen change since shown)
           (fallen-stays plan turn k since shown change t.planned.follows.good unarmed is)
           (fallen-next t k node other change since shown is unarmed)
 
-      by : (fate : Fate) → fate_of plan turn k ≡ fate
-          → IsByFate list plan (suc turn) k (next_past (slot_of list script new numbers k)) (fate_of plan (suc turn) k)
+      by : (fate : Fate) → fate_of plan turn k ≡ fate → NextByFate t k
       by Absent is =
           of-fate k _ Absent (absent-stays plan turn k t.planned.follows.good is)
           (idle-off (slot_of list script new numbers k) (at-fate t k Absent node is) (absent-off t k node is)).0
@@ -180,11 +177,8 @@ module _ {list : Medl} {script : Script} {start : ClusterStart} {plan : Plan} {t
       IsByFate list plan (suc turn) e (next_past (slot_of list script new numbers e)) (fate_of plan (suc turn) e)
   own-next = by (fate_of plan turn (sender plan (suc turn))) refl
     where
-      by-sound : fate_of plan turn (sender plan (suc turn)) ≡ Sound
-          → (hit : Bool) → strikes (incident_at plan (suc turn)) (sender plan (suc turn)) ≡ hit
-          → IsByFate list plan (suc turn) (sender plan (suc turn))
-          (next_past (slot_of list script new numbers (sender plan (suc turn))))
-          (fate_of plan (suc turn) (sender plan (suc turn)))
+      by-sound : fate_of plan turn (sender plan (suc turn)) ≡ Sound → (hit : Bool)
+          → strikes (incident_at plan (suc turn)) (sender plan (suc turn)) ≡ hit → NextByFate t (sender plan (suc turn))
       by-sound is true hit =
           let struck = struck-known plan (suc turn) (sender plan (suc turn)) hit in
           of-fate (sender plan (suc turn)) _ _ (struck-shown plan turn (sender plan (suc turn)) t.planned.follows.good struck refl)
@@ -194,21 +188,15 @@ module _ {list : Medl} {script : Script} {start : ClusterStart} {plan : Plan} {t
           of-fate (sender plan (suc turn)) _ Sound stays (sound-sent (sound-owner t is) (ap is_sound stays))
 
       by-fallen : (change : Change) (since shown : ℕ)
-          → fate_of plan turn (sender plan (suc turn)) ≡ Fallen change since shown
-          → (armed : Bool) → is_armed_by plan (suc turn) (sender plan (suc turn)) ≡ armed
-          → IsByFate list plan (suc turn) (sender plan (suc turn))
-          (next_past (slot_of list script new numbers (sender plan (suc turn))))
-          (fate_of plan (suc turn) (sender plan (suc turn)))
+          → fate_of plan turn (sender plan (suc turn)) ≡ Fallen change since shown → (armed : Bool)
+          → is_armed_by plan (suc turn) (sender plan (suc turn)) ≡ armed → NextByFate t (sender plan (suc turn))
       by-fallen change since shown is true armed = armed-next t (sender plan (suc turn)) (e-node t) armed
       by-fallen change since shown is false unarmed =
           of-fate (sender plan (suc turn)) _ (Fallen change since shown)
           (fallen-stays plan turn (sender plan (suc turn)) since shown change t.planned.follows.good unarmed is)
           (inl (fallen-leaves t change since shown is unarmed))
 
-      by : (fate : Fate) → fate_of plan turn (sender plan (suc turn)) ≡ fate
-          → IsByFate list plan (suc turn) (sender plan (suc turn))
-          (next_past (slot_of list script new numbers (sender plan (suc turn))))
-          (fate_of plan (suc turn) (sender plan (suc turn)))
+      by : (fate : Fate) → fate_of plan turn (sender plan (suc turn)) ≡ fate → NextByFate t (sender plan (suc turn))
       by Absent is =
           let node = e-node t in
           of-fate (sender plan (suc turn)) _ Absent
@@ -228,8 +216,7 @@ module _ {list : Medl} {script : Script} {start : ClusterStart} {plan : Plan} {t
           by-fallen change since shown is (is_armed_by plan (suc turn) (sender plan (suc turn))) refl
 
   -- Each node.
-  pub node-next : (k : ℕ) → k < length list.slots
-      → IsByFate list plan (suc turn) k (next_past (slot_of list script new numbers k)) (fate_of plan (suc turn) k)
+  pub node-next : (k : ℕ) → k < length list.slots → NextByFate t k
   node-next k node = elim (cases_eq (sender plan (suc turn)) k) [
     | inl own ↦
         subst (λ j. IsByFate list plan (suc turn) j (next_past (slot_of list script new numbers j))
