@@ -28,9 +28,8 @@ slots_before-at list script start (suc slot) (suc i) t is = slots_before-at list
 
 -- one slot more is kept
 pub newest-more : (list : Medl) (script : Script) (start : ClusterStart) (newest next : NewestSlots) (s : FaultySlot)
-    → AreNewest list script start newest → IsFaultySlot list script start newest.end s
-    → next.end ≡ newest.end + 1 → next.slots ≡ set newest.slots (newest.end % kept_slots) s
-    → AreNewest list script start next
+    → AreNewest list script start newest → IsFaultySlot list script start newest.end s → next.end ≡ newest.end + 1
+    → next.slots ≡ set newest.slots (newest.end % kept_slots) s → AreNewest list script start next
 newest-more list script start newest next s are is end slots =
     record {
       room = ap length slots ∙ length-set newest.slots (newest.end % kept_slots) s ∙ are.room;
@@ -47,8 +46,7 @@ newest-more list script start newest next s are is end slots =
 
 -- those that stayed are faulty at the beginning of the slot
 pub stayed-at : (list : Medl) (script : Script) (start : ClusterStart) (slot then_slot : ℕ) (stayed : List ℕ)
-    → then_slot ≡ slot - four_rounds list
-    → HaveSameNodes stayed (numbers_of (filter (λ (f : FaultyNode).
+    → then_slot ≡ slot - four_rounds list → HaveSameNodes stayed (numbers_of (filter (λ (f : FaultyNode).
     not (has_node (faulty_then list (slots_before list script start slot)) f.node && is_armed script f.node then_slot))
     (faulty_since (slots_before list script start slot))))
     → HaveSameNodes stayed (numbers_of (faulty_at list script start slot))

@@ -11,8 +11,7 @@ use Rattle.ttp_world.specs.Hypothesis.{FaultyNode, first_too_early}
 use Rattle.hypothesis.specs.Walks.{Course, all_in, earliest_after, fault_slots_before}
 use Rattle.hypothesis.proofs.Firsts.{or-head}
 
-pub first_too_early-append : (gap earliest : ℕ) (xs ys : List ℕ)
-    → first_too_early gap earliest (xs ++ ys)
+pub first_too_early-append : (gap earliest : ℕ) (xs ys : List ℕ) → first_too_early gap earliest (xs ++ ys)
     ≡ option_or (first_too_early gap earliest xs) (first_too_early gap (earliest_after gap earliest xs) ys)
 first_too_early-append gap earliest [] ys = refl
 first_too_early-append gap earliest (x ∷ xs) ys =
@@ -60,8 +59,7 @@ reverse-replicate zero slot = refl
 reverse-replicate (suc n) slot =
     let next : n + 1 ≡ suc n = omega arith in
     reverse_onto (replicate n slot) slot [] ∙ ap (λ rest. rest ++ slot ∷ []) (reverse-replicate n slot)
-    ∙ replicate_more n slot
-    ∙ ap (λ m. replicate m slot) next
+    ∙ replicate_more n slot ∙ ap (λ m. replicate m slot) next
 
 slots-later : (slot : ℕ) (ks : List ℕ) (faulty : List FaultyNode)
     → reverse (slots_of (all_in slot ks ++ faulty)) ≡ reverse (slots_of faulty) ++ replicate (length ks) slot

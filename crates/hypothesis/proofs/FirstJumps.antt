@@ -25,9 +25,8 @@ no_jump-before _ other k slot = refl
 
 -- an event that is no jump changes nothing
 pub first_jumps-other : (events : List Event) (i : ℕ) (e : Event) (first : List ℕ) → i < length events
-    → get_or events i e ≡ e
-    → ((node : ℕ) (value : ℤ) (at : ℕ) → e ≢ event.Jump node value at) → AreFirstJumps (take i events) first
-    → AreFirstJumps (take (i + 1) events) first
+    → get_or events i e ≡ e → ((node : ℕ) (value : ℤ) (at : ℕ) → e ≢ event.Jump node value at)
+    → AreFirstJumps (take i events) first → AreFirstJumps (take (i + 1) events) first
 first_jumps-other events i e first less here other so_far k slot small fits =
     list_any_more (is_jump_before k slot) events i e less
     ∙ (λ j. so_far k slot small fits j || is_jump_before k slot (here j))
@@ -35,8 +34,7 @@ first_jumps-other events i e first less here other so_far k slot small fits =
     ∙ or-false (nat_lt (get_or first k 0) slot)
 
 among : (k node at slot old new : ℕ) → (k ≡ node → (nat_lt old slot || nat_lt at slot) ≡ nat_lt new slot)
-    → (k ≢ node → new ≡ old)
-    → (nat_lt old slot || ((node == k) && nat_lt at slot)) ≡ nat_lt new slot
+    → (k ≢ node → new ≡ old) → (nat_lt old slot || ((node == k) && nat_lt at slot)) ≡ nat_lt new slot
 among k node at slot old new same other = elim (cases_eq k node) [
   | inl is ↦ rw (eq-eqb node k (sym is)) (same is)
   | inr apart ↦ rw (ne_eqb node k (λ is. apart (sym is)), other apart) (or-false (nat_lt old slot))
@@ -44,26 +42,23 @@ among k node at slot old new same other = elim (cases_eq k node) [
 
 -- a jump that is earlier than the first so far is the first
 pub first_jumps-earlier : (events : List Event) (i : ℕ) (e : Event) (first : List ℕ) (node at : ℕ) → i < length events
-    → get_or events i e ≡ e
-    → ((k slot : ℕ) → is_jump_before k slot e ≡ ((node == k) && nat_lt at slot)) → node < length first
-    → at < get_or first node 0
-    → AreFirstJumps (take i events) first → AreFirstJumps (take (i + 1) events) (set first node at)
+    → get_or events i e ≡ e → ((k slot : ℕ) → is_jump_before k slot e ≡ ((node == k) && nat_lt at slot))
+    → node < length first → at < get_or first node 0 → AreFirstJumps (take i events) first
+    → AreFirstJumps (take (i + 1) events) (set first node at)
 first_jumps-earlier events i e first node at less here is within soon so_far k slot small fits =
     list_any_more (is_jump_before k slot) events i e less
     ∙ (λ j. so_far k slot small fits j || is_jump_before k slot (here j))
     ∙ ap (λ b. nat_lt (get_or first k 0) slot || b) (is k slot)
     ∙ among k node at slot (get_or first k 0) (get_or (set first node at) k 0)
     (λ same. ap (λ n. nat_lt (get_or first n 0) slot || nat_lt at slot) same
-    ∙ earlier at (get_or first node 0) slot soon
-    ∙ ap (λ n. nat_lt n slot)
+    ∙ earlier at (get_or first node 0) slot soon ∙ ap (λ n. nat_lt n slot)
     (sym (ap (λ n. get_or (set first node at) n 0) same ∙ get_or-set_same first node at 0 within)))
     (λ other. get_or-set_other first node k at 0 other)
 
 -- and one that is not leaves it
 pub first_jumps-later : (events : List Event) (i : ℕ) (e : Event) (first : List ℕ) (node at : ℕ) → i < length events
-    → get_or events i e ≡ e
-    → ((k slot : ℕ) → is_jump_before k slot e ≡ ((node == k) && nat_lt at slot)) → get_or first node 0 ≤ at
-    → AreFirstJumps (take i events) first → AreFirstJumps (take (i + 1) events) first
+    → get_or events i e ≡ e → ((k slot : ℕ) → is_jump_before k slot e ≡ ((node == k) && nat_lt at slot))
+    → get_or first node 0 ≤ at → AreFirstJumps (take i events) first → AreFirstJumps (take (i + 1) events) first
 first_jumps-later events i e first node at less here is late so_far k slot small fits =
     list_any_more (is_jump_before k slot) events i e less
     ∙ (λ j. so_far k slot small fits j || is_jump_before k slot (here j))

@@ -63,13 +63,11 @@ joined-none list script start p (suc t) each =
     now (inr none) = lies-nobody p t (joined_in list script start t) none
 
 pub joined-some : (list : Medl) (script : Script) (start : ClusterStart) (p : ℕ → Bool) (slots t : ℕ) → t < slots
-    → p t ≡ true → 0 < length (joined_in list script start t)
-    → lies_in p (joined_before list script start slots) ≡ true
+    → p t ≡ true → 0 < length (joined_in list script start t) → lies_in p (joined_before list script start slots) ≡ true
 joined-some list script start p zero t less here some = absurd (omega arith)
 joined-some list script start p (suc s) t less here some =
     list_any-append (λ (f : FaultyNode). p f.slot) (all_in s (joined_in list script start s))
-    (joined_before list script start s)
-    ∙ elim (cases_eq t s) [
+    (joined_before list script start s) ∙ elim (cases_eq t s) [
       | inl same ↦
           ap (λ b. b || lies_in p (joined_before list script start s))
           (lies-here p s (joined_in list script start s) (ap p (sym same) ∙ here) (some_at same))
@@ -112,8 +110,7 @@ since-none list script start p (suc t) none =
     (faulty_since (slots_before list script start t)) (since-none list script start p t parts.1)
 
 at-none : (list : Medl) (script : Script) (start : ClusterStart) (p : ℕ → Bool) (slot : ℕ)
-    → lies_in p (joined_before list script start slot) ≡ false
-    → lies_in p (faulty_at list script start slot) ≡ false
+    → lies_in p (joined_before list script start slot) ≡ false → lies_in p (faulty_at list script start slot) ≡ false
 at-none list script start p slot none =
     filter-none (λ (f : FaultyNode). p f.slot)
     (λ (f : FaultyNode). not (is_forgiven list script (slots_before list script start slot) slot f.node))
@@ -143,8 +140,7 @@ not-both true never = absurd (never refl)
 not-both false never = refl
 
 pub long-faulty : (list : Medl) (script : Script) (start : ClusterStart) (k slot : ℕ) → slot ≤ script.slots
-    → 0 < four_rounds list
-    → is_apart list script start slot ≡ true
+    → 0 < four_rounds list → is_apart list script start slot ≡ true
     → is_long_faulty list script start k slot ≡ has_node (numbers_of (faulty_at list script start slot)) k
 long-faulty list script start k slot within some apart =
     let good : ℕ → Bool = λ t. nat_le (t + two_rounds list) slot in

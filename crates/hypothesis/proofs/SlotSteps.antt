@@ -20,15 +20,13 @@ use Rattle.ttp_world.proofs.WorldFacts.{has_node-append}
 use Rattle.ttp_world.proofs.ListFacts.{few-left as few_left}
 
 pub same_jumpers : (list : Medl) (script : Script) (s t : List ℕ) (slot : ℕ) → length list.slots ≤ most_nodes
-    → HaveSameNodes s t
-    → jumpers_in list script s slot ≡ jumpers_in list script t slot
+    → HaveSameNodes s t → jumpers_in list script s slot ≡ jumpers_in list script t slot
 same_jumpers list script s t slot few same =
     same_sieve (jumps_now script s slot) (jumps_now script t slot) (length list.slots)
     (λ j less. ap (λ b. is_on script j slot && (not b && has_jump script j slot)) (same j (omega arith)))
 
 same_others : (list : Medl) (script : Script) (s t : List ℕ) (sender slot : ℕ) → length list.slots ≤ most_nodes
-    → HaveSameNodes s t
-    → others_in list script s sender slot ≡ others_in list script t sender slot
+    → HaveSameNodes s t → others_in list script s sender slot ≡ others_in list script t sender slot
 same_others list script s t sender slot few same =
     same_sieve (is_other script s sender slot) (is_other script t sender slot) (length list.slots)
     (λ j less. ap (λ b. is_on script j slot && (not b && not (j == sender))) (same j (omega arith)))
@@ -40,8 +38,7 @@ same_sender_loss list script s t slot sender few small same =
     rw (same sender small, same_others list script s t sender slot few same) refl
 
 same-append : (s t xs ys : List ℕ) → s ≡ t → HaveSameNodes xs ys → HaveSameNodes (s ++ xs) (t ++ ys)
-same-append s t xs ys is same k small =
-    rw (has_node-append s xs k, has_node-append t ys k, is, same k small) refl
+same-append s t xs ys is same k small = rw (has_node-append s xs k, has_node-append t ys k, is, same k small) refl
 
 numbers-of_slot : (slot : ℕ) (ks : List ℕ) (faulty : List FaultyNode)
     → numbers_of (map (λ k. record { slot = slot; node = k }) ks ++ faulty) ≡ ks ++ numbers_of faulty
@@ -59,12 +56,10 @@ numbers-next list script start slot faulty =
 
 -- the faulty nodes once their clocks have jumped
 pub fallen-same : (list : Medl) (script : Script) (s t jumpers fallen : List ℕ) (slot : ℕ)
-    → length list.slots ≤ most_nodes → HaveSameNodes s t
-    → jumpers ≡ jumpers_in list script s slot → HaveSameNodes fallen (jumpers ++ s)
-    → HaveSameNodes fallen (jumpers_in list script t slot ++ t)
+    → length list.slots ≤ most_nodes → HaveSameNodes s t → jumpers ≡ jumpers_in list script s slot
+    → HaveSameNodes fallen (jumpers ++ s) → HaveSameNodes fallen (jumpers_in list script t slot ++ t)
 fallen-same list script s t jumpers fallen slot few same is fell k small =
-    fell k small
-    ∙ same-append jumpers (jumpers_in list script t slot) s t
+    fell k small ∙ same-append jumpers (jumpers_in list script t slot) s t
     (is ∙ same_jumpers list script s t slot few same) same k small
 
 pub same_loss : (list : Medl) (script : Script) (start : ClusterStart) (t fallen : List ℕ) (slot : ℕ)
@@ -77,8 +72,7 @@ same_loss list script start t fallen slot few small same =
     (expected_sender list start slot) few small same) refl
 
 pub faulty-next : (list : Medl) (script : Script) (start : ClusterStart) (slot : ℕ) (faulty : List FaultyNode)
-    (made fallen all : List ℕ)
-    → made ≡ nodes_made (loss_in list script start (numbers_of faulty) slot)
+    (made fallen all : List ℕ) → made ≡ nodes_made (loss_in list script start (numbers_of faulty) slot)
     → HaveSameNodes fallen (jumpers_in list script (numbers_of faulty) slot ++ numbers_of faulty)
     → HaveSameNodes all (made ++ fallen)
     → HaveSameNodes all (numbers_of (faulty_nodes_in list script start slot faulty ++ faulty))
@@ -90,8 +84,7 @@ faulty-next list script start slot faulty made fallen all is fell union k small 
     (sym (append_assoc M J (numbers_of faulty)) ∙ sym (numbers-next list script start slot faulty))
 
 pub count-next : (list : Medl) (script : Script) (start : ClusterStart) (slot : ℕ) (faulty : List FaultyNode)
-    (made jumpers : List ℕ)
-    → made ≡ nodes_made (loss_in list script start (numbers_of faulty) slot)
+    (made jumpers : List ℕ) → made ≡ nodes_made (loss_in list script start (numbers_of faulty) slot)
     → jumpers ≡ jumpers_in list script (numbers_of faulty) slot
     → length made + length jumpers ≡ length (made_in list script start slot faulty)
 count-next list script start slot faulty made jumpers is jump =

@@ -21,8 +21,7 @@ put_in false less in_first in_second is = refl
 
 left_out : (here less in_first in_second : Bool) → (here ≡ true → in_first ≡ false)
     → ((less && in_first) || in_second) ≡ (((here || less) && in_first) || in_second)
-left_out true less in_first in_second out =
-    rw (out refl, and-false less) refl
+left_out true less in_first in_second out = rw (out refl, and-false less) refl
 left_out false less in_first in_second out = refl
 
 pub united-with : (all first second : List ℕ) (n : ℕ) → AreUnited all first second n → has_node first n ≡ true
@@ -36,7 +35,6 @@ united-with all first second n united is k small =
 pub united-without : (all first second : List ℕ) (n : ℕ) → AreUnited all first second n → has_node first n ≡ false
     → AreUnited all first second (n + 1)
 united-without all first second n united is k small =
-    united k small
-    ∙ left_out (k == n) (ltb k n) (has_node first k) (has_node second k)
+    united k small ∙ left_out (k == n) (ltb k n) (has_node first k) (has_node second k)
     (λ same. ap (has_node first) (eqb-true k n same) ∙ is)
     ∙ ap (λ b. (b && has_node first k) || has_node second k) (sym (ltb-next k n))

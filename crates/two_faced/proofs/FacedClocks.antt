@@ -69,9 +69,8 @@ round_same list group z s t q clock same notes is r = record {
 after_slot : (list : Medl) (group : ℕ → Type 0) (z s t m : ℕ) (clock after : ℕ → ℤ) (notes : ℕ → List ℤ)
     → pos 0 ≤ℤ list.drift → pos 0 ≤ℤ list.error → s < t → Round list group z s t (suc m) clock notes
     → (suc m ≡ length list.slots → s + length list.slots < t → (k : ℕ) → group k → 4 ≤ length (notes k))
-    → ((k : ℕ) → group k → after k ≡ clock k +ℤ correction list m (notes k))
-    → (last : Bool) → (suc m == length list.slots) ≡ last
-    → After list group z s t m last after notes
+    → ((k : ℕ) → group k → after k ≡ clock k +ℤ correction list m (notes k)) → (last : Bool)
+    → (suc m == length list.slots) ≡ last → After list group z s t m last after notes
 after_slot list group z s t m clock after notes up some later r enough is true last =
     let ends : suc m ≡ length list.slots = eqb-true (suc m) (length list.slots) last in
     let apart = round_ends list group z s t (suc m) clock notes up some ends r (enough ends) in
@@ -164,10 +163,9 @@ module _ (list : Medl) (script : Script) (start : ClusterStart) (z : ℕ) (plan 
 
     starter_in : Group list plan p
     starter_in =
-        let starter = f.follows.starter in
-        let nodes = f.follows.nodes in
         let good = f.follows.good.starter in
-        (omega (arith, starter, nodes, good.0), ap (has_node plan.begin) (sym starter) ∙ good.1)
+        let starter = f.follows.starter in
+        (omega (arith, starter, f.follows.nodes, good.0), ap (has_node plan.begin) (sym starter) ∙ good.1)
 
     frame_began : began p ≡ x
     frame_began =
@@ -187,12 +185,10 @@ module _ (list : Medl) (script : Script) (start : ClusterStart) (z : ℕ) (plan 
     )
     note_first false k a = tt
 
-    notes_first : (k : ℕ) → Group list plan k
-        → round_notes list (row ∷ history) k ≡ cond sync (pos 0 ∷ []) []
+    notes_first : (k : ℕ) → Group list plan k → round_notes list (row ∷ history) k ≡ cond sync (pos 0 ∷ []) []
     notes_first k a =
         notes_anew list k (diary_of history k) (entry_of row k) (start_place p) (begun k a).place
-        (begun_round_first (start_place p) (entry_of row k) (begun k a).begins)
-        ∙ (begun k a).notes
+        (begun_round_first (start_place p) (entry_of row k) (begun k a).begins) ∙ (begun k a).notes
 
     round_first : Round list (Group list plan) z start.slot (suc (length history)) (suc p) clock
         (round_notes list (row ∷ history))
@@ -207,8 +203,7 @@ module _ (list : Medl) (script : Script) (start : ClusterStart) (z : ℕ) (plan 
       noted = λ k a. rw (notes_first k a) (note_first sync k a);
     }
 
-    clock_first : (k : ℕ) → Group list plan k
-        → clock_after list script (row ∷ history) k
+    clock_first : (k : ℕ) → Group list plan k → clock_after list script (row ∷ history) k
         ≡ clock k +ℤ correction list p (round_notes list (row ∷ history) k)
     clock_first k a =
         offset_corrected list k (diary_of history k) (surroundings_of script history k) (entry_of row k)
@@ -219,10 +214,9 @@ module _ (list : Medl) (script : Script) (start : ClusterStart) (z : ℕ) (plan 
         (clock_after list script (row ∷ history)) (round_notes list (row ∷ history))
     after_start =
         let number = started.number in
-        let many = f.valid.count.0 in
         after_slot list (Group list plan) z start.slot (suc (length history)) p clock
         (clock_after list script (row ∷ history)) (round_notes list (row ∷ history)) up some (omega (arith, number))
-        round_first (λ ends late. absurd (omega (arith, late, number, many))) clock_first
+        round_first (λ ends late. absurd (omega (arith, late, number, f.valid.count.0))) clock_first
         (suc p == length list.slots) refl
 
   -- A later slot.
@@ -238,8 +232,7 @@ module _ (list : Medl) (script : Script) (start : ClusterStart) (z : ℕ) (plan 
       → After list (Group list plan) z start.slot (length history) (sender plan turn)
       (suc (sender plan turn) == length list.slots) (clock_after list script history) (round_notes list history)
       → Begins turn history
-  begins-of turn history after =
-      rw (index-of list script start plan turn f.follows) after
+  begins-of turn history after = rw (index-of list script start plan turn f.follows) after
 
   module _ (turn : ℕ) (row : List Entry) (history : History) (before : NotedByPlan list script start plan turn history)
       (noted : NotedInSlot list script plan (suc turn) row history) (within : start.slot + suc turn < script.slots)
@@ -271,10 +264,9 @@ module _ (list : Medl) (script : Script) (start : ClusterStart) (z : ℕ) (plan 
         round_goes list (Group list plan) z start.slot (length history) q (clock_after list script history)
         (clock_moved list script history)
         (λ k. cond (suc (sender plan turn) == length list.slots) [] (round_notes list history k))
-        (λ k. notes_in list (planned_place list plan (suc turn)) (entry_of row k))
-        (round_notes list (row ∷ history)) up begins
-        (have_drifted list script start z plan f turn history number within)
-        (slot_notes list script start z plan f turn history number within start.slot (length history)
+        (λ k. notes_in list (planned_place list plan (suc turn)) (entry_of row k)) (round_notes list (row ∷ history)) up
+        begins (have_drifted list script start z plan f turn history number within) (slot_notes list script start z plan
+        f turn history number within start.slot (length history)
         (λ k. cond (suc (sender plan turn) == length list.slots) [] (round_notes list history k)) begins row noted)
         (λ k a. notes-next list row history k (sender plan turn) (planned_place list plan (suc turn))
         (suc (sender plan turn) == length list.slots) (goes k a) (place k a)
@@ -283,21 +275,18 @@ module _ (list : Medl) (script : Script) (start : ClusterStart) (z : ℕ) (plan 
     enough : suc q ≡ length list.slots → start.slot + length list.slots < suc (length history)
         → (k : ℕ) → Group list plan k → 4 ≤ length (round_notes list (row ∷ history) k)
     enough ends late k a =
-        let nodes = f.follows.nodes in
-        let slots = f.follows.slots in
         let from = suc (suc turn) - plan.nodes in
-        let round : from + plan.nodes ≡ suc (suc turn) = omega (arith, late, number, nodes) in
-        let whole : plan.nodes ≡ suc q = nodes ∙ sym ends in
+        let round : from + plan.nodes ≡ suc (suc turn) = omega (arith, late, number, f.follows.nodes) in
+        let whole : plan.nodes ≡ suc q = f.follows.nodes ∙ sym ends in
         let many : 4 ≤ tally (is_measured plan) from plan.nodes =
-        four-measured plan (suc turn) from f.follows.good (omega (arith, within, slots)) round in
+        four-measured plan (suc turn) from f.follows.good (omega (arith, within, f.follows.slots)) round in
         let count : length (round_notes list (row ∷ history) k) ≡ tally (is_measured plan) from (suc q) =
         counted.notes k from (to_sound list script start z plan f (suc turn) k a)
-        (omega (arith, round, late, number, nodes)) (omega (arith, round, whole))
+        (omega (arith, round, late, number, f.follows.nodes)) (omega (arith, round, whole))
         (λ turn after to. none-enters plan turn k (stay list script start z plan f)) in
         subst (λ n. 4 ≤ n) (ap (tally (is_measured plan) from) whole ∙ sym count) many
 
-    clock_is : (k : ℕ) → Group list plan k
-        → clock_after list script (row ∷ history) k
+    clock_is : (k : ℕ) → Group list plan k → clock_after list script (row ∷ history) k
         ≡ clock_moved list script history k +ℤ correction list q (round_notes list (row ∷ history) k)
     clock_is k a =
         clock-next list script row history k (planned_place list plan (suc turn)) (goes k a) (place k a)
@@ -305,18 +294,16 @@ module _ (list : Medl) (script : Script) (start : ClusterStart) (z : ℕ) (plan 
 
     begins-next : Begins (suc turn) (row ∷ history)
     begins-next =
-        begins-of (suc turn) (row ∷ history)
-        (after_slot list (Group list plan) z start.slot (suc (length history)) q (clock_moved list script history)
-        (clock_after list script (row ∷ history)) (round_notes list (row ∷ history)) up some (omega (arith, number))
-        uncorrected enough clock_is (suc q == length list.slots) refl)
+        begins-of (suc turn) (row ∷ history) (after_slot list (Group list plan) z start.slot (suc (length history)) q
+        (clock_moved list script history) (clock_after list script (row ∷ history)) (round_notes list (row ∷ history))
+        up some (omega (arith, number)) uncorrected enough clock_is (suc q == length list.slots) refl)
 
   -- The run.
 
   begins-first : (row : List Entry) (history : History) → StartedByPlan list script start plan row history
       → start.slot < script.slots → Begins 0 (row ∷ history)
   begins-first row history started within =
-      let first : p ≡ sender plan 0 =
-      sym f.follows.starter ∙ sym (first-sender plan f.follows.good) in
+      let first : p ≡ sender plan 0 = sym f.follows.starter ∙ sym (first-sender plan f.follows.good) in
       begins-of 0 (row ∷ history)
       (subst (λ m. After list (Group list plan) z start.slot (suc (length history)) m (suc m == length list.slots)
       (clock_after list script (row ∷ history)) (round_notes list (row ∷ history))) first
@@ -345,8 +332,7 @@ module _ (list : Medl) (script : Script) (start : ClusterStart) (z : ℕ) (plan 
       (turn-inside (suc turn)) (begins-run turn history noted within)
 
   pub faced-clocks : (turn : ℕ) (history : History) → NotedByPlan list script start plan turn history
-      → length history ≤ script.slots
-      → (j k : ℕ) → IsSoundIn list plan turn j → IsSoundIn list plan turn k
+      → length history ≤ script.slots → (j k : ℕ) → IsSoundIn list plan turn j → IsSoundIn list plan turn k
       → ((node_past list script history j).offset -ℤ (node_past list script history k).offset) ≤ℤ bound list
   faced-clocks turn history noted within j k a b =
       let near = near-run turn history noted within j k (of_sound list script start z plan f turn j a)
@@ -354,9 +340,8 @@ module _ (list : Medl) (script : Script) (start : ClusterStart) (z : ℕ) (plan 
       omega (arith, ints, near, in_round_bound list up)
 
   pub faced-window : (turn : ℕ) (history : History) → NotedByPlan list script start plan turn history
-      → start.slot + suc turn < script.slots
-      → (r s : ℕ) → IsSoundIn list plan (suc turn) r → IsSoundIn list plan (suc turn) s
-      → is_within_window list (measured list script history r s) ≡ true
+      → start.slot + suc turn < script.slots → (r s : ℕ) → IsSoundIn list plan (suc turn) r
+      → IsSoundIn list plan (suc turn) s → is_within_window list (measured list script history r s) ≡ true
   faced-window turn history noted within r s a b =
       let count = number-of list script start plan turn history noted in
       let number : length history ≡ start.slot + suc turn = omega (arith, count) in

@@ -74,11 +74,9 @@ round_goes list group z s t q clock later notes added all up r drifted slot is =
       moved = λ k p. omega (arith, ints, r.moved k p, drifted k p, more);
       senders = slot.new ++ r.senders;
       turns = slot.turn r.senders r.turns;
-      noted = λ k p. rw (is k p)
-          (Locate-append z (width list (suc q)) r.began (later k) (added k) (notes k) slot.new r.senders
-          (slot.noted k p)
-          (Locate-moved z (width list q) (width list (suc q)) list.drift r.began (clock k) (later k) (notes k) r.senders
-          (drifted k p) (omega (arith, ints, more)) (r.noted k p)));
+      noted = λ k p. rw (is k p) (Locate-append z (width list (suc q)) r.began (later k) (added k) (notes k) slot.new
+          r.senders (slot.noted k p) (Locate-moved z (width list q) (width list (suc q)) list.drift r.began (clock k)
+          (later k) (notes k) r.senders (drifted k p) (omega (arith, ints, more)) (r.noted k p)));
     }
 
 -- The end of a round.

@@ -72,13 +72,11 @@ module _ (list : Medl) (script : Script) (start : ClusterStart) (z : ℕ) (plan 
   errors k slot node within =
       wider_upto (allowed_error list z (Some start) slot) (list.window -ℤ bound list) (reading_error script k slot)
       (allowed_within (is_faced_slot list z (Some start) slot) list.error (list.window -ℤ bound list)
-      (omega (arith, ints, f.clocks.window)))
-      (upto_of_test (allowed_error list z (Some start) slot) (reading_error script k slot)
-      (f.clocks.errors k slot node within))
+      (omega (arith, ints, f.clocks.window))) (upto_of_test (allowed_error list z (Some start) slot)
+      (reading_error script k slot) (f.clocks.errors k slot node within))
 
   -- in another node's slot, and before two rounds are over, they keep the list's bound
-  error_of : (k slot : ℕ) → k < length list.slots → slot < script.slots
-      → is_faced_slot list z (Some start) slot ≡ false
+  error_of : (k slot : ℕ) → k < length list.slots → slot < script.slots → is_faced_slot list z (Some start) slot ≡ false
       → IsUpTo list.error (reading_error script k slot)
   error_of k slot node within usual =
       rw usual at (upto_of_test (allowed_error list z (Some start) slot) (reading_error script k slot)
@@ -87,8 +85,7 @@ module _ (list : Medl) (script : Script) (start : ClusterStart) (z : ℕ) (plan 
   pub errors_first : (k : ℕ) → k < length list.slots → start.slot < script.slots
       → IsUpTo list.error (reading_error script k start.slot)
   errors_first k node within =
-      let many = f.valid.count.0 in
-      error_of k start.slot node within (early (length list.slots) (omega (arith, many)))
+      error_of k start.slot node within (early (length list.slots) (omega (arith, f.valid.count.0)))
     where
       early : (n : ℕ) → 0 < n
           → (nat_le (start.slot + 2 * n) start.slot && (expected_sender list start start.slot == z)) ≡ false
@@ -103,8 +100,7 @@ module _ (list : Medl) (script : Script) (start : ClusterStart) (z : ℕ) (plan 
       ∙ (λ i. (sym f.follows.starter i + turn) % sym f.follows.nodes i)
 
   pub errors_beside : (k turn slot : ℕ) → k < length list.slots → slot < script.slots → slot ≡ start.slot + turn
-      → sender plan turn ≢ z
-      → IsUpTo list.error (reading_error script k slot)
+      → sender plan turn ≢ z → IsUpTo list.error (reading_error script k slot)
   errors_beside k turn slot node within is other =
       error_of k slot node within
       (ap (λ p. nat_le (start.slot + 2 * length list.slots) slot && (p == z)) (sender_same slot turn is)
@@ -119,8 +115,7 @@ one_located z p w c d began true near = (near, tt)
 one_located z p w c d began false near = tt
 
 told_located : (list : Medl) (script : Script) (history : History) (z p k : ℕ) (place : Place) (w c : ℤ)
-    (began : ℕ → ℤ) (e : Entry)
-    → TellsOf list script history p k e
+    (began : ℕ → ℤ) (e : Entry) → TellsOf list script history p k e
     → (k ≡ p → p ≢ z → IsUpTo w ((c +ℤ pos 0) -ℤ began p))
     → ((d : ℤ) → d ≡ measured list script history k p → p ≢ z → IsUpTo w ((c +ℤ d) -ℤ began p))
     → Locate z w began c (notes_in list place e) (cond (plan_at list place.slot).sync (p ∷ []) [])

@@ -96,8 +96,7 @@ module _ (list : Medl) (script : Script) (z slot : ℕ) (valid : IsValid list) (
   }
 
   run-at : (numbers : Numbers) (turn : ℕ) → IsLegal list script numbers → length numbers ≡ suc (start.slot + turn)
-      → length numbers ≤ script.slots
-      → IsByPlan list script start plan turn (world list script numbers)
+      → length numbers ≤ script.slots → IsByPlan list script start plan turn (world list script numbers)
   run-at numbers turn legal number within =
       run-by_plan list script start plan (begun list script z slot valid rules script_valid) keeps turn numbers number
       (omega (arith, number, within)) legal
@@ -107,13 +106,11 @@ module _ (list : Medl) (script : Script) (z slot : ℕ) (valid : IsValid list) (
   -- a node that sent was sound
   sent-sound : (turn p : ℕ) (row : List Entry) (history : History) → p < length list.slots
       → IsByFate list plan turn p (node_past list script (row ∷ history) p) (fate_of plan turn p)
-      → is_sending (entry_of row p) ≡ true
-      → is_sound_after plan turn p ≡ true
+      → is_sending (entry_of row p) ≡ true → is_sound_after plan turn p ≡ true
   sent-sound turn p row history node at sent = by (fate_of plan turn p) refl at
     where
       by : (fate : Fate) → fate_of plan turn p ≡ fate
-          → IsByFate list plan turn p (node_past list script (row ∷ history) p) fate
-          → is_sound_after plan turn p ≡ true
+          → IsByFate list plan turn p (node_past list script (row ∷ history) p) fate → is_sound_after plan turn p ≡ true
       by Sound is at = ap is_sound is
       by Absent is off = absurd (both_ways (is_sending (entry_of row p)) (off-silent (entry_of row p) off) sent)
       by (Falling change since) is at = absurd (never-lost turn p _ is refl)
@@ -122,8 +119,7 @@ module _ (list : Medl) (script : Script) (z slot : ℕ) (valid : IsValid list) (
 
   judged-slot : (turn : ℕ) (row : List Entry) (history : History) → length history ≡ start.slot + suc turn
       → IsByPlan list script start plan (suc turn) (row ∷ history) → AreJudgedCorrect list script row history
-  judged-slot turn row history number by_plan p r sends hears other on sent =
-      by (is_good_slot plan (suc turn)) refl
+  judged-slot turn row history number by_plan p r sends hears other on sent = by (is_good_slot plan (suc turn)) refl
     where
       noted : NotedInSlot list script plan (suc turn) row history
       noted = by_plan.noted.1
@@ -137,12 +133,10 @@ module _ (list : Medl) (script : Script) (z slot : ℕ) (valid : IsValid list) (
 
       by : (good : Bool) → is_good_slot plan (suc turn) ≡ good → TellsOf list script history p r (entry_of row r)
       by true good = elim (cases_eq p (sender plan (suc turn))) [
-        | inl own ↦
-            rw own (noted.good r good (hears, receiver_sound) refl)
+        | inl own ↦ rw own (noted.good r good (hears, receiver_sound) refl)
         | inr apart ↦
-            absurd (both_ways (is_sending (entry_of row p))
-            (hearing-entry list script history (sender plan (suc turn)) p (entry_of row p) apart
-            (noted.good p good (sends, sender_sound) refl)) sent)
+            absurd (both_ways (is_sending (entry_of row p)) (hearing-entry list script history (sender plan (suc turn))
+            p (entry_of row p) apart (noted.good p good (sends, sender_sound) refl)) sent)
       ]
       by false wrong =
           absurd (both_ways (is_sending (entry_of row p))
@@ -153,10 +147,10 @@ module _ (list : Medl) (script : Script) (z slot : ℕ) (valid : IsValid list) (
   runs-judged [] legal within = tt
   runs-judged (new ∷ numbers) legal within = (
     λ later.
-        let from = rules.from in
         let long = length-world list script numbers in
         let turn = length numbers - suc slot in
-        let number : length (world list script numbers) ≡ start.slot + suc turn = omega (arith, later, from, long) in
+        let number : length (world list script numbers) ≡ start.slot + suc turn =
+        omega (arith, later, rules.from, long) in
         judged-slot turn _ (world list script numbers) number
         (run-at (new ∷ numbers) (suc turn) legal (omega (arith, number, long)) within),
     runs-judged numbers (legal-older list script new numbers legal) (omega (arith, within)),
@@ -186,13 +180,11 @@ module _ (list : Medl) (script : Script) (z slot : ℕ) (valid : IsValid list) (
 
     sound-node : (k : ℕ) → k < length list.slots → is_on script k (newest_slot history) ≡ true
         → is_sound_after plan turn k ≡ true
-    sound-node k node on =
-        on-sound list script z slot valid rules turn k node (ap (is_on script k) (sym newest) ∙ on)
+    sound-node k node on = on-sound list script z slot valid rules turn k node (ap (is_on script k) (sym newest) ∙ on)
 
     at-sound : (k : ℕ) → k < length list.slots → is_on script k (newest_slot history) ≡ true
         → IsSoundAt list plan turn k (node_past list script history k)
-    at-sound k node on =
-        rw (sound-only (fate_of plan turn k) (sound-node k node on)) at (run.holds.nodes k node)
+    at-sound k node on = rw (sound-only (fate_of plan turn k) (sound-node k node on)) at (run.holds.nodes k node)
 
     pub runs-active : (k : ℕ) → k < length list.slots → is_on script k (newest_slot history) ≡ true
         → (node_past list script history k).phase ≡ phase.Active
@@ -202,8 +194,7 @@ module _ (list : Medl) (script : Script) (z slot : ℕ) (valid : IsValid list) (
         → members_of_node list history k ≡ planned_members plan turn
     planned k node on =
         let at = at-sound k node on in
-        at.group.members
-        ∙ undoubted (planned_members plan turn) (node_past list script history k).ack
+        at.group.members ∙ undoubted (planned_members plan turn) (node_past list script history k).ack
         (λ y doubt. let lost = at.doubted y doubt in never-lost turn y _ lost.1 refl)
 
     pub runs-members : (j k : ℕ) → j < length list.slots → k < length list.slots

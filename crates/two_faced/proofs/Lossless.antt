@@ -26,13 +26,11 @@ turned-begin false begins slot = refl
 
 -- one slot changes no fate
 fate-same : (plan : Plan) (slot k : ℕ) (fate : Fate) → plan.incidents ≡ [] → plan.returns ≡ []
-    → fate ≡ fate_at_begin plan k
-    → next_fate plan slot k fate ≡ fate_at_begin plan k
+    → fate ≡ fate_at_begin plan k → next_fate plan slot k fate ≡ fate_at_begin plan k
 fate-same plan slot k fate none stay is =
     next-same plan slot k fate (none-armed plan slot k stay) (none-enters plan slot k stay)
     ∙ ap (λ found. turned (sender plan slot == k) slot (struck slot k fate found)) (none-at plan slot none)
-    ∙ ap (turned (sender plan slot == k) slot) is
-    ∙ turned-begin (sender plan slot == k) (has_node plan.begin k) slot
+    ∙ ap (turned (sender plan slot == k) slot) is ∙ turned-begin (sender plan slot == k) (has_node plan.begin k) slot
 
 pub fate-always : (plan : Plan) (slot k : ℕ) → plan.incidents ≡ [] → plan.returns ≡ []
     → fate_of plan slot k ≡ fate_at_begin plan k
@@ -62,7 +60,6 @@ none-returns plan good none = by plan.returns refl
     by : (returns : List Return) → plan.returns ≡ returns → plan.returns ≡ []
     by [] is = is
     by (r ∷ returns) is =
-        let among : Contains plan.returns r =
-        subst (λ rs. Contains rs r) (sym is) (0, omega arith, refl) in
+        let among : Contains plan.returns r = subst (λ rs. Contains rs r) (sym is) (0, omega arith, refl) in
         let was = (good.returns r among).was in
         absurd (never-lost plan was.0 r.node (fate_of plan was.0 r.node) none (fate-told plan was.0 r.node good) was.1.1)

@@ -15,8 +15,7 @@ use Rattle.precision.proofs.Rounds.{AreWithin}
 -- each note but of z's frames tells where its sender's clock was when the round began, within w
 abbrev pub Locate : ℕ → ℤ → (ℕ → ℤ) → ℤ → List ℤ → List ℕ → Type 0
 Locate z w began clock [] [] = Unit {0}
-Locate z w began clock (d ∷ ds) (p ∷ ps) =
-    (p ≢ z → IsUpTo w ((clock +ℤ d) -ℤ began p)) × Locate z w began clock ds ps
+Locate z w began clock (d ∷ ds) (p ∷ ps) = (p ≢ z → IsUpTo w ((clock +ℤ d) -ℤ began p)) × Locate z w began clock ds ps
 Locate z w began clock ds ps = ⊥
 
 -- senders of a round, the newest first: each is in the group, and they fall from below a number
@@ -50,8 +49,7 @@ Pulled s w x y = ((x -ℤ y) *ℤ pos 2) ≤ℤ (s +ℤ (w *ℤ pos 6 +ℤ pos 2
 
 pulled_of : (odd : ℕ) (s w b c : ℤ) (ds es : List ℤ) → odd < 4 → length ds ≡ 4 → length es ≡ 4
     → are_near (c -ℤ b) (w +ℤ w) (without odd ds) (without odd es) ≡ true
-    → are_within (s +ℤ (w +ℤ w)) (without odd ds) ≡ true
-    → Pulled s w (b +ℤ fta ds) (c +ℤ fta es)
+    → are_within (s +ℤ (w +ℤ w)) (without odd ds) ≡ true → Pulled s w (b +ℤ fta ds) (c +ℤ fta es)
 pulled_of odd s w b c ds es inside four many alike narrow =
     let near = pull odd (c -ℤ b) (w +ℤ w) (s +ℤ (w +ℤ w)) ds es inside four many alike narrow in
     let apart = within_bound (pulled (w +ℤ w) (s +ℤ (w +ℤ w))) (((fta ds -ℤ fta es) -ℤ (c -ℤ b)) *ℤ pos 2) near in
@@ -74,16 +72,14 @@ module _ (group : ℕ → Type 0) (s w b c : ℤ) (began : ℕ → ℤ) (near : 
       test_of (s +ℤ (w +ℤ w)) (d -ℤ f) (omega (arith, ints, near p q n.member m.member, near q p m.member n.member))
 
   -- where all but the odd one of four notes are such three
-  pulled_of_three : (odd : ℕ) (ds es : List ℤ) {d1 d2 d3 e1 e2 e3 : ℤ} {p1 p2 p3 : ℕ}
-      → odd < 4 → length ds ≡ 4 → length es ≡ 4
-      → without odd ds ≡ d1 ∷ d2 ∷ d3 ∷ [] → without odd es ≡ e1 ∷ e2 ∷ e3 ∷ []
+  pulled_of_three : (odd : ℕ) (ds es : List ℤ) {d1 d2 d3 e1 e2 e3 : ℤ} {p1 p2 p3 : ℕ} → odd < 4 → length ds ≡ 4
+      → length es ≡ 4 → without odd ds ≡ d1 ∷ d2 ∷ d3 ∷ [] → without odd es ≡ e1 ∷ e2 ∷ e3 ∷ []
       → TwoNotes group w b c began d1 e1 p1 → TwoNotes group w b c began d2 e2 p2 → TwoNotes group w b c began d3 e3 p3
       → Pulled s w (b +ℤ fta ds) (c +ℤ fta es)
   pulled_of_three odd ds es {d1} {d2} {d3} {e1} {e2} {e3} {p1} {p2} {p3} inside four many is was n1 n2 n3 =
       pulled_of odd s w b c ds es inside four many (rw (is, was) (and_from _ _ (alike_of d1 e1 p1 n1)
-      (and_from _ _ (alike_of d2 e2 p2 n2) (and_from _ _ (alike_of d3 e3 p3 n3) refl))))
-      (rw is (and_from _ _ (and_from _ _ (narrow_of d1 e1 d2 e2 p1 p2 n1 n2)
-      (and_from _ _ (narrow_of d1 e1 d3 e3 p1 p3 n1 n3) refl))
+      (and_from _ _ (alike_of d2 e2 p2 n2) (and_from _ _ (alike_of d3 e3 p3 n3) refl)))) (rw is (and_from _ _
+      (and_from _ _ (narrow_of d1 e1 d2 e2 p1 p2 n1 n2) (and_from _ _ (narrow_of d1 e1 d3 e3 p1 p3 n1 n3) refl))
       (and_from _ _ (and_from _ _ (narrow_of d2 e2 d3 e3 p2 p3 n2 n3) refl) refl)))
 
   -- the four newest notes of two clocks
@@ -126,28 +122,24 @@ module _ (group : ℕ → Type 0) (s w b c : ℤ) (began : ℕ → ℤ) (near : 
 -- two clocks that noted four or more frames of a round, each corrected by its average
 pub averages_pull : (group : ℕ → Type 0) (z n : ℕ) (s w b c : ℤ) (began : ℕ → ℤ) (ds es : List ℤ) (ps : List ℕ)
     → AreWithin group began s → AreTurns group n ps → Locate z w began b ds ps → Locate z w began c es ps
-    → 4 ≤ length ds
-    → Pulled s w (b +ℤ fta ds) (c +ℤ fta es)
+    → 4 ≤ length ds → Pulled s w (b +ℤ fta ds) (c +ℤ fta es)
 averages_pull group z n s w b c began (d1 ∷ d2 ∷ d3 ∷ d4 ∷ ds) (e1 ∷ e2 ∷ e3 ∷ e4 ∷ es) (p1 ∷ p2 ∷ p3 ∷ p4 ∷ ps)
-    near turns one two many =
-    rw (fta-newest d1 d2 d3 d4 ds, fta-newest e1 e2 e3 e4 es)
+    near turns one two many = rw (fta-newest d1 d2 d3 d4 ds, fta-newest e1 e2 e3 e4 es)
     (four_pulled group s w b c began near z n d1 d2 d3 d4 e1 e2 e3 e4 p1 p2 p3 p4 ds es ps turns one two)
 averages_pull group z n s w b c began ds es ps near turns one two many =
     absurd (omega (arith, many, length-noted z w began b ds ps one, length-noted z w began c es ps two))
 
 -- Notes as time goes on.
 
-pub Locate-append : (z : ℕ) (w : ℤ) (began : ℕ → ℤ) (c : ℤ) (ds es : List ℤ) (ps qs : List ℕ)
-    → Locate z w began c ds ps → Locate z w began c es qs
-    → Locate z w began c (ds ++ es) (ps ++ qs)
+pub Locate-append : (z : ℕ) (w : ℤ) (began : ℕ → ℤ) (c : ℤ) (ds es : List ℤ) (ps qs : List ℕ) → Locate z w began c ds ps
+    → Locate z w began c es qs → Locate z w began c (ds ++ es) (ps ++ qs)
 Locate-append z w began c [] es [] qs h g = g
 Locate-append z w began c (d ∷ ds) es (p ∷ ps) qs h g = (h.0, Locate-append z w began c ds es ps qs h.1 g)
 Locate-append z w began c ds es ps qs h g = absurd h
 
 -- the clock has moved by no more than q
-pub Locate-moved : (z : ℕ) (w v q : ℤ) (began : ℕ → ℤ) (b c : ℤ) (ds : List ℤ) (ps : List ℕ)
-    → IsUpTo q (c -ℤ b) → v ≡ w +ℤ q → Locate z w began b ds ps
-    → Locate z v began c ds ps
+pub Locate-moved : (z : ℕ) (w v q : ℤ) (began : ℕ → ℤ) (b c : ℤ) (ds : List ℤ) (ps : List ℕ) → IsUpTo q (c -ℤ b)
+    → v ≡ w +ℤ q → Locate z w began b ds ps → Locate z v began c ds ps
 Locate-moved z w v q began b c [] [] moved is h = tt
 Locate-moved z w v q began b c (d ∷ ds) (p ∷ ps) moved is h =
     (λ other. omega (arith, ints, h.0 other, moved, is), Locate-moved z w v q began b c ds ps moved is h.1)

@@ -66,8 +66,7 @@ module _ (list : Medl) (script : Script) (z slot : ℕ) (valid : IsValid list) (
         same_sieve (is_steady list script []) (is_steady_after plan turn) (length list.slots) (λ k less.
         let measured = sym (has_node-sieve (λ k. (plan_at list k).sync) (length list.slots) k less) in
         let begins = sym (has_node-sieve (is_ever_on script) (length list.slots) k less) ∙ sym (sound turn k) in
-        λ i. measured i
-        && (sym (and-true (is_ever_on script k)) ∙ begins ∙ and-true (is_sound_after plan turn k)) i)
+        λ i. measured i && (sym (and-true (is_ever_on script k)) ∙ begins ∙ and-true (is_sound_after plan turn k)) i)
 
     good : IsGoodPlan plan
     good = record {
@@ -82,8 +81,7 @@ module _ (list : Medl) (script : Script) (z slot : ℕ) (valid : IsValid list) (
       apart = λ slot later first second found next less. absurd (none-some first found);
       losses = λ turn incident found. absurd (none-some incident found);
       returns = λ r among. absurd (none-among plan r refl among);
-      steady = λ turn less.
-          subst (λ ks. 4 ≤ length ks) (steady-same turn) (leb-true 4 _ rules.steady);
+      steady = λ turn less. subst (λ ks. 4 ≤ length ks) (steady-same turn) (leb-true 4 _ rules.steady);
     }
 
     hearing : (turn : ℕ) → IsHeardByPlan script start plan turn
@@ -126,8 +124,7 @@ module _ (list : Medl) (script : Script) (z slot : ℕ) (valid : IsValid list) (
         valid = valid;
         script_valid = script_valid;
         follows = follows;
-        arms = λ k turn node lost.
-            absurd (both_ways (is_lost (fate_of plan turn k))
+        arms = λ k turn node lost. absurd (both_ways (is_lost (fate_of plan turn k))
             (ap is_lost (fate-always plan turn k refl refl) ∙ never-lost (has_node plan.begin k)) lost);
       };
       alone = alone;
@@ -137,9 +134,8 @@ module _ (list : Medl) (script : Script) (z slot : ℕ) (valid : IsValid list) (
     parts : (drifts_hold list script ≡ true)
         × (find (λ slot. not (errors_allowed_in list script z (Some start) slot)) (below script.slots) ≡ None)
     parts =
-        both-hold (drifts_hold list script) _
-        (subst (λ found. clocks_broken list script z found ≡ None) (sole-start list script start rules.started)
-        rules.clocks)
+        both-hold (drifts_hold list script) _ (subst (λ found. clocks_broken list script z found ≡ None)
+        (sole-start list script start rules.started) rules.clocks)
 
     pub clocks : HasFacedClocks list script start z
     clocks = record {

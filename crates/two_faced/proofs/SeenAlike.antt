@@ -59,8 +59,7 @@ zeros-legal list script numbers valid legal = record {
 }
 
 pub seen_of-zeros : (list : Medl) (script : Script) (z start : ℕ) (numbers : Numbers) → IsValidScript list script
-    → IsLegalRun list script numbers
-    → seen_in list script z start (zeros_world list script script.slots)
+    → IsLegalRun list script numbers → seen_in list script z start (zeros_world list script script.slots)
     ≡ seen_in list script z start (world list script numbers)
 seen_of-zeros list script z start numbers valid legal =
     seen_in-alike list script z start (zeros_world list script script.slots) (world list script numbers)

@@ -33,9 +33,8 @@ module _ (list : Medl) (script : Script) (z slot : ℕ) (valid : IsValid list) (
   up = bound_up list.drift list.error (length list.slots) valid.drift.0 valid.error.0
 
   -- after a slot from the start on
-  apart-within : (newest : ℕ) (history : History)
-      → ((j k : ℕ) → j < length list.slots → k < length list.slots → is_on script j newest ≡ true
-      → is_on script k newest ≡ true
+  apart-within : (newest : ℕ) (history : History) → ((j k : ℕ) → j < length list.slots → k < length list.slots
+      → is_on script j newest ≡ true → is_on script k newest ≡ true
       → ((node_past list script history j).offset -ℤ (node_past list script history k).offset) ≤ℤ bound list)
       → apart_after list script z newest history ≤ℤ bound list
   apart-within newest history near =
@@ -69,5 +68,4 @@ module _ (list : Medl) (script : Script) (z slot : ℕ) (valid : IsValid list) (
 
   pub runs-seen : (numbers : Numbers) → IsLegal list script numbers → length numbers ≤ script.slots
       → (seen_of list script numbers z).value ≤ℤ bound list
-  runs-seen numbers legal within =
-      rw (rules.started, rules.from) (seen-within numbers legal within)
+  runs-seen numbers legal within = rw (rules.started, rules.from) (seen-within numbers legal within)

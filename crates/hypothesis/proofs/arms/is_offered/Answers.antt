@@ -20,11 +20,9 @@ loop-at-init c = λ t less from. absurd (omega arith)
 
 pub loop-at-preserved : goal.loop-at-preserved
 loop-at-preserved c =
-    let list = c.args.list.now in
-    let script = c.args.script.now in
     let start = told_start c.args.start in
-    let kept = c.slot_at.ensures list script start c.requires.newest in
-    below_more (λ t. c.args.slot ≤ t → offers_place list script start c.args.node t ≡ false)
+    let kept = c.slot_at.ensures c.args.list.now c.args.script.now start c.requires.newest in
+    below_more (λ t. c.args.slot ≤ t → offers_place c.args.list.now c.args.script.now start c.args.node t ≡ false)
     c.loop-at.at c.loop-at.invariant (λ from. sym (c.offers_place.ensures kept.stayed) ∙ search rules)
 
 pub returns-then-offers_place : goal.returns-then-offers_place
@@ -38,9 +36,8 @@ returns-then-offers_place c =
     let offers : offers_place list script start c.args.node at ≡ true =
     sym (c.offers_place.ensures kept.stayed) ∙ search rules in
     sym (ap (λ b. nat_lt script.slots (slot + two_rounds list) || b)
-    (one-passes (offers_place list script start c.args.node) slot
-    (min (slot + two_rounds list) script.slots - slot) at (omega arith) (omega arith) offers)
-    ∙ or-true (nat_lt script.slots (slot + two_rounds list)))
+    (one-passes (offers_place list script start c.args.node) slot (min (slot + two_rounds list) script.slots - slot) at
+    (omega arith) (omega arith) offers) ∙ or-true (nat_lt script.slots (slot + two_rounds list)))
 
 pub returns : goal.returns
 returns c =

@@ -28,10 +28,8 @@ loop-node-init c = (
 
 pub loop-node-preserved : goal.loop-node-preserved
 loop-node-preserved c =
-    let kept = c.loop-node.invariant in
     let within : c.loop-node.node < length c.loop-node.nodes = search rules in (
-      length-set c.loop-node.nodes c.loop-node.node c.incidents_after.result ∙ kept.0,
-      told-more c.loop-node.nodes
-          (λ k. incidents_of c.args.script.now k c.args.slot) c.loop-node.node c.incidents_after.result within kept.1
-          c.incidents_after.ensures.value,
+      length-set c.loop-node.nodes c.loop-node.node c.incidents_after.result ∙ c.loop-node.invariant.0,
+      told-more c.loop-node.nodes (λ k. incidents_of c.args.script.now k c.args.slot) c.loop-node.node
+          c.incidents_after.result within c.loop-node.invariant.1 c.incidents_after.ensures.value,
     )

@@ -49,8 +49,7 @@ loop-k-preserved c =
           let ahead = to_z w64 (of_z w64 w.clock.result) in
           let counts : clock k ≡ Some ahead =
           clock_counts (k == c.args.node) (is_on script k slot) past.offset (ne_eqb k c.args.node w.if-k-node.true)
-          (sym w.is_on.ensures ∙ w.if-is_on.true)
-          ∙ sym (ap Some (to_z-of_z w64 w.clock.result fits)
+          (sym w.is_on.ensures ∙ w.if-is_on.true) ∙ sym (ap Some (to_z-of_z w64 w.clock.result fits)
           ∙ ap Some shows) in (
             (λ i. widest_with (w.span-is i) (filter_map clock rest))
                 ∙ (λ i. widest_with (Some (w.with_clock.ensures.value i)) (filter_map clock rest))

@@ -13,9 +13,8 @@ slot-requires-clause-count c =
 
 pub slot-requires-clause-chosen : goal.slot-requires-clause-chosen
 slot-requires-clause-chosen c =
-    let stands = c.requires.stands in
     may_step c.args.list.now c.args.script.now c.args.slot c.args.self.now.plant c.as_slice.result.now c.requires.list
-    stands.same (c.as_slice.ensures ∙ stands.zeros) stands.plant
+    c.requires.stands.same (c.as_slice.ensures ∙ c.requires.stands.zeros) c.requires.stands.plant
 
 pub returns : goal.returns
 returns c =
