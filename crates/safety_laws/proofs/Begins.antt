@@ -129,6 +129,10 @@ module _ {list : Medl} {script : Script} {start : ClusterStart} {plan : Plan}
 
     -- The slot of the start.
     module _ (new : SlotNumbers) (numbers : Numbers) (now : length numbers ≡ start.slot) where
+      -- what a node is after it
+      abbrev past : ℕ → NodePast
+      past k = node_past list script (world list script (new ∷ numbers)) k
+
       waited : WaitAll list script (world list script numbers)
       waited = wait numbers (omega (arith, now))
 
@@ -146,15 +150,14 @@ module _ {list : Medl} {script : Script} {start : ClusterStart} {plan : Plan}
       sender-first : sender plan 0 ≡ start.node
       sender-first = first-sender plan is.planned.follows.good ∙ starter-same
 
-      pub starter-begun : StandsBy (node_past list script (world list script (new ∷ numbers)) start.node) entry.Started
-          (starter_standing list start.node)
+      pub starter-begun : StandsBy (past start.node) entry.Started (starter_standing list start.node)
       starter-begun =
           starter-stands list script start (world list script numbers)
           (messages_chosen list script (length numbers) new.sent) is.planned.valid is.alone waited number
 
       pub joiner-begun : (k : ℕ) → k < length list.slots → k ≢ start.node → is_on script k start.slot ≡ true →
           let deviation = deviation_in (slot_after list script (world list script numbers)) k start.node in
-          StandsBy (node_past list script (world list script (new ∷ numbers)) k) (joined_on_start start.node deviation)
+          StandsBy (past k) (joined_on_start start.node deviation)
           (joined_standing list (start_place start.node) (start.node ∷ []) deviation)
       joiner-begun k node other on =
           joiner-stands list script start (world list script numbers)
@@ -167,16 +170,13 @@ module _ {list : Medl} {script : Script} {start : ClusterStart} {plan : Plan}
 
       -- a starter counts its own frame, and a node that joins the starter's
       counts : (k : ℕ) → k < length list.slots → is_on script k start.slot ≡ true
-          → IsCounted (ledger_of plan 0 k) (node_past list script (world list script (new ∷ numbers)) k)
-          × (((node_past list script (world list script (new ∷ numbers)) k).ack ≡ ack.First)
-          ⊎ ((node_past list script (world list script (new ∷ numbers)) k).ack ≡ ack.Closed))
+          → IsCounted (ledger_of plan 0 k) (past k) × (((past k).ack ≡ ack.First) ⊎ ((past k).ack ≡ ack.Closed))
       counts k node on = elim (cases_eq k start.node) [
         | inl same ↦
             let stands = starter-begun in
             let own : (sender plan 0 == start.node) ≡ true = eq-eqb (sender plan 0) start.node sender-first in
-            subst (λ j. IsCounted (ledger_of plan 0 j) (node_past list script (world list script (new ∷ numbers)) j)
-            × (((node_past list script (world list script (new ∷ numbers)) j).ack ≡ ack.First)
-            ⊎ ((node_past list script (world list script (new ∷ numbers)) j).ack ≡ ack.Closed))) (sym same) (
+            subst (λ j. IsCounted (ledger_of plan 0 j) (past j) × (((past j).ack ≡ ack.First)
+            ⊎ ((past j).ack ≡ ack.Closed))) (sym same) (
               counted-first (sender plan 0 == start.node) _ stands.accepted stands.rejected (λ opened. own)
                   (λ cold. own) (inl stands.ack),
               inl stands.ack,
@@ -191,7 +191,7 @@ module _ {list : Medl} {script : Script} {start : ClusterStart} {plan : Plan}
       ]
 
       sound-begun : (k : ℕ) → k < length list.slots → is_on script k start.slot ≡ true
-          → IsSoundAt list plan 0 k (node_past list script (world list script (new ∷ numbers)) k)
+          → IsSoundAt list plan 0 k (past k)
       sound-begun k node on =
           let begun = has-begun list script start (world list script numbers)
           (messages_chosen list script (length numbers) new.sent) is.planned.valid is.alone waited number start-heard k
@@ -200,16 +200,13 @@ module _ {list : Medl} {script : Script} {start : ClusterStart} {plan : Plan}
           record {
             phase = begun.phase;
             place = begun.place ∙ ap start_place (sym starter-same);
-            group = subst (λ p. HoldsGroup list k (p ∷ [])
-                (node_past list script (world list script (new ∷ numbers)) k)) (sym starter-same) begun.group;
+            group = subst (λ p. HoldsGroup list k (p ∷ []) (past k)) (sym starter-same) begun.group;
             counted = counted.0;
             doubted = λ y doubt. absurd (no-doubt _ y counted.1 doubt);
-            fresh = λ own. subst (λ j. (node_past list script (world list script (new ∷ numbers)) j).ack ≡ ack.First)
-                (sym sender-first ∙ own) starter-begun.ack;
+            fresh = λ own. subst (λ j. (past j).ack ≡ ack.First) (sym sender-first ∙ own) starter-begun.ack;
           }
 
-      off-begun : (k : ℕ) → k < length list.slots → is_on script k start.slot ≡ false
-          → (node_past list script (world list script (new ∷ numbers)) k).phase ≡ phase.Off
+      off-begun : (k : ℕ) → k < length list.slots → is_on script k start.slot ≡ false → (past k).phase ≡ phase.Off
       off-begun k node off =
           off-stays list script start (world list script numbers)
           (messages_chosen list script (length numbers) new.sent) is.planned.valid is.alone waited number k node
@@ -220,21 +217,17 @@ module _ {list : Medl} {script : Script} {start : ClusterStart} {plan : Plan}
       absent-fate Absent absent = refl
       absent-fate _ absent = absurd (false≢true absent)
 
-      node-begun : (k : ℕ) → k < length list.slots
-          → IsByFate list plan 0 k (node_past list script (world list script (new ∷ numbers)) k) (fate_of plan 0 k)
+      node-begun : (k : ℕ) → k < length list.slots → IsByFate list plan 0 k (past k) (fate_of plan 0 k)
       node-begun k node = by (has_node plan.begin k) refl
         where
-          by : (on : Bool) → has_node plan.begin k ≡ on
-              → IsByFate list plan 0 k (node_past list script (world list script (new ∷ numbers)) k) (fate_of plan 0 k)
+          by : (on : Bool) → has_node plan.begin k ≡ on → IsByFate list plan 0 k (past k) (fate_of plan 0 k)
           by true on =
               let fate = sound-fate (fate_of plan 0 k) (sound-first plan k is.planned.follows.good ∙ on) in
-              subst (λ (f : Fate). IsByFate list plan 0 k
-              (node_past list script (world list script (new ∷ numbers)) k) f) (sym fate)
+              subst (λ (f : Fate). IsByFate list plan 0 k (past k) f) (sym fate)
               (sound-begun k node (sym (on-first k node) ∙ on))
           by false off =
               let fate = absent-fate (fate_of plan 0 k) (absent-always plan 0 k is.planned.follows.good ∙ ap not off) in
-              subst (λ (f : Fate). IsByFate list plan 0 k
-              (node_past list script (world list script (new ∷ numbers)) k) f) (sym fate)
+              subst (λ (f : Fate). IsByFate list plan 0 k (past k) f) (sym fate)
               (off-begun k node (sym (on-first k node) ∙ off))
 
       sent-begun : (k : ℕ) → k < length list.slots → is_sound_after plan 0 k ≡ true
@@ -257,11 +250,8 @@ module _ {list : Medl} {script : Script} {start : ClusterStart} {plan : Plan}
           left_since-next script (world list script numbers) _ k (by (fate_of plan 0 k) there (node-begun k node))
           (λ unarmed. unleft-waiting numbers k (omega (arith, now)) node)
         where
-          past : NodePast
-          past = node_past list script (world list script (new ∷ numbers)) k
-
-          by : (fate : Fate) → is_there fate ≡ true → IsByFate list plan 0 k past fate
-              → is_left_phase past.phase ≡ false
+          by : (fate : Fate) → is_there fate ≡ true → IsByFate list plan 0 k (past k) fate
+              → is_left_phase (past k).phase ≡ false
           by Sound there at = ap (λ (p : Phase). is_left_phase p) at.phase
           by (Listening since) there at = ap (λ (p : Phase). is_left_phase p) at.phase
           by _ there at = cc

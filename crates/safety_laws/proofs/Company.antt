@@ -92,31 +92,18 @@ pub company-in : (list : Medl) (script : Script) (may_grow : Bool) (less group :
     (history : History) → AreIn less group → RanAsCompany list script may_grow group newest history
     → RanAsCompany list script may_grow less newest history
 company-in list script may_grow less group newest [] all ran = absurd ran
-company-in list script may_grow less group newest (row ∷ history) all (calm, inl began) = (
-  λ k p. calm k (member-in list less group k all p),
-  inl (began.0, began-in list script less group row history all began.1),
-)
-company-in list script may_grow less group newest (row ∷ history) all (calm, inr (inl stayed)) = (
-  λ k p. calm k (member-in list less group k all p),
-  inr (inl (
-    stayed.0,
-    (
-      stayed.1.0,
-      stayed-in list script may_grow stayed.0 less group newest row history all stayed.1.1,
-    ),
-  )),
-)
+company-in list script may_grow less group newest (row ∷ history) all (calm, inl began) =
+    let still = λ (k : ℕ) (p : IsIn list less k). calm k (member-in list less group k all p) in
+    (still, inl (began.0, began-in list script less group row history all began.1))
+company-in list script may_grow less group newest (row ∷ history) all (calm, inr (inl stayed)) =
+    let still = λ (k : ℕ) (p : IsIn list less k). calm k (member-in list less group k all p) in
+    let stays = stayed-in list script may_grow stayed.0 less group newest row history all stayed.1.1 in
+    (still, inr (inl (stayed.0, (stayed.1.0, stays))))
 company-in list script may_grow less group newest (row ∷ history) all (calm, inr (inr grew)) =
-    let run = grew.1.1 in (
-      λ k p. calm k (member-in list less group k all p),
-      inr (inr (
-        grew.0,
-        (
-          grew.1.0,
-          (run.0, (run.1.0, (run.1.1.0, grew-in list script run.0 less group run.1.0 row history all run.1.1.1))),
-        ),
-      )),
-    )
+    let run = grew.1.1 in
+    let still = λ (k : ℕ) (p : IsIn list less k). calm k (member-in list less group k all p) in
+    let grows = grew-in list script run.0 less group run.1.0 row history all run.1.1.1 in
+    (still, inr (inr (grew.0, (grew.1.0, (run.0, (run.1.0, (run.1.1.0, grows)))))))
 
 -- The sound nodes of a plan run as a company from the start on, and grow by each return.
 
@@ -350,51 +337,19 @@ ran-company list script start plan may_grow (suc slot) (row ∷ history) follows
     let calm = sound-calm list script start plan (suc slot) history follows number less in
     elim (entry-or-none plan (suc slot) (omega (arith, less, number, follows.slots))) [
       | inl none ↦
-          let is = newest-same plan slot run.0 run.1.0 none in (
-            run.0,
-            (
-              is,
-              (
-                calm,
-                inr (inl (
-                  is_sound_after plan slot,
-                  (
-                    run.1.1,
-                    stayed list script start plan may_grow slot run.0 row history follows number less is none noted.1
-                        (counted-run list script start plan (suc slot) (row ∷ history) follows noted),
-                  ),
-                )),
-              ),
-            ),
-          )
-      | inr some ↦ (
-        suc slot,
-        (
-          record {
+          let is = newest-same plan slot run.0 run.1.0 none in
+          let stays = stayed list script start plan may_grow slot run.0 row history follows number less is none noted.1
+          (counted-run list script start plan (suc slot) (row ∷ history) follows noted) in
+          (run.0, (is, (calm, inr (inl (is_sound_after plan slot, (run.1.1, stays))))))
+      | inr some ↦
+          let is : IsNewest plan (suc slot) (suc slot) = record {
             within = omega arith;
             by = inr some;
             none = λ turn k low high. absurd (omega (arith, low, high));
-          },
-          (
-            calm,
-            inr (inr (
-              number,
-              (
-                grows plan may_grow (suc slot) some.0 stay some.1,
-                (
-                  is_sound_after plan slot,
-                  (
-                    start.slot + run.0,
-                    (
-                      run.1.1,
-                      grew list script start plan slot run.0 some.0 row history follows number less run.1.0 some.1
-                          noted.1 (counted-run list script start plan slot history follows noted.0),
-                    ),
-                  ),
-                ),
-              ),
-            )),
-          ),
-        ),
-      )
+          } in
+          let may = grows plan may_grow (suc slot) some.0 stay some.1 in
+          let grown = grew list script start plan slot run.0 some.0 row history follows number less run.1.0 some.1 noted.1
+          (counted-run list script start plan slot history follows noted.0) in
+          let was : ℕ → Bool = is_sound_after plan slot in
+          (suc slot, (is, (calm, inr (inr (number, (may, (was, (start.slot + run.0, (run.1.1, grown)))))))))
     ]

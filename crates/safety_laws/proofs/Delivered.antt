@@ -9,6 +9,7 @@ use Rattle.ttp_world.specs.declared.script.Script.{Script}
 use Rattle.ttp_world.specs.Conduct.{carries_payload, own_frame, payload_taken, delivery, message_sent, own_cstate}
 use Rattle.ttp_world.specs.Diary.{History, entry_of, Place, next_place}
 use Rattle.ttp_world.specs.Hypothesis.{ClusterStart, loses}
+use Rattle.ttp_world.specs.declared.node.Delivered.{Delivered}
 use Rattle.ttp_world.specs.Messages.{messages_of, delivered_of, new_messages, message_of}
 use Rattle.ttp_world.specs.Past.{NodePast}
 use Rattle.ttp_world.specs.Reception.{Hearing, expected_of, expected_header, expected_length}
@@ -88,11 +89,14 @@ other-none false owner p payload apart = refl
 
 module _ {list : Medl} {script : Script} {start : ClusterStart} {plan : Plan} {turn : ℕ} {new : SlotNumbers}
     {numbers : Numbers} (t : IsTurn list script start plan turn new numbers) (stay : plan.returns ≡ []) where
+  -- what a node delivers in the turn
+  abbrev pub delivered : ℕ → Option Delivered
+  delivered k = delivered_of list script (world list script numbers) (row_of_world list script new numbers) k
+
   -- what comes of a node's delivery in the row is what its slot makes
   delivered-made : (k : ℕ) → k < length list.slots →
       let x = slot_of list script new numbers k in
-      delivered_of list script (world list script numbers) (row_of_world list script new numbers) k
-      ≡ delivery list k x.past x.hearing (entry_made x)
+      delivered k ≡ delivery list k x.past x.hearing (entry_made x)
   delivered-made k node =
       let s = slot_after list script (world list script numbers) in
       let chosen = messages_chosen list script (length numbers) new.sent in
@@ -116,9 +120,7 @@ module _ {list : Medl} {script : Script} {start : ClusterStart} {plan : Plan} {t
 
   -- in a good slot each sound node but the sender delivers the sender's payload
   delivers-good : (k : ℕ) → IsSoundIn list plan (suc turn) k → sender plan (suc turn) ≢ k
-      → is_good_slot plan (suc turn) ≡ true
-      → delivered_of list script (world list script numbers) (row_of_world list script new numbers) k
-      ≡ delivery_at list place bytes
+      → is_good_slot plan (suc turn) ≡ true → delivered k ≡ delivery_at list place bytes
   unfolding bytes place
   delivers-good k sound other good =
       let e = sender plan (suc turn) in
@@ -142,14 +144,12 @@ module _ {list : Medl} {script : Script} {start : ClusterStart} {plan : Plan} {t
   planned_messages : ℕ → List (List ℕ)
   planned_messages p = new_messages p (cond (is_good_slot plan (suc turn)) (delivery_at list place bytes) None)
 
-  messages-by_plan : (k p : ℕ) → IsSoundIn list plan (suc turn) k → p ≢ k → new_messages p
-      (delivered_of list script (world list script numbers) (row_of_world list script new numbers) k)
+  messages-by_plan : (k p : ℕ) → IsSoundIn list plan (suc turn) k → p ≢ k → new_messages p (delivered k)
       ≡ planned_messages p
   unfolding planned_messages
   messages-by_plan k p sound apart = by (is_good_slot plan (suc turn)) refl
     where
-      by : (good : Bool) → is_good_slot plan (suc turn) ≡ good → new_messages p
-          (delivered_of list script (world list script numbers) (row_of_world list script new numbers) k)
+      by : (good : Bool) → is_good_slot plan (suc turn) ≡ good → new_messages p (delivered k)
           ≡ new_messages p (cond (is_good_slot plan (suc turn)) (delivery_at list place bytes) None)
       by false wrong =
           ap (new_messages p) (delivers-wrong list script (world list script numbers)
@@ -168,8 +168,7 @@ module _ {list : Medl} {script : Script} {start : ClusterStart} {plan : Plan} {t
       ]
 
   pub messages-alike : (j k p : ℕ) → IsSoundIn list plan (suc turn) j → IsSoundIn list plan (suc turn) k → p ≢ j → p ≢ k
-      → new_messages p (delivered_of list script (world list script numbers) (row_of_world list script new numbers) j)
-      ≡ new_messages p (delivered_of list script (world list script numbers) (row_of_world list script new numbers) k)
+      → new_messages p (delivered j) ≡ new_messages p (delivered k)
   messages-alike j k p sound_j sound_k apart_j apart_k =
       messages-by_plan j p sound_j apart_j ∙ sym (messages-by_plan k p sound_k apart_k)
 
@@ -187,12 +186,10 @@ module _ {list : Medl} {script : Script} {start : ClusterStart} {plan : Plan} {t
           (λ same. apart (sym (same ∙ owner)))
 
   pub messages-other : (k p : ℕ) → IsSoundIn list plan (suc turn) k → p ≢ k → sender plan (suc turn) ≢ p
-      → new_messages p
-      (delivered_of list script (world list script numbers) (row_of_world list script new numbers) k) ≡ []
+      → new_messages p (delivered k) ≡ []
   messages-other k p sound apart other = messages-by_plan k p sound apart ∙ planned-other p other
 
-  pub messages-own : (k : ℕ) → IsSoundIn list plan (suc turn) k → new_messages k
-      (delivered_of list script (world list script numbers) (row_of_world list script new numbers) k) ≡ []
+  pub messages-own : (k : ℕ) → IsSoundIn list plan (suc turn) k → new_messages k (delivered k) ≡ []
   messages-own k sound = elim (cases_eq (sender plan (suc turn)) k) [
     | inl own ↦
         ap (new_messages k) (delivers-unjudged list script (world list script numbers)
@@ -201,7 +198,7 @@ module _ {list : Medl} {script : Script} {start : ClusterStart} {plan : Plan} {t
   ]
     where
       by : (good : Bool) → is_good_slot plan (suc turn) ≡ good → sender plan (suc turn) ≢ k → new_messages k
-          (delivered_of list script (world list script numbers) (row_of_world list script new numbers) k) ≡ []
+          (delivered k) ≡ []
       by false wrong other =
           ap (new_messages k) (delivers-wrong list script (world list script numbers)
           (row_of_world list script new numbers) k (notes-other t k wrong sound))
@@ -213,8 +210,7 @@ module _ {list : Medl} {script : Script} {start : ClusterStart} {plan : Plan} {t
   pub delivers-frame : (k : ℕ) → IsSoundIn list plan (suc turn) k → sender plan (suc turn) ≢ k
       → is_good_slot plan (suc turn) ≡ true →
       let x = slot_of list script new numbers (sender plan (suc turn)) in
-      delivered_of list script (world list script numbers) (row_of_world list script new numbers) k
-      ≡ delivery_at list (next_place list (planned_place list plan turn))
+      delivered k ≡ delivery_at list (next_place list (planned_place list plan turn))
       (own_frame list (sender plan (suc turn)) x.past x.chosen)
   unfolding bytes place
   delivers-frame k sound other good = delivers-good k sound other good
@@ -306,8 +302,7 @@ module _ {list : Medl} {script : Script} {start : ClusterStart} {plan : Plan} {t
           ∙ ap (λ b. payload_of_number list script (length numbers) e (cond b (Some x.chosen.number) None)) (sym carries)
 
   pub given-good : (j : ℕ) → IsSoundIn list plan (suc turn) j → sender plan (suc turn) ≢ j
-      → new_messages (sender plan (suc turn))
-      (delivered_of list script (world list script numbers) (row_of_world list script new numbers) j)
+      → new_messages (sender plan (suc turn)) (delivered t stay j)
       ≡ message_given list script (length numbers) (sender plan (suc turn))
       (entry_of (row_of_world list script new numbers) (sender plan (suc turn)))
   unfolding e x row

@@ -36,7 +36,7 @@ use Rattle.safety_laws.proofs.PlanSteps.{struck-known, absent-stays, fallen-stay
 use Rattle.safety_laws.proofs.PlanSteps.{struck-shown}
 use Rattle.safety_laws.proofs.Receivers.{sound-judge}
 use Rattle.safety_laws.proofs.PlanTurns.{SendsNone, slot_of, slot_number, owner-is, judges, armed-planned}
-use Rattle.safety_laws.proofs.PlanTurns.{unarmed-falling}
+use Rattle.safety_laws.proofs.PlanTurns.{unarmed-falling, less-planned}
 use Rattle.safety_laws.proofs.PlanTurns.{within-plan, e-node}
 use Rattle.fault_plan.proofs.FateSteps.{sound-fate, strikes}
 use Rattle.safety_laws.proofs.Listeners.{IsAwaited, awaited-armed, awaited-listening, fate-awaited}
@@ -139,9 +139,6 @@ module _ {list : Medl} {script : Script} {start : ClusterStart} {plan : Plan} {t
     (other : sender plan (suc turn) ≢ k) where
   few_nodes : 0 < plan.nodes
   few_nodes = let count = t.planned.follows.good.count in omega (arith, count)
-
-  less : k < plan.nodes
-  less = subst (λ n. k < n) (sym t.planned.follows.nodes) node
 
   -- a sound node that is lost in the turn
   deaf-next : fate_of plan turn k ≡ Sound → (is : IsStruck plan (suc turn) k) → is.incident.change ≡ Receiving
@@ -264,7 +261,7 @@ module _ {list : Medl} {script : Script} {start : ClusterStart} {plan : Plan} {t
         let few = nodes-most list t.planned.valid in
         Lacks (sender plan (suc turn)) _ hears
         (has_node-with_other _ (sender plan (suc turn)) k (omega (arith, node, few)) (λ same. other (sym same))
-        ∙ fallen-member plan turn k since shown change t.planned.follows.good less is)
+        ∙ fallen-member plan turn k since shown change t.planned.follows.good (less-planned t k node) is)
 
     still-soon : turn < shown + plan.nodes → suc turn < shown + plan.nodes
     still-soon soon = elim (cases_lt (suc turn) (shown + plan.nodes)) [
@@ -272,7 +269,8 @@ module _ {list : Medl} {script : Script} {start : ClusterStart} {plan : Plan} {t
       | inr over ↦
           let now : shown + plan.nodes ≡ suc turn = omega (arith, soon, over) in
           let told = told-fallen plan turn k since shown change t.planned.follows.good is in
-          absurd (other (ap (sender plan) (sym now) ∙ round-turn plan shown k few_nodes less told.own))
+          absurd (other (ap (sender plan) (sym now)
+          ∙ round-turn plan shown k few_nodes (less-planned t k node) told.own))
     ]
 
     pub fallen-next :

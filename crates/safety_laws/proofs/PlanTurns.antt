@@ -86,6 +86,9 @@ module _ {list : Medl} {script : Script} {start : ClusterStart} {plan : Plan} {t
       ∙ place-sender list plan (suc turn) t.planned.follows.nodes starter
 
   module _ (k : ℕ) (node : k < length list.slots) where
+    pub less-planned : k < plan.nodes
+    less-planned = subst (λ n. k < n) (sym t.planned.follows.nodes) node
+
     pub owner-is : (slot_of list script new numbers k).past.place ≡ planned_place list plan turn
         → owner_of (slot_of list script new numbers k) ≡ sender plan (suc turn)
     owner-is place = owner-planned _ place

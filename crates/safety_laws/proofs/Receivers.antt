@@ -34,6 +34,7 @@ use Rattle.safety_laws.proofs.PlanSteps.{doubted-stays, sound-unentered}
 use Rattle.safety_laws.proofs.LostNodes.{IsSoundJudge, not_about, sound-correct, sound-wrong, sound-tentative}
 use Rattle.safety_laws.proofs.PlanTurns.{NextSound, SendsNone, SendsOne, slot_of, slot_number, owner-is, judges, e-node}
 use Rattle.fault_plan.proofs.SlotKinds.{sender-stays as sender-unentered}
+use Rattle.safety_laws.proofs.PlanTurns.{less-planned}
 
 -- A sound node that judges, where the slot is not good: what leaves it sound.
 
@@ -140,9 +141,6 @@ module _ {list : Medl} {script : Script} {start : ClusterStart} {plan : Plan} {t
         entered = sound-unentered plan turn k t.planned.follows.good sound;
       }
 
-  less : k < plan.nodes
-  less = subst (λ n. k < n) (sym t.planned.follows.nodes) node
-
   hearing : IsHeardByPlan script start plan (suc turn)
   hearing = t.planned.follows.hearing (suc turn) t.within
 
@@ -155,7 +153,8 @@ module _ {list : Medl} {script : Script} {start : ClusterStart} {plan : Plan} {t
       let x = slot_of list script new numbers k in
       let judge = sound-judge in
       let number = slot_number t in
-      let kept = ap (λ n. loses script e n k) number ∙ hearing.heard k less (λ same. other (sym same)) good_is stays in
+      let kept = ap (λ n. loses script e n k) number
+      ∙ hearing.heard k (less-planned t k node) (λ same. other (sym same)) good_is stays in
       let within = t.clocks.within k e node (e-node t) stays good_is
       judge.entered (sender-unentered plan (suc turn) t.planned.follows.good) in
       let hears = hears-planned t sends k judge.at.place kept within in

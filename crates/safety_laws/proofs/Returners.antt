@@ -40,7 +40,7 @@ use Rattle.safety_laws.proofs.Listeners.{awaited-listening, ListensSince, waits-
 use Rattle.safety_laws.proofs.PlanSteps.{members-good, ledger-entered, sound-stays, good-sender}
 use Rattle.safety_laws.proofs.Hearing.{frameless-silent}
 use Rattle.safety_laws.proofs.PlanTurns.{NextByFate, NextSound, SendsNone, SendsOne, slot_of, slot_number, within-plan}
-use Rattle.safety_laws.proofs.PlanTurns.{armed-planned, listens-still, listens-now}
+use Rattle.safety_laws.proofs.PlanTurns.{armed-planned, listens-still, listens-now, less-planned}
 use Rattle.std.specs.Prelude.{nat_lt}
 use Rattle.ttp_world.specs.declared.node.Phase.TheVariants as phase
 
@@ -114,9 +114,6 @@ module _ {list : Medl} {script : Script} {start : ClusterStart} {plan : Plan} {t
     place_is : coming_place (slot_of list script new numbers (sender plan (suc turn))) ≡ planned_place list plan (suc turn)
     place_is = ap (next_place list) (sound-owner t sends).at.place
 
-    less : k < plan.nodes
-    less = subst (λ n. k < n) (sym t.planned.follows.nodes) node
-
     number : length (world list script numbers) ≡ start.slot + suc turn
     number = slot_number t
 
@@ -138,8 +135,8 @@ module _ {list : Medl} {script : Script} {start : ClusterStart} {plan : Plan} {t
         let none = (t.planned.follows.returns awaited.return awaited.among).none (suc turn)
         (omega (arith, awaited.armed, awaited.from)) on.0 within good_is in
         let hearing = t.planned.follows.hearing (suc turn) t.within in
-        let kept = ap (λ n. loses script (sender plan (suc turn)) n k) number ∙ hearing.listens k since less good_is on.1
-        in
+        let kept = ap (λ n. loses script (sender plan (suc turn)) n k) number
+        ∙ hearing.listens k since (less-planned t k node) good_is on.1 in
         let hears = no_place-alone numbers k t.planned.valid alone kept (explicit-is ∙ none) in
         waits-on plan turn since x awaited.from listens
         (waited-passing x (sender plan (suc turn)) listens.listens hears) (λ again.
@@ -167,7 +164,7 @@ module _ {list : Medl} {script : Script} {start : ClusterStart} {plan : Plan} {t
           HearsPlace (slot_of list script new numbers k) (sender plan (suc turn)) told.0 told.1)
           (λ i. (place_is i, members_are i)) (place-alone numbers k t.planned.valid alone
           (ap (λ n. loses script (sender plan (suc turn)) n k) number
-          ∙ hearing.heard k less (λ same. other (sym same)) good_is sound)
+          ∙ hearing.heard k (less-planned t k node) (λ same. other (sym same)) good_is sound)
           (explicit-is ∙ ap (λ slot. carries_place (kind_in list plan slot)) (sym found.entered) ∙ offers))
 
       pub joins-entry :
