@@ -78,38 +78,28 @@ module _ (list : Medl) (expected : Expected) (deviation : ℕ → ℤ) (owner : 
       λ i. verdict_entry owner (verdict_of_view (better-same v i) a)
       (either_deviation (is_taken_from_a v v) (deviation sender) i)
 
-  judged-a : (sender : ℕ) (bytes : List ℕ) (other : Signal) → IsTrue (is_frameless other)
-      → judged_as (Bits sender bytes) other
-      ≡ judged_by_view (view_of_bits list expected bytes (deviation sender)) (deviation sender)
+  judged-one : (sender : ℕ) (bytes : List ℕ) (other : Signal) → IsTrue (is_frameless other) →
+      let made = judged_by_view (view_of_bits list expected bytes (deviation sender)) (deviation sender) in
+      (judged_as (Bits sender bytes) other ≡ made) × (judged_as other (Bits sender bytes) ≡ made)
   unfolding judged_as judged_by_view
-  judged-a sender bytes Silence none =
-      let v = view_of_bits list expected bytes (deviation sender) in
-      ap (λ w. verdict_entry owner (verdict_of_view w a) (deviation sender)) (taken_over_silence v).0
-  judged-a sender bytes Noise none =
-      let v = view_of_bits list expected bytes (deviation sender) in
-      ap (λ w. verdict_entry owner (verdict_of_view w a) (deviation sender))
-      (taken_over_noise v (view_of_bits-seen list expected bytes (deviation sender))).0
-  judged-a sender bytes (Bits p bs) none = cc
-
-  judged-b : (sender : ℕ) (bytes : List ℕ) (other : Signal) → IsTrue (is_frameless other)
-      → judged_as other (Bits sender bytes)
-      ≡ judged_by_view (view_of_bits list expected bytes (deviation sender)) (deviation sender)
-  unfolding judged_as judged_by_view
-  judged-b sender bytes Silence none =
-      let v = view_of_bits list expected bytes (deviation sender) in
-      ap (λ w. verdict_entry owner (verdict_of_view w a) (deviation sender)) (taken_over_silence v).1
-  judged-b sender bytes Noise none =
-      let v = view_of_bits list expected bytes (deviation sender) in
-      ap (λ w. verdict_entry owner (verdict_of_view w a) (deviation sender))
-      (taken_over_noise v (view_of_bits-seen list expected bytes (deviation sender))).1
-  judged-b sender bytes (Bits p bs) none = cc
+  judged-one sender bytes Silence none =
+      let taken = taken_over_silence (view_of_bits list expected bytes (deviation sender)) in (
+        ap (λ w. verdict_entry owner (verdict_of_view w a) (deviation sender)) taken.0,
+        ap (λ w. verdict_entry owner (verdict_of_view w a) (deviation sender)) taken.1,
+      )
+  judged-one sender bytes Noise none =
+      let taken = taken_over_noise _ (view_of_bits-seen list expected bytes (deviation sender)) in (
+        ap (λ w. verdict_entry owner (verdict_of_view w a) (deviation sender)) taken.0,
+        ap (λ w. verdict_entry owner (verdict_of_view w a) (deviation sender)) taken.1,
+      )
+  judged-one sender bytes (Bits p bs) none = cc
 
   judged-frame : (h : Hearing) (sent : SentFrame) → HearsFrame sent h → judged_as h.a h.b
       ≡ judged_by_view (view_of_bits list expected sent.bytes (deviation sent.sender)) (deviation sent.sender)
   judged-frame h sent (OnBoth on_a on_b) = (λ i. judged_as (on_a i) (on_b i)) ∙ judged-both sent.sender sent.bytes
   judged-frame h sent (OnA on_a none) =
-      ap (λ (s : Signal). judged_as s h.b) on_a ∙ judged-a sent.sender sent.bytes h.b none
-  judged-frame h sent (OnB none on_b) = ap (judged_as h.a) on_b ∙ judged-b sent.sender sent.bytes h.a none
+      ap (λ (s : Signal). judged_as s h.b) on_a ∙ (judged-one sent.sender sent.bytes h.b none).0
+  judged-frame h sent (OnB none on_b) = ap (judged_as h.a) on_b ∙ (judged-one sent.sender sent.bytes h.a none).1
 
   judged-none : (on_a on_b : Signal) → IsTrue (is_frameless on_a) → IsTrue (is_frameless on_b)
       → (judged_as on_a on_b ≡ entry.Judged owner verdict.Null (pos 0))

@@ -28,7 +28,7 @@ use Rattle.ttp_world.specs.Membership.{is_accepted}
 use Rattle.fault_plan.specs.Fates.{Fallen, fate_of, is_good_slot, is_first_slot}
 use Rattle.fault_plan.specs.Ledger.{Ledger, with_slot, planned_members, ledger_of}
 use Rattle.safety_laws.proofs.Groups.{holds-correct, holds-wrong, holds-tentative}
-use Rattle.safety_laws.proofs.Ledgers.{counted-correct, counted-wrong, counted-tentative}
+use Rattle.safety_laws.proofs.Ledgers.{counted-on, by-correct, by-wrong, by-tentative}
 use Rattle.safety_laws.proofs.PlanSteps.{members-good, members-wrong, ledger-other, fallen-stays, doubt-apart}
 use Rattle.safety_laws.proofs.PlanSteps.{staying-unarmed, doubted-stays}
 
@@ -75,7 +75,7 @@ module _ {plan : Plan} {turn : ℕ} {x : NodeSlot} (is : IsSoundJudge plan turn 
         group = subst (λ (group : List ℕ). HoldsGroup x.list x.node group (next_past x))
             (ap (with_node (planned_members plan turn)) is.owner ∙ sym (members-good plan turn good_is)) holds.0;
         counted = counted-next true _ good_is refl
-            (counted-correct x (ledger_of plan turn x.node) is.at.counted deviation _ judged holds.1);
+            (by-correct is.at.counted _ (counted-on x _ deviation judged) holds.1);
         doubted = λ y doubt. absurd (false≢true (ap is_open (sym holds.1 ∙ doubt)));
         fresh = λ own. absurd (others-slot own);
       }
@@ -92,7 +92,7 @@ module _ {plan : Plan} {turn : ℕ} {x : NodeSlot} (is : IsSoundJudge plan turn 
         group = subst (λ (group : List ℕ). HoldsGroup x.list x.node group (next_past x))
             (ap (without_node (planned_members plan turn)) is.owner ∙ sym (members-wrong plan turn wrong_is)) holds.0;
         counted = counted-next false _ wrong_is refl
-            (counted-wrong x (ledger_of plan turn x.node) is.at.counted v deviation _ judged wrong only holds.1);
+            (by-wrong is.at.counted _ (counted-on x v deviation judged) wrong only holds.1);
         doubted = λ y doubt.
             let found = is.at.doubted y (sym holds.1 ∙ doubt) in
             let less = subst (λ n. x.node < n) (sym is.nodes) is.judging.node in
@@ -118,8 +118,7 @@ module _ {plan : Plan} {turn : ℕ} {x : NodeSlot} (is : IsSoundJudge plan turn 
         place = judged.place ∙ ap (next_place x.list) is.at.place;
         group = subst (λ (group : List ℕ). HoldsGroup x.list x.node group (next_past x))
             (ap (without_node (planned_members plan turn)) is.owner ∙ sym (members-wrong plan turn wrong_is)) holds.0;
-        counted = counted-next false true wrong_is first_is (counted-tentative x (ledger_of plan turn x.node)
-            is.at.counted deviation (owner_of x) judged first holds.1);
+        counted = counted-next false true wrong_is first_is (by-tentative is.at.counted (owner_of x) (counted-on x _ deviation judged) first holds.1);
         doubted = λ y doubt. (
           shown,
           let same : y ≡ owner_of x = let both : ack.Doubt y ≡ ack.Doubt (owner_of x) = sym doubt ∙ holds.1 in cc in

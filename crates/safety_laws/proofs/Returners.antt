@@ -12,7 +12,6 @@ use Rattle.ttp_world.specs.Acknowledgement.{is_open}
 use Rattle.ttp_world.specs.Diary.{Place, next_place}
 use Rattle.ttp_world.specs.Frame.{header_of, is_explicit}
 use Rattle.ttp_world.specs.Hypothesis.{ClusterStart, loses}
-use Rattle.ttp_world.specs.Membership.{AreNodes}
 use Rattle.ttp_world.specs.Past.{NodePast}
 use Rattle.ttp_world.specs.Reception.{expected_header}
 use Rattle.ttp_world.specs.Returning.{carries_place}
@@ -25,7 +24,6 @@ use Rattle.fault_plan.specs.Ledger.{Ledger, opened, planned_members}
 use Rattle.fault_plan.specs.Places.{planned_place}
 use Rattle.fault_plan.proofs.FateSteps.{strikes, next-entered, sound-fate}
 use Rattle.fault_plan.proofs.Returns.{entry-is, entry-good, armed-lost, entry-from}
-use Rattle.safety_laws.specs.Groups.{held_with, IsAboutOther, HoldsGroup}
 use Rattle.safety_laws.specs.Listening.{HearsPlace}
 use Rattle.safety_laws.specs.NodeSlot.{next_past, coming_place}
 use Rattle.safety_laws.specs.Standing.{StandsBy, joined_on, joined_standing}
@@ -43,6 +41,7 @@ use Rattle.safety_laws.proofs.PlanTurns.{NextByFate, NextSound, SendsNone, Sends
 use Rattle.safety_laws.proofs.PlanTurns.{armed-planned, listens-still, listens-now, less-planned}
 use Rattle.std.specs.Prelude.{nat_lt}
 use Rattle.ttp_world.specs.declared.node.Phase.TheVariants as phase
+use Rattle.safety_laws.proofs.Groups.{holds-by}
 
 -- a frame carries its place where its header says so
 explicit-kind : (k : Kind) → is_explicit (header_of k) ≡ carries_place k
@@ -61,16 +60,6 @@ counted-joined slot past accepted rejected closed later =
       opened = λ opened. absurd (false≢true (ap is_open (sym closed) ∙ opened));
       cold_start = λ cold. absurd (false≢true (sym later ∙ cold));
     }
-
--- and holds the group that the frame told
-group-joined : (list : Medl) (k : ℕ) (group : List ℕ) (past : NodePast) → AreNodes list group
-    → past.members ≡ group → past.ack ≡ ack.Closed → HoldsGroup list k group past
-group-joined list k group past nodes members closed = record {
-  nodes = nodes;
-  members = members ∙ ap (held_with group) (sym closed);
-  own = λ opened. absurd (false≢true (ap is_open (sym closed) ∙ opened));
-  doubted = subst (IsAboutOther group) (sym closed) tt;
-}
 
 module _ {list : Medl} {script : Script} {start : ClusterStart} {plan : Plan} {turn : ℕ} {new : SlotNumbers}
     {numbers : Numbers} (t : IsTurn list script start plan turn new numbers) (k : ℕ) (node : k < length list.slots)
@@ -185,7 +174,8 @@ module _ {list : Medl} {script : Script} {start : ClusterStart} {plan : Plan} {t
           record {
             phase = stands.phase;
             place = stands.place;
-            group = group-joined list k (planned_members plan (suc turn)) past hears-entry.nodes stands.members stands.ack;
+            group = holds-by list k (planned_members plan (suc turn)) past ack.Closed stands.ack hears-entry.nodes
+                stands.members (λ opened. absurd (false≢true opened)) tt;
             counted = subst (λ (ledger : Ledger). IsCounted ledger past)
                 (sym (ledger-entered plan turn k other entered))
                 (counted-joined (suc turn) past stands.accepted stands.rejected stands.ack stands.cold_start);

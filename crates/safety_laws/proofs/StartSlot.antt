@@ -16,7 +16,6 @@ use Rattle.ttp_world.specs.declared.node.Entry.TheVariants as entry
 use Rattle.ttp_world.specs.declared.node.Phase.{Phase}
 use Rattle.ttp_world.specs.declared.node.Phase.TheVariants as phase
 use Rattle.ttp_world.specs.declared.script.Script.{Script}
-use Rattle.ttp_world.specs.Acknowledgement.{is_open}
 use Rattle.ttp_world.specs.Act.{act, phase_act}
 use Rattle.ttp_world.specs.After.{past_after}
 use Rattle.ttp_world.specs.Conduct.{cold_start_frame, node_frames, new_entry}
@@ -36,7 +35,6 @@ use Rattle.safety_laws.specs.Standing.{Standing, StandsBy, joined_standing}
 use Rattle.safety_laws.specs.Start.{IsStartHeard, slots_since, slots_on, waiting_phase, Waits}
 use Rattle.safety_laws.specs.Start.{starter_standing, joined_on_start}
 use Rattle.safety_laws.specs.Start.{HasBegun}
-use Rattle.safety_laws.specs.Groups.{held_with, IsAboutOther}
 use Rattle.safety_laws.proofs.Hearing.{HearsFrame-kept}
 use Rattle.safety_laws.proofs.Joins.{AreNodes-only, joinable-cold_start}
 use Rattle.safety_laws.proofs.Listening.{notes-begun, joined-place}
@@ -44,6 +42,8 @@ use Rattle.safety_laws.proofs.NodeSlots.{node_past-step, frames_of-made}
 use Rattle.safety_laws.proofs.Senders.{frames_in-one}
 use Rattle.safety_laws.proofs.Waiting.{act-waiting, is_start_due-early, waiting_act, node_frames-waiting, phase_of_some}
 use Rattle.safety_laws.proofs.Waiting.{WaitAll}
+use Rattle.safety_laws.specs.Groups.{HoldsGroup}
+use Rattle.safety_laws.proofs.Groups.{holds-by}
 
 -- The starter.
 
@@ -113,30 +113,19 @@ stands-started list k past s valid node =
 begun-by : (list : Medl) (p k : ℕ) (past : NodePast) (e : Entry) (now : Standing) → AreNodes list (p ∷ [])
     → now.place ≡ start_place p → now.members ≡ p ∷ [] → ((k ≡ p) × (now.ack ≡ ack.First)) ⊎ (now.ack ≡ ack.Closed)
     → StandsBy past e now → HasBegun list p k past
-begun-by list p k past e now nodes place members (inl own) stands =
-    let first = stands.ack ∙ own.1 in
-    record {
-      phase = stands.phase;
-      place = stands.place ∙ place;
-      group = record {
-        nodes = nodes;
-        members = stands.members ∙ members ∙ ap (held_with (p ∷ [])) (sym first);
-        own = λ opened. ap (λ b. b || false) (eq-eqb p k (sym own.0));
-        doubted = subst (IsAboutOther (p ∷ [])) (sym first) tt;
-      };
-    }
-begun-by list p k past e now nodes place members (inr closed_now) stands =
-    let closed = stands.ack ∙ closed_now in
-    record {
-      phase = stands.phase;
-      place = stands.place ∙ place;
-      group = record {
-        nodes = nodes;
-        members = stands.members ∙ members ∙ ap (held_with (p ∷ [])) (sym closed);
-        own = λ opened. absurd (false≢true (ap is_open (sym closed) ∙ opened));
-        doubted = subst (IsAboutOther (p ∷ [])) (sym closed) tt;
-      };
-    }
+begun-by list p k past e now nodes place members how stands = record {
+  phase = stands.phase;
+  place = stands.place ∙ place;
+  group = by how;
+}
+  where
+    by : ((k ≡ p) × (now.ack ≡ ack.First)) ⊎ (now.ack ≡ ack.Closed) → HoldsGroup list k (p ∷ []) past
+    by (inl own) =
+        holds-by list k (p ∷ []) past ack.First (stands.ack ∙ own.1) nodes (stands.members ∙ members)
+        (λ opened. ap (λ b. b || false) (eq-eqb p k (sym own.0))) tt
+    by (inr closed) =
+        holds-by list k (p ∷ []) past ack.Closed (stands.ack ∙ closed) nodes (stands.members ∙ members)
+        (λ opened. absurd (false≢true opened)) tt
 
 -- The slot after a history in which all wait.
 

@@ -96,10 +96,6 @@ slots_since-off : (slots : ℕ) (on : Option ℕ) → has_come slots on ≡ fals
 slots_since-off slots None come = refl
 slots_since-off slots (Some on) come = let after = leb-false on slots come in omega (arith, after)
 
-slots_since-before : (slots : ℕ) (on : Option ℕ) → has_come slots on ≡ false → slots_since slots on ≡ 0
-slots_since-before slots None come = refl
-slots_since-before slots (Some on) come = let after = leb-false on slots come in omega (arith, after)
-
 pub phase_of_some : (slots : ℕ) → waiting_phase (1 + slots) ≡ phase.Listening
 phase_of_some slots =
     let some : (1 + slots == 0) ≡ false = ne_eqb (1 + slots) 0 (λ same. omega (arith, same)) in
